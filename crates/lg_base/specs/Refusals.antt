@@ -1,0 +1,54 @@
+-- The kinds of refusal, by number and by name.
+use Rattle.std.specs.Prelude.{ℕ, List, codes}
+use Rattle.lg_base.specs.declared.refusal.RefusalKind.{RefusalKind}
+use Rattle.lg_base.specs.declared.refusal.RefusalKind.TheVariants.{NotYet, BadToken, UnknownName, FloatRefused, BadOperand, BadExpr, LabelTwice, LabelMissing, NotInFunction, FunctionOpen, TargetOutside, BadCall, TooManyArgs, NoSuchArg, UnknownHost, DataFull, TextTooLong, TooManyNodes, CodeFull, FrameTooBig, NoCode, ArgsTooLong}
+
+-- the number that the program prints
+abbrev pub number_of_kind : RefusalKind → ℕ
+number_of_kind NotYet = 0
+number_of_kind BadToken = 1
+number_of_kind UnknownName = 2
+number_of_kind FloatRefused = 3
+number_of_kind BadOperand = 4
+number_of_kind BadExpr = 5
+number_of_kind LabelTwice = 6
+number_of_kind LabelMissing = 7
+number_of_kind NotInFunction = 8
+number_of_kind FunctionOpen = 9
+number_of_kind TargetOutside = 10
+number_of_kind BadCall = 11
+number_of_kind TooManyArgs = 12
+number_of_kind NoSuchArg = 13
+number_of_kind UnknownHost = 14
+number_of_kind DataFull = 15
+number_of_kind TextTooLong = 16
+number_of_kind TooManyNodes = 17
+number_of_kind CodeFull = 18
+number_of_kind FrameTooBig = 19
+number_of_kind NoCode = 20
+number_of_kind ArgsTooLong = 21
+
+-- the name that the program prints
+abbrev pub name_of_kind : RefusalKind → List ℕ
+name_of_kind NotYet = codes "NotYet"
+name_of_kind BadToken = codes "BadToken"
+name_of_kind UnknownName = codes "UnknownName"
+name_of_kind FloatRefused = codes "FloatRefused"
+name_of_kind BadOperand = codes "BadOperand"
+name_of_kind BadExpr = codes "BadExpr"
+name_of_kind LabelTwice = codes "LabelTwice"
+name_of_kind LabelMissing = codes "LabelMissing"
+name_of_kind NotInFunction = codes "NotInFunction"
+name_of_kind FunctionOpen = codes "FunctionOpen"
+name_of_kind TargetOutside = codes "TargetOutside"
+name_of_kind BadCall = codes "BadCall"
+name_of_kind TooManyArgs = codes "TooManyArgs"
+name_of_kind NoSuchArg = codes "NoSuchArg"
+name_of_kind UnknownHost = codes "UnknownHost"
+name_of_kind DataFull = codes "DataFull"
+name_of_kind TextTooLong = codes "TextTooLong"
+name_of_kind TooManyNodes = codes "TooManyNodes"
+name_of_kind CodeFull = codes "CodeFull"
+name_of_kind FrameTooBig = codes "FrameTooBig"
+name_of_kind NoCode = codes "NoCode"
+name_of_kind ArgsTooLong = codes "ArgsTooLong"

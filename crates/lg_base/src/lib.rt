@@ -1,0 +1,8 @@
+//! What every crate of the assembler speaks of: targets, refusals, faults, host functions, fields of
+//! instruction words, arithmetic on words, and memory.
+#![tactic(auto)]
+
+pub mod fault;
+pub mod host_name;
+pub mod refusal;
+pub mod target;

@@ -1,0 +1,155 @@
+// Why a text is refused, and want of memory.
+
+ghost use Rattle.std.specs.Prelude.{◌≡◌};
+ghost use Rattle.lg_base.specs.Refusals.{number_of_kind, name_of_kind};
+
+use std::alloc::{AllocError, AllocFailed};
+use thiserror::Error;
+
+/// Memory was asked for and could not be had.
+#[derive(Clone, Copy, Debug, PartialEq, Eq, Error)]
+#[error("out of memory")]
+pub struct OutOfMemory;
+
+impl From<AllocError> for OutOfMemory {
+    fn from(_error: AllocError) -> OutOfMemory {
+        OutOfMemory
+    }
+}
+
+impl<T: Drop> From<AllocFailed<T>> for OutOfMemory {
+    fn from(_error: AllocFailed<T>) -> OutOfMemory {
+        OutOfMemory
+    }
+}
+
+/// The kinds of refusal. The program prints a kind by its number and its name.
+#[derive(Clone, Copy, Debug, PartialEq, Eq)]
+pub enum RefusalKind {
+    /// 0: the text is right, and the program does not assemble it yet.
+    NotYet,
+    /// 1: a token is malformed.
+    BadToken,
+    /// 2: a token stands at a statement's place and is no statement of its section.
+    UnknownName,
+    /// 3: a floating-point instruction, directive or register.
+    FloatRefused,
+    /// 4: an operand is missing, or of another form or range than its place asks.
+    BadOperand,
+    /// 5: a constant expression is malformed, or has no value.
+    BadExpr,
+    /// 6: a label or a name of a function is made a second time.
+    LabelTwice,
+    /// 7: a node names a label that nothing binds.
+    LabelMissing,
+    /// 8: a node stands outside every function.
+    NotInFunction,
+    /// 9: a `prolog` stands inside a function, or the text ends inside one.
+    FunctionOpen,
+    /// 10: a jump, branch or call goes where it may not, or a code label stands as an immediate where it may not.
+    TargetOutside,
+    /// 11: a node is out of place in the preparing of a call.
+    BadCall,
+    /// 12: the 17th argument of a function or of a call.
+    TooManyArgs,
+    /// 13: a name of a function is not made before its use.
+    NoSuchArg,
+    /// 14: an `@` name is no host function.
+    UnknownHost,
+    /// 15: a data item passes the end of the data part.
+    DataFull,
+    /// 16: the text has more than 16,777,216 bytes.
+    TextTooLong,
+    /// 17: the text has more nodes than are allowed.
+    TooManyNodes,
+    /// 18: the code has no room in its size.
+    CodeFull,
+    /// 19: the locals of a function pass 65,536 bytes.
+    FrameTooBig,
+    /// 20: no `prolog` stands in the text.
+    NoCode,
+    /// 21: the argument part would pass 1,048,576 bytes.
+    ArgsTooLong,
+}
+
+/// A refused text: what is wrong, and in which line. Lines count from 1; 0 says that no line is to blame.
+#[derive(Clone, Copy, Debug, PartialEq, Eq)]
+pub struct Refusal {
+    /// What is wrong.
+    pub kind: RefusalKind,
+    /// The line to blame, or 0.
+    pub line: u32,
+}
+
+/// Why a call that may refuse or want memory did not succeed.
+#[derive(Clone, Copy, Debug, PartialEq, Eq, Error)]
+pub enum Stop {
+    /// The text is refused.
+    #[error("refused: {0:?}")]
+    Refused(Refusal),
+    /// Memory could not be had.
+    #[error("out of memory")]
+    OutOfMemory,
+}
+
+impl RefusalKind {
+    /// The number of the kind, 0 to 21.
+    pub fn number(self) -> u32
+        ensures { result ≡ number_of_kind self }
+    {
+        match self {
+            RefusalKind::NotYet => 0,
+            RefusalKind::BadToken => 1,
+            RefusalKind::UnknownName => 2,
+            RefusalKind::FloatRefused => 3,
+            RefusalKind::BadOperand => 4,
+            RefusalKind::BadExpr => 5,
+            RefusalKind::LabelTwice => 6,
+            RefusalKind::LabelMissing => 7,
+            RefusalKind::NotInFunction => 8,
+            RefusalKind::FunctionOpen => 9,
+            RefusalKind::TargetOutside => 10,
+            RefusalKind::BadCall => 11,
+            RefusalKind::TooManyArgs => 12,
+            RefusalKind::NoSuchArg => 13,
+            RefusalKind::UnknownHost => 14,
+            RefusalKind::DataFull => 15,
+            RefusalKind::TextTooLong => 16,
+            RefusalKind::TooManyNodes => 17,
+            RefusalKind::CodeFull => 18,
+            RefusalKind::FrameTooBig => 19,
+            RefusalKind::NoCode => 20,
+            RefusalKind::ArgsTooLong => 21,
+        }
+    }
+
+    /// The name of the kind, as the program prints it.
+    pub fn name(self) -> &'static str
+        ensures { result.now ≡ name_of_kind self }
+    {
+        match self {
+            RefusalKind::NotYet => "NotYet",
+            RefusalKind::BadToken => "BadToken",
+            RefusalKind::UnknownName => "UnknownName",
+            RefusalKind::FloatRefused => "FloatRefused",
+            RefusalKind::BadOperand => "BadOperand",
+            RefusalKind::BadExpr => "BadExpr",
+            RefusalKind::LabelTwice => "LabelTwice",
+            RefusalKind::LabelMissing => "LabelMissing",
+            RefusalKind::NotInFunction => "NotInFunction",
+            RefusalKind::FunctionOpen => "FunctionOpen",
+            RefusalKind::TargetOutside => "TargetOutside",
+            RefusalKind::BadCall => "BadCall",
+            RefusalKind::TooManyArgs => "TooManyArgs",
+            RefusalKind::NoSuchArg => "NoSuchArg",
+            RefusalKind::UnknownHost => "UnknownHost",
+            RefusalKind::DataFull => "DataFull",
+            RefusalKind::TextTooLong => "TextTooLong",
+            RefusalKind::TooManyNodes => "TooManyNodes",
+            RefusalKind::CodeFull => "CodeFull",
+            RefusalKind::FrameTooBig => "FrameTooBig",
+            RefusalKind::NoCode => "NoCode",
+            RefusalKind::ArgsTooLong => "ArgsTooLong",
+        }
+    }
+}
