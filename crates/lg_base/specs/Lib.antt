@@ -1,3 +1,6 @@
 pub mod Faults
+pub mod Fields
 pub mod HostNames
+pub mod Immediates
 pub mod Refusals
+pub mod WordFronts

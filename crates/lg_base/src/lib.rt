@@ -3,6 +3,9 @@
 #![tactic(auto)]
 
 pub mod fault;
+pub mod field;
 pub mod host_name;
+pub mod number;
+pub mod piece;
 pub mod refusal;
 pub mod target;
