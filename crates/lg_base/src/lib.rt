@@ -9,3 +9,5 @@ pub mod number;
 pub mod piece;
 pub mod refusal;
 pub mod target;
+pub mod wide;
+pub mod word;
