@@ -1,3 +1,5 @@
 pub mod FieldLemmas
 pub mod NumberLemmas
+pub mod PartLemmas
+pub mod SpaceLemmas
 pub mod WordFrontLemmas

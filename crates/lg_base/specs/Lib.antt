@@ -2,7 +2,9 @@ pub mod Faults
 pub mod Fields
 pub mod HostNames
 pub mod Immediates
+pub mod Parts
 pub mod Refusals
+pub mod Spaces
 pub mod Wide
 pub mod WordFronts
 pub mod Words

@@ -5,9 +5,11 @@
 pub mod fault;
 pub mod field;
 pub mod host_name;
+pub mod memory;
 pub mod number;
 pub mod piece;
 pub mod refusal;
+pub mod space;
 pub mod target;
 pub mod wide;
 pub mod word;
