@@ -1,3 +1,4 @@
+pub mod ArgumentLemmas
 pub mod FieldLemmas
 pub mod NumberLemmas
 pub mod PartLemmas

@@ -61,9 +61,9 @@ pub loaded-in : (p : Parts) (base : ℕ) (bytes : List ℕ) (a w : ℕ) → IsPa
 loaded-in p base bytes a w is le fits =
     let all : mapped (byte_at p) a w ≡ true = mapped-all (byte_at p) a w (λ j from to. ap is_some (is.inside j (omega arith) (omega arith))) in
     let same : number_at (byte_or_zero (byte_at p)) a w ≡ number_at (slice_index bytes) (a - base) w =
-        number_at-shift (byte_or_zero (byte_at p)) (slice_index bytes) a (a - base) w (λ j lt.
-            let at : a + j - base ≡ a - base + j = omega arith in
-            ap (λ o. unwrap_or o 0) (is.inside (a + j) (omega arith) (omega arith)) ∙ ap (slice_index bytes) at) in
+    number_at-shift (byte_or_zero (byte_at p)) (slice_index bytes) a (a - base) w (λ j lt.
+    let at : a + j - base ≡ a - base + j = omega arith in
+    ap (λ o. unwrap_or o 0) (is.inside (a + j) (omega arith) (omega arith)) ∙ ap (slice_index bytes) at) in
     ap (λ b. if b then Some (number_at (byte_or_zero (byte_at p)) a w) else None) all ∙ ap Some same
 
 -- an address that no part has
@@ -134,15 +134,15 @@ pub loaded-nowhere : (p : Parts) (a w : ℕ) → IsSized p → 1 ≤ w → w ≤
 loaded-nowhere p a w s some few d r h t =
     ⊎_elim
     (λ data_not. ⊎_elim
-        (λ args_not. ⊎_elim
-            (λ heap_not. ⊎_elim
-                (λ stack_not. unmapped p a w a (omega arith) (omega arith) record { data_not = data_not; args_not = args_not; heap_not = heap_not; stack_not = stack_not })
-                (λ within. unmapped p a w (stack_base + length p.stack_part) (omega (arith, within)) (omega (arith, within)) record { data_not = inr (omega (arith, s.data_len, s.stack_len)); args_not = inr (omega (arith, s.args_len, s.stack_len)); heap_not = inr (omega (arith, s.heap_len, s.stack_len)); stack_not = inr (omega arith) })
-                (split_part stack_base (length p.stack_part) a w (misses stack_base p.stack_part a w t)))
-            (λ within. unmapped p a w (heap_base + length p.heap_part) (omega (arith, within)) (omega (arith, within)) record { data_not = inr (omega (arith, s.data_len, s.heap_len)); args_not = inr (omega (arith, s.args_len, s.heap_len)); heap_not = inr (omega arith); stack_not = inl (omega (arith, s.heap_len)) })
-            (split_part heap_base (length p.heap_part) a w (misses heap_base p.heap_part a w h)))
-        (λ within. unmapped p a w (args_base + length p.args_part) (omega (arith, within)) (omega (arith, within)) record { data_not = inr (omega (arith, s.data_len)); args_not = inr (omega arith); heap_not = inl (omega (arith, s.args_len)); stack_not = inl (omega (arith, s.args_len)) })
-        (split_part args_base (length p.args_part) a w (misses args_base p.args_part a w r)))
+    (λ args_not. ⊎_elim
+    (λ heap_not. ⊎_elim
+    (λ stack_not. unmapped p a w a (omega arith) (omega arith) record { data_not = data_not; args_not = args_not; heap_not = heap_not; stack_not = stack_not })
+    (λ within. unmapped p a w (stack_base + length p.stack_part) (omega (arith, within)) (omega (arith, within)) record { data_not = inr (omega (arith, s.data_len, s.stack_len)); args_not = inr (omega (arith, s.args_len, s.stack_len)); heap_not = inr (omega (arith, s.heap_len, s.stack_len)); stack_not = inr (omega arith) })
+    (split_part stack_base (length p.stack_part) a w (misses stack_base p.stack_part a w t)))
+    (λ within. unmapped p a w (heap_base + length p.heap_part) (omega (arith, within)) (omega (arith, within)) record { data_not = inr (omega (arith, s.data_len, s.heap_len)); args_not = inr (omega (arith, s.args_len, s.heap_len)); heap_not = inr (omega arith); stack_not = inl (omega (arith, s.heap_len)) })
+    (split_part heap_base (length p.heap_part) a w (misses heap_base p.heap_part a w h)))
+    (λ within. unmapped p a w (args_base + length p.args_part) (omega (arith, within)) (omega (arith, within)) record { data_not = inr (omega (arith, s.data_len)); args_not = inr (omega arith); heap_not = inl (omega (arith, s.args_len)); stack_not = inl (omega (arith, s.args_len)) })
+    (split_part args_base (length p.args_part) a w (misses args_base p.args_part a w r)))
     (λ within. unmapped p a w (data_base + length p.data_part) (omega (arith, within)) (omega (arith, within)) record { data_not = inr (omega arith); args_not = inl (omega (arith, s.data_len)); heap_not = inl (omega (arith, s.data_len)); stack_not = inl (omega (arith, s.data_len)) })
     (split_part data_base (length p.data_part) a w (misses data_base p.data_part a w d))
 

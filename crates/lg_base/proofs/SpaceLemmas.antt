@@ -97,10 +97,10 @@ unfolding stored written
 stored-shift m n lo hi a zero v h p q j r s = h j r s
 stored-shift m n lo hi a (suc w) v h p q j r s =
     let k : (j : ℕ) → lo ≤ j → j < hi → put_some m a (v % 256) j ≡ Some (with_byte n (a - lo) (v % 256) (j - lo)) =
-        λ j r s. ⊎_elim
-            (λ e. put_some_same m a (v % 256) j e ∙ ap Some (sym (with_byte_same n (a - lo) (v % 256) (j - lo) (omega (arith, e)))))
-            (λ ne. put_some_other m a (v % 256) j ne ∙ h j r s ∙ ap Some (sym (with_byte_other n (a - lo) (v % 256) (j - lo) (omega (arith, ne)))))
-            (cases_eq j a) in
+    λ j r s. ⊎_elim
+    (λ e. put_some_same m a (v % 256) j e ∙ ap Some (sym (with_byte_same n (a - lo) (v % 256) (j - lo) (omega (arith, e)))))
+    (λ ne. put_some_other m a (v % 256) j ne ∙ h j r s ∙ ap Some (sym (with_byte_other n (a - lo) (v % 256) (j - lo) (omega (arith, ne)))))
+    (cases_eq j a) in
     let z : a + 1 - lo ≡ a - lo + 1 = omega arith in
     stored-shift (put_some m a (v % 256)) (with_byte n (a - lo) (v % 256)) lo hi (a + 1) w (v / 256) k (omega arith) (omega arith) j r s
     ∙ ap (λ b. Some (written (with_byte n (a - lo) (v % 256)) b w (v / 256) (j - lo))) z

@@ -2,9 +2,12 @@
 //! instruction words, arithmetic on words, and memory.
 #![tactic(auto)]
 
+pub mod args;
+pub mod code;
 pub mod fault;
 pub mod field;
 pub mod host_name;
+pub mod image;
 pub mod memory;
 pub mod number;
 pub mod piece;

@@ -16,4 +16,4 @@ pub returns-clause-rooms : goal.returns-clause-rooms
 returns-clause-rooms c =
     let m = byte_at c.args.self.now in
     put_room m (byte_at c.store.new.self) c.args.address c.args.byte c.store.result (omega (arith, c.ranges.byte.fits)) c.store.ensures.done
-        (c.store.ensures.bytes ∙ ap (λ v. if c.store.result then stored m c.args.address 1 v else m) c.from.ensures)
+    (c.store.ensures.bytes ∙ ap (λ v. if c.store.result then stored m c.args.address 1 v else m) c.from.ensures)
