@@ -1,0 +1,7 @@
+//! The top call.
+#![tactic(auto)]
+
+mod form;
+mod numbers;
+mod parse;
+mod tokens;
