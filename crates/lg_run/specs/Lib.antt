@@ -1,4 +1,9 @@
+pub mod Emission
 pub mod Forms
+pub mod Nodes
 pub mod Numbers
+pub mod Portable
+pub mod Processor
+pub mod Ranges
 pub mod Reading
 pub mod Tokens

@@ -91,9 +91,10 @@ small items = if nat_le (node_count items) most_nodes then Some items else None
 abbrev pub body_of : List (List ℕ) → Option (List Item)
 body_of words = option_and_then small (items_of most_nodes words)
 
-abbrev pub form_of : List (List ℕ) → Option (List Item)
-form_of words = option_and_then body_of (option_and_then (keyword (codes "prolog")) (keyword (codes ".code") words))
+-- what is left behind `.code` and `prolog`
+abbrev pub head_of : List (List ℕ) → Option (List (List ℕ))
+head_of words = option_and_then (keyword (codes "prolog")) (keyword (codes ".code") words)
 
 -- the items of a text of the first form, and None for every other text
 abbrev pub unit_of : List ℕ → Option (List Item)
-unit_of text = form_of (words_of text)
+unit_of text = option_and_then body_of (head_of (words_of text))

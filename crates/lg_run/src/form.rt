@@ -1,9 +1,9 @@
 // What a text of the first form is made of.
 
-ghost use Rattle.std.specs.Prelude.{◌≡◌, ◌<◌};
+ghost use Rattle.std.specs.Prelude.{◌≡◌, ◌<◌, ◌*◌, pos};
 ghost use Rattle.lg_run.specs.Forms.{register_word, register_by_word, callee_word, callee_by_word, hardware, host_of};
-
-use lg_base::host_name::HostName;
+ghost use Rattle.lg_run.specs.Reading.{nodes_in};
+ghost use Rattle.lg_base.specs.HostNames.{host_index};
 
 /// A register that an operand names.
 #[derive(Clone, Copy, Debug, PartialEq, Eq)]
@@ -51,6 +51,18 @@ pub enum Item {
 pub enum Statement {
     Item(Item),
     Ret,
+}
+
+impl Item {
+    /// How many nodes the item is.
+    pub fn nodes(self) -> u32
+        ensures { result ≡ nodes_in self }
+    {
+        match self {
+            Item::Call { .. } => 3,
+            _ => 1,
+        }
+    }
 }
 
 static REGISTERS: [Register; 6] = [
@@ -123,13 +135,13 @@ impl Callee {
         CALLEES.iter().copied().find(|callee| word == callee.word())
     }
 
-    /// The host's name of the function.
-    pub fn host(self) -> HostName
-        ensures { result ≡ host_of self }
+    /// How far behind the first host entry the function's entry stands.
+    pub fn offset(self) -> i32
+        ensures { result ≡ pos (16 * host_index (host_of self)) }
     {
         match self {
-            Callee::Putchar => HostName::Putchar,
-            Callee::Exit => HostName::Exit,
+            Callee::Putchar => 32,
+            Callee::Exit => 48,
         }
     }
 }

@@ -1,6 +1,7 @@
 //! The top call.
 #![tactic(auto)]
 
+mod emit;
 mod form;
 mod numbers;
 mod parse;

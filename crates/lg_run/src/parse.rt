@@ -1,9 +1,9 @@
 // Reading a text of the first form.
 
-ghost use Rattle.std.specs.Prelude.{◌≡◌, ◌++◌, ◌∷◌, [], ℕ, List, Option, Some, None, MatchOption, IfOk, MatchBool, codes, IsTrue, if◌then◌else◌};
+ghost use Rattle.std.specs.Prelude.{◌≡◌, ◌++◌, ◌∷◌, [], ℕ, List, Option, Some, None, MatchOption, IfOk, MatchBool, codes, IsTrue, option_map, nat_le, if◌then◌else◌};
 ghost use Rattle.lg_run.specs.Forms.{register_by_word, callee_by_word};
 ghost use Rattle.lg_run.specs.Numbers.{number_of};
-ghost use Rattle.lg_run.specs.Reading.{operand, keyword, movi_front, addi_front, addr_front, call_front, item_front, statement_front, is_end, items_of, most_nodes, unit_of, node_count, body_of, nodes_in};
+ghost use Rattle.lg_run.specs.Reading.{operand, keyword, movi_front, addi_front, addr_front, call_front, item_front, statement_front, is_end, items_of, most_nodes, unit_of, node_count, body_of, head_of};
 
 use crate::form::{Callee, Item, Register, Statement};
 use crate::numbers::number;
@@ -116,5 +116,80 @@ fn at_end(reader: &mut Reader<'_>) -> bool
     match reader.next() {
         None => false,
         Some(word) => word == b"epilog".as_slice() && reader.next().is_none(),
+    }
+}
+
+// The items of a function that ended where its text does.
+fn ended(reader: &mut Reader<'_>, items: Vec<Item>) -> Option<Vec<Item>>
+    ensures { option_map (λ v. v.items) result ≡ (if is_end reader.old then Some items.items else None) }
+{
+    if at_end(reader) { Some(items) } else { None }
+}
+
+// Reads statements, at most so many, up to the end of the function.
+fn read_items(
+    alloc: Global,
+    reader: &mut Reader<'_>,
+) -> Result<Option<Vec<Item>>, OutOfMemory>
+    ensures { IfOk result (λ read. option_map (λ v. v.items) read ≡ items_of most_nodes reader.old) }
+{
+    let mut items = Vec::new(alloc);
+    for _turn in 0..MOST_NODES {
+        match read_statement(reader) {
+            None => return Ok(None),
+            Some(Statement::Ret) => return Ok(ended(reader, items)),
+            Some(Statement::Item(item)) => items.push(item)?,
+        }
+    }
+    Ok(None)
+}
+
+// Whether a text has at most as many nodes as are allowed.
+fn is_small(items: &[Item]) -> bool
+    ensures { result ≡ nat_le (node_count items.now) most_nodes }
+{
+    let mut left = MOST_NODES - 3;
+    for item in items {
+        let nodes = item.nodes();
+        if nodes > left {
+            return false;
+        }
+        left -= nodes;
+    }
+    true
+}
+
+// Reads what stands behind `prolog`.
+fn read_body(alloc: Global, reader: &mut Reader<'_>) -> Result<Option<Vec<Item>>, OutOfMemory>
+    ensures { IfOk result (λ read. option_map (λ v. v.items) read ≡ body_of reader.old) }
+{
+    match read_items(alloc, reader)? {
+        Some(items) => {
+            if is_small(&items) {
+                Ok(Some(items))
+            } else {
+                Ok(None)
+            }
+        }
+        None => Ok(None),
+    }
+}
+
+// Reads what every text of the first form begins with.
+fn read_head(reader: &mut Reader<'_>) -> Option<()>
+    ensures { MatchOption result (head_of reader.old ≡ None) (λ _. head_of reader.old ≡ Some reader.new) }
+{
+    read_keyword(reader, b".code")?;
+    read_keyword(reader, b"prolog")
+}
+
+/// The items of a text of the first form, and None for every other text.
+pub fn read_form(alloc: Global, text: &[u8]) -> Result<Option<Vec<Item>>, OutOfMemory>
+    ensures { IfOk result (λ read. option_map (λ v. v.items) read ≡ unit_of text.now) }
+{
+    let mut reader = Reader::new(text);
+    match read_head(&mut reader) {
+        Some(()) => read_body(alloc, &mut reader),
+        None => Ok(None),
     }
 }
