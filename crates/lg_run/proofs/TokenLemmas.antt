@@ -20,5 +20,5 @@ word_more text from i le lt plain =
     let next : i + 1 ≡ suc i = omega arith in
     let split : drop i text ≡ get_or text i 0 ∷ drop (suc i) text = drop-cons text i 0 lt in
     let step : words_from word (get_or text i 0 ∷ drop (suc i) text) ≡ words_from (word ++ get_or text i 0 ∷ []) (drop (suc i) text) =
-        ap (λ b. if b then closed word (words_from [] (drop (suc i) text)) else words_from (word ++ get_or text i 0 ∷ []) (drop (suc i) text)) plain in
+    ap (λ b. if b then closed word (words_from [] (drop (suc i) text)) else words_from (word ++ get_or text i 0 ∷ []) (drop (suc i) text)) plain in
     ap₂ words_from (range_more text from i le lt) (ap (λ k. drop k text) next) ∙ sym step ∙ ap (words_from word) (sym split)

@@ -1,5 +1,6 @@
 pub mod Emission
 pub mod Forms
+pub mod Machines
 pub mod Nodes
 pub mod Numbers
 pub mod Portable

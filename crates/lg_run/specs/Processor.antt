@@ -1,6 +1,6 @@
 -- The processor that the code of the first form runs on: RV64I (RISC-V unprivileged ISA), of which it knows the rows lui,
 -- addi, add, ld, sd and jalr, and the host functions putchar and exit.
-use Rattle.std.specs.Prelude.{◌≡◌, ℕ, ◌+◌, ◌-◌, ◌*◌, ◌/◌, ◌%◌, ◌^◌, ◌==◌, ◌&&◌, Bool, true, nat_le, nat_lt, ℤ, List, [], ◌∷◌, ◌++◌, length, drop, slice_index, Option, Some, None, if◌then◌else◌}
+use Rattle.std.specs.Prelude.{◌≡◌, ℕ, ◌+◌, ◌-◌, ◌*◌, ◌/◌, ◌%◌, ◌^◌, ◌==◌, ◌&&◌, not, Bool, true, nat_le, nat_lt, ℤ, List, [], ◌∷◌, ◌++◌, length, drop, slice_index, Option, Some, None, if◌then◌else◌}
 use Rattle.lg_base.specs.Fields.{word_of}
 use Rattle.lg_base.specs.Words.{add_words, sign_32}
 use Rattle.lg_base.specs.Spaces.{mapped, loaded, stored}
@@ -106,10 +106,14 @@ act other q = faults q Decode
 
 -- ---- host functions
 
--- behind a call of a host function: the result register has the answer, and every other register that a call does not
--- keep the trash word
+-- the trash word in each of the first n registers that a call does not keep
+abbrev pub clobbered : ℕ → (ℕ → ℕ) → ℕ → ℕ → ℕ
+clobbered n registers trash r = if nat_lt r n && not (is_kept target.Riscv64 r) then trash else registers r
+
+-- behind a call of a host function the result register has the answer, and every other of the 32 registers that a call
+-- does not keep the trash word
 abbrev pub behind_call : (ℕ → ℕ) → ℕ → ℕ → ℕ → ℕ
-behind_call registers trash answer r = if r == 10 then answer else if is_kept target.Riscv64 r then registers r else trash
+behind_call registers trash answer = put (clobbered 32 registers trash) 10 answer
 
 -- the function of an entry on the first argument; control returns to the link
 abbrev pub host_effect : HostName → ℕ → Core → Effect
@@ -176,14 +180,15 @@ start_bytes args a =
     else if nat_le stack_base a && nat_lt a (stack_base + 0x100000) then Some 0
     else None
 
--- the stack pointer, the two arguments and the link; every other register holds the trash word
+-- the stack pointer, the two arguments and the link; every other of the 32 registers holds the trash word
 abbrev pub start_registers : ℕ → ℕ → ℕ → ℕ
 start_registers count trash r =
     if r == 1 then stop_address
     else if r == 2 then stack_end
     else if r == 10 then count
     else if r == 11 then args_base
-    else trash
+    else if nat_lt r 32 then trash
+    else 0
 
 -- the run of the code with these words as the arguments
 abbrev pub start : List (List ℕ) → ℕ → Processor

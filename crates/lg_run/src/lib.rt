@@ -5,4 +5,5 @@ mod emit;
 mod form;
 mod numbers;
 mod parse;
+mod processor;
 mod tokens;

@@ -127,10 +127,7 @@ fn ended(reader: &mut Reader<'_>, items: Vec<Item>) -> Option<Vec<Item>>
 }
 
 // Reads statements, at most so many, up to the end of the function.
-fn read_items(
-    alloc: Global,
-    reader: &mut Reader<'_>,
-) -> Result<Option<Vec<Item>>, OutOfMemory>
+fn read_items(alloc: Global, reader: &mut Reader<'_>) -> Result<Option<Vec<Item>>, OutOfMemory>
     ensures { IfOk result (λ read. option_map (λ v. v.items) read ≡ items_of most_nodes reader.old) }
 {
     let mut items = Vec::new(alloc);
