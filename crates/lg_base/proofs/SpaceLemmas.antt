@@ -111,3 +111,36 @@ slice_index-set l i v h = fun_ext (λ j. ⊎_elim
     (λ e. let p : slice_index (slice_set l i v) j ≡ v = rw e (get_or-set_same l i v 0 h) in p ∙ sym (with_byte_same (slice_index l) i v j e))
     (λ ne. let p : slice_index (slice_set l i v) j ≡ slice_index l j = get_or-set_other l i j v 0 ne in p ∙ sym (with_byte_other (slice_index l) i v j ne))
     (cases_eq j i))
+
+-- ---- what was stored is loaded
+pub stored-first : (m : ℕ → Option ℕ) (a w v : ℕ) → stored m a (suc w) v a ≡ Some (v % 256)
+stored-first m a w v =
+    ap (λ f. f a) (stored-step m a (suc w) (a + 1) w v refl refl)
+    ∙ stored-out (put_some m a (v % 256)) (a + 1) w (v / 256) a (inl (omega arith))
+    ∙ put_some_same m a (v % 256) a refl
+
+pub mapped-stored : (m : ℕ → Option ℕ) (a w v : ℕ) → mapped (stored m a w v) a w ≡ true
+unfolding mapped
+mapped-stored m a zero v = refl
+mapped-stored m a (suc w) v =
+    let first : is_some (stored m a (suc w) v a) ≡ true = ap is_some (stored-first m a w v) in
+    let rest : mapped (stored m a (suc w) v) (a + 1) w ≡ true = ap (λ f. mapped f (a + 1) w) (stored-step m a (suc w) (a + 1) w v refl refl) ∙ mapped-stored (put_some m a (v % 256)) (a + 1) w (v / 256) in
+    rw (first, rest) refl
+
+pub number_at-stored : (m : ℕ → Option ℕ) (a w v : ℕ) → v < 256 ^ w → number_at (byte_or_zero (stored m a w v)) a w ≡ v
+number_at-stored m a zero v h = number_at-none (byte_or_zero (stored m a zero v)) a zero refl ∙ omega arith
+number_at-stored m a (suc w) v h =
+    let f = byte_or_zero (stored m a (suc w) v) in
+    let first : f a ≡ v % 256 = ap (λ o. unwrap_or o 0) (stored-first m a w v) in
+    let rest : number_at f (a + 1) w ≡ v / 256 =
+        ap (λ g. number_at (byte_or_zero g) (a + 1) w) (stored-step m a (suc w) (a + 1) w v refl refl)
+        ∙ number_at-stored (put_some m a (v % 256)) (a + 1) w (v / 256) (smaller w v h) in
+    number_at-step f a (suc w) (a + 1) w refl refl ∙ omega (arith, first, rest)
+  where
+    smaller : (w v : ℕ) → v < 256 ^ suc w → v / 256 < 256 ^ w
+    smaller w v h = grind arith
+
+pub loaded-stored : (m : ℕ → Option ℕ) (a w v : ℕ) → v < 256 ^ w → loaded (stored m a w v) a w ≡ Some v
+loaded-stored m a w v h =
+    ap (λ b. if b then Some (number_at (byte_or_zero (stored m a w v)) a w) else None) (mapped-stored m a w v)
+    ∙ ap Some (number_at-stored m a w v h)

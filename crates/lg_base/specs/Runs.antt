@@ -21,8 +21,11 @@ iter step (suc n) s = step (iter step n s)
 abbrev pub IsPrefixOf : List ℕ → List ℕ → Type 0
 IsPrefixOf xs ys = (rest : List ℕ) × (xs ++ rest ≡ ys)
 
--- a state that is not running stays, what is written stays written, and a step that ends or is bad writes nothing
+-- a state that is not running stays, and what is written stays written
 pub record IsMachine {S : Type 0} (m : Machine S) : Type 0 where
   pub stays : (s : S) → m.status s ≢ Running → m.step s ≡ s
   pub writes : (s : S) → IsPrefixOf (m.out s) (m.out (m.step s))
+
+-- a step that ends or is bad writes nothing
+pub record EndsSilently {S : Type 0} (m : Machine S) : Type 0 where
   pub silent_end : (s : S) → m.status (m.step s) ≢ Running → m.out (m.step s) ≡ m.out s

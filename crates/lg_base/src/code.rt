@@ -35,6 +35,15 @@ impl CodeBytes {
         Ok(CodeBytes { bytes, room: 0 })
     }
 
+    /// The list that a vector holds, of which there are at most 4,294,967,295 bytes, with room for no more.
+    pub fn from_vec(bytes: Vec<u8>) -> CodeBytes
+        requires { length bytes.items < 2 ^ 32 }
+        ensures items { result.items ≡ bytes.items }
+        ensures room { result.room ≡ 0 }
+    {
+        CodeBytes { bytes, room: 0 }
+    }
+
     /// No bytes, with room for so many.
     pub fn with_room(alloc: Global, room: u32) -> Result<CodeBytes, OutOfMemory>
         ensures items { IfOk result (λ l. l.items ≡ []) }

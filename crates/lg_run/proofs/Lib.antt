@@ -1,3 +1,12 @@
+pub mod AgreeLemmas
+pub mod AssembleLemmas
+pub mod CarryLemmas
+pub mod CodeLemmas
+pub mod MachineLemmas
+pub mod NodeLemmas
 pub mod ProcessorLemmas
+pub mod RangeLemmas
 pub mod ReadingLemmas
+pub mod RunLemmas
+pub mod SaysLemmas
 pub mod TokenLemmas

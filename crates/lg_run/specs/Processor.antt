@@ -46,6 +46,10 @@ pub record Processor : Type 0 where
   pub stands : Stands
   pub out : List ℕ
 
+-- a run that goes on
+abbrev pub going : ℕ → (ℕ → ℕ) → (ℕ → Option ℕ) → List ℕ → Processor
+going pc registers bytes out = record { core = record { pc = pc; registers = registers; bytes = bytes }; stands = Goes; out = out }
+
 -- ---- registers
 
 -- register 0 reads as 0
@@ -193,4 +197,4 @@ start_registers count trash r =
 -- the run of the code with these words as the arguments
 abbrev pub start : List (List ℕ) → ℕ → Processor
 start words trash =
-    record { core = record { pc = code_base; registers = start_registers (length words) trash; bytes = start_bytes (args_of words) }; stands = Goes; out = [] }
+    going code_base (start_registers (length words) trash) (start_bytes (args_of words)) []

@@ -1,8 +1,9 @@
 // Reading a text of the first form.
 
-ghost use Rattle.std.specs.Prelude.{◌≡◌, ◌++◌, ◌∷◌, [], ℕ, List, Option, Some, None, MatchOption, IfOk, MatchBool, codes, IsTrue, option_map, nat_le, if◌then◌else◌};
+ghost use Rattle.std.specs.Prelude.{◌≡◌, ◌++◌, ◌∷◌, [], ℕ, List, Option, Some, None, MatchOption, IfOk, MatchBool, codes, IsTrue, option_map, nat_le, IfSome, ◌≤◌, if◌then◌else◌};
 ghost use Rattle.lg_run.specs.Forms.{register_by_word, callee_by_word};
 ghost use Rattle.lg_run.specs.Numbers.{number_of};
+ghost use Rattle.lg_run.specs.Ranges.{AreItems};
 ghost use Rattle.lg_run.specs.Reading.{operand, keyword, movi_front, addi_front, addr_front, call_front, item_front, statement_front, is_end, items_of, most_nodes, unit_of, node_count, body_of, head_of};
 
 use crate::form::{Callee, Item, Register, Statement};
@@ -182,7 +183,9 @@ fn read_head(reader: &mut Reader<'_>) -> Option<()>
 
 /// The items of a text of the first form, and None for every other text.
 pub fn read_form(alloc: Global, text: &[u8]) -> Result<Option<Vec<Item>>, OutOfMemory>
-    ensures { IfOk result (λ read. option_map (λ v. v.items) read ≡ unit_of text.now) }
+    ensures read { IfOk result (λ read. option_map (λ v. v.items) read ≡ unit_of text.now) }
+    ensures ranges { IfOk result (λ read. IfSome read (λ v. AreItems v.items)) }
+    ensures few { IfOk result (λ read. IfSome read (λ v. node_count v.items ≤ most_nodes)) }
 {
     let mut reader = Reader::new(text);
     match read_head(&mut reader) {

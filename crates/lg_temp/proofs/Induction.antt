@@ -2,7 +2,7 @@
 use Rattle.std.proofs.Common.{◌≡◌, ◌≢◌, ℕ, zero, suc, ◌+◌, ◌-◌, ◌*◌, ◌<◌, ◌≤◌, ◌++◌, ◌⊎◌, inl, inr, refl, sym, ap, ◌∙◌, subst, arith, ⊎_elim}
 use Rattle.std.proofs.lemmas.Bool.{cases_lt}
 use Rattle.std.proofs.Math.Nat.{mul-le-mul_right}
-use Rattle.lg_base.specs.Runs.{Status, Running, Ended, Bad, Machine, iter, IsMachine}
+use Rattle.lg_base.specs.Runs.{Status, Running, Ended, Bad, Machine, iter, IsMachine, EndsSilently}
 use Rattle.lg_temp.specs.Agrees.{SameAt, PastIt, AgreesAt}
 use Rattle.lg_temp.specs.Carries.{Standing, Lands, Carries}
 use Rattle.lg_temp.proofs.Steps.{iter-first, iter-plus, iter-over, iter-writes}
@@ -31,14 +31,14 @@ bad_ended e = cc
 bad_runs : Bad ≡ Running → ⊥
 bad_runs e = cc
 
-pub agrees_from : {P Q : Type 0} (portable : Machine P) (processor : Machine Q) (stands : P → Q → ℕ → Type 0) (nodes : ℕ) → IsMachine portable → IsMachine processor
+pub agrees_from : {P Q : Type 0} (portable : Machine P) (processor : Machine Q) (stands : P → Q → ℕ → Type 0) (nodes : ℕ) → IsMachine portable → EndsSilently portable → IsMachine processor
     → ((p : P) (q : Q) (r : ℕ) → stands p q r → Standing portable processor nodes p q r)
     → ((p : P) (q : Q) (r : ℕ) → stands p q r → Carries portable processor stands p q r)
     → (f n r : ℕ) (p : P) (q : Q) → n * (nodes + 1) + r < f → stands p q r → Found portable processor nodes p q r n
 unfolding iter
-agrees_from portable processor stands nodes is_p is_q holds carry zero n r p q lt st = absurd (omega arith)
-agrees_from {P = P} {Q = Q} portable processor stands nodes is_p is_q holds carry (suc f) n r p q lt st =
-    elim (carry p q r st) [ inl bad ↦ past bad | inr l ↦ ⊎_elim (λ lt. inside l lt (processor.status (iter processor.step n q)) refl) (beyond l (agrees_from portable processor stands nodes is_p is_q holds carry f)) (cases_lt n l.steps) ]
+agrees_from portable processor stands nodes is_p silent is_q holds carry zero n r p q lt st = absurd (omega arith)
+agrees_from {P = P} {Q = Q} portable processor stands nodes is_p silent is_q holds carry (suc f) n r p q lt st =
+    elim (carry p q r st) [ inl bad ↦ past bad | inr l ↦ ⊎_elim (λ lt. inside l lt (processor.status (iter processor.step n q)) refl) (beyond l (agrees_from portable processor stands nodes is_p silent is_q holds carry f)) (cases_lt n l.steps) ]
   where
     h : Standing portable processor nodes p q r
     h = holds p q r st
@@ -50,7 +50,7 @@ agrees_from {P = P} {Q = Q} portable processor stands nodes is_p is_q holds carr
     past bad =
         let over : portable.status (portable.step p) ≢ Running = λ e. cc in
         let w = iter-writes processor is_q n q in
-        record { k = suc n; low = omega arith; high = omega arith; what = inr record { bad = ap portable.status (stay over) ∙ bad; out = (w.0, ap (λ x. x ++ w.0) (ap portable.out (stay over) ∙ is_p.silent_end p over ∙ sym h.out) ∙ w.1) } }
+        record { k = suc n; low = omega arith; high = omega arith; what = inr record { bad = ap portable.status (stay over) ∙ bad; out = (w.0, ap (λ x. x ++ w.0) (ap portable.out (stay over) ∙ silent.silent_end p over ∙ sym h.out) ∙ w.1) } }
 
     -- n falls within the steps of q for this step of p
     first : n < 64 → processor.status (iter processor.step n q) ≡ Running → processor.out (iter processor.step n q) ≡ portable.out p → Found portable processor nodes p q r n
@@ -68,7 +68,7 @@ agrees_from {P = P} {Q = Q} portable processor stands nodes is_p is_q holds carr
         ⊎_elim (λ o. first near e o) (λ o. elim l.there [
           | inl d ↦
               let over : portable.status (portable.step p) ≢ Running = λ b. cc (d.1) in
-              first near e (o ∙ is_p.silent_end p over)
+              first near e (o ∙ silent.silent_end p over)
           | inr d ↦ second near (e ∙ sym (holds _ _ _ d.1).goes) (λ b. cc) o
         ]) (l.way n lt)
     inside l lt (Ended s) e =
@@ -102,11 +102,11 @@ agrees_from {P = P} {Q = Q} portable processor stands nodes is_p is_q holds carr
         ]
 
 -- from a state that stands, the runs agree after any number of steps
-pub agrees : {P Q : Type 0} (portable : Machine P) (processor : Machine Q) (stands : P → Q → ℕ → Type 0) (nodes : ℕ) → IsMachine portable → IsMachine processor
+pub agrees : {P Q : Type 0} (portable : Machine P) (processor : Machine Q) (stands : P → Q → ℕ → Type 0) (nodes : ℕ) → IsMachine portable → EndsSilently portable → IsMachine processor
     → ((p : P) (q : Q) (r : ℕ) → stands p q r → Standing portable processor nodes p q r)
     → ((p : P) (q : Q) (r : ℕ) → stands p q r → Carries portable processor stands p q r)
     → (p : P) (q : Q) (r : ℕ) → stands p q r → (n : ℕ) → AgreesAt portable processor nodes p q n
-agrees portable processor stands nodes is_p is_q holds carry p q r st n =
-    let found = agrees_from portable processor stands nodes is_p is_q holds carry (suc (n * (nodes + 1) + r)) n r p q (omega arith) st in
+agrees portable processor stands nodes is_p silent is_q holds carry p q r st n =
+    let found = agrees_from portable processor stands nodes is_p silent is_q holds carry (suc (n * (nodes + 1) + r)) n r p q (omega arith) st in
     let low = (holds p q r st).low in
     (found.k, omega (arith, found.low), omega (arith, found.high, low), found.what)

@@ -3,7 +3,7 @@
 #![tactic(auto)]
 
 ghost use Rattle.std.specs.Prelude.{◌≡◌, ℕ};
-ghost use Rattle.lg_base.specs.Runs.{Machine, IsMachine};
+ghost use Rattle.lg_base.specs.Runs.{Machine, IsMachine, EndsSilently};
 ghost use Rattle.lg_temp.specs.Agrees.{AgreesAt};
 ghost use Rattle.lg_temp.specs.Carries.{Standing, Carries};
 
@@ -30,6 +30,9 @@ pub trait Simulation {
 
     /// The portable machine is one.
     ghost portable_is: { IsMachine portable };
+
+    /// A portable step that ends the run or is undefined writes nothing.
+    ghost portable_silent: { EndsSilently portable };
 
     /// The processor is one.
     ghost processor_is: { IsMachine processor };

@@ -1,0 +1,14 @@
+use Rattle.std.proofs.Common.{◌≡◌, ◌-◌, ◌+◌, ◌<◌, ◌≤◌, length, vec_len}
+use Rattle.std.specs.Io.KnownBytes.{Consumes}
+use Rattle.lg_run.specs.Says.{most_text}
+use Rattle.lg_run.proofs.source.read_rest.Given as goal
+
+abbrev pub invariant-loop-texts : goal.invariant-loop-texts
+invariant-loop-texts g l = record {
+  read : Consumes (g.T.Texts.left l.fn.texts) (g.T.Texts.left l.texts) l.text.items;
+  room : 0 < length l.piece;
+  later : g.T.Texts.faults l.fn.texts ≤ g.T.Texts.faults l.texts;
+}
+
+abbrev pub decreases-loop-texts : goal.decreases-loop-texts
+decreases-loop-texts g l = most_text + 1 - vec_len l.text

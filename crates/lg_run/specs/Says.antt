@@ -1,0 +1,139 @@
+-- What the top call says.
+use Rattle.std.specs.Prelude.{◌≡◌, ◌⊎◌, ℕ, ◌+◌, ◌<◌, ◌≤◌, List, [], ◌∷◌, ◌++◌, length, take, Option, Some, None, IfSome, option_and_then, option_map}
+use Rattle.std.specs.Io.KnownBytes.{Appends}
+use Rattle.lg_base.specs.Runs.{iter}
+use Rattle.lg_base.specs.declared.target.Target.TheVariants.{Riscv64}
+use Rattle.lg_base.specs.declared.refusal.Refusal.{Refusal}
+use Rattle.lg_base.specs.declared.refusal.RefusalKind.TheVariants.{NotYet, TextTooLong}
+use Rattle.lg_io.specs.Counts.{Rose}
+use Rattle.lg_io.specs.Wrote.{AppendsPrefix}
+use Rattle.lg_io.specs.NamedTexts.{NamedTexts, text_under}
+use Rattle.lg_run.specs.Reading.{unit_of}
+use Rattle.lg_run.specs.Processor.{Core, Processor, Stands, Goes, EndedWith, Faulted, step, effect, start}
+use Rattle.lg_run.specs.Agreement.{Agrees}
+use Rattle.lg_run.specs.Lines.{line_of}
+use Rattle.lg_run.specs.declared.form.Item.{Item}
+use Rattle.lg_run.specs.declared.answer.Code.{Code}
+use Rattle.lg_run.specs.declared.answer.Answer.{Answer}
+use Rattle.lg_run.specs.declared.answer.Answer.TheVariants.{Ended, Listed, Undefined, Refused, Usage, ReadFault, WriteFault, StepsOut, Fault, OutOfMemory}
+
+-- ---- limits
+
+-- the most bytes of a text and of its code, and the most steps of a run
+abbrev pub most_text : ℕ
+most_text = 16777216
+
+abbrev pub most_code : ℕ
+most_code = 1048576
+
+abbrev pub most_steps : ℕ
+most_steps = 1000000000
+
+-- what registers hold at first, and behind a call of a host function
+abbrev pub trash_word : ℕ
+trash_word = 0x5A5A5A5A5A5A5A5A
+
+-- ---- refusals
+
+abbrev pub text_too_long : Refusal
+text_too_long = record { kind = TextTooLong; line = 0 }
+
+abbrev pub not_yet : Refusal
+not_yet = record { kind = NotYet; line = 0 }
+
+-- a text of the allowed length that is not of the first form
+abbrev pub IsNotYet : List ℕ → Type 0
+IsNotYet text = (length text ≤ most_text) × (unit_of text ≡ None)
+
+-- ---- runs
+
+-- the run from a core, after n steps
+abbrev pub run : List ℕ → ℕ → Core → ℕ → Processor
+run code trash core n = iter (step code trash) n record { core = core; stands = Goes; out = [] }
+
+-- what an answer of a run of at most limit steps says; taken and count are those of the sink, before and after
+abbrev pub RunSays : List ℕ → ℕ → Core → ℕ → ℕ → Option (List ℕ) → Option (List ℕ) → ℕ → ℕ → Answer → Type 0
+RunSays code trash core limit steps taken taken' count count' (Ended status) =
+    (steps ≤ limit) × ((run code trash core steps).stands ≡ EndedWith status) × ((n : ℕ) → n < steps → (run code trash core n).stands ≡ Goes)
+    × Appends taken taken' (run code trash core steps).out
+RunSays code trash core limit steps taken taken' count count' StepsOut =
+    (steps ≡ limit) × ((run code trash core steps).stands ≡ Goes) × Appends taken taken' (run code trash core steps).out
+RunSays code trash core limit steps taken taken' count count' (Fault kind pc) =
+    (steps < limit) × ((run code trash core steps).stands ≡ Goes) × ((run code trash core (steps + 1)).stands ≡ Faulted kind)
+    × ((run code trash core (steps + 1)).core.pc ≡ pc) × Appends taken taken' (run code trash core (steps + 1)).out
+RunSays code trash core limit steps taken taken' count count' WriteFault =
+    (steps < limit) × ((run code trash core steps).stands ≡ Goes) × Rose count count'
+    × ((n : ℕ) × (n ≤ length (effect code trash (run code trash core steps).core).written) × Appends taken taken' ((run code trash core steps).out ++ take n (effect code trash (run code trash core steps).core).written))
+RunSays code trash core limit steps taken taken' count count' other = ⊥
+
+-- ---- the call
+
+-- the text of a name, where the texts are told
+abbrev pub text_of : Option NamedTexts → List ℕ → Option (List ℕ)
+text_of held name = option_and_then (λ texts. text_under texts name) held
+
+-- what a call changes: the bytes that out has taken and the counts of texts and out, before and after
+pub record Change : Type 0 where
+  pub taken : Option (List ℕ)
+  pub taken' : Option (List ℕ)
+  pub reads : ℕ
+  pub reads' : ℕ
+  pub writes : ℕ
+  pub writes' : ℕ
+
+-- the bytes that err has taken and its count, before and after
+pub record ErrChange : Type 0 where
+  pub taken : Option (List ℕ)
+  pub taken' : Option (List ℕ)
+  pub faults : ℕ
+  pub faults' : ℕ
+
+-- nothing was assembled, and out is as it was
+pub record IsUntouched (code : Option Code) (steps : ℕ) (c : Change) : Type 0 where
+  pub none : code ≡ None
+  pub still : steps ≡ 0
+  pub out : c.taken' ≡ c.taken
+
+-- this code ran with the file as its one argument word
+pub record Runs (file : List ℕ) (code : Option Code) (steps : ℕ) (c : Change) (answer : Answer) : Type 0 where
+  pub ran : Code
+  pub is : code ≡ Some ran
+  pub says : RunSays ran.bytes.items trash_word (start (file ∷ []) trash_word).core most_steps steps c.taken c.taken' c.writes c.writes' answer
+
+-- what each answer says of the text, the code, the steps and what was changed
+abbrev pub AnswerSays : List ℕ → Option (List ℕ) → Option Code → ℕ → Change → Answer → Type 0
+AnswerSays file text code steps c (Ended status) = Runs file code steps c (Ended status)
+AnswerSays file text code steps c StepsOut = Runs file code steps c StepsOut
+AnswerSays file text code steps c (Fault kind pc) = Runs file code steps c (Fault kind pc)
+AnswerSays file text code steps c WriteFault = Rose c.writes c.writes' × Runs file code steps c WriteFault
+AnswerSays file text code steps c (Refused refusal) =
+    IsUntouched code steps c
+    × (((refusal ≡ text_too_long) × IfSome text (λ t. most_text < length t)) ⊎ ((refusal ≡ not_yet) × IfSome text IsNotYet))
+AnswerSays file text code steps c ReadFault = IsUntouched code steps c × Rose c.reads c.reads'
+AnswerSays file text code steps c OutOfMemory = IsUntouched code steps c
+AnswerSays file text code steps c Usage = ⊥
+AnswerSays file text code steps c Listed = ⊥
+AnswerSays file text code steps c (Undefined line) = ⊥
+
+-- the code is that of a text of the first form: it is made for RV64, fits the size, and agrees with the text's meaning
+pub record IsCodeOf (text : Option (List ℕ)) (code : Code) : Type 0 where
+  pub items : List Item
+  pub reads : IfSome text (λ t. (length t ≤ most_text) × (unit_of t ≡ Some items))
+  pub target : code.target ≡ Riscv64
+  pub size : length code.bytes.items ≤ most_code
+  pub agrees : Agrees code.bytes.items items
+
+abbrev pub CodeSays : Option (List ℕ) → Option Code → Type 0
+CodeSays text code = IfSome code (IsCodeOf text)
+
+-- the line of the inner answer stands on err and that is the answer, or a part of it stands there and the answer is a write fault
+abbrev pub ReportSays : List ℕ → ℕ → ErrChange → Answer → Answer → Type 0
+ReportSays file steps e inner outer =
+    ((outer ≡ inner) × Appends e.taken e.taken' (line_of file steps inner))
+    ⊎ ((outer ≡ WriteFault) × Rose e.faults e.faults' × AppendsPrefix e.taken e.taken' (line_of file steps inner))
+
+-- the clause of the top call, by what the words ask for
+abbrev pub Says : Option (List ℕ) → Option NamedTexts → Option Code → ℕ → Change → ErrChange → Answer → Type 0
+Says None held code steps c e outer = IsUntouched code steps c × ReportSays [] steps e Usage outer
+Says (Some file) held code steps c e outer =
+    (inner : Answer) × AnswerSays file (text_of held file) code steps c inner × CodeSays (text_of held file) code × ReportSays file steps e inner outer

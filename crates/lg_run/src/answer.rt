@@ -1,0 +1,107 @@
+// What the top call answers.
+
+ghost use Rattle.std.specs.Prelude.{◌≡◌};
+ghost use Rattle.lg_run.specs.Statuses.{status_of_answer};
+
+use lg_base::code::CodeBytes;
+use lg_base::fault::FaultKind;
+use lg_base::refusal::Refusal;
+use lg_base::target::Target;
+
+/// What the top call comes to.
+#[derive(Clone, Copy, Debug, PartialEq, Eq)]
+pub enum Answer {
+    /// The run ended with a status.
+    Ended(u8),
+    /// The listing was written.
+    Listed,
+    /// The portable meaning is undefined at a step of this line.
+    Undefined {
+        /// The line, counted from 1.
+        line: u32,
+    },
+    /// The text is refused.
+    Refused(Refusal),
+    /// The words of the command are not of its form.
+    Usage,
+    /// A text could not be read.
+    ReadFault,
+    /// Bytes could not be written.
+    WriteFault,
+    /// The run has neither ended nor faulted after the most steps.
+    StepsOut,
+    /// The processor faulted.
+    Fault {
+        /// Why.
+        kind: FaultKind,
+        /// The program counter of the instruction that faulted.
+        pc: u64,
+    },
+    /// Memory could not be had.
+    OutOfMemory,
+}
+
+/// The code of a text.
+#[derive(Drop)]
+pub struct Code {
+    target: Target,
+    bytes: CodeBytes,
+}
+
+impl Code {
+    // The code for RV64 that has these bytes.
+    pub(crate) fn of_bytes(bytes: CodeBytes) -> Code
+        ensures target { result.target ≡ Target.Riscv64 }
+        ensures bytes { result.bytes ≡ bytes }
+    {
+        Code {
+            target: Target::Riscv64,
+            bytes,
+        }
+    }
+
+    /// The processor that the code is for.
+    pub fn target(&self) -> Target
+        ensures { result ≡ self.now.target }
+    {
+        self.target
+    }
+
+    /// The bytes of the code, the first of which stands at 0x10000000.
+    pub fn bytes(&self) -> &CodeBytes
+        ensures { result.now ≡ self.now.bytes }
+    {
+        &self.bytes
+    }
+}
+
+/// The answer, the code wherever assembling succeeded, and the number of steps of the run, which is 0 where
+/// nothing ran.
+#[derive(Drop)]
+pub struct Done {
+    /// What the call came to.
+    pub answer: Answer,
+    /// The code that was run.
+    pub code: Option<Code>,
+    /// How many steps the run took.
+    pub steps: u64,
+}
+
+/// The status that the program ends with: the run's own where it ended, 0 for a listing, and from 120 on for
+/// every other answer.
+pub fn status(answer: &Answer) -> u8
+    ensures { result ≡ status_of_answer answer.now }
+{
+    match *answer {
+        Answer::Ended(status) => status,
+        Answer::Listed => 0,
+        Answer::Undefined { .. } => 120,
+        Answer::Refused(_) => 121,
+        Answer::Usage => 122,
+        Answer::ReadFault => 123,
+        Answer::WriteFault => 124,
+        Answer::StepsOut => 125,
+        Answer::Fault { .. } => 126,
+        Answer::OutOfMemory => 127,
+    }
+}

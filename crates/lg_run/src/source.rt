@@ -1,0 +1,81 @@
+// Reading a text whole.
+
+ghost use Rattle.std.specs.Prelude.{◌≡◌, ◌≤◌, ◌<◌, length, IfOk, IfSome, Err};
+ghost use Rattle.std.specs.Io.KnownBytes.{Consumes, IsAtEnd};
+ghost use Rattle.lg_io.specs.Counts.{Rose};
+ghost use Rattle.lg_run.specs.Says.{text_of, most_text};
+
+use lg_base::refusal::OutOfMemory;
+use lg_io::texts::Texts;
+use std::alloc::Global;
+
+// The most bytes of a text.
+const MOST_TEXT: usize = 16_777_216;
+
+// How many bytes are read at a time.
+const PIECE: usize = 65_536;
+
+/// Why there is no text.
+#[derive(Clone, Copy, Debug, PartialEq, Eq)]
+pub enum ReadStop {
+    /// A call of the source failed.
+    ReadFault,
+    /// The text has more than 16,777,216 bytes.
+    TooLong,
+    /// Memory could not be had.
+    OutOfMemory,
+}
+
+// Room for what is read at a time.
+fn piece(alloc: Global) -> Result<Vec<u8>, OutOfMemory>
+    ensures { IfOk result (λ v. length v.items ≡ 65536) }
+{
+    Ok(vec![in alloc; 0u8; PIECE]?)
+}
+
+// Reads what is left of the selected text, through a piece of memory.
+fn read_rest<T: Texts>(
+    alloc: Global,
+    piece: &mut [u8],
+    texts: &mut T,
+) -> Result<Vec<u8>, ReadStop>
+    requires { 0 < length piece.old }
+    ensures bytes { IfOk result (λ v. Consumes (T.left texts.old) (T.left texts.new) v.items × IsAtEnd (T.left texts.new)) }
+    ensures small { IfOk result (λ v. length v.items ≤ most_text) }
+    ensures long { result ≡ Err ReadStop.TooLong → IfSome (T.left texts.old) (λ left. most_text < length left) }
+    ensures later { T.faults texts.old ≤ T.faults texts.new }
+    ensures fault { result ≡ Err ReadStop.ReadFault → Rose (T.faults texts.old) (T.faults texts.new) }
+{
+    let mut text = Vec::new(alloc);
+    while text.len() <= MOST_TEXT {
+        let count = match texts.read(piece) {
+            Ok(count) => count,
+            Err(_) => return Err(ReadStop::ReadFault),
+        };
+        if count == 0 {
+            return Ok(text);
+        }
+        if text.extend_from_slice(&piece[..count]).is_err() {
+            return Err(ReadStop::OutOfMemory);
+        }
+    }
+    Err(ReadStop::TooLong)
+}
+
+/// The whole text of a name.
+pub fn read_text<T: Texts>(alloc: Global, name: &str, texts: &mut T) -> Result<Vec<u8>, ReadStop>
+    ensures text { IfOk result (λ v. IfSome (text_of (T.held texts.old) name.now) (λ t. v.items ≡ t)) }
+    ensures small { IfOk result (λ v. length v.items ≤ most_text) }
+    ensures long { result ≡ Err ReadStop.TooLong → IfSome (text_of (T.held texts.old) name.now) (λ t. most_text < length t) }
+    ensures later { T.faults texts.old ≤ T.faults texts.new }
+    ensures fault { result ≡ Err ReadStop.ReadFault → Rose (T.faults texts.old) (T.faults texts.new) }
+{
+    let mut piece = match piece(alloc) {
+        Ok(piece) => piece,
+        Err(_) => return Err(ReadStop::OutOfMemory),
+    };
+    match texts.select(name) {
+        Ok(()) => read_rest(alloc, &mut piece, texts),
+        Err(_) => Err(ReadStop::ReadFault),
+    }
+}
