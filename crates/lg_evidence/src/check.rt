@@ -145,3 +145,42 @@ impl<'a> Tally<'a> {
         }
     }
 }
+
+#[cfg(test)]
+mod tests {
+    use super::*;
+    use crate::riscv64::Riscv64;
+    use std::test::Fail;
+
+    #[test]
+    fn compares_encodings(rt: HostRuntime) -> Result<(), Fail> {
+        for (line, agrees) in [
+            ("addi x5, x0, 1\t93021000\tgas\taddi 5 0 1", true),
+            ("addi x5, x0, 1\t93021000\tgas\taddi 5 0 2", false),
+            ("addi x5, x0, 1\t93021000\tgas\tslti 5 0 1", false),
+            ("addi x5, x0, 1\t9302100000\tgas\taddi 5 0 1", false),
+            ("addi x5, x0, 1\t930210\tgas\taddi 5 0 1", false),
+            ("ecall\t73000000\tgas\tecall", false),
+            ("addi x5, x0, 1\t9302100\tgas\taddi 5 0 1", false),
+            ("addi x5, x0, 1\t93021000", false),
+        ] {
+            let outcome = spelled_outcome::<Riscv64>(rt.alloc(), line)?;
+            assert_eq!(rt; matches!(outcome, Outcome::Agrees), agrees, "at {line}");
+        }
+        Ok(())
+    }
+
+    #[test]
+    fn compares_refused_bytes(rt: HostRuntime) -> Result<(), Fail> {
+        for (line, agrees) in [
+            ("73000000\tgas: ecall\tecall", true),
+            ("-\tempty\t", true),
+            ("93021000\tgas: addi\taddi", false),
+            ("73000000", false),
+        ] {
+            let outcome = refused_outcome::<Riscv64>(rt.alloc(), line)?;
+            assert_eq!(rt; matches!(outcome, Outcome::Agrees), agrees, "at {line}");
+        }
+        Ok(())
+    }
+}
