@@ -1,5 +1,8 @@
 // The checks of whole files.
 
+ghost use Rattle.std.specs.Prelude.{◌≡◌, ◌↔◌, ◌++◌, ℕ, List, length, IsTrue, string_bytes};
+ghost use Rattle.lg_evidence.specs.Counts.{counted};
+
 use crate::table::{Found, Table};
 use crate::vector::{bytes_of, parse_refused, parse_spelled};
 use lg_base::piece::Piece;
@@ -17,12 +20,15 @@ pub fn check_spelled<T: Table>(
     file: &str,
 ) -> io::Result<()> {
     let text = fs::read_to_string(rt, file)?;
-    let mut tally = Tally::new(file);
+    let mut counts = Counts::new();
     for line in text.as_str().lines() {
         let outcome = spelled_outcome::<T>(rt.alloc(), line)?;
-        tally.count(rt, line, outcome)?;
+        counts.add(&outcome);
+        if counts.differ <= SHOWN {
+            outcome.print(rt, file, line)?;
+        }
     }
-    tally.print(rt)
+    counts.print(rt, file)
 }
 
 /// Checks a file of bytes that are no instruction. Of each line the bytes, which stand alone, must be
@@ -32,12 +38,15 @@ pub fn check_refused<T: Table>(
     file: &str,
 ) -> io::Result<()> {
     let text = fs::read_to_string(rt, file)?;
-    let mut tally = Tally::new(file);
+    let mut counts = Counts::new();
     for line in text.as_str().lines() {
         let outcome = refused_outcome::<T>(rt.alloc(), line)?;
-        tally.count(rt, line, outcome)?;
+        counts.add(&outcome);
+        if counts.differ <= SHOWN {
+            outcome.print(rt, file, line)?;
+        }
     }
-    tally.print(rt)
+    counts.print(rt, file)
 }
 
 // Whether a line agrees with the table, and else what was found in its place.
@@ -56,17 +65,18 @@ fn spelled_outcome<T: Table>(alloc: Global, line: &str) -> Result<Outcome, Alloc
     };
     match T::find(alloc, &followed(&bytes))? {
         None => Ok(Outcome::Differs(format!(in alloc; "no instruction")?)),
-        Some(found) => {
-            let same = found.operation.as_str() == wanted.operation
-                && found.length as usize == bytes.as_slice().len()
-                && found.spelling.as_slice() == bytes.as_slice();
-            if same {
-                Ok(Outcome::Agrees)
-            } else {
-                differing(alloc, &found)
-            }
-        }
+        Some(found) if is_as_wanted(&found, wanted.operation, &bytes) => Ok(Outcome::Agrees),
+        Some(found) => differing(alloc, &found),
     }
+}
+
+// whether what was found is the operation wanted, of these bytes and no others
+fn is_as_wanted(found: &Found, operation: &str, bytes: &Piece) -> bool
+    ensures { IsTrue result ↔ ((string_bytes found.now.operation ≡ operation.now) × (found.now.length ≡ length bytes.now) × (found.now.spelling ≡ bytes.now)) }
+{
+    found.operation.as_str() == operation
+        && found.length as usize == bytes.as_slice().len()
+        && found.spelling.as_slice() == bytes.as_slice()
 }
 
 fn refused_outcome<T: Table>(alloc: Global, line: &str) -> Result<Outcome, AllocError> {
@@ -94,50 +104,54 @@ fn differing(alloc: Global, found: &Found) -> Result<Outcome, AllocError> {
     Ok(Outcome::Differs(text))
 }
 
-// the bytes with eight more behind them
-fn followed(bytes: &Piece) -> [u8; 24] {
+// the bytes with others behind them
+fn followed(bytes: &Piece) -> [u8; 24]
+    ensures { (more : List ℕ) × (result ≡ bytes.now ++ more) }
+{
     let mut all = [0xff; 24];
-    for (to, from) in all.iter_mut().zip(bytes.as_slice()) {
-        *to = *from;
-    }
+    let front = bytes.as_slice();
+    all[..front.len()].copy_from_slice(front);
     all
 }
 
+impl Outcome {
+    // prints nothing of a line that agrees
+    fn print(&self, rt: &impl Print, file: &str, line: &str) -> io::Result<()> {
+        match self {
+            Outcome::Agrees => Ok(()),
+            Outcome::Differs(found) => println!(rt; "{file} differs: {line}: found {found}"),
+        }
+    }
+}
+
 // How many lines of a file agree and differ.
-#[derive(Drop)]
-struct Tally<'a> {
-    file: &'a str,
+#[derive(Clone, Copy)]
+struct Counts {
     agree: u64,
     differ: u64,
 }
 
-impl<'a> Tally<'a> {
-    fn new(file: &'a str) -> Self {
-        Tally {
-            file,
+impl Counts {
+    fn new() -> Self
+        ensures { (result.agree ≡ 0) × (result.differ ≡ 0) }
+    {
+        Counts {
             agree: 0,
             differ: 0,
         }
     }
 
-    fn count(&mut self, rt: &impl Print, line: &str, outcome: Outcome) -> io::Result<()> {
+    fn add(&mut self, outcome: &Outcome)
+        ensures { self.new ≡ counted self.old outcome.now }
+    {
         match outcome {
             Outcome::Agrees => self.agree = self.agree.saturating_add(1),
-            Outcome::Differs(found) => {
-                self.differ = self.differ.saturating_add(1);
-                if self.differ <= SHOWN {
-                    let file = self.file;
-                    println!(rt; "{file} differs: {line}: found {found}")?;
-                }
-            }
+            Outcome::Differs(_) => self.differ = self.differ.saturating_add(1),
         }
-        Ok(())
     }
 
-    fn print(&self, rt: &impl Print) -> io::Result<()> {
-        let file = self.file;
-        let agree = self.agree;
-        let differ = self.differ;
+    fn print(self, rt: &impl Print, file: &str) -> io::Result<()> {
+        let Counts { agree, differ } = self;
         if differ == 0 {
             println!(rt; "{file}: {agree} agree")
         } else {

@@ -1,5 +1,8 @@
 // What a check asks of a processor's table.
 
+ghost use Rattle.std.specs.Prelude.{IfOk, IfSome};
+ghost use Rattle.lg_evidence.specs.Found.{StandsInFront};
+
 use lg_base::piece::Piece;
 use std::alloc::{AllocError, Global};
 use std::str;
@@ -18,7 +21,8 @@ pub struct Found {
 /// A processor's table.
 pub trait Table {
     /// The instruction that the bytes begin with, if they begin with one.
-    fn find(alloc: Global, bytes: &[u8]) -> Result<Option<Found>, AllocError>;
+    fn find(alloc: Global, bytes: &[u8]) -> Result<Option<Found>, AllocError>
+        ensures { IfOk result (λ answer. IfSome answer (StandsInFront bytes.now)) };
 }
 
 /// A row's name and the operands as the evidence writes them.

@@ -1,6 +1,7 @@
 // The lines of the evidence: columns with tabs between them, bytes as hexadecimal digits.
 
-ghost use Rattle.std.specs.Prelude.{length, ◌≤◌, IfSome};
+ghost use Rattle.std.specs.Prelude.{◌≡◌, ◌<◌, IfSome};
+ghost use Rattle.lg_evidence.specs.Hex.{hex_digit, hex_text};
 
 use lg_base::piece::Piece;
 
@@ -29,24 +30,27 @@ pub fn parse_refused(line: &str) -> Option<&str> {
 
 /// The bytes of lower hexadecimal digits, two a byte; `-` is the empty list. `None` for another text,
 /// and for more than 16 bytes.
-pub fn bytes_of(hex: &str) -> Option<Piece> {
-    let mut bytes = Piece::new();
+pub fn bytes_of(hex: &str) -> Option<Piece>
+    ensures { IfSome result (λ bytes. hex.now ≡ hex_text bytes) }
+{
     if hex == "-" {
-        return Some(bytes);
+        return Some(Piece::new());
     }
-    let (pairs, rest) = hex.as_bytes().as_chunks::<2>();
-    if pairs.len() > 16 || !rest.is_empty() {
+    let digits = hex.as_bytes();
+    let count = digits.len() / 2;
+    if count == 0 || count > 16 || count * 2 != digits.len() {
         return None;
     }
-    for [high, low] in pairs {
-        bytes.push(digit(*high)? * 16 + digit(*low)?);
+    let mut bytes = Piece::new();
+    for k in 0..count {
+        bytes.push(digit(digits[2 * k])? * 16 + digit(digits[2 * k + 1])?);
     }
     Some(bytes)
 }
 
 // the value of a hexadecimal digit
 fn digit(code: u8) -> Option<u8>
-    ensures { IfSome result (λ value. value ≤ 15) }
+    ensures { IfSome result (λ value. (value < 16) × (hex_digit value ≡ code)) }
 {
     match code {
         b'0'..=b'9' => Some(code - b'0'),
