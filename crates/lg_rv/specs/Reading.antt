@@ -1,7 +1,8 @@
--- How a word is read, format by format. What the crate promises of `decode` names none of this: it is
--- what the private functions of the decoder compute, between the code and the laws.
-use Rattle.std.specs.Prelude.{ℕ, Bool, find, ◌==◌, ◌&&◌, ◌||◌, if◌then◌else◌, Option, Some, None, option_map}
+-- How a word is read, format by format. The laws on `decode` say what this is: a spelling is read as its
+-- instruction, what is read is spelled, and nothing else is read.
+use Rattle.std.specs.Prelude.{ℕ, Bool, List, find, ◌==◌, ◌&&◌, ◌||◌, if◌then◌else◌, Option, Some, None, option_map}
 use Rattle.lg_base.specs.Fields.{part, signed}
+use Rattle.lg_base.specs.WordFronts.{word_front}
 use Rattle.lg_base.specs.Immediates.{store_bits, branch_bits, jump_bits}
 use Rattle.lg_rv.specs.declared.instruction.Instr.{Instr}
 use Rattle.lg_rv.specs.declared.instruction.Instr.TheVariants.{Upper, Jal, Branch, Imm, Shift, Store, Reg}
@@ -86,3 +87,7 @@ instr_at w opcode funct3 =
 
 abbrev pub instr_of : ℕ → Option Instr
 instr_of w = instr_at w (part 0 7 w) (part 12 3 w)
+
+-- the instruction that the bytes begin with, and its length
+abbrev pub front_of : List ℕ → Option (Instr × ℕ)
+front_of bytes = word_front instr_of bytes

@@ -3,7 +3,7 @@
 ghost use Rattle.std.specs.Prelude.{◌≡◌, ◌++◌, ℕ, List, length, Some, IfSome, IfNone};
 ghost use Rattle.lg_rv.specs.Spelling.{IsInstr, BeginsWith, spelling};
 ghost use Rattle.lg_base.specs.WordFronts.{word_front};
-ghost use Rattle.lg_rv.specs.Reading.{instr_of, upper_of, jal_of, branch_of, imm_of, shift_of, word_shift_of, store_of, reg_of};
+ghost use Rattle.lg_rv.specs.Reading.{front_of, instr_of, upper_of, jal_of, branch_of, imm_of, shift_of, word_shift_of, store_of, reg_of};
 
 use crate::fields::{Amount, Funct3, Funct6, Funct7, Imm12, Imm20, Opcode, Rd, Rs1, Rs2};
 use crate::instruction::{BranchOp, ImmOp, Instr, RegOp, ShiftOp, StoreOp, UpperOp};
@@ -18,6 +18,7 @@ pub fn decode(bytes: &[u8]) -> Option<(Instr, u32)>
     // what is read is spelled by the bytes in front
     ensures front { IfSome result (λ found. BeginsWith bytes.now found.0 × (found.1 ≡ length (spelling found.0))) }
     ensures none { IfNone result ((i : Instr) → BeginsWith bytes.now i → ⊥) }
+    ensures value { result ≡ front_of bytes.now }
 {
     decode_front(bytes)
 }
