@@ -1,6 +1,6 @@
 // From bytes to instructions.
 
-ghost use Rattle.std.specs.Prelude.{◌≡◌, ◌++◌, ◌<◌, ◌*◌, ◌^◌, ℕ, List, length, Some, IfSome, IfNone};
+ghost use Rattle.std.specs.Prelude.{◌≡◌, ◌++◌, ℕ, List, length, Some, IfSome, IfNone};
 ghost use Rattle.lg_a64.specs.Spelling.{IsInstr, BeginsWith, spelling};
 ghost use Rattle.lg_base.specs.WordFronts.{word_front};
 ghost use Rattle.lg_a64.specs.Reading.{instr_of, reg_of, imm_of, wide_of, mul_add_of, bitfield_of, csinc_of, reverse_of, scaled_of, ldrx_of, unscaled_of, branch_of, branch_if_of, branch_reg_of, nop_of, reg_fixed, imm_fixed, mul_add_fixed, bitfield_fixed, select_fixed, reverse_fixed, branch_fixed, branch_if_fixed, branch_reg_fixed};

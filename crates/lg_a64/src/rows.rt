@@ -1,6 +1,6 @@
 // The rows of the table: each is written once, in a macro that the functions on rows use.
 
-ghost use Rattle.std.specs.Prelude.{◌≡◌, ◌<◌, ◌≤◌, ◌^◌, ◌++◌, length};
+ghost use Rattle.std.specs.Prelude.{◌≡◌, ◌<◌, ◌≤◌, ◌++◌, length};
 ghost use Rattle.lg_base.specs.Fields.{part};
 ghost use Rattle.lg_a64.specs.Rows.{reg_row, imm_row, wide_row, mul_add_row, bitfield_row, reverse_row, scaled_row, unscaled_row, branch_row, branch_reg_row, branch_if_row, cond_row};
 ghost use Rattle.lg_a64.specs.Spelling.{name_of};
