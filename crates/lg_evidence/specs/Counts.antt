@@ -1,0 +1,10 @@
+-- The counts of lines, which stop at the greatest number of 64 bits.
+use Rattle.std.specs.Prelude.{◌+◌, ◌-◌, ◌^◌, min}
+use Rattle.lg_evidence.specs.declared.check.Counts.{Counts}
+use Rattle.lg_evidence.specs.declared.check.Outcome.{Outcome}
+use Rattle.lg_evidence.specs.declared.check.Outcome.TheVariants.{Agrees, Differs}
+
+-- the counts with one line more
+abbrev pub counted : Counts → Outcome → Counts
+counted counts Agrees = record counts { agree = min (counts.agree + 1) (2 ^ 64 - 1) }
+counted counts (Differs found) = record counts { differ = min (counts.differ + 1) (2 ^ 64 - 1) }

@@ -1,0 +1,200 @@
+// The checks of whole files.
+
+ghost use Rattle.std.specs.Prelude.{◌≡◌, ◌↔◌, ◌++◌, ℕ, List, length, IsTrue, string_bytes};
+ghost use Rattle.lg_evidence.specs.Counts.{counted};
+
+use crate::table::{Found, Table};
+use crate::vector::{bytes_of, parse_refused, parse_spelled};
+use lg_base::piece::Piece;
+use std::alloc::{AllocError, Global};
+use std::rt::Files;
+use std::{fs, io};
+
+// so many lines that differ are printed of each file
+const SHOWN: u64 = 20;
+
+/// Checks a file of encodings. Of each line the bytes, with others behind them, must be read as the
+/// instruction that the line names, which must be encoded as the bytes again.
+pub fn check_spelled<T: Table>(
+    rt: &(impl Files + Print + AllocGlobal),
+    file: &str,
+) -> io::Result<()> {
+    let text = fs::read_to_string(rt, file)?;
+    let mut counts = Counts::new();
+    for line in text.as_str().lines() {
+        let outcome = spelled_outcome::<T>(rt.alloc(), line)?;
+        counts.add(&outcome);
+        if counts.differ <= SHOWN {
+            outcome.print(rt, file, line)?;
+        }
+    }
+    counts.print(rt, file)
+}
+
+/// Checks a file of bytes that are no instruction. Of each line the bytes, which stand alone, must be
+/// read as none.
+pub fn check_refused<T: Table>(
+    rt: &(impl Files + Print + AllocGlobal),
+    file: &str,
+) -> io::Result<()> {
+    let text = fs::read_to_string(rt, file)?;
+    let mut counts = Counts::new();
+    for line in text.as_str().lines() {
+        let outcome = refused_outcome::<T>(rt.alloc(), line)?;
+        counts.add(&outcome);
+        if counts.differ <= SHOWN {
+            outcome.print(rt, file, line)?;
+        }
+    }
+    counts.print(rt, file)
+}
+
+// Whether a line agrees with the table, and else what was found in its place.
+#[derive(Drop)]
+enum Outcome {
+    Agrees,
+    Differs(String),
+}
+
+fn spelled_outcome<T: Table>(alloc: Global, line: &str) -> Result<Outcome, AllocError> {
+    let Some(wanted) = parse_spelled(line) else {
+        return unread(alloc);
+    };
+    let Some(bytes) = bytes_of(wanted.hex) else {
+        return unread(alloc);
+    };
+    match T::find(alloc, &followed(&bytes))? {
+        None => Ok(Outcome::Differs(format!(in alloc; "no instruction")?)),
+        Some(found) if is_as_wanted(&found, wanted.operation, &bytes) => Ok(Outcome::Agrees),
+        Some(found) => differing(alloc, &found),
+    }
+}
+
+// whether what was found is the operation wanted, of these bytes and no others
+fn is_as_wanted(found: &Found, operation: &str, bytes: &Piece) -> bool
+    ensures { IsTrue result ↔ ((string_bytes found.now.operation ≡ operation.now) × (found.now.length ≡ length bytes.now) × (found.now.spelling ≡ bytes.now)) }
+{
+    found.operation.as_str() == operation
+        && found.length as usize == bytes.as_slice().len()
+        && found.spelling.as_slice() == bytes.as_slice()
+}
+
+fn refused_outcome<T: Table>(alloc: Global, line: &str) -> Result<Outcome, AllocError> {
+    let Some(hex) = parse_refused(line) else {
+        return unread(alloc);
+    };
+    let Some(bytes) = bytes_of(hex) else {
+        return unread(alloc);
+    };
+    match T::find(alloc, bytes.as_slice())? {
+        None => Ok(Outcome::Agrees),
+        Some(found) => differing(alloc, &found),
+    }
+}
+
+fn unread(alloc: Global) -> Result<Outcome, AllocError> {
+    Ok(Outcome::Differs(format!(in alloc; "a line of another form")?))
+}
+
+fn differing(alloc: Global, found: &Found) -> Result<Outcome, AllocError> {
+    let mut text = format!(in alloc; "{} in {} bytes, ", found.operation, found.length)?;
+    for byte in found.spelling.as_slice() {
+        write!(text, "{byte:02x}")?;
+    }
+    Ok(Outcome::Differs(text))
+}
+
+// the bytes with others behind them
+fn followed(bytes: &Piece) -> [u8; 24]
+    ensures { (more : List ℕ) × (result ≡ bytes.now ++ more) }
+{
+    let mut all = [0xff; 24];
+    let front = bytes.as_slice();
+    all[..front.len()].copy_from_slice(front);
+    all
+}
+
+impl Outcome {
+    // prints nothing of a line that agrees
+    fn print(&self, rt: &impl Print, file: &str, line: &str) -> io::Result<()> {
+        match self {
+            Outcome::Agrees => Ok(()),
+            Outcome::Differs(found) => println!(rt; "{file} differs: {line}: found {found}"),
+        }
+    }
+}
+
+// How many lines of a file agree and differ.
+#[derive(Clone, Copy)]
+struct Counts {
+    agree: u64,
+    differ: u64,
+}
+
+impl Counts {
+    fn new() -> Self
+        ensures { (result.agree ≡ 0) × (result.differ ≡ 0) }
+    {
+        Counts {
+            agree: 0,
+            differ: 0,
+        }
+    }
+
+    fn add(&mut self, outcome: &Outcome)
+        ensures { self.new ≡ counted self.old outcome.now }
+    {
+        match outcome {
+            Outcome::Agrees => self.agree = self.agree.saturating_add(1),
+            Outcome::Differs(_) => self.differ = self.differ.saturating_add(1),
+        }
+    }
+
+    fn print(self, rt: &impl Print, file: &str) -> io::Result<()> {
+        let Counts { agree, differ } = self;
+        if differ == 0 {
+            println!(rt; "{file}: {agree} agree")
+        } else {
+            println!(rt; "{file}: {agree} agree, {differ} differ")
+        }
+    }
+}
+
+#[cfg(test)]
+mod tests {
+    use super::*;
+    use crate::riscv64::Riscv64;
+    use std::test::Fail;
+
+    #[test]
+    fn compares_encodings(rt: HostRuntime) -> Result<(), Fail> {
+        for (line, agrees) in [
+            ("addi x5, x0, 1\t93021000\tgas\taddi 5 0 1", true),
+            ("addi x5, x0, 1\t93021000\tgas\taddi 5 0 2", false),
+            ("addi x5, x0, 1\t93021000\tgas\tslti 5 0 1", false),
+            ("addi x5, x0, 1\t9302100000\tgas\taddi 5 0 1", false),
+            ("addi x5, x0, 1\t930210\tgas\taddi 5 0 1", false),
+            ("ecall\t73000000\tgas\tecall", false),
+            ("addi x5, x0, 1\t9302100\tgas\taddi 5 0 1", false),
+            ("addi x5, x0, 1\t93021000", false),
+        ] {
+            let outcome = spelled_outcome::<Riscv64>(rt.alloc(), line)?;
+            assert_eq!(rt; matches!(outcome, Outcome::Agrees), agrees, "at {line}");
+        }
+        Ok(())
+    }
+
+    #[test]
+    fn compares_refused_bytes(rt: HostRuntime) -> Result<(), Fail> {
+        for (line, agrees) in [
+            ("73000000\tgas: ecall\tecall", true),
+            ("-\tempty\t", true),
+            ("93021000\tgas: addi\taddi", false),
+            ("73000000", false),
+        ] {
+            let outcome = refused_outcome::<Riscv64>(rt.alloc(), line)?;
+            assert_eq!(rt; matches!(outcome, Outcome::Agrees), agrees, "at {line}");
+        }
+        Ok(())
+    }
+}

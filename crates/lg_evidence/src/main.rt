@@ -1,0 +1,22 @@
+// Compares the tables of the processors with evidence from outside, the files of `data`: what
+// assemblers make of each instruction, and bytes that are no instruction. Prints a line for each file,
+// and first, for each of up to twenty lines that differ, the line and what was found in its place.
+#![tactic(auto)]
+
+mod aarch64;
+mod check;
+mod riscv64;
+mod table;
+mod vector;
+
+use aarch64::Aarch64;
+use check::{check_refused, check_spelled};
+use riscv64::Riscv64;
+use std::io;
+
+fn main(rt: HostRuntime) -> io::Result<()> {
+    check_spelled::<Aarch64>(&rt, "encode_aarch64.tsv")?;
+    check_refused::<Aarch64>(&rt, "decode_none_aarch64.tsv")?;
+    check_spelled::<Riscv64>(&rt, "encode_riscv64.tsv")?;
+    check_refused::<Riscv64>(&rt, "decode_none_riscv64.tsv")
+}
