@@ -1,0 +1,4 @@
+pub mod BlankLemmas
+pub mod ByteLemmas
+pub mod DigitLemmas
+pub mod StringLemmas

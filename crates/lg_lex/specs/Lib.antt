@@ -1,0 +1,5 @@
+pub mod Blanks
+pub mod Bytes
+pub mod Escapes
+pub mod Numbers
+pub mod Operators

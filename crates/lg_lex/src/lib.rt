@@ -1,0 +1,10 @@
+//! The tokens of a `.tst` text: words, marks, numbers, characters, constant expressions and strings.
+#![tactic(auto)]
+
+mod blanks;
+mod bytes;
+mod escapes;
+mod numbers;
+mod operators;
+
+pub use escapes::string_bytes;
