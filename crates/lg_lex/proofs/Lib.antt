@@ -1,4 +1,5 @@
 pub mod BlankLemmas
 pub mod ByteLemmas
 pub mod DigitLemmas
+pub mod ReaderLemmas
 pub mod StringLemmas

@@ -3,3 +3,4 @@ pub mod Bytes
 pub mod Escapes
 pub mod Numbers
 pub mod Operators
+pub mod Expressions

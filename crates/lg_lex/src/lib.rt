@@ -4,6 +4,7 @@
 mod blanks;
 mod bytes;
 mod escapes;
+mod expressions;
 mod numbers;
 mod operators;
 
