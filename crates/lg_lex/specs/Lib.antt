@@ -1,6 +1,8 @@
 pub mod Blanks
 pub mod Bytes
 pub mod Escapes
+pub mod Expressions
+pub mod Fronts
 pub mod Numbers
 pub mod Operators
-pub mod Expressions
+pub mod Tokens

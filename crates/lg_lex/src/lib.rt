@@ -5,7 +5,10 @@ mod blanks;
 mod bytes;
 mod escapes;
 mod expressions;
+mod fronts;
 mod numbers;
 mod operators;
+mod token;
 
 pub use escapes::string_bytes;
+pub use token::{Token, TokenKind};
