@@ -3,3 +3,4 @@ pub mod ByteLemmas
 pub mod DigitLemmas
 pub mod ReaderLemmas
 pub mod StringLemmas
+pub mod TokenLemmas

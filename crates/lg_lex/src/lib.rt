@@ -6,9 +6,12 @@ mod bytes;
 mod escapes;
 mod expressions;
 mod fronts;
+mod lexer;
 mod numbers;
 mod operators;
+mod place;
 mod token;
 
 pub use escapes::string_bytes;
+pub use lexer::Lexer;
 pub use token::{Token, TokenKind};
