@@ -15,3 +15,6 @@ mod token;
 pub use escapes::string_bytes;
 pub use lexer::Lexer;
 pub use token::{Token, TokenKind};
+
+#[cfg(test)]
+mod tests;
