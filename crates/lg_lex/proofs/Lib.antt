@@ -2,5 +2,6 @@ pub mod BlankLemmas
 pub mod ByteLemmas
 pub mod DigitLemmas
 pub mod ReaderLemmas
+pub mod SoundLemmas
 pub mod StringLemmas
 pub mod TokenLemmas

@@ -6,3 +6,4 @@ pub mod Fronts
 pub mod Numbers
 pub mod Operators
 pub mod Tokens
+pub mod Trees
