@@ -1,5 +1,6 @@
 pub mod BlankLemmas
 pub mod ByteLemmas
+pub mod CompleteLemmas
 pub mod DigitLemmas
 pub mod ReaderLemmas
 pub mod SoundLemmas
