@@ -2,6 +2,8 @@ pub mod BlankLemmas
 pub mod ByteLemmas
 pub mod CompleteLemmas
 pub mod DigitLemmas
+pub mod ExpressionTokenLemmas
+pub mod FrontLemmas
 pub mod ReaderLemmas
 pub mod SoundLemmas
 pub mod StringLemmas

@@ -9,8 +9,9 @@ use Rattle.lg_lex.specs.declared.token.Token.{Token}
 use Rattle.lg_lex.specs.declared.token.TokenKind.{TokenKind}
 use Rattle.lg_lex.specs.declared.fronts.Front.{Front}
 use Rattle.lg_lex.specs.declared.fronts.Front.TheVariants.{Nothing, Skips, Finds, Fails}
-use Rattle.lg_lex.specs.Fronts.{front_at}
-use Rattle.lg_lex.specs.Tokens.{line_of, with_byte, is_fresh, Tokens, token_then, behind_piece, with_front, tokens_from, tokens_at, Gives, IsPlace}
+use Rattle.lg_lex.specs.Fronts.{LiesWithin, front_at}
+use Rattle.lg_lex.specs.Tokens.{line_of, with_byte, is_fresh, Tokens, token_then, behind_piece, with_front, tokens_from, tokens_at, tokens_of, AreInOrder, Gives, IsPlace}
+use Rattle.lg_lex.proofs.FrontLemmas.{front_within}
 
 -- readers that agree behind the piece agree
 same_front : (text : List ℕ) (place : ℕ) (f g : ℕ → Tokens) (front : Front) → ((n : ℕ) → f (behind_piece place n) ≡ g (behind_piece place n)) → with_front text place f front ≡ with_front text place g front
@@ -89,3 +90,31 @@ module _ (text : List ℕ) (place line : ℕ) (fresh : Bool) (at : IsPlace text 
       let e' : whole ≡ token_then (token line end) (tokens_at text end) =
       here (Finds kind n value) is ∙ ap (λ k. token_then (token (line_of text place) (behind_piece place n)) (tokens_at text k)) piece ∙ ap (λ (t : Token). token_then t (tokens_at text end)) first in
       subst (λ (tokens : Tokens). Gives tokens (Ok (Some (token line end))) (tokens_at text end)) (sym e') (refl, refl)
+
+-- ---- the order of tokens
+
+in_order_from : (text : List ℕ) (low high : ℕ) (tokens : List Token) → low ≤ high → AreInOrder text high tokens → AreInOrder text low tokens
+in_order_from text low high [] h order = tt
+in_order_from text low high (token ∷ more) h order = (omega (arith, order.0), order.1, order.2, order.3)
+
+front_in_order : (text : List ℕ) (place : ℕ) (behind : ℕ → Tokens) → ((n : ℕ) → AreInOrder text (behind_piece place n) (behind (behind_piece place n)).0) → (front : Front) → LiesWithin front (length (drop place text)) → AreInOrder text place (with_front text place behind front).0
+unfolding with_front
+front_in_order text place behind rest Nothing inside = tt
+front_in_order text place behind rest (Skips n) inside = in_order_from text place (behind_piece place n) _ (omega arith) (rest n)
+front_in_order text place behind rest (Finds kind n value) inside =
+    let left = length-drop place text in
+    let some = inside.0 in
+    let most = inside.1 in
+    (omega arith, omega arith, omega arith, rest n)
+front_in_order text place behind rest (Fails kind) inside = tt
+
+in_order : (k : ℕ) (text : List ℕ) (place : ℕ) → AreInOrder text place (tokens_from k text place).0
+unfolding tokens_from
+in_order zero text place = tt
+in_order (suc k) text place =
+    front_in_order text place (tokens_from k text) (λ n. in_order k text (behind_piece place n)) (front_at (is_fresh text place) (drop place text)) (front_within (is_fresh text place) (drop place text))
+
+-- the tokens of a text stand in their order
+pub tokens_of-order : (text : List ℕ) → AreInOrder text 0 (tokens_of text).0
+unfolding tokens_at
+tokens_of-order text = in_order (suc (length text)) text 0

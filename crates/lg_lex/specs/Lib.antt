@@ -1,6 +1,7 @@
 pub mod Blanks
 pub mod Bytes
 pub mod Escapes
+pub mod ExpressionTokens
 pub mod Expressions
 pub mod Fronts
 pub mod Numbers

@@ -49,6 +49,12 @@ tokens_at text place = tokens_from (suc (length text)) text place
 abbrev pub tokens_of : List ℕ → Tokens
 tokens_of text = tokens_at text 0
 
+-- tokens in their order: each has at least a byte, lies within the text, and begins at or behind the end of the one before it
+abbrev pub AreInOrder : List ℕ → ℕ → List Token → Type 0
+AreInOrder text place [] = Unit {0}
+AreInOrder text place (token ∷ more) =
+    (place ≤ token.start) × (token.start < token.end) × (token.end ≤ length text) × AreInOrder text token.end more
+
 -- what the next call answers and leaves: the first token, then the others; at the end nothing, or the same fault again and again
 abbrev pub GivesNext : List Token → Option Refusal → Result (Option Token) Refusal → Tokens → Type 0
 GivesNext [] None result left = (result ≡ Ok None) × (left ≡ ([], None))

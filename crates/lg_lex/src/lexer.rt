@@ -1,7 +1,8 @@
 // The tokens of a text, one after the other.
 
 ghost use Rattle.std.specs.Prelude.{◌≡◌, ◌≤◌, length};
-ghost use Rattle.lg_lex.specs.Tokens.{Tokens, tokens_of, tokens_at, IsPlace, Gives};
+ghost use Rattle.lg_lex.specs.Tokens.{Tokens, tokens_of, tokens_at, AreInOrder, IsPlace, Gives};
+ghost use Rattle.lg_lex.specs.ExpressionTokens.{ReadsExpressions};
 
 use crate::bytes::{ahead, behind};
 use crate::fronts::{Front, front_of};
@@ -31,7 +32,9 @@ impl<'a> Lexer<'a> {
     /// A reader of the tokens of a text of at most 16,777,216 bytes.
     pub fn new(text: &'a [u8]) -> Self
         requires { length text.now ≤ 16777216 }
-        ensures { result ≡ tokens_of text.now }
+        ensures tokens { result ≡ tokens_of text.now }
+        ensures order { AreInOrder text.now 0 (tokens_of text.now).0 }
+        ensures expressions { ReadsExpressions text.now (tokens_of text.now) }
     {
         Lexer {
             text,
