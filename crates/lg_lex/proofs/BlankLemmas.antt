@@ -1,8 +1,8 @@
 -- One byte of a comment more, and one blank more.
-use Rattle.std.proofs.Common.{◌≡◌, ℕ, zero, suc, ◌+◌, ◌-◌, ◌<◌, ◌≤◌, Bool, true, false, ◌&&◌, cond, eqb, List, length, get_or, drop, refl, sym, ap, ◌∙◌, arith, Option, Some, None}
+use Rattle.std.proofs.Common.{◌≡◌, ℕ, zero, suc, ◌+◌, ◌-◌, ◌<◌, ◌≤◌, true, false, ◌&&◌, cond, eqb, List, length, get_or, drop, refl, sym, ap, ◌∙◌, arith, Some, None}
 use Rattle.std.proofs.lemmas.List.{drop_more, drop_all}
 use Rattle.lg_lex.specs.Bytes.{further}
-use Rattle.lg_lex.specs.Blanks.{block_rest, blank_at, behind_most_blanks, behind_blanks}
+use Rattle.lg_lex.specs.Blanks.{block_rest, blank_at, behind_most_blanks}
 use Rattle.lg_lex.proofs.ByteLemmas.{first_of_drop, further-further}
 
 block_rest_at : (bytes : List ℕ) (i : ℕ) → i < length bytes → block_rest (drop i bytes) ≡ cond (eqb (get_or bytes i 0) 42 && eqb (get_or bytes (i + 1) 0) 47) (Some 2) (further 1 (block_rest (drop (i + 1) bytes)))

@@ -1,10 +1,9 @@
 -- Every expression of the grammar is read, with its value and its levels.
-use Rattle.std.proofs.Common.{◌≡◌, ◌≢◌, ℕ, zero, suc, ◌+◌, ◌-◌, ◌<◌, ◌≤◌, max, Bool, true, false, not, ◌&&◌, cond, eqb, leb, List, length, get_or, drop, slice_index, [], ◌∷◌, refl, sym, ap, subst, ◌∙◌, arith, Option, Some, None, option_map, option_and_then, ℤ, ◌⊎◌, inl, inr}
+use Rattle.std.proofs.Common.{◌≡◌, ◌≢◌, ℕ, zero, suc, ◌+◌, ◌-◌, ◌<◌, ◌≤◌, max, Bool, true, false, cond, eqb, leb, List, length, get_or, drop, [], ◌∷◌, refl, sym, ap, subst, ◌∙◌, arith, Option, Some, None, option_map, option_and_then, ℤ, ◌⊎◌, inl, inr}
 use Rattle.std.specs.Int.{w64, cast_signed}
 use Rattle.std.specs.Char.{is_digit}
-use Rattle.std.specs.List.{prefix_len}
 use Rattle.std.specs.Option.{option_map_or}
-use Rattle.std.proofs.lemmas.Option.{none-some, same_Some, cond_some, option_and_then_some}
+use Rattle.std.proofs.lemmas.Option.{none-some, same_Some, option_and_then_some}
 use Rattle.std.proofs.lemmas.Bool.Decides.{nat_tests}
 use Rattle.lg_lex.specs.declared.numbers.Literal.{Literal}
 use Rattle.lg_lex.specs.declared.operators.Operator.{Operator}
@@ -14,11 +13,10 @@ use Rattle.lg_lex.specs.declared.expressions.Reading.{Reading}
 use Rattle.lg_lex.specs.Blanks.{blank_at, behind_most_blanks, behind_blanks}
 use Rattle.lg_lex.specs.Numbers.{digits_at, magnitude_at, unsigned_at}
 use Rattle.lg_lex.specs.Operators.{level_of, double_symbol, single_symbol, sign_symbol, is_zero, binary_value, unary_value}
-use Rattle.lg_lex.specs.Expressions.{Reader, behind_byte, or_single, symbol_at, in_level, operator_at, sign_at, literal_at, constant, constant_at, signed, enclosed, closed, unary_by, unary_of, paired, combined, joined_by, joined, binary_of, chosen, chosen_by, whole_of, readers_in, inner_unary, inner_whole, unary_at, whole_at, ended, expression_at}
+use Rattle.lg_lex.specs.Expressions.{Reader, behind_byte, or_single, symbol_at, operator_at, sign_at, literal_at, constant_at, closed, unary_by, unary_of, paired, combined, joined, binary_of, chosen, chosen_by, whole_of, unary_at, whole_at, ended, expression_at}
 use Rattle.lg_lex.specs.Trees.{Tree, literal, parens, unary, binary, conditional, value_of, levels_of, Spells, IsExpression}
-use Rattle.lg_lex.proofs.ByteLemmas.{within, first_of_drop, eqb_same, eqb_other, option_map_some, cond_case}
-use Rattle.lg_lex.proofs.ReaderLemmas.{binary_lowest, binary_none, binary_first, joined_more, joined_end, inner_unary_below, inner_whole_below, whole_plain}
-use Rattle.lg_lex.proofs.SoundLemmas.{Spells-higher}
+use Rattle.lg_lex.proofs.ByteLemmas.{within, first_of_drop, eqb_same, eqb_other, option_map_some}
+use Rattle.lg_lex.proofs.ReaderLemmas.{binary_lowest, binary_first, joined_more, joined_end, inner_unary_below, inner_whole_below, whole_plain}
 
 -- ---- bytes
 
@@ -97,6 +95,7 @@ symbol_within bytes place n operator is = by_first (get_or bytes place 0) refl w
   len_of : (a : ℕ) (o : Option Operator) → or_single a o ≡ Some (operator, n) → 0 < n
   len_of a (Some op) h = let e = ap (λ (p : Operator × ℕ). p.1) (same_Some _ _ h) in omega arith
   len_of a None h = option_map_some (λ (op : Operator). (let p : Operator × ℕ = (op, 1) in p)) (single_symbol a) (operator, n) h (λ op _ same. let e = ap (λ (p : Operator × ℕ). p.1) same in omega arith)
+
   by_first : (a : ℕ) → get_or bytes place 0 ≡ a → (0 < n) × (place < length bytes)
   by_first zero e = absurd (none-some _ (sym (ap (λ b. or_single b (double_symbol b (get_or bytes (place + 1) 0))) e) ∙ is))
   by_first (suc a) e = (len_of (get_or bytes place 0) (double_symbol (get_or bytes place 0) (get_or bytes (place + 1) 0)) is, within bytes place (omega arith))
@@ -130,9 +129,10 @@ literal_no bytes l b is quote zero_not digit = by_test (eqb (get_or bytes 0 0) b
       absurd (none-some l (sym none ∙ is))
 
 literal_first : (bytes : List ℕ) (l : Literal) → literal_at bytes ≡ Some l → (sign_symbol (get_or bytes 0 0) ≡ None) × (eqb (get_or bytes 0 0) 40 ≡ false)
-literal_first bytes l is =
-    (rw (literal_no bytes l 43 is refl refl refl, literal_no bytes l 45 is refl refl refl, literal_no bytes l 126 is refl refl refl, literal_no bytes l 33 is refl refl refl) refl,
-        literal_no bytes l 40 is refl refl refl)
+literal_first bytes l is = (
+  rw (literal_no bytes l 43 is refl refl refl, literal_no bytes l 45 is refl refl refl, literal_no bytes l 126 is refl refl refl, literal_no bytes l 33 is refl refl refl) refl,
+  literal_no bytes l 40 is refl refl refl,
+)
 
 -- ---- places
 
@@ -186,10 +186,11 @@ chain_step bytes operand level from n next operator left right both chain symbol
     let some = chain.some in
     let enough = chain.enough in
     record {
-        steps = chain.steps - 1;
-        some = omega arith;
-        enough = omega arith;
-        same = joined_more bytes (binary_of bytes operand level) (suc level) chain.steps left right both operator next some found here made ∙ chain.same }
+      steps = chain.steps - 1;
+      some = omega arith;
+      enough = omega arith;
+      same = joined_more bytes (binary_of bytes operand level) (suc level) chain.steps left right both operator next some found here made ∙ chain.same;
+    }
 
 chain_end : (bytes : List ℕ) (operand : Reader) (level from : ℕ) (read : Reading) → Chain bytes operand level from read → operator_at bytes (suc level) read.end ≡ None → binary_of bytes operand (suc level) from ≡ Some read
 chain_end bytes operand level from read chain none = sym chain.same ∙ joined_end bytes (binary_of bytes operand level) (suc level) chain.steps read chain.some none
@@ -235,27 +236,27 @@ at_level bytes tree done n zero from to v spelled low value levels stops =
     sym (binary_lowest bytes (unary_at bytes n) 0 from refl) ∙ done.operand n from to v spelled value levels
 at_level bytes tree done n (suc level) from to v spelled low value levels stops =
     chain_end bytes (unary_at bytes n) level from (reading v (levels_of tree) to)
-        (done.chain n level from to v spelled (omega arith) value levels (λ j h. stops j (omega arith)))
-        (stops (suc level) (omega arith))
+    (done.chain n level from to v spelled (omega arith) value levels (λ j h. stops j (omega arith)))
+    (stops (suc level) (omega arith))
 
 -- an operator and its operands, at the operator's own level
 joined_chain : (bytes : List ℕ) (operator : Operator) (left right : Tree) → Done bytes left → Done bytes right → (n level from to end m : ℕ) (v : ℤ) → level_of operator ≡ suc level → Spells bytes (suc level) left from end → symbol_at bytes end ≡ Some (operator, m) → Spells bytes level right (behind_blanks bytes (end + m)) to → value_of (binary operator left right) ≡ Some v → levels_of (binary operator left right) ≤ n → Stops bytes level to → Chain bytes (unary_at bytes n) level from (reading v (levels_of (binary operator left right)) to)
 unfolding combined
 joined_chain bytes operator left right lefts rights n level from to end m v own first symbol second value levels stops =
     option_and_then_some (λ a. option_and_then (binary_value operator a) (value_of right)) (value_of left) v value
-        (λ a here rest. option_and_then_some (binary_value operator a) (value_of right) v rest
-            (λ b there made.
-                let bounds = level_bounds operator in
-                let inside = symbol_within bytes end m operator symbol in
-                let gap = behind_forward bytes (end + m) in
-                let forward = Spells-forward bytes level right (behind_blanks bytes (end + m)) to second in
-                let next = behind_blanks bytes (end + m) in
-                let chain = lefts.chain n level from end a first (omega arith) here (omega arith) (operator_above bytes level end m operator symbol (omega arith)) in
-                let found = ap (λ k. operator_at bytes k end) (sym own) ∙ operator_here bytes end m operator symbol in
-                let right_read = at_level bytes right rights n level next to b second (omega arith) there (omega arith) stops in
-                let both : combined operator (reading a (levels_of left) end) (reading b (levels_of right) to) ≡ Some (reading v (max (levels_of left) (levels_of right)) to) =
-                    ap (option_map (paired (reading a (levels_of left) end) (reading b (levels_of right) to))) made in
-                chain_step bytes (unary_at bytes n) level from m next operator (reading a (levels_of left) end) (reading b (levels_of right) to) (reading v (max (levels_of left) (levels_of right)) to) chain symbol found right_read both (omega arith)))
+    (λ a here rest. option_and_then_some (binary_value operator a) (value_of right) v rest
+    (λ b there made.
+    let bounds = level_bounds operator in
+    let inside = symbol_within bytes end m operator symbol in
+    let gap = behind_forward bytes (end + m) in
+    let forward = Spells-forward bytes level right (behind_blanks bytes (end + m)) to second in
+    let next = behind_blanks bytes (end + m) in
+    let chain = lefts.chain n level from end a first (omega arith) here (omega arith) (operator_above bytes level end m operator symbol (omega arith)) in
+    let found = ap (λ k. operator_at bytes k end) (sym own) ∙ operator_here bytes end m operator symbol in
+    let right_read = at_level bytes right rights n level next to b second (omega arith) there (omega arith) stops in
+    let both : combined operator (reading a (levels_of left) end) (reading b (levels_of right) to) ≡ Some (reading v (max (levels_of left) (levels_of right)) to) =
+    ap (option_map (paired (reading a (levels_of left) end) (reading b (levels_of right) to))) made in
+    chain_step bytes (unary_at bytes n) level from m next operator (reading a (levels_of left) end) (reading b (levels_of right) to) (reading v (max (levels_of left) (levels_of right)) to) chain symbol found right_read both (omega arith)))
 
 -- the chain of a level, where the operator is of that level or of a lower one
 binary_chain : (bytes : List ℕ) (operator : Operator) (left right : Tree) → Done bytes left → Done bytes right → (n level from to : ℕ) (v : ℤ) → Spells bytes (suc level) (binary operator left right) from to → level < 10 → value_of (binary operator left right) ≡ Some v → levels_of (binary operator left right) ≤ n → Stops bytes level to → Chain bytes (unary_at bytes n) level from (reading v (levels_of (binary operator left right)) to)
@@ -266,21 +267,23 @@ binary_chain bytes operator left right lefts rights n level from to v s low valu
     let lower : level_of operator - 1 ≤ level = omega arith in
     let chain = joined_chain bytes operator left right lefts rights n (level_of operator - 1) from to s.1 s.3 v own (subst (λ k. Spells bytes k left from s.1) own s.2) s.4 s.5 value levels (λ j h. stops j (omega arith)) in
     by_level (level_of operator - 1) lower chain (compare_levels (level_of operator - 1) level lower) where
-  compare_levels : (a b : ℕ) → a ≤ b → (a ≡ b) ⊎ (a < b)
-  compare_levels a b h = grind arith
-  by_level : (own : ℕ) → own ≤ level → Chain bytes (unary_at bytes n) own from (reading v (levels_of (binary operator left right)) to) → (own ≡ level) ⊎ (own < level) → Chain bytes (unary_at bytes n) level from (reading v (levels_of (binary operator left right)) to)
-  by_level own h chain (inl same) = subst (λ k. Chain bytes (unary_at bytes n) k from (reading v (levels_of (binary operator left right)) to)) same chain
-  by_level own h chain (inr less) =
-      let read = reading v (levels_of (binary operator left right)) to in
-      let ended = chain_end bytes (unary_at bytes n) own from read chain (stops (suc own) (omega arith)) in
-      chain_start bytes (unary_at bytes n) level from read (climb_to bytes (unary_at bytes n) (suc own) level from read (omega arith) ended stops)
+      compare_levels : (a b : ℕ) → a ≤ b → (a ≡ b) ⊎ (a < b)
+      compare_levels a b h = grind arith
+
+      by_level : (own : ℕ) → own ≤ level → Chain bytes (unary_at bytes n) own from (reading v (levels_of (binary operator left right)) to) → (own ≡ level) ⊎ (own < level) → Chain bytes (unary_at bytes n) level from (reading v (levels_of (binary operator left right)) to)
+      by_level own h chain (inl same) = subst (λ k. Chain bytes (unary_at bytes n) k from (reading v (levels_of (binary operator left right)) to)) same chain
+      by_level own h chain (inr less) =
+          let read = reading v (levels_of (binary operator left right)) to in
+          let ended = chain_end bytes (unary_at bytes n) own from read chain (stops (suc own) (omega arith)) in
+          chain_start bytes (unary_at bytes n) level from read (climb_to bytes (unary_at bytes n) (suc own) level from read (omega arith) ended stops)
 
 -- an operand by itself: as the chain of a level and as a whole
 done_operand : (bytes : List ℕ) (tree : Tree) → OperandRead bytes tree → ((level from to : ℕ) → Spells bytes level tree from to → Spells bytes 0 tree from to) → Done bytes tree
 done_operand bytes tree read lowest = record {
-    operand = read;
-    chain = λ n level from to v spelled low value levels stops. operand_chain bytes n level from (reading v (levels_of tree) to) (read n from to v (lowest (suc level) from to spelled) value levels) stops;
-    whole = λ n from to v spelled value levels stops none. operand_whole bytes n from (reading v (levels_of tree) to) (read n from to v (lowest 11 from to spelled) value levels) stops none }
+  operand = read;
+  chain = λ n level from to v spelled low value levels stops. operand_chain bytes n level from (reading v (levels_of tree) to) (read n from to v (lowest (suc level) from to spelled) value levels) stops;
+  whole = λ n from to v spelled value levels stops none. operand_whole bytes n from (reading v (levels_of tree) to) (read n from to v (lowest 11 from to spelled) value levels) stops none;
+}
 
 literal_read : (bytes : List ℕ) (l : Literal) → OperandRead bytes (literal l)
 unfolding unary_at unary_of unary_by sign_at constant_at
@@ -306,43 +309,45 @@ unary_read : (bytes : List ℕ) (sign : Sign) (tree : Tree) → Done bytes tree 
 unfolding unary_at unary_of unary_by sign_at
 unary_read bytes sign tree done n from to v spelled value levels =
     option_map_some (unary_value sign) (value_of tree) v value
-        (λ a here same.
-            let next = behind_blanks bytes (from + 1) in
-            let read = sym (inner_unary_below bytes n next (omega arith)) ∙ done.operand (n - 1) next to a spelled.1 here (omega arith) in
-            rw (spelled.0, read) (ap (λ (w : ℤ). Some (reading w (1 + levels_of tree) to)) same))
+    (λ a here same.
+    let next = behind_blanks bytes (from + 1) in
+    let read = sym (inner_unary_below bytes n next (omega arith)) ∙ done.operand (n - 1) next to a spelled.1 here (omega arith) in
+    rw (spelled.0, read) (ap (λ (w : ℤ). Some (reading w (1 + levels_of tree) to)) same))
 
 done_binary : (bytes : List ℕ) (operator : Operator) (left right : Tree) → Done bytes left → Done bytes right → Done bytes (binary operator left right)
 done_binary bytes operator left right lefts rights =
     let bounds = level_bounds operator in
     record {
-        operand = λ n from to v spelled value levels. absurd (omega (arith, spelled.0));
-        chain = λ n level from to v spelled low value levels stops. binary_chain bytes operator left right lefts rights n level from to v spelled low value levels stops;
-        whole = λ n from to v spelled value levels stops none.
-            (let ten : level_of operator ≤ 10 = bounds.1 in
-            let chain = binary_chain bytes operator left right lefts rights n 9 from to v (ten, spelled.1, spelled.2, spelled.3, spelled.4, spelled.5) (omega arith) value levels (λ j h. stops j (omega arith)) in
-            whole_plain bytes n from _ (chain_end bytes (unary_at bytes n) 9 from (reading v (levels_of (binary operator left right)) to) chain (stops 10 (omega arith))) none) }
+      operand = λ n from to v spelled value levels. absurd (omega (arith, spelled.0));
+      chain = λ n level from to v spelled low value levels stops. binary_chain bytes operator left right lefts rights n level from to v spelled low value levels stops;
+      whole = λ n from to v spelled value levels stops none.
+          (let ten : level_of operator ≤ 10 = bounds.1 in
+          let chain = binary_chain bytes operator left right lefts rights n 9 from to v (ten, spelled.1, spelled.2, spelled.3, spelled.4, spelled.5) (omega arith) value levels (λ j h. stops j (omega arith)) in
+          whole_plain bytes n from _ (chain_end bytes (unary_at bytes n) 9 from (reading v (levels_of (binary operator left right)) to) chain (stops 10 (omega arith))) none);
+    }
 
 conditional_whole : (bytes : List ℕ) (test first second : Tree) → Done bytes test → Done bytes first → Done bytes second → (n from to : ℕ) (v : ℤ) → Spells bytes 11 (conditional test first second) from to → value_of (conditional test first second) ≡ Some v → levels_of (conditional test first second) ≤ n → Stops bytes 10 to → behind_byte bytes 63 to ≡ None → whole_at bytes n from ≡ Some (reading v (levels_of (conditional test first second)) to)
 unfolding whole_at whole_of chosen_by chosen
 conditional_whole bytes test first second tests firsts seconds n from to v s value levels stops none =
     option_and_then_some (λ a. option_and_then (λ b. option_map (λ c. cond (is_zero a) c b) (value_of second)) (value_of first)) (value_of test) v value
-        (λ a test_is rest. option_and_then_some (λ b. option_map (λ c. cond (is_zero a) c b) (value_of second)) (value_of first) v rest
-            (λ b first_is rest'. option_map_some (λ c. cond (is_zero a) c b) (value_of second) v rest'
-                (λ c second_is same.
-                    let next = behind_blanks bytes (s.1 + 1) in
-                    let after = behind_blanks bytes (s.4 + 1) in
-                    let test_read = at_level bytes test tests n 10 from s.1 a s.2 (omega arith) test_is (omega arith) (stops_at bytes 10 s.1 63 no_question s.3) in
-                    let first_read = sym (inner_whole_below bytes n next (omega arith)) ∙ firsts.whole (n - 1) next s.4 b s.5 first_is (omega arith) (stops_at bytes 10 s.4 58 no_colon s.6) (byte_other bytes 63 58 s.4 s.6 (omega arith)) in
-                    let second_read = sym (inner_whole_below bytes n after (omega arith)) ∙ seconds.whole (n - 1) after to c s.7 second_is (omega arith) stops none in
-                    let low : leb (1 + max (levels_of test) (max (levels_of first) (levels_of second))) n ≡ true = grind (arith, nat_tests) in
-                    rw (test_read, byte_here bytes 63 s.1 s.3, first_read, byte_here bytes 58 s.4 s.6, second_read, low)
-                        (ap (λ (w : ℤ). Some (reading w (1 + max (levels_of test) (max (levels_of first) (levels_of second))) to)) same))))
+    (λ a test_is rest. option_and_then_some (λ b. option_map (λ c. cond (is_zero a) c b) (value_of second)) (value_of first) v rest
+    (λ b first_is rest'. option_map_some (λ c. cond (is_zero a) c b) (value_of second) v rest'
+    (λ c second_is same.
+    let next = behind_blanks bytes (s.1 + 1) in
+    let after = behind_blanks bytes (s.4 + 1) in
+    let test_read = at_level bytes test tests n 10 from s.1 a s.2 (omega arith) test_is (omega arith) (stops_at bytes 10 s.1 63 no_question s.3) in
+    let first_read = sym (inner_whole_below bytes n next (omega arith)) ∙ firsts.whole (n - 1) next s.4 b s.5 first_is (omega arith) (stops_at bytes 10 s.4 58 no_colon s.6) (byte_other bytes 63 58 s.4 s.6 (omega arith)) in
+    let second_read = sym (inner_whole_below bytes n after (omega arith)) ∙ seconds.whole (n - 1) after to c s.7 second_is (omega arith) stops none in
+    let low : leb (1 + max (levels_of test) (max (levels_of first) (levels_of second))) n ≡ true = grind (arith, nat_tests) in
+    rw (test_read, byte_here bytes 63 s.1 s.3, first_read, byte_here bytes 58 s.4 s.6, second_read, low)
+    (ap (λ (w : ℤ). Some (reading w (1 + max (levels_of test) (max (levels_of first) (levels_of second))) to)) same))))
 
 done_conditional : (bytes : List ℕ) (test first second : Tree) → Done bytes test → Done bytes first → Done bytes second → Done bytes (conditional test first second)
 done_conditional bytes test first second tests firsts seconds = record {
-    operand = λ n from to v spelled value levels. absurd (omega (arith, spelled.0));
-    chain = λ n level from to v spelled low value levels stops. absurd (omega (arith, spelled.0));
-    whole = λ n from to v spelled value levels stops none. conditional_whole bytes test first second tests firsts seconds n from to v spelled value levels stops none }
+  operand = λ n from to v spelled value levels. absurd (omega (arith, spelled.0));
+  chain = λ n level from to v spelled low value levels stops. absurd (omega (arith, spelled.0));
+  whole = λ n from to v spelled value levels stops none. conditional_whole bytes test first second tests firsts seconds n from to v spelled value levels stops none;
+}
 
 done : (bytes : List ℕ) (tree : Tree) → Done bytes tree
 done bytes (literal l) = done_operand bytes (literal l) (literal_read bytes l) (λ level from to spelled. spelled)

@@ -1,5 +1,5 @@
 -- The expressions among the tokens of a text, and the faults of expressions.
-use Rattle.std.proofs.Common.{◌≡◌, ◌≢◌, ℕ, zero, suc, ◌+◌, ◌-◌, ◌<◌, ◌≤◌, ◌&&◌, ◌||◌, max, Bool, true, false, cond, eqb, List, [], ◌∷◌, length, get_or, drop, slice_index, refl, sym, ap, subst, ◌∙◌, arith, Option, Some, None, ℤ, ◌⊎◌, inl, inr, All, IfSome}
+use Rattle.std.proofs.Common.{◌≡◌, ◌≢◌, ℕ, zero, suc, ◌+◌, ◌-◌, ◌<◌, ◌&&◌, ◌||◌, Bool, true, false, cond, eqb, List, length, get_or, drop, refl, sym, ap, subst, ◌∙◌, arith, Option, Some, None, ℤ, ◌⊎◌, inl, inr}
 use Rattle.std.specs.Int.{w64, cast_unsigned}
 use Rattle.std.specs.Char.{is_ascii_digit}
 use Rattle.std.specs.List.{prefix_len}
@@ -8,13 +8,11 @@ use Rattle.std.proofs.lemmas.List.{get_or-drop}
 use Rattle.std.proofs.lemmas.List.Elements.{All-nil, All-cons}
 use Rattle.std.proofs.lemmas.Option.{none-some}
 use Rattle.std.proofs.lemmas.Bool.Decides.{nat_tests}
-use Rattle.lg_base.specs.declared.refusal.Refusal.{Refusal}
 use Rattle.lg_base.specs.declared.refusal.RefusalKind.TheVariants.{BadToken, BadExpr}
 use Rattle.lg_lex.specs.declared.numbers.Literal.{Literal}
 use Rattle.lg_lex.specs.declared.expressions.Reading.{Reading}
-use Rattle.lg_lex.specs.declared.token.Token.{Token}
 use Rattle.lg_lex.specs.declared.token.TokenKind.{TokenKind}
-use Rattle.lg_lex.specs.declared.token.TokenKind.TheVariants.{Word, Directive, LabelMark, Register, Number, Character, Expression, Name, Host, Str}
+use Rattle.lg_lex.specs.declared.token.TokenKind.TheVariants.{Directive, Register, Number, Character, Expression, Name, Host}
 use Rattle.lg_lex.specs.declared.fronts.Front.{Front}
 use Rattle.lg_lex.specs.declared.fronts.Front.TheVariants.{Nothing, Skips, Finds, Fails}
 use Rattle.lg_lex.specs.Bytes.{is_word_start, is_in_line}
@@ -23,9 +21,9 @@ use Rattle.lg_lex.specs.Escapes.{character_at, string_at}
 use Rattle.lg_lex.specs.Expressions.{expression_at}
 use Rattle.lg_lex.specs.Numbers.{number_at}
 use Rattle.lg_lex.specs.Trees.{IsExpression}
-use Rattle.lg_lex.specs.ExpressionTokens.{HasExpression, HasNoExpression, ReadsExpressions}
+use Rattle.lg_lex.specs.ExpressionTokens.{HasExpression, ReadsExpressions}
 use Rattle.lg_lex.specs.Fronts.{word_len, word_at, marked_at, marker_at, literal_token, expression_token, string_token, dollar_at, mark_at, token_at, front_at}
-use Rattle.lg_lex.specs.Tokens.{Tokens, line_of, is_fresh, behind_piece, token_then, with_front, tokens_from, tokens_at, tokens_of}
+use Rattle.lg_lex.specs.Tokens.{Tokens, line_of, is_fresh, behind_piece, with_front, tokens_from, tokens_at, tokens_of}
 use Rattle.lg_lex.proofs.SoundLemmas.{expression_sound}
 use Rattle.lg_lex.proofs.CompleteLemmas.{expression_complete}
 
@@ -134,17 +132,21 @@ front_reads : (text : List ℕ) (place : ℕ) (behind : ℕ → Tokens) → ((n 
 unfolding with_front
 front_reads text place behind rest Nothing either = (All-nil (HasExpression text), tt)
 front_reads text place behind rest (Skips n) either = rest n
-front_reads text place behind rest (Finds kind n value) either =
-    (All-cons (HasExpression text) (record { kind = kind; line = line_of text place; start = place; end = behind_piece place n; value = value }) (behind (behind_piece place n)).0 (λ e.
-        let found = token_of_expression (drop place text) kind n value either e in
-        let some = IsExpression-some (drop place text) n found.0 found.2 in
-        let len : n ≡ behind_piece place n - place = omega arith in
-        (found.0, found.1, subst (λ k. IsExpression (drop place text) k found.0) len found.2)) (rest n).0, (rest n).1)
-front_reads text place behind rest (Fails kind) either =
-    (All-nil (HasExpression text), λ e.
-        let fault = fault_of_expression (drop place text) (subst (λ k. IsEither (drop place text) (Fails k)) e either) in
-        let first = sym (get_or-drop place text 0 0) ∙ fault.0 in
-        (place, refl, ap (λ k. get_or text k 0) (let zero_more : place ≡ place + 0 = omega arith in zero_more) ∙ first, sym (get_or-drop place text 1 0) ∙ fault.1, fault.2))
+front_reads text place behind rest (Finds kind n value) either = (
+  All-cons (HasExpression text) (record { kind = kind; line = line_of text place; start = place; end = behind_piece place n; value = value }) (behind (behind_piece place n)).0 (λ e.
+      let found = token_of_expression (drop place text) kind n value either e in
+      let some = IsExpression-some (drop place text) n found.0 found.2 in
+      let len : n ≡ behind_piece place n - place = omega arith in
+      (found.0, found.1, subst (λ k. IsExpression (drop place text) k found.0) len found.2)) (rest n).0,
+  (rest n).1,
+)
+front_reads text place behind rest (Fails kind) either = (
+  All-nil (HasExpression text),
+  λ e.
+      let fault = fault_of_expression (drop place text) (subst (λ k. IsEither (drop place text) (Fails k)) e either) in
+      let first = sym (get_or-drop place text 0 0) ∙ fault.0 in
+      (place, refl, ap (λ k. get_or text k 0) (let zero_more : place ≡ place + 0 = omega arith in zero_more) ∙ first, sym (get_or-drop place text 1 0) ∙ fault.1, fault.2),
+)
 
 tokens_read : (k : ℕ) (text : List ℕ) (place : ℕ) → ReadsExpressions text (tokens_from k text place)
 unfolding tokens_from

@@ -1,8 +1,8 @@
 -- The readers of expressions, one step at a time.
-use Rattle.std.proofs.Common.{◌≡◌, ℕ, zero, suc, ◌+◌, ◌-◌, ◌<◌, List, length, refl, sym, ap, ◌∙◌, arith, Option, Some, None, option_and_then}
+use Rattle.std.proofs.Common.{◌≡◌, ℕ, zero, suc, ◌-◌, ◌<◌, List, length, refl, sym, ap, ◌∙◌, arith, Some, None}
 use Rattle.lg_lex.specs.declared.operators.Operator.{Operator}
 use Rattle.lg_lex.specs.declared.expressions.Reading.{Reading}
-use Rattle.lg_lex.specs.Expressions.{Reader, operator_at, behind_byte, combined, joined, joined_by, binary_of, chosen_by, whole_of, readers_in, inner_unary, inner_whole, unary_at, whole_at}
+use Rattle.lg_lex.specs.Expressions.{Reader, operator_at, behind_byte, combined, joined, binary_of, chosen_by, whole_of, readers_in, inner_unary, inner_whole, unary_at, whole_at}
 
 module _ (bytes : List ℕ) (unary : Reader) where
   -- below all operators stands an operand

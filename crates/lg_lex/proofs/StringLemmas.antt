@@ -1,13 +1,13 @@
 -- What one byte or escape more, and the end, do to a string's length and bytes.
-use Rattle.std.proofs.Common.{◌≡◌, ◌≢◌, ℕ, zero, suc, ◌+◌, ◌-◌, ◌<◌, ◌≤◌, max, Bool, true, false, cond, eqb, List, [], ◌∷◌, length, get_or, take, drop, slice_index, refl, sym, ap, ◌∙◌, arith, Option, Some, None, option_map, option_and_then}
-use Rattle.std.proofs.lemmas.List.{get_or-drop, drop-drop, get_or_past, length-drop}
+use Rattle.std.proofs.Common.{◌≡◌, ◌≢◌, ℕ, zero, suc, ◌+◌, ◌-◌, ◌<◌, ◌≤◌, max, Bool, true, false, cond, eqb, List, [], ◌∷◌, length, get_or, drop, refl, sym, ap, ◌∙◌, arith, Option, Some, None}
+use Rattle.std.proofs.lemmas.List.{drop-drop, length-drop}
 use Rattle.std.proofs.lemmas.Option.{none-some, same_Some}
 use Rattle.std.specs.Option.{option_map_or}
 use Rattle.std.proofs.lemmas.Bool.Decides.{nat_tests}
 use Rattle.lg_lex.specs.declared.escapes.TextByte.{TextByte}
 use Rattle.lg_lex.specs.Bytes.{further}
 use Rattle.lg_lex.proofs.ByteLemmas.{within, first_of_drop, eqb_same, eqb_other, further-further, option_map_some, cond_case}
-use Rattle.lg_lex.specs.Escapes.{behind_mark, escape_at, text_byte_at, string_rest, string_at, string_values, string_left}
+use Rattle.lg_lex.specs.Escapes.{behind_mark, escape_at, text_byte_at, string_rest, string_values, string_left}
 
 -- a byte or an escape of a string
 pub string_rest_more : (k : ℕ) (bytes : List ℕ) (at : ℕ) (found : TextByte) → 0 < k → get_or bytes at 0 ≢ 34 → text_byte_at (drop at bytes) ≡ Some found → further (at + found.len) (string_rest (k - 1) (drop (at + found.len) bytes)) ≡ further at (string_rest k (drop at bytes))

@@ -1,4 +1,4 @@
-use Rattle.std.proofs.Common.{◌≡◌, ◌+◌, ◌-◌, ◌<◌, ◌≤◌, suc, length, drop, refl, ap, ◌∙◌, arith, sym}
+use Rattle.std.proofs.Common.{◌-◌, ◌<◌, suc, length, refl, ap, ◌∙◌, arith, sym}
 use Rattle.std.proofs.lemmas.List.{length-drop}
 use Rattle.lg_lex.specs.Blanks.{blank_at, behind_blanks}
 use Rattle.lg_lex.proofs.BlankLemmas.{blanks_more, blanks_end}

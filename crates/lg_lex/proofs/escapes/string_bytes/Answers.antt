@@ -1,5 +1,5 @@
-use Rattle.std.proofs.Common.{◌≡◌, ◌+◌, max, drop, get_or, ap, ◌∙◌, sym, rules}
-use Rattle.lg_lex.specs.Escapes.{text_byte_at, string_left}
+use Rattle.std.proofs.Common.{get_or, ap, ◌∙◌, sym}
+use Rattle.lg_lex.specs.Escapes.{text_byte_at}
 use Rattle.lg_lex.proofs.StringLemmas.{string_left_end, string_left_bad, string_left_more}
 use Rattle.lg_lex.proofs.escapes.string_bytes.Goals as goal
 

@@ -1,7 +1,7 @@
-use Rattle.std.proofs.Common.{◌≡◌, ◌+◌, ◌-◌, ◌<◌, ◌≤◌, length, drop, refl, ap, ◌∙◌, arith, sym}
+use Rattle.std.proofs.Common.{◌-◌, ◌<◌, length, refl, ap, ◌∙◌, arith, sym}
 use Rattle.std.proofs.lemmas.List.{length-drop}
 use Rattle.lg_lex.specs.Bytes.{further}
-use Rattle.lg_lex.specs.Escapes.{text_byte_at, string_at, string_rest}
+use Rattle.lg_lex.specs.Escapes.{text_byte_at, string_at}
 use Rattle.lg_lex.proofs.StringLemmas.{string_rest_more, string_rest_end, string_rest_bad}
 use Rattle.lg_lex.proofs.escapes.string_len.Goals as goal
 

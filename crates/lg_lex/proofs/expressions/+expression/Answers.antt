@@ -1,5 +1,5 @@
-use Rattle.std.proofs.Common.{◌≡◌, ◌+◌, ◌-◌, ◌<◌, ◌≤◌, suc, length, Some, sym, ap, ◌∙◌, arith}
-use Rattle.lg_lex.specs.Expressions.{unary_at, binary_of, operator_at, joined}
+use Rattle.std.proofs.Common.{◌-◌, ◌<◌, suc, length, sym, ◌∙◌, arith}
+use Rattle.lg_lex.specs.Expressions.{unary_at}
 use Rattle.lg_lex.proofs.ReaderLemmas.{binary_lowest, binary_none, binary_first, joined_more, joined_no_operand, joined_no_value, joined_end, inner_unary_below, inner_whole_below, whole_plain}
 use Rattle.lg_lex.proofs.expressions.+expression.Goals as goal
 
@@ -26,22 +26,19 @@ binary-operators-init t c =
 
 pub binary-returns-in_err-right-clause-value : goal.binary-returns-in_err-right-clause-value
 binary-returns-in_err-right-clause-value t c =
-    let rest = c.operators.invariant.3 in
     let found = sym c.operator.ensures.value ∙ c.in-Some.is in
     let right = sym c.binary-in-Some.ensures.value ∙ c.in_err-right.was in
-    c.from_residual-in_err-right.ensures ∙ sym (joined_no_operand c.args.bytes.now _ c.args.level rest.0 c.operators.left _ _ found right) ∙ rest.2
+    c.from_residual-in_err-right.ensures ∙ sym (joined_no_operand c.args.bytes.now _ c.args.level c.operators.invariant.3.0 c.operators.left _ _ found right) ∙ c.operators.invariant.3.2
 
 pub binary-returns-in_err-left-2-clause-value : goal.binary-returns-in_err-left-2-clause-value
 binary-returns-in_err-left-2-clause-value t c =
-    let rest = c.operators.invariant.3 in
     let found = sym c.operator.ensures.value ∙ c.in-Some.is in
     let right = sym c.binary-in-Some.ensures.value ∙ c.in_ok-right.was in
     let both = sym c.combined.ensures.value ∙ c.in_err-left-2.was in
-    c.from_residual-in_err-left-2.ensures ∙ sym (joined_no_value c.args.bytes.now _ c.args.level rest.0 c.operators.left c.in_ok-right.right _ _ found right both) ∙ rest.2
+    c.from_residual-in_err-left-2.ensures ∙ sym (joined_no_value c.args.bytes.now _ c.args.level c.operators.invariant.3.0 c.operators.left c.in_ok-right.right _ _ found right both) ∙ c.operators.invariant.3.2
 
 pub binary-operators-preserved : goal.binary-operators-preserved
 binary-operators-preserved t c =
-    let rest = c.operators.invariant.3 in
     let found = sym c.operator.ensures.value ∙ c.in-Some.is in
     let right = sym c.binary-in-Some.ensures.value ∙ c.in_ok-right.was in
     let both = sym c.combined.ensures.value ∙ c.in_ok-left-2.was in
@@ -50,22 +47,21 @@ binary-operators-preserved t c =
     let low = c.in_ok-right.ensures.low in
     let end = c.in_ok-left-2.ensures.end in
     let levels = c.in_ok-left-2.ensures.low in
-    let some : 0 < rest.0 = omega arith in (
+    let some : 0 < c.operators.invariant.3.0 = omega arith in (
       omega arith,
       omega arith,
       omega arith,
       (
-        rest.0 - 1,
+        c.operators.invariant.3.0 - 1,
         omega arith,
-        joined_more c.args.bytes.now _ c.args.level rest.0 c.operators.left c.in_ok-right.right c.in_ok-left-2.left _ _ some found right both ∙ rest.2,
+        joined_more c.args.bytes.now _ c.args.level c.operators.invariant.3.0 c.operators.left c.in_ok-right.right c.in_ok-left-2.left _ _ some found right both ∙ c.operators.invariant.3.2,
       ),
     )
 
 pub binary-returns-clause-value : goal.binary-returns-clause-value
 binary-returns-clause-value t c =
-    let rest = c.operators.invariant.3 in
     let none = sym c.operator.ensures.value ∙ c.in_default.is in
-    sym (joined_end c.args.bytes.now _ c.args.level rest.0 c.operators.left (omega arith) none) ∙ rest.2
+    sym (joined_end c.args.bytes.now _ c.args.level c.operators.invariant.3.0 c.operators.left (omega arith) none) ∙ c.operators.invariant.3.2
 
 pub inner_unary-returns-clause-value : goal.inner_unary-returns-clause-value
 inner_unary-returns-clause-value t c =

@@ -1,4 +1,4 @@
-use Rattle.std.proofs.Common.{◌≡◌, ◌+◌, ◌≤◌, ◌^◌, take, get_or, sym, ap, ◌∙◌, arith}
+use Rattle.std.proofs.Common.{◌+◌, get_or, sym, ap, ◌∙◌, arith}
 use Rattle.std.proofs.lemmas.List.{take_all}
 use Rattle.lg_lex.specs.Numbers.{with_digit, digits_value, narrowed}
 use Rattle.lg_lex.proofs.DigitLemmas.{narrowed-fits, narrowed-wide, narrowed_some, narrowed_none, digits_value_more, first_digits_below}

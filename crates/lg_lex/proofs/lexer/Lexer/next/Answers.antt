@@ -1,7 +1,5 @@
-use Rattle.std.proofs.Common.{◌≡◌, ◌+◌, ◌<◌, ◌≤◌, length, take, drop, sym, ap, subst, ◌∙◌, arith, count_by, fold, ◌==◌}
-use Rattle.std.proofs.lemmas.List.{length-take-le, length-drop}
+use Rattle.std.proofs.Common.{sym, ap, ◌∙◌}
 use Rattle.lg_lex.specs.Fronts.{front_at}
-use Rattle.lg_lex.specs.Tokens.{IsPlace, with_byte}
 use Rattle.lg_lex.proofs.TokenLemmas.{place_behind, piece_end, gives_end, gives_fault, skipped, gives_token}
 use Rattle.lg_lex.proofs.lexer.Lexer.next.Goals as goal
 
