@@ -17,6 +17,9 @@ first_of_drop bytes at = get_or-drop at bytes 0 0 ∙ ap (λ k. get_or bytes k 0
 pub eqb_same : (a b : ℕ) → a ≡ b → eqb a b ≡ true
 eqb_same a b h = grind (arith, nat_tests)
 
+pub eqb_true : (a b : ℕ) → eqb a b ≡ true → a ≡ b
+eqb_true a b h = grind (arith, nat_tests)
+
 pub eqb_other : (a b : ℕ) → a ≢ b → eqb a b ≡ false
 eqb_other a b h = grind (arith, nat_tests)
 

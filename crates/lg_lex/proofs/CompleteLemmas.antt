@@ -15,13 +15,10 @@ use Rattle.lg_lex.specs.Numbers.{digits_at, magnitude_at, unsigned_at}
 use Rattle.lg_lex.specs.Operators.{level_of, double_symbol, single_symbol, sign_symbol, is_zero, binary_value, unary_value}
 use Rattle.lg_lex.specs.Expressions.{Reader, behind_byte, or_single, symbol_at, operator_at, sign_at, literal_at, constant_at, closed, unary_by, unary_of, paired, combined, joined, binary_of, chosen, chosen_by, whole_of, unary_at, whole_at, ended, expression_at}
 use Rattle.lg_lex.specs.Trees.{Tree, literal, parens, unary, binary, conditional, value_of, levels_of, Spells, IsExpression}
-use Rattle.lg_lex.proofs.ByteLemmas.{within, first_of_drop, eqb_same, eqb_other, option_map_some}
+use Rattle.lg_lex.proofs.ByteLemmas.{eqb_true, within, first_of_drop, eqb_same, eqb_other, option_map_some}
 use Rattle.lg_lex.proofs.ReaderLemmas.{binary_lowest, binary_first, joined_more, joined_end, inner_unary_below, inner_whole_below, whole_plain}
 
 -- ---- bytes
-
-eqb_true : (a b : ℕ) → eqb a b ≡ true → a ≡ b
-eqb_true a b h = grind (arith, nat_tests)
 
 -- blanks lead forward
 blanks_forward : (k : ℕ) (bytes : List ℕ) (place : ℕ) → place ≤ behind_most_blanks k bytes place

@@ -7,7 +7,6 @@ use Rattle.std.specs.Option.{option_map_or}
 use Rattle.std.proofs.lemmas.List.{get_or-drop}
 use Rattle.std.proofs.lemmas.List.Elements.{All-nil, All-cons}
 use Rattle.std.proofs.lemmas.Option.{none-some}
-use Rattle.std.proofs.lemmas.Bool.Decides.{nat_tests}
 use Rattle.lg_base.specs.declared.refusal.RefusalKind.TheVariants.{BadToken, BadExpr}
 use Rattle.lg_lex.specs.declared.numbers.Literal.{Literal}
 use Rattle.lg_lex.specs.declared.expressions.Reading.{Reading}
@@ -24,11 +23,9 @@ use Rattle.lg_lex.specs.Trees.{IsExpression}
 use Rattle.lg_lex.specs.ExpressionTokens.{HasExpression, ReadsExpressions}
 use Rattle.lg_lex.specs.Fronts.{word_len, word_at, marked_at, marker_at, literal_token, expression_token, string_token, dollar_at, mark_at, token_at, front_at}
 use Rattle.lg_lex.specs.Tokens.{Tokens, line_of, is_fresh, behind_piece, with_front, tokens_from, tokens_at, tokens_of}
+use Rattle.lg_lex.proofs.ByteLemmas.{eqb_true}
 use Rattle.lg_lex.proofs.SoundLemmas.{expression_sound}
 use Rattle.lg_lex.proofs.CompleteLemmas.{expression_complete}
-
-eqb_true : (a b : ℕ) → eqb a b ≡ true → a ≡ b
-eqb_true a b h = grind (arith, nat_tests)
 
 -- no expression, and no fault of one
 abbrev IsPlain : Front → Type 0

@@ -4,6 +4,7 @@ pub mod CompleteLemmas
 pub mod DigitLemmas
 pub mod ExpressionTokenLemmas
 pub mod FrontLemmas
+pub mod LengthLemmas
 pub mod ReaderLemmas
 pub mod SoundLemmas
 pub mod StringLemmas

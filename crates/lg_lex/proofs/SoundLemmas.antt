@@ -9,10 +9,7 @@ use Rattle.lg_lex.specs.Blanks.{behind_blanks}
 use Rattle.lg_lex.specs.Operators.{level_of, sign_symbol, is_zero, binary_value, unary_value}
 use Rattle.lg_lex.specs.Expressions.{Reader, behind_byte, symbol_at, in_level, operator_at, sign_at, literal_at, constant, constant_at, signed, enclosed, closed, unary_by, unary_of, paired, combined, joined_by, joined, binary_of, chosen, chosen_by, whole_of, readers_in, inner_unary, inner_whole, unary_at, whole_at, ended, expression_at}
 use Rattle.lg_lex.specs.Trees.{Tree, literal, parens, unary, binary, conditional, value_of, levels_of, Spells, IsExpression}
-use Rattle.lg_lex.proofs.ByteLemmas.{option_map_some, cond_case}
-
-eqb_true : (a b : ℕ) → eqb a b ≡ true → a ≡ b
-eqb_true a b h = grind (arith, nat_tests)
+use Rattle.lg_lex.proofs.ByteLemmas.{eqb_true, option_map_some, cond_case}
 
 leb_true : (a b : ℕ) → leb a b ≡ true → a ≤ b
 leb_true a b h = grind (arith, nat_tests)

@@ -1,13 +1,12 @@
 -- What one byte or escape more, and the end, do to a string's length and bytes.
 use Rattle.std.proofs.Common.{◌≡◌, ◌≢◌, ℕ, zero, suc, ◌+◌, ◌-◌, ◌<◌, ◌≤◌, max, Bool, true, false, cond, eqb, List, [], ◌∷◌, length, get_or, drop, refl, sym, ap, ◌∙◌, arith, Option, Some, None}
 use Rattle.std.proofs.lemmas.List.{drop-drop, length-drop}
-use Rattle.std.proofs.lemmas.Option.{none-some, same_Some}
 use Rattle.std.specs.Option.{option_map_or}
-use Rattle.std.proofs.lemmas.Bool.Decides.{nat_tests}
 use Rattle.lg_lex.specs.declared.escapes.TextByte.{TextByte}
 use Rattle.lg_lex.specs.Bytes.{further}
-use Rattle.lg_lex.proofs.ByteLemmas.{within, first_of_drop, eqb_same, eqb_other, further-further, option_map_some, cond_case}
-use Rattle.lg_lex.specs.Escapes.{behind_mark, escape_at, text_byte_at, string_rest, string_values, string_left}
+use Rattle.lg_lex.proofs.ByteLemmas.{within, first_of_drop, eqb_same, eqb_other, further-further}
+use Rattle.lg_lex.proofs.LengthLemmas.{text_byte_within}
+use Rattle.lg_lex.specs.Escapes.{text_byte_at, string_rest, string_values, string_left}
 
 -- a byte or an escape of a string
 pub string_rest_more : (k : ℕ) (bytes : List ℕ) (at : ℕ) (found : TextByte) → 0 < k → get_or bytes at 0 ≢ 34 → text_byte_at (drop at bytes) ≡ Some found → further (at + found.len) (string_rest (k - 1) (drop (at + found.len) bytes)) ≡ further at (string_rest k (drop at bytes))
@@ -35,19 +34,6 @@ string_rest_bad (suc k) bytes at other is =
     let test = ap (λ b. eqb b 34) (first_of_drop bytes at) ∙ eqb_other _ 34 other in
     rw (test, is) refl
 
--- a byte or an escape takes at least a byte
-pub text_byte_positive : (bytes : List ℕ) (found : TextByte) → text_byte_at bytes ≡ Some found → (0 < found.len) × (0 < length bytes)
-unfolding text_byte_at
-text_byte_positive bytes found h =
-    cond_case (eqb (length bytes) 0) _ _ _ h
-    (λ _ none. absurd (none-some found none))
-    (λ some here. let some' : 0 < length bytes = grind (arith, nat_tests) in
-    cond_case (eqb (get_or bytes 0 0) 92) _ _ _ here
-    (λ _ escape. option_map_some (behind_mark 1) (escape_at (drop 1 bytes)) found escape (λ inner _ same. let len = ap (λ (x : TextByte). x.len) same in (omega arith, some')))
-    (λ _ plain. cond_case (eqb (get_or bytes 0 0) 10) _ _ _ plain
-    (λ _ none. absurd (none-some found none))
-    (λ _ one. let len = ap (λ (x : TextByte). x.len) (same_Some _ _ one) in (omega arith, some'))))
-
 same_values : (f g : TextByte → List ℕ) (o : Option TextByte) → ((found : TextByte) → o ≡ Some found → f found ≡ g found) → option_map_or f o [] ≡ option_map_or g o []
 same_values f g None h = refl
 same_values f g (Some found) h = h found refl
@@ -64,7 +50,7 @@ values_enough (suc j) (suc k) bytes p q =
     ap (λ (values : List ℕ). cond (eqb (get_or bytes 0 0) 34) [] values)
     (same_values (λ found. found.byte ∷ string_values j (drop found.len bytes)) (λ found. found.byte ∷ string_values k (drop found.len bytes)) (text_byte_at bytes)
     (λ found is.
-    let some = text_byte_positive bytes found is in
+    let some = text_byte_within bytes found is in
     let len = length-drop found.len bytes in
     ap (λ (values : List ℕ). found.byte ∷ values) (values_enough j k (drop found.len bytes) (omega arith) (omega arith))))
 

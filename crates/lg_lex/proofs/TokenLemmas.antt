@@ -118,3 +118,14 @@ in_order (suc k) text place =
 pub tokens_of-order : (text : List ℕ) → AreInOrder text 0 (tokens_of text).0
 unfolding tokens_at
 tokens_of-order text = in_order (suc (length text)) text 0
+
+-- tokens in their order are no more than the bytes behind their place
+count_in_order : (text : List ℕ) (place : ℕ) (tokens : List Token) → place ≤ length text → AreInOrder text place tokens → place + length tokens ≤ length text
+count_in_order text place [] h order = omega arith
+count_in_order text place (token ∷ more) h order =
+    let rest = count_in_order text token.end more order.2 order.3 in
+    omega (arith, order.0, order.1)
+
+-- a text has no more tokens than bytes
+pub length-tokens_of : (text : List ℕ) → length (tokens_of text).0 ≤ length text
+length-tokens_of text = let count = count_in_order text 0 (tokens_of text).0 (omega arith) (tokens_of-order text) in omega arith

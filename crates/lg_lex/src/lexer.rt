@@ -34,6 +34,7 @@ impl<'a> Lexer<'a> {
         requires { length text.now ≤ 16777216 }
         ensures tokens { result ≡ tokens_of text.now }
         ensures order { AreInOrder text.now 0 (tokens_of text.now).0 }
+        ensures few { length (tokens_of text.now).0 ≤ length text.now }
         ensures expressions { ReadsExpressions text.now (tokens_of text.now) }
     {
         Lexer {
