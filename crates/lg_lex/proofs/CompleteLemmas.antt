@@ -186,11 +186,11 @@ chain_step bytes operand level from n next operator left right both chain symbol
       steps = chain.steps - 1;
       some = omega arith;
       enough = omega arith;
-      same = joined_more bytes (binary_of bytes operand level) (suc level) chain.steps left right both operator next some found here made ∙ chain.same;
+      same = joined_more bytes (binary_of bytes operand level) (suc level) chain.steps left _ chain.same right both operator next some found here made;
     }
 
 chain_end : (bytes : List ℕ) (operand : Reader) (level from : ℕ) (read : Reading) → Chain bytes operand level from read → operator_at bytes (suc level) read.end ≡ None → binary_of bytes operand (suc level) from ≡ Some read
-chain_end bytes operand level from read chain none = sym chain.same ∙ joined_end bytes (binary_of bytes operand level) (suc level) chain.steps read chain.some none
+chain_end bytes operand level from read chain none = sym (joined_end bytes (binary_of bytes operand level) (suc level) chain.steps read _ chain.same chain.some none)
 
 -- what is read at a level is read at a higher one, where no operator between them follows
 climb : (bytes : List ℕ) (operand : Reader) (level from : ℕ) (read : Reading) → binary_of bytes operand level from ≡ Some read → (d : ℕ) → Stops bytes (level + d) read.end → binary_of bytes operand (level + d) from ≡ Some read

@@ -1,5 +1,5 @@
 -- The readers of expressions, one step at a time.
-use Rattle.std.proofs.Common.{◌≡◌, ℕ, zero, suc, ◌-◌, ◌<◌, List, length, refl, sym, ap, ◌∙◌, arith, Some, None}
+use Rattle.std.proofs.Common.{◌≡◌, ℕ, zero, suc, ◌-◌, ◌<◌, List, length, refl, sym, ap, ◌∙◌, arith, Option, Some, None}
 use Rattle.lg_lex.specs.declared.operators.Operator.{Operator}
 use Rattle.lg_lex.specs.declared.expressions.Reading.{Reading}
 use Rattle.lg_lex.specs.Expressions.{Reader, operator_at, behind_byte, combined, joined, binary_of, chosen_by, whole_of, readers_in, inner_unary, inner_whole, unary_at, whole_at}
@@ -24,27 +24,41 @@ module _ (bytes : List ℕ) (unary : Reader) where
       let is' = ap (λ n. binary_of bytes unary n place) (sym one) ∙ is in
       ap (λ n. joined bytes (binary_of bytes unary n) (suc level) (suc (length bytes)) left) one ∙ rw is' refl
 
+-- the readers of a chain of operators
 module _ (bytes : List ℕ) (operand : Reader) (level : ℕ) where
-  -- one operator more
-  pub joined_more : (k : ℕ) (left right both : Reading) (op : Operator) (next : ℕ) → 0 < k → operator_at bytes level left.end ≡ Some (op, next) → operand next ≡ Some right → combined op left right ≡ Some both → joined bytes operand level (k - 1) both ≡ joined bytes operand level k left
+  joined_before : (k : ℕ) (left right both : Reading) (op : Operator) (next : ℕ) → 0 < k → operator_at bytes level left.end ≡ Some (op, next) → operand next ≡ Some right → combined op left right ≡ Some both → joined bytes operand level (k - 1) both ≡ joined bytes operand level k left
   unfolding joined
-  joined_more zero left right both op next h o r b = absurd (omega arith)
-  joined_more (suc k) left right both op next h o r b = let one : suc k - 1 ≡ k = omega arith in rw (o, r, b, one) refl
+  joined_before zero left right both op next h o r b = absurd (omega arith)
+  joined_before (suc k) left right both op next h o r b = let one : suc k - 1 ≡ k = omega arith in rw (o, r, b, one) refl
 
-  pub joined_no_operand : (k : ℕ) (left : Reading) (op : Operator) (next : ℕ) → operator_at bytes level left.end ≡ Some (op, next) → operand next ≡ None → joined bytes operand level k left ≡ None
+  joined_bad_operand : (k : ℕ) (left : Reading) (op : Operator) (next : ℕ) → operator_at bytes level left.end ≡ Some (op, next) → operand next ≡ None → joined bytes operand level k left ≡ None
   unfolding joined
-  joined_no_operand zero left op next o r = refl
-  joined_no_operand (suc k) left op next o r = rw (o, r) refl
+  joined_bad_operand zero left op next o r = refl
+  joined_bad_operand (suc k) left op next o r = rw (o, r) refl
 
-  pub joined_no_value : (k : ℕ) (left right : Reading) (op : Operator) (next : ℕ) → operator_at bytes level left.end ≡ Some (op, next) → operand next ≡ Some right → combined op left right ≡ None → joined bytes operand level k left ≡ None
+  joined_bad_value : (k : ℕ) (left right : Reading) (op : Operator) (next : ℕ) → operator_at bytes level left.end ≡ Some (op, next) → operand next ≡ Some right → combined op left right ≡ None → joined bytes operand level k left ≡ None
   unfolding joined
-  joined_no_value zero left right op next o r b = refl
-  joined_no_value (suc k) left right op next o r b = rw (o, r, b) refl
+  joined_bad_value zero left right op next o r b = refl
+  joined_bad_value (suc k) left right op next o r b = rw (o, r, b) refl
 
-  pub joined_end : (k : ℕ) (left : Reading) → 0 < k → operator_at bytes level left.end ≡ None → joined bytes operand level k left ≡ Some left
+  joined_last : (k : ℕ) (left : Reading) → 0 < k → operator_at bytes level left.end ≡ None → joined bytes operand level k left ≡ Some left
   unfolding joined
-  joined_end zero left h o = absurd (omega arith)
-  joined_end (suc k) left h o = rw o refl
+  joined_last zero left h o = absurd (omega arith)
+  joined_last (suc k) left h o = rw o refl
+
+-- what a chain of operators leads to, one operator more, at a fault, and at its end
+module _ (bytes : List ℕ) (operand : Reader) (level k : ℕ) (left : Reading) (whole : Option Reading) (same : joined bytes operand level k left ≡ whole) where
+  pub joined_more : (right both : Reading) (op : Operator) (next : ℕ) → 0 < k → operator_at bytes level left.end ≡ Some (op, next) → operand next ≡ Some right → combined op left right ≡ Some both → joined bytes operand level (k - 1) both ≡ whole
+  joined_more right both op next h o r b = joined_before bytes operand level k left right both op next h o r b ∙ same
+
+  pub joined_no_operand : (op : Operator) (next : ℕ) (read : Option Reading) → operator_at bytes level left.end ≡ Some (op, next) → operand next ≡ None → read ≡ None → read ≡ whole
+  joined_no_operand op next read o r none = none ∙ sym (joined_bad_operand bytes operand level k left op next o r) ∙ same
+
+  pub joined_no_value : (right : Reading) (op : Operator) (next : ℕ) (read : Option Reading) → operator_at bytes level left.end ≡ Some (op, next) → operand next ≡ Some right → combined op left right ≡ None → read ≡ None → read ≡ whole
+  joined_no_value right op next read o r b none = none ∙ sym (joined_bad_value bytes operand level k left right op next o r b) ∙ same
+
+  pub joined_end : 0 < k → operator_at bytes level left.end ≡ None → Some left ≡ whole
+  joined_end h o = sym (joined_last bytes operand level k left h o) ∙ same
 
 -- one level less
 pub inner_unary_below : (bytes : List ℕ) (n place : ℕ) → 0 < n → unary_at bytes (n - 1) place ≡ inner_unary bytes n place

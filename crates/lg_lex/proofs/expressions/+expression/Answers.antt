@@ -1,5 +1,5 @@
 use Rattle.std.proofs.Common.{◌-◌, ◌<◌, suc, length, sym, ◌∙◌, arith}
-use Rattle.lg_lex.specs.Expressions.{unary_at}
+use Rattle.lg_lex.specs.Expressions.{unary_at, binary_of}
 use Rattle.lg_lex.proofs.ReaderLemmas.{binary_lowest, binary_none, binary_first, joined_more, joined_no_operand, joined_no_value, joined_end, inner_unary_below, inner_whole_below, whole_plain}
 use Rattle.lg_lex.proofs.expressions.+expression.Goals as goal
 
@@ -26,19 +26,28 @@ binary-operators-init t c =
 
 pub binary-returns-in_err-right-clause-value : goal.binary-returns-in_err-right-clause-value
 binary-returns-in_err-right-clause-value t c =
+    let unary = unary_at c.args.bytes.now c.args.levels in
+    let operand = binary_of c.args.bytes.now unary (c.args.level - 1) in
+    let whole = binary_of c.args.bytes.now unary c.args.level c.args.place in
     let found = sym c.operator.ensures.value ∙ c.in-Some.is in
     let right = sym c.binary-in-Some.ensures.value ∙ c.in_err-right.was in
-    c.from_residual-in_err-right.ensures ∙ sym (joined_no_operand c.args.bytes.now _ c.args.level c.operators.invariant.3.0 c.operators.left _ _ found right) ∙ c.operators.invariant.3.2
+    joined_no_operand c.args.bytes.now operand c.args.level c.operators.invariant.3.0 c.operators.left whole c.operators.invariant.3.2 _ _ _ found right c.from_residual-in_err-right.ensures
 
 pub binary-returns-in_err-left-2-clause-value : goal.binary-returns-in_err-left-2-clause-value
 binary-returns-in_err-left-2-clause-value t c =
+    let unary = unary_at c.args.bytes.now c.args.levels in
+    let operand = binary_of c.args.bytes.now unary (c.args.level - 1) in
+    let whole = binary_of c.args.bytes.now unary c.args.level c.args.place in
     let found = sym c.operator.ensures.value ∙ c.in-Some.is in
     let right = sym c.binary-in-Some.ensures.value ∙ c.in_ok-right.was in
     let both = sym c.combined.ensures.value ∙ c.in_err-left-2.was in
-    c.from_residual-in_err-left-2.ensures ∙ sym (joined_no_value c.args.bytes.now _ c.args.level c.operators.invariant.3.0 c.operators.left c.in_ok-right.right _ _ found right both) ∙ c.operators.invariant.3.2
+    joined_no_value c.args.bytes.now operand c.args.level c.operators.invariant.3.0 c.operators.left whole c.operators.invariant.3.2 c.in_ok-right.right _ _ _ found right both c.from_residual-in_err-left-2.ensures
 
 pub binary-operators-preserved : goal.binary-operators-preserved
 binary-operators-preserved t c =
+    let unary = unary_at c.args.bytes.now c.args.levels in
+    let operand = binary_of c.args.bytes.now unary (c.args.level - 1) in
+    let whole = binary_of c.args.bytes.now unary c.args.level c.args.place in
     let found = sym c.operator.ensures.value ∙ c.in-Some.is in
     let right = sym c.binary-in-Some.ensures.value ∙ c.in_ok-right.was in
     let both = sym c.combined.ensures.value ∙ c.in_ok-left-2.was in
@@ -54,14 +63,17 @@ binary-operators-preserved t c =
       (
         c.operators.invariant.3.0 - 1,
         omega arith,
-        joined_more c.args.bytes.now _ c.args.level c.operators.invariant.3.0 c.operators.left c.in_ok-right.right c.in_ok-left-2.left _ _ some found right both ∙ c.operators.invariant.3.2,
+        joined_more c.args.bytes.now operand c.args.level c.operators.invariant.3.0 c.operators.left whole c.operators.invariant.3.2 c.in_ok-right.right c.in_ok-left-2.left _ _ some found right both,
       ),
     )
 
 pub binary-returns-clause-value : goal.binary-returns-clause-value
 binary-returns-clause-value t c =
+    let unary = unary_at c.args.bytes.now c.args.levels in
+    let operand = binary_of c.args.bytes.now unary (c.args.level - 1) in
+    let whole = binary_of c.args.bytes.now unary c.args.level c.args.place in
     let none = sym c.operator.ensures.value ∙ c.in_default.is in
-    sym (joined_end c.args.bytes.now _ c.args.level c.operators.invariant.3.0 c.operators.left (omega arith) none) ∙ c.operators.invariant.3.2
+    joined_end c.args.bytes.now operand c.args.level c.operators.invariant.3.0 c.operators.left whole c.operators.invariant.3.2 (omega arith) none
 
 pub inner_unary-returns-clause-value : goal.inner_unary-returns-clause-value
 inner_unary-returns-clause-value t c =
