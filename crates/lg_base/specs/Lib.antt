@@ -1,3 +1,16 @@
+pub mod Arguments
+pub mod Conventions
 pub mod Faults
+pub mod Fields
 pub mod HostNames
+pub mod Immediates
+pub mod Layout
+pub mod Lengths
+pub mod Parts
 pub mod Refusals
+pub mod Rooms
+pub mod Runs
+pub mod Spaces
+pub mod Wide
+pub mod WordFronts
+pub mod Words

@@ -2,7 +2,17 @@
 //! instruction words, arithmetic on words, and memory.
 #![tactic(auto)]
 
+pub mod args;
+pub mod code;
 pub mod fault;
+pub mod field;
 pub mod host_name;
+pub mod image;
+pub mod memory;
+pub mod number;
+pub mod piece;
 pub mod refusal;
+pub mod space;
 pub mod target;
+pub mod wide;
+pub mod word;

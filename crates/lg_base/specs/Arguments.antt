@@ -1,0 +1,33 @@
+-- The argument part: the words of the command, as C's main gets them.
+use Rattle.std.specs.Prelude.{◌≡◌, ℕ, ◌+◌, ◌*◌, List, [], ◌∷◌, ◌++◌, length, map, string_bytes, String, ◌<◌}
+use Rattle.std.specs.Int.{w64, to_le_bytes}
+use Rattle.std.specs.declared.alloc.Global.{Global}
+use Rattle.lg_base.specs.Parts.{args_base}
+use Rattle.lg_base.specs.declared.refusal.Refusal.{Refusal}
+use Rattle.lg_base.specs.declared.refusal.RefusalKind.TheVariants.{ArgsTooLong}
+
+-- the texts of strings
+abbrev pub texts_of : List (String Global) → List (List ℕ)
+texts_of words = map string_bytes words
+
+-- the strings, each ended by a zero byte, without gaps
+abbrev pub strings : List (List ℕ) → List ℕ
+strings [] = []
+strings (w ∷ ws) = w ++ 0 ∷ strings ws
+
+-- words that point to the strings, the first of which stands at an address
+abbrev pub pointers : ℕ → List (List ℕ) → List ℕ
+pointers address [] = []
+pointers address (w ∷ ws) = to_le_bytes w64 address ++ pointers (address + (length w + 1)) ws
+
+-- a word for each string, a word of 0, and the strings
+abbrev pub args_of : List (List ℕ) → List ℕ
+args_of words = pointers (args_base + 8 * (length words + 1)) words ++ to_le_bytes w64 0 ++ strings words
+
+-- the argument part has at most so many bytes
+abbrev pub most_args : ℕ
+most_args = 0x100000
+
+-- the refusal of words that do not fit
+abbrev pub args_too_long : Refusal
+args_too_long = record { kind = ArgsTooLong; line = 0 }

@@ -1,0 +1,91 @@
+// The argument part.
+
+ghost use Rattle.std.specs.Prelude.{◌≡◌, ◌<◌, ◌≤◌, ◌+◌, ◌*◌, ◌^◌, ◌↔◌, ◌++◌, length, Err, IfOk, OnOk, IsTrue};
+ghost use Rattle.lg_base.specs.Arguments.{texts_of, strings, pointers, args_of, most_args, args_too_long};
+ghost use Rattle.lg_base.specs.Parts.{args_base};
+ghost use Rattle.lg_base.specs.Lengths.{args_len};
+
+use crate::image::ArgImage;
+use crate::refusal::{OutOfMemory, Refusal, RefusalKind, Stop};
+use std::alloc::Global;
+
+// The largest argument part, in bytes.
+const MOST_ARGS: u64 = 0x10_0000;
+
+// The first address of the argument part.
+const ARGS: u64 = 0x2800_0000;
+
+// Whether the argument part of these words has at most the largest size.
+fn fits(words: &Vec<String>) -> bool
+    ensures { IsTrue result ↔ (args_len (texts_of words.now.items) ≤ most_args) }
+{
+    if words.len() as u64 >= MOST_ARGS {
+        return false;
+    }
+    let mut len = 8 * (words.len() as u64 + 1);
+    for word in words {
+        if len > MOST_ARGS || word.as_bytes().len() as u64 > MOST_ARGS {
+            return false;
+        }
+        len += word.as_bytes().len() as u64 + 1;
+    }
+    len <= MOST_ARGS
+}
+
+// Appends the words that point to the strings.
+fn push_pointers(bytes: &mut Vec<u8>, words: &Vec<String>) -> Result<(), OutOfMemory>
+    requires { args_len (texts_of words.now.items) ≤ most_args }
+    ensures { OnOk result (bytes.new.items ≡ bytes.old.items ++ pointers (args_base + 8 * (length (texts_of words.now.items) + 1)) (texts_of words.now.items)) }
+{
+    let mut address = ARGS + 8 * (words.len() as u64 + 1);
+    for word in words {
+        bytes.extend_from_slice(&address.to_le_bytes())?;
+        address += word.as_bytes().len() as u64 + 1;
+    }
+    Ok(())
+}
+
+// Appends the strings, each ended by a zero byte.
+fn push_strings(bytes: &mut Vec<u8>, words: &Vec<String>) -> Result<(), OutOfMemory>
+    ensures { OnOk result (bytes.new.items ≡ bytes.old.items ++ strings (texts_of words.now.items)) }
+{
+    for word in words {
+        bytes.extend_from_slice(word.as_bytes())?;
+        bytes.push(0)?;
+    }
+    Ok(())
+}
+
+// The argument part of words that fit.
+fn build(alloc: Global, words: &Vec<String>) -> Result<ArgImage, OutOfMemory>
+    requires { args_len (texts_of words.now.items) ≤ most_args }
+    ensures { IfOk result (λ image. image ≡ args_of (texts_of words.now.items)) }
+{
+    let mut bytes = Vec::new(alloc);
+    push_pointers(&mut bytes, words)?;
+    bytes.extend_from_slice(&0u64.to_le_bytes())?;
+    push_strings(&mut bytes, words)?;
+    Ok(ArgImage::from_vec(bytes))
+}
+
+/// The argument part whose strings are the words in their order: a little-endian word of 8 bytes that
+/// points to each string, a word of 0, and the strings, each ended by a zero byte. Words whose argument
+/// part would pass 1,048,576 bytes are refused.
+pub fn args_image(alloc: Global, words: &Vec<String>) -> Result<ArgImage, Stop>
+    requires { 0 < length words.now.items }
+    ensures image { IfOk result (λ image. image ≡ args_of (texts_of words.now.items)) }
+    ensures size { IfOk result (λ image. length image ≤ most_args) }
+    ensures refused { (r : _) → result ≡ Err (Stop.Refused r) → (r ≡ args_too_long) × (most_args < length (args_of (texts_of words.now.items))) }
+    ensures long { most_args < length (args_of (texts_of words.now.items)) → result ≡ Err (Stop.Refused args_too_long) }
+{
+    if !fits(words) {
+        return Err(Stop::Refused(Refusal {
+            kind: RefusalKind::ArgsTooLong,
+            line: 0,
+        }));
+    }
+    match build(alloc, words) {
+        Ok(image) => Ok(image),
+        Err(OutOfMemory) => Err(Stop::OutOfMemory),
+    }
+}

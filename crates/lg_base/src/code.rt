@@ -1,0 +1,220 @@
+// Code: its bytes, and what stands where.
+
+ghost use Rattle.std.specs.Prelude.{◌≡◌, ◌<◌, ◌≤◌, ◌+◌, ◌^◌, ◌↔◌, ℕ, List, [], ◌∷◌, ◌++◌, length, slice_index, vec_len, IfOk, IsTrue};
+
+use crate::refusal::OutOfMemory;
+use std::alloc::Global;
+use std::marker::Model;
+
+/// The bytes of code, with room for more.
+#[derive(Drop)]
+pub struct CodeBytes {
+    bytes: Vec<u8>,
+    room: u32,
+}
+
+impl Model for CodeBytes {
+    ghost use Rattle.std.specs.Prelude.{◌+◌, ◌≤◌, ◌<◌, ◌^◌, vec_len, vec_capacity};
+    ghost use Rattle.lg_base.specs.Rooms.{Roomy};
+
+    ghost Value = { Roomy };
+
+    ghost view = { λ l. record { items = l.bytes.items; room = l.room } };
+
+    ghost invariant = { λ l. (vec_len l.bytes + l.room ≤ vec_capacity l.bytes) × (vec_len l.bytes + l.room < 2 ^ 32) };
+}
+
+impl CodeBytes {
+    /// The list of these bytes, of which there are at most 4,294,967,295, with room for no more.
+    pub fn of(alloc: Global, list: &[u8]) -> Result<CodeBytes, OutOfMemory>
+        requires { length list.now < 2 ^ 32 }
+        ensures items { IfOk result (λ l. l.items ≡ list.now) }
+        ensures room { IfOk result (λ l. l.room ≡ 0) }
+    {
+        let bytes = Vec::from_slice(alloc, list)?;
+        Ok(CodeBytes { bytes, room: 0 })
+    }
+
+    /// No bytes, with room for so many.
+    pub fn with_room(alloc: Global, room: u32) -> Result<CodeBytes, OutOfMemory>
+        ensures items { IfOk result (λ l. l.items ≡ []) }
+        ensures room { IfOk result (λ l. l.room ≡ room) }
+    {
+        let bytes = Vec::with_capacity(alloc, room as usize)?;
+        Ok(CodeBytes { bytes, room })
+    }
+
+    /// Appends a byte. There is room left.
+    pub fn push(&mut self, byte: u8)
+        requires { 0 < self.old.room }
+        ensures items { self.new.items ≡ self.old.items ++ byte ∷ [] }
+        ensures room { self.new.room + 1 ≡ self.old.room }
+    {
+        self.bytes.push_reserved(byte);
+        self.room -= 1;
+    }
+
+    /// How many bytes there are.
+    pub fn len(&self) -> u32
+        ensures { result ≡ length self.now.items }
+    {
+        self.bytes.len() as u32
+    }
+
+    /// Whether there is none.
+    pub fn is_empty(&self) -> bool
+        ensures { IsTrue result ↔ (length self.now.items ≡ 0) }
+    {
+        self.bytes.len() == 0
+    }
+
+    /// The byte of an index, which is below `len`.
+    pub fn get(&self, index: u32) -> u8
+        requires { index < length self.now.items }
+        ensures { result ≡ slice_index self.now.items index }
+    {
+        self.bytes[index as usize]
+    }
+
+    /// The bytes.
+    pub fn as_slice(&self) -> &[u8]
+        ensures value { result.now ≡ self.now.items }
+        ensures small { length self.now.items < 2 ^ 32 }
+    {
+        &self.bytes
+    }
+}
+
+/// Places in code, counted in bytes from its first, with room for more.
+#[derive(Drop)]
+pub struct Places {
+    places: Vec<u32>,
+    room: u32,
+}
+
+impl Model for Places {
+    ghost use Rattle.std.specs.Prelude.{◌+◌, ◌≤◌, ◌<◌, ◌^◌, vec_len, vec_capacity};
+    ghost use Rattle.lg_base.specs.Rooms.{Roomy};
+
+    ghost Value = { Roomy };
+
+    ghost view = { λ l. record { items = l.places.items; room = l.room } };
+
+    ghost invariant = { λ l. (vec_len l.places + l.room ≤ vec_capacity l.places) × (vec_len l.places + l.room < 2 ^ 32) };
+}
+
+impl Places {
+    /// The list of these places, of which there are at most 4,294,967,295, with room for no more.
+    pub fn of(alloc: Global, list: &[u32]) -> Result<Places, OutOfMemory>
+        requires { length list.now < 2 ^ 32 }
+        ensures items { IfOk result (λ l. l.items ≡ list.now) }
+        ensures room { IfOk result (λ l. l.room ≡ 0) }
+    {
+        let places = Vec::from_slice(alloc, list)?;
+        Ok(Places { places, room: 0 })
+    }
+
+    /// No places, with room for so many.
+    pub fn with_room(alloc: Global, room: u32) -> Result<Places, OutOfMemory>
+        ensures items { IfOk result (λ l. l.items ≡ []) }
+        ensures room { IfOk result (λ l. l.room ≡ room) }
+    {
+        let places = Vec::with_capacity(alloc, room as usize)?;
+        Ok(Places { places, room })
+    }
+
+    /// Appends a place. There is room left.
+    pub fn push(&mut self, place: u32)
+        requires { 0 < self.old.room }
+        ensures items { self.new.items ≡ self.old.items ++ place ∷ [] }
+        ensures room { self.new.room + 1 ≡ self.old.room }
+    {
+        self.places.push_reserved(place);
+        self.room -= 1;
+    }
+
+    /// How many places there are.
+    pub fn len(&self) -> u32
+        ensures { result ≡ length self.now.items }
+    {
+        self.places.len() as u32
+    }
+
+    /// Whether there is none.
+    pub fn is_empty(&self) -> bool
+        ensures { IsTrue result ↔ (length self.now.items ≡ 0) }
+    {
+        self.places.len() == 0
+    }
+
+    /// The place of an index, which is below `len`.
+    pub fn get(&self, index: u32) -> u32
+        requires { index < length self.now.items }
+        ensures { result ≡ slice_index self.now.items index }
+    {
+        self.places[index as usize]
+    }
+
+    /// The places.
+    pub fn as_slice(&self) -> &[u32]
+        ensures value { result.now ≡ self.now.items }
+        ensures small { length self.now.items < 2 ^ 32 }
+    {
+        &self.places
+    }
+}
+
+/// The addresses of labels, by the number of the label.
+#[derive(Drop)]
+pub struct LabelAddresses {
+    addresses: Vec<u64>,
+}
+
+impl Model for LabelAddresses {
+    ghost Value = { List ℕ };
+
+    ghost view = { λ l. l.addresses.items };
+
+    ghost invariant = { λ l. vec_len l.addresses < 2 ^ 32 };
+}
+
+impl LabelAddresses {
+    /// The list of these addresses, of which there are at most 4,294,967,295.
+    pub fn of(alloc: Global, list: &[u64]) -> Result<LabelAddresses, OutOfMemory>
+        requires { length list.now < 2 ^ 32 }
+        ensures { IfOk result (λ l. l ≡ list.now) }
+    {
+        let addresses = Vec::from_slice(alloc, list)?;
+        Ok(LabelAddresses { addresses })
+    }
+
+    /// How many addresses there are.
+    pub fn len(&self) -> u32
+        ensures { result ≡ length self.now }
+    {
+        self.addresses.len() as u32
+    }
+
+    /// Whether there is none.
+    pub fn is_empty(&self) -> bool
+        ensures { IsTrue result ↔ (length self.now ≡ 0) }
+    {
+        self.addresses.len() == 0
+    }
+
+    /// The address of an index, which is below `len`.
+    pub fn get(&self, index: u32) -> u64
+        requires { index < length self.now }
+        ensures { result ≡ slice_index self.now index }
+    {
+        self.addresses[index as usize]
+    }
+
+    /// The addresses.
+    pub fn as_slice(&self) -> &[u64]
+        ensures value { result.now ≡ self.now }
+        ensures small { length self.now < 2 ^ 32 }
+    {
+        &self.addresses
+    }
+}

@@ -1,0 +1,125 @@
+// The parts of the memory that a run begins with.
+
+ghost use Rattle.std.specs.Prelude.{◌≡◌, ◌<◌, ◌≤◌, ◌+◌, ◌^◌, ◌↔◌, ℕ, List, [], ◌∷◌, ◌++◌, length, slice_index, vec_len, IfOk, IsTrue};
+
+use crate::refusal::OutOfMemory;
+use std::alloc::Global;
+use std::marker::Model;
+
+/// The bytes of the data part.
+#[derive(Drop)]
+pub struct DataImage {
+    bytes: Vec<u8>,
+}
+
+impl Model for DataImage {
+    ghost Value = { List ℕ };
+
+    ghost view = { λ l. l.bytes.items };
+
+    ghost invariant = { λ l. vec_len l.bytes < 2 ^ 32 };
+}
+
+impl DataImage {
+    /// The list of these bytes, of which there are at most 4,294,967,295.
+    pub fn of(alloc: Global, list: &[u8]) -> Result<DataImage, OutOfMemory>
+        requires { length list.now < 2 ^ 32 }
+        ensures { IfOk result (λ l. l ≡ list.now) }
+    {
+        let bytes = Vec::from_slice(alloc, list)?;
+        Ok(DataImage { bytes })
+    }
+
+    /// How many bytes there are.
+    pub fn len(&self) -> u32
+        ensures { result ≡ length self.now }
+    {
+        self.bytes.len() as u32
+    }
+
+    /// Whether there is none.
+    pub fn is_empty(&self) -> bool
+        ensures { IsTrue result ↔ (length self.now ≡ 0) }
+    {
+        self.bytes.len() == 0
+    }
+
+    /// The byte of an index, which is below `len`.
+    pub fn get(&self, index: u32) -> u8
+        requires { index < length self.now }
+        ensures { result ≡ slice_index self.now index }
+    {
+        self.bytes[index as usize]
+    }
+
+    /// The bytes.
+    pub fn as_slice(&self) -> &[u8]
+        ensures value { result.now ≡ self.now }
+        ensures small { length self.now < 2 ^ 32 }
+    {
+        &self.bytes
+    }
+}
+
+/// The bytes of the argument part.
+#[derive(Drop)]
+pub struct ArgImage {
+    bytes: Vec<u8>,
+}
+
+impl Model for ArgImage {
+    ghost Value = { List ℕ };
+
+    ghost view = { λ l. l.bytes.items };
+
+    ghost invariant = { λ l. vec_len l.bytes < 2 ^ 32 };
+}
+
+impl ArgImage {
+    // The list that a vector holds, of which there are at most 4,294,967,295 bytes.
+    pub(crate) fn from_vec(bytes: Vec<u8>) -> ArgImage
+        requires { length bytes.items < 2 ^ 32 }
+        ensures { result ≡ bytes.items }
+    {
+        ArgImage { bytes }
+    }
+
+    /// The list of these bytes, of which there are at most 4,294,967,295.
+    pub fn of(alloc: Global, list: &[u8]) -> Result<ArgImage, OutOfMemory>
+        requires { length list.now < 2 ^ 32 }
+        ensures { IfOk result (λ l. l ≡ list.now) }
+    {
+        let bytes = Vec::from_slice(alloc, list)?;
+        Ok(ArgImage { bytes })
+    }
+
+    /// How many bytes there are.
+    pub fn len(&self) -> u32
+        ensures { result ≡ length self.now }
+    {
+        self.bytes.len() as u32
+    }
+
+    /// Whether there is none.
+    pub fn is_empty(&self) -> bool
+        ensures { IsTrue result ↔ (length self.now ≡ 0) }
+    {
+        self.bytes.len() == 0
+    }
+
+    /// The byte of an index, which is below `len`.
+    pub fn get(&self, index: u32) -> u8
+        requires { index < length self.now }
+        ensures { result ≡ slice_index self.now index }
+    {
+        self.bytes[index as usize]
+    }
+
+    /// The bytes.
+    pub fn as_slice(&self) -> &[u8]
+        ensures value { result.now ≡ self.now }
+        ensures small { length self.now < 2 ^ 32 }
+    {
+        &self.bytes
+    }
+}

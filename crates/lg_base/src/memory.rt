@@ -1,0 +1,208 @@
+// The memory of a run.
+
+ghost use Rattle.std.specs.Prelude.{◌≡◌, ℕ, ◌+◌, ◌-◌, ◌^◌, ◌<◌, ◌≤◌, ◌⊎◌, ◌↔◌, length, slice_index, false, IfOk, IsSome, IsTrue, if◌then◌else◌};
+ghost use Rattle.lg_base.specs.Spaces.{number_at, written, loaded, mapped, stored};
+ghost use Rattle.lg_base.specs.Parts.{byte_at, lies_in, LiesInOnePart, IsZeroed};
+
+use crate::refusal::OutOfMemory;
+use crate::space::Space;
+use std::alloc::Global;
+use std::marker::Model;
+
+const DATA: u64 = 0x2000_0000;
+
+const ARGS: u64 = 0x2800_0000;
+
+const HEAP: u64 = 0x3000_0000;
+
+const STACK: u64 = 0x3FF0_0000;
+
+/// The memory of a run: the data part, the argument part, 4 MiB of heap and 1 MiB of stack, at the
+/// addresses 0x20000000, 0x28000000, 0x30000000 and 0x3FF00000.
+#[derive(Drop)]
+pub struct Memory {
+    data: Vec<u8>,
+    args: Vec<u8>,
+    heap: Vec<u8>,
+    stack: Vec<u8>,
+}
+
+impl Model for Memory {
+    ghost use Rattle.lg_base.specs.Parts.{Parts, IsSized};
+
+    ghost Value = { Parts };
+
+    ghost view = { λ m. record { data_part = m.data.items; args_part = m.args.items; heap_part = m.heap.items; stack_part = m.stack.items } };
+
+    ghost invariant = { λ m. IsSized record { data_part = m.data.items; args_part = m.args.items; heap_part = m.heap.items; stack_part = m.stack.items } };
+}
+
+// So many zero bytes.
+fn zeros(alloc: Global, len: usize) -> Result<Vec<u8>, OutOfMemory>
+    ensures len { IfOk result (λ v. length v.items ≡ len) }
+    ensures zero { IfOk result (λ v. slice_index v.items ≡ (λ _. 0)) }
+{
+    Ok(vec![in alloc; 0u8; len]?)
+}
+
+// Whether `width` bytes from an address on lie in the part that begins at `base`.
+fn lies_in(bytes: &[u8], base: u64, address: u64, width: u32) -> bool
+    requires { base + length bytes.now < 2 ^ 64 }
+    ensures { result ≡ lies_in base bytes.now address width }
+{
+    address >= base
+        && bytes.len() as u64 >= u64::from(width)
+        && address - base <= bytes.len() as u64 - u64::from(width)
+}
+
+// The number in `width` bytes from `at` on, the lowest byte first.
+fn number_in(bytes: &[u8], at: usize, width: u32) -> u64
+    requires inside { at + width ≤ length bytes.now }
+    requires width { width ≤ 8 }
+    ensures { result ≡ number_at (slice_index bytes.now) at width }
+{
+    let mut number = 0u64;
+    let mut left = width as usize;
+    while left > 0 {
+        left -= 1;
+        number = number * 256 + u64::from(bytes[at + left]);
+    }
+    number
+}
+
+// Writes the low bytes of a number from `at` on, the lowest byte first.
+fn write_number(bytes: &mut [u8], at: usize, width: u32, value: u64)
+    requires { at + width ≤ length bytes.old }
+    ensures { slice_index bytes.new ≡ written (slice_index bytes.old) at width value }
+{
+    let mut rest = value;
+    for i in 0..width as usize {
+        bytes[at + i] = (rest % 256) as u8;
+        rest /= 256;
+    }
+}
+
+impl Memory {
+    /// A memory with data and arguments parts of these lengths, at most 16,777,216 and 1,048,576 bytes,
+    /// in which every byte is 0.
+    pub fn new(alloc: Global, image_len: u64, args_len: u64) -> Result<Memory, OutOfMemory>
+        requires image { image_len ≤ 0x1000000 }
+        requires args { args_len ≤ 0x100000 }
+        ensures zeroed { IfOk result IsZeroed }
+        ensures data_len { IfOk result (λ m. length m.data_part ≡ image_len) }
+        ensures data { IfOk result (λ m. slice_index m.data_part ≡ (λ _. 0)) }
+        ensures args_len { IfOk result (λ m. length m.args_part ≡ args_len) }
+        ensures args { IfOk result (λ m. slice_index m.args_part ≡ (λ _. 0)) }
+    {
+        Ok(Memory {
+            data: zeros(alloc, image_len as usize)?,
+            args: zeros(alloc, args_len as usize)?,
+            heap: zeros(alloc, 0x40_0000)?,
+            stack: zeros(alloc, 0x10_0000)?,
+        })
+    }
+
+    /// A memory with these data and argument parts, of at most 16,777,216 and 1,048,576 bytes, in which
+    /// every other byte is 0.
+    pub fn with_parts(alloc: Global, image: &[u8], args: &[u8]) -> Result<Memory, OutOfMemory>
+        requires image { length image.now ≤ 0x1000000 }
+        requires args { length args.now ≤ 0x100000 }
+        ensures zeroed { IfOk result IsZeroed }
+        ensures data { IfOk result (λ m. m.data_part ≡ image.now) }
+        ensures args { IfOk result (λ m. m.args_part ≡ args.now) }
+    {
+        Ok(Memory {
+            data: Vec::from_slice(alloc, image)?,
+            args: Vec::from_slice(alloc, args)?,
+            heap: zeros(alloc, 0x40_0000)?,
+            stack: zeros(alloc, 0x10_0000)?,
+        })
+    }
+
+    /// The number in `width` bytes from an address on, the lowest byte first. None exactly where not all
+    /// bytes lie in one part. `width` is 1, 2, 4 or 8.
+    pub fn load(&self, address: u64, width: u32) -> Option<u64>
+        requires { (width ≡ 1) ⊎ (width ≡ 2) ⊎ (width ≡ 4) ⊎ (width ≡ 8) }
+        ensures value { result ≡ loaded (byte_at self.now) address width }
+        ensures one_part { IsSome result ↔ LiesInOnePart self.now address width }
+    {
+        if lies_in(&self.data, DATA, address, width) {
+            return Some(number_in(&self.data, (address - DATA) as usize, width));
+        }
+        if lies_in(&self.args, ARGS, address, width) {
+            return Some(number_in(&self.args, (address - ARGS) as usize, width));
+        }
+        if lies_in(&self.heap, HEAP, address, width) {
+            return Some(number_in(&self.heap, (address - HEAP) as usize, width));
+        }
+        if lies_in(&self.stack, STACK, address, width) {
+            return Some(number_in(&self.stack, (address - STACK) as usize, width));
+        }
+        None
+    }
+
+    /// Writes the low `width` bytes of a number from an address on, the lowest byte first. False exactly
+    /// where not all bytes lie in one part, and then nothing changes. `width` is 1, 2, 4 or 8.
+    pub fn store(&mut self, address: u64, width: u32, value: u64) -> bool
+        requires { (width ≡ 1) ⊎ (width ≡ 2) ⊎ (width ≡ 4) ⊎ (width ≡ 8) }
+        ensures done { result ≡ mapped (byte_at self.old) address width }
+        ensures one_part { IsTrue result ↔ LiesInOnePart self.old address width }
+        ensures bytes { byte_at self.new ≡ (if result then stored (byte_at self.old) address width value else byte_at self.old) }
+        ensures unchanged { result ≡ false → self.new ≡ self.old }
+    {
+        if lies_in(&self.data, DATA, address, width) {
+            write_number(&mut self.data, (address - DATA) as usize, width, value);
+            return true;
+        }
+        if lies_in(&self.args, ARGS, address, width) {
+            write_number(&mut self.args, (address - ARGS) as usize, width, value);
+            return true;
+        }
+        if lies_in(&self.heap, HEAP, address, width) {
+            write_number(&mut self.heap, (address - HEAP) as usize, width, value);
+            return true;
+        }
+        if lies_in(&self.stack, STACK, address, width) {
+            write_number(&mut self.stack, (address - STACK) as usize, width, value);
+            return true;
+        }
+        false
+    }
+}
+
+impl Space for Memory {
+    ghost use Rattle.lg_base.specs.Spaces.{readable};
+    ghost use Rattle.lg_base.specs.Parts.{byte_at};
+
+    ghost byte_of = { λ m. byte_at m };
+
+    ghost room = { λ m. readable (byte_at m) };
+
+    fn get(&self, address: u64) -> Option<u8> {
+        if address >= DATA && address - DATA < self.data.len() as u64 {
+            return Some(self.data[(address - DATA) as usize]);
+        }
+        if address >= ARGS && address - ARGS < self.args.len() as u64 {
+            return Some(self.args[(address - ARGS) as usize]);
+        }
+        if address >= HEAP && address - HEAP < self.heap.len() as u64 {
+            return Some(self.heap[(address - HEAP) as usize]);
+        }
+        if address >= STACK && address - STACK < self.stack.len() as u64 {
+            return Some(self.stack[(address - STACK) as usize]);
+        }
+        None
+    }
+
+    fn can_put(&self, address: u64) -> bool {
+        self.get(address).is_some()
+    }
+
+    fn put(&mut self, address: u64, byte: u8) -> bool {
+        self.store(address, 1, u64::from(byte))
+    }
+
+    fn raise(&mut self, mark: u64) {
+        let _ = &self.heap;
+    }
+}

@@ -1,0 +1,92 @@
+// Operators on words of 64 bits.
+
+ghost use Rattle.std.specs.Prelude.{◌≡◌, ◌≢◌, ◌<◌};
+ghost use Rattle.lg_base.specs.Words.{quotient_signed, remainder_signed, shifted_right_signed, is_less_signed, sum_overflows, difference_overflows, high_product_mixed, sign_32, differ, is_negative, magnitude, with_sign, extended, add_words};
+
+const HALF: u64 = 0x8000_0000_0000_0000;
+
+/// The size of a signed word: at most `2 ^ 63`.
+pub fn magnitude_of(a: u64) -> u64
+    ensures { result ≡ magnitude a }
+{
+    if a < HALF { a } else { 0u64.wrapping_sub(a) }
+}
+
+/// The word of a size and a sign.
+pub fn signed_word(negative: bool, size: u64) -> u64
+    ensures { result ≡ with_sign negative size }
+{
+    if negative {
+        0u64.wrapping_sub(size)
+    } else {
+        size
+    }
+}
+
+/// The signed quotient towards zero. The divisor is not 0; the least word by -1 gives itself.
+pub fn divide_signed(a: u64, b: u64) -> u64
+    requires { b ≢ 0 }
+    ensures { result ≡ quotient_signed a b }
+{
+    signed_word(
+        (a >= HALF) != (b >= HALF),
+        magnitude_of(a) / magnitude_of(b),
+    )
+}
+
+/// The signed remainder, with the dividend's sign. The divisor is not 0; the least word by -1 gives 0.
+pub fn remain_signed(a: u64, b: u64) -> u64
+    requires { b ≢ 0 }
+    ensures { result ≡ remainder_signed a b }
+{
+    signed_word(a >= HALF, magnitude_of(a) % magnitude_of(b))
+}
+
+/// The shift to the right that carries the sign. The count is below 64.
+pub fn shift_right_signed(a: u64, count: u32) -> u64
+    requires { count < 64 }
+    ensures { result ≡ shifted_right_signed a count }
+{
+    if a < HALF { a >> count } else { !(!a >> count) }
+}
+
+/// Whether the signed view of a word is below that of another.
+pub fn less_signed(a: u64, b: u64) -> bool
+    ensures { result ≡ is_less_signed a b }
+{
+    a.wrapping_add(HALF) < b.wrapping_add(HALF)
+}
+
+/// Whether the sum of two signed words does not fit a signed word.
+pub fn sum_overflows_signed(a: u64, b: u64) -> bool
+    ensures { result ≡ sum_overflows a b }
+{
+    if (a >= HALF) != (b >= HALF) {
+        false
+    } else {
+        (a >= HALF) != (a.wrapping_add(b) >= HALF)
+    }
+}
+
+/// Whether the difference of two signed words does not fit a signed word.
+pub fn difference_overflows_signed(a: u64, b: u64) -> bool
+    ensures { result ≡ difference_overflows a b }
+{
+    if (a >= HALF) != (b >= HALF) {
+        (a >= HALF) != (a.wrapping_sub(b) >= HALF)
+    } else {
+        false
+    }
+}
+
+/// The low 32 bits, extended by their sign.
+pub fn sign_extend_32(a: u64) -> u64
+    ensures { result ≡ sign_32 a }
+{
+    let low = a % 0x1_0000_0000;
+    if low < 0x8000_0000 {
+        low
+    } else {
+        low + 0xFFFF_FFFF_0000_0000
+    }
+}

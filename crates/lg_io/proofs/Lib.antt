@@ -1,0 +1,2 @@
+pub mod NamedTextLemmas
+pub mod WroteLemmas

@@ -1,0 +1,40 @@
+-- Texts in memory: what they answer and become.
+use Rattle.std.specs.Prelude.{ℕ, ◌||◌, min, Bool, List, [], ◌++◌, length, take, drop, Option, Some, None, unwrap_or, is_none, Result, Ok, Err, map, slice_get, string_bytes, if◌then◌else◌}
+use Rattle.lg_io.specs.Calls.{Calls, fails_next, counted}
+use Rattle.lg_io.specs.NamedTexts.{NamedTexts, text_under}
+use Rattle.lg_io.specs.declared.texts.TextFault.{TextFault}
+use Rattle.lg_io.specs.declared.texts.TextFault.TheVariants.{Failed}
+
+-- the texts by name, what is left of the selected one, and the calls
+pub record TextsState : Type 0 where
+  pub held : NamedTexts
+  pub left : List ℕ
+  pub calls : Calls
+
+-- selecting fails where it is to fail, and where no text has the name
+abbrev pub select_fails : TextsState → List ℕ → Bool
+select_fails texts name = fails_next texts.calls || is_none (text_under texts.held name)
+
+abbrev pub select_answer : TextsState → List ℕ → Result Unit TextFault
+select_answer texts name = if select_fails texts name then Err Failed else Ok tt
+
+abbrev pub after_select : TextsState → List ℕ → TextsState
+after_select texts name =
+    let fails = select_fails texts name in
+    record { held = texts.held; left = if fails then texts.left else unwrap_or (text_under texts.held name) []; calls = counted texts.calls fails }
+
+-- a read that does not fail gives as many bytes as the slice and what is left allow
+abbrev pub read_answer : TextsState → List ℕ → Result ℕ TextFault
+read_answer texts into = if fails_next texts.calls then Err Failed else Ok (min (length texts.left) (length into))
+
+-- how many bytes a read gives
+abbrev pub read_count : TextsState → List ℕ → ℕ
+read_count texts into = if fails_next texts.calls then 0 else min (length texts.left) (length into)
+
+abbrev pub after_read : TextsState → List ℕ → TextsState
+after_read texts into =
+    record { held = texts.held; left = drop (read_count texts into) texts.left; calls = counted texts.calls (fails_next texts.calls) }
+
+-- the slice, of which the first bytes are those that are read
+abbrev pub read_into : TextsState → List ℕ → List ℕ
+read_into texts into = take (read_count texts into) texts.left ++ drop (read_count texts into) into

@@ -1,0 +1,13 @@
+//! Where texts come from and where bytes go: sources and sinks in memory, and over std's files and writers.
+#![tactic(auto)]
+
+mod calls;
+pub mod digits;
+pub mod memory_sink;
+pub mod memory_texts;
+mod named_text;
+pub mod sink;
+pub mod standard;
+#[cfg(test)]
+mod tests;
+pub mod texts;

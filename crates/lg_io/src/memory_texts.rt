@@ -1,0 +1,151 @@
+// Texts in memory.
+
+ghost use Rattle.std.specs.Prelude.{◌≡◌, ◌<◌, ◌≤◌, ℕ, [], ◌∷◌, ◌++◌, ◌-◌, length, min, take, drop, Some, None, MatchOption, IfOk, OnOk, OnErr};
+ghost use Rattle.std.specs.Io.KnownBytes.{ReadConsumes};
+ghost use Rattle.lg_io.specs.Counts.{HasCause};
+ghost use Rattle.lg_io.specs.NamedTexts.{text_under, Selects};
+ghost use Rattle.lg_io.specs.Rests.{rest_of};
+ghost use Rattle.lg_io.specs.MemoryTexts.{select_answer, after_select, read_answer, read_into, after_read};
+
+use crate::calls::FailingCalls;
+use crate::named_text::NamedText;
+use crate::texts::{TextFault, Texts};
+use lg_base::refusal::OutOfMemory;
+use std::alloc::Global;
+use std::marker::Model;
+
+/// Texts by their names, which fail at the calls that they are told to fail at.
+#[derive(Drop)]
+pub struct MemoryTexts {
+    alloc: Global,
+    texts: Vec<NamedText>,
+    selected: Option<usize>,
+    offset: usize,
+    calls: FailingCalls,
+}
+
+impl Model for MemoryTexts {
+    ghost use Rattle.std.specs.Prelude.{◌<◌, vec_len};
+    ghost use Rattle.std.specs.Option.{ForSome};
+    ghost use Rattle.lg_io.specs.Rests.{rest_of};
+    ghost use Rattle.lg_io.specs.MemoryTexts.{TextsState};
+
+    ghost Value = { TextsState };
+
+    ghost view = { λ texts. record { held = texts.texts.items; left = rest_of texts.texts.items texts.selected texts.offset; calls = texts.calls } };
+
+    ghost invariant = { λ texts. ForSome texts.selected (λ place. place < vec_len texts.texts) };
+}
+
+// The place of the first text of a name.
+fn place_of(texts: &[NamedText], name: &str) -> Option<usize>
+    ensures { MatchOption result (text_under texts.now name.now ≡ None) (λ place. (place < length texts.now) × (text_under texts.now name.now ≡ Some (rest_of texts.now (Some place) 0))) }
+{
+    for (place, named) in texts.iter().enumerate() {
+        if named.has_name(name) {
+            return Some(place);
+        }
+    }
+    None
+}
+
+// Copies what there is room for of a text from an offset on.
+fn copy_from(text: &[u8], offset: usize, into: &mut [u8]) -> usize
+    ensures count { result ≡ min (length text.now - offset) (length into.old) }
+    ensures bytes { into.new ≡ take result (drop offset text.now) ++ drop result into.old }
+{
+    if offset >= text.len() {
+        return 0;
+    }
+    let left = &text[offset..];
+    let count = left.len().min(into.len());
+    into[..count].copy_from_slice(&left[..count]);
+    count
+}
+
+impl MemoryTexts {
+    /// No texts. The k-th call, selecting and reading counted together from 1, fails where k is in the list.
+    pub fn new(alloc: Global, fail_at: &[u64]) -> Result<MemoryTexts, OutOfMemory>
+        ensures { IfOk result (λ texts. texts ≡ record { held = []; left = []; calls = record { fail_at = fail_at.now; made = 0; faults = 0 } }) }
+    {
+        Ok(MemoryTexts {
+            alloc,
+            texts: Vec::new(alloc),
+            selected: None,
+            offset: 0,
+            calls: FailingCalls::new(alloc, fail_at)?,
+        })
+    }
+
+    /// Adds a text. Of two texts of one name the first counts.
+    pub fn add(&mut self, name: &str, text: &[u8]) -> Result<(), OutOfMemory>
+        ensures ok { OnOk result (self.new ≡ record self.old { held = self.old.held ++ (name.now, text.now) ∷ [] }) }
+        ensures err { OnErr result (self.new ≡ self.old) }
+    {
+        let named = NamedText::new(self.alloc, name, text)?;
+        self.texts.push(named)?;
+        Ok(())
+    }
+
+    /// How many calls failed.
+    pub fn faults(&self) -> u64
+        ensures { result ≡ self.now.calls.faults }
+    {
+        self.calls.faults()
+    }
+}
+
+impl Texts for MemoryTexts {
+    ghost held = { λ texts. Some texts.held };
+
+    ghost left = { λ texts. Some texts.left };
+
+    ghost faults = { λ texts. texts.calls.faults };
+
+    /// Selects the first text of a name.
+    fn select(&mut self, name: &str) -> Result<(), TextFault>
+        ensures held { Some self.new.held ≡ Some self.old.held }
+        ensures left { OnOk result (Selects (Some self.old.held) (Some self.new.left) name.now) }
+        ensures err { OnErr result (Some self.new.left ≡ Some self.old.left) }
+        ensures cause { HasCause self.old.calls.faults self.new.calls.faults result }
+        ensures answer { result ≡ select_answer self.old name.now }
+        ensures after { self.new ≡ after_select self.old name.now }
+    {
+        let fails = self.calls.fails_next();
+        match place_of(self.texts.as_slice(), name) {
+            Some(place) if !fails => {
+                self.calls.count(false);
+                self.selected = Some(place);
+                self.offset = 0;
+                Ok(())
+            }
+            _ => {
+                self.calls.count(true);
+                Err(TextFault::Failed)
+            }
+        }
+    }
+
+    /// Gives as many bytes as the slice and what is left allow.
+    fn read(&mut self, into: &mut [u8]) -> Result<usize, TextFault>
+        ensures held { Some self.new.held ≡ Some self.old.held }
+        ensures bound { IfOk result (λ n. n ≤ length into.old) }
+        ensures bytes { ReadConsumes (Some self.old.left) (Some self.new.left) result into.new }
+        ensures cause { HasCause self.old.calls.faults self.new.calls.faults result }
+        ensures answer { result ≡ read_answer self.old into.old }
+        ensures after { self.new ≡ after_read self.old into.old }
+        ensures into { into.new ≡ read_into self.old into.old }
+    {
+        let fails = self.calls.fails_next();
+        self.calls.count(fails);
+        if fails {
+            return Err(TextFault::Failed);
+        }
+        let Some(place) = self.selected else {
+            return Ok(0);
+        };
+        let count = copy_from(self.texts[place].text(), self.offset, into);
+        self.offset += count;
+        Ok(count)
+    }
+}

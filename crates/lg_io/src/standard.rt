@@ -1,0 +1,161 @@
+// Texts and sinks over std's files, input and writers: the edge to the outside, whose bytes no contract tells.
+
+ghost use Rattle.std.specs.Prelude.{◌≡◌, ◌<◌, ◌≤◌, ℕ, List, length, Option, None, IfOk, OnOk, OnErr, is_ok, if◌then◌else◌};
+ghost use Rattle.std.specs.Io.KnownBytes.{WriteAppends, ReadConsumes};
+ghost use Rattle.lg_io.specs.Counts.{HasCause, next_count};
+ghost use Rattle.lg_io.specs.NamedTexts.{NamedTexts, Selects};
+
+use crate::sink::{Sink, SinkFault};
+use crate::texts::{TextFault, Texts};
+use std::fs;
+use std::io::{Read, Write};
+use std::marker::Model;
+use std::rt::Files;
+
+/// A sink over a writer. It tells no bytes, and a contract sees its count of faults.
+#[derive(Drop)]
+pub struct StdSink<W: Write + Drop> {
+    writer: W,
+    faults: u64,
+}
+
+impl<W: Write + Drop> Model for StdSink<W> {
+    ghost Value = { ℕ };
+
+    ghost view = { λ sink. sink.faults };
+}
+
+impl<W: Write + Drop> StdSink<W> {
+    /// A sink that writes to the writer, each piece at once.
+    pub fn new(writer: W) -> StdSink<W>
+        ensures { result ≡ 0 }
+    {
+        StdSink { writer, faults: 0 }
+    }
+
+    /// How many writes failed.
+    pub fn faults(&self) -> u64
+        ensures { result ≡ self.now }
+    {
+        self.faults
+    }
+}
+
+impl<W: Write + Drop> Sink for StdSink<W> {
+    ghost taken = { λ _. None };
+
+    ghost faults = { λ sink. sink };
+
+    /// Writes once. The count of faults rises where the writer fails, and where it takes nothing of a piece that is not empty.
+    fn write(&mut self, bytes: &[u8]) -> Result<usize, SinkFault>
+        ensures bound { IfOk result (λ n. n ≤ length bytes.now) }
+        ensures some { IfOk result (λ n. 0 < length bytes.now → 0 < n) }
+        ensures bytes { WriteAppends None None result bytes.now }
+        ensures cause { HasCause self.old self.new result }
+        ensures count { self.new ≡ (if is_ok result then self.old else next_count self.old) }
+    {
+        match self.writer.write(bytes) {
+            Ok(count) if count > 0 || bytes.is_empty() => Ok(count),
+            _ => {
+                self.faults = self.faults.saturating_add(1);
+                Err(SinkFault::Failed)
+            }
+        }
+    }
+}
+
+// What is read: nothing yet, a file, or the standard input.
+#[derive(Drop)]
+enum Selected<F: Drop, I: Drop> {
+    Nothing,
+    File(F),
+    Input(I),
+}
+
+/// Texts from files, with the standard input under the name `-`. It tells no bytes, and a contract sees its count of faults.
+#[derive(Drop)]
+pub struct StdTexts<'a, R: Files + Input> {
+    rt: &'a R,
+    selected: Selected<R::File, R::Reader>,
+    faults: u64,
+}
+
+impl<'a, R: Files + Input> Model for StdTexts<'a, R> {
+    ghost Value = { ℕ };
+
+    ghost view = { λ texts. texts.faults };
+}
+
+impl<'a, R: Files + Input> StdTexts<'a, R> {
+    /// No text is selected.
+    pub fn new(rt: &'a R) -> StdTexts<'a, R>
+        ensures { result ≡ 0 }
+    {
+        StdTexts {
+            rt,
+            selected: Selected::Nothing,
+            faults: 0,
+        }
+    }
+
+    /// How many calls failed.
+    pub fn faults(&self) -> u64
+        ensures { result ≡ self.now }
+    {
+        self.faults
+    }
+}
+
+impl<'a, R: Files + Input> Texts for StdTexts<'a, R> {
+    ghost held = { λ _. None };
+
+    ghost left = { λ _. None };
+
+    ghost faults = { λ texts. texts };
+
+    /// Opens the file of that name, or takes the standard input for `-`.
+    fn select(&mut self, name: &str) -> Result<(), TextFault>
+        ensures held { ◌≡◌ {A = Option NamedTexts} None None }
+        ensures left { OnOk result (Selects None None name.now) }
+        ensures err { OnErr result (◌≡◌ {A = Option (List ℕ)} None None) }
+        ensures cause { HasCause self.old self.new result }
+        ensures count { self.new ≡ (if is_ok result then self.old else next_count self.old) }
+    {
+        if name == "-" {
+            self.selected = Selected::Input(self.rt.reader());
+            return Ok(());
+        }
+        match fs::open(self.rt, name) {
+            Ok(file) => {
+                self.selected = Selected::File(file);
+                Ok(())
+            }
+            Err(_) => {
+                self.faults = self.faults.saturating_add(1);
+                Err(TextFault::Failed)
+            }
+        }
+    }
+
+    /// Reads once.
+    fn read(&mut self, into: &mut [u8]) -> Result<usize, TextFault>
+        ensures held { ◌≡◌ {A = Option NamedTexts} None None }
+        ensures bound { IfOk result (λ n. n ≤ length into.old) }
+        ensures bytes { ReadConsumes None None result into.new }
+        ensures cause { HasCause self.old self.new result }
+        ensures count { self.new ≡ (if is_ok result then self.old else next_count self.old) }
+    {
+        let answer = match &mut self.selected {
+            Selected::Nothing => Ok(0),
+            Selected::File(file) => file.read(into),
+            Selected::Input(input) => input.read(into),
+        };
+        match answer {
+            Ok(count) => Ok(count),
+            Err(_) => {
+                self.faults = self.faults.saturating_add(1);
+                Err(TextFault::Failed)
+            }
+        }
+    }
+}

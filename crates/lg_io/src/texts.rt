@@ -1,0 +1,43 @@
+// Sources of texts.
+
+ghost use Rattle.std.specs.Prelude.{◌≡◌, ℕ, ◌≤◌, List, Option, length, IfOk, OnOk, OnErr};
+ghost use Rattle.std.specs.Io.KnownBytes.{ReadConsumes};
+ghost use Rattle.lg_io.specs.Counts.{HasCause};
+ghost use Rattle.lg_io.specs.NamedTexts.{NamedTexts, Selects};
+
+use thiserror::Error;
+
+/// Why a text could not be selected or read.
+#[derive(Clone, Copy, Debug, PartialEq, Eq, Error)]
+pub enum TextFault {
+    /// The call failed, and the source's count of faults rose.
+    #[error("a read failed")]
+    Failed,
+}
+
+/// Gives texts by their names, the selected one piece by piece.
+pub trait Texts {
+    /// The texts by name, where the source tells them.
+    ghost held: { Self → Option NamedTexts };
+
+    /// What is left of the selected text, where the source tells it.
+    ghost left: { Self → Option (List ℕ) };
+
+    /// How often a call failed.
+    ghost faults: { Self → ℕ };
+
+    /// Selects the text of a name, from its first byte on. After a fault what is left is as before.
+    fn select(&mut self, name: &str) -> Result<(), TextFault>
+        ensures held { held self.new ≡ held self.old }
+        ensures left { OnOk result (Selects (held self.old) (left self.new) name.now) }
+        ensures err { OnErr result (left self.new ≡ left self.old) }
+        ensures cause { HasCause (faults self.old) (faults self.new) result };
+
+    /// Moves bytes from the front of what is left into the front of the slice, and says how many: none only at the end, or where
+    /// the slice is empty. After a fault none were taken. What the rest of the slice then holds is left open.
+    fn read(&mut self, into: &mut [u8]) -> Result<usize, TextFault>
+        ensures held { held self.new ≡ held self.old }
+        ensures bound { IfOk result (λ n. n ≤ length into.old) }
+        ensures bytes { ReadConsumes (left self.old) (left self.new) result into.new }
+        ensures cause { HasCause (faults self.old) (faults self.new) result };
+}

@@ -1,0 +1,3 @@
+pub mod ProcessorLemmas
+pub mod ReadingLemmas
+pub mod TokenLemmas

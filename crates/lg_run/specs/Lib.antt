@@ -1,0 +1,10 @@
+pub mod Emission
+pub mod Forms
+pub mod Machines
+pub mod Nodes
+pub mod Numbers
+pub mod Portable
+pub mod Processor
+pub mod Ranges
+pub mod Reading
+pub mod Tokens

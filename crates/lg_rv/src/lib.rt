@@ -1,0 +1,17 @@
+//! The instructions of RV64I and M (RISC-V unprivileged ISA) that the assembler emits, as values, and
+//! their words of 32 bits. Each instruction has one spelling: `encode` gives it, and `decode` reads it
+//! back, whatever follows.
+#![tactic(auto)]
+
+mod decoder;
+mod encoder;
+mod fields;
+mod instruction;
+mod rows;
+
+pub use decoder::decode;
+pub use encoder::encode;
+pub use instruction::{BranchOp, ImmOp, Instr, RegOp, ShiftOp, StoreOp, UpperOp};
+
+#[cfg(test)]
+mod tests;
