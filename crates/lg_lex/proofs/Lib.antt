@@ -1,0 +1,11 @@
+pub mod BlankLemmas
+pub mod ByteLemmas
+pub mod CompleteLemmas
+pub mod DigitLemmas
+pub mod ExpressionTokenLemmas
+pub mod FrontLemmas
+pub mod LengthLemmas
+pub mod ReaderLemmas
+pub mod SoundLemmas
+pub mod StringLemmas
+pub mod TokenLemmas

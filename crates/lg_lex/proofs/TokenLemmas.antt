@@ -1,0 +1,131 @@
+-- The tokens of a text, one piece at a time.
+use Rattle.std.proofs.Common.{◌≡◌, ℕ, zero, suc, ◌+◌, ◌<◌, ◌≤◌, ◌==◌, Bool, true, List, [], ◌∷◌, ◌++◌, length, take, drop, refl, sym, ap, subst, ◌∙◌, arith, Option, Some, None, Ok, fold, count_by, Err}
+use Rattle.std.proofs.Math.Seq.{take-add}
+use Rattle.std.proofs.lemmas.List.{drop_all, length-drop, length-take-le}
+use Rattle.std.proofs.lemmas.List.Sums.{sum_by-append, fold-append}
+use Rattle.lg_base.specs.declared.refusal.Refusal.{Refusal}
+use Rattle.lg_base.specs.declared.refusal.RefusalKind.{RefusalKind}
+use Rattle.lg_lex.specs.declared.token.Token.{Token}
+use Rattle.lg_lex.specs.declared.token.TokenKind.{TokenKind}
+use Rattle.lg_lex.specs.declared.fronts.Front.{Front}
+use Rattle.lg_lex.specs.declared.fronts.Front.TheVariants.{Nothing, Skips, Finds, Fails}
+use Rattle.lg_lex.specs.Fronts.{LiesWithin, front_at}
+use Rattle.lg_lex.specs.Tokens.{line_of, with_byte, is_fresh, Tokens, token_then, behind_piece, with_front, tokens_from, tokens_at, tokens_of, AreInOrder, Gives, IsPlace}
+use Rattle.lg_lex.proofs.FrontLemmas.{front_within}
+
+-- readers that agree behind the piece agree
+same_front : (text : List ℕ) (place : ℕ) (f g : ℕ → Tokens) (front : Front) → ((n : ℕ) → f (behind_piece place n) ≡ g (behind_piece place n)) → with_front text place f front ≡ with_front text place g front
+unfolding with_front
+same_front text place f g Nothing h = refl
+same_front text place f g (Skips n) h = h n
+same_front text place f g (Finds kind n value) h = ap (λ (tokens : Tokens). token_then (record { kind = kind; line = line_of text place; start = place; end = behind_piece place n; value = value }) tokens) (h n)
+same_front text place f g (Fails kind) h = refl
+
+past_end : (k : ℕ) (text : List ℕ) (place : ℕ) → length text ≤ place → tokens_from k text place ≡ ([], None)
+unfolding tokens_from with_front front_at
+past_end zero text place h = refl
+past_end (suc k) text place h = rw (drop_all place text h) refl
+
+-- as many pieces as there are bytes are enough
+enough : (j k : ℕ) (text : List ℕ) (place : ℕ) → length text ≤ place + j → length text ≤ place + k → tokens_from j text place ≡ tokens_from k text place
+unfolding tokens_from
+enough zero k text place p q = sym (past_end k text place (omega arith))
+enough (suc j) zero text place p q = past_end (suc j) text place (omega arith)
+enough (suc j) (suc k) text place p q =
+    same_front text place (tokens_from j text) (tokens_from k text) (front_at (is_fresh text place) (drop place text))
+    (λ n. enough j k text (behind_piece place n) (omega arith) (omega arith))
+
+-- the tokens from a place on are those of the piece there and behind it
+pub tokens_step : (text : List ℕ) (place : ℕ) → tokens_at text place ≡ with_front text place (tokens_at text) (front_at (is_fresh text place) (drop place text))
+unfolding tokens_at tokens_from
+tokens_step text place =
+    same_front text place (tokens_from (length text) text) (tokens_at text) (front_at (is_fresh text place) (drop place text))
+    (λ n. enough (length text) (suc (length text)) text (behind_piece place n) (omega arith) (omega arith))
+
+-- a piece is as long as it says
+pub piece_end : (place end n : ℕ) (bytes piece : List ℕ) → piece ≡ take n bytes → n ≤ length bytes → end ≡ place + length piece → end ≡ place + n
+piece_end place end n bytes piece e inside ends = ends ∙ ap (λ k. place + k) (ap length e ∙ length-take-le n bytes inside)
+
+-- the place behind a piece
+pub place_behind : (text : List ℕ) (place line n end line' : ℕ) (fresh fresh' : Bool) (bytes piece : List ℕ) → IsPlace text place line fresh → bytes ≡ drop place text → piece ≡ take n bytes → n ≤ length bytes → end ≡ place + length piece → line' ≡ line + count_by (λ b. b == 10) piece → fresh' ≡ fold with_byte fresh piece → IsPlace text end line' fresh'
+place_behind text place line n end line' fresh fresh' bytes piece at rest cut inside ends lines freshes =
+    let len = ap length rest ∙ length-drop place text in
+    let end' = piece_end place end n bytes piece cut inside ends in
+    let whole : take end text ≡ take place text ++ piece = ap (λ k. take k text) end' ∙ take-add place n text ∙ ap (λ (xs : List ℕ). take place text ++ xs) (ap (take n) (sym rest) ∙ sym cut) in
+    let count = ap (count_by (λ b. b == 10)) whole ∙ sum_by-append _ (take place text) piece in
+    let folded = ap (fold with_byte true) whole ∙ fold-append with_byte _ (take place text) piece in
+    (omega arith, at.1, omega arith, freshes ∙ ap (λ f. fold with_byte f piece) at.3 ∙ sym folded)
+
+module _ (text : List ℕ) (place line : ℕ) (fresh : Bool) (at : IsPlace text place line fresh) (whole : Tokens) (same : tokens_at text place ≡ whole) where
+  here : (front : Front) → front_at fresh (drop place text) ≡ front → whole ≡ with_front text place (tokens_at text) front
+  here front is = sym same ∙ tokens_step text place ∙ ap (with_front text place (tokens_at text)) (ap (λ f. front_at f (drop place text)) (sym at.3) ∙ is)
+
+  -- at the end of the text nothing is left
+  pub gives_end : front_at fresh (drop place text) ≡ Nothing → Gives whole (Ok None) (tokens_at text place)
+  unfolding with_front
+  gives_end is = let e = here Nothing is in subst (λ (tokens : Tokens). Gives tokens (Ok None) (tokens_at text place)) (sym e) (refl, same ∙ e)
+
+  -- at a fault the same fault is left
+  pub gives_fault : (kind : RefusalKind) → front_at fresh (drop place text) ≡ Fails kind → Gives whole (Err (record { kind = kind; line = line })) (tokens_at text place)
+  unfolding with_front
+  gives_fault kind is =
+      let lines = ap (λ l. Some (let r : Refusal = record { kind = kind; line = l } in r)) (sym at.2) in
+      let e : whole ≡ ([], Some (record { kind = kind; line = line })) = here (Fails kind) is ∙ ap (λ (fault : Option Refusal). (let t : Tokens = ([], fault) in t)) lines in
+      subst (λ (tokens : Tokens). Gives tokens (Err (record { kind = kind; line = line })) (tokens_at text place)) (sym e) (refl, same ∙ e)
+
+  -- what is skipped leaves the tokens as they are
+  pub skipped : (n end : ℕ) → 0 < n → end ≡ place + n → front_at fresh (drop place text) ≡ Skips n → tokens_at text end ≡ whole
+  unfolding with_front
+  skipped n end some e is =
+      let piece : end ≡ behind_piece place n = omega arith in
+      ap (tokens_at text) piece ∙ sym (here (Skips n) is)
+
+  -- a token is the first of what is left
+  pub gives_token : (kind : TokenKind) (n value end : ℕ) → 0 < n → end ≡ place + n → front_at fresh (drop place text) ≡ Finds kind n value → Gives whole (Ok (Some (record { kind = kind; line = line; start = place; end = end; value = value }))) (tokens_at text end)
+  unfolding with_front
+  gives_token kind n value end some e is =
+      let piece : behind_piece place n ≡ end = omega arith in
+      let token = λ (l : ℕ) (k : ℕ). (let t : Token = record { kind = kind; line = l; start = place; end = k; value = value } in t) in
+      let first = ap (λ k. token (line_of text place) k) piece ∙ ap (λ l. token l end) (sym at.2) in
+      let e' : whole ≡ token_then (token line end) (tokens_at text end) =
+      here (Finds kind n value) is ∙ ap (λ k. token_then (token (line_of text place) (behind_piece place n)) (tokens_at text k)) piece ∙ ap (λ (t : Token). token_then t (tokens_at text end)) first in
+      subst (λ (tokens : Tokens). Gives tokens (Ok (Some (token line end))) (tokens_at text end)) (sym e') (refl, refl)
+
+-- ---- the order of tokens
+
+in_order_from : (text : List ℕ) (low high : ℕ) (tokens : List Token) → low ≤ high → AreInOrder text high tokens → AreInOrder text low tokens
+in_order_from text low high [] h order = tt
+in_order_from text low high (token ∷ more) h order = (omega (arith, order.0), order.1, order.2, order.3)
+
+front_in_order : (text : List ℕ) (place : ℕ) (behind : ℕ → Tokens) → ((n : ℕ) → AreInOrder text (behind_piece place n) (behind (behind_piece place n)).0) → (front : Front) → LiesWithin front (length (drop place text)) → AreInOrder text place (with_front text place behind front).0
+unfolding with_front
+front_in_order text place behind rest Nothing inside = tt
+front_in_order text place behind rest (Skips n) inside = in_order_from text place (behind_piece place n) _ (omega arith) (rest n)
+front_in_order text place behind rest (Finds kind n value) inside =
+    let left = length-drop place text in
+    let some = inside.0 in
+    let most = inside.1 in
+    (omega arith, omega arith, omega arith, rest n)
+front_in_order text place behind rest (Fails kind) inside = tt
+
+in_order : (k : ℕ) (text : List ℕ) (place : ℕ) → AreInOrder text place (tokens_from k text place).0
+unfolding tokens_from
+in_order zero text place = tt
+in_order (suc k) text place =
+    front_in_order text place (tokens_from k text) (λ n. in_order k text (behind_piece place n)) (front_at (is_fresh text place) (drop place text)) (front_within (is_fresh text place) (drop place text))
+
+-- the tokens of a text stand in their order
+pub tokens_of-order : (text : List ℕ) → AreInOrder text 0 (tokens_of text).0
+unfolding tokens_at
+tokens_of-order text = in_order (suc (length text)) text 0
+
+-- tokens in their order are no more than the bytes behind their place
+count_in_order : (text : List ℕ) (place : ℕ) (tokens : List Token) → place ≤ length text → AreInOrder text place tokens → place + length tokens ≤ length text
+count_in_order text place [] h order = omega arith
+count_in_order text place (token ∷ more) h order =
+    let rest = count_in_order text token.end more order.2 order.3 in
+    omega (arith, order.0, order.1)
+
+-- a text has no more tokens than bytes
+pub length-tokens_of : (text : List ℕ) → length (tokens_of text).0 ≤ length text
+length-tokens_of text = let count = count_in_order text 0 (tokens_of text).0 (omega arith) (tokens_of-order text) in omega arith

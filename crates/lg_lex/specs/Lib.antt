@@ -1,0 +1,10 @@
+pub mod Blanks
+pub mod Bytes
+pub mod Escapes
+pub mod ExpressionTokens
+pub mod Expressions
+pub mod Fronts
+pub mod Numbers
+pub mod Operators
+pub mod Tokens
+pub mod Trees

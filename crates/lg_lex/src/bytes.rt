@@ -1,0 +1,108 @@
+// Bytes of a text by place and by class, and runs of them at the front.
+
+ghost use Rattle.std.specs.Prelude.{◌≡◌, ◌≤◌, ◌==◌, length, take, drop, slice_index};
+ghost use Rattle.std.specs.Char.{is_digit};
+ghost use Rattle.std.specs.List.{prefix_len};
+ghost use Rattle.lg_lex.specs.Bytes.{is_space, is_word_start, is_word_byte, is_suffix_letter, is_in_line};
+
+/// The byte at a place, and 0 past the end.
+pub(crate) fn byte_at(bytes: &[u8], at: usize) -> u8
+    ensures { result ≡ slice_index bytes.now at }
+{
+    bytes.get(at).copied().unwrap_or(0)
+}
+
+/// The bytes from the n-th on, none where there are fewer.
+pub(crate) fn behind(bytes: &[u8], n: usize) -> &[u8]
+    ensures { result.now ≡ drop n bytes.now }
+{
+    bytes.split_at(n.min(bytes.len())).1
+}
+
+/// The first n bytes, all where there are fewer.
+pub(crate) fn ahead(bytes: &[u8], n: usize) -> &[u8]
+    ensures { result.now ≡ take n bytes.now }
+{
+    bytes.split_at(n.min(bytes.len())).0
+}
+
+/// Whether a byte is white space.
+pub(crate) fn is_space(b: u8) -> bool
+    ensures { result ≡ is_space b }
+{
+    b == b' ' || (b'\t' <= b && b <= b'\r')
+}
+
+/// Whether a word may begin with a byte.
+pub(crate) fn is_word_start(b: u8) -> bool
+    ensures { result ≡ is_word_start b }
+{
+    b.is_ascii_alphabetic() || b == b'_'
+}
+
+/// Whether a word may go on with a byte.
+pub(crate) fn is_word_byte(b: u8) -> bool
+    ensures { result ≡ is_word_byte b }
+{
+    b.is_ascii_alphanumeric() || b == b'_'
+}
+
+/// Whether a byte may stand behind the digits of a number.
+pub(crate) fn is_suffix_letter(b: u8) -> bool
+    ensures { result ≡ is_suffix_letter b }
+{
+    b == b'u' || b == b'U' || b == b'l' || b == b'L'
+}
+
+/// How many bytes of white space stand at the front.
+pub(crate) fn space_len(bytes: &[u8]) -> usize
+    ensures value { result ≡ prefix_len is_space bytes.now }
+    ensures inside { result ≤ length bytes.now }
+{
+    bytes.iter().take_while(|b| is_space(**b)).count()
+}
+
+/// How many spaces stand at the front.
+pub(crate) fn gap_len(bytes: &[u8]) -> usize
+    ensures value { result ≡ prefix_len (λ b. b == 32) bytes.now }
+    ensures inside { result ≤ length bytes.now }
+{
+    bytes.iter().take_while(|b| **b == b' ').count()
+}
+
+/// How many bytes of words stand at the front.
+pub(crate) fn word_byte_len(bytes: &[u8]) -> usize
+    ensures value { result ≡ prefix_len is_word_byte bytes.now }
+    ensures inside { result ≤ length bytes.now }
+{
+    bytes.iter().take_while(|b| is_word_byte(**b)).count()
+}
+
+/// How many bytes stand at the front before the first line feed.
+pub(crate) fn line_len(bytes: &[u8]) -> usize
+    ensures value { result ≡ prefix_len is_in_line bytes.now }
+    ensures inside { result ≤ length bytes.now }
+{
+    bytes.iter().take_while(|b| **b != b'\n').count()
+}
+
+/// How many letters of `u U l L` stand at the front.
+pub(crate) fn suffix_letter_len(bytes: &[u8]) -> usize
+    ensures value { result ≡ prefix_len is_suffix_letter bytes.now }
+    ensures inside { result ≤ length bytes.now }
+{
+    bytes.iter().take_while(|b| is_suffix_letter(**b)).count()
+}
+
+/// How many digits of a radix stand at the front.
+pub(crate) fn digit_len(bytes: &[u8], radix: u32) -> usize
+    requires low { 2 ≤ radix }
+    requires high { radix ≤ 16 }
+    ensures value { result ≡ prefix_len (λ b. is_digit b radix) bytes.now }
+    ensures inside { result ≤ length bytes.now }
+{
+    bytes
+        .iter()
+        .take_while(|b| char::from(**b).is_digit(radix))
+        .count()
+}

@@ -1,0 +1,20 @@
+//! The tokens of a `.tst` text: words, marks, numbers, characters, constant expressions and strings.
+#![tactic(auto)]
+
+mod blanks;
+mod bytes;
+mod escapes;
+mod expressions;
+mod fronts;
+mod lexer;
+mod numbers;
+mod operators;
+mod place;
+mod token;
+
+pub use escapes::string_bytes;
+pub use lexer::Lexer;
+pub use token::{Token, TokenKind};
+
+#[cfg(test)]
+mod tests;

@@ -1,0 +1,138 @@
+// Numbers with a prefix, a suffix and a sign.
+
+ghost use Rattle.std.specs.Prelude.{◌≡◌, ◌+◌, ◌<◌, ◌≤◌, ◌^◌, length, IfSome};
+ghost use Rattle.std.specs.Char.{digit_value};
+ghost use Rattle.lg_lex.specs.Numbers.{with_digit, digits_value, narrowed, digits_at, magnitude_at, suffix_at, unsigned_at, negated, number_at};
+
+use crate::bytes::{ahead, behind, byte_at, digit_len, suffix_letter_len};
+
+/// A number, character or expression at the front of a text: how many bytes it takes, and its value as a word.
+#[derive(Clone, Copy, Debug, PartialEq, Eq)]
+pub(crate) struct Literal {
+    pub(crate) len: usize,
+    pub(crate) value: u64,
+}
+
+// The value with one more digit behind it.
+#[tactic(auto, unfolding(crate::specs::Numbers::narrowed))]
+fn with_digit(radix: u32, value: u64, b: u8) -> Option<u64>
+    ensures { result ≡ narrowed (with_digit radix value b) }
+{
+    let digit = char::from(b).to_digit(36).unwrap_or(36);
+    value
+        .checked_mul(u64::from(radix))?
+        .checked_add(u64::from(digit))
+}
+
+/// The value of digits of a radix, and None where it is too wide for a word.
+pub(crate) fn digits_value(digits: &[u8], radix: u32) -> Option<u64>
+    requires { 0 < radix }
+    ensures { result ≡ narrowed (digits_value radix digits.now) }
+{
+    let mut value = 0;
+    for b in digits {
+        match with_digit(radix, value, *b) {
+            Some(next) => value = next,
+            None => return None,
+        }
+    }
+    Some(value)
+}
+
+// One or more digits of a radix.
+#[tactic(auto, unfolding(crate::specs::Numbers::digits_at))]
+fn digits(bytes: &[u8], radix: u32) -> Option<Literal>
+    requires low { 2 ≤ radix }
+    requires high { radix ≤ 16 }
+    ensures value { result ≡ digits_at radix bytes.now }
+    ensures inside { IfSome result (λ found. (0 < found.len) × (found.len ≤ length bytes.now)) }
+{
+    let len = digit_len(bytes, radix);
+    if len == 0 {
+        return None;
+    }
+    let value = digits_value(ahead(bytes, len), radix)?;
+    Some(Literal { len, value })
+}
+
+// Digits with their prefix: hexadecimal behind `0x`, octal behind `0`, else decimal.
+#[tactic(auto, unfolding(crate::specs::Numbers::magnitude_at))]
+fn magnitude(bytes: &[u8]) -> Option<Literal>
+    ensures value { result ≡ magnitude_at bytes.now }
+    ensures inside { IfSome result (λ found. (0 < found.len) × (found.len ≤ length bytes.now)) }
+{
+    if byte_at(bytes, 0) != b'0' {
+        return digits(bytes, 10);
+    }
+    if byte_at(bytes, 1) != b'x' {
+        return digits(bytes, 8);
+    }
+    let found = digits(behind(bytes, 2), 16)?;
+    Some(Literal {
+        len: 2 + found.len,
+        value: found.value,
+    })
+}
+
+// How many suffix letters stand behind the digits of a number that ends there.
+#[tactic(auto, unfolding(crate::specs::Numbers::suffix_at))]
+fn suffix(bytes: &[u8]) -> Option<usize>
+    ensures value { result ≡ suffix_at bytes.now }
+    ensures inside { IfSome result (λ n. n ≤ length bytes.now) }
+{
+    let n = suffix_letter_len(bytes);
+    if n > 3 || byte_at(bytes, n).is_ascii_alphanumeric() {
+        None
+    } else {
+        Some(n)
+    }
+}
+
+/// A number without a sign at the front, and None where none stands there or it is malformed or too wide.
+#[tactic(auto, unfolding(crate::specs::Numbers::unsigned_at))]
+pub(crate) fn unsigned(bytes: &[u8]) -> Option<Literal>
+    ensures value { result ≡ unsigned_at bytes.now }
+    ensures inside { IfSome result (λ found. (0 < found.len) × (found.len ≤ length bytes.now)) }
+{
+    let digits = magnitude(bytes)?;
+    let n = suffix(behind(bytes, digits.len))?;
+    Some(Literal {
+        len: digits.len + n,
+        value: digits.value,
+    })
+}
+
+// The number behind a `-`.
+#[tactic(auto, unfolding(crate::specs::Numbers::negated))]
+fn negated(found: Literal) -> Option<Literal>
+    requires { found.len < 2 ^ 63 }
+    ensures value { result ≡ negated found }
+    ensures len { IfSome result (λ number. number.len ≡ 1 + found.len) }
+{
+    if found.value > 1 << 63 {
+        return None;
+    }
+    Some(Literal {
+        len: 1 + found.len,
+        value: 0u64.wrapping_sub(found.value),
+    })
+}
+
+/// A number with an optional sign at the front, and None where none stands there or it is malformed or too wide.
+#[tactic(auto, unfolding(crate::specs::Numbers::number_at))]
+pub(crate) fn number(bytes: &[u8]) -> Option<Literal>
+    ensures value { result ≡ number_at bytes.now }
+    ensures inside { IfSome result (λ found. (0 < found.len) × (found.len ≤ length bytes.now)) }
+{
+    match byte_at(bytes, 0) {
+        b'-' => negated(unsigned(behind(bytes, 1))?),
+        b'+' => {
+            let found = unsigned(behind(bytes, 1))?;
+            Some(Literal {
+                len: 1 + found.len,
+                value: found.value,
+            })
+        }
+        _ => unsigned(bytes),
+    }
+}
