@@ -53,7 +53,7 @@ stack_some args a low high =
     (let here : (nat_le stack_base a && nat_lt a (stack_base + 0x100000)) ≡ true = grind (arith, low, high) in
      ap (λ b. is_some {T = ℕ} (if b then Some 0 else None)) here))
 
-room_at_start : (args : List ℕ) → mapped (machine.start_bytes args) 0x3FFFFFF8 8 ≡ true
+pub room_at_start : (args : List ℕ) → mapped (machine.start_bytes args) 0x3FFFFFF8 8 ≡ true
 room_at_start args = mapped-all (machine.start_bytes args) 0x3FFFFFF8 8 (λ j low high. stack_some args j low (omega (arith, high)))
 
 pub starts : (nodes : List Node) (words : List (List ℕ)) (trash : ℕ) → Stands nodes meaning.start (machine.start words trash) (length nodes)

@@ -26,8 +26,11 @@ here done registers pushed = record { node = length done; registers = registers;
 abbrev at : List Node → (ℕ → Option ℕ) → List ℕ → List ℕ → meaning.Portable
 at done registers pushed o = record { place = here done registers pushed; status = Running; out = o }
 
-abbrev place_of : List Node → ℕ
+abbrev pub place_of : List Node → ℕ
 place_of done = code_base + 4 * length (code_of done)
+
+pub place_next : (done : List Node) (node : Node) → place_of done + 4 * length (node_code node) ≡ place_of (done ++ node ∷ [])
+place_next done node = omega (arith, ap length (code_of-append done (node ∷ [])), length-append (code_of done) (node_code node ++ []), ap length (append-nil (node_code node)))
 
 step_at : (nodes done rest : List Node) (node : Node) (registers : ℕ → Option ℕ) (pushed o : List ℕ) → nodes ≡ done ++ node ∷ rest
     → meaning.step nodes (at done registers pushed o) ≡ meaning.after (at done registers pushed o) (meaning.effect node (here done registers pushed))
@@ -49,7 +52,6 @@ goes_lands : (nodes done rest : List Node) (node : Node) (bytes : List ℕ) (tra
     → Lands (meaning.portable nodes) (machine.processor bytes trash) (Stands nodes) (at done registers pushed o) (machine.going (place_of done) R B o) (suc (length rest))
 goes_lands nodes done rest node bytes trash registers registers' pushed pushed' written o R B n =
     let place : length done + 1 ≡ length (done ++ node ∷ []) = omega (arith, length-append done (node ∷ [])) in
-    let pc : place_of done + 4 * length (node_code node) ≡ place_of (done ++ node ∷ []) = omega (arith, ap length (code_of-append done (node ∷ [])), length-append (code_of done) (node_code node ++ []), ap length (append-nil (node_code node))) in
     record {
       steps = n.code.steps;
       few = omega (arith, n.code.few);
@@ -64,7 +66,7 @@ goes_lands nodes done rest node bytes trash registers registers' pushed pushed' 
         o = o ++ written;
         split = n.split ∙ sym (append_assoc done (node ∷ []) rest);
         portable = n.step ∙ (λ j. record { place = record { node = place j; registers = registers'; pushed = pushed' }; status = Running; out = o ++ written });
-        processor = n.code.runs.there ∙ (λ j. machine.going (pc j) (moved node trash (place_of done) R) B (o ++ n.same j));
+        processor = n.code.runs.there ∙ (λ j. machine.going (place_next done node j) (moved node trash (place_of done) R) B (o ++ n.same j));
         ranked = refl;
         holds = n.holds;
         frame = n.code.frame;

@@ -1,7 +1,10 @@
 pub mod AgreeLemmas
 pub mod AssembleLemmas
 pub mod CarryLemmas
+pub mod CauseLemmas
 pub mod CodeLemmas
+pub mod CompleteLemmas
+pub mod EndLemmas
 pub mod MachineLemmas
 pub mod NodeLemmas
 pub mod ProcessorLemmas

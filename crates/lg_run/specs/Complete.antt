@@ -3,6 +3,7 @@ use Rattle.std.specs.Prelude.{◌≡◌, ◌≢◌, ◌≤◌, ◌<◌, ◌*◌,
 use Rattle.lg_base.specs.Runs.{Ended, Bad, iter}
 use Rattle.lg_io.specs.Counts.{Rose}
 use Rattle.lg_io.specs.NamedTexts.{NamedTexts}
+use Rattle.lg_run.specs.Command.{command_of}
 use Rattle.lg_run.specs.Reading.{unit_of}
 use Rattle.lg_run.specs.Nodes.{nodes_of}
 use Rattle.lg_run.specs.Portable.{Portable, step, start}
@@ -34,6 +35,6 @@ pub record IsComplete (items : List Item) (code : Option Code) (outer : Answer) 
 -- for every text of the first form, where no count rose
 abbrev pub Completeness : Type 0
 Completeness =
-    (file : List ℕ) (held : Option NamedTexts) (code : Option Code) (steps : ℕ) (c : Change) (e : ErrChange) (outer : Answer) (text : List ℕ) (items : List Item)
-    → Says (Some file) held code steps c e outer → NoneRose c e → text_of held file ≡ Some text → length text ≤ most_text → unit_of text ≡ Some items
+    (words : List (List ℕ)) (file : List ℕ) (held : Option NamedTexts) (code : Option Code) (steps : ℕ) (c : Change) (e : ErrChange) (outer : Answer) (text : List ℕ) (items : List Item)
+    → Says (command_of words) held code steps c e outer → NoneRose c e → command_of words ≡ Some file → text_of held file ≡ Some text → length text ≤ most_text → unit_of text ≡ Some items
     → IsComplete items code outer

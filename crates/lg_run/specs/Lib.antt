@@ -1,4 +1,5 @@
 pub mod Agreement
+pub mod Causes
 pub mod Command
 pub mod Complete
 pub mod Emission

@@ -10,7 +10,7 @@ use Rattle.lg_io.specs.Wrote.{AppendsPrefix}
 use Rattle.lg_io.specs.NamedTexts.{NamedTexts, text_under}
 use Rattle.lg_run.specs.Reading.{unit_of}
 use Rattle.lg_run.specs.Processor.{Core, Processor, Stands, Goes, EndedWith, Faulted, step, effect, start}
-use Rattle.lg_run.specs.Agreement.{Agrees}
+use Rattle.lg_run.specs.Agreement.{Agrees, EndsWithin, most_run}
 use Rattle.lg_run.specs.Lines.{line_of}
 use Rattle.lg_run.specs.declared.form.Item.{Item}
 use Rattle.lg_run.specs.declared.answer.Code.{Code}
@@ -66,6 +66,12 @@ RunSays code trash core limit steps taken taken' count count' WriteFault =
     × ((n : ℕ) × (n ≤ length (effect code trash (run code trash core steps).core).written) × Appends taken taken' ((run code trash core steps).out ++ take n (effect code trash (run code trash core steps).core).written))
 RunSays code trash core limit steps taken taken' count count' other = ⊥
 
+-- neither a run without an end nor a fault
+abbrev pub NotStuck : Answer → Type 0
+NotStuck StepsOut = ⊥
+NotStuck (Fault kind pc) = ⊥
+NotStuck other = Unit {0}
+
 -- ---- the call
 
 -- the text of a name, where the texts are told
@@ -115,13 +121,15 @@ AnswerSays file text code steps c Usage = ⊥
 AnswerSays file text code steps c Listed = ⊥
 AnswerSays file text code steps c (Undefined line) = ⊥
 
--- the code is that of a text of the first form: it is made for RV64, fits the size, and agrees with the text's meaning
+-- the code is that of a text of the first form: it is made for RV64, fits the size, agrees with the text's meaning, and
+-- each run of it ends
 pub record IsCodeOf (text : Option (List ℕ)) (code : Code) : Type 0 where
   pub items : List Item
   pub reads : IfSome text (λ t. (length t ≤ most_text) × (unit_of t ≡ Some items))
   pub target : code.target ≡ Riscv64
   pub size : length code.bytes.items ≤ most_code
   pub agrees : Agrees code.bytes.items items
+  pub ends : EndsWithin most_run code.bytes.items
 
 abbrev pub CodeSays : Option (List ℕ) → Option Code → Type 0
 CodeSays text code = IfSome code (IsCodeOf text)

@@ -5,6 +5,7 @@
 pub mod answer;
 mod emit;
 mod form;
+pub mod laws;
 mod lines;
 mod numbers;
 mod parse;

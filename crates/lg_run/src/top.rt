@@ -1,16 +1,18 @@
 // The top call.
 
-ghost use Rattle.std.specs.Prelude.{◌≡◌, ◌≤◌, ◌<◌, ◌⊎◌, ◌∷◌, [], ℕ, List, Option, true, length, IfOk, IfSome, Some, None};
+ghost use Rattle.std.specs.Prelude.{◌≡◌, ◌≢◌, ◌≤◌, ◌<◌, ◌⊎◌, ◌∷◌, [], ℕ, List, Option, true, length, IfOk, IfSome, Some, None};
 ghost use Rattle.lg_base.specs.Arguments.{texts_of, args_of, most_args};
+ghost use Rattle.lg_base.specs.declared.fault.FaultKind.{FaultKind};
 ghost use Rattle.lg_base.specs.declared.target.Target.{Target};
 ghost use Rattle.lg_io.specs.Counts.{Rose};
-ghost use Rattle.lg_run.specs.Agreement.{Agrees};
+ghost use Rattle.lg_run.specs.Agreement.{Agrees, EndsWithin, most_run};
+ghost use Rattle.lg_run.specs.Causes.{CutShort, IsRefused};
 ghost use Rattle.lg_run.specs.Command.{command_of, is_file};
 ghost use Rattle.lg_run.specs.Machines.{core_of};
 ghost use Rattle.lg_run.specs.Ranges.{AreItems};
 ghost use Rattle.lg_run.specs.Processor.{start};
 ghost use Rattle.lg_run.specs.Reading.{unit_of, node_count, most_nodes};
-ghost use Rattle.lg_run.specs.Says.{AnswerSays, CodeSays, IsCodeOf, IsUntouched, ReportSays, RunSays, Says, most_code, most_text, text_of, trash_word};
+ghost use Rattle.lg_run.specs.Says.{AnswerSays, CodeSays, IsCodeOf, IsUntouched, NotStuck, ReportSays, RunSays, Says, most_code, most_text, not_yet, text_of, text_too_long, trash_word};
 
 use crate::answer::{Answer, Code, Done};
 use crate::emit::code;
@@ -57,6 +59,7 @@ fn assemble(alloc: Global, items: &[Item]) -> Result<Code, OutOfMemory>
     ensures target { IfOk result (λ c. c.target ≡ Target.Riscv64) }
     ensures size { IfOk result (λ c. length c.bytes.items ≤ most_code) }
     ensures agrees { IfOk result (λ c. Agrees c.bytes.items items.now) }
+    ensures ends { IfOk result (λ c. EndsWithin most_run c.bytes.items) }
 {
     let bytes = code(alloc, items)?;
     Ok(Code::of_bytes(CodeBytes::from_vec(bytes)))
@@ -94,6 +97,7 @@ fn run_items<O: Sink>(alloc: Global, file: &str, items: &[Item], out: &mut O) ->
     requires few { node_count items.now ≤ most_nodes }
     ensures says { (text : Option (List ℕ)) (reads reads' : ℕ) → AnswerSays file.now text result.code result.steps record { taken = O.taken out.old; taken' = O.taken out.new; reads = reads; reads' = reads'; writes = O.faults out.old; writes' = O.faults out.new } result.answer }
     ensures code { (text : Option (List ℕ)) → IfSome text (λ t. (length t ≤ most_text) × (unit_of t ≡ Some items.now)) → CodeSays text result.code }
+    ensures not_stuck { NotStuck result.answer }
 {
     let mut cpu = match start_cpu(alloc, file) {
         Ok(cpu) => cpu,
@@ -117,6 +121,7 @@ fn work<T: Texts, O: Sink>(alloc: Global, file: &str, texts: &mut T, out: &mut O
     requires { is_file file.now ≡ true }
     ensures says { AnswerSays file.now (text_of (T.held texts.old) file.now) result.code result.steps record { taken = O.taken out.old; taken' = O.taken out.new; reads = T.faults texts.old; reads' = T.faults texts.new; writes = O.faults out.old; writes' = O.faults out.new } result.answer }
     ensures code { CodeSays (text_of (T.held texts.old) file.now) result.code }
+    ensures not_stuck { NotStuck result.answer }
 {
     let text = match read_text(alloc, file, texts) {
         Ok(text) => text,
@@ -131,8 +136,8 @@ fn work<T: Texts, O: Sink>(alloc: Global, file: &str, texts: &mut T, out: &mut O
     }
 }
 
-// Writes the line of an answer. Where that fails, the answer is a write fault.
-fn report<E: Sink>(file: &str, answer: Answer, steps: u64, err: &mut E) -> Answer
+/// Writes the line of an answer to `err`: none where the run ended. Where that fails, the answer is a write fault.
+pub fn report<E: Sink>(file: &str, answer: Answer, steps: u64, err: &mut E) -> Answer
     ensures { ReportSays file.now steps record { taken = E.taken err.old; taken' = E.taken err.new; faults = E.faults err.old; faults' = E.faults err.new } answer result }
 {
     match write_line(file, answer, steps, err) {
@@ -141,10 +146,8 @@ fn report<E: Sink>(file: &str, answer: Answer, steps: u64, err: &mut E) -> Answe
     }
 }
 
-/// Reads the words of the command, `lightning --target riscv64 FILE`, and the text of that name; makes RV64 code of
-/// it, and runs the code on a model of the processor. What the run writes goes to `out`, and the line of every answer
-/// but a run's end to `err`. All memory is taken before the first step.
-pub fn lightning<T: Texts, O: Sink, E: Sink>(
+// The top call, with what its answer says.
+fn answer<T: Texts, O: Sink, E: Sink>(
     alloc: Global,
     words: &Vec<String>,
     texts: &mut T,
@@ -152,13 +155,7 @@ pub fn lightning<T: Texts, O: Sink, E: Sink>(
     err: &mut E,
 ) -> Done
     ensures says { Says (command_of (texts_of words.now.items)) (T.held texts.old) result.code result.steps record { taken = O.taken out.old; taken' = O.taken out.new; reads = T.faults texts.old; reads' = T.faults texts.new; writes = O.faults out.old; writes' = O.faults out.new } record { taken = E.taken err.old; taken' = E.taken err.new; faults = E.faults err.old; faults' = E.faults err.new } result.answer }
-    // Usage comes only where the words are not of the form
-    ensures usage { result.answer ≡ Answer.Usage → command_of (texts_of words.now.items) ≡ None }
-    // and a fault of the outside only where a count rose
-    ensures read_fault { result.answer ≡ Answer.ReadFault → Rose (T.faults texts.old) (T.faults texts.new) }
-    ensures write_fault { result.answer ≡ Answer.WriteFault → Rose (O.faults out.old) (O.faults out.new) ⊎ Rose (E.faults err.old) (E.faults err.new) }
-    // want of memory leaves out as it was, and nothing has run
-    ensures memory { result.answer ≡ Answer.OutOfMemory → (O.taken out.new ≡ O.taken out.old) × (result.steps ≡ 0) }
+    ensures not_stuck { NotStuck result.answer }
 {
     match read_words(words) {
         None => {
@@ -175,4 +172,35 @@ pub fn lightning<T: Texts, O: Sink, E: Sink>(
             }
         }
     }
+}
+
+/// Reads the words of the command, `lightning --target riscv64 FILE`, and the text of that name; makes RV64 code of
+/// it, and runs the code on a model of the processor. What the run writes goes to `out`, and the line of every answer
+/// but a run's end to `err`. All memory is taken before the first step.
+pub fn lightning<T: Texts, O: Sink, E: Sink>(
+    alloc: Global,
+    words: &Vec<String>,
+    texts: &mut T,
+    out: &mut O,
+    err: &mut E,
+) -> Done
+    ensures says { Says (command_of (texts_of words.now.items)) (T.held texts.old) result.code result.steps record { taken = O.taken out.old; taken' = O.taken out.new; reads = T.faults texts.old; reads' = T.faults texts.new; writes = O.faults out.old; writes' = O.faults out.new } record { taken = E.taken err.old; taken' = E.taken err.new; faults = E.faults err.old; faults' = E.faults err.new } result.answer }
+    // Usage comes exactly where the words are of no form, but where its line cannot be written
+    ensures usage { result.answer ≡ Answer.Usage → command_of (texts_of words.now.items) ≡ None }
+    ensures no_form { command_of (texts_of words.now.items) ≡ None → (result.answer ≡ Answer.Usage) ⊎ ((result.answer ≡ Answer.WriteFault) × Rose (E.faults err.old) (E.faults err.new)) }
+    // a fault of the outside comes only where a count rose
+    ensures read_fault { result.answer ≡ Answer.ReadFault → Rose (T.faults texts.old) (T.faults texts.new) }
+    ensures write_fault { result.answer ≡ Answer.WriteFault → Rose (O.faults out.old) (O.faults out.new) ⊎ Rose (E.faults err.old) (E.faults err.new) }
+    // a refusal has kind 16 exactly where the text is too long, and kind 0 exactly where it is of the allowed length and
+    // not of the first form, but where the call is cut short; no other kind comes
+    ensures refused { (refusal : Refusal) → result.answer ≡ Answer.Refused refusal → IsRefused (command_of (texts_of words.now.items)) (T.held texts.old) refusal }
+    ensures too_long { (file text : List ℕ) → command_of (texts_of words.now.items) ≡ Some file → text_of (T.held texts.old) file ≡ Some text → most_text < length text → (result.answer ≡ Answer.Refused text_too_long) ⊎ CutShort record { taken = O.taken out.old; taken' = O.taken out.new; reads = T.faults texts.old; reads' = T.faults texts.new; writes = O.faults out.old; writes' = O.faults out.new } record { taken = E.taken err.old; taken' = E.taken err.new; faults = E.faults err.old; faults' = E.faults err.new } result.answer }
+    ensures not_first_form { (file text : List ℕ) → command_of (texts_of words.now.items) ≡ Some file → text_of (T.held texts.old) file ≡ Some text → length text ≤ most_text → unit_of text ≡ None → (result.answer ≡ Answer.Refused not_yet) ⊎ CutShort record { taken = O.taken out.old; taken' = O.taken out.new; reads = T.faults texts.old; reads' = T.faults texts.new; writes = O.faults out.old; writes' = O.faults out.new } record { taken = E.taken err.old; taken' = E.taken err.new; faults = E.faults err.old; faults' = E.faults err.new } result.answer }
+    // the steps never run out, and the processor never faults
+    ensures steps_out { result.answer ≢ Answer.StepsOut }
+    ensures fault { (kind : FaultKind) (pc : ℕ) → result.answer ≢ Answer.Fault kind pc }
+    // want of memory comes before the first step, and leaves out as it was
+    ensures memory { result.answer ≡ Answer.OutOfMemory → IsUntouched result.code result.steps record { taken = O.taken out.old; taken' = O.taken out.new; reads = T.faults texts.old; reads' = T.faults texts.new; writes = O.faults out.old; writes' = O.faults out.new } }
+{
+    answer(alloc, words, texts, out, err)
 }

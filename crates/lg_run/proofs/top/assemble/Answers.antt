@@ -1,5 +1,6 @@
 use Rattle.std.proofs.Common.{◌≡◌, length, ap, ◌∙◌, arith}
 use Rattle.lg_run.proofs.AssembleLemmas.{agrees_items, bytes_few}
+use Rattle.lg_run.proofs.EndLemmas.{ends_within}
 use Rattle.lg_run.proofs.top.assemble.Goals as goal
 
 pub from_vec-requires : goal.from_vec-requires
@@ -14,4 +15,9 @@ returns-clause-size c =
 pub returns-clause-agrees : goal.returns-clause-agrees
 returns-clause-agrees c =
     agrees_items c.args.items.now c.of_bytes.result.bytes.items c.requires.ranges c.requires.few
+    (ap (λ b. b.items) c.of_bytes.ensures.bytes ∙ c.from_vec.ensures.items ∙ c.in_ok-bytes.ensures)
+
+pub returns-clause-ends : goal.returns-clause-ends
+returns-clause-ends c =
+    ends_within c.args.items.now c.of_bytes.result.bytes.items c.requires.ranges c.requires.few
     (ap (λ b. b.items) c.of_bytes.ensures.bytes ∙ c.from_vec.ensures.items ∙ c.in_ok-bytes.ensures)
