@@ -133,8 +133,8 @@ number_at-stored m a (suc w) v h =
     let f = byte_or_zero (stored m a (suc w) v) in
     let first : f a ≡ v % 256 = ap (λ o. unwrap_or o 0) (stored-first m a w v) in
     let rest : number_at f (a + 1) w ≡ v / 256 =
-        ap (λ g. number_at (byte_or_zero g) (a + 1) w) (stored-step m a (suc w) (a + 1) w v refl refl)
-        ∙ number_at-stored (put_some m a (v % 256)) (a + 1) w (v / 256) (smaller w v h) in
+    ap (λ g. number_at (byte_or_zero g) (a + 1) w) (stored-step m a (suc w) (a + 1) w v refl refl)
+    ∙ number_at-stored (put_some m a (v % 256)) (a + 1) w (v / 256) (smaller w v h) in
     number_at-step f a (suc w) (a + 1) w refl refl ∙ omega (arith, first, rest)
   where
     smaller : (w v : ℕ) → v < 256 ^ suc w → v / 256 < 256 ^ w
