@@ -5,6 +5,7 @@ pub mod CauseLemmas
 pub mod CodeLemmas
 pub mod CompleteLemmas
 pub mod EndLemmas
+pub mod GrammarLemmas
 pub mod MachineLemmas
 pub mod NodeLemmas
 pub mod ProcessorLemmas
