@@ -51,7 +51,7 @@ stack_some args a low high =
     some_then (nat_le args_base a && nat_lt a (args_base + length args)) (slice_index args (a - args_base)) _
     (some_then (nat_le heap_base a && nat_lt a (heap_base + 0x400000)) 0 _
     (let here : (nat_le stack_base a && nat_lt a (stack_base + 0x100000)) ≡ true = grind (arith, low, high) in
-     ap (λ b. is_some {T = ℕ} (if b then Some 0 else None)) here))
+    ap (λ b. is_some {T = ℕ} (if b then Some 0 else None)) here))
 
 pub room_at_start : (args : List ℕ) → mapped (machine.start_bytes args) 0x3FFFFFF8 8 ≡ true
 room_at_start args = mapped-all (machine.start_bytes args) 0x3FFFFFF8 8 (λ j low high. stack_some args j low (omega (arith, high)))

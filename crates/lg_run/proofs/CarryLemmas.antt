@@ -56,23 +56,27 @@ goes_lands nodes done rest node bytes trash registers registers' pushed pushed' 
       steps = n.code.steps;
       few = omega (arith, n.code.few);
       way = λ i lt. inl (n.code.runs.quiet i lt);
-      there = inr (length rest, inr record {
-        done = done ++ node ∷ [];
-        rest = rest;
-        registers = registers';
-        pushed = pushed';
-        R = moved node trash (place_of done) R;
-        B = B;
-        o = o ++ written;
-        split = n.split ∙ sym (append_assoc done (node ∷ []) rest);
-        portable = n.step ∙ (λ j. record { place = record { node = place j; registers = registers'; pushed = pushed' }; status = Running; out = o ++ written });
-        processor = n.code.runs.there ∙ (λ j. machine.going (place_next done node j) (moved node trash (place_of done) R) B (o ++ n.same j));
-        ranked = refl;
-        holds = n.holds;
-        frame = n.code.frame;
-        fits = n.fits;
-        argument = n.argument;
-      }, λ e. omega arith);
+      there = inr (
+        length rest,
+        inr record {
+          done = done ++ node ∷ [];
+          rest = rest;
+          registers = registers';
+          pushed = pushed';
+          R = moved node trash (place_of done) R;
+          B = B;
+          o = o ++ written;
+          split = n.split ∙ sym (append_assoc done (node ∷ []) rest);
+          portable = n.step ∙ (λ j. record { place = record { node = place j; registers = registers'; pushed = pushed' }; status = Running; out = o ++ written });
+          processor = n.code.runs.there ∙ (λ j. machine.going (place_next done node j) (moved node trash (place_of done) R) B (o ++ n.same j));
+          ranked = refl;
+          holds = n.holds;
+          frame = n.code.frame;
+          fits = n.fits;
+          argument = n.argument;
+        },
+        λ e. omega arith,
+      );
     }
 
 ends_lands : (nodes done : List Node) (node : Node) (bytes : List ℕ) (trash rank s : ℕ) (registers : ℕ → Option ℕ) (pushed o : List ℕ) (R : ℕ → ℕ) (B : ℕ → Option ℕ)
@@ -220,23 +224,23 @@ carry_finishi nodes done rest Putchar bytes trash registers (c ∷ []) o R B b =
 carry_finishi nodes done rest Exit bytes trash registers (c ∷ []) o R B b =
     let code = next_code bytes done rest (Finishi Exit) 1 (b.is ∙ ap (λ ns. bytes_of (code_of ns)) b.split) b.few b.fits in
     inr (ends_lands nodes done (Finishi Exit) bytes trash (suc (length rest)) (c % 256) registers (c ∷ []) o R B
-      (step_at nodes done rest (Finishi Exit) registers (c ∷ []) o b.split)
-      (exit_ends bytes trash (place_of done) R B o code b.frame)
-      (ap (λ x. Some (x % 256)) (b.argument c refl)))
+    (step_at nodes done rest (Finishi Exit) registers (c ∷ []) o b.split)
+    (exit_ends bytes trash (place_of done) R B o code b.frame)
+    (ap (λ x. Some (x % 256)) (b.argument c refl)))
 
 carry_ret : (nodes done rest : List Node) (bytes : List ℕ) (trash : ℕ) (registers : ℕ → Option ℕ) (pushed o : List ℕ) (R : ℕ → ℕ) (B : ℕ → Option ℕ)
     → Before nodes done rest Ret bytes registers pushed R B → CarriesAt nodes done rest bytes trash registers pushed o R B
 carry_ret nodes done rest bytes trash registers pushed o R B b =
     let code = next_code bytes done rest Ret (length pushed) (b.is ∙ ap (λ ns. bytes_of (code_of ns)) b.split) b.few b.fits in
     inr (ends_lands nodes done Ret bytes trash (suc (length rest)) 0 registers pushed o R B
-      (step_at nodes done rest Ret registers pushed o b.split) (return_ends bytes trash (place_of done) R B o Ret refl code b.frame) refl)
+    (step_at nodes done rest Ret registers pushed o b.split) (return_ends bytes trash (place_of done) R B o Ret refl code b.frame) refl)
 
 carry_epilog : (nodes done rest : List Node) (bytes : List ℕ) (trash : ℕ) (registers : ℕ → Option ℕ) (pushed o : List ℕ) (R : ℕ → ℕ) (B : ℕ → Option ℕ)
     → Before nodes done rest Epilog bytes registers pushed R B → CarriesAt nodes done rest bytes trash registers pushed o R B
 carry_epilog nodes done rest bytes trash registers pushed o R B b =
     let code = next_code bytes done rest Epilog (length pushed) (b.is ∙ ap (λ ns. bytes_of (code_of ns)) b.split) b.few b.fits in
     inr (ends_lands nodes done Epilog bytes trash (suc (length rest)) 0 registers pushed o R B
-      (step_at nodes done rest Epilog registers pushed o b.split) (return_ends bytes trash (place_of done) R B o Epilog refl code b.frame) refl)
+    (step_at nodes done rest Epilog registers pushed o b.split) (return_ends bytes trash (place_of done) R B o Epilog refl code b.frame) refl)
 
 carry_node : (nodes done rest : List Node) (node : Node) (bytes : List ℕ) (trash : ℕ) (registers : ℕ → Option ℕ) (pushed o : List ℕ) (R : ℕ → ℕ) (B : ℕ → Option ℕ)
     → Before nodes done rest node bytes registers pushed R B → CarriesAt nodes done rest bytes trash registers pushed o R B
@@ -273,23 +277,27 @@ start_lands body bytes trash rank R B fits e = record {
   steps = 2;
   few = omega arith;
   way = λ i lt. inl (e.runs.quiet i lt);
-  there = inr (length body, inr record {
-    done = Prolog ∷ [];
-    rest = body;
-    registers = meaning.undefined;
-    pushed = [];
-    R = e.R';
-    B = e.B';
-    o = [];
-    split = refl;
-    portable = refl;
-    processor = e.runs.there;
-    ranked = refl;
-    holds = holds_none e.R';
-    frame = e.frame;
-    fits = fits;
-    argument = λ c h. absurd (no_cons h);
-  }, λ h. absurd (omega (arith, h)));
+  there = inr (
+    length body,
+    inr record {
+      done = Prolog ∷ [];
+      rest = body;
+      registers = meaning.undefined;
+      pushed = [];
+      R = e.R';
+      B = e.B';
+      o = [];
+      split = refl;
+      portable = refl;
+      processor = e.runs.there;
+      ranked = refl;
+      holds = holds_none e.R';
+      frame = e.frame;
+      fits = fits;
+      argument = λ c h. absurd (no_cons h);
+    },
+    λ h. absurd (omega (arith, h)),
+  );
 }
 
 carry_start : (body : List Node) (bytes : List ℕ) (trash : ℕ) (p : meaning.Portable) (q : machine.Processor) (rank : ℕ) → Fits 0 body → bytes ≡ bytes_of (code_of (Prolog ∷ body)) → length bytes ≤ 0x100000 → AtStart (Prolog ∷ body) p q rank

@@ -139,13 +139,13 @@ pub too_long : (words : Option (List ℕ)) (file text : List ℕ) (held : Option
     → (outer ≡ Refused text_too_long) ⊎ CutShort c e outer
 too_long words file text held code steps c e outer says is holds long =
     with_file words file text held code steps c e outer _ says is holds (λ inner answer made report.
-      elim (refuses file text code steps c e inner outer (λ refusal. refusal ≡ text_too_long) answer made report (λ short items read. absurd (omega (arith, long, short))) (λ refusal why. elim why [
-        | inl h ↦ h.0
-        | inr h ↦ let short = h.1.0 in absurd (omega (arith, long, short))
-      ])) [
-        | inl h ↦ inl (h.2 ∙ ap Refused h.1)
-        | inr h ↦ inr h
-      ])
+    elim (refuses file text code steps c e inner outer (λ refusal. refusal ≡ text_too_long) answer made report (λ short items read. absurd (omega (arith, long, short))) (λ refusal why. elim why [
+      | inl h ↦ h.0
+      | inr h ↦ let short = h.1.0 in absurd (omega (arith, long, short))
+    ])) [
+      | inl h ↦ inl (h.2 ∙ ap Refused h.1)
+      | inr h ↦ inr h
+    ])
 
 none_some : {A : Type 0} {x : A} → None ≡ Some x → ⊥
 none_some e = cc
@@ -155,13 +155,13 @@ pub not_first_form : (words : Option (List ℕ)) (file text : List ℕ) (held : 
     → (outer ≡ Refused not_yet) ⊎ CutShort c e outer
 not_first_form words file text held code steps c e outer says is holds short form =
     with_file words file text held code steps c e outer _ says is holds (λ inner answer made report.
-      elim (refuses file text code steps c e inner outer (λ refusal. refusal ≡ not_yet) answer made report (λ le items read. absurd (none_some (sym form ∙ read))) (λ refusal why. elim why [
-        | inl h ↦ let long = h.1 in absurd (omega (arith, long, short))
-        | inr h ↦ h.0
-      ])) [
-        | inl h ↦ inl (h.2 ∙ ap Refused h.1)
-        | inr h ↦ inr h
-      ])
+    elim (refuses file text code steps c e inner outer (λ refusal. refusal ≡ not_yet) answer made report (λ le items read. absurd (none_some (sym form ∙ read))) (λ refusal why. elim why [
+      | inl h ↦ let long = h.1 in absurd (omega (arith, long, short))
+      | inr h ↦ h.0
+    ])) [
+      | inl h ↦ inl (h.2 ∙ ap Refused h.1)
+      | inr h ↦ inr h
+    ])
 
 -- ---- a run neither goes on nor faults
 pub never_out : (outer : Answer) → NotStuck outer → outer ≢ StepsOut

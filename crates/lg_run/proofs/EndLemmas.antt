@@ -120,9 +120,12 @@ ends_within items bytes ranges few is words trash =
     let small : length bytes ≤ 0x100000 = omega (arith, size) in
     let entry = prolog_goes bytes trash code_base R B [] (enter_has bytes (body_nodes items) is small) refl refl (room_at_start (args_of words)) in
     let rest = walk (nodes_of items) (body_nodes items) bytes trash is small (Prolog ∷ []) 0 entry.R' entry.B' [] refl (fits_body items ranges) (has_end items) entry.frame in
-    let long = body_length items in
-    (2 + rest.steps, rest.status, omega (arith, rest.few, long, few),
-      ap (λ s. s.stands) (iter-plus (machine.step bytes trash) (2 + rest.steps) 2 rest.steps (machine.start words trash) refl ∙ ap (iter (machine.step bytes trash) rest.steps) entry.runs.there) ∙ rest.end)
+    let long = body_length items in (
+      2 + rest.steps,
+      rest.status,
+      omega (arith, rest.few, long, few),
+      ap (λ s. s.stands) (iter-plus (machine.step bytes trash) (2 + rest.steps) 2 rest.steps (machine.start words trash) refl ∙ ap (iter (machine.step bytes trash) rest.steps) entry.runs.there) ∙ rest.end,
+    )
 
 -- ---- answers
 ended_goes : {s : ℕ} → machine.EndedWith s ≡ machine.Goes → ⊥

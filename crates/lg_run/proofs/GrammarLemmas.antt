@@ -61,44 +61,44 @@ movi_reads : (words : List (List ℕ)) (found : Item × List (List ℕ)) → mov
 movi_reads words found e =
     option_and_then_some _ (operand register_by_word words) found e (λ to first e.
     option_and_then_some _ (operand number_of to.1) found e (λ number second e.
-      let a = operand_is register_by_word words to first in
-      let b = operand_is number_of to.1 number second in
-      let same = some_same e in
-      record {
-        front = a.word ∷ b.word ∷ [];
-        is = subst (IsItemOf (codes "movi" ∷ a.word ∷ b.word ∷ [])) (ap (λ p. p.0) same) (movi a.word b.word to.0 number.0 a.reads b.reads);
-        split = a.split ∙ ap (λ w. a.word ∷ w) (b.split ∙ ap (λ w. b.word ∷ w) (ap (λ p. p.1) same));
-      }))
+    let a = operand_is register_by_word words to first in
+    let b = operand_is number_of to.1 number second in
+    let same = some_same e in
+    record {
+      front = a.word ∷ b.word ∷ [];
+      is = subst (IsItemOf (codes "movi" ∷ a.word ∷ b.word ∷ [])) (ap (λ p. p.0) same) (movi a.word b.word to.0 number.0 a.reads b.reads);
+      split = a.split ∙ ap (λ w. a.word ∷ w) (b.split ∙ ap (λ w. b.word ∷ w) (ap (λ p. p.1) same));
+    }))
 
 addi_reads : (words : List (List ℕ)) (found : Item × List (List ℕ)) → addi_front words ≡ Some found → Reads (codes "addi") words found
 addi_reads words found e =
     option_and_then_some _ (operand register_by_word words) found e (λ to first e.
     option_and_then_some _ (operand register_by_word to.1) found e (λ from second e.
     option_and_then_some _ (operand number_of from.1) found e (λ number third e.
-      let a = operand_is register_by_word words to first in
-      let b = operand_is register_by_word to.1 from second in
-      let c = operand_is number_of from.1 number third in
-      let same = some_same e in
-      record {
-        front = a.word ∷ b.word ∷ c.word ∷ [];
-        is = subst (IsItemOf (codes "addi" ∷ a.word ∷ b.word ∷ c.word ∷ [])) (ap (λ p. p.0) same) (addi a.word b.word c.word to.0 from.0 number.0 a.reads b.reads c.reads);
-        split = a.split ∙ ap (λ w. a.word ∷ w) (b.split ∙ ap (λ w. b.word ∷ w) (c.split ∙ ap (λ w. c.word ∷ w) (ap (λ p. p.1) same)));
-      })))
+    let a = operand_is register_by_word words to first in
+    let b = operand_is register_by_word to.1 from second in
+    let c = operand_is number_of from.1 number third in
+    let same = some_same e in
+    record {
+      front = a.word ∷ b.word ∷ c.word ∷ [];
+      is = subst (IsItemOf (codes "addi" ∷ a.word ∷ b.word ∷ c.word ∷ [])) (ap (λ p. p.0) same) (addi a.word b.word c.word to.0 from.0 number.0 a.reads b.reads c.reads);
+      split = a.split ∙ ap (λ w. a.word ∷ w) (b.split ∙ ap (λ w. b.word ∷ w) (c.split ∙ ap (λ w. c.word ∷ w) (ap (λ p. p.1) same)));
+    })))
 
 addr_reads : (words : List (List ℕ)) (found : Item × List (List ℕ)) → addr_front words ≡ Some found → Reads (codes "addr") words found
 addr_reads words found e =
     option_and_then_some _ (operand register_by_word words) found e (λ to first e.
     option_and_then_some _ (operand register_by_word to.1) found e (λ left second e.
     option_and_then_some _ (operand register_by_word left.1) found e (λ right third e.
-      let a = operand_is register_by_word words to first in
-      let b = operand_is register_by_word to.1 left second in
-      let c = operand_is register_by_word left.1 right third in
-      let same = some_same e in
-      record {
-        front = a.word ∷ b.word ∷ c.word ∷ [];
-        is = subst (IsItemOf (codes "addr" ∷ a.word ∷ b.word ∷ c.word ∷ [])) (ap (λ p. p.0) same) (addr a.word b.word c.word to.0 left.0 right.0 a.reads b.reads c.reads);
-        split = a.split ∙ ap (λ w. a.word ∷ w) (b.split ∙ ap (λ w. b.word ∷ w) (c.split ∙ ap (λ w. c.word ∷ w) (ap (λ p. p.1) same)));
-      })))
+    let a = operand_is register_by_word words to first in
+    let b = operand_is register_by_word to.1 left second in
+    let c = operand_is register_by_word left.1 right third in
+    let same = some_same e in
+    record {
+      front = a.word ∷ b.word ∷ c.word ∷ [];
+      is = subst (IsItemOf (codes "addr" ∷ a.word ∷ b.word ∷ c.word ∷ [])) (ap (λ p. p.0) same) (addr a.word b.word c.word to.0 left.0 right.0 a.reads b.reads c.reads);
+      split = a.split ∙ ap (λ w. a.word ∷ w) (b.split ∙ ap (λ w. b.word ∷ w) (c.split ∙ ap (λ w. c.word ∷ w) (ap (λ p. p.1) same)));
+    })))
 
 call_reads : (words : List (List ℕ)) (found : Item × List (List ℕ)) → call_front words ≡ Some found → Reads (codes "prepare") words found
 call_reads words found e =
@@ -106,14 +106,14 @@ call_reads words found e =
     option_and_then_some _ (operand register_by_word after) found e (λ argument second e.
     option_and_then_some _ (keyword (codes "finishi") argument.1) found e (λ behind third e.
     option_and_then_some _ (operand callee_by_word behind) found e (λ callee fourth e.
-      let b = operand_is register_by_word after argument second in
-      let d = operand_is callee_by_word behind callee fourth in
-      let same = some_same e in
-      record {
-        front = codes "pushargr" ∷ b.word ∷ codes "finishi" ∷ d.word ∷ [];
-        is = subst (IsItemOf (codes "prepare" ∷ codes "pushargr" ∷ b.word ∷ codes "finishi" ∷ d.word ∷ [])) (ap (λ p. p.0) same) (call b.word d.word argument.0 callee.0 b.reads d.reads);
-        split = keyword_is (codes "pushargr") words after first ∙ ap (λ w. codes "pushargr" ∷ w) (b.split ∙ ap (λ w. b.word ∷ w) (keyword_is (codes "finishi") argument.1 behind third ∙ ap (λ w. codes "finishi" ∷ w) (d.split ∙ ap (λ w. d.word ∷ w) (ap (λ p. p.1) same))));
-      }))))
+    let b = operand_is register_by_word after argument second in
+    let d = operand_is callee_by_word behind callee fourth in
+    let same = some_same e in
+    record {
+      front = codes "pushargr" ∷ b.word ∷ codes "finishi" ∷ d.word ∷ [];
+      is = subst (IsItemOf (codes "prepare" ∷ codes "pushargr" ∷ b.word ∷ codes "finishi" ∷ d.word ∷ [])) (ap (λ p. p.0) same) (call b.word d.word argument.0 callee.0 b.reads d.reads);
+      split = keyword_is (codes "pushargr") words after first ∙ ap (λ w. codes "pushargr" ∷ w) (b.split ∙ ap (λ w. b.word ∷ w) (keyword_is (codes "finishi") argument.1 behind third ∙ ap (λ w. codes "finishi" ∷ w) (d.split ∙ ap (λ w. d.word ∷ w) (ap (λ p. p.1) same))));
+    }))))
 
 item_reads : (word : List ℕ) (words : List (List ℕ)) (found : Item × List (List ℕ)) → item_front word words ≡ Some found → Reads word words found
 item_reads word words found e = at (bytes_eq word (codes "movi")) (bytes_eq word (codes "addi")) (bytes_eq word (codes "addr")) (bytes_eq word (codes "prepare")) refl refl refl refl e
@@ -163,19 +163,19 @@ followed_reads : (words : List (List ℕ)) (found : Statement) (rest : List (Lis
 followed_reads words statement.Ret rest o items said e again = ret_reads words rest items (is_end rest) said refl e
 followed_reads words (statement.Item i) rest o items said e again =
     map_some (λ (others : List Item). i ∷ others) o items e (λ others is same.
-      let more_of = again others is in
-      record {
-        body = said.0 ++ more_of.body;
-        are = subst (AreItemsOf (said.0 ++ more_of.body)) same (more said.0 more_of.body i others said.1 more_of.are);
-        split = said.2 ∙ ap (λ w. said.0 ++ w) more_of.split ∙ sym (append_assoc said.0 more_of.body (codes "ret" ∷ codes "epilog" ∷ []));
-      })
+    let more_of = again others is in
+    record {
+      body = said.0 ++ more_of.body;
+      are = subst (AreItemsOf (said.0 ++ more_of.body)) same (more said.0 more_of.body i others said.1 more_of.are);
+      split = said.2 ∙ ap (λ w. said.0 ++ w) more_of.split ∙ sym (append_assoc said.0 more_of.body (codes "ret" ∷ codes "epilog" ∷ []));
+    })
 
 items_read : (room : ℕ) (words : List (List ℕ)) (items : List Item) → items_of room words ≡ Some items → Body words items
 unfolding items_of
 items_read zero words items e = absurd (none_some e)
 items_read (suc room) words items e =
     option_and_then_some (λ front. followed front.0 front.1 (items_of room front.1)) (statement_front words) items e (λ found front e.
-      followed_reads words found.0 found.1 (items_of room found.1) items (statement_reads words found front) e (λ others is. items_read room found.1 others is))
+    followed_reads words found.0 found.1 (items_of room found.1) items (statement_reads words found front) e (λ others is. items_read room found.1 others is))
 
 small_is : (items others : List Item) → small items ≡ Some others → (node_count others ≤ most_nodes) × (items ≡ others)
 small_is items others e = at (nat_le (node_count items) most_nodes) refl e
@@ -189,14 +189,14 @@ read_is_form text items e =
     option_and_then_some body_of (head_of (words_of text)) items e (λ words head e.
     option_and_then_some (keyword (codes "prolog")) (keyword (codes ".code") (words_of text)) words head (λ behind code prolog.
     option_and_then_some small (items_of most_nodes words) items e (λ others read e.
-      let few = small_is others items e in
-      let body = items_read most_nodes words others read in
-      record {
-        body = body.body;
-        are = subst (AreItemsOf body.body) few.1 body.are;
-        words = keyword_is (codes ".code") (words_of text) behind code ∙ ap (λ w. codes ".code" ∷ w) (keyword_is (codes "prolog") behind words prolog ∙ ap (λ w. codes "prolog" ∷ w) body.split);
-        few = few.0;
-      })))
+    let few = small_is others items e in
+    let body = items_read most_nodes words others read in
+    record {
+      body = body.body;
+      are = subst (AreItemsOf body.body) few.1 body.are;
+      words = keyword_is (codes ".code") (words_of text) behind code ∙ ap (λ w. codes ".code" ∷ w) (keyword_is (codes "prolog") behind words prolog ∙ ap (λ w. codes "prolog" ∷ w) body.split);
+      few = few.0;
+    })))
 
 -- ---- from the grammar to what is read
 abbrev Words : Type 0

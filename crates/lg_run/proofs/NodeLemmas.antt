@@ -170,7 +170,7 @@ return_ends bytes trash pc R B o node end code frame =
     let s2 = going (pc + 4 + 4) R2 B o in
     let address : add_words (read R 2) 264 ≡ 0x3FFFFFF8 = ap (λ x. add_words x 264) frame.sp in
     let load : act (Imm imm.Ld 1 2 (pos 264)) record { pc = pc; registers = R; bytes = B } ≡ goes (add_words pc 4) R1 B =
-        ap (load_at record { pc = pc; registers = R; bytes = B } 1) address ∙ ap (loads record { pc = pc; registers = R; bytes = B } 1) frame.link in
+    ap (load_at record { pc = pc; registers = R; bytes = B } 1) address ∙ ap (loads record { pc = pc; registers = R; bytes = B } 1) frame.link in
     let e1 : step bytes trash (going pc R B o) ≡ s1 = step_next bytes trash pc R B o _ R1 B code.0 load in
     let e2 : step bytes trash s1 ≡ s2 = step_next bytes trash (pc + 4) R1 B o _ R2 B code.1.0 refl in
     let core : Core = record { pc = stop_address; registers = put R2 0 (add_words (pc + 4 + 4) 4); bytes = B } in
@@ -207,8 +207,8 @@ enters bytes trash pc R B o callee code =
     let link : add_words (pc + 4) 4 ≡ pc + 8 = omega (arith, code.1.0.high) in
     let s2 = going (host_address (host_of callee)) (put R1 1 (pc + 8)) B o in
     let e2 : step bytes trash s1 ≡ s2 =
-        stepped bytes trash (pc + 4) R1 B o _ _ code.1.0 (jump_is callee record { pc = pc + 4; registers = R1; bytes = B } refl)
-        ∙ (λ j. going (host_address (host_of callee)) (put R1 1 (link j)) B (append-nil o j)) in
+    stepped bytes trash (pc + 4) R1 B o _ _ code.1.0 (jump_is callee record { pc = pc + 4; registers = R1; bytes = B } refl)
+    ∙ (λ j. going (host_address (host_of callee)) (put R1 1 (link j)) B (append-nil o j)) in
     record { runs = more bytes trash 1 _ s1 s2 (more bytes trash 0 _ _ s1 (none bytes trash (going pc R B o)) refl e1) refl e2 }
 
 pub putchar_goes : (bytes : List ℕ) (trash pc : ℕ) (R : ℕ → ℕ) (B : ℕ → Option ℕ) (o : List ℕ) → HasCode bytes pc (node_code (Finishi Putchar)) → InFrame R B
@@ -270,8 +270,8 @@ prolog_goes bytes trash pc R B o code link sp room =
     let e1 : step bytes trash (going pc R B o) ≡ s1 = step_next bytes trash pc R B o _ R1 B code.0 a1 in
     let q : Core = record { pc = pc + 4; registers = R1; bytes = B } in
     let a2 : act (Store Sd 2 1 (pos 264)) q ≡ goes (add_words (pc + 4) 4) R1 B1 =
-        ap (λ b. if b then goes (add_words (pc + 4) 4) R1 (stored B 0x3FFFFFF8 8 (R 1)) else faults q Memory) room
-        ∙ ap (λ v. goes (add_words (pc + 4) 4) R1 (stored B 0x3FFFFFF8 8 v)) link in
+    ap (λ b. if b then goes (add_words (pc + 4) 4) R1 (stored B 0x3FFFFFF8 8 (R 1)) else faults q Memory) room
+    ∙ ap (λ v. goes (add_words (pc + 4) 4) R1 (stored B 0x3FFFFFF8 8 v)) link in
     let e2 : step bytes trash s1 ≡ going (pc + 4 + 4) R1 B1 o = step_next bytes trash (pc + 4) R1 B o _ R1 B1 code.1.0 a2 in
     let eight : pc + 4 + 4 ≡ pc + 8 = omega arith in
     let s2 = going (pc + 8) R1 B1 o in

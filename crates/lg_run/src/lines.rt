@@ -77,12 +77,7 @@ fn write_steps_out<E: Sink>(steps: u64, err: &mut E) -> Result<(), SinkFault>
     )
 }
 
-fn write_fault<E: Sink>(
-    kind: FaultKind,
-    pc: u64,
-    steps: u64,
-    err: &mut E,
-) -> Result<(), SinkFault>
+fn write_fault<E: Sink>(kind: FaultKind, pc: u64, steps: u64, err: &mut E) -> Result<(), SinkFault>
     ensures { Wrote (E.taken err.old) (E.taken err.new) (E.faults err.old) (E.faults err.new) result (line_of [] steps (Answer.Fault kind pc)) }
 {
     let pc = Digits::of(pc, Radix::Hexadecimal);

@@ -34,11 +34,7 @@ fn piece(alloc: Global) -> Result<Vec<u8>, OutOfMemory>
 }
 
 // Reads what is left of the selected text, through a piece of memory.
-fn read_rest<T: Texts>(
-    alloc: Global,
-    piece: &mut [u8],
-    texts: &mut T,
-) -> Result<Vec<u8>, ReadStop>
+fn read_rest<T: Texts>(alloc: Global, piece: &mut [u8], texts: &mut T) -> Result<Vec<u8>, ReadStop>
     requires { 0 < length piece.old }
     ensures bytes { IfOk result (λ v. Consumes (T.left texts.old) (T.left texts.new) v.items × IsAtEnd (T.left texts.new)) }
     ensures small { IfOk result (λ v. length v.items ≤ most_text) }

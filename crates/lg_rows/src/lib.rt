@@ -1,0 +1,12 @@
+//! Tests of the whole: rows of the program, each a text with what its call writes and answers, and values computed
+//! elsewhere.
+#![tactic(auto)]
+
+#[cfg(test)]
+mod arguments;
+#[cfg(test)]
+mod first_path;
+#[cfg(test)]
+mod memory;
+#[cfg(test)]
+mod wide;
