@@ -1,0 +1,8 @@
+use Rattle.std.proofs.Common.{◌≡◌, ℕ, ◌+◌, ◌-◌, ◌<◌, ◌≤◌, List, [], ◌∷◌, ◌++◌, length, take, drop, Option, Some, None, refl, sym, ap, ap₂, ◌∙◌, subst, inl, inr, arith, length-append}
+use Rattle.std.specs.Option.{option_map}
+use Rattle.lg_host.specs.Runs.{run}
+use Rattle.lg_host.specs.Strings.{string_in, compared, number_in, signed_in, atoi_in}
+use Rattle.lg_host.proofs.strings.compare.Given as goal
+
+abbrev pub invariant-loop-i : goal.invariant-loop-i
+invariant-loop-i g l = compared (run (g.S.Space.byte_of l.mem) l.first) (run (g.S.Space.byte_of l.mem) l.second) ≡ compared (run (g.S.Space.byte_of l.mem) (l.first + l.i)) (run (g.S.Space.byte_of l.mem) (l.second + l.i))

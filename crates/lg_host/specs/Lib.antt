@@ -1,0 +1,7 @@
+pub mod Blocks
+pub mod Formats
+pub mod Host
+pub mod Output
+pub mod Printed
+pub mod Runs
+pub mod Strings
