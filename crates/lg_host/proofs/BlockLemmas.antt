@@ -48,7 +48,7 @@ can_write-yes w a n i lt is =
     let e : a + i + 1 ≡ a + (i + 1) = omega arith in
     can_write-suc w (a + i) (n - i) (n - (i + 1)) (omega arith) ∙ ap (λ o. o && can_write w (a + i + 1) (n - (i + 1))) is ∙ ap (λ x. can_write w x (n - (i + 1))) e
 
-both : (x y : Bool) → (x && y) ≡ true → (x ≡ true) × (y ≡ true)
+pub both : (x y : Bool) → (x && y) ≡ true → (x ≡ true) × (y ≡ true)
 both true y e = (refl, e)
 both false y e = (e, absurd (false≢true e))
 

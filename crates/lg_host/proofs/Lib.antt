@@ -1,5 +1,7 @@
 pub mod BlockLemmas
+pub mod HostLawLemmas
 pub mod HostLemmas
+pub mod LargerLemmas
 pub mod OutputLemmas
 pub mod PrintLemmas
 pub mod RunLemmas

@@ -19,10 +19,11 @@ pub Passes-stored : (a b : Output) (bytes : List ℕ) → b.taken ≡ a.taken �
 Passes-stored a b bytes e f = ([], subst (λ (o : Option (List ℕ)). Appends a.taken o []) (sym e) (Appends-nil a.taken), sym f)
 
 pub Passes-trans : (a b c : Output) (xs ys : List ℕ) → Passes a b xs → Passes b c ys → Passes a c (xs ++ ys)
-Passes-trans a b c xs ys p q =
-    ( p.0 ++ q.0
-    , Appends-trans a.taken b.taken c.taken p.0 q.0 p.1 q.1
-    , sym (append_assoc a.waiting xs ys) ∙ ap (λ x. x ++ ys) p.2 ∙ append_assoc p.0 b.waiting ys ∙ ap (λ x. p.0 ++ x) q.2 ∙ sym (append_assoc p.0 q.0 c.waiting))
+Passes-trans a b c xs ys p q = (
+  p.0 ++ q.0,
+  Appends-trans a.taken b.taken c.taken p.0 q.0 p.1 q.1,
+  sym (append_assoc a.waiting xs ys) ∙ ap (λ x. x ++ ys) p.2 ∙ append_assoc p.0 b.waiting ys ∙ ap (λ x. p.0 ++ x) q.2 ∙ sym (append_assoc p.0 q.0 c.waiting),
+)
 
 -- all of xs was passed on, and then a part of ys went to the sink
 pub Passes-prefix : (a b c : Output) (xs ys zs all : List ℕ) → all ≡ xs ++ (ys ++ zs) → Passes a b xs → AppendsPrefix b.taken c.taken (b.waiting ++ ys) → AppendsPrefix a.taken c.taken (a.waiting ++ all)

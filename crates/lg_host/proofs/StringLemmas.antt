@@ -149,7 +149,6 @@ signed-plus m a b lt is e = let t : eqb b 45 ≡ false = grind arith in let u : 
 pub signed-none : (m : Bytes) (a b : ℕ) → a < 0x40000000 → m a ≡ Some b → (b ≡ 45 → ⊥) → (b ≡ 43 → ⊥) → signed_at m a ≡ number_at false 0 m a
 signed-none m a b lt is x y = let t : eqb b 45 ≡ false = grind arith in let u : eqb b 43 ≡ false = grind arith in rw (run-some m a b lt (sym is), t, u) refl
 
-
 pub reached : (a b i : ℕ) → 0x40000000 - max a b ≤ i → (0x40000000 ≤ a + i) ⊎ (0x40000000 ≤ b + i)
 reached a b i h = ⊎_elim (λ lt. inr (omega arith)) (λ ge. inl (omega arith)) (cases_lt a b)
 

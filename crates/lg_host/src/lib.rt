@@ -9,10 +9,13 @@ mod conversions;
 pub mod format;
 pub mod heap_mark;
 pub mod host_end;
+pub mod laws;
 mod letters;
 mod nowhere;
 mod output;
 pub mod parts;
 mod print;
 mod strings;
+#[cfg(test)]
+mod tests;
 pub mod walk;
