@@ -1,12 +1,12 @@
 -- Ranges of bytes: whether all can be read or written, and one more byte that is copied or set.
-use Rattle.std.proofs.Common.{◌≡◌, ◌⊎◌, ℕ, zero, suc, ◌+◌, ◌-◌, ◌/◌, ◌*◌, ◌<◌, ◌≤◌, Bool, true, false, Option, Some, None, refl, sym, ap, ap₂, ◌∙◌, ⊎_elim, arith}
-use Rattle.std.specs.Prelude.{◌==◌, ◌&&◌, ◌||◌, max, nat_lt, nat_le, is_some, unwrap_or, if◌then◌else◌}
+use Rattle.std.proofs.Common.{◌≡◌, ℕ, zero, suc, ◌+◌, ◌-◌, ◌<◌, ◌≤◌, Bool, true, false, Option, Some, None, refl, sym, ap, ◌∙◌, ⊎_elim, arith}
+use Rattle.std.specs.Prelude.{◌==◌, ◌&&◌, ◌||◌, is_some, unwrap_or, if◌then◌else◌}
 use Rattle.std.proofs.lemmas.Bool.{cases_eq, ne_eqb, false≢true}
 use mathlib.Core.Path.{fun_ext}
 use Rattle.lg_base.specs.Spaces.{put_some, mapped, in_heap, raised}
 use Rattle.lg_base.proofs.SpaceLemmas.{mapped-each}
 use Rattle.lg_host.specs.Runs.{Bytes}
-use Rattle.lg_host.specs.Blocks.{Changes, unchanged, over, in_range, copied, filled, can_write, overlaps}
+use Rattle.lg_host.specs.Blocks.{unchanged, over, in_range, copied, filled, can_write, overlaps}
 use Rattle.lg_host.specs.Host.{rounded}
 
 -- ---- whether all can be read or written

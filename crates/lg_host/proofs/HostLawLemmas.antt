@@ -1,8 +1,7 @@
 -- What holds of every host function: a larger memory changes nothing, and what may be answered and changed.
-use Rattle.std.proofs.Common.{◌≡◌, ◌⊎◌, ℕ, zero, suc, ◌+◌, ◌-◌, ◌*◌, ◌/◌, ◌%◌, ◌^◌, ◌<◌, ◌≤◌, Bool, true, false, List, [], ◌∷◌, ◌++◌, length, drop, Option, Some, None, refl, sym, ap, ap₂, ◌∙◌, subst, inl, inr, arith, length-append}
-use Rattle.std.specs.Prelude.{◌==◌, nat_lt, nat_le, ◌&&◌, not, max, is_some, IfSome, slice_index, if◌then◌else◌}
+use Rattle.std.proofs.Common.{◌≡◌, ℕ, zero, suc, ◌+◌, ◌-◌, ◌*◌, ◌%◌, ◌^◌, ◌<◌, ◌≤◌, Bool, true, false, List, [], ◌∷◌, ◌++◌, length, drop, Option, Some, None, refl, sym, ap, ap₂, ◌∙◌, inl, inr, arith, length-append}
+use Rattle.std.specs.Prelude.{◌==◌, nat_lt, nat_le, ◌&&◌, not, IfSome, slice_index, if◌then◌else◌}
 use Rattle.std.specs.Option.{option_map}
-use Rattle.std.proofs.lemmas.Bool.{false≢true}
 use Rattle.lg_base.specs.Spaces.{mapped}
 use Rattle.lg_base.specs.declared.host_name.HostName.{HostName}
 use Rattle.lg_base.specs.declared.host_name.HostName.TheVariants as host
@@ -10,8 +9,8 @@ use Rattle.lg_host.specs.Runs.{Bytes, memory_end, before, run_of, run}
 use Rattle.lg_host.specs.Strings.{string_in, compared, is_space, is_digit, int_word, number_in, signed_in, atoi_in}
 use Rattle.lg_host.specs.Blocks.{Changes, unchanged, in_range, copied, filled, can_write, is_below_end, overlaps}
 use Rattle.lg_host.specs.Printed.{printed_at}
-use Rattle.lg_host.specs.Host.{Mem, Host, Gives, Exits, Undefined, int_answer, answered, text, heap_end, rounded, fits, malloc, calloc, memset, memcpy, named, table, host_of}
-use Rattle.lg_host.specs.HostLaws.{Extends, IsLarger, IsDefined, IsKept, OnGives, IsSound, IsAllowed, AnswersAllowed}
+use Rattle.lg_host.specs.Host.{Mem, Host, Gives, Undefined, int_answer, answered, text, heap_end, rounded, fits, malloc, calloc, memset, memcpy, named, table, host_of}
+use Rattle.lg_host.specs.HostLaws.{Extends, IsLarger, IsDefined, IsKept, OnGives, IsAllowed, AnswersAllowed}
 use Rattle.lg_host.proofs.BlockLemmas.{both, can_write-at}
 use Rattle.lg_host.proofs.LargerLemmas.{run-begins, string-extends, compared-extends, atoi-extends, printed_at-extends, mapped-extends, can_write-extends, copied-extends, Extends-map}
 use Rattle.lg_host.specs.declared.format.Reading.TheVariants as reading
@@ -212,15 +211,15 @@ memset-allowed : (m : Mem) (to w n : ℕ) → to < 2 ^ 64 → m.mark ≤ heap_en
 memset-allowed m to w n lt le = on-if (n == 0) (Gives to unchanged m.mark []) (if is_below_end to n && can_write m.room to n then Gives to (filled to (w % 256) n) m.mark [] else Undefined) (IsAllowed m)
     (λ e. unchanged-allowed m to [] lt le)
     (λ e. on-if (is_below_end to n && can_write m.room to n) (Gives to (filled to (w % 256) n) m.mark []) Undefined (IsAllowed m)
-        (λ c. let p = both (is_below_end to n) (can_write m.room to n) c in record { word = lt; written = λ a b is. let t = filled-there to (w % 256) n a b is in (omega (arith, t.0), inl (can_write-there m.room to n a p.1 t.1 t.2)); rises = omega arith; within = le })
-        (λ c. tt))
+    (λ c. let p = both (is_below_end to n) (can_write m.room to n) c in record { word = lt; written = λ a b is. let t = filled-there to (w % 256) n a b is in (omega (arith, t.0), inl (can_write-there m.room to n a p.1 t.1 t.2)); rises = omega arith; within = le })
+    (λ c. tt))
 
 memcpy-allowed : (m : Mem) (to from n : ℕ) → ((a b : ℕ) → m.bytes a ≡ Some b → b < 256) → to < 2 ^ 64 → m.mark ≤ heap_end → OnGives (memcpy m to from n) (IsAllowed m)
 memcpy-allowed m to from n bytes lt le = on-if (n == 0) (Gives to unchanged m.mark []) (if can_copy m to from n then Gives to (copied m.bytes to from n) m.mark [] else Undefined) (IsAllowed m)
     (λ e. unchanged-allowed m to [] lt le)
     (λ e. on-if (can_copy m to from n) (Gives to (copied m.bytes to from n) m.mark []) Undefined (IsAllowed m)
-        (λ c. let p = both (is_below_end to n && is_below_end from n && not (overlaps to from n) && mapped m.bytes from n) (can_write m.room to n) c in record { word = lt; written = λ a b is. let t = copied-there m.bytes to from n a b is in (bytes (from + (a - to)) b t.0, inl (can_write-there m.room to n a p.1 t.1 t.2)); rises = omega arith; within = le })
-        (λ c. tt))
+    (λ c. let p = both (is_below_end to n && is_below_end from n && not (overlaps to from n) && mapped m.bytes from n) (can_write m.room to n) c in record { word = lt; written = λ a b is. let t = copied-there m.bytes to from n a b is in (bytes (from + (a - to)) b t.0, inl (can_write-there m.room to n a p.1 t.1 t.2)); rises = omega arith; within = le })
+    (λ c. tt))
 
 table-allowed : (name : HostName) (a b c : ℕ) (args : List ℕ) (v : Bool) (m : Mem) → a < 2 ^ 64 → ((a b : ℕ) → m.bytes a ≡ Some b → b < 256) → m.mark ≤ heap_end → OnGives (table name a b c args v m) (IsAllowed m)
 table-allowed host.Printf a b c args true m lt bytes le = text-allowed m (printed_at m.bytes reading.Plain a (drop 1 args)) le

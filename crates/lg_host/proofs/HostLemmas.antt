@@ -1,8 +1,8 @@
 -- What calls answer that write no output.
-use Rattle.std.proofs.Common.{◌≡◌, ℕ, List, [], Option, Some, None, sym, subst}
+use Rattle.std.proofs.Common.{ℕ, List, Option, sym, subst}
 use Rattle.std.specs.Io.KnownBytes.{Appends}
 use Rattle.std.proofs.KnownBytes.{Appends-nil}
-use Rattle.lg_host.specs.Host.{Mem, Host, Gives, Exits, Undefined, Same, HostSays, MemSays}
+use Rattle.lg_host.specs.Host.{Mem, Host, Gives, Exits, Undefined, HostSays, MemSays}
 use Rattle.lg_host.specs.declared.host_end.HostEnd.{HostEnd}
 use Rattle.lg_host.specs.declared.host_end.HostEnd.TheVariants as end
 

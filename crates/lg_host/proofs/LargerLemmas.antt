@@ -1,6 +1,6 @@
 -- A larger memory gives the same strings, numbers and texts, where the smaller one gives any.
-use Rattle.std.proofs.Common.{◌≡◌, ℕ, zero, suc, ◌+◌, ◌-◌, ◌*◌, ◌^◌, ◌<◌, ◌≤◌, Bool, true, false, List, [], ◌∷◌, ◌++◌, length, drop, get_or, Option, Some, None, refl, sym, ap, ◌∙◌, subst, arith}
-use Rattle.std.specs.Prelude.{◌==◌, nat_lt, nat_le, ◌&&◌, is_some, if◌then◌else◌, option_and_then}
+use Rattle.std.proofs.Common.{◌≡◌, ℕ, zero, suc, ◌+◌, ◌-◌, ◌*◌, ◌^◌, ◌<◌, Bool, true, false, List, [], ◌∷◌, ◌++◌, Option, Some, None, refl, sym, ap, ◌∙◌, subst, arith}
+use Rattle.std.specs.Prelude.{◌==◌, nat_lt, is_some, if◌then◌else◌, option_and_then}
 use Rattle.std.specs.Option.{option_map}
 use Rattle.std.proofs.lemmas.Bool.{false≢true}
 use mathlib.Core.Path.{fun_ext}
@@ -10,7 +10,7 @@ use Rattle.lg_host.specs.Runs.{Bytes, memory_end, before, run_of, run}
 use Rattle.lg_host.specs.Strings.{string_in, compared, is_space, is_digit, int_word, number_in, signed_in, atoi_in}
 use Rattle.lg_host.specs.Blocks.{in_range, copied, can_write}
 use Rattle.lg_host.specs.Formats.{next_of, is_plain}
-use Rattle.lg_host.specs.Printed.{Effect, wrote, effect_of, step_of, followed_by, converted, padded, printed, printed_at}
+use Rattle.lg_host.specs.Printed.{Effect, wrote, effect_of, followed_by, converted, padded, printed, printed_at}
 use Rattle.lg_host.specs.HostLaws.{Extends}
 use Rattle.lg_host.proofs.BlockLemmas.{can_write-at, can_write-all}
 use Rattle.lg_host.specs.declared.format.Style.{Style}

@@ -1,22 +1,18 @@
 -- A format prints what its pieces give, and what prints anything is spelled by pieces.
-use Rattle.std.proofs.Common.{◌≡◌, ◌≢◌, ◌⊎◌, ℕ, ◌+◌, ◌-◌, ◌*◌, ◌<◌, ◌≤◌, Bool, true, false, List, [], ◌∷◌, ◌++◌, Option, Some, None, refl, sym, ap, ap₂, ◌∙◌, subst, ⊎_elim, inl, inr, arith, append_assoc}
-use Rattle.std.specs.Prelude.{◌==◌, ◌||◌, ◌&&◌, nat_le, if◌then◌else◌}
+use Rattle.std.proofs.Common.{◌≡◌, ◌⊎◌, ℕ, ◌+◌, ◌-◌, ◌*◌, ◌≤◌, Bool, true, false, List, [], ◌∷◌, ◌++◌, Option, Some, None, refl, ap, ap₂, ◌∙◌, ⊎_elim, arith, append_assoc}
+use Rattle.std.specs.Prelude.{◌==◌, ◌||◌, nat_le, if◌then◌else◌}
 use Rattle.std.specs.Option.{option_map}
-use Rattle.std.specs.List.{list_any}
-use Rattle.std.specs.Fmt.{option_append, ◌++?◌}
-use Rattle.std.proofs.lemmas.Bool.{ne_eqb, false≢true}
-use Rattle.std.proofs.lemmas.List.{append-nil}
-use Rattle.lg_io.specs.declared.digits.Radix.TheVariants as radix
+use Rattle.std.specs.Fmt.{◌++?◌}
+use Rattle.std.proofs.lemmas.Bool.{ne_eqb}
 use Rattle.lg_host.specs.Runs.{Bytes}
 use Rattle.lg_host.specs.Strings.{is_digit}
-use Rattle.lg_host.specs.Formats.{number_letter, any_letter, without_zeros, at_length, at_width, at_flags, with_digit, plain_style, next_of, is_plain}
-use Rattle.lg_host.specs.Printed.{Effect, wrote, effect_of, step_of, followed_by, converted, printed}
-use Rattle.lg_host.specs.Pieces.{Length, Int, Char, Short, Long, LongLong, length_bytes, size_of, NumberLetter, LowerD, LowerI, LowerU, LowerX, UpperX, LowerO, number_code, number_kind, PlainLetter, LowerC, LowerS, LowerP, plain_code, plain_kind, Piece, Itself, Percent, Number, Plain, spelled, all_spelled, AreFlags, AreDigits, width_of, BeginsWithoutZero, IsWidth, has_flag, style_of, IsPiece, ArePieces, with_argument, given, PrintsItsPieces, IsSpelledByPieces}
+use Rattle.lg_host.specs.Formats.{number_letter, at_width, with_digit, plain_style, next_of}
+use Rattle.lg_host.specs.Printed.{wrote, effect_of, followed_by, converted, printed}
+use Rattle.lg_host.specs.Pieces.{Length, Int, Char, Short, Long, LongLong, length_bytes, size_of, NumberLetter, LowerD, LowerI, LowerU, LowerX, UpperX, LowerO, number_code, number_kind, PlainLetter, LowerC, LowerS, LowerP, plain_code, plain_kind, Itself, Percent, Number, Plain, spelled, all_spelled, AreFlags, AreDigits, width_of, BeginsWithoutZero, IsWidth, has_flag, style_of, with_argument, given, PrintsItsPieces}
 use Rattle.lg_host.specs.declared.format.Style.{Style}
 use Rattle.lg_host.specs.declared.format.Size.{Size}
 use Rattle.lg_host.specs.declared.format.Size.TheVariants as size
 use Rattle.lg_host.specs.declared.format.Kind.{Kind}
-use Rattle.lg_host.specs.declared.format.Kind.TheVariants as kind
 use Rattle.lg_host.specs.declared.format.Reading.{Reading}
 use Rattle.lg_host.specs.declared.format.Reading.TheVariants as reading
 use Rattle.lg_host.specs.declared.format.Next.{Next}

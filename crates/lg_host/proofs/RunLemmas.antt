@@ -1,8 +1,5 @@
 -- One more byte that can be read.
-use Rattle.std.proofs.Common.{◌≡◌, ◌≢◌, ◌⊎◌, ℕ, zero, suc, ◌+◌, ◌-◌, ◌*◌, ◌/◌, ◌%◌, ◌^◌, ◌<◌, ◌≤◌, Bool, true, false, List, [], ◌∷◌, ◌++◌, length, take, drop, get_or, Option, Some, None, refl, sym, ap, ap₂, ◌∙◌, subst, ⊎_elim, inl, inr, arith, append_assoc, length-append, drop-cons, eqb}
-use Rattle.std.specs.Prelude.{◌==◌, ◌&&◌, ◌||◌, not, max, nat_lt, nat_le, replicate, is_some, unwrap_or, Result, Ok, Err, OnOk, OnErr, IfSome, IfOk, if◌then◌else◌, option_and_then}
-use Rattle.std.specs.Option.{option_map}
-use Rattle.std.proofs.lemmas.Bool.{cases_eq, cases_lt, ne_eqb, eq-eqb, false≢true}
+use Rattle.std.proofs.Common.{◌≡◌, ℕ, zero, suc, ◌+◌, ◌-◌, ◌<◌, ◌≤◌, [], ◌∷◌, Some, None, refl, sym, ap, ◌∙◌, arith}
 use Rattle.lg_host.specs.Runs.{Bytes, memory_end, before, run_of, run}
 
 run_of-zero : (n : ℕ) (m : Bytes) (a : ℕ) → n ≡ 0 → run_of n m a ≡ []

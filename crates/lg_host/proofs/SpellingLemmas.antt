@@ -1,5 +1,5 @@
 -- A format that prints anything is spelled by pieces.
-use Rattle.std.proofs.Common.{◌≡◌, ◌≢◌, ◌⊎◌, ℕ, zero, ◌+◌, ◌-◌, ◌*◌, ◌<◌, ◌≤◌, Bool, true, false, List, [], ◌∷◌, ◌++◌, length, Option, Some, None, refl, sym, ap, ap₂, ◌∙◌, subst, ⊎_elim, inl, inr, arith, append_assoc, length-append}
+use Rattle.std.proofs.Common.{◌≡◌, ◌⊎◌, ℕ, ◌+◌, ◌-◌, ◌*◌, ◌<◌, ◌≤◌, Bool, true, false, List, [], ◌∷◌, ◌++◌, length, Option, Some, None, refl, sym, ap, ap₂, ◌∙◌, subst, inl, inr, arith, append_assoc, length-append}
 use Rattle.std.specs.Prelude.{◌==◌, ◌||◌, nat_le, if◌then◌else◌}
 use Rattle.std.specs.Option.{option_map}
 use Rattle.std.proofs.lemmas.Bool.{false≢true}
@@ -8,7 +8,7 @@ use Rattle.lg_io.specs.declared.digits.Radix.TheVariants as radix
 use Rattle.lg_host.specs.Runs.{Bytes}
 use Rattle.lg_host.specs.Strings.{is_digit}
 use Rattle.lg_host.specs.Formats.{number_letter, any_letter, without_zeros, at_length, at_width, at_flags, with_digit, plain_style, next_of}
-use Rattle.lg_host.specs.Printed.{Effect, wrote, effect_of, followed_by, converted, printed}
+use Rattle.lg_host.specs.Printed.{wrote, effect_of, followed_by, converted, printed}
 use Rattle.lg_host.specs.Pieces.{Length, Int, Char, Short, Long, LongLong, length_bytes, NumberLetter, LowerD, LowerI, LowerU, LowerX, UpperX, LowerO, number_code, PlainLetter, LowerC, LowerS, LowerP, plain_code, Piece, Itself, Percent, Number, Plain, spelled, all_spelled, AreFlags, AreDigits, width_of, BeginsWithoutZero, IsWidth, has_flag, IsPiece, ArePieces, IsSpelledByPieces}
 use Rattle.lg_host.specs.declared.format.Style.{Style}
 use Rattle.lg_host.specs.declared.format.Size.{Size}
@@ -57,25 +57,28 @@ after-if false x y text h k = k refl
 
 -- ---- letters
 number-piece : (s : Style) (front text : List ℕ) (o : Opens s front) (len : Length) (l : NumberLetter) (b : ℕ) → text ≡ front ++ length_bytes len → b ≡ number_code l → SpellsOne (text ++ b ∷ [])
-number-piece s front text o len l b e c =
-    ( Number o.flags o.digits len l
-    , ( (o.are_flags, o.is_width)
-      , ap₂ (λ x y. x ++ y ∷ []) (e ∙ ap (λ x. x ++ length_bytes len) o.is) c
-        ∙ ap (λ x. 37 ∷ x) (append_assoc (o.flags ++ o.digits) (length_bytes len) (number_code l ∷ []) ∙ append_assoc o.flags o.digits (length_bytes len ++ number_code l ∷ []))))
+number-piece s front text o len l b e c = (
+  Number o.flags o.digits len l,
+  (
+    (o.are_flags, o.is_width),
+    ap₂ (λ x y. x ++ y ∷ []) (e ∙ ap (λ x. x ++ length_bytes len) o.is) c
+        ∙ ap (λ x. 37 ∷ x) (append_assoc (o.flags ++ o.digits) (length_bytes len) (number_code l ∷ []) ∙ append_assoc o.flags o.digits (length_bytes len ++ number_code l ∷ [])),
+  ),
+)
 
 number-after : (s : Style) (front text : List ℕ) (o : Opens s front) (len : Length) (n : Size) (b : ℕ) → text ≡ front ++ length_bytes len → After (number_letter s n b) (text ++ b ∷ [])
 number-after s front text o len n b e =
     after-if (b == 100 || b == 105) (next.Converts s (kind.Signed n)) (if b == 117 then next.Converts s (kind.Unsigned radix.Decimal n) else if b == 120 then next.Converts s (kind.Unsigned radix.Hexadecimal n) else if b == 88 then next.Converts s (kind.Unsigned radix.UpperHexadecimal n) else if b == 111 then next.Converts s (kind.Unsigned radix.Octal n) else next.Wrong) (text ++ b ∷ [])
     (λ t. by (b == 100) (b == 105) refl refl t)
     (λ _. after-if (b == 117) (next.Converts s (kind.Unsigned radix.Decimal n)) (if b == 120 then next.Converts s (kind.Unsigned radix.Hexadecimal n) else if b == 88 then next.Converts s (kind.Unsigned radix.UpperHexadecimal n) else if b == 111 then next.Converts s (kind.Unsigned radix.Octal n) else next.Wrong) (text ++ b ∷ [])
-        (λ t. number-piece s front text o len LowerU b e (grind arith))
-        (λ _. after-if (b == 120) (next.Converts s (kind.Unsigned radix.Hexadecimal n)) (if b == 88 then next.Converts s (kind.Unsigned radix.UpperHexadecimal n) else if b == 111 then next.Converts s (kind.Unsigned radix.Octal n) else next.Wrong) (text ++ b ∷ [])
-            (λ t. number-piece s front text o len LowerX b e (grind arith))
-            (λ _. after-if (b == 88) (next.Converts s (kind.Unsigned radix.UpperHexadecimal n)) (if b == 111 then next.Converts s (kind.Unsigned radix.Octal n) else next.Wrong) (text ++ b ∷ [])
-                (λ t. number-piece s front text o len UpperX b e (grind arith))
-                (λ _. after-if (b == 111) (next.Converts s (kind.Unsigned radix.Octal n)) next.Wrong (text ++ b ∷ [])
-                    (λ t. number-piece s front text o len LowerO b e (grind arith))
-                    (λ _. tt)))))
+    (λ t. number-piece s front text o len LowerU b e (grind arith))
+    (λ _. after-if (b == 120) (next.Converts s (kind.Unsigned radix.Hexadecimal n)) (if b == 88 then next.Converts s (kind.Unsigned radix.UpperHexadecimal n) else if b == 111 then next.Converts s (kind.Unsigned radix.Octal n) else next.Wrong) (text ++ b ∷ [])
+    (λ t. number-piece s front text o len LowerX b e (grind arith))
+    (λ _. after-if (b == 88) (next.Converts s (kind.Unsigned radix.UpperHexadecimal n)) (if b == 111 then next.Converts s (kind.Unsigned radix.Octal n) else next.Wrong) (text ++ b ∷ [])
+    (λ t. number-piece s front text o len UpperX b e (grind arith))
+    (λ _. after-if (b == 111) (next.Converts s (kind.Unsigned radix.Octal n)) next.Wrong (text ++ b ∷ [])
+    (λ t. number-piece s front text o len LowerO b e (grind arith))
+    (λ _. tt)))))
   where
     by : (x y : Bool) → (b == 100) ≡ x → (b == 105) ≡ y → (x || y) ≡ true → SpellsOne (text ++ b ∷ [])
     by true y i j t = number-piece s front text o len LowerD b e (grind arith)
@@ -84,28 +87,31 @@ number-after s front text o len n b e =
 
 plain-after : (s : Style) (front : List ℕ) (o : Opens s front) (k : Kind) (l : PlainLetter) (b : ℕ) → b ≡ plain_code l → After (without_zeros s k) (front ++ b ∷ [])
 plain-after s front o k l b c = after-if s.zero next.Wrong (next.Converts s k) (front ++ b ∷ []) (λ _. tt)
-    (λ z.
-    ( Plain o.flags o.digits l
-    , ( (o.are_flags, sym o.zero_is ∙ z, o.is_width)
-      , ap₂ (λ x y. x ++ y ∷ []) o.is c ∙ ap (λ x. 37 ∷ x) (append_assoc o.flags o.digits (plain_code l ∷ [])))))
+    (λ z. (
+      Plain o.flags o.digits l,
+      (
+        (o.are_flags, sym o.zero_is ∙ z, o.is_width),
+        ap₂ (λ x y. x ++ y ∷ []) o.is c ∙ ap (λ x. 37 ∷ x) (append_assoc o.flags o.digits (plain_code l ∷ [])),
+      ),
+    ))
 
 any-after : (s : Style) (front : List ℕ) (o : Opens s front) (b : ℕ) → After (any_letter s b) (front ++ b ∷ [])
 any-after s front o b =
     after-if (b == 99) (without_zeros s kind.Character) (if b == 115 then without_zeros s kind.Text else if b == 112 then without_zeros s kind.Pointer else number_letter s size.Int b) (front ++ b ∷ [])
     (λ t. plain-after s front o kind.Character LowerC b (grind arith))
     (λ _. after-if (b == 115) (without_zeros s kind.Text) (if b == 112 then without_zeros s kind.Pointer else number_letter s size.Int b) (front ++ b ∷ [])
-        (λ t. plain-after s front o kind.Text LowerS b (grind arith))
-        (λ _. after-if (b == 112) (without_zeros s kind.Pointer) (number_letter s size.Int b) (front ++ b ∷ [])
-            (λ t. plain-after s front o kind.Pointer LowerP b (grind arith))
-            (λ _. number-after s front front o Int size.Int b (sym (append-nil front)))))
+    (λ t. plain-after s front o kind.Text LowerS b (grind arith))
+    (λ _. after-if (b == 112) (without_zeros s kind.Pointer) (number_letter s size.Int b) (front ++ b ∷ [])
+    (λ t. plain-after s front o kind.Pointer LowerP b (grind arith))
+    (λ _. number-after s front front o Int size.Int b (sym (append-nil front)))))
 
 length-after : (s : Style) (front : List ℕ) (o : Opens s front) (b : ℕ) → After (at_length s b) (front ++ b ∷ [])
 length-after s front o b =
     after-if (b == 104) (next.Reads (reading.Half s)) (if b == 108 then next.Reads (reading.Longer s) else any_letter s b) (front ++ b ∷ [])
     (λ t. let e : b ≡ 104 = grind arith in (front, o, ap (λ x. front ++ x ∷ []) e))
     (λ _. after-if (b == 108) (next.Reads (reading.Longer s)) (any_letter s b) (front ++ b ∷ [])
-        (λ t. let e : b ≡ 108 = grind arith in (front, o, ap (λ x. front ++ x ∷ []) e))
-        (λ _. any-after s front o b))
+    (λ t. let e : b ≡ 108 = grind arith in (front, o, ap (λ x. front ++ x ∷ []) e))
+    (λ _. any-after s front o b))
 
 -- ---- the width
 digits-more : (ds : List ℕ) (d : ℕ) → AreDigits ds → 48 ≤ d → d ≤ 57 → AreDigits (ds ++ d ∷ [])
@@ -125,8 +131,8 @@ digit-opens s front o b begins t le =
     let more = width_of-more 0 o.digits b in
     let lo : 48 ≤ b = grind arith in
     let hi : b ≤ 57 = grind arith in
-    let n : s.width * 10 + (b - 48) ≡ width_of 0 (o.digits ++ b ∷ []) = ap (λ w. w * 10 + (b - 48)) o.number_is ∙ sym more in
-    ( record {
+    let n : s.width * 10 + (b - 48) ≡ width_of 0 (o.digits ++ b ∷ []) = ap (λ w. w * 10 + (b - 48)) o.number_is ∙ sym more in (
+      record {
         flags = o.flags;
         digits = o.digits ++ b ∷ [];
         are_flags = o.are_flags;
@@ -134,15 +140,16 @@ digit-opens s front o b begins t le =
         zero_is = o.zero_is;
         number_is = n;
         is = ap (λ x. x ++ b ∷ []) o.is ∙ ap (λ x. 37 ∷ x) (append_assoc o.flags o.digits (b ∷ []));
-      }
-    , omega (arith, length-append o.digits (b ∷ [])))
+      },
+      omega (arith, length-append o.digits (b ∷ [])),
+    )
 
 width-after : (s : Style) (front : List ℕ) (o : Opens s front) (b : ℕ) → BeginsWithoutZero (o.digits ++ b ∷ []) → After (at_width s b) (front ++ b ∷ [])
 width-after s front o b begins =
     after-if (is_digit b) (if nat_le (s.width * 10 + (b - 48)) 4095 then next.Reads (reading.Width (with_digit s b)) else next.Wrong) (at_length s b) (front ++ b ∷ [])
     (λ t. after-if (nat_le (s.width * 10 + (b - 48)) 4095) (next.Reads (reading.Width (with_digit s b))) next.Wrong (front ++ b ∷ [])
-        (λ u. digit-opens s front o b begins t (grind arith))
-        (λ _. tt))
+    (λ u. digit-opens s front o b begins t (grind arith))
+    (λ _. tt))
     (λ _. length-after s front o b)
 
 -- ---- flags
@@ -163,17 +170,18 @@ has_flag-more flag (x ∷ xs) f = ap (λ t. x == flag || t) (has_flag-more flag 
     or-assoc false b c = refl
 
 flag-opens : (s t : Style) (text : List ℕ) (o : Opens s text) (f : ℕ) → o.digits ≡ [] → (f ≡ 45) ⊎ (f ≡ 48) → t.zero ≡ has_flag 48 (o.flags ++ f ∷ []) → t.width ≡ s.width → Leads (reading.Flags t) (text ++ f ∷ [])
-flag-opens s t text o f none k z w =
-    ( record {
-        flags = o.flags ++ f ∷ [];
-        digits = [];
-        are_flags = flags-more o.flags f o.are_flags k;
-        is_width = record { digits_are = tt; begins = tt; bound = omega arith };
-        zero_is = z;
-        number_is = w ∙ o.number_is ∙ ap (width_of 0) none;
-        is = ap (λ x. x ++ f ∷ []) o.is ∙ ap (λ x. 37 ∷ x) (ap (λ ds. (o.flags ++ ds) ++ f ∷ []) none ∙ ap (λ x. x ++ f ∷ []) (append-nil o.flags) ∙ sym (append-nil (o.flags ++ f ∷ [])));
-      }
-    , refl)
+flag-opens s t text o f none k z w = (
+  record {
+    flags = o.flags ++ f ∷ [];
+    digits = [];
+    are_flags = flags-more o.flags f o.are_flags k;
+    is_width = record { digits_are = tt; begins = tt; bound = omega arith };
+    zero_is = z;
+    number_is = w ∙ o.number_is ∙ ap (width_of 0) none;
+    is = ap (λ x. x ++ f ∷ []) o.is ∙ ap (λ x. 37 ∷ x) (ap (λ ds. (o.flags ++ ds) ++ f ∷ []) none ∙ ap (λ x. x ++ f ∷ []) (append-nil o.flags) ∙ sym (append-nil (o.flags ++ f ∷ [])));
+  },
+  refl,
+)
 
 flags-after : (s : Style) (text : List ℕ) (o : Opens s text) (b : ℕ) → o.digits ≡ [] → After (at_flags s b) (text ++ b ∷ [])
 flags-after s text o b none =
@@ -182,12 +190,13 @@ flags-after s text o b none =
     after-if (b == 45) (next.Reads (reading.Flags left)) (if b == 48 then next.Reads (reading.Flags zeros) else at_width s b) (text ++ b ∷ [])
     (λ t. let e : b ≡ 45 = grind arith in flag-opens s left text o b none (inl e) (o.zero_is ∙ or-no (has_flag 48 o.flags) ∙ ap (λ x. has_flag 48 o.flags || x == 48) (sym e) ∙ sym (has_flag-more 48 o.flags b)) refl)
     (λ u. after-if (b == 48) (next.Reads (reading.Flags zeros)) (at_width s b) (text ++ b ∷ [])
-        (λ t. let e : b ≡ 48 = grind arith in flag-opens s zeros text o b none (inr e) (or-yes (has_flag 48 o.flags) ∙ ap (λ x. has_flag 48 o.flags || x == 48) (sym e) ∙ sym (has_flag-more 48 o.flags b)) refl)
-        (λ t. let ne : b ≡ 48 → ⊥ = grind arith in width-after s text o b (subst (λ ds. BeginsWithoutZero (ds ++ b ∷ [])) (sym none) ne)))
+    (λ t. let e : b ≡ 48 = grind arith in flag-opens s zeros text o b none (inr e) (or-yes (has_flag 48 o.flags) ∙ ap (λ x. has_flag 48 o.flags || x == 48) (sym e) ∙ sym (has_flag-more 48 o.flags b)) refl)
+    (λ t. let ne : b ≡ 48 → ⊥ = grind arith in width-after s text o b (subst (λ ds. BeginsWithoutZero (ds ++ b ∷ [])) (sym none) ne)))
   where
     or-no : (x : Bool) → x ≡ (x || false)
     or-no true = refl
     or-no false = refl
+
     or-yes : (x : Bool) → true ≡ (x || true)
     or-yes true = refl
     or-yes false = refl

@@ -1,7 +1,6 @@
 -- What holds of every host function.
 use Rattle.std.specs.Prelude.{◌≡◌, ◌⊎◌, ℕ, ◌^◌, ◌<◌, ◌≤◌, Bool, true, List, ◌++◌, slice_index, Option, Some, None, ⊤}
 use Rattle.lg_base.specs.declared.host_name.HostName.{HostName}
-use Rattle.lg_host.specs.Runs.{Bytes}
 use Rattle.lg_host.specs.Blocks.{Changes}
 use Rattle.lg_host.specs.Host.{Mem, Host, Gives, Exits, Undefined, host_of, heap_end}
 

@@ -1,7 +1,7 @@
 -- A format as a list of pieces: how each is spelled, and what it prints.
-use Rattle.std.specs.Prelude.{◌≡◌, ◌≢◌, ℕ, ◌+◌, ◌-◌, ◌*◌, ◌==◌, ◌⊎◌, ◌≤◌, Bool, true, false, List, [], ◌∷◌, ◌++◌, Option, Some, None, ⊤}
+use Rattle.std.specs.Prelude.{◌≡◌, ◌≢◌, ℕ, ◌+◌, ◌-◌, ◌*◌, ◌==◌, ◌⊎◌, ◌≤◌, Bool, false, List, [], ◌∷◌, ◌++◌, Option, Some, None, ⊤}
 use Rattle.std.specs.List.{list_any}
-use Rattle.std.specs.Fmt.{◌++?◌, option_append}
+use Rattle.std.specs.Fmt.{◌++?◌}
 use Rattle.lg_io.specs.declared.digits.Radix.TheVariants as radix
 use Rattle.lg_host.specs.Runs.{Bytes}
 use Rattle.lg_host.specs.Printed.{converted, printed}

@@ -13,9 +13,9 @@ pub mod laws;
 mod letters;
 mod nowhere;
 mod output;
-pub mod parts;
+mod parts;
 mod print;
 mod strings;
 #[cfg(test)]
 mod tests;
-pub mod walk;
+mod walk;

@@ -1,4 +1,4 @@
-use Rattle.std.proofs.Common.{◌≡◌, ℕ, ◌+◌, ◌-◌, ◌<◌, ◌≤◌, List, [], ◌∷◌, ◌++◌, length, take, drop, Option, Some, None, refl, sym, ap, ap₂, ◌∙◌, subst, inl, inr, arith, length-append}
+use Rattle.std.proofs.Common.{sym, ◌∙◌, arith}
 use Rattle.lg_host.proofs.BlockLemmas.{mapped-none, mapped-some, mapped-end}
 use Rattle.lg_host.proofs.blocks.can_get_all.Goals as goal
 

@@ -1,6 +1,5 @@
-use Rattle.std.proofs.Common.{◌≡◌, ℕ, ◌+◌, ◌-◌, ◌<◌, ◌≤◌, List, [], ◌∷◌, ◌++◌, length, take, drop, Option, Some, None, refl, sym, ap, ap₂, ◌∙◌, subst, inl, inr, arith, length-append}
+use Rattle.std.proofs.Common.{◌≡◌, ◌+◌, ◌-◌}
 use Rattle.lg_base.specs.Spaces.{mapped}
-use Rattle.lg_host.specs.Blocks.{over, copied, filled, can_write}
 use Rattle.lg_host.proofs.blocks.can_get_all.Given as goal
 
 abbrev pub invariant-loop-i : goal.invariant-loop-i

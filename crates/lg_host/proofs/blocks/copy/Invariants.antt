@@ -1,6 +1,5 @@
-use Rattle.std.proofs.Common.{◌≡◌, ℕ, ◌+◌, ◌-◌, ◌<◌, ◌≤◌, List, [], ◌∷◌, ◌++◌, length, take, drop, Option, Some, None, refl, sym, ap, ap₂, ◌∙◌, subst, inl, inr, arith, length-append}
-use Rattle.lg_base.specs.Spaces.{mapped}
-use Rattle.lg_host.specs.Blocks.{over, copied, filled, can_write}
+use Rattle.std.proofs.Common.{◌≡◌}
+use Rattle.lg_host.specs.Blocks.{over, copied}
 use Rattle.lg_host.proofs.blocks.copy.Given as goal
 
 abbrev pub invariant-loop-i : goal.invariant-loop-i

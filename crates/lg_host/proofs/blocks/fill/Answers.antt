@@ -1,4 +1,4 @@
-use Rattle.std.proofs.Common.{◌≡◌, ℕ, ◌+◌, ◌-◌, ◌<◌, ◌≤◌, List, [], ◌∷◌, ◌++◌, length, take, drop, Option, Some, None, refl, sym, ap, ap₂, ◌∙◌, subst, inl, inr, arith, length-append}
+use Rattle.std.proofs.Common.{◌+◌, refl, ap, ◌∙◌, arith}
 use Rattle.lg_host.proofs.BlockLemmas.{fill-none, fill-more}
 use Rattle.lg_host.proofs.blocks.fill.Goals as goal
 

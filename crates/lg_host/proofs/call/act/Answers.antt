@@ -1,4 +1,4 @@
-use Rattle.std.proofs.Common.{ℕ, List, length, Option, subst}
+use Rattle.std.proofs.Common.{ℕ, length, Option, subst}
 use Rattle.std.specs.Option.{option_map}
 use Rattle.lg_host.specs.Runs.{run}
 use Rattle.lg_host.specs.Strings.{string_in, compared, atoi_in}

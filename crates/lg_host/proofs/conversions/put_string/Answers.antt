@@ -1,4 +1,4 @@
-use Rattle.std.proofs.Common.{◌≡◌, ℕ, ◌+◌, ◌-◌, ◌<◌, ◌≤◌, List, [], ◌∷◌, ◌++◌, length, take, drop, Option, Some, None, refl, sym, ap, ap₂, ◌∙◌, subst, inl, inr, arith, length-append}
+use Rattle.std.proofs.Common.{ℕ, List, [], Option, sym, subst}
 use Rattle.std.specs.Option.{option_map}
 use Rattle.lg_host.specs.Printed.{padded}
 use Rattle.lg_host.specs.Output.{output, Told}

@@ -1,9 +1,8 @@
-use Rattle.std.proofs.Common.{◌≡◌, ℕ, ◌+◌, ◌-◌, ◌<◌, ◌≤◌, List, [], ◌∷◌, ◌++◌, length, take, drop, Option, Some, None, refl, sym, ap, ap₂, ◌∙◌, subst, inl, inr, arith, length-append}
-use Rattle.lg_host.specs.Output.{Passes, output, parts_bytes, bytes_from}
-use Rattle.lg_host.proofs.OutputLemmas.{Passes-nil, Passes-stored, Passes-trans, Passes-prefix, Passes-flushed, Passes-cut, parts_bytes-split, parts_bytes-more, list-split, replicate-split, bytes_from-more, bytes_from-split}
-use Rattle.std.specs.Prelude.{replicate, unwrap_or}
+use Rattle.std.proofs.Common.{[], ◌∷◌, ◌++◌, sym, ap, ◌∙◌, subst, arith}
+use Rattle.lg_host.specs.Output.{Passes, output}
+use Rattle.lg_host.proofs.OutputLemmas.{Passes-trans, Passes-prefix, bytes_from-more, bytes_from-split}
+use Rattle.std.specs.Prelude.{unwrap_or}
 use Rattle.lg_io.specs.Wrote.{AppendsPrefix}
-use Rattle.std.proofs.lemmas.List.{take_more, replicate_more}
 use Rattle.lg_host.proofs.parts.put_text.Goals as goal
 
 pub loop-at-preserved : goal.loop-at-preserved

@@ -1,6 +1,5 @@
-use Rattle.std.proofs.Common.{◌≡◌, ℕ, ◌+◌, ◌-◌, ◌<◌, ◌≤◌, List, [], ◌∷◌, ◌++◌, length, take, drop, Option, Some, None, refl, sym, ap, ap₂, ◌∙◌, subst, inl, inr, arith, length-append}
-use Rattle.lg_host.specs.Output.{Passes, output, parts_bytes, bytes_from}
-use Rattle.std.specs.Prelude.{replicate}
+use Rattle.std.proofs.Common.{◌-◌, ◌≤◌}
+use Rattle.lg_host.specs.Output.{Passes, output, bytes_from}
 use Rattle.lg_host.proofs.parts.put_text.Given as goal
 
 abbrev pub invariant-loop-at : goal.invariant-loop-at

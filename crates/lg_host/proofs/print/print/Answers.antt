@@ -1,4 +1,3 @@
-use Rattle.std.proofs.Common.{◌≡◌, ℕ, ◌+◌, ◌-◌, ◌<◌, ◌≤◌, List, [], ◌∷◌, ◌++◌, length, take, drop, Option, Some, None, refl, sym, ap, ap₂, ◌∙◌, subst, inl, inr, arith, length-append}
 use Rattle.lg_host.specs.Output.{output}
 use Rattle.lg_host.proofs.PrintLemmas.{Prints-flushed, Prints-none, Prints-err}
 use Rattle.lg_host.proofs.print.print.Goals as goal

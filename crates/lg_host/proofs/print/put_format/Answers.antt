@@ -1,7 +1,7 @@
-use Rattle.std.proofs.Common.{◌≡◌, ℕ, ◌+◌, ◌-◌, ◌<◌, ◌≤◌, List, [], ◌∷◌, ◌++◌, length, take, drop, Option, Some, None, refl, sym, ap, ap₂, ◌∙◌, subst, inl, inr, arith, length-append}
+use Rattle.std.proofs.Common.{◌+◌, drop, sym, ap, ◌∙◌, arith}
 use Rattle.lg_host.specs.Printed.{step_of, printed_at}
 use Rattle.lg_host.specs.Output.{output}
-use Rattle.lg_host.proofs.PrintLemmas.{onto, onto-nil, printed-none, printed-end, printed-open, printed-stop, printed-step, printed-top, Told-none, Told-end, Told-err, after-none, SoFar-more}
+use Rattle.lg_host.proofs.PrintLemmas.{onto, printed-none, printed-end, printed-open, printed-stop, printed-step, printed-top, Told-none, Told-end, Told-err, after-none, SoFar-more}
 use Rattle.lg_host.proofs.print.put_format.Goals as goal
 
 pub returns-in_default : goal.returns-in_default

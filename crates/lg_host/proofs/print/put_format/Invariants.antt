@@ -1,4 +1,4 @@
-use Rattle.std.proofs.Common.{◌≡◌, ℕ, ◌+◌, ◌-◌, ◌<◌, ◌≤◌, List, [], ◌∷◌, ◌++◌, length, take, drop, Option, Some, None, refl, sym, ap, ap₂, ◌∙◌, subst, inl, inr, arith, length-append}
+use Rattle.std.proofs.Common.{◌≤◌}
 use Rattle.lg_host.specs.Printed.{printed_at}
 use Rattle.lg_host.specs.Output.{output}
 use Rattle.lg_host.proofs.PrintLemmas.{SoFar}

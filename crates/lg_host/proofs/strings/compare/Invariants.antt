@@ -1,7 +1,6 @@
-use Rattle.std.proofs.Common.{◌≡◌, ℕ, ◌+◌, ◌-◌, ◌<◌, ◌≤◌, List, [], ◌∷◌, ◌++◌, length, take, drop, Option, Some, None, refl, sym, ap, ap₂, ◌∙◌, subst, inl, inr, arith, length-append}
-use Rattle.std.specs.Option.{option_map}
+use Rattle.std.proofs.Common.{◌≡◌, ◌+◌}
 use Rattle.lg_host.specs.Runs.{run}
-use Rattle.lg_host.specs.Strings.{string_in, compared, number_in, signed_in, atoi_in}
+use Rattle.lg_host.specs.Strings.{compared}
 use Rattle.lg_host.proofs.strings.compare.Given as goal
 
 abbrev pub invariant-loop-i : goal.invariant-loop-i

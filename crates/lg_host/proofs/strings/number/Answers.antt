@@ -1,5 +1,5 @@
-use Rattle.std.proofs.Common.{◌≡◌, ℕ, ◌+◌, ◌-◌, ◌<◌, ◌≤◌, List, [], ◌∷◌, ◌++◌, length, take, drop, Option, Some, None, refl, sym, ap, ap₂, ◌∙◌, subst, inl, inr, arith, length-append}
-use Rattle.lg_host.proofs.StringLemmas.{end-none, end-top, end-zero, end-more, compare-none, compare-none2, compare-less, compare-more, compare-zero, compare-next, compare-top, again, reached, number-none, number-end, number-over, number-more, number-top, atoi-none, atoi-signed, atoi-space, atoi-top, signed-minus, signed-plus, signed-none}
+use Rattle.std.proofs.Common.{sym, ◌∙◌, inl, inr, arith}
+use Rattle.lg_host.proofs.StringLemmas.{number-none, number-end, number-over, number-more, number-top}
 use Rattle.lg_host.proofs.strings.number.Goals.{then-byte-lt48-via-then-byte-lt48, then-byte-lt48-via-else-byte-lt48+then-byte-gt57}
 use Rattle.lg_host.proofs.strings.number.Goals as goal
 

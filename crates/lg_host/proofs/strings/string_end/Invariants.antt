@@ -1,7 +1,7 @@
-use Rattle.std.proofs.Common.{◌≡◌, ℕ, ◌+◌, ◌-◌, ◌<◌, ◌≤◌, List, [], ◌∷◌, ◌++◌, length, take, drop, Option, Some, None, refl, sym, ap, ap₂, ◌∙◌, subst, inl, inr, arith, length-append}
+use Rattle.std.proofs.Common.{◌≡◌, ◌+◌, length}
 use Rattle.std.specs.Option.{option_map}
 use Rattle.lg_host.specs.Runs.{run}
-use Rattle.lg_host.specs.Strings.{string_in, compared, number_in, signed_in, atoi_in}
+use Rattle.lg_host.specs.Strings.{string_in}
 use Rattle.lg_host.proofs.strings.string_end.Given as goal
 
 abbrev pub invariant-loop-at : goal.invariant-loop-at

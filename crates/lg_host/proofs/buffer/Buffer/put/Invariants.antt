@@ -1,6 +1,5 @@
-use Rattle.std.proofs.Common.{◌≡◌, ℕ, ◌+◌, ◌-◌, ◌<◌, ◌≤◌, List, [], ◌∷◌, ◌++◌, length, take, drop, Option, Some, None, refl, sym, ap, ap₂, ◌∙◌, subst, inl, inr, arith, length-append}
-use Rattle.lg_host.specs.Output.{Passes, output, parts_bytes, bytes_from}
-use Rattle.std.specs.Prelude.{replicate}
+use Rattle.std.proofs.Common.{◌≤◌, take}
+use Rattle.lg_host.specs.Output.{Passes, output}
 use Rattle.lg_host.proofs.buffer.Buffer.put.Given as goal
 
 abbrev pub invariant-loop-byte : goal.invariant-loop-byte
