@@ -21,6 +21,9 @@ pub record Mem : Type 0 where
   pub room : ℕ → Bool
   pub mark : ℕ
 
+abbrev pub memory : Bytes → (ℕ → Bool) → ℕ → Mem
+memory bytes room mark = record { bytes = bytes; room = room; mark = mark }
+
 pub data Host : Type 0 where
   -- an answer, the bytes that are written to the memory, the new mark, and the bytes of output
   Gives : ℕ → Changes → ℕ → List ℕ → Host
@@ -118,6 +121,9 @@ pub record Out : Type 0 where
   pub new : Option (List ℕ)
   pub before : ℕ
   pub now : ℕ
+
+abbrev pub outcome : Option (List ℕ) → Option (List ℕ) → ℕ → ℕ → Out
+outcome old new before now = record { old = old; new = new; before = before; now = now }
 
 abbrev pub HostSays : Host → Mem → Mem → Out → HostEnd → Type 0
 HostSays (Gives value changes mark bytes) m m' o (end.Value x) = (x ≡ value) × Same (after m changes mark) m' × Appends o.old o.new bytes

@@ -1,7 +1,7 @@
 // The functions that hand out memory, and those on ranges of it.
 
 ghost use Rattle.std.specs.Prelude.{◌≡◌, ◌≤◌, ◌<◌, ◌+◌, ◌-◌, ◌*◌, ◌%◌, ◌^◌, ℕ, IfSome};
-ghost use Rattle.lg_host.specs.Host.{Reserves, MemSays, malloc, calloc, memset, memcpy};
+ghost use Rattle.lg_host.specs.Host.{memory, Reserves, MemSays, malloc, calloc, memset, memcpy};
 
 use crate::blocks::{can_get_all, can_put_all, copy, fill, is_below_end, overlaps};
 use crate::heap_mark::HeapMark;
@@ -10,7 +10,9 @@ use lg_base::space::Space;
 
 // Hands out so many bytes of the heap, where they fit.
 fn reserve<S: Space>(size: u64, mem: &mut S, heap: &mut HeapMark) -> Option<u64>
-    ensures says { Reserves record { bytes = S.byte_of mem.old; room = S.room mem.old; mark = heap.old } size record { bytes = S.byte_of mem.new; room = S.room mem.new; mark = heap.new } result }
+    ensures says { Reserves
+        (memory (S.byte_of mem.old) (S.room mem.old) heap.old) size
+        (memory (S.byte_of mem.new) (S.room mem.new) heap.new) result }
     ensures low { IfSome result (λ at. 0x30000000 ≤ at) }
 {
     let mark = heap.mark();
@@ -28,7 +30,9 @@ fn reserve<S: Space>(size: u64, mem: &mut S, heap: &mut HeapMark) -> Option<u64>
 
 // Hands out so many bytes.
 pub fn malloc<S: Space>(size: u64, mem: &mut S, heap: &mut HeapMark) -> HostEnd
-    ensures { MemSays (malloc heap.old size) record { bytes = S.byte_of mem.old; room = S.room mem.old; mark = heap.old } record { bytes = S.byte_of mem.new; room = S.room mem.new; mark = heap.new } result }
+    ensures { MemSays (malloc heap.old size)
+        (memory (S.byte_of mem.old) (S.room mem.old) heap.old)
+        (memory (S.byte_of mem.new) (S.room mem.new) heap.new) result }
 {
     match reserve(size, mem, heap) {
         Some(at) => HostEnd::Value(at),
@@ -38,7 +42,9 @@ pub fn malloc<S: Space>(size: u64, mem: &mut S, heap: &mut HeapMark) -> HostEnd
 
 // Hands out so many zero bytes of a size each.
 pub fn calloc<S: Space>(count: u64, size: u64, mem: &mut S, heap: &mut HeapMark) -> HostEnd
-    ensures { MemSays (calloc heap.old (count * size)) record { bytes = S.byte_of mem.old; room = S.room mem.old; mark = heap.old } record { bytes = S.byte_of mem.new; room = S.room mem.new; mark = heap.new } result }
+    ensures { MemSays (calloc heap.old (count * size))
+        (memory (S.byte_of mem.old) (S.room mem.old) heap.old)
+        (memory (S.byte_of mem.new) (S.room mem.new) heap.new) result }
 {
     match count.checked_mul(size) {
         Some(bytes) => zeroed(bytes, mem, heap),
@@ -48,7 +54,9 @@ pub fn calloc<S: Space>(count: u64, size: u64, mem: &mut S, heap: &mut HeapMark)
 
 // Hands out zero bytes.
 fn zeroed<S: Space>(size: u64, mem: &mut S, heap: &mut HeapMark) -> HostEnd
-    ensures { MemSays (calloc heap.old size) record { bytes = S.byte_of mem.old; room = S.room mem.old; mark = heap.old } record { bytes = S.byte_of mem.new; room = S.room mem.new; mark = heap.new } result }
+    ensures { MemSays (calloc heap.old size)
+        (memory (S.byte_of mem.old) (S.room mem.old) heap.old)
+        (memory (S.byte_of mem.new) (S.room mem.new) heap.new) result }
 {
     match reserve(size, mem, heap) {
         Some(at) => {
@@ -61,7 +69,9 @@ fn zeroed<S: Space>(size: u64, mem: &mut S, heap: &mut HeapMark) -> HostEnd
 
 // Sets the bytes of a range.
 pub fn memset<S: Space>(to: u64, word: u64, count: u64, mem: &mut S, heap: &mut HeapMark) -> HostEnd
-    ensures { MemSays (memset record { bytes = S.byte_of mem.old; room = S.room mem.old; mark = heap.old } to word count) record { bytes = S.byte_of mem.old; room = S.room mem.old; mark = heap.old } record { bytes = S.byte_of mem.new; room = S.room mem.new; mark = heap.new } result }
+    ensures { MemSays (memset (memory (S.byte_of mem.old) (S.room mem.old) heap.old) to word count)
+        (memory (S.byte_of mem.old) (S.room mem.old) heap.old)
+        (memory (S.byte_of mem.new) (S.room mem.new) heap.new) result }
 {
     if count == 0 {
         return HostEnd::Value(to);
@@ -78,7 +88,9 @@ pub fn memset<S: Space>(to: u64, word: u64, count: u64, mem: &mut S, heap: &mut 
 
 // Copies the bytes of a range to another that lies apart from it.
 pub fn memcpy<S: Space>(to: u64, from: u64, count: u64, mem: &mut S, heap: &mut HeapMark) -> HostEnd
-    ensures { MemSays (memcpy record { bytes = S.byte_of mem.old; room = S.room mem.old; mark = heap.old } to from count) record { bytes = S.byte_of mem.old; room = S.room mem.old; mark = heap.old } record { bytes = S.byte_of mem.new; room = S.room mem.new; mark = heap.new } result }
+    ensures { MemSays (memcpy (memory (S.byte_of mem.old) (S.room mem.old) heap.old) to from count)
+        (memory (S.byte_of mem.old) (S.room mem.old) heap.old)
+        (memory (S.byte_of mem.new) (S.room mem.new) heap.new) result }
 {
     if count == 0 {
         return HostEnd::Value(to);

@@ -4,7 +4,7 @@ ghost use Rattle.std.specs.Prelude.{◌≡◌, ◌≤◌, ◌<◌, ◌+◌, ℕ,
 ghost use Rattle.std.specs.Option.{option_map};
 ghost use Rattle.lg_host.specs.Runs.{run};
 ghost use Rattle.lg_host.specs.Strings.{string_in};
-ghost use Rattle.lg_host.specs.Host.{HostSays, MemSays, host_of, table, named, answered};
+ghost use Rattle.lg_host.specs.Host.{memory, outcome, HostSays, MemSays, host_of, table, named, answered};
 
 use crate::allocation::{calloc, malloc, memcpy, memset};
 use crate::heap_mark::HeapMark;
@@ -36,7 +36,7 @@ fn word(args: &[u64], index: usize) -> u64
 
 // An answer that changes and writes nothing.
 fn answered(answer: Option<u64>) -> HostEnd
-    ensures { (bytes : ℕ → Option ℕ) (room : _) (mark : ℕ) → MemSays (answered mark answer) record { bytes = bytes; room = room; mark = mark } record { bytes = bytes; room = room; mark = mark } result }
+    ensures { (bytes : ℕ → Option ℕ) (room : _) (mark : ℕ) → MemSays (answered mark answer) (memory bytes room mark) (memory bytes room mark) result }
 {
     match answer {
         Some(word) => HostEnd::Value(word),
@@ -67,7 +67,10 @@ fn act<S: Space, O: Sink>(
     out: &mut O,
 ) -> HostEnd
     requires { named name ≤ length args.now }
-    ensures says { HostSays (table name a b c args.now variadic record { bytes = S.byte_of mem.old; room = S.room mem.old; mark = heap.old }) record { bytes = S.byte_of mem.old; room = S.room mem.old; mark = heap.old } record { bytes = S.byte_of mem.new; room = S.room mem.new; mark = heap.new } record { old = O.taken out.old; new = O.taken out.new; before = O.faults out.old; now = O.faults out.new } result }
+    ensures says { HostSays (table name a b c args.now variadic (memory (S.byte_of mem.old) (S.room mem.old) heap.old))
+        (memory (S.byte_of mem.old) (S.room mem.old) heap.old)
+        (memory (S.byte_of mem.new) (S.room mem.new) heap.new)
+        (outcome (O.taken out.old) (O.taken out.new) (O.faults out.old) (O.faults out.new)) result }
     ensures later { O.faults out.old ≤ O.faults out.new }
 {
     match name {
@@ -93,7 +96,10 @@ fn act<S: Space, O: Sink>(
     }
 }
 
-/// Calls a host function.
+/// Calls a host function with its arguments, which are words. `variadic` says whether arguments behind the named ones may
+/// stand there, as `printf` needs it. A call with fewer arguments than are named is undefined, and further ones are not
+/// read. What each function answers, changes and writes stands in `table` of specs/Host.antt. Each output goes to the sink
+/// before the call ends. Where a write fails a part of it may have been written, from the first byte on.
 pub fn call<S: Space, O: Sink>(
     name: HostName,
     args: &[u64],
@@ -102,7 +108,10 @@ pub fn call<S: Space, O: Sink>(
     heap: &mut HeapMark,
     out: &mut O,
 ) -> HostEnd
-    ensures says { HostSays (host_of name args.now variadic record { bytes = S.byte_of mem.old; room = S.room mem.old; mark = heap.old }) record { bytes = S.byte_of mem.old; room = S.room mem.old; mark = heap.old } record { bytes = S.byte_of mem.new; room = S.room mem.new; mark = heap.new } record { old = O.taken out.old; new = O.taken out.new; before = O.faults out.old; now = O.faults out.new } result }
+    ensures says { HostSays (host_of name args.now variadic (memory (S.byte_of mem.old) (S.room mem.old) heap.old))
+        (memory (S.byte_of mem.old) (S.room mem.old) heap.old)
+        (memory (S.byte_of mem.new) (S.room mem.new) heap.new)
+        (outcome (O.taken out.old) (O.taken out.new) (O.faults out.old) (O.faults out.new)) result }
     ensures later { O.faults out.old ≤ O.faults out.new }
 {
     if args.len() < named(name) {

@@ -5,7 +5,7 @@ ghost use Rattle.std.specs.Option.{option_map};
 ghost use Rattle.lg_host.specs.Runs.{run};
 ghost use Rattle.lg_host.specs.Strings.{string_in};
 ghost use Rattle.lg_host.specs.Printed.{printed_at};
-ghost use Rattle.lg_host.specs.Host.{TextSays, int_answer, ByteSays};
+ghost use Rattle.lg_host.specs.Host.{outcome, TextSays, int_answer, ByteSays};
 
 use crate::format::Reading;
 use crate::host_end::HostEnd;
@@ -30,7 +30,8 @@ fn int_answer(count: u64) -> u64
 
 // Writes what a format prints of the arguments behind it.
 pub fn printf<S: Space, O: Sink>(mem: &S, format: u64, args: &[u64], out: &mut O) -> HostEnd
-    ensures says { TextSays (printed_at (S.byte_of mem.now) Reading.Plain format args.now) record { old = O.taken out.old; new = O.taken out.new; before = O.faults out.old; now = O.faults out.new } result }
+    ensures says { TextSays (printed_at (S.byte_of mem.now) Reading.Plain format args.now)
+        (outcome (O.taken out.old) (O.taken out.new) (O.faults out.old) (O.faults out.new)) result }
     ensures later { O.faults out.old ≤ O.faults out.new }
 {
     match print(mem, format, args, &mut Nowhere) {
@@ -46,7 +47,8 @@ pub fn printf<S: Space, O: Sink>(mem: &S, format: u64, args: &[u64], out: &mut O
 
 // Writes a string and a line feed.
 pub fn puts<S: Space, O: Sink>(mem: &S, from: u64, out: &mut O) -> HostEnd
-    ensures says { TextSays (option_map (λ string. string ++ 10 ∷ []) (string_in (run (S.byte_of mem.now) from))) record { old = O.taken out.old; new = O.taken out.new; before = O.faults out.old; now = O.faults out.new } result }
+    ensures says { TextSays (option_map (λ string. string ++ 10 ∷ []) (string_in (run (S.byte_of mem.now) from)))
+        (outcome (O.taken out.old) (O.taken out.new) (O.faults out.old) (O.faults out.new)) result }
     ensures later { O.faults out.old ≤ O.faults out.new }
 {
     let Some(end) = string_end(mem, from) else {
@@ -60,7 +62,8 @@ pub fn puts<S: Space, O: Sink>(mem: &S, from: u64, out: &mut O) -> HostEnd
 
 // Writes a byte.
 pub fn putchar<O: Sink>(word: u64, out: &mut O) -> HostEnd
-    ensures says { ByteSays (word % 256) record { old = O.taken out.old; new = O.taken out.new; before = O.faults out.old; now = O.faults out.new } result }
+    ensures says { ByteSays (word % 256)
+        (outcome (O.taken out.old) (O.taken out.new) (O.faults out.old) (O.faults out.new)) result }
     ensures later { O.faults out.old ≤ O.faults out.new }
 {
     let byte = (word % 256) as u8;
