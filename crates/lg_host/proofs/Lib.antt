@@ -1,0 +1,10 @@
+pub mod BlockLemmas
+pub mod HostLawLemmas
+pub mod HostLemmas
+pub mod LargerLemmas
+pub mod OutputLemmas
+pub mod PieceLemmas
+pub mod PrintLemmas
+pub mod RunLemmas
+pub mod SpellingLemmas
+pub mod StringLemmas

@@ -1,0 +1,9 @@
+pub mod Blocks
+pub mod Formats
+pub mod Host
+pub mod HostLaws
+pub mod Output
+pub mod Pieces
+pub mod Printed
+pub mod Runs
+pub mod Strings

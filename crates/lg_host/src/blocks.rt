@@ -1,0 +1,80 @@
+// Ranges of bytes in memory.
+
+ghost use Rattle.std.specs.Prelude.{◌≡◌, ◌≤◌, ◌+◌, ℕ, true, false, ◌&&◌, ◌||◌, ◌==◌, not};
+ghost use Rattle.lg_base.specs.Spaces.{mapped};
+ghost use Rattle.lg_host.specs.Blocks.{over, copied, filled, can_write, is_below_end, overlaps};
+
+use crate::strings::MEMORY_END;
+use lg_base::space::Space;
+
+// Whether a range ends before the end of memory.
+pub fn is_below_end(from: u64, count: u64) -> bool
+    ensures { result ≡ is_below_end from count }
+{
+    count <= MEMORY_END && from <= MEMORY_END - count
+}
+
+// Whether the distance of two addresses is below a number.
+pub fn overlaps(to: u64, from: u64, count: u64) -> bool
+    ensures { result ≡ overlaps to from count }
+{
+    if to <= from {
+        from - to < count
+    } else {
+        to - from < count
+    }
+}
+
+// Whether all of a range can be read.
+pub fn can_get_all<S: Space>(mem: &S, from: u64, count: u64) -> bool
+    requires { from + count ≤ 0x40000000 }
+    ensures { result ≡ mapped (S.byte_of mem.now) from count }
+{
+    for i in 0..count {
+        let Some(_byte) = mem.get(from + i) else {
+            return false;
+        };
+    }
+    true
+}
+
+// Whether all of a range can be written.
+pub fn can_put_all<S: Space>(mem: &S, from: u64, count: u64) -> bool
+    requires { from + count ≤ 0x40000000 }
+    ensures { result ≡ can_write (S.room mem.now) from count }
+{
+    for i in 0..count {
+        if !mem.can_put(from + i) {
+            return false;
+        }
+    }
+    true
+}
+
+// Sets the bytes of a range.
+pub fn fill<S: Space>(mem: &mut S, to: u64, byte: u8, count: u64)
+    requires below { to + count ≤ 0x40000000 }
+    requires can { can_write (S.room mem.old) to count ≡ true }
+    ensures bytes { S.byte_of mem.new ≡ over (filled to byte count) (S.byte_of mem.old) }
+    ensures rooms { S.room mem.new ≡ S.room mem.old }
+{
+    for i in 0..count {
+        let _ = mem.put(to + i, byte);
+    }
+}
+
+// Copies the bytes of a range.
+pub fn copy<S: Space>(mem: &mut S, to: u64, from: u64, count: u64)
+    requires below { to + count ≤ 0x40000000 }
+    requires below_from { from + count ≤ 0x40000000 }
+    requires can { can_write (S.room mem.old) to count ≡ true }
+    requires can_read { mapped (S.byte_of mem.old) from count ≡ true }
+    requires apart { overlaps to from count ≡ false }
+    ensures bytes { S.byte_of mem.new ≡ over (copied (S.byte_of mem.old) to from count) (S.byte_of mem.old) }
+    ensures rooms { S.room mem.new ≡ S.room mem.old }
+{
+    for i in 0..count {
+        let byte = mem.get(from + i).unwrap_or(0);
+        let _ = mem.put(to + i, byte);
+    }
+}

@@ -1,0 +1,74 @@
+// The format of `printf`: what is read of it, byte by byte.
+
+use lg_io::digits::Radix;
+
+/// The flags and the width of a conversion.
+#[derive(Clone, Copy)]
+pub struct Style {
+    /// The flag `-`: spaces come on the right.
+    pub left: bool,
+    /// The flag `0`: zeros come behind the sign in place of spaces on the left.
+    pub zero: bool,
+    /// The least number of bytes, at most 4,095.
+    pub width: u32,
+}
+
+/// How many low bytes of a word a conversion takes.
+#[derive(Clone, Copy)]
+pub enum Size {
+    /// One byte, `hh`.
+    Byte,
+    /// Two bytes, `h`.
+    Short,
+    /// Four bytes, without a length.
+    Int,
+    /// Eight bytes, `l` and `ll`.
+    Long,
+}
+
+/// What a conversion prints.
+#[derive(Clone, Copy)]
+pub enum Kind {
+    /// A number with its sign in decimal digits.
+    Signed(Size),
+    /// A number without a sign.
+    Unsigned(Radix, Size),
+    /// The low byte.
+    Character,
+    /// The string at an address.
+    Text,
+    /// The word as an address.
+    Pointer,
+}
+
+/// Where the reading of a format stands.
+#[derive(Clone, Copy)]
+pub enum Reading {
+    /// Outside conversions.
+    Plain,
+    /// Behind the percent sign.
+    Start,
+    /// Behind a flag.
+    Flags(Style),
+    /// Behind a digit of the width.
+    Width(Style),
+    /// Behind one `h`.
+    Half(Style),
+    /// Behind one `l`.
+    Longer(Style),
+    /// Behind `hh` or `ll`.
+    Sized(Style, Size),
+}
+
+/// What the next byte of a format means.
+#[derive(Clone, Copy)]
+pub enum Next {
+    /// It only moves the reading on.
+    Reads(Reading),
+    /// It stands for itself.
+    Puts(u8),
+    /// It ends a conversion.
+    Converts(Style, Kind),
+    /// No format has it there.
+    Wrong,
+}

@@ -1,0 +1,26 @@
+// What holds of every host function, for the crates that call them. The functions do nothing: their contracts are the laws.
+
+ghost use Rattle.lg_host.specs.HostLaws.{IsKept, AnswersAllowed};
+ghost use Rattle.lg_host.specs.Pieces.{PrintsItsPieces, IsSpelledByPieces};
+
+/// A call that is defined answers, changes and writes the same over a memory that holds more, with further arguments, and
+/// where it may be variadic.
+pub fn larger_memory_changes_nothing()
+    ensures { IsKept }
+{}
+
+/// An answer is a word, a call writes bytes only where bytes may be written or in the heap that it hands out, and the heap
+/// mark never falls and stays in the heap.
+pub fn answers_are_allowed()
+    ensures { AnswersAllowed }
+{}
+
+/// A format of `printf` that is spelled by pieces prints what they give.
+pub fn formats_print_their_pieces()
+    ensures { PrintsItsPieces }
+{}
+
+/// A format of `printf` that prints anything is spelled by pieces.
+pub fn formats_are_spelled_by_pieces()
+    ensures { IsSpelledByPieces }
+{}

@@ -1,0 +1,21 @@
+//! The thirteen functions of the host: what a call answers, changes in memory and writes, without memory of its own.
+#![tactic(auto)]
+
+mod allocation;
+mod blocks;
+mod buffer;
+pub mod call;
+mod conversions;
+pub mod format;
+pub mod heap_mark;
+pub mod host_end;
+pub mod laws;
+mod letters;
+mod nowhere;
+mod output;
+mod parts;
+mod print;
+mod strings;
+#[cfg(test)]
+mod tests;
+mod walk;

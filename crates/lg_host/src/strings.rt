@@ -1,0 +1,123 @@
+// Strings of C in memory.
+
+ghost use Rattle.std.specs.Prelude.{◌≡◌, ℕ, ◌+◌, ◌<◌, ◌≤◌, Some, IfSome, length};
+ghost use Rattle.std.specs.Option.{option_map};
+ghost use Rattle.lg_host.specs.Runs.{run};
+ghost use Rattle.lg_host.specs.Strings.{string_in, compared, number_in, signed_in, atoi_in, int_word, is_space};
+
+use lg_base::space::Space;
+
+// No part of memory lies from this address on.
+pub const MEMORY_END: u64 = 0x4000_0000;
+
+// The address of the zero byte that ends the string at an address.
+pub fn string_end<S: Space>(mem: &S, from: u64) -> Option<u64>
+    ensures value { result ≡ option_map (λ s. from + length s) (string_in (run (S.byte_of mem.now) from)) }
+    ensures below { IfSome result (λ end. (from ≤ end) × (end < 0x40000000)) }
+{
+    for at in from..MEMORY_END {
+        let Some(byte) = mem.get(at) else {
+            return None;
+        };
+        if byte == 0 {
+            return Some(at);
+        }
+    }
+    None
+}
+
+// How two strings compare, as a word.
+pub fn compare<S: Space>(mem: &S, first: u64, second: u64) -> Option<u64>
+    ensures { result ≡ compared (run (S.byte_of mem.now) first) (run (S.byte_of mem.now) second) }
+{
+    for i in 0..MEMORY_END.saturating_sub(first.max(second)) {
+        let Some(a) = mem.get(first + i) else {
+            return None;
+        };
+        let Some(b) = mem.get(second + i) else {
+            return None;
+        };
+        if a < b {
+            return Some(u64::MAX);
+        }
+        if a > b {
+            return Some(1);
+        }
+        if a == 0 {
+            return Some(0);
+        }
+    }
+    None
+}
+
+// The number that a string begins with.
+pub fn atoi<S: Space>(mem: &S, from: u64) -> Option<u64>
+    ensures { result ≡ atoi_in (run (S.byte_of mem.now) from) }
+{
+    for at in from..MEMORY_END {
+        let Some(byte) = mem.get(at) else {
+            return None;
+        };
+        if !is_space(byte) {
+            return signed(mem, at, byte);
+        }
+    }
+    None
+}
+
+fn is_space(byte: u8) -> bool
+    ensures { result ≡ is_space byte }
+{
+    byte == b' ' || (9 <= byte && byte <= 13)
+}
+
+// The number from its sign or first digit on.
+fn signed<S: Space>(mem: &S, at: u64, byte: u8) -> Option<u64>
+    requires low { at < 0x40000000 }
+    requires here { S.byte_of mem.now at ≡ Some byte }
+    ensures { result ≡ signed_in (run (S.byte_of mem.now) at) }
+{
+    if byte == b'-' {
+        number(mem, at + 1, true)
+    } else if byte == b'+' {
+        number(mem, at + 1, false)
+    } else {
+        number(mem, at, false)
+    }
+}
+
+// The number of the digits from here on.
+fn number<S: Space>(mem: &S, from: u64, negative: bool) -> Option<u64>
+    ensures { result ≡ number_in negative 0 (run (S.byte_of mem.now) from) }
+{
+    let mut value: u64 = 0;
+    for at in from..MEMORY_END {
+        let Some(byte) = mem.get(at) else {
+            return None;
+        };
+        if byte < b'0' || byte > b'9' {
+            return int_word(negative, value);
+        }
+        value = value * 10 + (byte - b'0') as u64;
+        if value > 0x8000_0000 {
+            return None;
+        }
+    }
+    None
+}
+
+fn int_word(negative: bool, value: u64) -> Option<u64>
+    ensures { result ≡ int_word negative value }
+{
+    if negative {
+        if value <= 0x8000_0000 {
+            Some(0u64.wrapping_sub(value))
+        } else {
+            None
+        }
+    } else if value < 0x8000_0000 {
+        Some(value)
+    } else {
+        None
+    }
+}

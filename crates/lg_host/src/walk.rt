@@ -1,0 +1,14 @@
+// How far a format was read.
+
+use crate::format::Reading;
+
+/// Where the reading stands, how many arguments were used, and how many bytes were written, modulo 2^64.
+#[derive(Clone, Copy)]
+pub struct Walk {
+    /// Where the reading stands.
+    pub reading: Reading,
+    /// How many arguments were used.
+    pub used: usize,
+    /// How many bytes were written, modulo 2^64.
+    pub count: u64,
+}
