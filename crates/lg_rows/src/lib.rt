@@ -7,6 +7,8 @@ mod arguments;
 #[cfg(test)]
 mod first_path;
 #[cfg(test)]
+mod lists;
+#[cfg(test)]
 mod memory;
 #[cfg(test)]
 mod wide;
