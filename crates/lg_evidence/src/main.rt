@@ -8,15 +8,19 @@ mod check;
 mod riscv64;
 mod table;
 mod vector;
+mod x86_64;
 
 use aarch64::Aarch64;
 use check::{check_refused, check_spelled};
 use riscv64::Riscv64;
 use std::io;
+use x86_64::X86;
 
 fn main(rt: HostRuntime) -> io::Result<()> {
     check_spelled::<Aarch64>(&rt, "encode_aarch64.tsv")?;
     check_refused::<Aarch64>(&rt, "decode_none_aarch64.tsv")?;
     check_spelled::<Riscv64>(&rt, "encode_riscv64.tsv")?;
-    check_refused::<Riscv64>(&rt, "decode_none_riscv64.tsv")
+    check_refused::<Riscv64>(&rt, "decode_none_riscv64.tsv")?;
+    check_spelled::<X86>(&rt, "encode_x86_64.tsv")?;
+    check_refused::<X86>(&rt, "decode_none_x86_64.tsv")
 }

@@ -1,0 +1,4 @@
+pub mod AgainLemmas
+pub mod CheckedLemmas
+pub mod FieldLemmas
+pub mod FrontLemmas

@@ -1,0 +1,212 @@
+// The fields of REX, ModRM and SIB, and the numbers behind them.
+
+ghost use Rattle.std.specs.Prelude.{◌≡◌, ◌<◌, ◌≤◌, ◌+◌, ◌*◌, ◌^◌, ◌/◌, ◌%◌, ◌==◌, ℕ, List, drop, length, slice_index};
+ghost use Rattle.lg_base.specs.Fields.{bits_of, signed};
+ghost use Rattle.lg_x86.specs.Spelling.{extension, modrm, sib, is_short, short_bytes, long_bytes, number_bytes, IsNumber8, IsNumber32};
+ghost use Rattle.lg_x86.specs.Reading.{opcode_reg, has_registers, digit_in, reg_in, rm_in, index_in, base_in, word_in, wide_in, short_in, long_in, number_in, disp_in, disp_place};
+
+use lg_base::number::{from_bits, to_bits};
+use lg_base::piece::Piece;
+
+/// The bits R, X and B of REX.
+pub(crate) fn extension_of(reg: u8, index: u8, rm: u8) -> u8
+    requires { (reg < 16) × (index < 16) × (rm < 16) }
+    ensures value { result ≡ extension reg index rm }
+    ensures fits { result < 8 }
+{
+    reg / 8 * 4 + index / 8 * 2 + rm / 8
+}
+
+/// ModRM; only the low three bits of each register stand in it.
+pub(crate) fn modrm_of(mode: u8, reg: u8, rm: u8) -> u8
+    requires { mode < 4 }
+    ensures { result ≡ modrm mode reg rm }
+{
+    mode * 64 + reg % 8 * 8 + rm % 8
+}
+
+/// SIB of scale 0; only the low three bits of each register stand in it.
+pub(crate) fn sib_of(index: u8, base: u8) -> u8
+    ensures { result ≡ sib index base }
+{
+    index % 8 * 8 + base % 8
+}
+
+/// Whether the number is one of 8 bits.
+pub(crate) fn fits_short(number: i32) -> bool
+    ensures { result ≡ is_short number }
+{
+    -128 <= number && number <= 127
+}
+
+/// The byte of a number from -128 to 127.
+pub(crate) fn short_byte(number: i32) -> u8
+    requires { IsNumber8 number }
+    ensures { result ≡ bits_of 128 number }
+{
+    to_bits(number, 1 << 7) as u8
+}
+
+/// The four bytes of a number.
+pub(crate) fn long_of(number: i32) -> [u8; 4]
+    ensures value { result ≡ long_bytes number }
+    ensures len { length result ≡ 4 }
+{
+    number.cast_unsigned().to_le_bytes()
+}
+
+/// The bytes of a number: one, or else four.
+pub(crate) fn number_of(number: i32) -> Piece
+    ensures value { result ≡ number_bytes number }
+    ensures short { length result ≤ 4 }
+{
+    if fits_short(number) {
+        Piece::of(&[short_byte(number)])
+    } else {
+        Piece::of(&long_of(number))
+    }
+}
+
+/// The byte at a place, or 0 behind the last.
+pub(crate) fn byte_at(bytes: &[u8], place: usize) -> u8
+    ensures { result ≡ slice_index bytes.now place }
+{
+    bytes.get(place).copied().unwrap_or(0)
+}
+
+/// The bytes from a place on.
+pub(crate) fn skip(bytes: &[u8], place: usize) -> &[u8]
+    ensures { result.now ≡ drop place bytes.now }
+{
+    if bytes.len() < place {
+        &[]
+    } else {
+        &bytes[place..]
+    }
+}
+
+/// The register whose low three bits stand in an opcode.
+pub(crate) fn opcode_register(rex: u8, opcode: u8) -> u8
+    ensures value { result ≡ opcode_reg rex opcode }
+    ensures fits { result < 16 }
+{
+    rex % 2 * 8 + opcode % 8
+}
+
+/// Whether ModRM names two registers.
+pub(crate) fn names_registers(tail: &[u8]) -> bool
+    ensures { result ≡ has_registers tail.now }
+{
+    byte_at(tail, 0) / 64 == 3
+}
+
+/// The field reg of ModRM.
+pub(crate) fn digit(tail: &[u8]) -> u8
+    ensures { result ≡ digit_in tail.now }
+{
+    byte_at(tail, 0) / 8 % 8
+}
+
+/// The register of the field reg of ModRM.
+pub(crate) fn reg_register(rex: u8, tail: &[u8]) -> u8
+    ensures value { result ≡ reg_in rex tail.now }
+    ensures fits { result < 16 }
+{
+    rex / 4 % 2 * 8 + byte_at(tail, 0) / 8 % 8
+}
+
+/// The register of the field rm of ModRM.
+pub(crate) fn rm_register(rex: u8, tail: &[u8]) -> u8
+    ensures value { result ≡ rm_in rex tail.now }
+    ensures fits { result < 16 }
+{
+    rex % 2 * 8 + byte_at(tail, 0) % 8
+}
+
+/// The index of SIB.
+pub(crate) fn index_register(rex: u8, tail: &[u8]) -> u8
+    ensures value { result ≡ index_in rex tail.now }
+    ensures fits { result < 16 }
+{
+    rex / 2 % 2 * 8 + byte_at(tail, 1) / 8 % 8
+}
+
+/// The base of SIB.
+pub(crate) fn base_register(rex: u8, tail: &[u8]) -> u8
+    ensures value { result ≡ base_in rex tail.now }
+    ensures fits { result < 16 }
+{
+    rex % 2 * 8 + byte_at(tail, 1) % 8
+}
+
+/// The number of 32 bits that the bytes begin with.
+pub(crate) fn word(bytes: &[u8]) -> u32
+    ensures { result ≡ word_in bytes.now }
+{
+    u32::from_le_bytes([
+        byte_at(bytes, 0),
+        byte_at(bytes, 1),
+        byte_at(bytes, 2),
+        byte_at(bytes, 3),
+    ])
+}
+
+/// The number of 64 bits that the bytes begin with.
+pub(crate) fn wide_word(bytes: &[u8]) -> u64
+    ensures { result ≡ wide_in bytes.now }
+{
+    u64::from_le_bytes([
+        byte_at(bytes, 0),
+        byte_at(bytes, 1),
+        byte_at(bytes, 2),
+        byte_at(bytes, 3),
+        byte_at(bytes, 4),
+        byte_at(bytes, 5),
+        byte_at(bytes, 6),
+        byte_at(bytes, 7),
+    ])
+}
+
+/// The signed number of 8 bits that the bytes begin with.
+pub(crate) fn short_number(bytes: &[u8]) -> i32
+    ensures value { result ≡ short_in bytes.now }
+    ensures fits { IsNumber8 result }
+{
+    from_bits(byte_at(bytes, 0) as u32, 1 << 7)
+}
+
+/// The signed number of 32 bits that the bytes begin with.
+pub(crate) fn long_number(bytes: &[u8]) -> i32
+    ensures value { result ≡ long_in bytes.now }
+    ensures fits { IsNumber32 result }
+{
+    word(bytes).cast_signed()
+}
+
+/// The signed number that the bytes begin with, of 8 bits or else of 32.
+pub(crate) fn signed_number(is_short: bool, bytes: &[u8]) -> i32
+    ensures value { result ≡ number_in is_short bytes.now }
+    ensures fits { IsNumber32 result }
+{
+    if is_short {
+        short_number(bytes)
+    } else {
+        long_number(bytes)
+    }
+}
+
+/// The displacement, which stands behind ModRM and SIB.
+pub(crate) fn displacement(tail: &[u8]) -> i32
+    ensures value { result ≡ disp_in tail.now }
+    ensures fits { IsNumber32 result }
+{
+    let modrm = byte_at(tail, 0);
+    signed_number(modrm / 64 == 1, skip(tail, displacement_place(modrm)))
+}
+
+// where the displacement stands behind this ModRM: SIB follows where its field rm is 4
+fn displacement_place(modrm: u8) -> usize
+    ensures { (tail : List ℕ) → slice_index tail 0 ≡ modrm → result ≡ disp_place tail }
+{
+    if modrm % 8 == 4 { 2 } else { 1 }
+}
