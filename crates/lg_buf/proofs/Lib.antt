@@ -1,0 +1,2 @@
+pub mod PatchLemmas
+pub mod SoundLemmas
