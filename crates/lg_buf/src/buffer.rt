@@ -89,7 +89,6 @@ impl CodeBuf {
         ensures small { self.now.size < 2 ^ 32 }
         ensures fixes { All (EndsWithin (length self.now.bytes)) self.now.fixes }
     {
-        let _room = self.room;
         self.store.len()
     }
 

@@ -10,3 +10,6 @@ mod words;
 
 pub use buffer::{CodeBuf, Finished};
 pub use fixes::{Fix, FixKind, Label32};
+
+#[cfg(test)]
+mod tests;

@@ -1,38 +1,20 @@
 // Patching: each kind of field is written so that it leads to a target that it fits.
 
-ghost use Rattle.std.specs.Prelude.{◌≡◌, ◌<◌, ◌≤◌, ◌+◌, ◌%◌, ◌↔◌, ℕ, pos, ◌+ℤ◌, length, Some, IsTrue, false};
+ghost use Rattle.std.specs.Prelude.{◌≡◌, ◌<◌, ◌≤◌, ◌+◌, ◌↔◌, ℕ, length, Some, IsTrue, false};
 ghost use Rattle.std.specs.List.{All};
-ghost use Rattle.lg_base.specs.Fields.{signed};
 ghost use Rattle.lg_buf.specs.FixFields.{fix_len};
-ghost use Rattle.lg_buf.specs.Fixing.{Fits, Patched, IsWithin};
+ghost use Rattle.lg_buf.specs.Fixing.{Fits, Patched};
 ghost use Rattle.lg_buf.specs.Buffers.{AreSound, AreDone, IsReady, place_of};
 
 use crate::fixes::{Fix, FixKind, Label32};
 use crate::store::Store;
 use crate::words::{
-    with_branch, with_branch_26, with_cond_19, with_immediate, with_jump, with_move_16, with_upper,
+    distance, with_branch, with_branch_26, with_cond_19, with_immediate, with_jump, with_move_16,
+    with_upper,
 };
 
 // the first address of code
 const CODE: u32 = 0x1000_0000;
-
-// the bits of the distance as a signed number of `half + half` values
-fn distance(half: u64, from: u64, to: u32) -> u32
-    requires half { half ≤ 2147483648 }
-    requires even { half % 2 ≡ 0 }
-    requires from { from < 8589934592 }
-    requires within { IsWithin half from to }
-    ensures range { result < half + half }
-    ensures leads { pos from +ℤ signed half result ≡ pos to }
-    ensures low { (from + result) % 4 ≡ to % 4 }
-{
-    let to = to as u64;
-    if to >= from {
-        (to - from) as u32
-    } else {
-        (to + half + half - from) as u32
-    }
-}
 
 fn patch_rel_8(store: &mut Store, place: u32, target: u32)
     requires inside { place + 1 ≤ length store.old.items }
@@ -91,6 +73,7 @@ fn patch_mov_pair(store: &mut Store, place: u32, target: u32)
     ensures patched { Patched FixKind.A64MovPair place target store.old.items store.new.items }
     ensures size { store.new.size ≡ store.old.size }
 {
+    // places fit 32 bits
     let _len = store.len();
     let address = CODE + target;
     let low = store.reread(place);
@@ -128,6 +111,7 @@ fn patch_lui_addi(store: &mut Store, place: u32, target: u32)
     ensures patched { Patched FixKind.RvLuiAddi place target store.old.items store.new.items }
     ensures size { store.new.size ≡ store.old.size }
 {
+    // places fit 32 bits
     let _len = store.len();
     let address = CODE + target;
     let upper = store.reread(place);

@@ -45,6 +45,7 @@ impl Store {
         ensures within { length self.now.items ≤ self.now.size }
         ensures small { self.now.size < 2 ^ 32 }
     {
+        // the size fits 32 bits
         let _size = self.size;
         self.bytes.len() as u32
     }
@@ -102,6 +103,7 @@ impl Store {
         ensures word { result ≡ word_at self.old.items place }
         ensures same { self.new ≡ self.old }
     {
+        // places fit 32 bits
         let _len = self.len();
         let first = self.get(place) as u32;
         let second = self.get(place + 1) as u32;
@@ -116,6 +118,7 @@ impl Store {
         ensures word { word_at self.new.items place ≡ word }
         ensures others { ChangesOnly place 4 self.old self.new }
     {
+        // places fit 32 bits
         let _len = self.len();
         self.set(place, Field::<0, 8>::get(word) as u8);
         self.set(place + 1, Field::<8, 8>::get(word) as u8);

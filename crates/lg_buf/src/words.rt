@@ -1,11 +1,30 @@
-// Instruction words with a number in their field, and every bit beside the field as it was.
+// The bits of distances, and instruction words with a number in their field and every bit beside the field as it was.
 
-ghost use Rattle.std.specs.Prelude.{◌≡◌, ◌<◌, ◌%◌};
-ghost use Rattle.lg_base.specs.Fields.{part};
+ghost use Rattle.std.specs.Prelude.{◌≡◌, ◌<◌, ◌≤◌, ◌+◌, ◌%◌, pos, ◌+ℤ◌};
+ghost use Rattle.lg_base.specs.Fields.{part, signed};
 ghost use Rattle.lg_base.specs.Immediates.{branch_bits, jump_bits};
 ghost use Rattle.lg_buf.specs.FixFields.{branch_rest, cond_rest, move_rest};
+ghost use Rattle.lg_buf.specs.Fixing.{IsWithin};
 
 use lg_base::field::Field;
+
+/// The bits of the distance as a signed number of `half + half` values, of which it is one.
+pub(crate) fn distance(half: u64, from: u64, to: u32) -> u32
+    requires half { half ≤ 2147483648 }
+    requires even { half % 2 ≡ 0 }
+    requires from { from < 8589934592 }
+    requires within { IsWithin half from to }
+    ensures range { result < half + half }
+    ensures leads { pos from +ℤ signed half result ≡ pos to }
+    ensures low { (from + result) % 4 ≡ to % 4 }
+{
+    let to = to as u64;
+    if to >= from {
+        (to - from) as u32
+    } else {
+        (to + half + half - from) as u32
+    }
+}
 
 /// A branch of RV64 whose offset has these 13 bits, the lowest of which is 0.
 pub(crate) fn with_branch(word: u32, bits: u32) -> u32
