@@ -1,0 +1,3 @@
+pub mod PatchLemmas
+pub mod ReadyLemmas
+pub mod SoundLemmas

@@ -1,0 +1,4 @@
+pub mod Buffers
+pub mod FixFields
+pub mod Fixing
+pub mod Stores

@@ -1,0 +1,140 @@
+// Bytes in room that is taken once. Only `new`, `push`, `get`, `set` and the model know what the room is.
+
+ghost use Rattle.std.specs.Prelude.{◌≡◌, ◌+◌, ◌<◌, ◌≤◌, ◌^◌, [], ◌∷◌, ◌++◌, length, slice_index, slice_set, IfOk};
+ghost use Rattle.lg_base.specs.WordFronts.{word_at};
+ghost use Rattle.lg_buf.specs.Stores.{ChangesOnly};
+ghost use Rattle.lg_buf.specs.Buffers.{IsRoomFor};
+
+use lg_base::code::CodeBytes;
+use lg_base::field::Field;
+use lg_base::refusal::OutOfMemory;
+use std::alloc::Global;
+use std::marker::Model;
+
+/// Bytes, of which there can be a certain number. In a contract it is a `Stored`.
+#[derive(Drop)]
+pub(crate) struct Store {
+    bytes: Vec<u8>,
+    size: u32,
+}
+
+impl Model for Store {
+    ghost use Rattle.std.specs.Prelude.{◌≤◌, vec_len, vec_capacity};
+    ghost use Rattle.lg_buf.specs.Stores.{Stored};
+
+    ghost Value = { Stored };
+
+    ghost view = { λ s. record { items = s.bytes.items; size = s.size } };
+
+    ghost invariant = { λ s. (vec_len s.bytes ≤ s.size) × (s.size ≤ vec_capacity s.bytes) };
+}
+
+impl Store {
+    /// No bytes, with room for `size` of them.
+    pub(crate) fn new(alloc: Global, size: u32) -> Result<Store, OutOfMemory>
+        ensures items { IfOk result (λ s. s.items ≡ []) }
+        ensures size { IfOk result (λ s. s.size ≡ size) }
+    {
+        let bytes = Vec::with_capacity(alloc, size as usize)?;
+        Ok(Store { bytes, size })
+    }
+
+    /// How many bytes there are.
+    pub(crate) fn len(&self) -> u32
+        ensures length { result ≡ length self.now.items }
+        ensures within { length self.now.items ≤ self.now.size }
+        ensures small { self.now.size < 2 ^ 32 }
+    {
+        // the size fits 32 bits
+        let _size = self.size;
+        self.bytes.len() as u32
+    }
+
+    /// How many more bytes there can be.
+    pub(crate) fn free(&self) -> u32
+        ensures { length self.now.items + result ≡ self.now.size }
+    {
+        self.size - self.bytes.len() as u32
+    }
+
+    /// Appends a byte. There is room left.
+    pub(crate) fn push(&mut self, byte: u8)
+        requires { length self.old.items < self.old.size }
+        ensures items { self.new.items ≡ self.old.items ++ byte ∷ [] }
+        ensures size { self.new.size ≡ self.old.size }
+    {
+        self.bytes.push_reserved(byte);
+    }
+
+    /// Rereads the byte of a place, which is below `len`.
+    pub(crate) fn get(&mut self, place: u32) -> u8
+        requires { place < length self.old.items }
+        ensures byte { result ≡ slice_index self.old.items place }
+        ensures same { self.new ≡ self.old }
+    {
+        self.bytes[place as usize]
+    }
+
+    /// Rewrites the byte of a place, which is below `len`.
+    pub(crate) fn set(&mut self, place: u32, byte: u8)
+        requires { place < length self.old.items }
+        ensures items { self.new.items ≡ slice_set self.old.items place byte }
+        ensures size { self.new.size ≡ self.old.size }
+    {
+        self.bytes[place as usize] = byte;
+    }
+}
+
+impl Store {
+    /// Appends bytes. There is room left for them.
+    pub(crate) fn write(&mut self, piece: &[u8])
+        requires { length self.old.items + length piece.now ≤ self.old.size }
+        ensures items { self.new.items ≡ self.old.items ++ piece.now }
+        ensures size { self.new.size ≡ self.old.size }
+    {
+        'bytes: for byte in piece {
+            self.push(*byte);
+        }
+    }
+
+    /// Rereads the word of 32 bits at a place, the lowest byte first. Its bytes are below `len`.
+    pub(crate) fn reread(&mut self, place: u32) -> u32
+        requires { place + 4 ≤ length self.old.items }
+        ensures word { result ≡ word_at self.old.items place }
+        ensures same { self.new ≡ self.old }
+    {
+        // places fit 32 bits
+        let _len = self.len();
+        let first = self.get(place) as u32;
+        let second = self.get(place + 1) as u32;
+        let third = self.get(place + 2) as u32;
+        let last = self.get(place + 3) as u32;
+        first + 0x100 * second + 0x1_0000 * third + 0x100_0000 * last
+    }
+
+    /// Rewrites the word of 32 bits at a place, the lowest byte first. Its bytes are below `len`.
+    pub(crate) fn rewrite(&mut self, place: u32, word: u32)
+        requires { place + 4 ≤ length self.old.items }
+        ensures word { word_at self.new.items place ≡ word }
+        ensures others { ChangesOnly place 4 self.old self.new }
+    {
+        // places fit 32 bits
+        let _len = self.len();
+        self.set(place, Field::<0, 8>::get(word) as u8);
+        self.set(place + 1, Field::<8, 8>::get(word) as u8);
+        self.set(place + 2, Field::<16, 8>::get(word) as u8);
+        self.set(place + 3, Field::<24, 8>::get(word) as u8);
+    }
+
+    /// Hands out the bytes in an empty list that has room for `size` of them.
+    pub(crate) fn into_bytes(mut self, mut into: CodeBytes) -> CodeBytes
+        requires { IsRoomFor self.size into }
+        ensures { result.items ≡ self.items }
+    {
+        let len = self.len();
+        'bytes: for place in 0..len {
+            into.push(self.get(place));
+        }
+        into
+    }
+}

@@ -1,0 +1,266 @@
+// A full buffer, labels that are bound behind their fixes, and each kind of fix at the edges of its reach. The words
+// are those that `llvm-mc` 14 gives for these instructions.
+
+ghost use Rattle.std.specs.Prelude.{◌≡◌, ◌+◌, ◌<◌, ◌≤◌, ◌↔◌, ◌++◌, [], ◌∷◌, length, IsTrue};
+
+use super::*;
+use crate::words::{distance, with_branch_26};
+use std::process::Abort;
+use std::test::Fail;
+
+#[test]
+fn patches_a_branch(rt: HostRuntime) -> Result<(), Fail> {
+    let mut buf = CodeBuf::new(rt.alloc(), 8, 1, 1)?;
+    assert!(rt; buf.emit(&[0x63, 0x84, 0x62, 0x00]));
+    assert!(rt; buf.emit(&[0x93, 0x02, 0x10, 0x00]));
+    assert!(rt; !buf.emit(&[0]));
+    assert_eq!(rt; buf.here(), 8);
+    assert!(rt; !buf.patch(0, FixKind::RvBranch, 4096));
+    assert!(rt; buf.patch(0, FixKind::RvBranch, 4));
+    let done = buf.finish();
+    assert_eq!(rt;
+        done.bytes.as_slice(),
+        [0x63, 0x82, 0x62, 0x00, 0x93, 0x02, 0x10, 0x00].as_slice()
+    );
+    assert_eq!(rt; done.places.as_slice(), [0].as_slice());
+    Ok(())
+}
+
+// appends `beq x5, x6` to a label
+fn branch_to(buf: &mut CodeBuf, label: Label32) -> bool
+    requires label { label.0 < length buf.old.labels }
+    requires room { 0 < buf.old.room }
+    ensures fits { IsTrue result ↔ (length buf.old.bytes + 4 ≤ buf.old.size) }
+    ensures appended { IsTrue result → buf.new ≡ record buf.old { bytes = buf.old.bytes ++ 0x63 ∷ 0x80 ∷ 0x62 ∷ 0 ∷ []; fixes = buf.old.fixes ++ record { place = length buf.old.bytes; kind = FixKind.RvBranch; label = label } ∷ []; room = buf.new.room } }
+    ensures room { IsTrue result → buf.new.room + 1 ≡ buf.old.room }
+{
+    let place = buf.here();
+    if !buf.emit(&[0x63, 0x80, 0x62, 0x00]) {
+        return false;
+    }
+    buf.fix(place, FixKind::RvBranch, label);
+    true
+}
+
+#[test]
+fn leads_to_labels(rt: HostRuntime) -> Result<(), Fail> {
+    let mut buf = CodeBuf::new(rt.alloc(), 12, 3, 2)?;
+    buf.bind(Label32(1));
+    assert!(rt; branch_to(&mut buf, Label32(2)));
+    assert!(rt; buf.emit(&[0x13, 0x00, 0x00, 0x00]));
+    assert!(rt; branch_to(&mut buf, Label32(1)));
+    buf.bind(Label32(2));
+    let done = buf.finish();
+    assert_eq!(rt;
+        done.bytes.as_slice(),
+        [
+            0x63, 0x86, 0x62, 0x00, 0x13, 0x00, 0x00, 0x00, 0xe3, 0x8c, 0x62, 0xfe
+        ]
+        .as_slice()
+    );
+    assert_eq!(rt; done.places.as_slice(), [0, 0, 12].as_slice());
+    Ok(())
+}
+
+// the code ends with a fix at the place; what it is once the fix is patched, or None where the fix can't be
+fn patched_is<R: Abort + AllocGlobal>(
+    rt: &R,
+    kind: FixKind,
+    place: u32,
+    target: u32,
+    code: &[u8],
+    want: Option<&[u8]>,
+) -> Result<(), Fail> {
+    let end = place.saturating_add(kind.size());
+    let start = (end as usize).saturating_sub(code.len());
+    let mut buf = CodeBuf::new(rt.alloc(), end, 0, 0)?;
+    let zeros = vec![in rt.alloc(); 0u8; start]?;
+    assert!(rt; buf.emit(zeros.as_slice()));
+    assert!(rt; buf.emit(code));
+    assert!(rt; place as u64 + kind.size() as u64 <= buf.here() as u64);
+    assert_eq!(rt; kind.fits(place, target), want.is_some());
+    let fits = buf.patch(place, kind, target);
+    assert_eq!(rt; fits, want.is_some());
+    let Finished { bytes, places: _ } = buf.finish();
+    let got = bytes.as_slice();
+    assert!(rt; start <= got.len());
+    assert_eq!(rt; &got[start..], want.unwrap_or(code));
+    Ok(())
+}
+
+#[test]
+fn reaches_on_riscv64(rt: HostRuntime) -> Result<(), Fail> {
+    let beq = [0x63, 0x80, 0x62, 0x00];
+    patched_is(
+        &rt,
+        FixKind::RvBranch,
+        4096,
+        0,
+        &beq,
+        Some(&[0x63, 0x80, 0x62, 0x80]),
+    )?;
+    patched_is(
+        &rt,
+        FixKind::RvBranch,
+        4,
+        4098,
+        &beq,
+        Some(&[0xe3, 0x8f, 0x62, 0x7e]),
+    )?;
+    patched_is(&rt, FixKind::RvBranch, 4100, 2, &beq, None)?;
+    patched_is(&rt, FixKind::RvBranch, 4, 4100, &beq, None)?;
+    patched_is(&rt, FixKind::RvBranch, 4, 7, &beq, None)?;
+    let jal = [0xef, 0x00, 0x00, 0x00];
+    patched_is(
+        &rt,
+        FixKind::RvJal,
+        1_048_576,
+        0,
+        &jal,
+        Some(&[0xef, 0x00, 0x00, 0x80]),
+    )?;
+    patched_is(
+        &rt,
+        FixKind::RvJal,
+        0,
+        1_048_574,
+        &jal,
+        Some(&[0xef, 0xf0, 0xff, 0x7f]),
+    )?;
+    patched_is(&rt, FixKind::RvJal, 1_048_578, 0, &jal, None)?;
+    patched_is(&rt, FixKind::RvJal, 0, 1_048_576, &jal, None)?;
+    let pair = [0xb7, 0x02, 0x00, 0x00, 0x93, 0x82, 0x02, 0x00];
+    patched_is(
+        &rt,
+        FixKind::RvLuiAddi,
+        4,
+        0,
+        &pair,
+        Some(&[0xb7, 0x02, 0x00, 0x10, 0x93, 0x82, 0x02, 0x00]),
+    )?;
+    patched_is(
+        &rt,
+        FixKind::RvLuiAddi,
+        4,
+        0x800,
+        &pair,
+        Some(&[0xb7, 0x12, 0x00, 0x10, 0x93, 0x82, 0x02, 0x80]),
+    )?;
+    patched_is(
+        &rt,
+        FixKind::RvLuiAddi,
+        4,
+        0x6fff_f7ff,
+        &pair,
+        Some(&[0xb7, 0xf2, 0xff, 0x7f, 0x93, 0x82, 0xf2, 0x7f]),
+    )?;
+    patched_is(&rt, FixKind::RvLuiAddi, 4, 0x6fff_f800, &pair, None)
+}
+
+#[test]
+fn reaches_on_aarch64(rt: HostRuntime) -> Result<(), Fail> {
+    let bl = [0x00, 0x00, 0x00, 0x94];
+    patched_is(
+        &rt,
+        FixKind::A64Branch26,
+        4,
+        134_217_728,
+        &bl,
+        Some(&[0xff, 0xff, 0xff, 0x95]),
+    )?;
+    patched_is(&rt, FixKind::A64Branch26, 4, 134_217_732, &bl, None)?;
+    patched_is(&rt, FixKind::A64Branch26, 4, 10, &bl, None)?;
+    // 134,217,728 bytes back, with no buffer of that size
+    assert!(rt; FixKind::A64Branch26.fits(134_217_728, 0));
+    assert!(rt; !FixKind::A64Branch26.fits(134_217_732, 0));
+    assert_eq!(rt;
+        with_branch_26(0x1400_0000, distance(134_217_728, 134_217_728, 0) / 4),
+        0x1600_0000
+    );
+    let b_ne = [0x01, 0x00, 0x00, 0x54];
+    patched_is(
+        &rt,
+        FixKind::A64Cond19,
+        1_048_576,
+        0,
+        &b_ne,
+        Some(&[0x01, 0x00, 0x80, 0x54]),
+    )?;
+    patched_is(
+        &rt,
+        FixKind::A64Cond19,
+        0,
+        1_048_572,
+        &b_ne,
+        Some(&[0xe1, 0xff, 0x7f, 0x54]),
+    )?;
+    patched_is(&rt, FixKind::A64Cond19, 1_048_580, 0, &b_ne, None)?;
+    patched_is(&rt, FixKind::A64Cond19, 0, 1_048_576, &b_ne, None)?;
+    let pair = [0x09, 0x00, 0x80, 0xd2, 0x09, 0x00, 0xa0, 0xf2];
+    patched_is(
+        &rt,
+        FixKind::A64MovPair,
+        4,
+        0,
+        &pair,
+        Some(&[0x09, 0x00, 0x80, 0xd2, 0x09, 0x00, 0xa2, 0xf2]),
+    )?;
+    patched_is(
+        &rt,
+        FixKind::A64MovPair,
+        4,
+        0xefff_ffff,
+        &pair,
+        Some(&[0xe9, 0xff, 0x9f, 0xd2, 0xe9, 0xff, 0xbf, 0xf2]),
+    )?;
+    patched_is(&rt, FixKind::A64MovPair, 4, 0xf000_0000, &pair, None)
+}
+
+#[test]
+fn reaches_on_x86_64(rt: HostRuntime) -> Result<(), Fail> {
+    let jmp8 = [0xeb, 0x00];
+    patched_is(&rt, FixKind::X86Rel8, 127, 0, &jmp8, Some(&[0xeb, 0x80]))?;
+    patched_is(&rt, FixKind::X86Rel8, 1, 129, &jmp8, Some(&[0xeb, 0x7f]))?;
+    patched_is(&rt, FixKind::X86Rel8, 128, 0, &jmp8, None)?;
+    patched_is(&rt, FixKind::X86Rel8, 1, 130, &jmp8, None)?;
+    let jmp32 = [0xe9, 0x00, 0x00, 0x00, 0x00];
+    patched_is(
+        &rt,
+        FixKind::X86Rel32,
+        1,
+        0,
+        &jmp32,
+        Some(&[0xe9, 0xfb, 0xff, 0xff, 0xff]),
+    )?;
+    patched_is(
+        &rt,
+        FixKind::X86Rel32,
+        1,
+        0x8000_0004,
+        &jmp32,
+        Some(&[0xe9, 0xff, 0xff, 0xff, 0x7f]),
+    )?;
+    patched_is(&rt, FixKind::X86Rel32, 1, 0x8000_0005, &jmp32, None)?;
+    // 2,147,483,648 bytes back, with no buffer of that size
+    assert!(rt; FixKind::X86Rel32.fits(0x7fff_fffc, 0));
+    assert!(rt; !FixKind::X86Rel32.fits(0x7fff_fffd, 0));
+    assert_eq!(rt; distance(0x8000_0000, 0x8000_0000, 0), 0x8000_0000);
+    let movi32 = [0x41, 0xb9, 0x00, 0x00, 0x00, 0x00];
+    patched_is(
+        &rt,
+        FixKind::X86Abs32,
+        2,
+        0,
+        &movi32,
+        Some(&[0x41, 0xb9, 0x00, 0x00, 0x00, 0x10]),
+    )?;
+    patched_is(
+        &rt,
+        FixKind::X86Abs32,
+        2,
+        0xefff_ffff,
+        &movi32,
+        Some(&[0x41, 0xb9, 0xff, 0xff, 0xff, 0xff]),
+    )?;
+    patched_is(&rt, FixKind::X86Abs32, 2, 0xf000_0000, &movi32, None)
+}
