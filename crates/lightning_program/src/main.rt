@@ -6,9 +6,8 @@ use lg_base::refusal::OutOfMemory;
 use lg_io::standard::{StdSink, StdTexts};
 use lg_run::answer::{Answer, status};
 use lg_run::top::{lightning, report};
-use std::env;
-use std::io;
 use std::process::ExitCode;
+use std::{env, io};
 
 // The words of the process, the program's name first. Where one of them is no text there are none, which is no form of
 // the command.
