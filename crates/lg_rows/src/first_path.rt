@@ -141,7 +141,7 @@ fn refuses_a_text_that_is_too_long(rt: HostRuntime) -> Result<(), Fail> {
     text.push(b' ')?;
     check(
         &rt,
-        &row(
+        &plain(
             &text,
             b"",
             b"lightning: t.tst:0: refused 16 TextTooLong\n",
