@@ -34,7 +34,7 @@ use Rattle.lg_x86.specs.declared.instruction.Cond.TheVariants.{Overflow}
 use Rattle.lg_x86.specs.Rows.{rm_reg_row, imm_row, reg_rm_row, load_row, store_row, unary_row, shift_row, stack_row, jump_near_row, jump_reg_row, cond_row}
 use Rattle.lg_x86.specs.Spelling.{IsInstr, spelling, rex, extension, size_prefix, opcode_bytes, modrm, sib, is_short, short_bytes, long_bytes, number_bytes, memory_mode, memory, imm_opcode}
 use Rattle.lg_x86.specs.Reading.{rm_reg_by_opcode, imm_by_digit, reg_rm_by_prefixes, load_by_prefixes, store_by_prefixes, unary_by_digit, shift_by_digit, stack_by_opcode, jump_near_by_opcode, jump_reg_by_digit, bare_by_prefixes, cond_by_number, opcode_reg, has_registers, digit_in, reg_in, rm_in, index_in, base_in, word_in, wide_in, short_in, long_in, number_in, disp_in, rm_reg_of, imm_of, reg_rm_of, load_of, store_of, lea_of, movi_of, movs_of, unary_of, shift_of, bswap_of, stack_of, jump_if_short_of, jump_if_near_of, set_of, jump_short_of, jump_near_of, jump_reg_of, bare_of, short_at, escaped_at, code_at, code_of, sized_of, guess_of}
-use Rattle.lg_x86.proofs.FrontLemmas.{rex_value, read_mark, rex_low, rex_wide, IsOpcode, front_read}
+use Rattle.lg_x86.proofs.FrontLemmas.{rex_value, read_mark, rex_low, IsOpcode, front_read}
 use Rattle.lg_x86.proofs.FieldLemmas.{extension_fits, modrm_mode, modrm_digit, modrm_rm, reg_is, rm_is, index_is, base_is, low_is, word_read, wide_read, short_read, long_read, number_read_as, memory_has_no_registers, disp_read, one_register}
 
 -- the guess of the bytes
