@@ -34,7 +34,7 @@ use Rattle.lg_x86.specs.declared.instruction.Cond.TheVariants.{Overflow}
 use Rattle.lg_x86.specs.Rows.{rm_reg_row, imm_row, reg_rm_row, load_row, store_row, unary_row, shift_row, stack_row, jump_near_row, jump_reg_row, cond_row}
 use Rattle.lg_x86.specs.Spelling.{IsInstr, spelling, rex, extension, size_prefix, opcode_bytes, modrm, sib, is_short, short_bytes, long_bytes, number_bytes, memory_mode, memory, imm_opcode}
 use Rattle.lg_x86.specs.Reading.{rm_reg_by_opcode, imm_by_digit, reg_rm_by_prefixes, load_by_prefixes, store_by_prefixes, unary_by_digit, shift_by_digit, stack_by_opcode, jump_near_by_opcode, jump_reg_by_digit, bare_by_prefixes, cond_by_number, opcode_reg, has_registers, digit_in, reg_in, rm_in, index_in, base_in, word_in, wide_in, short_in, long_in, number_in, disp_in, rm_reg_of, imm_of, reg_rm_of, load_of, store_of, lea_of, movi_of, movs_of, unary_of, shift_of, bswap_of, stack_of, jump_if_short_of, jump_if_near_of, set_of, jump_short_of, jump_near_of, jump_reg_of, bare_of, short_at, escaped_at, code_at, code_of, sized_of, guess_of}
-use Rattle.lg_x86.proofs.FrontLemmas.{rex_value, read_mark, rex_low, rex_wide, IsOpcode, front_read}
+use Rattle.lg_x86.proofs.FrontLemmas.{rex_value, read_mark, rex_low, IsOpcode, front_read}
 use Rattle.lg_x86.proofs.FieldLemmas.{extension_fits, modrm_mode, modrm_digit, modrm_rm, reg_is, rm_is, index_is, base_is, low_is, word_read, wide_read, short_read, long_read, number_read_as, memory_has_no_registers, disp_read, one_register}
 
 -- the guess of the bytes
@@ -219,17 +219,17 @@ lea2_again reg base index more ok =
     ∙ ap (λ x. Some (Lea2 reg base x)) index_read
 
 -- a register and a number, with the register in the opcode
-movi_way : (r : ℕ) (mark : Mark) (registers : Bool) (opcode : ℕ) (tail : List ℕ) → opcode / 16 ≡ 11 → opcode / 8 ≡ 23 → code_at false r mark registers false opcode tail ≡ movi_of r opcode tail
+movi_way : (r : ℕ) (mark : Mark) (registers : Bool) (opcode : ℕ) (tail : List ℕ) → opcode / 16 ≡ 11 → opcode / 8 ≡ 23 → code_at false r mark registers false opcode tail ≡ movi_of mark r opcode tail
 unfolding short_at
 movi_way r mark registers opcode tail sixteen eight = rw (sixteen, eight) refl
 
-movi32_read : (r opcode : ℕ) (tail : List ℕ) → (r / 8 % 2 == 1) ≡ false → movi_of r opcode tail ≡ Some (Movi32 (opcode_reg r opcode) (word_in tail))
+movi32_read : (r opcode : ℕ) (tail : List ℕ) → movi_of Plain r opcode tail ≡ Some (Movi32 (opcode_reg r opcode) (word_in tail))
 unfolding movi_of
-movi32_read r opcode tail plain = rw plain refl
+movi32_read r opcode tail = refl
 
-movi64_read : (r opcode : ℕ) (tail : List ℕ) → (r / 8 % 2 == 1) ≡ true → movi_of r opcode tail ≡ Some (Movi64 (opcode_reg r opcode) (wide_in tail))
+movi64_read : (r opcode : ℕ) (tail : List ℕ) → movi_of Wide r opcode tail ≡ Some (Movi64 (opcode_reg r opcode) (wide_in tail))
 unfolding movi_of
-movi64_read r opcode tail wide = rw wide refl
+movi64_read r opcode tail = refl
 
 movi_opcode : (reg : ℕ) → IsOpcode (0xb8 + reg % 8)
 movi_opcode reg = register_opcode 0xb8 reg (lit≤ tt) (lit< tt) (λ e. omega (arith, e)) refl
@@ -245,7 +245,7 @@ movi32_again reg imm more ok =
     ap guess_of (joined_3 (rex Plain bits) (opcode ∷ []) (to_le_bytes w32 imm) more)
     ∙ front_read false Plain bits fits false opcode (movi_opcode reg) tail (has_registers tail) refl
     ∙ movi_way r Plain (has_registers tail) opcode tail (omega arith) (omega arith)
-    ∙ movi32_read r opcode tail (rex_wide Plain bits fits)
+    ∙ movi32_read r opcode tail
     ∙ ap (λ x. Some (Movi32 x (word_in tail))) (low_is r 23 0 0 reg (lit< tt) (lit< tt) ok.0 low)
     ∙ ap (λ x. Some (Movi32 reg x)) (word_read imm more ok.1)
 
@@ -260,7 +260,7 @@ movi64_again reg imm more ok =
     ap guess_of (joined_3 (rex Wide bits) (opcode ∷ []) (to_le_bytes w64 imm) more)
     ∙ front_read false Wide bits fits false opcode (movi_opcode reg) tail (has_registers tail) refl
     ∙ movi_way r Wide (has_registers tail) opcode tail (omega arith) (omega arith)
-    ∙ movi64_read r opcode tail (rex_wide Wide bits fits)
+    ∙ movi64_read r opcode tail
     ∙ ap (λ x. Some (Movi64 x (wide_in tail))) (low_is r 23 0 0 reg (lit< tt) (lit< tt) ok.0 low)
     ∙ ap (λ x. Some (Movi64 reg x)) (wide_read imm more ok.1)
 

@@ -146,10 +146,9 @@ lea_of rex tail =
     if slice_index tail 0 % 8 == 4 && not (index_in rex tail == 4) then Some (Lea2 (reg_in rex tail) (base_in rex tail) (index_in rex tail))
     else Some (Load Lea (reg_in rex tail) (rm_in rex tail) (disp_in tail))
 
-unfoldable pub movi_of : ℕ → ℕ → List ℕ → Option Instr
-movi_of rex opcode tail =
-    if rex / 8 % 2 == 1 then Some (Movi64 (opcode_reg rex opcode) (wide_in tail))
-    else Some (Movi32 (opcode_reg rex opcode) (word_in tail))
+unfoldable pub movi_of : Mark → ℕ → ℕ → List ℕ → Option Instr
+movi_of Wide rex opcode tail = Some (Movi64 (opcode_reg rex opcode) (wide_in tail))
+movi_of _ rex opcode tail = Some (Movi32 (opcode_reg rex opcode) (word_in tail))
 
 unfoldable pub movs_of : ℕ → List ℕ → Option Instr
 movs_of rex tail = Some (Movs32 (rm_in rex tail) (long_in (drop 1 tail)))
@@ -195,7 +194,7 @@ unfoldable pub short_at : Bool → ℕ → Mark → Bool → ℕ → List ℕ �
 short_at word_sized rex mark registers opcode tail =
     if opcode / 16 == 7 then jump_if_short_of opcode tail
     else (if opcode / 16 == 5 then stack_of rex opcode
-    else (if opcode / 8 == 23 then movi_of rex opcode tail
+    else (if opcode / 8 == 23 then movi_of mark rex opcode tail
     else (if opcode == 0x81 || opcode == 0x83 then imm_of rex opcode tail
     else (if opcode == 0xc1 then shift_of rex tail
     else (if opcode == 0xc7 then movs_of rex tail

@@ -80,6 +80,7 @@ fn guess_code(is_word_sized: bool, rex: u8, bytes: &[u8]) -> Option<Instr>
     }
 }
 
+// what REX asks for, or the lack of it
 fn mark(rex: u8) -> Mark
     ensures { result ≡ mark_in rex }
 {
@@ -103,7 +104,7 @@ fn guess_short(is_word_sized: bool, rex: u8, opcode: u8, tail: &[u8]) -> Option<
         return guess_stack(rex, opcode);
     }
     if opcode / 8 == 23 {
-        return guess_movi(rex, opcode, tail);
+        return guess_movi(mark(rex), rex, opcode, tail);
     }
     match opcode {
         0x81 | 0x83 => guess_imm(rex, opcode, tail),
@@ -254,21 +255,20 @@ fn guess_lea(rex: u8, tail: &[u8]) -> Option<Instr>
 }
 
 #[tactic(auto, unfolding(crate::specs::Reading::movi_of))]
-fn guess_movi(rex: u8, opcode: u8, tail: &[u8]) -> Option<Instr>
-    ensures exact { result ≡ movi_of rex opcode tail.now }
+fn guess_movi(mark: Mark, rex: u8, opcode: u8, tail: &[u8]) -> Option<Instr>
+    ensures exact { result ≡ movi_of mark rex opcode tail.now }
     ensures valid { IfSome result IsInstr }
 {
     let reg = opcode_register(rex, opcode);
-    if rex / 8 % 2 == 1 {
-        Some(Instr::Movi64 {
+    match mark {
+        Mark::Wide => Some(Instr::Movi64 {
             reg,
             imm: wide_word(tail),
-        })
-    } else {
-        Some(Instr::Movi32 {
+        }),
+        Mark::Low | Mark::Plain => Some(Instr::Movi32 {
             reg,
             imm: word(tail),
-        })
+        }),
     }
 }
 

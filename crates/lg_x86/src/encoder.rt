@@ -1,9 +1,9 @@
 // From instructions to bytes.
 
 ghost use Rattle.std.specs.Prelude.{◌≡◌, ◌<◌, ◌≤◌, ◌+◌, ◌++◌, length};
-ghost use Rattle.lg_x86.specs.Spelling.{IsInstr, spelling, rex, extension, size_prefix, opcode_bytes, memory, memory_mode, base_sib, imm_opcode};
+ghost use Rattle.lg_x86.specs.Spelling.{IsInstr, spelling, rex, extension, size_prefix, opcode_bytes, memory, memory_mode, number_bytes, imm_opcode};
 
-use crate::fields::{extension_of, fits_short, long_of, modrm_of, number_of, short_byte, sib_of};
+use crate::fields::{extension_of, fits_short, long_of, modrm_of, short_byte, sib_of};
 use crate::instruction::{
     BareOp, Cond, ImmOp, Instr, JumpNearOp, JumpRegOp, LoadOp, RegRmOp, RmRegOp, ShiftOp, StackOp,
     StoreOp, UnaryOp,
@@ -75,37 +75,42 @@ fn plain_rex(bits: u8) -> Piece
     }
 }
 
-fn opcode_piece(is_escaped: bool, opcode: u8) -> Piece
-    ensures value { result ≡ opcode_bytes is_escaped opcode }
+// the size prefix and REX, where they stand
+fn sized_rex_piece(is_word_sized: bool, mark: Mark, bits: u8) -> Piece
+    requires { bits < 8 }
+    ensures value { result ≡ size_prefix is_word_sized ++ rex mark bits }
     ensures short { length result ≤ 2 }
 {
-    if is_escaped {
-        Piece::of(&[0x0f, opcode])
-    } else {
-        Piece::of(&[opcode])
+    if !is_word_sized {
+        return rex_piece(mark, bits);
     }
+    let mut piece = Piece::of(&[0x66]);
+    piece.extend(rex_piece(mark, bits).as_slice());
+    piece
 }
 
-fn size_piece(is_word_sized: bool) -> Piece
-    ensures value { result ≡ size_prefix is_word_sized }
-    ensures short { length result ≤ 1 }
+fn push_opcode(piece: &mut Piece, is_escaped: bool, opcode: u8)
+    requires { length piece.old ≤ 2 }
+    ensures value { piece.new ≡ piece.old ++ opcode_bytes is_escaped opcode }
+    ensures short { length piece.new ≤ length piece.old + 2 }
 {
-    if is_word_sized {
-        Piece::of(&[0x66])
+    if is_escaped {
+        piece.extend(&[0x0f, opcode]);
     } else {
-        Piece::new()
+        piece.push(opcode);
     }
 }
 
 // ModRM, SIB and the displacement of the operand [base + disp]
-fn memory_piece(reg: u8, base: u8, disp: i32) -> Piece
-    ensures value { result ≡ memory reg base disp }
-    ensures short { length result ≤ 6 }
+fn push_memory(piece: &mut Piece, reg: u8, base: u8, disp: i32)
+    requires { length piece.old ≤ 4 }
+    ensures { piece.new ≡ piece.old ++ memory reg base disp }
 {
-    let mut piece = Piece::of(&[modrm_of(mode_of(disp), reg, base)]);
-    piece.extend(base_sib_piece(base).as_slice());
-    piece.extend(number_of(disp).as_slice());
-    piece
+    piece.push(modrm_of(mode_of(disp), reg, base));
+    if base % 8 == 4 {
+        piece.push(sib_of(4, base));
+    }
+    push_number(piece, disp);
 }
 
 fn mode_of(disp: i32) -> u8
@@ -115,14 +120,15 @@ fn mode_of(disp: i32) -> u8
     if fits_short(disp) { 1 } else { 2 }
 }
 
-fn base_sib_piece(base: u8) -> Piece
-    ensures value { result ≡ base_sib base }
-    ensures short { length result ≤ 1 }
+// a number in one byte, or else in four
+fn push_number(piece: &mut Piece, number: i32)
+    requires { length piece.old ≤ 12 }
+    ensures { piece.new ≡ piece.old ++ number_bytes number }
 {
-    if base % 8 == 4 {
-        Piece::of(&[sib_of(4, base)])
+    if fits_short(number) {
+        piece.push(short_byte(number));
     } else {
-        Piece::new()
+        piece.extend(&long_of(number));
     }
 }
 
@@ -141,7 +147,7 @@ fn imm_piece(op: ImmOp, rm: u8, imm: i32) -> Piece
 {
     let mut piece = rex_piece(Mark::Wide, extension_of(0, 0, rm));
     piece.extend(&[imm_opcode_of(imm), modrm_of(3, op.digit(), rm)]);
-    piece.extend(number_of(imm).as_slice());
+    push_number(&mut piece, imm);
     piece
 }
 
@@ -156,7 +162,7 @@ fn reg_rm(op: RegRmOp, reg: u8, rm: u8) -> Piece
     ensures { result ≡ spelling (Instr.RegRm op reg rm) }
 {
     let mut piece = rex_piece(op.mark(), extension_of(reg, 0, rm));
-    piece.extend(opcode_piece(op.is_escaped(), op.opcode()).as_slice());
+    push_opcode(&mut piece, op.is_escaped(), op.opcode());
     piece.extend(&[modrm_of(3, reg, rm)]);
     piece
 }
@@ -166,8 +172,8 @@ fn load(op: LoadOp, reg: u8, base: u8, disp: i32) -> Piece
     ensures { result ≡ spelling (Instr.Load op reg base disp) }
 {
     let mut piece = rex_piece(op.mark(), extension_of(reg, 0, base));
-    piece.extend(opcode_piece(op.is_escaped(), op.opcode()).as_slice());
-    piece.extend(memory_piece(reg, base, disp).as_slice());
+    push_opcode(&mut piece, op.is_escaped(), op.opcode());
+    push_memory(&mut piece, reg, base, disp);
     piece
 }
 
@@ -175,10 +181,10 @@ fn store(op: StoreOp, base: u8, disp: i32, reg: u8) -> Piece
     requires { IsInstr (Instr.Store op base disp reg) }
     ensures { result ≡ spelling (Instr.Store op base disp reg) }
 {
-    let mut piece = size_piece(op.is_word_sized());
-    piece.extend(rex_piece(op.mark(), extension_of(reg, 0, base)).as_slice());
-    piece.extend(&[op.opcode()]);
-    piece.extend(memory_piece(reg, base, disp).as_slice());
+    let bits = extension_of(reg, 0, base);
+    let mut piece = sized_rex_piece(op.is_word_sized(), op.mark(), bits);
+    piece.push(op.opcode());
+    push_memory(&mut piece, reg, base, disp);
     piece
 }
 

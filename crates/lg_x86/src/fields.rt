@@ -2,11 +2,10 @@
 
 ghost use Rattle.std.specs.Prelude.{◌≡◌, ◌<◌, ◌≤◌, ◌+◌, ◌*◌, ◌^◌, ◌/◌, ◌%◌, ◌==◌, ℕ, List, drop, length, slice_index};
 ghost use Rattle.lg_base.specs.Fields.{bits_of, signed};
-ghost use Rattle.lg_x86.specs.Spelling.{extension, modrm, sib, is_short, short_bytes, long_bytes, number_bytes, IsNumber8, IsNumber32};
+ghost use Rattle.lg_x86.specs.Spelling.{extension, modrm, sib, is_short, short_bytes, long_bytes, IsNumber8, IsNumber32};
 ghost use Rattle.lg_x86.specs.Reading.{opcode_reg, has_registers, digit_in, reg_in, rm_in, index_in, base_in, word_in, wide_in, short_in, long_in, number_in, disp_in, disp_place};
 
 use lg_base::number::{from_bits, to_bits};
-use lg_base::piece::Piece;
 
 /// The bits R, X and B of REX.
 pub(crate) fn extension_of(reg: u8, index: u8, rm: u8) -> u8
@@ -53,18 +52,6 @@ pub(crate) fn long_of(number: i32) -> [u8; 4]
     ensures len { length result ≡ 4 }
 {
     number.cast_unsigned().to_le_bytes()
-}
-
-/// The bytes of a number: one, or else four.
-pub(crate) fn number_of(number: i32) -> Piece
-    ensures value { result ≡ number_bytes number }
-    ensures short { length result ≤ 4 }
-{
-    if fits_short(number) {
-        Piece::of(&[short_byte(number)])
-    } else {
-        Piece::of(&long_of(number))
-    }
 }
 
 /// The byte at a place, or 0 behind the last.

@@ -11,12 +11,14 @@ use crate::instruction::{
 };
 use lg_base::piece::Piece;
 
-/// When the byte REX stands: always and with the bit W set, always, or where a register of 8 to 15
-/// occurs.
+/// When the byte REX stands.
 #[derive(Clone, Copy, PartialEq, Eq, Debug)]
 pub(crate) enum Mark {
+    /// Always, with the bit W set: 64 bits.
     Wide,
+    /// Always: the low byte of each register.
     Low,
+    /// Where a register of 8 to 15 occurs.
     Plain,
 }
 
@@ -41,7 +43,7 @@ macro_rules! op_with {
     };
 }
 
-// the columns of a row with a digit
+// the columns of a row with a digit: the opcode, the digit
 macro_rules! digit_opcode_of {
     ($op:expr; $type:ident; $($name:ident, $text:literal = $opcode:literal, $digit:literal;)*) => {
         match $op { $($type::$name => $opcode,)* }
@@ -60,7 +62,8 @@ macro_rules! op_with_digit {
     };
 }
 
-// the columns of a row with prefixes of its own
+// the columns of a row with prefixes of its own: whether the byte 66 stands first, when REX stands,
+// whether the byte 0F stands before the opcode, the opcode
 macro_rules! word_sized_of {
     ($op:expr; $type:ident; $($name:ident, $text:literal = $word_sized:literal, $mark:ident, $escaped:literal, $opcode:literal;)*) => {
         match $op { $($type::$name => $word_sized,)* }
