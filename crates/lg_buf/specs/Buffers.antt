@@ -1,7 +1,6 @@
 -- What contracts see of a code buffer, and what its fixes become.
-use Rattle.std.specs.Prelude.{◌≡◌, ℕ, ◌+◌, ◌<◌, ◌≤◌, ◌⊎◌, List, [], length, slice_index, slice_index_or, Option, Some, None}
+use Rattle.std.specs.Prelude.{◌≡◌, ℕ, ◌+◌, ◌<◌, ◌≤◌, ◌⊎◌, List, length, slice_index, slice_index_or, Option, Some, None}
 use Rattle.std.specs.declared.alloc.Global.{Global}
-use Rattle.lg_base.specs.Rooms.{Roomy}
 use Rattle.lg_buf.specs.declared.fixes.Fix.{Fix}
 use Rattle.lg_buf.specs.FixFields.{fix_len, field_rest}
 use Rattle.lg_buf.specs.Fixing.{Fixed, Fits}
@@ -55,7 +54,3 @@ pub record AreDone (labels : List (Option ℕ)) (fixes : List Fix) (n : ℕ) (ol
 pub record AreSound (bytes labels : ℕ) (fixes : List Fix) : Type 0 where
   pub within : (k : ℕ) → k < length fixes → (d : Fix) → EndsWithin bytes (slice_index_or fixes k d) × ((slice_index_or fixes k d).label.0 < labels)
   pub apart : (k : ℕ) → k < length fixes → (d : Fix) → (j : ℕ) → j < k → (e : Fix) → AreApart (slice_index_or fixes j e) (slice_index_or fixes k d)
-
--- an empty list has room for so many
-abbrev pub IsRoomFor : ℕ → Roomy → Type 0
-IsRoomFor n list = (list.items ≡ []) × (list.room ≡ n)

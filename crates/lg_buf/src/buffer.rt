@@ -32,7 +32,8 @@ pub struct CodeBuf {
 
 impl Model for CodeBuf {
     ghost use Rattle.std.specs.Prelude.{◌+◌, ◌≤◌, length, vec_len, vec_capacity};
-    ghost use Rattle.lg_buf.specs.Buffers.{Buffer, AreSound, IsRoomFor};
+    ghost use Rattle.lg_buf.specs.Buffers.{Buffer, AreSound};
+    ghost use Rattle.lg_buf.specs.Stores.{IsRoomFor};
 
     ghost Value = { Buffer };
 
@@ -93,6 +94,7 @@ impl CodeBuf {
     }
 
     /// Appends bytes, or answers false and changes nothing exactly where fewer bytes are free.
+    #[must_use]
     pub fn emit(&mut self, piece: &[u8]) -> bool
         ensures fits { IsTrue result ↔ (length self.old.bytes + length piece.now ≤ self.old.size) }
         ensures appended { self.new ≡ (if result then record self.old { bytes = self.old.bytes ++ piece.now } else self.old) }
@@ -132,6 +134,7 @@ impl CodeBuf {
     /// Makes the field of a kind at a place lead to a target, which is a place in the code. The field's bytes were
     /// appended. False exactly where the field can't hold the distance or the address, and then nothing changes;
     /// else nothing but the field's own bits changes.
+    #[must_use]
     pub fn patch(&mut self, place: u32, kind: FixKind, target: u32) -> bool
         requires { place + fix_len kind ≤ length self.old.bytes }
         ensures fits { IsTrue result ↔ Fits kind place target }

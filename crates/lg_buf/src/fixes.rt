@@ -6,7 +6,8 @@ ghost use Rattle.lg_buf.specs.Fixing.{Fixed, Fits, IsWithin};
 
 /// The kinds of fixes: which field holds the distance or the address of a target, which is a place in the code. The
 /// place of a fix is that of the displacement or immediate on x86-64, which ends its instruction, and that of the
-/// word, or of the first of two words, on the others.
+/// word, or of the first of two words, on the others. The fields are those of the Intel SDM volume 2, of the Arm
+/// Architecture Reference Manual (A64) and of the RISC-V unprivileged ISA.
 #[derive(Clone, Copy, Debug, PartialEq, Eq)]
 pub enum FixKind {
     /// x86-64: the distance from the field's end, in 1 byte (`jmp8`, `jo8` to `jg8`).

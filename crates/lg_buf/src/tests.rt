@@ -74,7 +74,7 @@ fn patched_is<R: Abort + AllocGlobal>(
     let end = place.saturating_add(kind.size());
     let start = (end as usize).saturating_sub(code.len());
     let mut buf = CodeBuf::new(rt.alloc(), end, 0, 0)?;
-    let zeros = vec![in rt.alloc(); 0u8; start]?;
+    let zeros = vec![in buf.allocator(); 0u8; start]?;
     assert!(rt; buf.emit(zeros.as_slice()));
     assert!(rt; buf.emit(code));
     assert!(rt; place as u64 + kind.size() as u64 <= buf.here() as u64);
