@@ -42,15 +42,20 @@ IsReady labels f = (target : ℕ) × (place_of labels f.label.0 ≡ Some target)
 
 -- the fix leads to the place of its label, and the bits beside its field are as they were
 abbrev pub IsDone : List (Option ℕ) → List ℕ → List ℕ → Fix → Type 0
-IsDone labels old new f = (target : ℕ) × (place_of labels f.label.0 ≡ Some target) × Fixed new f.place f.kind target × (field_rest f.kind new f.place ≡ field_rest f.kind old f.place)
+IsDone labels old new f =
+    (target : ℕ) × (place_of labels f.label.0 ≡ Some target)
+    × Fixed new f.place f.kind target × (field_rest f.kind new f.place ≡ field_rest f.kind old f.place)
 
 -- the first n fixes are done, and every byte outside of them is as it was
 pub record AreDone (labels : List (Option ℕ)) (fixes : List Fix) (n : ℕ) (old new : List ℕ) : Type 0 where
   pub long : length new ≡ length old
-  pub others : (i : ℕ) → ((k : ℕ) → k < n → (d : Fix) → IsOutside i (slice_index_or fixes k d)) → slice_index new i ≡ slice_index old i
+  pub others : (i : ℕ) → ((k : ℕ) → k < n → (d : Fix) → IsOutside i (slice_index_or fixes k d))
+      → slice_index new i ≡ slice_index old i
   pub each : (k : ℕ) → k < n → (d : Fix) → IsDone labels old new (slice_index_or fixes k d)
 
 -- fixes lie within so many bytes, name one of so many labels, and have no byte in common
 pub record AreSound (bytes labels : ℕ) (fixes : List Fix) : Type 0 where
-  pub within : (k : ℕ) → k < length fixes → (d : Fix) → EndsWithin bytes (slice_index_or fixes k d) × ((slice_index_or fixes k d).label.0 < labels)
-  pub apart : (k : ℕ) → k < length fixes → (d : Fix) → (j : ℕ) → j < k → (e : Fix) → AreApart (slice_index_or fixes j e) (slice_index_or fixes k d)
+  pub within : (k : ℕ) → k < length fixes → (d : Fix)
+      → EndsWithin bytes (slice_index_or fixes k d) × ((slice_index_or fixes k d).label.0 < labels)
+  pub apart : (k : ℕ) → k < length fixes → (d : Fix) → (j : ℕ) → j < k → (e : Fix)
+      → AreApart (slice_index_or fixes j e) (slice_index_or fixes k d)

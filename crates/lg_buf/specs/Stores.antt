@@ -11,7 +11,8 @@ pub record StoredBytes : Type 0 where
 pub record ChangesOnly (place count : ℕ) (old new : StoredBytes) : Type 0 where
   pub size : new.size ≡ old.size
   pub long : length new.items ≡ length old.items
-  pub others : (i : ℕ) → (i < place) ⊎ (place + count ≤ i) → slice_index new.items i ≡ slice_index old.items i
+  pub others : (i : ℕ) → (i < place) ⊎ (place + count ≤ i)
+      → slice_index new.items i ≡ slice_index old.items i
 
 -- an empty list has room for so many
 abbrev pub IsRoomFor : ℕ → Roomy → Type 0

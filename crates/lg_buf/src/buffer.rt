@@ -37,9 +37,20 @@ impl Model for CodeBuf {
 
     ghost Value = { Buffer };
 
-    ghost view = { λ b. record { bytes = b.store.items; size = b.store.size; labels = b.labels.items; fixes = b.fixes.items; room = b.room; allocator = b.allocator } };
+    ghost view = { λ b. record {
+      bytes = b.store.items;
+      size = b.store.size;
+      labels = b.labels.items;
+      fixes = b.fixes.items;
+      room = b.room;
+      allocator = b.allocator;
+    } };
 
-    ghost invariant = { λ b. (vec_len b.fixes + b.room ≤ vec_capacity b.fixes) × AreSound (length b.store.items) (length b.labels.items) b.fixes.items × IsRoomFor b.store.size b.bytes × IsRoomFor (length b.labels.items) b.places };
+    ghost invariant = { λ b.
+        (vec_len b.fixes + b.room ≤ vec_capacity b.fixes)
+        × AreSound (length b.store.items) (length b.labels.items) b.fixes.items
+        × IsRoomFor b.store.size b.bytes
+        × IsRoomFor (length b.labels.items) b.places };
 }
 
 /// What a buffer becomes.

@@ -66,7 +66,8 @@ impl FixKind {
     /// the target. No bytes at all lead there where it can't.
     pub fn fits(self, place: u32, target: u32) -> bool
         ensures fits { IsTrue result ↔ Fits self place target }
-        ensures exact { (bytes : List ℕ) → ((i : ℕ) → slice_index bytes i < 256) → Fixed bytes place self target → Fits self place target }
+        ensures exact { (bytes : List ℕ) → ((i : ℕ) → slice_index bytes i < 256)
+            → Fixed bytes place self target → Fits self place target }
     {
         match self {
             FixKind::X86Rel8 => is_within(128, place as u64 + 1, target),

@@ -31,7 +31,11 @@ fn branch_to(buf: &mut CodeBuf, label: Label32) -> bool
     requires label { label.0 < length buf.old.labels }
     requires room { 0 < buf.old.room }
     ensures fits { IsTrue result ↔ (length buf.old.bytes + 4 ≤ buf.old.size) }
-    ensures appended { IsTrue result → buf.new ≡ record buf.old { bytes = buf.old.bytes ++ 0x63 ∷ 0x80 ∷ 0x62 ∷ 0 ∷ []; fixes = buf.old.fixes ++ record { place = length buf.old.bytes; kind = FixKind.RvBranch; label = label } ∷ []; room = buf.new.room } }
+    ensures appended { IsTrue result → buf.new ≡ record buf.old {
+      bytes = buf.old.bytes ++ 0x63 ∷ 0x80 ∷ 0x62 ∷ 0 ∷ [];
+      fixes = buf.old.fixes ++ record { place = length buf.old.bytes; kind = FixKind.RvBranch; label = label } ∷ [];
+      room = buf.new.room;
+    } }
     ensures room { IsTrue result → buf.new.room + 1 ≡ buf.old.room }
 {
     let place = buf.here();
