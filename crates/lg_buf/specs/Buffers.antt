@@ -1,7 +1,6 @@
 -- What contracts see of a code buffer, and what its fixes become.
-use Rattle.std.specs.Prelude.{◌≡◌, ℕ, ◌+◌, ◌<◌, ◌≤◌, ◌⊎◌, List, [], length, slice_index, slice_index_or, Option, Some, None}
+use Rattle.std.specs.Prelude.{◌≡◌, ℕ, ◌+◌, ◌<◌, ◌≤◌, ◌⊎◌, List, length, slice_index, slice_index_or, Option, Some, None}
 use Rattle.std.specs.declared.alloc.Global.{Global}
-use Rattle.lg_base.specs.Rooms.{Roomy}
 use Rattle.lg_buf.specs.declared.fixes.Fix.{Fix}
 use Rattle.lg_buf.specs.FixFields.{fix_len, field_rest}
 use Rattle.lg_buf.specs.Fixing.{Fixed, Fits}
@@ -43,19 +42,20 @@ IsReady labels f = (target : ℕ) × (place_of labels f.label.0 ≡ Some target)
 
 -- the fix leads to the place of its label, and the bits beside its field are as they were
 abbrev pub IsDone : List (Option ℕ) → List ℕ → List ℕ → Fix → Type 0
-IsDone labels old new f = (target : ℕ) × (place_of labels f.label.0 ≡ Some target) × Fixed new f.place f.kind target × (field_rest f.kind new f.place ≡ field_rest f.kind old f.place)
+IsDone labels old new f =
+    (target : ℕ) × (place_of labels f.label.0 ≡ Some target)
+    × Fixed new f.place f.kind target × (field_rest f.kind new f.place ≡ field_rest f.kind old f.place)
 
 -- the first n fixes are done, and every byte outside of them is as it was
 pub record AreDone (labels : List (Option ℕ)) (fixes : List Fix) (n : ℕ) (old new : List ℕ) : Type 0 where
   pub long : length new ≡ length old
-  pub others : (i : ℕ) → ((k : ℕ) → k < n → (d : Fix) → IsOutside i (slice_index_or fixes k d)) → slice_index new i ≡ slice_index old i
+  pub others : (i : ℕ) → ((k : ℕ) → k < n → (d : Fix) → IsOutside i (slice_index_or fixes k d))
+      → slice_index new i ≡ slice_index old i
   pub each : (k : ℕ) → k < n → (d : Fix) → IsDone labels old new (slice_index_or fixes k d)
 
 -- fixes lie within so many bytes, name one of so many labels, and have no byte in common
 pub record AreSound (bytes labels : ℕ) (fixes : List Fix) : Type 0 where
-  pub within : (k : ℕ) → k < length fixes → (d : Fix) → EndsWithin bytes (slice_index_or fixes k d) × ((slice_index_or fixes k d).label.0 < labels)
-  pub apart : (k : ℕ) → k < length fixes → (d : Fix) → (j : ℕ) → j < k → (e : Fix) → AreApart (slice_index_or fixes j e) (slice_index_or fixes k d)
-
--- an empty list has room for so many
-abbrev pub IsRoomFor : ℕ → Roomy → Type 0
-IsRoomFor n list = (list.items ≡ []) × (list.room ≡ n)
+  pub within : (k : ℕ) → k < length fixes → (d : Fix)
+      → EndsWithin bytes (slice_index_or fixes k d) × ((slice_index_or fixes k d).label.0 < labels)
+  pub apart : (k : ℕ) → k < length fixes → (d : Fix) → (j : ℕ) → j < k → (e : Fix)
+      → AreApart (slice_index_or fixes j e) (slice_index_or fixes k d)

@@ -36,10 +36,12 @@ field_number X86Rel32 bytes place = signed 2147483648 (word_at bytes place)
 field_number X86Abs32 bytes place = pos (word_at bytes place)
 field_number A64Branch26 bytes place = signed 33554432 (part 0 26 (word_at bytes place)) *ℤ pos 4
 field_number A64Cond19 bytes place = signed 262144 (part 5 19 (word_at bytes place)) *ℤ pos 4
-field_number A64MovPair bytes place = pos (part 5 16 (word_at bytes place) + part 5 16 (word_at bytes (place + 4)) * 65536)
+field_number A64MovPair bytes place =
+    pos (part 5 16 (word_at bytes place) + part 5 16 (word_at bytes (place + 4)) * 65536)
 field_number RvBranch bytes place = signed 4096 (branch_bits (word_at bytes place))
 field_number RvJal bytes place = signed 1048576 (jump_bits (word_at bytes place))
-field_number RvLuiAddi bytes place = (signed 524288 (part 12 20 (word_at bytes place)) *ℤ pos 4096) +ℤ signed 2048 (part 20 12 (word_at bytes (place + 4)))
+field_number RvLuiAddi bytes place =
+    (signed 524288 (part 12 20 (word_at bytes place)) *ℤ pos 4096) +ℤ signed 2048 (part 20 12 (word_at bytes (place + 4)))
 
 -- what stands in the fix's words beside the field: of the first word, and of the second where there is one
 abbrev pub field_rest : FixKind → List ℕ → ℕ → ℕ × ℕ

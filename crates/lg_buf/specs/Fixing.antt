@@ -55,4 +55,5 @@ pub record Patched (kind : FixKind) (place target : ℕ) (old new : List ℕ) : 
   pub fixed : Fixed new place kind target
   pub rest : field_rest kind new place ≡ field_rest kind old place
   pub long : length new ≡ length old
-  pub others : (i : ℕ) → (i < place) ⊎ (place + fix_len kind ≤ i) → slice_index new i ≡ slice_index old i
+  pub others : (i : ℕ) → (i < place) ⊎ (place + fix_len kind ≤ i)
+      → slice_index new i ≡ slice_index old i

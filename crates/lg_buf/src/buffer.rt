@@ -32,13 +32,25 @@ pub struct CodeBuf {
 
 impl Model for CodeBuf {
     ghost use Rattle.std.specs.Prelude.{◌+◌, ◌≤◌, length, vec_len, vec_capacity};
-    ghost use Rattle.lg_buf.specs.Buffers.{Buffer, AreSound, IsRoomFor};
+    ghost use Rattle.lg_buf.specs.Buffers.{Buffer, AreSound};
+    ghost use Rattle.lg_buf.specs.Stores.{IsRoomFor};
 
     ghost Value = { Buffer };
 
-    ghost view = { λ b. record { bytes = b.store.items; size = b.store.size; labels = b.labels.items; fixes = b.fixes.items; room = b.room; allocator = b.allocator } };
+    ghost view = { λ b. record {
+      bytes = b.store.items;
+      size = b.store.size;
+      labels = b.labels.items;
+      fixes = b.fixes.items;
+      room = b.room;
+      allocator = b.allocator;
+    } };
 
-    ghost invariant = { λ b. (vec_len b.fixes + b.room ≤ vec_capacity b.fixes) × AreSound (length b.store.items) (length b.labels.items) b.fixes.items × IsRoomFor b.store.size b.bytes × IsRoomFor (length b.labels.items) b.places };
+    ghost invariant = { λ b.
+        (vec_len b.fixes + b.room ≤ vec_capacity b.fixes)
+        × AreSound (length b.store.items) (length b.labels.items) b.fixes.items
+        × IsRoomFor b.store.size b.bytes
+        × IsRoomFor (length b.labels.items) b.places };
 }
 
 /// What a buffer becomes.
@@ -93,6 +105,7 @@ impl CodeBuf {
     }
 
     /// Appends bytes, or answers false and changes nothing exactly where fewer bytes are free.
+    #[must_use]
     pub fn emit(&mut self, piece: &[u8]) -> bool
         ensures fits { IsTrue result ↔ (length self.old.bytes + length piece.now ≤ self.old.size) }
         ensures appended { self.new ≡ (if result then record self.old { bytes = self.old.bytes ++ piece.now } else self.old) }
@@ -132,6 +145,7 @@ impl CodeBuf {
     /// Makes the field of a kind at a place lead to a target, which is a place in the code. The field's bytes were
     /// appended. False exactly where the field can't hold the distance or the address, and then nothing changes;
     /// else nothing but the field's own bits changes.
+    #[must_use]
     pub fn patch(&mut self, place: u32, kind: FixKind, target: u32) -> bool
         requires { place + fix_len kind ≤ length self.old.bytes }
         ensures fits { IsTrue result ↔ Fits kind place target }

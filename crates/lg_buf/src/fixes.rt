@@ -6,7 +6,8 @@ ghost use Rattle.lg_buf.specs.Fixing.{Fixed, Fits, IsWithin};
 
 /// The kinds of fixes: which field holds the distance or the address of a target, which is a place in the code. The
 /// place of a fix is that of the displacement or immediate on x86-64, which ends its instruction, and that of the
-/// word, or of the first of two words, on the others.
+/// word, or of the first of two words, on the others. The fields are those of the Intel SDM volume 2, of the Arm
+/// Architecture Reference Manual (A64) and of the RISC-V unprivileged ISA.
 #[derive(Clone, Copy, Debug, PartialEq, Eq)]
 pub enum FixKind {
     /// x86-64: the distance from the field's end, in 1 byte (`jmp8`, `jo8` to `jg8`).
@@ -65,7 +66,8 @@ impl FixKind {
     /// the target. No bytes at all lead there where it can't.
     pub fn fits(self, place: u32, target: u32) -> bool
         ensures fits { IsTrue result ↔ Fits self place target }
-        ensures exact { (bytes : List ℕ) → ((i : ℕ) → slice_index bytes i < 256) → Fixed bytes place self target → Fits self place target }
+        ensures exact { (bytes : List ℕ) → ((i : ℕ) → slice_index bytes i < 256)
+            → Fixed bytes place self target → Fits self place target }
     {
         match self {
             FixKind::X86Rel8 => is_within(128, place as u64 + 1, target),

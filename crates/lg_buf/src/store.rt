@@ -1,9 +1,8 @@
-// Bytes in room that is taken once. Only `new`, `push`, `get`, `set` and the model know what the room is.
+// Bytes in room that is taken once. Only the model and the calls of the first block know what the room is.
 
 ghost use Rattle.std.specs.Prelude.{◌≡◌, ◌+◌, ◌<◌, ◌≤◌, ◌^◌, [], ◌∷◌, ◌++◌, length, slice_index, slice_set, IfOk};
 ghost use Rattle.lg_base.specs.WordFronts.{word_at};
-ghost use Rattle.lg_buf.specs.Stores.{ChangesOnly};
-ghost use Rattle.lg_buf.specs.Buffers.{IsRoomFor};
+ghost use Rattle.lg_buf.specs.Stores.{ChangesOnly, IsRoomFor};
 
 use lg_base::code::CodeBytes;
 use lg_base::field::Field;
@@ -11,7 +10,7 @@ use lg_base::refusal::OutOfMemory;
 use std::alloc::Global;
 use std::marker::Model;
 
-/// Bytes, of which there can be a certain number. In a contract it is a `Stored`.
+/// Bytes, of which there can be a certain number. In a contract it is a `StoredBytes`.
 #[derive(Drop)]
 pub(crate) struct Store {
     bytes: Vec<u8>,
@@ -20,9 +19,9 @@ pub(crate) struct Store {
 
 impl Model for Store {
     ghost use Rattle.std.specs.Prelude.{◌≤◌, vec_len, vec_capacity};
-    ghost use Rattle.lg_buf.specs.Stores.{Stored};
+    ghost use Rattle.lg_buf.specs.Stores.{StoredBytes};
 
-    ghost Value = { Stored };
+    ghost Value = { StoredBytes };
 
     ghost view = { λ s. record { items = s.bytes.items; size = s.size } };
 
@@ -48,13 +47,6 @@ impl Store {
         // the size fits 32 bits
         let _size = self.size;
         self.bytes.len() as u32
-    }
-
-    /// How many more bytes there can be.
-    pub(crate) fn free(&self) -> u32
-        ensures { length self.now.items + result ≡ self.now.size }
-    {
-        self.size - self.bytes.len() as u32
     }
 
     /// Appends a byte. There is room left.
@@ -86,6 +78,13 @@ impl Store {
 }
 
 impl Store {
+    /// How many more bytes there can be.
+    pub(crate) fn free(&self) -> u32
+        ensures { length self.now.items + result ≡ self.now.size }
+    {
+        self.size - self.len()
+    }
+
     /// Appends bytes. There is room left for them.
     pub(crate) fn write(&mut self, piece: &[u8])
         requires { length self.old.items + length piece.now ≤ self.old.size }

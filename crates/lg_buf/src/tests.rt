@@ -31,7 +31,11 @@ fn branch_to(buf: &mut CodeBuf, label: Label32) -> bool
     requires label { label.0 < length buf.old.labels }
     requires room { 0 < buf.old.room }
     ensures fits { IsTrue result ↔ (length buf.old.bytes + 4 ≤ buf.old.size) }
-    ensures appended { IsTrue result → buf.new ≡ record buf.old { bytes = buf.old.bytes ++ 0x63 ∷ 0x80 ∷ 0x62 ∷ 0 ∷ []; fixes = buf.old.fixes ++ record { place = length buf.old.bytes; kind = FixKind.RvBranch; label = label } ∷ []; room = buf.new.room } }
+    ensures appended { IsTrue result → buf.new ≡ record buf.old {
+      bytes = buf.old.bytes ++ 0x63 ∷ 0x80 ∷ 0x62 ∷ 0 ∷ [];
+      fixes = buf.old.fixes ++ record { place = length buf.old.bytes; kind = FixKind.RvBranch; label = label } ∷ [];
+      room = buf.new.room;
+    } }
     ensures room { IsTrue result → buf.new.room + 1 ≡ buf.old.room }
 {
     let place = buf.here();
@@ -74,7 +78,7 @@ fn patched_is<R: Abort + AllocGlobal>(
     let end = place.saturating_add(kind.size());
     let start = (end as usize).saturating_sub(code.len());
     let mut buf = CodeBuf::new(rt.alloc(), end, 0, 0)?;
-    let zeros = vec![in rt.alloc(); 0u8; start]?;
+    let zeros = vec![in buf.allocator(); 0u8; start]?;
     assert!(rt; buf.emit(zeros.as_slice()));
     assert!(rt; buf.emit(code));
     assert!(rt; place as u64 + kind.size() as u64 <= buf.here() as u64);
