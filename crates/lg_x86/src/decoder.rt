@@ -1,7 +1,7 @@
 // From bytes to instructions: the instruction that the bytes may begin with is guessed, carelessly, and
 // what was guessed is spelled again and compared. So REX, the mode, SIB and the short forms need no tests.
 
-ghost use Rattle.std.specs.Prelude.{◌≡◌, ◌<◌, ◌++◌, ℕ, List, length, Some, IfSome, IfNone, if◌then◌else◌};
+ghost use Rattle.std.specs.Prelude.{◌≡◌, ◌++◌, ℕ, List, length, Some, IfSome, IfNone, if◌then◌else◌};
 ghost use Rattle.lg_x86.specs.Spelling.{IsInstr, BeginsWith, spelling};
 ghost use Rattle.lg_x86.specs.Reading.{checked, guess_of, sized_of, code_of, short_at, escaped_at, mark_in, has_registers, rm_reg_of, imm_of, reg_rm_of, load_of, store_of, lea_of, movi_of, movs_of, unary_of, shift_of, bswap_of, stack_of, jump_if_short_of, jump_if_near_of, set_of, jump_short_of, jump_near_of, jump_reg_of, bare_of};
 

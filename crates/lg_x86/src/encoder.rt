@@ -1,7 +1,7 @@
 // From instructions to bytes.
 
 ghost use Rattle.std.specs.Prelude.{◌≡◌, ◌<◌, ◌≤◌, ◌+◌, ◌++◌, length};
-ghost use Rattle.lg_x86.specs.Spelling.{IsInstr, spelling, rex, extension, size_prefix, opcode_bytes, memory, memory_mode, number_bytes, imm_opcode};
+ghost use Rattle.lg_x86.specs.Spelling.{IsInstr, spelling, rex, size_prefix, opcode_bytes, memory, memory_mode, number_bytes, imm_opcode};
 
 use crate::fields::{extension_of, fits_short, long_of, modrm_of, short_byte, sib_of};
 use crate::instruction::{

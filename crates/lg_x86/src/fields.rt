@@ -1,8 +1,8 @@
 // The fields of REX, ModRM and SIB, and the numbers behind them.
 
-ghost use Rattle.std.specs.Prelude.{◌≡◌, ◌<◌, ◌≤◌, ◌+◌, ◌*◌, ◌^◌, ◌/◌, ◌%◌, ◌==◌, ℕ, List, drop, length, slice_index};
-ghost use Rattle.lg_base.specs.Fields.{bits_of, signed};
-ghost use Rattle.lg_x86.specs.Spelling.{extension, modrm, sib, is_short, short_bytes, long_bytes, IsNumber8, IsNumber32};
+ghost use Rattle.std.specs.Prelude.{◌≡◌, ◌<◌, ℕ, List, drop, length, slice_index};
+ghost use Rattle.lg_base.specs.Fields.{bits_of};
+ghost use Rattle.lg_x86.specs.Spelling.{extension, modrm, sib, is_short, long_bytes, IsNumber8, IsNumber32};
 ghost use Rattle.lg_x86.specs.Reading.{opcode_reg, has_registers, digit_in, reg_in, rm_in, index_in, base_in, word_in, wide_in, short_in, long_in, number_in, disp_in, disp_place};
 
 use lg_base::number::{from_bits, to_bits};
