@@ -1,5 +1,5 @@
 -- The names of the operations: the letters of what is done, the letters of the operands, and the mark of an unsigned operation or of a type.
-use Rattle.std.specs.Prelude.{◌≡◌, ℕ, ◌==◌, Bool, true, false, ◌&&◌, ◌||◌, if◌then◌else◌, List, [], ◌∷◌, ◌++◌, ◌⊎◌, codes}
+use Rattle.std.specs.Prelude.{◌≡◌, ℕ, ◌==◌, Bool, true, false, ◌&&◌, ◌||◌, if◌then◌else◌, List, [], ◌++◌, ◌⊎◌, codes}
 use Rattle.std.specs.Str.{bytes_eq}
 use Rattle.lg_node.specs.declared.op.BinaryOp.{BinaryOp}
 use Rattle.lg_node.specs.declared.op.BinaryOp.TheVariants as binary

@@ -1,4 +1,4 @@
-use Rattle.std.proofs.Common.{◌≡◌, ℕ, List, ap, ◌∙◌, ⊎_elim}
+use Rattle.std.proofs.Common.{ap, ◌∙◌, ⊎_elim}
 use Rattle.lg_node.proofs.NameLemmas.{found, found_named, again, long_again}
 use Rattle.lg_node.proofs.op.Op.by_name.Goals as goal
 
