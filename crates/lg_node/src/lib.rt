@@ -3,10 +3,14 @@
 
 mod form;
 mod names;
+mod node;
+mod node_list;
 mod op;
 mod operand;
 
 pub use form::Form;
+pub use node::{Node, Place};
+pub use node_list::NodeList;
 pub use op::{
     Addressing, BinaryOp, BranchSumOp, Condition, ControlOp, LastOperand, Op, PlainOp, StoreType,
     UnaryOp, ValueType, WideOp,
