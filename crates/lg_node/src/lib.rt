@@ -16,3 +16,6 @@ pub use op::{
     UnaryOp, ValueType, WideOp,
 };
 pub use operand::{Label, Operand, Operands, Reg};
+
+#[cfg(test)]
+mod tests;
