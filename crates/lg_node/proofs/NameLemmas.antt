@@ -1,0 +1,246 @@
+-- Each name leads to its operation, and to no other.
+use Rattle.std.proofs.Common.{◌≡◌, ℕ, Bool, true, false, ◌&&◌, ◌||◌, cond, List, [], ◌∷◌, ◌++◌, inl, inr, Option, Some, None, refl, sym, ap, ◌∙◌, find, codes, slice_index, IfSome}
+use Rattle.std.specs.Str.{bytes_eq}
+use Rattle.std.proofs.lemmas.Bool.{false≢true}
+use Rattle.std.proofs.lemmas.Slice.Eq.{bytes_eq-Decides}
+use Rattle.lg_node.specs.Names.{name, is_long, is_name, IsName, ops_from}
+use Rattle.lg_node.specs.declared.op.BinaryOp.{BinaryOp}
+use Rattle.lg_node.specs.declared.op.BinaryOp.TheVariants as binary
+use Rattle.lg_node.specs.declared.op.WideOp.{WideOp}
+use Rattle.lg_node.specs.declared.op.WideOp.TheVariants as wide
+use Rattle.lg_node.specs.declared.op.Condition.{Condition}
+use Rattle.lg_node.specs.declared.op.Condition.TheVariants as condition
+use Rattle.lg_node.specs.declared.op.BranchSumOp.{BranchSumOp}
+use Rattle.lg_node.specs.declared.op.BranchSumOp.TheVariants as branch_sum
+use Rattle.lg_node.specs.declared.op.ControlOp.{ControlOp}
+use Rattle.lg_node.specs.declared.op.ControlOp.TheVariants as control
+use Rattle.lg_node.specs.declared.op.UnaryOp.{UnaryOp}
+use Rattle.lg_node.specs.declared.op.UnaryOp.TheVariants as unary
+use Rattle.lg_node.specs.declared.op.PlainOp.{PlainOp}
+use Rattle.lg_node.specs.declared.op.PlainOp.TheVariants as plain
+use Rattle.lg_node.specs.declared.op.ValueType.{ValueType}
+use Rattle.lg_node.specs.declared.op.ValueType.TheVariants as value_type
+use Rattle.lg_node.specs.declared.op.StoreType.{StoreType}
+use Rattle.lg_node.specs.declared.op.StoreType.TheVariants as store_type
+use Rattle.lg_node.specs.declared.op.Addressing.{Addressing}
+use Rattle.lg_node.specs.declared.op.Addressing.TheVariants as addressing
+use Rattle.lg_node.specs.declared.op.LastOperand.{LastOperand}
+use Rattle.lg_node.specs.declared.op.LastOperand.TheVariants as last_operand
+use Rattle.lg_node.specs.declared.op.Op.{Op}
+use Rattle.lg_node.specs.declared.op.Op.TheVariants.{Binary, Wide, Branch, BranchSum, Control, Unary, Plain, Load, Store, Retval, Getarg}
+
+-- the operation that a word leads to
+abbrev pub found : List ℕ → Option Op
+found word = find (λ op. is_name op word) (ops_from (slice_index word 0))
+
+abbrev IsFound : Op → Type 0
+IsFound op = found (name op) ≡ Some op
+
+abbrev IsFoundLong : Op → Type 0
+IsFoundLong op = found (name op ++ codes "_l") ≡ Some op
+
+both : (P : LastOperand → Type 0) → P last_operand.Register → P last_operand.Immediate → (last : LastOperand) → P last
+both P r i last_operand.Register = r
+both P r i last_operand.Immediate = i
+
+every_address : (P : Addressing → Type 0) → P addressing.Register → P addressing.Immediate → P addressing.RegisterRegister → P addressing.RegisterImmediate → (at : Addressing) → P at
+every_address P r i xr xi addressing.Register = r
+every_address P r i xr xi addressing.Immediate = i
+every_address P r i xr xi addressing.RegisterRegister = xr
+every_address P r i xr xi addressing.RegisterImmediate = xi
+
+binary_again : (op : BinaryOp) (last : LastOperand) → IsFound (Binary op last)
+binary_again binary.Add = both _ refl refl
+binary_again binary.Sub = both _ refl refl
+binary_again binary.Rsb = both _ refl refl
+binary_again binary.Mul = both _ refl refl
+binary_again binary.And = both _ refl refl
+binary_again binary.Or = both _ refl refl
+binary_again binary.Xor = both _ refl refl
+binary_again binary.Lsh = both _ refl refl
+binary_again binary.Rsh = both _ refl refl
+binary_again binary.RshU = both _ refl refl
+binary_again binary.Div = both _ refl refl
+binary_again binary.DivU = both _ refl refl
+binary_again binary.Rem = both _ refl refl
+binary_again binary.RemU = both _ refl refl
+binary_again binary.Addc = both _ refl refl
+binary_again binary.Subc = both _ refl refl
+binary_again binary.Addx = both _ refl refl
+binary_again binary.Subx = both _ refl refl
+binary_again binary.Lt = both _ refl refl
+binary_again binary.LtU = both _ refl refl
+binary_again binary.Le = both _ refl refl
+binary_again binary.LeU = both _ refl refl
+binary_again binary.Ge = both _ refl refl
+binary_again binary.GeU = both _ refl refl
+binary_again binary.Gt = both _ refl refl
+binary_again binary.GtU = both _ refl refl
+binary_again binary.Eq = both _ refl refl
+binary_again binary.Ne = both _ refl refl
+
+wide_again : (op : WideOp) (last : LastOperand) → IsFound (Wide op last)
+wide_again wide.Mul = both _ refl refl
+wide_again wide.MulU = both _ refl refl
+wide_again wide.Div = both _ refl refl
+wide_again wide.DivU = both _ refl refl
+
+condition_again : (op : Condition) (last : LastOperand) → IsFound (Branch op last)
+condition_again condition.Lt = both _ refl refl
+condition_again condition.LtU = both _ refl refl
+condition_again condition.Le = both _ refl refl
+condition_again condition.LeU = both _ refl refl
+condition_again condition.Ge = both _ refl refl
+condition_again condition.GeU = both _ refl refl
+condition_again condition.Gt = both _ refl refl
+condition_again condition.GtU = both _ refl refl
+condition_again condition.Eq = both _ refl refl
+condition_again condition.Ne = both _ refl refl
+condition_again condition.Ms = both _ refl refl
+condition_again condition.Mc = both _ refl refl
+
+branch_sum_again : (op : BranchSumOp) (last : LastOperand) → IsFound (BranchSum op last)
+branch_sum_again branch_sum.OverflowAdd = both _ refl refl
+branch_sum_again branch_sum.OverflowAddU = both _ refl refl
+branch_sum_again branch_sum.OverflowSub = both _ refl refl
+branch_sum_again branch_sum.OverflowSubU = both _ refl refl
+branch_sum_again branch_sum.FitAdd = both _ refl refl
+branch_sum_again branch_sum.FitAddU = both _ refl refl
+branch_sum_again branch_sum.FitSub = both _ refl refl
+branch_sum_again branch_sum.FitSubU = both _ refl refl
+
+control_again : (op : ControlOp) (last : LastOperand) → IsFound (Control op last)
+control_again control.Jmp = both _ refl refl
+control_again control.Call = both _ refl refl
+control_again control.Finish = both _ refl refl
+control_again control.Pusharg = both _ refl refl
+control_again control.Ret = both _ refl refl
+
+unary_again : (op : UnaryOp) → IsFound (Unary op)
+unary_again unary.Neg = refl
+unary_again unary.Com = refl
+unary_again unary.Mov = refl
+unary_again unary.ExtrC = refl
+unary_again unary.ExtrUc = refl
+unary_again unary.ExtrS = refl
+unary_again unary.ExtrUs = refl
+unary_again unary.ExtrI = refl
+unary_again unary.ExtrUi = refl
+unary_again unary.HtonrUs = refl
+unary_again unary.HtonrUi = refl
+unary_again unary.HtonrUl = refl
+
+plain_again : (op : PlainOp) → IsFound (Plain op)
+plain_again plain.Movi = refl
+plain_again plain.Prepare = refl
+plain_again plain.Ellipsis = refl
+plain_again plain.Prolog = refl
+plain_again plain.Epilog = refl
+plain_again plain.Ret = refl
+plain_again plain.Arg = refl
+plain_again plain.Allocai = refl
+plain_again plain.Align = refl
+
+load_again : (t : ValueType) (at : Addressing) → IsFound (Load t at)
+load_again value_type.Char = every_address _ refl refl refl refl
+load_again value_type.UnsignedChar = every_address _ refl refl refl refl
+load_again value_type.Short = every_address _ refl refl refl refl
+load_again value_type.UnsignedShort = every_address _ refl refl refl refl
+load_again value_type.Int = every_address _ refl refl refl refl
+load_again value_type.UnsignedInt = every_address _ refl refl refl refl
+load_again value_type.Long = every_address _ refl refl refl refl
+
+store_again : (t : StoreType) (at : Addressing) → IsFound (Store t at)
+store_again store_type.Char = every_address _ refl refl refl refl
+store_again store_type.Short = every_address _ refl refl refl refl
+store_again store_type.Int = every_address _ refl refl refl refl
+store_again store_type.Long = every_address _ refl refl refl refl
+
+retval_again : (t : ValueType) → IsFound (Retval t)
+retval_again value_type.Char = refl
+retval_again value_type.UnsignedChar = refl
+retval_again value_type.Short = refl
+retval_again value_type.UnsignedShort = refl
+retval_again value_type.Int = refl
+retval_again value_type.UnsignedInt = refl
+retval_again value_type.Long = refl
+
+getarg_again : (t : ValueType) → IsFound (Getarg t)
+getarg_again value_type.Char = refl
+getarg_again value_type.UnsignedChar = refl
+getarg_again value_type.Short = refl
+getarg_again value_type.UnsignedShort = refl
+getarg_again value_type.Int = refl
+getarg_again value_type.UnsignedInt = refl
+getarg_again value_type.Long = refl
+
+pub again : (op : Op) → IsFound op
+again (Binary op last) = binary_again op last
+again (Wide op last) = wide_again op last
+again (Branch op last) = condition_again op last
+again (BranchSum op last) = branch_sum_again op last
+again (Control op last) = control_again op last
+again (Unary op) = unary_again op
+again (Plain op) = plain_again op
+again (Load t at) = load_again t at
+again (Store t at) = store_again t at
+again (Retval t) = retval_again t
+again (Getarg t) = getarg_again t
+
+pub long_again : (op : Op) → is_long op ≡ true → IsFoundLong op
+long_again (Load value_type.Long at) h = every_address (λ a. IsFoundLong (Load value_type.Long a)) refl refl refl refl at
+long_again (Store store_type.Long at) h = every_address (λ a. IsFoundLong (Store store_type.Long a)) refl refl refl refl at
+long_again (Retval value_type.Long) h = refl
+long_again (Getarg value_type.Long) h = refl
+long_again (Binary op last) h = absurd (false≢true h)
+long_again (Wide op last) h = absurd (false≢true h)
+long_again (Branch op last) h = absurd (false≢true h)
+long_again (BranchSum op last) h = absurd (false≢true h)
+long_again (Control op last) h = absurd (false≢true h)
+long_again (Unary op) h = absurd (false≢true h)
+long_again (Plain op) h = absurd (false≢true h)
+long_again (Load value_type.Char at) h = absurd (false≢true h)
+long_again (Load value_type.UnsignedChar at) h = absurd (false≢true h)
+long_again (Load value_type.Short at) h = absurd (false≢true h)
+long_again (Load value_type.UnsignedShort at) h = absurd (false≢true h)
+long_again (Load value_type.Int at) h = absurd (false≢true h)
+long_again (Load value_type.UnsignedInt at) h = absurd (false≢true h)
+long_again (Store store_type.Char at) h = absurd (false≢true h)
+long_again (Store store_type.Short at) h = absurd (false≢true h)
+long_again (Store store_type.Int at) h = absurd (false≢true h)
+long_again (Retval value_type.Char) h = absurd (false≢true h)
+long_again (Retval value_type.UnsignedChar) h = absurd (false≢true h)
+long_again (Retval value_type.Short) h = absurd (false≢true h)
+long_again (Retval value_type.UnsignedShort) h = absurd (false≢true h)
+long_again (Retval value_type.Int) h = absurd (false≢true h)
+long_again (Retval value_type.UnsignedInt) h = absurd (false≢true h)
+long_again (Getarg value_type.Char) h = absurd (false≢true h)
+long_again (Getarg value_type.UnsignedChar) h = absurd (false≢true h)
+long_again (Getarg value_type.Short) h = absurd (false≢true h)
+long_again (Getarg value_type.UnsignedShort) h = absurd (false≢true h)
+long_again (Getarg value_type.Int) h = absurd (false≢true h)
+long_again (Getarg value_type.UnsignedInt) h = absurd (false≢true h)
+
+-- a test of a word tells whether it names the operation
+is_name_of : (op : Op) (word : List ℕ) → is_name op word ≡ true → IsName op word
+is_name_of op word e = by (bytes_eq word (name op)) (is_long op) (bytes_eq word (name op ++ codes "_l")) refl refl refl e
+  where
+    by : (a b c : Bool) → bytes_eq word (name op) ≡ a → is_long op ≡ b → bytes_eq word (name op ++ codes "_l") ≡ c → (a || (b && c)) ≡ true → IsName op word
+    by true b c ea eb ec t = inl ((bytes_eq-Decides word (name op)).0 ea)
+    by false true true ea eb ec t = inr (eb, (bytes_eq-Decides word (name op ++ codes "_l")).0 ec)
+    by false true false ea eb ec t = absurd (false≢true t)
+    by false false c ea eb ec t = absurd (false≢true t)
+
+-- what find gives passes the test
+find_passes : {A : Type 0} (p : A → Bool) (xs : List A) (x : A) → find p xs ≡ Some x → p x ≡ true
+find_passes p [] x e = cc
+find_passes p (y ∷ ys) x e = by (p y) refl e (find_passes p ys x)
+  where
+    by : (b : Bool) → p y ≡ b → cond b (Some y) (find p ys) ≡ Some x → (find p ys ≡ Some x → p x ≡ true) → p x ≡ true
+    by true t f rest = let same : y ≡ x = cc in sym (ap p same) ∙ t
+    by false t f rest = rest f
+
+-- a word leads to an operation that it names
+pub found_named : (r : Option Op) (word : List ℕ) → r ≡ found word → IfSome r (λ op. IsName op word)
+found_named None word e = tt
+found_named (Some op) word e = is_name_of op word (find_passes (λ o. is_name o word) (ops_from (slice_index word 0)) op (sym e))

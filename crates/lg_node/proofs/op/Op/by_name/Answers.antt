@@ -1,0 +1,12 @@
+use Rattle.std.proofs.Common.{ap, ◌∙◌, ⊎_elim}
+use Rattle.lg_node.proofs.NameLemmas.{found, found_named, again, long_again}
+use Rattle.lg_node.proofs.op.Op.by_name.Goals as goal
+
+pub returns-clause-found : goal.returns-clause-found
+returns-clause-found c = found_named c.found.result c.args.word.now c.found.ensures
+
+pub returns-clause-every : goal.returns-clause-every
+returns-clause-every c op named = c.found.ensures ∙ ⊎_elim
+    (λ w. ap found w ∙ again op)
+    (λ s. ap found s.1 ∙ long_again op s.0)
+    named

@@ -1,0 +1,146 @@
+// The forms of operands that an operation takes.
+
+ghost use Rattle.std.specs.Prelude.{◌≡◌};
+ghost use Rattle.lg_node.specs.Forms.{forms_of, control_forms, plain_forms, admits, is_alignment};
+
+use crate::op::{Addressing, ControlOp, LastOperand, Op, PlainOp};
+use crate::operand::{Operand, Reg};
+
+/// What may stand at an operand's place.
+#[derive(Clone, Copy, Debug, PartialEq, Eq)]
+pub enum Form {
+    /// A register that is written: not FP.
+    Write,
+    /// A register that is read and written: not FP.
+    Update,
+    /// A register that is read.
+    Read,
+    /// A number, a label or a host function.
+    Immediate,
+    /// A label.
+    Target,
+    /// A label or a host function.
+    Callee,
+    /// An argument that `arg` makes.
+    NewArgument,
+    /// An argument that an earlier `arg` made.
+    Argument,
+    /// A local that `allocai` makes.
+    NewLocal,
+    /// The size of a local: a number from 1 to 65,536.
+    Size,
+    /// An alignment of code: a power of two from 1 to 64.
+    Alignment,
+}
+
+// Whether a number is a power of two from 1 to 64.
+fn is_alignment(number: u64) -> bool
+    ensures { result ≡ is_alignment number }
+{
+    matches!(number, 1 | 2 | 4 | 8 | 16 | 32 | 64)
+}
+
+impl Form {
+    /// Whether an operand is of this form.
+    pub fn admits(self, operand: Operand) -> bool
+        ensures { result ≡ admits self operand }
+    {
+        match (self, operand) {
+            (Form::Write | Form::Update, Operand::Reg(Reg::Fp)) => false,
+            (Form::Write | Form::Update | Form::Read, Operand::Reg(_)) => true,
+            (Form::Immediate, Operand::Number(_) | Operand::Label(_) | Operand::Host(_)) => true,
+            (Form::Target, Operand::Label(_)) => true,
+            (Form::Callee, Operand::Label(_) | Operand::Host(_)) => true,
+            (Form::NewArgument | Form::Argument | Form::NewLocal, Operand::Slot(_)) => true,
+            (Form::Size, Operand::Number(number)) => 1 <= number && number <= 65_536,
+            (Form::Alignment, Operand::Number(number)) => is_alignment(number),
+            _ => false,
+        }
+    }
+}
+
+impl Op {
+    /// The forms of the operation's operands, in order.
+    pub fn forms(self) -> &'static [Form]
+        ensures { result.now ≡ forms_of self }
+    {
+        match self {
+            Op::Binary(_, LastOperand::Register) => &[Form::Write, Form::Read, Form::Read],
+            Op::Binary(_, LastOperand::Immediate) => &[Form::Write, Form::Read, Form::Immediate],
+            Op::Wide(_, LastOperand::Register) => &[
+                Form::Write,
+                Form::Write,
+                Form::Read,
+                Form::Read,
+            ],
+            Op::Wide(_, LastOperand::Immediate) => &[
+                Form::Write,
+                Form::Write,
+                Form::Read,
+                Form::Immediate,
+            ],
+            Op::Branch(_, LastOperand::Register) => &[Form::Target, Form::Read, Form::Read],
+            Op::Branch(_, LastOperand::Immediate) => &[Form::Target, Form::Read, Form::Immediate],
+            Op::BranchSum(_, LastOperand::Register) => &[Form::Target, Form::Update, Form::Read],
+            Op::BranchSum(_, LastOperand::Immediate) => &[
+                Form::Target,
+                Form::Update,
+                Form::Immediate,
+            ],
+            Op::Control(op, last) => op.forms(last),
+            Op::Unary(_) => &[Form::Write, Form::Read],
+            Op::Plain(op) => op.forms(),
+            Op::Load(_, Addressing::Register) => &[Form::Write, Form::Read],
+            Op::Load(_, Addressing::Immediate) => &[Form::Write, Form::Immediate],
+            Op::Load(_, Addressing::RegisterRegister) => &[Form::Write, Form::Read, Form::Read],
+            Op::Load(_, Addressing::RegisterImmediate) => &[
+                Form::Write,
+                Form::Read,
+                Form::Immediate,
+            ],
+            Op::Store(_, Addressing::Register) => &[Form::Read, Form::Read],
+            Op::Store(_, Addressing::Immediate) => &[Form::Immediate, Form::Read],
+            Op::Store(_, Addressing::RegisterRegister) => &[Form::Read, Form::Read, Form::Read],
+            Op::Store(_, Addressing::RegisterImmediate) => &[
+                Form::Immediate,
+                Form::Read,
+                Form::Read,
+            ],
+            Op::Retval(_) => &[Form::Write],
+            Op::Getarg(_) => &[Form::Write, Form::Argument],
+        }
+    }
+}
+
+impl ControlOp {
+    // The form of the one operand.
+    fn forms(self, last: LastOperand) -> &'static [Form]
+        ensures { result.now ≡ control_forms self last }
+    {
+        match (self, last) {
+            (_, LastOperand::Register) => &[Form::Read],
+            (ControlOp::Jmp, LastOperand::Immediate) => &[Form::Target],
+            (ControlOp::Call | ControlOp::Finish, LastOperand::Immediate) => &[Form::Callee],
+            (ControlOp::Pusharg | ControlOp::Ret, LastOperand::Immediate) => &[Form::Immediate],
+        }
+    }
+}
+
+impl PlainOp {
+    // The forms of the operands, in order.
+    fn forms(self) -> &'static [Form]
+        ensures { result.now ≡ plain_forms self }
+    {
+        match self {
+            PlainOp::Movi => &[Form::Write, Form::Immediate],
+            PlainOp::Arg => &[Form::NewArgument],
+            PlainOp::Allocai => &[Form::Size, Form::NewLocal],
+            PlainOp::Align => &[Form::Alignment],
+            PlainOp::Prepare
+            | PlainOp::Ellipsis
+            | PlainOp::Prolog
+            | PlainOp::Epilog
+            | PlainOp::Ret => &[],
+        }
+    }
+}

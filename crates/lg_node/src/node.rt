@@ -1,0 +1,62 @@
+// Nodes, and the places of labels.
+
+ghost use Rattle.std.specs.Prelude.{◌≡◌, ◌↔◌, IsTrue};
+ghost use Rattle.lg_node.specs.Forms.{admit};
+ghost use Rattle.lg_node.specs.Nodes.{InForm, IsApart};
+
+use crate::form::Form;
+use crate::op::Op;
+use crate::operand::{Operand, Operands};
+
+/// An instruction of a text: an operation with its operands, and the line on which it stands.
+#[derive(Clone, Copy, Debug)]
+pub struct Node {
+    /// The operation.
+    pub op: Op,
+    /// Its operands, in order.
+    pub operands: Operands,
+    /// The line of the operation's name in the text, from 1.
+    pub line: u32,
+}
+
+/// Where a label is bound.
+#[derive(Clone, Copy, Debug, PartialEq, Eq)]
+pub enum Place {
+    /// At a node, by its number, or behind the last node.
+    Node(u32),
+    /// At a byte of the data part, by its number, or behind the last byte.
+    Image(u32),
+}
+
+impl Node {
+    /// Whether the operands are those of the operation's row in the instruction table.
+    pub fn is_in_form(&self) -> bool
+        ensures { IsTrue result ↔ InForm self.now }
+    {
+        let operands = self.operands.as_slice();
+        admit(self.op.forms(), operands) && is_apart(self.op, operands)
+    }
+}
+
+// Whether operands are those of the forms, one by one.
+fn admit(forms: &[Form], operands: &[Operand]) -> bool
+    ensures { result ≡ admit forms.now operands.now }
+{
+    match forms {
+        [] => operands.is_empty(),
+        [form, forms @ ..] => match operands {
+            [] => false,
+            [operand, operands @ ..] => form.admits(*operand) && admit(forms, operands),
+        },
+    }
+}
+
+// Whether an operation with two results has two registers for them.
+fn is_apart(op: Op, operands: &[Operand]) -> bool
+    ensures { IsTrue result ↔ IsApart op operands.now }
+{
+    match (op, operands) {
+        (Op::Wide(_, _), [a, b, ..]) => a != b,
+        _ => true,
+    }
+}

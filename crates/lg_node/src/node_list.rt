@@ -1,0 +1,149 @@
+// The nodes of a text and its labels.
+
+ghost use Rattle.std.specs.Prelude.{◌≡◌, ◌↔◌, ◌<◌, ◌-◌, ◌^◌, Bool, false, IsTrue, Some, None, [], length, slice_get, OnOk, OnErr, IfOk, IfSome};
+ghost use Rattle.lg_node.specs.Nodes.{InForm, IsWithin, with_node, mentioned, number_of, with_place, is_word};
+
+use crate::node::{Node, Place};
+use crate::operand::Label;
+use indexmap::IndexSet;
+use lg_base::refusal::OutOfMemory;
+use std::alloc::Global;
+use std::marker::Model;
+
+/// A list of nodes, and the labels that are mentioned in it, each with its word and the place at which it is bound.
+#[derive(Drop)]
+pub struct NodeList {
+    alloc: Global,
+    nodes: Vec<Node>,
+    words: IndexSet<Vec<u8>>,
+    places: Vec<Option<Place>>,
+}
+
+impl Model for NodeList {
+    ghost use Rattle.lg_node.specs.Nodes.{LabelledNodes};
+
+    ghost Value = { LabelledNodes };
+
+    ghost use Rattle.lg_node.specs.NodeLists.{view_of, IsNodeList};
+
+    ghost view = { view_of };
+
+    ghost invariant = { IsNodeList };
+}
+
+impl NodeList {
+    /// The list of no nodes and no labels. No memory is taken yet.
+    pub fn new(alloc: Global) -> NodeList
+        ensures { result ≡ record { nodes = []; words = []; places = [] } }
+    {
+        NodeList {
+            alloc,
+            nodes: Vec::new(alloc),
+            words: IndexSet::new(alloc),
+            places: Vec::new(alloc),
+        }
+    }
+
+    /// Appends a node. The node is in form, and there are fewer than 2^32 - 1 nodes. At Err nothing changes.
+    pub fn push(&mut self, node: Node) -> Result<(), OutOfMemory>
+        requires room { length self.old.nodes < 2 ^ 32 - 1 }
+        requires form { InForm node }
+        ensures ok { OnOk result (self.new ≡ with_node self.old node) }
+        ensures err { OnErr result (self.new ≡ self.old) }
+    {
+        match self.nodes.push(node) {
+            Ok(()) => return Ok(()),
+            Err(_) => return Err(OutOfMemory),
+        }
+    }
+
+    /// How many nodes there are.
+    pub fn len(&self) -> u32
+        ensures { result ≡ length self.now.nodes }
+    {
+        self.nodes.len() as u32
+    }
+
+    /// Whether there is no node.
+    pub fn is_empty(&self) -> bool
+        ensures { IsTrue result ↔ (length self.now.nodes ≡ 0) }
+    {
+        self.nodes.len() == 0
+    }
+
+    /// The node of an index, which is below `len`. It is in form.
+    pub fn node(&self, index: u32) -> Node
+        requires { index < length self.now.nodes }
+        ensures node { Some result ≡ slice_get self.now.nodes index }
+        ensures form { InForm result }
+    {
+        self.nodes[index as usize]
+    }
+
+    /// The label of a word, which has the form of a word of a text: the one that the word has, or a new one at its first mention.
+    /// There are fewer than 2^32 - 1 labels. At Err nothing changes.
+    pub fn label(&mut self, word: &[u8]) -> Result<Label, OutOfMemory>
+        requires room { length self.old.words < 2 ^ 32 - 1 }
+        requires word { IsTrue (is_word word.now) }
+        ensures number { IfOk result (λ l. l.0 ≡ number_of self.old.words word.now) }
+        ensures ok { OnOk result (self.new ≡ mentioned self.old word.now) }
+        ensures err { OnErr result (self.new ≡ self.old) }
+    {
+        if let Some(index) = self.words.get_index_of(word) {
+            return Ok(Label(index as u32));
+        }
+        let key = Vec::from_slice(self.alloc, word)?;
+        self.places.push(None)?;
+        match self.words.insert_full(key) {
+            Ok((index, _)) => return Ok(Label(index as u32)),
+            Err(_) => {
+                let _ = self.places.pop();
+                return Err(OutOfMemory);
+            }
+        }
+    }
+
+    /// How many labels there are.
+    pub fn labels(&self) -> u32
+        ensures count { result ≡ length self.now.words }
+        ensures places { length self.now.places ≡ length self.now.words }
+    {
+        self.words.len() as u32
+    }
+
+    /// Binds a label, which is below `labels`, to a place; a place that is a node is at most `len`. False exactly where the label
+    /// is bound already, and then nothing changes.
+    pub fn bind(&mut self, label: Label, place: Place) -> bool
+        requires label { label.0 < length self.old.words }
+        requires place { IsWithin (length self.old.nodes) place }
+        ensures free { IsTrue result ↔ (slice_get self.old.places label.0 ≡ Some None) }
+        ensures bound { IsTrue result → self.new ≡ with_place self.old label.0 place }
+        ensures kept { result ≡ false → self.new ≡ self.old }
+    {
+        let index = label.0 as usize;
+        if self.places[index].is_some() {
+            return false;
+        }
+        self.places[index] = Some(place);
+        true
+    }
+
+    /// The place at which a label, which is below `labels`, is bound, and None exactly where it is not bound. A place that is a node
+    /// is at most `len`.
+    pub fn place(&self, label: Label) -> Option<Place>
+        requires { label.0 < length self.now.words }
+        ensures place { Some result ≡ slice_get self.now.places label.0 }
+        ensures within { IfSome result (λ p. IsWithin (length self.now.nodes) p) }
+    {
+        self.places[label.0 as usize]
+    }
+
+    /// The word of a label, which is below `labels`. It has the form of a word of a text.
+    pub fn word(&self, label: Label) -> &[u8]
+        requires { label.0 < length self.now.words }
+        ensures text { Some result.now ≡ slice_get self.now.words label.0 }
+        ensures form { IsTrue (is_word result.now) }
+    {
+        &self.words.as_slice()[label.0 as usize]
+    }
+}
