@@ -2,6 +2,10 @@
 // Each write goes out at once, with no buffer between.
 #![tactic(auto)]
 
+ghost use Rattle.std.specs.Prelude.{◌≡◌};
+ghost use Rattle.std.specs.Process.{exit_status};
+ghost use Rattle.lg_run.specs.Statuses.{status_of_answer};
+
 use lg_base::refusal::OutOfMemory;
 use lg_io::standard::{StdSink, StdTexts};
 use lg_run::answer::{Answer, status};
@@ -25,6 +29,13 @@ fn words(rt: &HostRuntime) -> Result<Vec<String>, OutOfMemory> {
     }
 }
 
+// The status that the process ends with.
+fn exit_code(answer: &Answer) -> ExitCode
+    ensures { exit_status result ≡ status_of_answer answer.now }
+{
+    ExitCode::from(status(answer))
+}
+
 fn main(rt: HostRuntime) -> ExitCode {
     let mut texts = StdTexts::new(&rt);
     let mut out = StdSink::new(rt.stdout());
@@ -33,5 +44,5 @@ fn main(rt: HostRuntime) -> ExitCode {
         Ok(words) => lightning(rt.alloc(), &words, &mut texts, &mut out, &mut err).answer,
         Err(OutOfMemory) => report("", Answer::OutOfMemory, 0, &mut err),
     };
-    ExitCode::from(status(&answer))
+    exit_code(&answer)
 }
