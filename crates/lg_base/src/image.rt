@@ -30,6 +30,14 @@ impl DataImage {
         Ok(DataImage { bytes })
     }
 
+    /// The list that a vector holds, of which there are at most 4,294,967,295 bytes. No memory is taken.
+    pub fn from_vec(bytes: Vec<u8>) -> DataImage
+        requires { length bytes.items < 2 ^ 32 }
+        ensures { result ≡ bytes.items }
+    {
+        DataImage { bytes }
+    }
+
     /// How many bytes there are.
     pub fn len(&self) -> u32
         ensures { result ≡ length self.now }

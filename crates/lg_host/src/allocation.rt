@@ -28,7 +28,7 @@ fn reserve<S: Space>(size: u64, mem: &mut S, heap: &mut HeapMark) -> Option<u64>
     Some(mark)
 }
 
-// Hands out so many bytes.
+/// Hands out so many bytes.
 pub fn malloc<S: Space>(size: u64, mem: &mut S, heap: &mut HeapMark) -> HostEnd
     ensures { MemSays (malloc heap.old size)
         (memory (S.byte_of mem.old) (S.room mem.old) heap.old)
@@ -40,7 +40,7 @@ pub fn malloc<S: Space>(size: u64, mem: &mut S, heap: &mut HeapMark) -> HostEnd
     }
 }
 
-// Hands out so many zero bytes of a size each.
+/// Hands out so many zero bytes of a size each.
 pub fn calloc<S: Space>(count: u64, size: u64, mem: &mut S, heap: &mut HeapMark) -> HostEnd
     ensures { MemSays (calloc heap.old (count * size))
         (memory (S.byte_of mem.old) (S.room mem.old) heap.old)
@@ -67,7 +67,7 @@ fn zeroed<S: Space>(size: u64, mem: &mut S, heap: &mut HeapMark) -> HostEnd
     }
 }
 
-// Sets the bytes of a range.
+/// Sets the bytes of a range.
 pub fn memset<S: Space>(to: u64, word: u64, count: u64, mem: &mut S, heap: &mut HeapMark) -> HostEnd
     ensures { MemSays (memset (memory (S.byte_of mem.old) (S.room mem.old) heap.old) to word count)
         (memory (S.byte_of mem.old) (S.room mem.old) heap.old)
@@ -86,7 +86,7 @@ pub fn memset<S: Space>(to: u64, word: u64, count: u64, mem: &mut S, heap: &mut 
     HostEnd::Value(to)
 }
 
-// Copies the bytes of a range to another that lies apart from it.
+/// Copies the bytes of a range to another that lies apart from it.
 pub fn memcpy<S: Space>(to: u64, from: u64, count: u64, mem: &mut S, heap: &mut HeapMark) -> HostEnd
     ensures { MemSays (memcpy (memory (S.byte_of mem.old) (S.room mem.old) heap.old) to from count)
         (memory (S.byte_of mem.old) (S.room mem.old) heap.old)

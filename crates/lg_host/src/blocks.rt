@@ -7,14 +7,14 @@ ghost use Rattle.lg_host.specs.Blocks.{over, copied, filled, can_write, is_below
 use crate::strings::MEMORY_END;
 use lg_base::space::Space;
 
-// Whether a range ends before the end of memory.
+/// Whether a range ends before the end of memory.
 pub fn is_below_end(from: u64, count: u64) -> bool
     ensures { result ≡ is_below_end from count }
 {
     count <= MEMORY_END && from <= MEMORY_END - count
 }
 
-// Whether the distance of two addresses is below a number.
+/// Whether the distance of two addresses is below a number.
 pub fn overlaps(to: u64, from: u64, count: u64) -> bool
     ensures { result ≡ overlaps to from count }
 {
@@ -25,7 +25,7 @@ pub fn overlaps(to: u64, from: u64, count: u64) -> bool
     }
 }
 
-// Whether all of a range can be read.
+/// Whether all of a range can be read.
 pub fn can_get_all<S: Space>(mem: &S, from: u64, count: u64) -> bool
     requires { from + count ≤ 0x40000000 }
     ensures { result ≡ mapped (S.byte_of mem.now) from count }
@@ -38,7 +38,7 @@ pub fn can_get_all<S: Space>(mem: &S, from: u64, count: u64) -> bool
     true
 }
 
-// Whether all of a range can be written.
+/// Whether all of a range can be written.
 pub fn can_put_all<S: Space>(mem: &S, from: u64, count: u64) -> bool
     requires { from + count ≤ 0x40000000 }
     ensures { result ≡ can_write (S.room mem.now) from count }
@@ -51,7 +51,7 @@ pub fn can_put_all<S: Space>(mem: &S, from: u64, count: u64) -> bool
     true
 }
 
-// Sets the bytes of a range.
+/// Sets the bytes of a range.
 pub fn fill<S: Space>(mem: &mut S, to: u64, byte: u8, count: u64)
     requires below { to + count ≤ 0x40000000 }
     requires can { can_write (S.room mem.old) to count ≡ true }
@@ -63,7 +63,7 @@ pub fn fill<S: Space>(mem: &mut S, to: u64, byte: u8, count: u64)
     }
 }
 
-// Copies the bytes of a range.
+/// Copies the bytes of a range.
 pub fn copy<S: Space>(mem: &mut S, to: u64, from: u64, count: u64)
     requires below { to + count ≤ 0x40000000 }
     requires below_from { from + count ≤ 0x40000000 }

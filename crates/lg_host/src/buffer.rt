@@ -7,7 +7,7 @@ ghost use Rattle.lg_host.specs.Output.{Passed, output};
 use lg_io::sink::{Sink, SinkFault, write_all};
 use std::marker::Model;
 
-// A few bytes on their way to a sink, so that it is not written to byte by byte.
+/// A few bytes on their way to a sink, so that it is not written to byte by byte.
 #[derive(Drop)]
 pub struct Buffer {
     bytes: [u8; 64],
@@ -25,7 +25,7 @@ impl Model for Buffer {
 }
 
 impl Buffer {
-    // No byte waits.
+    /// No byte waits.
     pub fn new() -> Buffer
         ensures { result ≡ [] }
     {
@@ -52,7 +52,7 @@ impl Buffer {
         self.len += 1;
     }
 
-    // Writes the bytes that wait.
+    /// Writes the bytes that wait.
     pub fn flush<O: Sink>(&mut self, out: &mut O) -> Result<(), SinkFault>
         ensures empty { self.new ≡ [] }
         ensures wrote { Wrote (O.taken out.old) (O.taken out.new) (O.faults out.old) (O.faults out.new) result self.old }
@@ -76,7 +76,7 @@ impl Buffer {
         }
     }
 
-    // Passes on one byte.
+    /// Passes on one byte.
     pub fn push<O: Sink>(&mut self, byte: u8, out: &mut O) -> Result<(), SinkFault>
         ensures { Passed (output (O.taken out.old) self.old (O.faults out.old))
             (output (O.taken out.new) self.new (O.faults out.new)) result (byte ∷ []) }
@@ -88,7 +88,7 @@ impl Buffer {
         Ok(())
     }
 
-    // Passes on bytes.
+    /// Passes on bytes.
     pub fn put<O: Sink>(&mut self, bytes: &[u8], out: &mut O) -> Result<(), SinkFault>
         ensures { Passed (output (O.taken out.old) self.old (O.faults out.old))
             (output (O.taken out.new) self.new (O.faults out.new)) result bytes.now }

@@ -93,7 +93,7 @@ fn at_flags(style: Style, byte: u8) -> Next
     }
 }
 
-// What a byte of a format means, by what came before it.
+/// What a byte of a format means, by what came before it.
 pub fn next(reading: Reading, byte: u8) -> Next
     ensures { result ≡ next_of reading byte }
 {
@@ -159,7 +159,7 @@ fn longer(style: Style, byte: u8) -> Next
     }
 }
 
-// Whether a format may end there.
+/// Whether a format may end there.
 pub fn is_plain(reading: Reading) -> bool
     ensures { result ≡ is_plain reading }
 {

@@ -4,7 +4,7 @@ ghost use Rattle.std.specs.Prelude.{ℕ, None};
 
 use lg_io::sink::{Sink, SinkFault};
 
-// Nothing is written, and no write fails.
+/// Nothing is written, and no write fails.
 #[derive(Clone, Copy)]
 pub struct Nowhere;
 

@@ -28,7 +28,7 @@ fn int_answer(count: u64) -> u64
     }
 }
 
-// Writes what a format prints of the arguments behind it.
+/// Writes what a format prints of the arguments behind it.
 pub fn printf<S: Space, O: Sink>(mem: &S, format: u64, args: &[u64], out: &mut O) -> HostEnd
     ensures says { TextSays (printed_at (S.byte_of mem.now) Reading.Plain format args.now)
         (outcome (O.taken out.old) (O.taken out.new) (O.faults out.old) (O.faults out.new)) result }
@@ -45,7 +45,7 @@ pub fn printf<S: Space, O: Sink>(mem: &S, format: u64, args: &[u64], out: &mut O
     }
 }
 
-// Writes a string and a line feed.
+/// Writes a string and a line feed.
 pub fn puts<S: Space, O: Sink>(mem: &S, from: u64, out: &mut O) -> HostEnd
     ensures says { TextSays (option_map (λ string. string ++ 10 ∷ []) (string_in (run (S.byte_of mem.now) from)))
         (outcome (O.taken out.old) (O.taken out.new) (O.faults out.old) (O.faults out.new)) result }
@@ -60,7 +60,7 @@ pub fn puts<S: Space, O: Sink>(mem: &S, from: u64, out: &mut O) -> HostEnd
     }
 }
 
-// Writes a byte.
+/// Writes a byte.
 pub fn putchar<O: Sink>(word: u64, out: &mut O) -> HostEnd
     ensures says { ByteSays (word % 256)
         (outcome (O.taken out.old) (O.taken out.new) (O.faults out.old) (O.faults out.new)) result }

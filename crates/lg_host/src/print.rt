@@ -127,7 +127,7 @@ fn put_format<S: Space, O: Sink>(
     Ok(None)
 }
 
-// Writes what a format prints, or tells that it is undefined; then some of it may have been written.
+/// Writes what a format prints, or tells that it is undefined; then some of it may have been written.
 pub fn print<S: Space, O: Sink>(
     mem: &S,
     from: u64,

@@ -7,10 +7,10 @@ ghost use Rattle.lg_host.specs.Strings.{string_in, compared, number_in, signed_i
 
 use lg_base::space::Space;
 
-// No part of memory lies from this address on.
+/// No part of memory lies from this address on.
 pub const MEMORY_END: u64 = 0x4000_0000;
 
-// The address of the zero byte that ends the string at an address.
+/// The address of the zero byte that ends the string at an address.
 pub fn string_end<S: Space>(mem: &S, from: u64) -> Option<u64>
     ensures value { result ≡ option_map (λ s. from + length s) (string_in (run (S.byte_of mem.now) from)) }
     ensures below { IfSome result (λ end. (from ≤ end) × (end < 0x40000000)) }
@@ -26,7 +26,7 @@ pub fn string_end<S: Space>(mem: &S, from: u64) -> Option<u64>
     None
 }
 
-// How two strings compare, as a word.
+/// How two strings compare, as a word.
 pub fn compare<S: Space>(mem: &S, first: u64, second: u64) -> Option<u64>
     ensures { result ≡ compared (run (S.byte_of mem.now) first) (run (S.byte_of mem.now) second) }
 {
@@ -50,7 +50,7 @@ pub fn compare<S: Space>(mem: &S, first: u64, second: u64) -> Option<u64>
     None
 }
 
-// The number that a string begins with.
+/// The number that a string begins with.
 pub fn atoi<S: Space>(mem: &S, from: u64) -> Option<u64>
     ensures { result ≡ atoi_in (run (S.byte_of mem.now) from) }
 {

@@ -9,6 +9,7 @@ use lg_base::refusal::OutOfMemory;
 use lg_base::space::Space;
 use lg_io::memory_sink::MemorySink;
 use std::alloc::Global;
+use std::process::Abort;
 use std::test::Fail;
 
 const DATA: u64 = 0x2000_0000;
@@ -160,61 +161,70 @@ fn stops_at_a_write_that_fails(rt: HostRuntime) -> Result<(), Fail> {
     Ok(())
 }
 
-// Calls a function over a memory that holds a text at `DATA`, with a new heap.
-fn answer(
-    alloc: Global,
-    memory: &mut Memory,
-    text: &[u8],
-    name: HostName,
-    words: &[u64],
-) -> Result<HostEnd, OutOfMemory> {
-    place(memory, DATA, &[0; 40]);
-    place(memory, DATA, text);
-    place(memory, DATA + 4093, b"12x");
-    let mut out = MemorySink::new(alloc, 64, &[])?;
-    Ok(call(name, words, false, memory, &mut HeapMark::new(), &mut out))
+// A text at `DATA`, a function with its arguments, and what the call comes to.
+type Case<'a> = (&'a [u8], HostName, &'a [u64], HostEnd);
+
+// The address behind the data part, whose last bytes are `12x`.
+const END: u64 = DATA + 4096;
+
+// Calls each function over a memory that holds its text, with a new heap.
+fn answers_are<R: AllocGlobal + Abort>(rt: &R, cases: &[Case<'_>]) -> Result<(), Fail> {
+    let mut memory = Memory::new(rt.alloc(), 4096, 8)?;
+    for (text, name, words, wanted) in cases {
+        place(&mut memory, DATA, &[0; 40]);
+        place(&mut memory, DATA, text);
+        place(&mut memory, END - 3, b"12x");
+        let mut out = MemorySink::new(rt.alloc(), 64, &[])?;
+        let mut heap = HeapMark::new();
+        let end = call(*name, words, false, &mut memory, &mut heap, &mut out);
+        assert_eq!(rt; end, *wanted, "{name:?} {}", text.len());
+    }
+    Ok(())
 }
 
 #[test]
-fn answers_as_the_table_says(rt: HostRuntime) -> Result<(), Fail> {
-    let mut memory = Memory::new(rt.alloc(), 4096, 8)?;
-    let end = DATA + 4096;
-    for (text, name, words, want) in [
+fn reads_numbers(rt: HostRuntime) -> Result<(), Fail> {
+    for (text, wanted) in [
         (
             b" -2147483648x".as_slice(),
-            HostName::Atoi,
-            [DATA].as_slice(),
             HostEnd::Value(0xffff_ffff_8000_0000),
         ),
+        (b"\t\n\x0b\x0c\r 2147483647", HostEnd::Value(2_147_483_647)),
+        (b"2147483648", HostEnd::Undefined),
+        (b"-2147483649", HostEnd::Undefined),
+        (b"99999999999999999999999", HostEnd::Undefined),
+        (b"", HostEnd::Value(0)),
+        (b"-", HostEnd::Value(0)),
+        (b"+x", HostEnd::Value(0)),
+        (b"+-5", HostEnd::Value(0)),
+        (b"+7", HostEnd::Value(7)),
+    ] {
+        answers_are(&rt, &[(text, HostName::Atoi, &[DATA], wanted)])?;
+    }
+    let behind = [
         (
-            b"\t\n\x0b\x0c\r 2147483647",
+            b"".as_slice(),
             HostName::Atoi,
-            &[DATA],
-            HostEnd::Value(2_147_483_647),
+            [END - 3].as_slice(),
+            HostEnd::Value(12),
         ),
-        (b"2147483648", HostName::Atoi, &[DATA], HostEnd::Undefined),
-        (b"-2147483649", HostName::Atoi, &[DATA], HostEnd::Undefined),
+        (b"", HostName::Atoi, &[END], HostEnd::Undefined),
+    ];
+    answers_are(&rt, &behind)
+}
+
+#[test]
+fn reads_strings(rt: HostRuntime) -> Result<(), Fail> {
+    let less = HostEnd::Value(u64::MAX);
+    let cases = [
         (
-            b"99999999999999999999999",
-            HostName::Atoi,
-            &[DATA],
+            b"".as_slice(),
+            HostName::Strlen,
+            [END - 3].as_slice(),
             HostEnd::Undefined,
         ),
-        (b"", HostName::Atoi, &[DATA], HostEnd::Value(0)),
-        (b"-", HostName::Atoi, &[DATA], HostEnd::Value(0)),
-        (b"+x", HostName::Atoi, &[DATA], HostEnd::Value(0)),
-        (b"+-5", HostName::Atoi, &[DATA], HostEnd::Value(0)),
-        (b"+7", HostName::Atoi, &[DATA], HostEnd::Value(7)),
-        (b"", HostName::Atoi, &[end - 3], HostEnd::Value(12)),
-        (b"", HostName::Atoi, &[end], HostEnd::Undefined),
-        (b"", HostName::Strlen, &[end - 3], HostEnd::Undefined),
         (b"ab", HostName::Strlen, &[DATA], HostEnd::Value(2)),
-        (
-            b"ab\0abc",
-            HostName::Strcmp,
-            &[DATA, DATA + 3],
-            HostEnd::Value(u64::MAX),
-        ),
+        (b"ab\0abc", HostName::Strcmp, &[DATA, DATA + 3], less),
         (
             b"abc\0ab",
             HostName::Strcmp,
@@ -233,11 +243,21 @@ fn answers_as_the_table_says(rt: HostRuntime) -> Result<(), Fail> {
             &[DATA, DATA + 2],
             HostEnd::Value(1),
         ),
-        (b"13", HostName::Strcmp, &[DATA, end - 3], HostEnd::Value(1)),
+        (b"13", HostName::Strcmp, &[DATA, END - 3], HostEnd::Value(1)),
+        (b"hello", HostName::Puts, &[DATA], HostEnd::Value(6)),
+        (b"", HostName::Puts, &[END - 3], HostEnd::Undefined),
+        (b"x", HostName::Printf, &[DATA], HostEnd::Undefined),
+    ];
+    answers_are(&rt, &cases)
+}
+
+#[test]
+fn takes_ranges(rt: HostRuntime) -> Result<(), Fail> {
+    let cases = [
         (
-            b"abcdef",
+            b"abcdef".as_slice(),
             HostName::Memcpy,
-            &[DATA + 2, DATA, 4],
+            [DATA + 2, DATA, 4].as_slice(),
             HostEnd::Undefined,
         ),
         (b"", HostName::Memcpy, &[DATA, DATA, 1], HostEnd::Undefined),
@@ -258,38 +278,58 @@ fn answers_as_the_table_says(rt: HostRuntime) -> Result<(), Fail> {
         (
             b"",
             HostName::Memset,
-            &[end - 1, 1, 1],
-            HostEnd::Value(end - 1),
+            &[END - 1, 1, 1],
+            HostEnd::Value(END - 1),
         ),
-        (b"", HostName::Memset, &[end - 1, 1, 2], HostEnd::Undefined),
-        (
-            b"",
-            HostName::Malloc,
-            &[0x40_0000],
-            HostEnd::Value(0x3000_0000),
-        ),
-        (b"", HostName::Malloc, &[0x40_0001], HostEnd::Value(0)),
-        (b"", HostName::Malloc, &[u64::MAX], HostEnd::Value(0)),
-        (b"", HostName::Calloc, &[1 << 63, 2], HostEnd::Value(0)),
-        (b"", HostName::Calloc, &[3, 8], HostEnd::Value(0x3000_0000)),
-        (b"", HostName::Calloc, &[3], HostEnd::Undefined),
-        (b"", HostName::Free, &[5, 6], HostEnd::Value(0)),
-        (b"", HostName::Free, &[], HostEnd::Undefined),
-        (b"", HostName::Putchar, &[0x1ff], HostEnd::Value(255)),
-        (b"hello", HostName::Puts, &[DATA], HostEnd::Value(6)),
-        (b"", HostName::Puts, &[end - 3], HostEnd::Undefined),
-        (b"", HostName::Exit, &[300], HostEnd::Exit(44)),
-        (b"", HostName::Exit, &[], HostEnd::Undefined),
-        (b"", HostName::Abort, &[], HostEnd::Exit(134)),
-        (b"x", HostName::Printf, &[DATA], HostEnd::Undefined),
+        (b"", HostName::Memset, &[END - 1, 1, 2], HostEnd::Undefined),
+        (b"", HostName::Memset, &[u64::MAX, 1, 2], HostEnd::Undefined),
+    ];
+    answers_are(&rt, &cases)
+}
+
+#[test]
+fn takes_sizes_and_ends(rt: HostRuntime) -> Result<(), Fail> {
+    let first = HostEnd::Value(0x3000_0000);
+    for (name, words, wanted) in [
+        (HostName::Malloc, [0x40_0000].as_slice(), first),
+        (HostName::Malloc, &[0x40_0001], HostEnd::Value(0)),
+        (HostName::Malloc, &[u64::MAX], HostEnd::Value(0)),
+        (HostName::Calloc, &[1 << 63, 2], HostEnd::Value(0)),
+        (HostName::Calloc, &[3, 8], first),
+        (HostName::Calloc, &[3], HostEnd::Undefined),
+        (HostName::Free, &[5, 6], HostEnd::Value(0)),
+        (HostName::Free, &[], HostEnd::Undefined),
+        (HostName::Putchar, &[0x1ff], HostEnd::Value(255)),
+        (HostName::Exit, &[300], HostEnd::Exit(44)),
+        (HostName::Exit, &[], HostEnd::Undefined),
+        (HostName::Abort, &[], HostEnd::Exit(134)),
     ] {
-        assert_eq!(rt;
-            answer(rt.alloc(), &mut memory, text, name, words)?,
-            want,
-            "{name:?} {}",
-            text.len()
-        );
+        answers_are(&rt, &[(b"".as_slice(), name, words, wanted)])?;
     }
+    Ok(())
+}
+
+// What `calloc` hands out is zero, and the bytes behind that it rounds up to stay.
+#[test]
+fn zeroes_what_was_asked_for(rt: HostRuntime) -> Result<(), Fail> {
+    let mut memory = Memory::new(rt.alloc(), 16, 8)?;
+    let mut heap = HeapMark::new();
+    let mut out = MemorySink::new(rt.alloc(), 8, &[])?;
+    place(&mut memory, 0x3000_0000, &[0xff; 64]);
+    for (words, at) in [([5, 4], 0x3000_0000), ([0, 9], 0x3000_0020)] {
+        let end = call(
+            HostName::Calloc,
+            &words,
+            false,
+            &mut memory,
+            &mut heap,
+            &mut out,
+        );
+        assert_eq!(rt; end, HostEnd::Value(at));
+    }
+    assert_eq!(rt; memory.load(0x3000_0010, 4), Some(0));
+    assert_eq!(rt; memory.load(0x3000_0014, 4), Some(0xffff_ffff));
+    assert_eq!(rt; memory.load(0x3000_0020, 4), Some(0xffff_ffff));
     Ok(())
 }
 

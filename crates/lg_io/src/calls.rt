@@ -7,7 +7,7 @@ use lg_base::refusal::OutOfMemory;
 use std::alloc::Global;
 use std::marker::Model;
 
-// Counts calls and faults, and tells the calls that are to fail by their numbers, from 1.
+/// Counts calls and faults, and tells the calls that are to fail by their numbers, from 1.
 #[derive(Drop)]
 pub struct FailingCalls {
     fail_at: Vec<u64>,
@@ -24,7 +24,7 @@ impl Model for FailingCalls {
 }
 
 impl FailingCalls {
-    // No call yet.
+    /// No call yet.
     pub fn new(alloc: Global, fail_at: &[u64]) -> Result<FailingCalls, OutOfMemory>
         ensures { IfOk result (λ calls. calls ≡ record { fail_at = fail_at.now; made = 0; faults = 0 }) }
     {
@@ -35,7 +35,7 @@ impl FailingCalls {
         })
     }
 
-    // Whether the next call is to fail.
+    /// Whether the next call is to fail.
     pub fn fails_next(&self) -> bool
         ensures { result ≡ fails_next self.now }
     {
@@ -43,7 +43,7 @@ impl FailingCalls {
         self.fail_at.contains(&number)
     }
 
-    // Counts a call, which failed or did not.
+    /// Counts a call, which failed or did not.
     pub fn count(&mut self, failed: bool)
         ensures after { self.new ≡ counted self.old failed }
         ensures later { self.old.faults ≤ self.new.faults }
@@ -54,7 +54,7 @@ impl FailingCalls {
         }
     }
 
-    // How many calls failed.
+    /// How many calls failed.
     pub fn faults(&self) -> u64
         ensures { result ≡ self.now.faults }
     {

@@ -7,7 +7,7 @@ use lg_base::refusal::OutOfMemory;
 use std::alloc::Global;
 use std::marker::Model;
 
-// A name, and the text that it stands for.
+/// A name, and the text that it stands for.
 #[derive(Drop)]
 pub struct NamedText {
     name: String,
@@ -23,7 +23,7 @@ impl Model for NamedText {
 }
 
 impl NamedText {
-    // Copies of a name and a text.
+    /// Copies of a name and a text.
     pub fn new(alloc: Global, name: &str, text: &[u8]) -> Result<NamedText, OutOfMemory>
         ensures { IfOk result (λ named. named ≡ (name.now, text.now)) }
     {
@@ -33,14 +33,14 @@ impl NamedText {
         })
     }
 
-    // Whether this is its name.
+    /// Whether this is its name.
     pub fn has_name(&self, name: &str) -> bool
         ensures { result ≡ bytes_eq self.now.0 name.now }
     {
         self.name.as_str() == name
     }
 
-    // The text.
+    /// The text.
     pub fn text(&self) -> &[u8]
         ensures { result.now ≡ self.now.1 }
     {

@@ -4,9 +4,9 @@ use Rattle.std.specs.List.{All, list_any, position_or_len}
 use Rattle.std.specs.Str.{bytes_eq}
 use Rattle.std.proofs.lemmas.List.Elements.{All-push, All-weaker}
 use Rattle.lg_node.specs.Nodes.{mentioned, MayStand}
-use Rattle.lg_node.specs.declared.node.Node.{Node}
-use Rattle.lg_node.specs.declared.node.Place.{Place}
-use Rattle.lg_node.specs.declared.node.Place.TheVariants as place
+use Rattle.lg_op.specs.declared.node.Node.{Node}
+use Rattle.lg_node.specs.declared.place.Place.{Place}
+use Rattle.lg_node.specs.declared.place.Place.TheVariants as place
 
 pub longer : {A : Type 0} → (xs ys : List A) (x : A) → ys ≡ xs ++ x ∷ [] → length ys ≡ length xs + 1
 longer xs ys x e = ap length e ∙ length-append xs (x ∷ [])

@@ -1,5 +1,2 @@
-pub mod Forms
-pub mod Names
 pub mod NodeLists
 pub mod Nodes
-pub mod Operands

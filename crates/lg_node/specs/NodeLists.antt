@@ -1,7 +1,8 @@
 -- How a list of nodes with its labels is held.
 use Rattle.std.specs.Prelude.{◌≡◌, true, ◌<◌, ◌^◌, length, map}
 use Rattle.std.specs.List.{All}
-use Rattle.lg_node.specs.Nodes.{LabelledNodes, InForm, MayStand, is_word}
+use Rattle.lg_op.specs.Nodes.{InForm}
+use Rattle.lg_node.specs.Nodes.{LabelledNodes, MayStand, is_word}
 use Rattle.lg_node.specs.declared.node_list.NodeList.TheInside.{Inside}
 
 abbrev pub view_of : Inside → LabelledNodes

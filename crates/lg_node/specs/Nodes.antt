@@ -1,25 +1,11 @@
--- Nodes in form, and a list of nodes with its labels.
-use Rattle.std.specs.Prelude.{◌≡◌, ◌≢◌, ℕ, ◌≤◌, ◌==◌, Bool, true, false, ◌&&◌, ◌||◌, if◌then◌else◌, List, [], ◌∷◌, ◌++◌, Option, Some, None, slice_set}
+-- A list of nodes with its labels.
+use Rattle.std.specs.Prelude.{◌≡◌, ℕ, ◌≤◌, ◌==◌, Bool, true, false, ◌&&◌, ◌||◌, if◌then◌else◌, List, [], ◌∷◌, ◌++◌, Option, Some, None, slice_set}
 use Rattle.std.specs.List.{list_all, list_any, position_or_len}
 use Rattle.std.specs.Str.{bytes_eq}
 use Rattle.std.specs.Char.{is_ascii_alphabetic, is_ascii_alphanumeric}
-use Rattle.lg_node.specs.Forms.{forms_of, admit}
-use Rattle.lg_node.specs.declared.op.Op.{Op}
-use Rattle.lg_node.specs.declared.op.Op.TheVariants.{Wide}
-use Rattle.lg_node.specs.declared.operand.Operand.{Operand}
-use Rattle.lg_node.specs.declared.node.Node.{Node}
-use Rattle.lg_node.specs.declared.node.Place.{Place}
-use Rattle.lg_node.specs.declared.node.Place.TheVariants as place
-
--- an operation with two results has two registers for them
-abbrev pub IsApart : Op → List Operand → Type 0
-IsApart (Wide op last) (a ∷ b ∷ xs) = a ≢ b
-IsApart op xs = Unit {0}
-
--- the operands are those of the operation's row in the instruction table
-pub record InForm (n : Node) : Type 0 where
-  pub forms : admit (forms_of n.op) n.operands ≡ true
-  pub apart : IsApart n.op n.operands
+use Rattle.lg_op.specs.declared.node.Node.{Node}
+use Rattle.lg_node.specs.declared.place.Place.{Place}
+use Rattle.lg_node.specs.declared.place.Place.TheVariants as place
 
 -- a letter or _
 abbrev pub is_word_start : ℕ → Bool

@@ -1,21 +1,19 @@
-//! The instructions of a text: operations, operands and their forms, nodes, and labels with their places.
+//! The nodes of a text with its labels, and the text as a unit.
 #![tactic(auto)]
 
-mod form;
-mod names;
-mod node;
+mod label_addresses;
 mod node_list;
-mod op;
-mod operand;
+mod place;
+mod unit;
 
-pub use form::Form;
-pub use node::{Node, Place};
-pub use node_list::NodeList;
-pub use op::{
-    Addressing, BinaryOp, BranchSumOp, Condition, ControlOp, LastOperand, Op, PlainOp, StoreType,
-    UnaryOp, ValueType, WideOp,
+pub use label_addresses::LabelAddresses;
+pub use lg_op::{
+    Addressing, BinaryOp, BranchSumOp, Condition, ControlOp, Form, Label, LastOperand, Node, Op,
+    Operand, Operands, PlainOp, Reg, StoreType, UnaryOp, ValueType, WideOp,
 };
-pub use operand::{Label, Operand, Operands, Reg};
+pub use node_list::NodeList;
+pub use place::Place;
+pub use unit::Unit;
 
 #[cfg(test)]
 mod tests;

@@ -1,12 +1,13 @@
 // The nodes of a text and its labels.
 
 ghost use Rattle.std.specs.Prelude.{◌≡◌, ◌↔◌, ◌<◌, ◌-◌, ◌^◌, Bool, false, IsTrue, Some, None, [], length, slice_get, OnOk, OnErr, IfOk, IfSome};
-ghost use Rattle.lg_node.specs.Nodes.{InForm, IsWithin, with_node, mentioned, number_of, with_place, is_word};
+ghost use Rattle.lg_op.specs.Nodes.{InForm};
+ghost use Rattle.lg_node.specs.Nodes.{IsWithin, with_node, mentioned, number_of, with_place, is_word};
 
-use crate::node::{Node, Place};
-use crate::operand::Label;
+use crate::place::Place;
 use indexmap::IndexSet;
 use lg_base::refusal::OutOfMemory;
+use lg_op::{Label, Node};
 use std::alloc::Global;
 use std::marker::Model;
 

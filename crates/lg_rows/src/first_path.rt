@@ -1,20 +1,12 @@
 // Texts of the first form, and calls that end otherwise.
 
+use crate::texts::{first_letter, kept_registers, wrapped_sum};
 use lg_io::memory_sink::MemorySink;
 use lg_io::memory_texts::MemoryTexts;
 use lg_run::answer::{Answer, status};
 use lg_run::top::{lightning, report};
 use std::process::Abort;
 use std::test::Fail;
-
-const FIRST_LETTER: &[u8] =
-    b".code\n\tprolog\n\tmovi\t%r0 60\n\taddi\t%r0 %r0 5\n\tprepare\n\t\tpushargr\t%r0\n\tfinishi\t@putchar\n\tmovi\t%r0 3\n\tprepare\n\t\tpushargr\t%r0\n\tfinishi\t@exit\n\tret\n\tepilog\n";
-
-const KEPT_REGISTERS: &[u8] =
-    b".code\n\tprolog\n\tmovi\t%v0 72\n\tmovi\t%v1 33\n\tprepare\n\t\tpushargr\t%v0\n\tfinishi\t@putchar\n\taddi\t%v0 %v0 33\n\tprepare\n\t\tpushargr\t%v0\n\tfinishi\t@putchar\n\tprepare\n\t\tpushargr\t%v1\n\tfinishi\t@putchar\n\tmovi\t%r0 10\n\tprepare\n\t\tpushargr\t%r0\n\tfinishi\t@putchar\n\tret\n\tepilog\n";
-
-const WRAPPED_SUM: &[u8] =
-    b".code\n\tprolog\n\tmovi\t%r0 -1\n\tmovi\t%r1 43\n\taddr\t%r2 %r0 %r1\n\tprepare\n\t\tpushargr\t%r2\n\tfinishi\t@exit\n\tret\n\tepilog\n";
 
 const USAGE: &[u8] = b"lightning: usage: lightning --target riscv64 FILE\n";
 
@@ -63,9 +55,9 @@ fn check(rt: &(impl AllocGlobal + Abort), row: &Row<'_>) -> Result<(), Fail> {
 
 #[test]
 fn runs_texts(rt: HostRuntime) -> Result<(), Fail> {
-    check(&rt, &plain(FIRST_LETTER, b"A", b"", 3))?;
-    check(&rt, &plain(KEPT_REGISTERS, b"Hi!\n", b"", 0))?;
-    check(&rt, &plain(WRAPPED_SUM, b"", b"", 42))?;
+    check(&rt, &plain(first_letter(), b"A", b"", 3))?;
+    check(&rt, &plain(kept_registers(), b"Hi!\n", b"", 0))?;
+    check(&rt, &plain(wrapped_sum(), b"", b"", 42))?;
     check(&rt, &plain(b".code prolog ret epilog", b"", b"", 0))?;
     let refused = b"lightning: t.tst:0: refused 0 NotYet\n";
     check(
@@ -165,7 +157,7 @@ fn refuses_other_words(rt: HostRuntime) -> Result<(), Fail> {
     for words in others {
         let called = Row {
             words,
-            ..plain(FIRST_LETTER, b"", USAGE, 122)
+            ..plain(first_letter(), b"", USAGE, 122)
         };
         check(&rt, &called)?;
     }
@@ -176,30 +168,30 @@ fn refuses_other_words(rt: HostRuntime) -> Result<(), Fail> {
 fn says_what_fails(rt: HostRuntime) -> Result<(), Fail> {
     let absent = Row {
         words: &["lightning", "--target", "riscv64", "absent.tst"],
-        ..plain(FIRST_LETTER, b"", b"lightning: read fault\n", 123)
+        ..plain(first_letter(), b"", b"lightning: read fault\n", 123)
     };
     check(&rt, &absent)?;
     // the text is selected, and read twice
     for call in 1..4 {
         let failing = Row {
             failing_reads: &[call],
-            ..plain(FIRST_LETTER, b"", b"lightning: read fault\n", 123)
+            ..plain(first_letter(), b"", b"lightning: read fault\n", 123)
         };
         check(&rt, &failing)?;
     }
     let behind = Row {
         failing_reads: &[4],
-        ..plain(FIRST_LETTER, b"A", b"", 3)
+        ..plain(first_letter(), b"A", b"", 3)
     };
     check(&rt, &behind)?;
     let first = Row {
         failing_writes: &[1],
-        ..plain(KEPT_REGISTERS, b"", b"lightning: write fault\n", 124)
+        ..plain(kept_registers(), b"", b"lightning: write fault\n", 124)
     };
     check(&rt, &first)?;
     let second = Row {
         failing_writes: &[2],
-        ..plain(KEPT_REGISTERS, b"H", b"lightning: write fault\n", 124)
+        ..plain(kept_registers(), b"H", b"lightning: write fault\n", 124)
     };
     check(&rt, &second)
 }
@@ -214,7 +206,7 @@ fn says_write_fault_where_a_line_fails(rt: HostRuntime) -> Result<(), Fail> {
     let both = Row {
         failing_writes: &[1],
         failing_lines: &[1],
-        ..plain(FIRST_LETTER, b"", b"", 124)
+        ..plain(first_letter(), b"", b"", 124)
     };
     check(&rt, &both)
 }

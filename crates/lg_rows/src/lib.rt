@@ -10,5 +10,6 @@ mod first_path;
 mod lists;
 #[cfg(test)]
 mod memory;
+pub mod texts;
 #[cfg(test)]
 mod wide;

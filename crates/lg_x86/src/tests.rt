@@ -57,6 +57,10 @@ fn worked_encodings(rt: HostRuntime) {
         b"st64",
         &[0x48, 0x89, 0x7c, 0x24, 0x08],
     );
+}
+
+#[test]
+fn worked_encodings_of_numbers(rt: HostRuntime) {
     is_spelled(
         &rt,
         Instr::Movi32 { reg: 0, imm: 1 },

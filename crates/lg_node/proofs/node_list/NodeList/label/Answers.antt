@@ -3,7 +3,7 @@ use Rattle.std.proofs.lemmas.List.{length-map}
 use Rattle.std.specs.List.{position_or_len}
 use Rattle.std.specs.Str.{bytes_eq}
 use Rattle.lg_node.specs.Nodes.{LabelledNodes, MayStand, is_word}
-use Rattle.lg_node.specs.declared.node.Place.{Place}
+use Rattle.lg_node.specs.declared.place.Place.{Place}
 use Rattle.lg_node.proofs.NodeListLemmas.{longer, all_longer, found_at, any-map, place-map, map-push, keys-new, mentioned-new}
 use Rattle.lg_node.proofs.node_list.NodeList.label.Goals as goal
 

@@ -1,5 +1,6 @@
 use Rattle.std.proofs.Common.{ap, length, arith}
-use Rattle.lg_node.specs.Nodes.{LabelledNodes, InForm}
+use Rattle.lg_op.specs.Nodes.{InForm}
+use Rattle.lg_node.specs.Nodes.{LabelledNodes}
 use Rattle.lg_node.proofs.NodeListLemmas.{longer, all_longer, placed_further}
 use Rattle.lg_node.proofs.node_list.NodeList.push.Goals as goal
 

@@ -1,6 +1,6 @@
 use Rattle.std.proofs.Common.{ap, ◌∙◌, ⊎_elim}
-use Rattle.lg_node.proofs.NameLemmas.{found, found_named, again, long_again}
-use Rattle.lg_node.proofs.op.Op.by_name.Goals as goal
+use Rattle.lg_op.proofs.NameLemmas.{found, found_named, again, long_again}
+use Rattle.lg_op.proofs.op.Op.by_name.Goals as goal
 
 pub returns-clause-found : goal.returns-clause-found
 returns-clause-found c = found_named c.found.result c.args.word.now c.found.ensures

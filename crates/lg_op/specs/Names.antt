@@ -1,31 +1,31 @@
 -- The names of the operations: the letters of what is done, the letters of the operands, and the mark of an unsigned operation or of a type.
 use Rattle.std.specs.Prelude.{◌≡◌, ℕ, ◌==◌, Bool, true, false, ◌&&◌, ◌||◌, if◌then◌else◌, List, [], ◌++◌, ◌⊎◌, codes}
 use Rattle.std.specs.Str.{bytes_eq}
-use Rattle.lg_node.specs.declared.op.BinaryOp.{BinaryOp}
-use Rattle.lg_node.specs.declared.op.BinaryOp.TheVariants as binary
-use Rattle.lg_node.specs.declared.op.WideOp.{WideOp}
-use Rattle.lg_node.specs.declared.op.WideOp.TheVariants as wide
-use Rattle.lg_node.specs.declared.op.Condition.{Condition}
-use Rattle.lg_node.specs.declared.op.Condition.TheVariants as condition
-use Rattle.lg_node.specs.declared.op.BranchSumOp.{BranchSumOp}
-use Rattle.lg_node.specs.declared.op.BranchSumOp.TheVariants as branch_sum
-use Rattle.lg_node.specs.declared.op.ControlOp.{ControlOp}
-use Rattle.lg_node.specs.declared.op.ControlOp.TheVariants as control
-use Rattle.lg_node.specs.declared.op.UnaryOp.{UnaryOp}
-use Rattle.lg_node.specs.declared.op.UnaryOp.TheVariants as unary
-use Rattle.lg_node.specs.declared.op.PlainOp.{PlainOp}
-use Rattle.lg_node.specs.declared.op.PlainOp.TheVariants as plain
-use Rattle.lg_node.specs.declared.op.ValueType.{ValueType}
-use Rattle.lg_node.specs.declared.op.ValueType.TheVariants as value_type
-use Rattle.lg_node.specs.declared.op.StoreType.{StoreType}
-use Rattle.lg_node.specs.declared.op.StoreType.TheVariants as store_type
-use Rattle.lg_node.specs.declared.op.Addressing.{Addressing}
-use Rattle.lg_node.specs.declared.op.Addressing.TheVariants as addressing
-use Rattle.lg_node.specs.declared.op.LastOperand.{LastOperand}
-use Rattle.lg_node.specs.declared.op.LastOperand.TheVariants as last_operand
-use Rattle.lg_node.specs.declared.op.Op.{Op}
-use Rattle.lg_node.specs.declared.op.Op.TheVariants.{Binary, Wide, Branch, BranchSum, Control, Unary, Plain, Load, Store, Retval, Getarg}
-use Rattle.lg_node.specs.declared.names.TheConstants.{OPS_DOT, OPS_A, OPS_B, OPS_C, OPS_D, OPS_E, OPS_F, OPS_G, OPS_H, OPS_J, OPS_L, OPS_M, OPS_N, OPS_O, OPS_P, OPS_Q, OPS_R, OPS_S, OPS_X}
+use Rattle.lg_op.specs.declared.op.BinaryOp.{BinaryOp}
+use Rattle.lg_op.specs.declared.op.BinaryOp.TheVariants as binary
+use Rattle.lg_op.specs.declared.op.WideOp.{WideOp}
+use Rattle.lg_op.specs.declared.op.WideOp.TheVariants as wide
+use Rattle.lg_op.specs.declared.op.Condition.{Condition}
+use Rattle.lg_op.specs.declared.op.Condition.TheVariants as condition
+use Rattle.lg_op.specs.declared.op.BranchSumOp.{BranchSumOp}
+use Rattle.lg_op.specs.declared.op.BranchSumOp.TheVariants as branch_sum
+use Rattle.lg_op.specs.declared.op.ControlOp.{ControlOp}
+use Rattle.lg_op.specs.declared.op.ControlOp.TheVariants as control
+use Rattle.lg_op.specs.declared.op.UnaryOp.{UnaryOp}
+use Rattle.lg_op.specs.declared.op.UnaryOp.TheVariants as unary
+use Rattle.lg_op.specs.declared.op.PlainOp.{PlainOp}
+use Rattle.lg_op.specs.declared.op.PlainOp.TheVariants as plain
+use Rattle.lg_op.specs.declared.op.ValueType.{ValueType}
+use Rattle.lg_op.specs.declared.op.ValueType.TheVariants as value_type
+use Rattle.lg_op.specs.declared.op.StoreType.{StoreType}
+use Rattle.lg_op.specs.declared.op.StoreType.TheVariants as store_type
+use Rattle.lg_op.specs.declared.op.Addressing.{Addressing}
+use Rattle.lg_op.specs.declared.op.Addressing.TheVariants as addressing
+use Rattle.lg_op.specs.declared.op.LastOperand.{LastOperand}
+use Rattle.lg_op.specs.declared.op.LastOperand.TheVariants as last_operand
+use Rattle.lg_op.specs.declared.op.Op.{Op}
+use Rattle.lg_op.specs.declared.op.Op.TheVariants.{Binary, Wide, Branch, BranchSum, Control, Unary, Plain, Load, Store, Retval, Getarg}
+use Rattle.lg_op.specs.declared.names.TheConstants.{OPS_DOT, OPS_A, OPS_B, OPS_C, OPS_D, OPS_E, OPS_F, OPS_G, OPS_H, OPS_J, OPS_L, OPS_M, OPS_N, OPS_O, OPS_P, OPS_Q, OPS_R, OPS_S, OPS_X}
 
 -- of two operands, one result
 abbrev pub binary_stem : BinaryOp → List ℕ

@@ -1,8 +1,8 @@
-// Nodes, and the places of labels.
+// Nodes.
 
 ghost use Rattle.std.specs.Prelude.{◌≡◌, ◌↔◌, IsTrue};
-ghost use Rattle.lg_node.specs.Forms.{admit};
-ghost use Rattle.lg_node.specs.Nodes.{InForm, IsApart};
+ghost use Rattle.lg_op.specs.Forms.{admit};
+ghost use Rattle.lg_op.specs.Nodes.{InForm, IsApart};
 
 use crate::form::Form;
 use crate::op::Op;
@@ -17,15 +17,6 @@ pub struct Node {
     pub operands: Operands,
     /// The line of the operation's name in the text, from 1.
     pub line: u32,
-}
-
-/// Where a label is bound.
-#[derive(Clone, Copy, Debug, PartialEq, Eq)]
-pub enum Place {
-    /// At a node, by its number, or behind the last node.
-    Node(u32),
-    /// At a byte of the data part, by its number, or behind the last byte.
-    Image(u32),
 }
 
 impl Node {

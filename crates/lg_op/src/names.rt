@@ -1,7 +1,7 @@
 // The names of the operations, and the operations by their names.
 
 ghost use Rattle.std.specs.Prelude.{◌≡◌, ◌≤◌, Some, IfSome, find, length, slice_index};
-ghost use Rattle.lg_node.specs.Names.{binary_stem, wide_stem, condition_stem, branch_sum_stem, control_stem, unary_name, plain_name, binary_end, wide_end, condition_end, branch_sum_end, value_type_end, store_type_end, addressing_middle, last_middle, stem_of, middle_of, end_of, name, is_long, is_name, IsName, ops_from};
+ghost use Rattle.lg_op.specs.Names.{binary_stem, wide_stem, condition_stem, branch_sum_stem, control_stem, unary_name, plain_name, binary_end, wide_end, condition_end, branch_sum_end, value_type_end, store_type_end, addressing_middle, last_middle, stem_of, middle_of, end_of, name, is_long, is_name, IsName, ops_from};
 
 use crate::op::{
     Addressing, BinaryOp, BranchSumOp, Condition, ControlOp, LastOperand, Op, PlainOp, StoreType,

@@ -3,31 +3,31 @@ use Rattle.std.proofs.Common.{◌≡◌, ℕ, Bool, true, false, ◌&&◌, ◌||
 use Rattle.std.specs.Str.{bytes_eq}
 use Rattle.std.proofs.lemmas.Bool.{false≢true}
 use Rattle.std.proofs.lemmas.Slice.Eq.{bytes_eq-Decides}
-use Rattle.lg_node.specs.Names.{name, is_long, is_name, IsName, ops_from}
-use Rattle.lg_node.specs.declared.op.BinaryOp.{BinaryOp}
-use Rattle.lg_node.specs.declared.op.BinaryOp.TheVariants as binary
-use Rattle.lg_node.specs.declared.op.WideOp.{WideOp}
-use Rattle.lg_node.specs.declared.op.WideOp.TheVariants as wide
-use Rattle.lg_node.specs.declared.op.Condition.{Condition}
-use Rattle.lg_node.specs.declared.op.Condition.TheVariants as condition
-use Rattle.lg_node.specs.declared.op.BranchSumOp.{BranchSumOp}
-use Rattle.lg_node.specs.declared.op.BranchSumOp.TheVariants as branch_sum
-use Rattle.lg_node.specs.declared.op.ControlOp.{ControlOp}
-use Rattle.lg_node.specs.declared.op.ControlOp.TheVariants as control
-use Rattle.lg_node.specs.declared.op.UnaryOp.{UnaryOp}
-use Rattle.lg_node.specs.declared.op.UnaryOp.TheVariants as unary
-use Rattle.lg_node.specs.declared.op.PlainOp.{PlainOp}
-use Rattle.lg_node.specs.declared.op.PlainOp.TheVariants as plain
-use Rattle.lg_node.specs.declared.op.ValueType.{ValueType}
-use Rattle.lg_node.specs.declared.op.ValueType.TheVariants as value_type
-use Rattle.lg_node.specs.declared.op.StoreType.{StoreType}
-use Rattle.lg_node.specs.declared.op.StoreType.TheVariants as store_type
-use Rattle.lg_node.specs.declared.op.Addressing.{Addressing}
-use Rattle.lg_node.specs.declared.op.Addressing.TheVariants as addressing
-use Rattle.lg_node.specs.declared.op.LastOperand.{LastOperand}
-use Rattle.lg_node.specs.declared.op.LastOperand.TheVariants as last_operand
-use Rattle.lg_node.specs.declared.op.Op.{Op}
-use Rattle.lg_node.specs.declared.op.Op.TheVariants.{Binary, Wide, Branch, BranchSum, Control, Unary, Plain, Load, Store, Retval, Getarg}
+use Rattle.lg_op.specs.Names.{name, is_long, is_name, IsName, ops_from}
+use Rattle.lg_op.specs.declared.op.BinaryOp.{BinaryOp}
+use Rattle.lg_op.specs.declared.op.BinaryOp.TheVariants as binary
+use Rattle.lg_op.specs.declared.op.WideOp.{WideOp}
+use Rattle.lg_op.specs.declared.op.WideOp.TheVariants as wide
+use Rattle.lg_op.specs.declared.op.Condition.{Condition}
+use Rattle.lg_op.specs.declared.op.Condition.TheVariants as condition
+use Rattle.lg_op.specs.declared.op.BranchSumOp.{BranchSumOp}
+use Rattle.lg_op.specs.declared.op.BranchSumOp.TheVariants as branch_sum
+use Rattle.lg_op.specs.declared.op.ControlOp.{ControlOp}
+use Rattle.lg_op.specs.declared.op.ControlOp.TheVariants as control
+use Rattle.lg_op.specs.declared.op.UnaryOp.{UnaryOp}
+use Rattle.lg_op.specs.declared.op.UnaryOp.TheVariants as unary
+use Rattle.lg_op.specs.declared.op.PlainOp.{PlainOp}
+use Rattle.lg_op.specs.declared.op.PlainOp.TheVariants as plain
+use Rattle.lg_op.specs.declared.op.ValueType.{ValueType}
+use Rattle.lg_op.specs.declared.op.ValueType.TheVariants as value_type
+use Rattle.lg_op.specs.declared.op.StoreType.{StoreType}
+use Rattle.lg_op.specs.declared.op.StoreType.TheVariants as store_type
+use Rattle.lg_op.specs.declared.op.Addressing.{Addressing}
+use Rattle.lg_op.specs.declared.op.Addressing.TheVariants as addressing
+use Rattle.lg_op.specs.declared.op.LastOperand.{LastOperand}
+use Rattle.lg_op.specs.declared.op.LastOperand.TheVariants as last_operand
+use Rattle.lg_op.specs.declared.op.Op.{Op}
+use Rattle.lg_op.specs.declared.op.Op.TheVariants.{Binary, Wide, Branch, BranchSum, Control, Unary, Plain, Load, Store, Retval, Getarg}
 
 -- the operation that a word leads to
 abbrev pub found : List ℕ → Option Op

@@ -1,20 +1,20 @@
 -- Which operands each operation takes, as the instruction table says.
 use Rattle.std.specs.Prelude.{ℕ, ◌==◌, nat_lt, Bool, true, false, not, ◌&&◌, ◌||◌, List, [], ◌∷◌}
-use Rattle.lg_node.specs.declared.op.Op.{Op}
-use Rattle.lg_node.specs.declared.op.Op.TheVariants.{Binary, Wide, Branch, BranchSum, Control, Unary, Plain, Load, Store, Retval, Getarg}
-use Rattle.lg_node.specs.declared.op.ControlOp.{ControlOp}
-use Rattle.lg_node.specs.declared.op.ControlOp.TheVariants as control
-use Rattle.lg_node.specs.declared.op.PlainOp.{PlainOp}
-use Rattle.lg_node.specs.declared.op.PlainOp.TheVariants as plain
-use Rattle.lg_node.specs.declared.op.Addressing.{Addressing}
-use Rattle.lg_node.specs.declared.op.Addressing.TheVariants as addressing
-use Rattle.lg_node.specs.declared.op.LastOperand.{LastOperand}
-use Rattle.lg_node.specs.declared.op.LastOperand.TheVariants as last_operand
-use Rattle.lg_node.specs.declared.operand.Reg.TheVariants.{Fp}
-use Rattle.lg_node.specs.declared.operand.Operand.{Operand}
-use Rattle.lg_node.specs.declared.operand.Operand.TheVariants as operand
-use Rattle.lg_node.specs.declared.form.Form.{Form}
-use Rattle.lg_node.specs.declared.form.Form.TheVariants.{Write, Update, Read, Immediate, Target, Callee, NewArgument, Argument, NewLocal, Size, Alignment}
+use Rattle.lg_op.specs.declared.op.Op.{Op}
+use Rattle.lg_op.specs.declared.op.Op.TheVariants.{Binary, Wide, Branch, BranchSum, Control, Unary, Plain, Load, Store, Retval, Getarg}
+use Rattle.lg_op.specs.declared.op.ControlOp.{ControlOp}
+use Rattle.lg_op.specs.declared.op.ControlOp.TheVariants as control
+use Rattle.lg_op.specs.declared.op.PlainOp.{PlainOp}
+use Rattle.lg_op.specs.declared.op.PlainOp.TheVariants as plain
+use Rattle.lg_op.specs.declared.op.Addressing.{Addressing}
+use Rattle.lg_op.specs.declared.op.Addressing.TheVariants as addressing
+use Rattle.lg_op.specs.declared.op.LastOperand.{LastOperand}
+use Rattle.lg_op.specs.declared.op.LastOperand.TheVariants as last_operand
+use Rattle.lg_op.specs.declared.operand.Reg.TheVariants.{Fp}
+use Rattle.lg_op.specs.declared.operand.Operand.{Operand}
+use Rattle.lg_op.specs.declared.operand.Operand.TheVariants as operand
+use Rattle.lg_op.specs.declared.form.Form.{Form}
+use Rattle.lg_op.specs.declared.form.Form.TheVariants.{Write, Update, Read, Immediate, Target, Callee, NewArgument, Argument, NewLocal, Size, Alignment}
 
 -- the last operand by the operand letter
 abbrev pub last_form : LastOperand → Form

@@ -1,7 +1,7 @@
 // The forms of operands that an operation takes.
 
 ghost use Rattle.std.specs.Prelude.{◌≡◌};
-ghost use Rattle.lg_node.specs.Forms.{forms_of, control_forms, plain_forms, admits, is_alignment};
+ghost use Rattle.lg_op.specs.Forms.{forms_of, control_forms, plain_forms, admits, is_alignment};
 
 use crate::op::{Addressing, ControlOp, LastOperand, Op, PlainOp};
 use crate::operand::{Operand, Reg};

@@ -55,11 +55,11 @@ pub struct Operands {
 
 impl Model for Operands {
     ghost use Rattle.std.specs.Prelude.{List};
-    ghost use Rattle.lg_node.specs.declared.operand.Operand.{Operand};
+    ghost use Rattle.lg_op.specs.declared.operand.Operand.{Operand};
 
     ghost Value = { List Operand };
 
-    ghost use Rattle.lg_node.specs.Operands.{list_of, padded, IsOperands};
+    ghost use Rattle.lg_op.specs.Operands.{list_of, padded, IsOperands};
 
     ghost view = { list_of };
 

@@ -1,8 +1,8 @@
 -- The short list of a node's operands, and how it is held: 4 places, of which the last ones may be unused.
 use Rattle.std.specs.Prelude.{◌≡◌, ℕ, zero, suc, ◌-◌, ◌≤◌, List, [], ◌∷◌, ◌++◌, length, take}
-use Rattle.lg_node.specs.declared.operand.Operand.{Operand}
-use Rattle.lg_node.specs.declared.operand.Operand.TheVariants as operand
-use Rattle.lg_node.specs.declared.operand.Operands.TheInside.{Inside}
+use Rattle.lg_op.specs.declared.operand.Operand.{Operand}
+use Rattle.lg_op.specs.declared.operand.Operand.TheVariants as operand
+use Rattle.lg_op.specs.declared.operand.Operands.TheInside.{Inside}
 
 -- places that are not used
 abbrev pub unused : ℕ → List Operand

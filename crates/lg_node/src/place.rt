@@ -1,0 +1,10 @@
+// The places of labels.
+
+/// Where a label is bound.
+#[derive(Clone, Copy, Debug, PartialEq, Eq)]
+pub enum Place {
+    /// At a node, by its number, or behind the last node.
+    Node(u32),
+    /// At a byte of the data part, by its number, or behind the last byte.
+    Image(u32),
+}

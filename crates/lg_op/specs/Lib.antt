@@ -1,0 +1,4 @@
+pub mod Forms
+pub mod Names
+pub mod Nodes
+pub mod Operands

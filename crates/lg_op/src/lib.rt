@@ -1,0 +1,19 @@
+//! The instructions of a text: operations with their names, operands and their forms, and nodes.
+#![tactic(auto)]
+
+pub mod form;
+mod names;
+pub mod node;
+pub mod op;
+pub mod operand;
+
+pub use form::Form;
+pub use node::Node;
+pub use op::{
+    Addressing, BinaryOp, BranchSumOp, Condition, ControlOp, LastOperand, Op, PlainOp, StoreType,
+    UnaryOp, ValueType, WideOp,
+};
+pub use operand::{Label, Operand, Operands, Reg};
+
+#[cfg(test)]
+mod tests;
