@@ -1,1 +1,4 @@
+pub mod LimitLemmas
 pub mod NodeListLemmas
+pub mod TableLemmas
+pub mod WalkLemmas

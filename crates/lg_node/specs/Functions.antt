@@ -2,6 +2,7 @@
 -- to the last node where no `epilog` follows.
 use Rattle.std.specs.Prelude.{ℕ, zero, suc, ◌+◌, ◌*◌, ◌/◌, Bool, true, false, if◌then◌else◌, List, [], ◌∷◌, ◌++◌, Option, Some, None, length, take, slice_get, slice_range, nat_le, ◌&&◌}
 use Rattle.std.specs.List.{find, list_any, position, sum_by}
+use Rattle.std.specs.Option.{option_to_list}
 use Rattle.lg_base.specs.Layout.{frame_size}
 use Rattle.lg_op.specs.declared.op.Op.{Op}
 use Rattle.lg_op.specs.declared.op.Op.TheVariants.{Plain}
@@ -63,18 +64,18 @@ abbrev pub local_size : Node → ℕ
 local_size n = local_of n.op n.operands
 
 -- the function that ends at a node with this operation, of the function that begins at p; its locals are those of all its nodes
-abbrev pub ended : List Node → Option ℕ → ℕ → Op → List Function
-ended nodes None i op = []
-ended nodes (Some p) i op = if is_epilog op then record { entry = p; last = i; locals = sum_by local_size (slice_range nodes p (i + 1)) } ∷ [] else []
+abbrev pub ended : List Node → Option ℕ → ℕ → Op → Option Function
+ended nodes None i op = None
+ended nodes (Some p) i op = if is_epilog op then Some record { entry = p; last = i; locals = sum_by local_size (slice_range nodes p (i + 1)) } else None
 
-abbrev pub ended_at : List Node → Option ℕ → ℕ → Option Node → List Function
-ended_at nodes home i None = []
+abbrev pub ended_at : List Node → Option ℕ → ℕ → Option Node → Option Function
+ended_at nodes home i None = None
 ended_at nodes home i (Some n) = ended nodes home i n.op
 
 -- the functions that end before a node, in order
 unfoldable pub functions_before : List Node → ℕ → List Function
 functions_before nodes zero = []
-functions_before nodes (suc i) = functions_before nodes i ++ ended_at nodes (home nodes i) i (slice_get nodes i)
+functions_before nodes (suc i) = functions_before nodes i ++ option_to_list (ended_at nodes (home nodes i) i (slice_get nodes i))
 
 -- the functions, in order
 abbrev pub functions : List Node → List Function

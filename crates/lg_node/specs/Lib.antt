@@ -6,3 +6,5 @@ pub mod Nodes
 pub mod Preparations
 pub mod ShapeTables
 pub mod Shapes
+pub mod Tables
+pub mod Walks

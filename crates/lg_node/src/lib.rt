@@ -1,13 +1,18 @@
 //! The nodes of a text with its labels, and the text as a unit.
 #![tactic(auto)]
 
+mod check;
 mod function;
 mod label_addresses;
+mod labels;
 mod node_list;
 mod place;
 mod preparation;
+mod refusals;
 mod shape;
+mod tables;
 mod unit;
+mod walk;
 
 pub use label_addresses::LabelAddresses;
 pub use lg_op::{
