@@ -1,3 +1,5 @@
+pub mod FunctionLaws
+pub mod FunctionLemmas
 pub mod LimitLemmas
 pub mod NodeListLemmas
 pub mod TableLemmas

@@ -95,3 +95,7 @@ none_on l i none here j h = ⊎_elim (λ (e : j ≡ i). ap (refusal_at l) e ∙ 
     last : (j < i) ⊎ (i ≤ j) → (j ≡ i) ⊎ (j < i)
     last (inl b) = inr b
     last (inr b) = inl (omega arith)
+
+-- where no node at all is refused
+pub limits_before : (l : LabelledNodes) (i : ℕ) → i ≤ length l.nodes → NoneBefore l (length l.nodes) → IsWithinLimits (walk_at l.nodes i)
+limits_before l i h none = limits_at l i h (λ j b. none j (omega arith))

@@ -1,6 +1,6 @@
 -- The functions of a list of nodes. A function runs from a `prolog` to the next `epilog`, both included: over a `prolog` inside it, and
 -- to the last node where no `epilog` follows.
-use Rattle.std.specs.Prelude.{ℕ, zero, suc, ◌+◌, ◌*◌, ◌/◌, Bool, true, false, if◌then◌else◌, List, [], ◌∷◌, ◌++◌, Option, Some, None, length, take, slice_get, slice_range, nat_le, ◌&&◌}
+use Rattle.std.specs.Prelude.{◌≡◌, ℕ, zero, suc, ◌+◌, ◌*◌, ◌/◌, ◌<◌, ◌≤◌, Bool, true, false, if◌then◌else◌, List, [], ◌∷◌, ◌++◌, Option, Some, None, length, take, slice_get, slice_range, nat_le, ◌&&◌}
 use Rattle.std.specs.List.{find, list_any, position, sum_by}
 use Rattle.std.specs.Option.{option_to_list}
 use Rattle.lg_base.specs.Layout.{frame_size}
@@ -91,6 +91,24 @@ function_of functions node = position (has_node node) functions
 
 abbrev pub function_at : List Function → ℕ → Option Function
 function_at functions node = find (has_node node) functions
+
+abbrev pub is_prolog_at : Option Node → Bool
+is_prolog_at None = false
+is_prolog_at (Some n) = is_prolog n.op
+
+abbrev pub is_epilog_at : Option Node → Bool
+is_epilog_at None = false
+is_epilog_at (Some n) = is_epilog n.op
+
+-- a function is a range of nodes from a `prolog` to an `epilog`: its nodes are those of the range and no others
+pub record IsFunction (nodes : List Node) (f : Function) : Type 0 where
+  pub order : f.entry ≤ f.last
+  pub within : f.last < length nodes
+  pub begins : is_prolog_at (slice_get nodes f.entry) ≡ true
+  pub ends : is_epilog_at (slice_get nodes f.last) ≡ true
+  pub all : (k : ℕ) → f.entry ≤ k → k ≤ f.last → home nodes k ≡ Some f.entry
+  pub only : (k : ℕ) → home nodes k ≡ Some f.entry → (f.entry ≤ k) × (k ≤ f.last)
+  pub locals : f.locals ≡ sum_by local_size (slice_range nodes f.entry (f.last + 1))
 
 -- the bytes of a function's frame
 abbrev pub frame_of : Function → ℕ

@@ -8,9 +8,11 @@ mod labels;
 mod node_list;
 mod place;
 mod preparation;
+mod ranges;
 mod refusals;
 mod shape;
 mod tables;
+mod taken;
 mod unit;
 mod walk;
 
