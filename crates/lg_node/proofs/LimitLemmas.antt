@@ -1,14 +1,14 @@
 -- Where no node is refused, functions and calls stay within their limits.
-use Rattle.std.proofs.Common.{◌≡◌, ℕ, zero, suc, ◌+◌, ◌<◌, ◌≤◌, Bool, true, false, ◌&&◌, ◌||◌, cond, List, [], ◌∷◌, ◌⊎◌, inl, inr, ⊎_elim, Option, Some, None, is_some, refl, sym, ap, ◌∙◌, length, get_or, add-one, arith}
-use Rattle.std.specs.Prelude.{if◌then◌else◌, nat_lt, nat_le, slice_get}
+use Rattle.std.proofs.Common.{◌≡◌, ℕ, zero, suc, ◌+◌, ◌<◌, ◌≤◌, Bool, true, false, ◌&&◌, ◌||◌, cond, List, [], ◌∷◌, ◌⊎◌, inl, inr, ⊎_elim, Option, Some, None, refl, ap, ◌∙◌, length, get_or, add-one, arith}
+use Rattle.std.specs.Prelude.{nat_lt, nat_le, slice_get}
 use Rattle.std.specs.List.{find}
-use Rattle.std.specs.Option.{option_and_then, option_map}
+use Rattle.std.specs.Option.{option_map}
 use Rattle.std.proofs.lemmas.Bool.{leb-false, ltb-false, cases_lt}
 use Rattle.std.proofs.lemmas.Option.{slice_get-get_or}
 use Rattle.lg_base.specs.declared.refusal.Refusal.{Refusal}
 use Rattle.lg_base.specs.declared.refusal.RefusalKind.{RefusalKind}
 use Rattle.lg_op.specs.declared.op.Op.{Op}
-use Rattle.lg_op.specs.declared.op.Op.TheVariants.{Binary, Wide, Branch, BranchSum, Control, Unary, Plain, Load, Store, Retval, Getarg}
+use Rattle.lg_op.specs.declared.op.Op.TheVariants.{Control, Plain}
 use Rattle.lg_op.specs.declared.op.ControlOp.TheVariants as control
 use Rattle.lg_op.specs.declared.op.PlainOp.TheVariants as plain
 use Rattle.lg_op.specs.declared.node.Node.{Node}
@@ -16,8 +16,8 @@ use Rattle.lg_node.specs.declared.preparation.Preparation.{Preparation}
 use Rattle.lg_node.specs.Nodes.{LabelledNodes}
 use Rattle.lg_node.specs.Functions.{local_size}
 use Rattle.lg_node.specs.Preparations.{prepared_behind, prepared_before, pushed_of}
-use Rattle.lg_node.specs.Checks.{is_arg, args_before, locals_before, pushes_too_many, is_too_many, is_too_big, refuses, kinds, refusal_of, refusal_at, NoneBefore}
-use Rattle.lg_node.specs.Walks.{walk_at, walk_behind, behind_in, IsWithinLimits}
+use Rattle.lg_node.specs.Checks.{is_arg, args_before, locals_before, pushes_too_many, refuses, kinds, refusal_at, NoneBefore}
+use Rattle.lg_node.specs.Walks.{walk_at, walk_behind, IsWithinLimits}
 use Rattle.lg_node.proofs.WalkLemmas.{walk_start, walk_on}
 
 -- what an index behind the last node would give

@@ -1,18 +1,16 @@
 -- What is known before a node leads to what is known before the next one.
-use Rattle.std.proofs.Common.{◌≡◌, ℕ, zero, suc, ◌+◌, ◌-◌, ◌<◌, ◌≤◌, Bool, true, false, not, ◌&&◌, ◌||◌, cond, List, [], ◌∷◌, ◌++◌, Option, Some, None, is_some, refl, sym, ap, ◌∙◌, length, get_or, take, drop, add-one, arith}
-use Rattle.std.specs.Prelude.{if◌then◌else◌, nat_lt, nat_le, slice_get, slice_range}
-use Rattle.std.specs.List.{find, list_any, sum_by, count_by}
-use Rattle.std.specs.Option.{option_and_then, option_map}
+use Rattle.std.proofs.Common.{◌≡◌, ℕ, zero, suc, ◌+◌, ◌-◌, ◌<◌, ◌≤◌, Bool, true, false, ◌||◌, cond, List, [], ◌∷◌, ◌++◌, Option, Some, None, is_some, refl, sym, ap, ◌∙◌, length, take, add-one, arith}
+use Rattle.std.specs.Prelude.{if◌then◌else◌, slice_get, slice_range}
+use Rattle.std.specs.List.{list_any, sum_by}
 use Rattle.std.proofs.lemmas.List.{take_more}
 use Rattle.std.proofs.lemmas.List.Edits.{between_more}
 use Rattle.std.proofs.lemmas.List.Folds.{list_any-append}
-use Rattle.std.proofs.lemmas.List.Sums.{sum_by-append}
 use Rattle.std.proofs.lemmas.Grind.{common_steps}
 use Rattle.std.proofs.lemmas.Option.{slice_get_within, get_or_from_slice_get, slice_get_past}
 use Rattle.lg_op.specs.declared.node.Node.{Node}
 use Rattle.lg_node.specs.Functions.{is_prolog, is_epilog, is_prolog_node, home_of, home_at, open_behind, open_behind_at, open_before, home, since, local_size}
 use Rattle.lg_node.specs.Preparations.{prepared_behind, prepared_before}
-use Rattle.lg_node.specs.Checks.{is_arg, is_arg_node, is_begun, args_before, locals_before}
+use Rattle.lg_node.specs.Checks.{is_arg_node, is_begun}
 use Rattle.lg_node.specs.Walks.{walk_at, behind_in, walk_behind}
 
 pub take_on : (nodes : List Node) (i : ℕ) (n : Node) → slice_get nodes i ≡ Some n → take (i + 1) nodes ≡ take i nodes ++ n ∷ []

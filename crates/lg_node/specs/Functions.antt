@@ -1,7 +1,7 @@
 -- The functions of a list of nodes. A function runs from a `prolog` to the next `epilog`, both included: over a `prolog` inside it, and
 -- to the last node where no `epilog` follows.
-use Rattle.std.specs.Prelude.{◌≡◌, ℕ, zero, suc, ◌+◌, ◌*◌, ◌/◌, ◌<◌, ◌≤◌, Bool, true, false, if◌then◌else◌, List, [], ◌∷◌, ◌++◌, Option, Some, None, length, take, slice_get, slice_range, nat_le, ◌&&◌}
-use Rattle.std.specs.List.{find, list_any, position, sum_by}
+use Rattle.std.specs.Prelude.{◌≡◌, ℕ, zero, suc, ◌+◌, ◌*◌, ◌/◌, ◌<◌, ◌≤◌, Bool, true, false, if◌then◌else◌, List, [], ◌∷◌, ◌++◌, Option, Some, None, length, slice_get, slice_range, nat_le, ◌&&◌}
+use Rattle.std.specs.List.{find, position, sum_by}
 use Rattle.std.specs.Option.{option_to_list}
 use Rattle.lg_base.specs.Layout.{frame_size}
 use Rattle.lg_op.specs.declared.op.Op.{Op}

@@ -1,6 +1,6 @@
 -- The shape of an accepted text: its functions, the labels that are taken, and the successors of each node.
-use Rattle.std.specs.Prelude.{◌≡◌, ◌⊎◌, ℕ, ◌+◌, ◌<◌, Bool, true, false, List, [], ◌∷◌, Option, Some, None, length, slice_get, slice_index_or}
-use Rattle.lg_base.specs.declared.refusal.Stop.{Stop}
+use Rattle.std.specs.Prelude.{◌≡◌, ◌⊎◌, ℕ, ◌+◌, ◌<◌, Bool, true, false, List, ◌∷◌, Option, Some, None, Result, Ok, Err, length, slice_get, slice_index_or}
+use Rattle.lg_base.specs.declared.refusal.Refusal.{Refusal}
 use Rattle.lg_op.specs.declared.op.Op.{Op}
 use Rattle.lg_op.specs.declared.op.Op.TheVariants.{Branch, BranchSum, Control, Plain}
 use Rattle.lg_op.specs.declared.op.ControlOp.TheVariants as control
@@ -14,8 +14,8 @@ use Rattle.lg_node.specs.declared.place.Place.{Place}
 use Rattle.lg_node.specs.declared.place.Place.TheVariants as place
 use Rattle.lg_node.specs.Nodes.{LabelledNodes}
 use Rattle.lg_node.specs.Functions.{functions, function_of}
-use Rattle.lg_node.specs.Labels.{place_of}
-use Rattle.lg_node.specs.Checks.{IsAccepted}
+use Rattle.lg_node.specs.Labels.{place_of, taken_labels}
+use Rattle.lg_node.specs.Checks.{IsAccepted, IsRefused}
 
 -- the functions in order, and of each label whether it is taken
 pub record TextShape : Type 0 where
@@ -30,6 +30,11 @@ shape_of nodes taken = record { functions = functions nodes; taken = taken }
 pub record IsShapeOf (l : LabelledNodes) (s : TextShape) : Type 0 where
   pub accepted : IsAccepted l
   pub functions : s.functions ≡ functions l.nodes
+
+-- a text has this shape, or is refused so
+abbrev pub IsChecked : LabelledNodes → Result TextShape Refusal → Type 0
+IsChecked l (Ok s) = IsShapeOf l s × (s.taken ≡ taken_labels l)
+IsChecked l (Err r) = IsRefused l r
 
 abbrev pub IsTaken : TextShape → ℕ → Type 0
 IsTaken s label = slice_index_or s.taken label false ≡ true

@@ -1,8 +1,7 @@
 -- The tables of a check.
-use Rattle.std.specs.Prelude.{◌≡◌, ℕ, ◌<◌, Bool, false, List, Option, Some, None, length, slice_index_or}
+use Rattle.std.specs.Prelude.{◌≡◌, ℕ, ◌<◌, ◌^◌, Bool, false, List, Option, Some, None, length, slice_index_or}
 use Rattle.std.specs.List.{list_any}
 use Rattle.lg_op.specs.declared.node.Node.{Node}
-use Rattle.lg_node.specs.declared.function.Function.{Function}
 use Rattle.lg_node.specs.declared.ranges.Ranges.{Ranges}
 use Rattle.lg_node.specs.declared.tables.Tables.{Tables}
 use Rattle.lg_node.specs.Nodes.{LabelledNodes}
@@ -35,5 +34,6 @@ abbrev pub number_of : List Node → ℕ → Option ℕ
 number_of nodes i = number_in (length (functions_before nodes i)) (home nodes i)
 
 pub record AreRanges (nodes : List Node) (r : Ranges) : Type 0 where
+  pub few : length r.functions.items < 2 ^ 32
   pub functions : r.functions.items ≡ functions nodes
   pub numbers : (i : ℕ) → slice_index_or r.numbers.items i None ≡ number_of nodes i

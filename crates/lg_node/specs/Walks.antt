@@ -1,5 +1,5 @@
 -- What is known before a node when the nodes are walked in order.
-use Rattle.std.specs.Prelude.{◌≡◌, ℕ, ◌+◌, ◌≤◌, Bool, ◌||◌, cond, if◌then◌else◌, List, Option, is_some}
+use Rattle.std.specs.Prelude.{ℕ, ◌+◌, ◌≤◌, ◌||◌, cond, if◌then◌else◌, List, Option, is_some}
 use Rattle.lg_op.specs.declared.node.Node.{Node}
 use Rattle.lg_node.specs.declared.walk.Walk.{Walk}
 use Rattle.lg_node.specs.Functions.{is_prolog, home_of, open_behind, open_before, local_size}

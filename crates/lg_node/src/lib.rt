@@ -1,7 +1,7 @@
 //! The nodes of a text with its labels, and the text as a unit.
 #![tactic(auto)]
 
-mod check;
+mod checks;
 mod function;
 mod label_addresses;
 mod labels;
@@ -16,6 +16,7 @@ mod taken;
 mod unit;
 mod walk;
 
+pub use checks::{check, reshape};
 pub use label_addresses::LabelAddresses;
 pub use lg_op::{
     Addressing, BinaryOp, BranchSumOp, Condition, ControlOp, Form, Label, LastOperand, Node, Op,

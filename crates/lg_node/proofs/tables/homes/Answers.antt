@@ -1,6 +1,4 @@
-use Rattle.std.proofs.Common.{◌≡◌, ℕ, ◌+◌, ◌<◌, ◌≤◌, Option, None, get_or, length, refl, sym, ap, ◌∙◌, ⊎_elim, arith}
-use Rattle.std.proofs.lemmas.Bool.{cases_lt}
-use Rattle.std.proofs.lemmas.List.{get_or_past}
+use Rattle.std.proofs.Common.{◌≡◌, ℕ, Option, None, length, sym, ap, ◌∙◌, arith}
 use Rattle.lg_node.specs.Functions.{home, home_of, open_behind}
 use Rattle.lg_node.proofs.TableLemmas.{count_push, table_push, table_all}
 use Rattle.lg_node.proofs.WalkLemmas.{home_here, home_past, open_start, open_on}

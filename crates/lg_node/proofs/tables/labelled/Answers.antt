@@ -1,5 +1,4 @@
-use Rattle.std.proofs.Common.{◌≡◌, ℕ, ◌+◌, ◌<◌, Bool, ◌||◌, false, List, ◌++◌, length, take, drop, get_or, refl, sym, ap, ◌∙◌, arith}
-use Rattle.std.specs.List.{list_any}
+use Rattle.std.proofs.Common.{◌≡◌, Bool, ◌||◌, false, List, ◌++◌, length, take, drop, get_or, sym, ap, ◌∙◌, arith}
 use Rattle.lg_node.specs.Labels.{is_at}
 use Rattle.lg_node.proofs.TableLemmas.{put_back, any_on}
 use Rattle.lg_node.proofs.tables.labelled.Goals as goal

@@ -1,5 +1,4 @@
-use Rattle.std.proofs.Common.{◌≡◌, ℕ, ◌+◌, ◌<◌, Bool, ◌||◌, false, List, ◌++◌, length, take, drop, get_or, refl, sym, ap, ◌∙◌, arith}
-use Rattle.std.specs.List.{list_any}
+use Rattle.std.proofs.Common.{◌≡◌, Bool, ◌||◌, false, List, ◌++◌, length, take, drop, get_or, sym, ap, ◌∙◌, arith}
 use Rattle.lg_node.specs.Labels.{names_address}
 use Rattle.lg_node.proofs.TableLemmas.{put_back, any_on}
 use Rattle.lg_node.proofs.taken.named.Goals as goal

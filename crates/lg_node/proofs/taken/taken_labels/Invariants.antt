@@ -1,4 +1,4 @@
-use Rattle.std.proofs.Common.{◌≡◌, length, map}
+use Rattle.std.proofs.Common.{◌≡◌, map}
 use Rattle.std.specs.List.{range_with_len}
 use Rattle.lg_node.specs.Labels.{is_taken}
 use Rattle.lg_node.proofs.taken.taken_labels.Given as goal

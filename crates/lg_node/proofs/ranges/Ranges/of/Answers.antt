@@ -1,4 +1,4 @@
-use Rattle.std.proofs.Common.{◌≡◌, ℕ, ◌+◌, ◌<◌, ◌≤◌, List, ◌++◌, Option, Some, None, length, ap, ap₂, sym, ◌∙◌, arith}
+use Rattle.std.proofs.Common.{◌≡◌, ℕ, List, ◌++◌, Option, Some, None, length, ap, ap₂, sym, ◌∙◌, arith}
 use Rattle.std.specs.Option.{option_to_list}
 use Rattle.lg_node.specs.declared.walk.Walk.{Walk}
 use Rattle.lg_node.specs.declared.function.Function.{Function}
@@ -61,6 +61,7 @@ pub returns : goal.returns
 returns c =
     let end : c.loop-index.index ≡ length c.args.nodes.now.nodes = omega arith in
     record {
+      few = omega (arith, c.loop-index.invariant.few, c.len-index-end.type_inv);
       functions = c.loop-index.invariant.functions ∙ ap (functions_before c.args.nodes.now.nodes) end;
       numbers = table_all (number_of c.args.nodes.now.nodes) c.loop-index.numbers.items None c.loop-index.index (length c.args.nodes.now.nodes) c.loop-index.invariant.count (omega arith) c.loop-index.invariant.numbers (number_past c.args.nodes.now.nodes);
     }

@@ -1,9 +1,9 @@
-use Rattle.std.proofs.Common.{◌≡◌, ℕ, ◌+◌, ◌<◌, None, ap, sym, ◌∙◌, arith}
+use Rattle.std.proofs.Common.{ap, sym, ◌∙◌, arith}
 use Rattle.lg_node.specs.declared.walk.Walk.{Walk}
 use Rattle.lg_node.specs.Walks.{walk_behind}
 use Rattle.lg_node.proofs.WalkLemmas.{walk_start, walk_on}
 use Rattle.lg_node.proofs.LimitLemmas.{none_on, limits_at}
-use Rattle.lg_node.proofs.check.walk_to_end.Goals as goal
+use Rattle.lg_node.proofs.checks.walk_to_end.Goals as goal
 
 pub loop-index-init : goal.loop-index-init
 loop-index-init c = record {
