@@ -7,10 +7,10 @@ use Rattle.std.proofs.lemmas.List.Elements.{All-weaker}
 use Rattle.lg_node.specs.declared.function.Function.{Function}
 use Rattle.lg_node.specs.Nodes.{LabelledNodes}
 use Rattle.lg_node.specs.Functions.{is_prolog_node, open_before, home, local_size, functions, IsFunction}
-use Rattle.lg_node.specs.Checks.{locals_before, refuses, kinds, end_refusal_of, NoneBefore, IsAccepted}
+use Rattle.lg_node.specs.Checks.{FailsAll, locals_before, refuses, kinds, end_refusal_of, NoneBefore, IsAccepted}
 use Rattle.lg_node.specs.ShapeTables.{IsSmall}
 use Rattle.lg_node.proofs.FunctionLaws.{IsBefore, all_before, node_within}
-use Rattle.lg_node.proofs.LimitLemmas.{FailsAll, not_refused}
+use Rattle.lg_node.proofs.LimitLemmas.{not_refused}
 use Rattle.lg_node.proofs.WalkLemmas.{home_here, home_sum}
 
 -- no function is open at the end

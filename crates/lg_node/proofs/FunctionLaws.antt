@@ -70,7 +70,7 @@ home_begins : (nodes : List Node) (e p : ℕ) → home nodes e ≡ Some p → is
 home_begins nodes e p h = ⊎_elim (λ (o : open_before nodes p ≡ Some p). let no : p < p = open_below nodes p p o in absurd (omega arith)) (λ (b : Begins nodes p p). b.prolog) (home_cases nodes p p (home_between nodes e p h p (omega arith) (home_from nodes e p h)))
 
 -- where no function is open, each one that is open later begins there or later
-closed_on : (nodes : List Node) (i j q : ℕ) → open_before nodes i ≡ None → i ≤ j → open_before nodes j ≡ Some q → i ≤ q
+pub closed_on : (nodes : List Node) (i j q : ℕ) → open_before nodes i ≡ None → i ≤ j → open_before nodes j ≡ Some q → i ≤ q
 closed_on nodes i zero q closed h e = let no : ◌≡◌ {A = Option ℕ} None (Some q) = sym (open_start nodes) ∙ e in cc
 closed_on nodes i (suc j) q closed h e = ⊎_elim
     (λ (same : i ≡ suc j). let no : ◌≡◌ {A = Option ℕ} None (Some q) = sym (ap (open_before nodes) (sym same) ∙ closed) ∙ e in cc)
@@ -158,14 +158,14 @@ closes_here nodes k j p n en from h eb same =
     }
 
 -- no function ends at a node that is no `epilog`, and its function is open behind it
-goes_on : (nodes : List Node) (j p : ℕ) (n : Node) → slice_get nodes j ≡ Some n → home nodes j ≡ Some p → is_epilog n.op ≡ false → (functions_before nodes (j + 1) ≡ functions_before nodes j) × (open_before nodes (j + 1) ≡ Some p)
+pub goes_on : (nodes : List Node) (j p : ℕ) (n : Node) → slice_get nodes j ≡ Some n → home nodes j ≡ Some p → is_epilog n.op ≡ false → (functions_before nodes (j + 1) ≡ functions_before nodes j) × (open_before nodes (j + 1) ≡ Some p)
 goes_on nodes j p n en h eb =
     let ends : ended_at nodes (home nodes j) j (Some n) ≡ None = rw (h, eb) refl in (
       functions_on nodes j n en ∙ ap (λ (o : Option Function). functions_before nodes j ++ option_to_list o) ends ∙ append-nil (functions_before nodes j),
       open_on nodes j n en ∙ ap (λ b. cond b None (home_of (open_before nodes j) j n.op)) eb ∙ sym (home_here nodes j n en) ∙ h,
     )
 
-home_next : (nodes : List Node) (i p : ℕ) → i < length nodes → open_before nodes i ≡ Some p → home nodes i ≡ Some p
+pub home_next : (nodes : List Node) (i p : ℕ) → i < length nodes → open_before nodes i ≡ Some p → home nodes i ≡ Some p
 home_next nodes i p h e =
     let there = node_within nodes i h in
     home_here nodes i there.0 there.1 ∙ ap (λ (o : Option ℕ). home_of o i there.0.op) e

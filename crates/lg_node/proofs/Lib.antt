@@ -4,5 +4,7 @@ pub mod FunctionLemmas
 pub mod LimitLemmas
 pub mod NodeListLemmas
 pub mod NumberLaws
+pub mod SuccessorLaws
 pub mod TableLemmas
 pub mod WalkLemmas
+pub mod WellShaped

@@ -16,18 +16,13 @@ use Rattle.lg_node.specs.declared.preparation.Preparation.{Preparation}
 use Rattle.lg_node.specs.Nodes.{LabelledNodes}
 use Rattle.lg_node.specs.Functions.{local_size}
 use Rattle.lg_node.specs.Preparations.{prepared_behind, prepared_before, pushed_of}
-use Rattle.lg_node.specs.Checks.{is_arg, args_before, locals_before, pushes_too_many, refuses, kinds, refusal_at, NoneBefore}
+use Rattle.lg_node.specs.Checks.{FailsAll, is_arg, args_before, locals_before, pushes_too_many, refuses, kinds, refusal_at, NoneBefore}
 use Rattle.lg_node.specs.Walks.{walk_at, walk_behind, IsWithinLimits}
 use Rattle.lg_node.proofs.WalkLemmas.{walk_start, walk_on}
 
 -- what an index behind the last node would give
 empty_node : Node
 empty_node = record { op = Plain plain.Movi; operands = []; line = 0 }
-
--- a test fails at each kind
-abbrev pub FailsAll : (RefusalKind → Bool) → List RefusalKind → Type 0
-FailsAll p [] = Unit {0}
-FailsAll p (k ∷ ks) = (p k ≡ false) × FailsAll p ks
 
 fails_all : (p : RefusalKind → Bool) (ks : List RefusalKind) → find p ks ≡ None → FailsAll p ks
 fails_all p [] e = tt
@@ -46,7 +41,7 @@ not_refused l i n e r = fails_all (refuses l i n) kinds (by (find (refuses l i n
     by None r = refl
     by (Some k) r = cc
 
-or_false : (x y : Bool) → (x || y) ≡ false → (x ≡ false) × (y ≡ false)
+pub or_false : (x y : Bool) → (x || y) ≡ false → (x ≡ false) × (y ≡ false)
 or_false true y e = cc
 or_false false y e = (refl, e)
 

@@ -13,7 +13,7 @@ use Rattle.lg_node.specs.declared.function.Function.{Function}
 use Rattle.lg_node.specs.declared.place.Place.{Place}
 use Rattle.lg_node.specs.declared.place.Place.TheVariants as place
 use Rattle.lg_node.specs.Nodes.{LabelledNodes}
-use Rattle.lg_node.specs.Functions.{functions, function_of}
+use Rattle.lg_node.specs.Functions.{home, functions}
 use Rattle.lg_node.specs.Labels.{place_of, taken_labels}
 use Rattle.lg_node.specs.Checks.{IsAccepted, IsRefused}
 
@@ -71,12 +71,15 @@ IsNext l i k = (k ≡ i + 1) × (k < length l.nodes)
 abbrev pub IsTarget : LabelledNodes → Node → ℕ → Type 0
 IsTarget l n k = target_of l.places n.operands ≡ Some (place.Node k)
 
--- a taken label is bound at node k, which is in the function of node i
+-- a taken label is bound at node k, in the function of node i behind its `prolog`
 pub record IsTakenIn (l : LabelledNodes) (s : TextShape) (i k : ℕ) : Type 0 where
   pub label : ℕ
   pub taken : IsTaken s label
   pub place : slice_get l.places label ≡ Some (Some (place.Node k))
-  pub same : function_of s.functions k ≡ function_of s.functions i
+  pub function : ℕ
+  pub here : home l.nodes i ≡ Some function
+  pub there : home l.nodes k ≡ Some function
+  pub behind : function < k
 
 abbrev pub GoesBy : LabelledNodes → TextShape → ℕ → Node → Way → ℕ → Type 0
 GoesBy l s i n Next k = IsNext l i k

@@ -5,6 +5,7 @@ mod checks;
 mod function;
 mod label_addresses;
 mod labels;
+pub mod laws;
 mod node_list;
 mod place;
 mod preparation;
