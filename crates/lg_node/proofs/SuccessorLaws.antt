@@ -137,6 +137,7 @@ module _ (l : LabelledNodes) (s : TextShape) (is : IsShapeOf l s) where
     where
       closed : open_before l.nodes k ≡ None
       closed = ap (open_before l.nodes) next.0 ∙ open_on l.nodes i n e ∙ ap (λ (o : Option ℕ). open_behind o n.op) (sym (home_here l.nodes i n e) ∙ h) ∙ none_behind (is_epilog n.op)
+
       by : (o : Option ℕ) → home l.nodes k ≡ o → (home l.nodes k ≡ None) ⊎ (home l.nodes k ≡ Some k)
       by None eo = inl eo
       by (Some p) eo = ⊎_elim (λ (o : open_before l.nodes k ≡ Some p). let no : ◌≡◌ {A = Option ℕ} None (Some p) = sym closed ∙ o in cc) (λ (b : Begins l.nodes k p). inr (eo ∙ ap (λ (q : ℕ). Some q) b.here)) (home_cases l.nodes k p eo)

@@ -132,12 +132,14 @@ module _ (l : LabelledNodes) (a : IsAccepted l) where
     where
       opened : (p : ℕ) → home l.nodes i ≡ Some p → is_epilog n.op ≡ false → is_some (open_before l.nodes (i + 1)) ≡ true
       opened p h eb = ap is_some (goes_on l.nodes i p n e h eb).1
+
       begins : is_prepare n.op ≡ true → is_some (open_before l.nodes (i + 1)) ≡ true
       begins pre =
           let outside = (passes i n e).1.0 in
           let stands = ap not (prepare_inside n.op (is_begun l.nodes i) pre) in
           let inside = some_of (home l.nodes i) (and_false_left (is_none (home l.nodes i)) (not (may_stand_outside n.op (is_begun l.nodes i))) outside stands) in
           opened inside.0 inside.1 (prepare_goes_on n.op pre)
+
       goes : is_some (prepared_before l.nodes i) ≡ true → is_some (open_before l.nodes (i + 1)) ≡ true
       goes some =
           let was = some_from (open_before l.nodes i) (before some) in
@@ -156,12 +158,13 @@ module _ (l : LabelledNodes) (a : IsAccepted l) where
   falls i p h eb =
       let there = node_within l.nodes i (home_within l.nodes i p h) in
       let next = (goes_on l.nodes i p there.0 there.1 h (ap is_epilog_at (sym there.1) ∙ eb)).1 in
-      let from : p ≤ i = home_from l.nodes i p h in
-      (⊎_elim
-          (λ (within : i + 1 < length l.nodes). home_next l.nodes (i + 1) p within next)
-          (λ (past : length l.nodes ≤ i + 1). let w : i < length l.nodes = home_within l.nodes i p h in let end : i + 1 ≡ length l.nodes = omega arith in let no : ◌≡◌ {A = Option ℕ} None (Some p) = sym (is_closed l a) ∙ ap (open_before l.nodes) (sym end) ∙ next in cc)
-          (cases_lt (i + 1) (length l.nodes)),
-       omega arith)
+      let from : p ≤ i = home_from l.nodes i p h in (
+        ⊎_elim
+            (λ (within : i + 1 < length l.nodes). home_next l.nodes (i + 1) p within next)
+            (λ (past : length l.nodes ≤ i + 1). let w : i < length l.nodes = home_within l.nodes i p h in let end : i + 1 ≡ length l.nodes = omega arith in let no : ◌≡◌ {A = Option ℕ} None (Some p) = sym (is_closed l a) ∙ ap (open_before l.nodes) (sym end) ∙ next in cc)
+            (cases_lt (i + 1) (length l.nodes)),
+        omega arith,
+      )
 
   unopened : (i : ℕ) (n : Node) → slice_get l.nodes i ≡ Some n → is_prolog n.op ≡ true → open_before l.nodes i ≡ None
   unopened i n e pro = none_of (open_before l.nodes i) (and_false (is_prolog n.op) (is_some (open_before l.nodes i)) (passes i n e).1.1.0 pro)
@@ -179,9 +182,10 @@ module _ (l : LabelledNodes) (a : IsAccepted l) where
       by : (o : Option Node) → slice_get l.nodes i ≡ o → is_prolog_at o ≡ true → (home l.nodes i ≡ Some i) × (prepared_before l.nodes i ≡ None)
       by None e pro = cc
       by (Some n) e pro =
-          let closed = unopened i n e pro in
-          (home_here l.nodes i n e ∙ ap (λ (o : Option ℕ). home_of o i n.op) closed ∙ ap (λ b. cond b (Some i) None) pro,
-           unprepared_outside i (let w : i < length l.nodes = slice_get_within l.nodes i n e in omega arith) closed)
+          let closed = unopened i n e pro in (
+            home_here l.nodes i n e ∙ ap (λ (o : Option ℕ). home_of o i n.op) closed ∙ ap (λ b. cond b (Some i) None) pro,
+            unprepared_outside i (let w : i < length l.nodes = slice_get_within l.nodes i n e in omega arith) closed,
+          )
 
   pub prologs : (i : ℕ) → home l.nodes i ≡ Some i → is_prolog_at (slice_get l.nodes i) ≡ true
   prologs i h = ⊎_elim (λ (o : open_before l.nodes i ≡ Some i). let no : i < i = open_below l.nodes i i o in absurd (omega arith)) (λ (b : Begins l.nodes i i). b.prolog) (home_cases l.nodes i i h)
@@ -251,12 +255,13 @@ module _ (l : LabelledNodes) (a : IsAccepted l) where
 
   pub prepared : (i : ℕ) (call : Preparation) → i ≤ length l.nodes → prepared_before l.nodes i ≡ Some call → (is_some (home l.nodes i) ≡ true) × (call.pushed ≤ 16)
   prepared i call h e =
-      let opened = some_from (open_before l.nodes i) (prepared_open i h (ap is_some e)) in
-      (⊎_elim
-          (λ (within : i < length l.nodes). ap is_some (home_next l.nodes i opened.0 within opened.1))
-          (λ (past : length l.nodes ≤ i). let end : i ≡ length l.nodes = omega arith in let no : ◌≡◌ {A = Option ℕ} None (Some opened.0) = sym (is_closed l a) ∙ ap (open_before l.nodes) (sym end) ∙ opened.1 in cc)
-          (cases_lt i (length l.nodes)),
-       (let few : pushed_of (prepared_before l.nodes i) ≤ 16 = (limits i h).pushed in rw e at few))
+      let opened = some_from (open_before l.nodes i) (prepared_open i h (ap is_some e)) in (
+        ⊎_elim
+            (λ (within : i < length l.nodes). ap is_some (home_next l.nodes i opened.0 within opened.1))
+            (λ (past : length l.nodes ≤ i). let end : i ≡ length l.nodes = omega arith in let no : ◌≡◌ {A = Option ℕ} None (Some opened.0) = sym (is_closed l a) ∙ ap (open_before l.nodes) (sym end) ∙ opened.1 in cc)
+            (cases_lt i (length l.nodes)),
+        (let few : pushed_of (prepared_before l.nodes i) ≤ 16 = (limits i h).pushed in rw e at few),
+      )
 
   pub pushes : (i : ℕ) (n : Node) → slice_get l.nodes i ≡ Some n → needs_preparation n.op ≡ true → (call : Preparation) × (prepared_before l.nodes i ≡ Some call) × (is_pusharg n.op ≡ true → call.pushed < 16)
   pushes i n e needs = by (prepared_before l.nodes i) refl
@@ -265,10 +270,14 @@ module _ (l : LabelledNodes) (a : IsAccepted l) where
       by None eo =
           let bad : is_bad_call None (is_labelled l.places i) n.op ≡ false = rw eo at (passes i n e).1.1.1.1.0 in
           let no : true ≡ false = sym needs ∙ bad in cc
-      by (Some call) eo = (call, eo, λ push.
-          let many = or_false (is_arg n.op && nat_le 16 (args_before l.nodes i)) (pushes_too_many (prepared_before l.nodes i) n.op) (passes i n e).1.1.1.1.1.0 in
-          let few : (is_pusharg n.op && nat_le 16 call.pushed) ≡ false = rw eo at many.1 in
-          leb-false 16 call.pushed (and_false (is_pusharg n.op) (nat_le 16 call.pushed) few push))
+      by (Some call) eo = (
+        call,
+        eo,
+        λ push.
+            let many = or_false (is_arg n.op && nat_le 16 (args_before l.nodes i)) (pushes_too_many (prepared_before l.nodes i) n.op) (passes i n e).1.1.1.1.1.0 in
+            let few : (is_pusharg n.op && nat_le 16 call.pushed) ≡ false = rw eo at many.1 in
+            leb-false 16 call.pushed (and_false (is_pusharg n.op) (nat_le 16 call.pushed) few push),
+      )
 
   pub well_shaped : IsWellShaped l
   well_shaped = record {
