@@ -1,12 +1,19 @@
 -- What holds of accepted nodes.
-use Rattle.std.proofs.Common.{◌≡◌, ℕ, ◌+◌, false, Option, Some, None, refl, sym, ◌∙◌, length, arith}
-use Rattle.std.specs.Prelude.{nat_lt}
-use Rattle.std.specs.List.{All, list_any}
+use Rattle.std.proofs.Common.{◌≡◌, ℕ, ◌+◌, ◌%◌, false, List, [], ◌∷◌, Option, Some, None, refl, sym, ap, ◌∙◌, length, arith}
+use Rattle.std.specs.Prelude.{nat_lt, slice_range}
+use Rattle.std.specs.List.{All, list_any, sum_by}
 use Rattle.std.proofs.lemmas.Bool.{ltb-false}
 use Rattle.std.proofs.lemmas.List.Elements.{All-weaker}
+use Rattle.std.proofs.lemmas.List.Sums.{sum_by-cons}
+use Rattle.lg_op.specs.declared.op.Op.{Op}
+use Rattle.lg_op.specs.declared.op.Op.TheVariants.{Plain}
+use Rattle.lg_op.specs.declared.op.PlainOp.TheVariants as plain
+use Rattle.lg_op.specs.declared.operand.Operand.{Operand}
+use Rattle.lg_op.specs.declared.operand.Operand.TheVariants as operand
+use Rattle.lg_op.specs.declared.node.Node.{Node}
 use Rattle.lg_node.specs.declared.function.Function.{Function}
 use Rattle.lg_node.specs.Nodes.{LabelledNodes}
-use Rattle.lg_node.specs.Functions.{is_prolog_node, open_before, home, local_size, functions, IsFunction}
+use Rattle.lg_node.specs.Functions.{is_prolog_node, open_before, home, local_of, local_size, functions, IsFunction}
 use Rattle.lg_node.specs.Checks.{FailsAll, locals_before, refuses, kinds, end_refusal_of, NoneBefore, IsAccepted}
 use Rattle.lg_node.specs.ShapeTables.{IsSmall}
 use Rattle.lg_node.proofs.FunctionLaws.{IsBefore, all_before, node_within}
@@ -21,6 +28,18 @@ is_closed l a = by (open_before l.nodes (length l.nodes)) a.end
     by None e = refl
     by (Some p) e = cc
 
+-- locals are whole words
+words_of : (op : Op) (xs : List Operand) → local_of op xs % 8 ≡ 0
+words_of (Plain plain.Allocai) (operand.Number size ∷ xs) = grind arith
+words_of op xs = refl
+
+words_more : (a b : ℕ) → a % 8 ≡ 0 → b % 8 ≡ 0 → (a + b) % 8 ≡ 0
+words_more a b h k = omega arith
+
+words_sum : (nodes : List Node) → sum_by local_size nodes % 8 ≡ 0
+words_sum [] = refl
+words_sum (n ∷ ns) = ap (λ (s : ℕ). s % 8) (sum_by-cons local_size n ns) ∙ words_more (local_size n) (sum_by local_size ns) (words_of n.op n.operands) (words_sum ns)
+
 -- the locals of each function are within the limit
 small_one : (l : LabelledNodes) → NoneBefore l (length l.nodes) → (f : Function) → IsFunction l.nodes f → IsSmall f
 small_one l none f is =
@@ -29,7 +48,10 @@ small_one l none f is =
     let sum = home_sum local_size l.nodes f.last f.entry there.0 there.1 (sym (home_here l.nodes f.last there.0 there.1) ∙ at) in
     let fails : FailsAll (refuses l f.last there.0) kinds = not_refused l f.last there.0 there.1 (none f.last is.within) in
     let big : nat_lt 65536 (locals_before l.nodes f.last + local_size there.0) ≡ false = fails.1.1.1.1.1.1.0 in
-    omega (arith, is.locals, sum, ltb-false 65536 (locals_before l.nodes f.last + local_size there.0) big)
+    record {
+      locals = omega (arith, is.locals, sum, ltb-false 65536 (locals_before l.nodes f.last + local_size there.0) big);
+      words = ap (λ (n : ℕ). n % 8) is.locals ∙ words_sum (slice_range l.nodes f.entry (f.last + 1));
+    }
 
 pub all_small : (l : LabelledNodes) → IsAccepted l → All IsSmall (functions l.nodes)
 all_small l a = All-weaker (IsBefore l.nodes (length l.nodes)) IsSmall (λ f b. small_one l a.nodes f b.is) (functions l.nodes) (all_before l.nodes (length l.nodes) (omega arith))

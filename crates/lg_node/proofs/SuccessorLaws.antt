@@ -1,12 +1,11 @@
 -- Where the successors of a node are, and the numbers of functions.
-use Rattle.std.proofs.Common.{◌≡◌, ◌⊎◌, inl, inr, ⊎_elim, ℕ, ◌+◌, ◌<◌, ◌≤◌, Bool, true, false, not, ◌&&◌, cond, List, [], ◌∷◌, ◌++◌, Option, Some, None, refl, sym, ap, ◌∙◌, length, arith}
+use Rattle.std.proofs.Common.{◌≡◌, ◌⊎◌, inl, inr, ⊎_elim, ℕ, ◌+◌, ◌<◌, ◌≤◌, Bool, true, false, cond, List, [], ◌∷◌, ◌++◌, Option, Some, None, refl, sym, ap, ◌∙◌, length, arith}
 use Rattle.std.specs.Prelude.{slice_get, ◌==◌}
-use Rattle.std.specs.List.{All, list_any}
+use Rattle.std.specs.List.{list_any}
 use Rattle.std.specs.Option.{option_flatten}
 use Rattle.std.proofs.lemmas.Bool.{and_parts, not-true, eqb-false, cases_lt}
 use Rattle.std.proofs.lemmas.List.Elements.{All-weaker}
-use Rattle.std.proofs.lemmas.Option.{slice_get_within, same_Some}
-use Rattle.lg_base.specs.declared.refusal.Refusal.{Refusal}
+use Rattle.std.proofs.lemmas.Option.{same_Some}
 use Rattle.lg_op.specs.declared.op.Op.{Op}
 use Rattle.lg_op.specs.declared.op.Op.TheVariants.{Branch, BranchSum, Control, Plain}
 use Rattle.lg_op.specs.declared.op.ControlOp.TheVariants as control
@@ -20,18 +19,17 @@ use Rattle.lg_node.specs.declared.function.Function.{Function}
 use Rattle.lg_node.specs.declared.place.Place.{Place}
 use Rattle.lg_node.specs.declared.place.Place.TheVariants as place
 use Rattle.lg_node.specs.Nodes.{LabelledNodes}
-use Rattle.lg_node.specs.Functions.{is_prolog, is_epilog, is_epilog_at, home_of, open_behind, open_before, home, functions_before, functions, function_of, function_at, IsFunction}
+use Rattle.lg_node.specs.Functions.{is_epilog, is_epilog_at, open_behind, open_before, home, functions_before, functions, IsFunction}
 use Rattle.lg_node.specs.Labels.{place_of, is_inner, is_inside_some, names_address, is_taken}
-use Rattle.lg_node.specs.Checks.{NoneBefore, IsAccepted, IsRefusedAtNode, IsRefusedAtEnd, IsRefused, refusal_at, end_refusal}
-use Rattle.lg_node.specs.Shapes.{TextShape, IsShapeOf, IsSuccessor, Way, Next, Jump, Either, Taken, Leave, way_of, target_of, GoesBy, IsTakenIn, IsTarget, IsNext}
-use Rattle.lg_node.specs.ShapeTables.{IsSmall}
+use Rattle.lg_node.specs.Checks.{IsAccepted}
+use Rattle.lg_node.specs.Shapes.{TextShape, IsShapeOf, IsSuccessor, Way, Next, Jump, Either, Taken, Leave, way_of, target_of, GoesBy, IsTarget, IsNext}
 use Rattle.lg_node.specs.Tables.{number_in}
-use Rattle.lg_node.specs.ShapeLaws.{has_target, IsTargetIn, IsEntry, JumpsTo, IsNumbered, HasFunctions, IsBoundInside}
+use Rattle.lg_node.specs.ShapeLaws.{has_target, JumpsTo, IsNumbered, HasFunctions, IsBoundInside}
 use Rattle.lg_node.proofs.AcceptedLaws.{is_closed, all_small}
-use Rattle.lg_node.proofs.FunctionLaws.{IsBefore, all_before, home_within, home_from, Closes, closes, node_within, Begins, home_cases}
+use Rattle.lg_node.proofs.FunctionLaws.{IsBefore, all_before, home_from, closes, Begins, home_cases}
 use Rattle.lg_node.proofs.NumberLaws.{number_split, function_split, number_is, function_none}
 use Rattle.lg_node.proofs.WalkLemmas.{home_here, open_on}
-use Rattle.lg_node.proofs.WellShaped.{falls, entries, jumps}
+use Rattle.lg_node.proofs.WellShaped.{falls, jumps}
 
 none_behind : (b : Bool) → ◌≡◌ {A = Option ℕ} (cond b None None) None
 none_behind true = refl

@@ -1,5 +1,5 @@
 -- Accepted nodes are well shaped.
-use Rattle.std.proofs.Common.{◌≡◌, ◌⊎◌, inl, inr, ⊎_elim, ℕ, zero, suc, ◌+◌, ◌<◌, ◌≤◌, Bool, true, false, not, ◌&&◌, ◌||◌, cond, List, [], ◌∷◌, Option, Some, None, is_some, refl, sym, ap, ◌∙◌, length, add-one, arith}
+use Rattle.std.proofs.Common.{◌≡◌, ◌⊎◌, inl, inr, ⊎_elim, ℕ, zero, suc, ◌+◌, ◌<◌, ◌≤◌, Bool, true, false, not, ◌&&◌, ◌||◌, cond, List, [], ◌∷◌, Option, Some, None, is_some, refl, sym, ap, ◌∙◌, length, arith}
 use Rattle.std.specs.Prelude.{is_none, nat_le, slice_get, ◌==◌}
 use Rattle.std.specs.List.{list_any}
 use Rattle.std.specs.Option.{option_flatten}
@@ -24,13 +24,13 @@ use Rattle.lg_node.specs.Nodes.{LabelledNodes}
 use Rattle.lg_node.specs.Functions.{is_prolog, is_epilog, is_prolog_at, is_epilog_at, home_of, open_before, home}
 use Rattle.lg_node.specs.Preparations.{prepared_behind, prepared_before, pushed_of}
 use Rattle.lg_node.specs.Labels.{place_of, is_labelled, is_at, is_entry, is_inside, is_behind_prolog}
-use Rattle.lg_node.specs.Checks.{FailsAll, refuses, kinds, may_stand_outside, is_begun, is_astray, any_by_form, needs_preparation, breaks_preparation, is_ellipsis, is_bad_call, is_arg, is_pusharg, pushes_too_many, args_before, locals_before, IsAccepted}
+use Rattle.lg_node.specs.Checks.{FailsAll, refuses, kinds, may_stand_outside, is_begun, is_astray, any_by_form, needs_preparation, breaks_preparation, is_ellipsis, is_bad_call, is_arg, is_pusharg, pushes_too_many, args_before, IsAccepted}
 use Rattle.lg_node.specs.Walks.{walk_at, IsWithinLimits}
 use Rattle.lg_node.specs.ShapeLaws.{has_target, has_callee, IsTargetIn, IsEntry, JumpsTo, IsWellShaped}
 use Rattle.lg_node.proofs.AcceptedLaws.{is_closed}
 use Rattle.lg_node.proofs.FunctionLaws.{node_within, home_within, home_from, home_next, goes_on, Begins, home_cases}
 use Rattle.lg_node.proofs.LimitLemmas.{not_refused, limits_before, or_false}
-use Rattle.lg_node.proofs.WalkLemmas.{home_here, open_on, open_below, prepared_start, prepared_on}
+use Rattle.lg_node.proofs.WalkLemmas.{home_here, open_below, prepared_start, prepared_on}
 
 and_false : (x y : Bool) → (x && y) ≡ false → x ≡ true → y ≡ false
 and_false true y e h = e

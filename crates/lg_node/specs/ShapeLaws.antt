@@ -1,5 +1,5 @@
 -- What holds of every accepted text: laws for the crates that assemble and run it.
-use Rattle.std.specs.Prelude.{◌≡◌, ◌⊎◌, ℕ, ◌+◌, ◌<◌, ◌≤◌, Bool, true, false, not, ◌||◌, List, ◌∷◌, Option, Some, None, is_some, length, slice_get}
+use Rattle.std.specs.Prelude.{◌≡◌, ◌⊎◌, ℕ, ◌+◌, ◌<◌, ◌≤◌, Bool, true, false, ◌||◌, List, ◌∷◌, Option, Some, None, is_some, length, slice_get}
 use Rattle.std.specs.List.{All}
 use Rattle.lg_base.specs.declared.refusal.Refusal.{Refusal}
 use Rattle.lg_op.specs.declared.op.Op.{Op}
@@ -18,7 +18,7 @@ use Rattle.lg_node.specs.Nodes.{LabelledNodes}
 use Rattle.lg_node.specs.Functions.{is_prolog_at, is_epilog_at, home, functions, function_of, function_at, IsFunction}
 use Rattle.lg_node.specs.Preparations.{prepared_before}
 use Rattle.lg_node.specs.Labels.{place_of, is_labelled, is_taken}
-use Rattle.lg_node.specs.Checks.{FailsAll, refuses, kinds, needs_preparation, breaks_preparation, is_arg, is_pusharg, args_before, locals_before, IsAccepted, IsRefused}
+use Rattle.lg_node.specs.Checks.{FailsAll, refuses, kinds, needs_preparation, breaks_preparation, is_pusharg, args_before, locals_before, IsAccepted, IsRefused}
 use Rattle.lg_node.specs.Shapes.{TextShape, IsShapeOf, IsSuccessor}
 use Rattle.lg_node.specs.ShapeTables.{IsSmall}
 
@@ -91,7 +91,7 @@ pub record IsNumbered (functions : List Function) (i p : ℕ) : Type 0 where
 
 -- what holds of the functions of an accepted text
 pub record HasFunctions (l : LabelledNodes) : Type 0 where
-  -- each is a range of nodes, with all its nodes and no others, and has at most 65,536 bytes of locals
+  -- each is a range of nodes, with all its nodes and no others, and has at most 65,536 bytes of locals, which are whole words
   pub ranges : All (IsFunction l.nodes) (functions l.nodes)
   pub small : All IsSmall (functions l.nodes)
   -- each node of a function has that function's number

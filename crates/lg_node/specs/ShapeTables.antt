@@ -1,5 +1,5 @@
 -- How a shape is held: beside its functions and taken labels, a table with the number of each node's function.
-use Rattle.std.specs.Prelude.{◌≡◌, ℕ, ◌<◌, ◌≤◌, ◌^◌, List, Option, None, length, slice_index_or}
+use Rattle.std.specs.Prelude.{◌≡◌, ℕ, ◌%◌, ◌<◌, ◌≤◌, ◌^◌, List, Option, None, length, slice_index_or}
 use Rattle.std.specs.List.{All}
 use Rattle.lg_node.specs.Functions.{function_of}
 use Rattle.lg_node.specs.Shapes.{TextShape}
@@ -9,8 +9,10 @@ use Rattle.lg_node.specs.declared.shape.Shape.TheInside.{Inside}
 abbrev pub view_of : Inside → TextShape
 view_of s = record { functions = s.functions.items; taken = s.taken.items }
 
-abbrev pub IsSmall : Function → Type 0
-IsSmall f = f.locals ≤ 65536
+-- the locals of a function are whole words, and within their limit
+pub record IsSmall (f : Function) : Type 0 where
+  pub locals : f.locals ≤ 65536
+  pub words : f.locals % 8 ≡ 0
 
 -- a table has the number of each node's function
 abbrev pub AreNumbers : List Function → List (Option ℕ) → Type 0

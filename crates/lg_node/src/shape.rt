@@ -1,6 +1,6 @@
 // The shape of an accepted text.
 
-ghost use Rattle.std.specs.Prelude.{◌≡◌, ◌<◌, ◌≤◌, ◌^◌, length, slice_get, slice_index_or, IfSome, IfOk, Some, false};
+ghost use Rattle.std.specs.Prelude.{◌≡◌, ◌%◌, ◌<◌, ◌≤◌, ◌^◌, length, slice_get, slice_index_or, IfSome, IfOk, Some, false};
 ghost use Rattle.std.specs.List.{All};
 ghost use Rattle.lg_node.specs.ShapeTables.{IsSmall, AreNumbers};
 ghost use Rattle.std.specs.Option.{option_map};
@@ -88,14 +88,18 @@ impl Shape {
         requires { function < length self.now.functions }
         ensures value { Some result ≡ option_map (λ f. f.locals) (slice_get self.now.functions function) }
         ensures small { result ≤ 65536 }
+        ensures words { result % 8 ≡ 0 }
     {
         self.functions[function as usize].locals
     }
 
-    /// The bytes of a function's frame, a multiple of 16 of at most 65,808. The function is below `functions`.
+    /// The bytes of a function's frame, a multiple of 16 from 272 to 65,808. The function is below `functions`.
     pub fn frame(&self, function: u32) -> u32
         requires { function < length self.now.functions }
-        ensures { Some result ≡ option_map frame_of (slice_get self.now.functions function) }
+        ensures value { Some result ≡ option_map frame_of (slice_get self.now.functions function) }
+        ensures least { 272 ≤ result }
+        ensures most { result ≤ 65808 }
+        ensures whole { result % 16 ≡ 0 }
     {
         (LEAST_FRAME + self.locals(function)).div_ceil(16) * 16
     }
