@@ -1,0 +1,6 @@
+pub mod HostSteps
+pub mod Machines
+pub mod RvOperators
+pub mod RvStep
+pub mod Starts
+pub mod Steps

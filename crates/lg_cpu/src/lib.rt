@@ -1,0 +1,7 @@
+//! The processors as models: registers, memory, and steps that fetch, decode and execute bytes.
+#![tactic(auto)]
+
+pub mod answer;
+pub mod board;
+pub mod cpu;
+pub mod riscv64;
