@@ -2,6 +2,7 @@
 #![tactic(auto)]
 
 pub mod answer;
+pub mod arguments;
 pub mod board;
 pub mod cpu;
 pub mod riscv64;

@@ -3,6 +3,7 @@
 ghost use Rattle.std.specs.Prelude.{◌≡◌, ◌<◌, ◌≤◌, ◌⊎◌, slice_index};
 ghost use Rattle.lg_cpu.specs.RvStep.{store_width};
 
+mod host;
 mod operators;
 
 use self::operators::{is_taken, reg_value, shift_value};
@@ -58,7 +59,7 @@ impl Riscv64 {
     }
 
     // Goes on at an address.
-    fn go(&mut self, pc: u64) -> CpuStep
+    pub(crate) fn go(&mut self, pc: u64) -> CpuStep
         ensures { Does (goes pc (state_of self.old).registers (state_of self.old).bytes (state_of self.old).mark) self.old self.new result }
     {
         self.pc = pc;
@@ -208,7 +209,7 @@ impl Riscv64 {
     }
 
     // Fetches an instruction and executes it.
-    fn fetch(&mut self) -> CpuStep
+    pub(crate) fn fetch(&mut self) -> CpuStep
         ensures { Does (fetch self.old.board.code.items (state_of self.old)) self.old self.new result }
     {
         if self.pc % 4 != 0 {
