@@ -1,2 +1,4 @@
 mod ArgumentLemmas
 mod CallLemmas
+mod ShownLemmas
+mod StartLemmas

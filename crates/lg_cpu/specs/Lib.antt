@@ -1,3 +1,4 @@
+pub mod Answers
 pub mod HostSteps
 pub mod Machines
 pub mod RvOperators

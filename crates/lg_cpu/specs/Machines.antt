@@ -4,18 +4,15 @@ use Rattle.std.specs.Io.KnownBytes.{Appends}
 use Rattle.lg_base.specs.Parts.{byte_at}
 use Rattle.lg_io.specs.Counts.{Rose}
 use Rattle.lg_io.specs.Wrote.{AppendsPrefix}
-use Rattle.lg_cpu.specs.Steps.{Progress, Goes, EndedWith, Faulted, Effect}
-use Rattle.lg_cpu.specs.RvStep.{RvState}
+use Rattle.lg_base.specs.Spaces.{stored}
+use Rattle.lg_cpu.specs.Steps.{Progress, Goes, EndedWith, Faulted, Effect, arrived}
+use Rattle.lg_cpu.specs.Answers.{answer_of, counted}
+use Rattle.lg_cpu.specs.HostSteps.{put}
+use Rattle.lg_cpu.specs.RvStep.{RvState, effect}
 use Rattle.lg_cpu.specs.declared.riscv64.Riscv64.{Riscv64}
 use Rattle.lg_cpu.specs.declared.cpu.Cpu.{Cpu}
 use Rattle.lg_cpu.specs.declared.answer.CpuStep.{CpuStep}
 use Rattle.lg_cpu.specs.declared.answer.CpuStep.TheVariants as cpu
-
--- the answer of a step behind which a run has come so far
-abbrev pub answer_of : Progress → CpuStep
-answer_of Goes = cpu.Went
-answer_of (EndedWith status) = cpu.Ended status
-answer_of (Faulted kind) = cpu.Fault kind
 
 -- ---- the RV64IM processor
 
@@ -42,3 +39,51 @@ Comes e old new taken taken' answer = (answer ≡ answer_of e.progress) × (stat
 abbrev pub StepSays : Effect RvState → Riscv64 → Riscv64 → Option (List ℕ) → Option (List ℕ) → ℕ → ℕ → CpuStep → Type 0
 StepSays e old new taken taken' count count' cpu.WriteFault = (state_of new ≡ state_of old) × (fixed_of new ≡ fixed_of old) × Rose count count' × AppendsPrefix taken taken' e.written
 StepSays e old new taken taken' count count' answer = Comes e old new taken taken' answer
+
+-- ---- the public processor
+
+-- what is seen of it: the code, the word that registers hold which nothing has set, the state, what its steps answer (Went
+-- while the run goes on), and how many instructions and host steps went or ended
+pub record Shown : Type 0 where
+  pub code : List ℕ
+  pub trash : ℕ
+  pub state : RvState
+  pub answer : CpuStep
+  pub steps : ℕ
+
+abbrev pub shown : Cpu → Shown
+shown c = record {
+  code = (fixed_of c.processor).code;
+  trash = (fixed_of c.processor).trash;
+  state = state_of c.processor;
+  answer = c.answer;
+  steps = c.steps
+}
+
+-- behind a step with this effect
+abbrev pub after_step : Effect RvState → Shown → Shown
+after_step e s = record s { state = e.to; answer = answer_of e.progress; steps = counted (answer_of e.progress) s.steps }
+
+-- a step of a run that goes on has this effect; where a write fails a part of its output was written, the sink's count of
+-- faults rose, and nothing else changed
+abbrev pub StepShows : Effect RvState → Shown → Shown → Option (List ℕ) → Option (List ℕ) → ℕ → ℕ → CpuStep → Type 0
+StepShows e old new taken taken' count count' cpu.WriteFault = (new ≡ record old { answer = cpu.WriteFault }) × Rose count count' × AppendsPrefix taken taken' e.written
+StepShows e old new taken taken' count count' answer = (answer ≡ answer_of e.progress) × (new ≡ after_step e old) × Appends taken taken' e.written
+
+-- a run that is over answers what it answered, and nothing changes
+abbrev pub SaysAfter : CpuStep → Effect RvState → Shown → Shown → Option (List ℕ) → Option (List ℕ) → ℕ → ℕ → CpuStep → Type 0
+SaysAfter cpu.Went e old new taken taken' count count' answer = StepShows e old new taken taken' count count' answer
+SaysAfter before e old new taken taken' count count' answer = (answer ≡ before) × (new ≡ old) × (taken' ≡ taken) × (count' ≡ count)
+
+abbrev pub CpuSays : Shown → Shown → Option (List ℕ) → Option (List ℕ) → ℕ → ℕ → CpuStep → Type 0
+CpuSays old new taken taken' count count' answer = SaysAfter old.answer (effect old.code old.trash old.state) old new taken taken' count count' answer
+
+-- a register is set, the run goes on elsewhere, bytes are stored
+abbrev pub after_set : Shown → ℕ → ℕ → Shown
+after_set s number value = record s { state = record { pc = s.state.pc; registers = put s.state.registers number value; bytes = s.state.bytes; mark = s.state.mark } }
+
+abbrev pub after_jump : Shown → ℕ → Shown
+after_jump s pc = record s { state = record { pc = pc; registers = s.state.registers; bytes = s.state.bytes; mark = s.state.mark }; answer = answer_of (arrived pc) }
+
+abbrev pub after_store : Shown → ℕ → ℕ → ℕ → Shown
+after_store s address width value = record s { state = record { pc = s.state.pc; registers = s.state.registers; bytes = stored s.state.bytes address width value; mark = s.state.mark } }

@@ -6,3 +6,4 @@ pub mod arguments;
 pub mod board;
 pub mod cpu;
 pub mod riscv64;
+mod start;

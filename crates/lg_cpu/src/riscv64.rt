@@ -5,6 +5,7 @@ ghost use Rattle.lg_cpu.specs.RvStep.{store_width};
 
 mod host;
 mod operators;
+mod start;
 
 use self::operators::{is_taken, reg_value, shift_value};
 use crate::answer::CpuStep;
