@@ -1,4 +1,9 @@
 mod ArgumentLemmas
 mod CallLemmas
+mod CountLemmas
+mod FaultLemmas
+mod OperatorLemmas
+pub mod RunLemmas
 mod ShownLemmas
+pub mod SoundLemmas
 mod StartLemmas

@@ -52,13 +52,13 @@ eight k xs fits =
     (then_next 0 (k + 7) (k + 8) xs (omega arith) (omega (arith, fits)))))))))
 
 -- a word that is not 0, and one that is
-word_more : (n j : ℕ) (xs : List ℕ) → n ≡ suc j → from_le_bytes w64 (take 8 xs) ≢ 0 → words_before_zero n xs ≡ suc (words_before_zero j (drop 8 xs))
+pub word_more : (n j : ℕ) (xs : List ℕ) → n ≡ suc j → from_le_bytes w64 (take 8 xs) ≢ 0 → words_before_zero n xs ≡ suc (words_before_zero j (drop 8 xs))
 unfolding words_before_zero
 word_more n j xs e other =
     let test : (from_le_bytes w64 (take 8 xs) == 0) ≡ false = grind (arith, other) in
     ap (λ k. words_before_zero k xs) e ∙ ap (λ b. if b then 0 else suc (words_before_zero j (drop 8 xs))) test
 
-word_stop : (n j : ℕ) (xs : List ℕ) → n ≡ suc j → from_le_bytes w64 (take 8 xs) ≡ 0 → words_before_zero n xs ≡ 0
+pub word_stop : (n j : ℕ) (xs : List ℕ) → n ≡ suc j → from_le_bytes w64 (take 8 xs) ≡ 0 → words_before_zero n xs ≡ 0
 unfolding words_before_zero
 word_stop n j xs e same = ap (λ k. words_before_zero k xs) e ∙ ap (λ b. if b then 0 else suc (words_before_zero j (drop 8 xs))) (eq-eqb (from_le_bytes w64 (take 8 xs)) 0 same)
 

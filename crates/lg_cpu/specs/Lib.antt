@@ -1,5 +1,6 @@
 pub mod Answers
 pub mod HostSteps
+pub mod Laws
 pub mod Machines
 pub mod RvOperators
 pub mod RvStep

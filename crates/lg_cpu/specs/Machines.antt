@@ -57,7 +57,7 @@ shown c = record {
   trash = (fixed_of c.processor).trash;
   state = state_of c.processor;
   answer = c.answer;
-  steps = c.steps
+  steps = c.steps;
 }
 
 -- behind a step with this effect

@@ -138,7 +138,7 @@ host_effect (Gives value changes mark bytes) trash q =
     record {
       to = record { pc = q.registers 1; registers = behind_call target.Riscv64 32 q.registers trash value; bytes = over changes q.bytes; mark = mark };
       progress = arrived (q.registers 1);
-      written = bytes
+      written = bytes;
     }
 host_effect (Exits status) trash q = record { to = q; progress = EndedWith status; written = [] }
 host_effect Undefined trash q = faults q Host

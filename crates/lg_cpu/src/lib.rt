@@ -5,5 +5,6 @@ pub mod answer;
 pub mod arguments;
 pub mod board;
 pub mod cpu;
+pub mod laws;
 pub mod riscv64;
 mod start;

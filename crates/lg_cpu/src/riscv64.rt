@@ -14,7 +14,7 @@ use lg_base::fault::FaultKind;
 use lg_base::number::sign_extended;
 use lg_base::wide::sign_part;
 use lg_base::word::sign_extend_32;
-use lg_rv::{ImmOp, Instr, StoreOp, UpperOp, RegOp, decode};
+use lg_rv::{ImmOp, Instr, RegOp, StoreOp, UpperOp, decode};
 
 const STOP: u64 = 0x0FE0_0000;
 
@@ -91,7 +91,11 @@ impl Riscv64 {
         }
         match self.board.memory.load(address, width) {
             Some(value) => {
-                let value = if signed { sign_part(value, width) } else { value };
+                let value = if signed {
+                    sign_part(value, width)
+                } else {
+                    value
+                };
                 self.set(register, value)
             }
             None => CpuStep::Fault(FaultKind::Memory),
@@ -178,7 +182,10 @@ impl Riscv64 {
                 op: UpperOp::Auipc,
                 rd,
                 imm,
-            } => self.set(rd, self.pc.wrapping_add(sign_extend_32(u64::from(imm) * 4096))),
+            } => self.set(
+                rd,
+                self.pc.wrapping_add(sign_extend_32(u64::from(imm) * 4096)),
+            ),
             Instr::Jal { rd, offset } => self.jump(rd, self.pc.wrapping_add(sign_extended(offset))),
             Instr::Branch {
                 op,

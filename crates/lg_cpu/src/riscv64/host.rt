@@ -46,22 +46,7 @@ fn register_arguments(registers: &[u64; 32]) -> Arguments
     let r = registers;
     Arguments::first(
         [
-            r[10],
-            r[11],
-            r[12],
-            r[13],
-            r[14],
-            r[15],
-            r[16],
-            r[17],
-            0,
-            0,
-            0,
-            0,
-            0,
-            0,
-            0,
-            0,
+            r[10], r[11], r[12], r[13], r[14], r[15], r[16], r[17], 0, 0, 0, 0, 0, 0, 0, 0,
         ],
         8,
     )

@@ -5,7 +5,9 @@ ghost use Rattle.lg_base.specs.Words.{zero_32};
 ghost use Rattle.lg_cpu.specs.RvOperators.{divided, left_over, divided_signed, left_over_signed, reg_value, shift_value, is_taken};
 
 use lg_base::wide::{mul_high, mul_high_mixed, mul_high_u};
-use lg_base::word::{divide_signed, less_signed, remain_signed, shift_right_signed, sign_extend_32};
+use lg_base::word::{
+    divide_signed, less_signed, remain_signed, shift_right_signed, sign_extend_32,
+};
 use lg_rv::{BranchOp, RegOp, ShiftOp};
 
 // The low 32 bits.

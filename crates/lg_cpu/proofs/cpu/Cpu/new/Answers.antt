@@ -13,6 +13,6 @@ returns c =
     let count = c.argument_count.ensures ∙ ap argument_count c.as_slice-4.ensures.value in
     let registers = ap (λ n. start_registers n c.args.trash) count in
     same_shown _ _ _ c.args.code.now.items c.args.trash (start_state c.args.image.now c.args.args.now c.args.trash) _ 0
-      (ap (λ b. b.code.items) board ∙ c.in_ok-of.ensures.items ∙ c.as_slice.ensures.value)
-      (ap (λ b. b.trash) board)
-      (c.new-2.ensures.state ∙ same_state _ _ _ _ _ _ _ registers bytes c.new.ensures)
+    (ap (λ b. b.code.items) board ∙ c.in_ok-of.ensures.items ∙ c.as_slice.ensures.value)
+    (ap (λ b. b.trash) board)
+    (c.new-2.ensures.state ∙ same_state _ _ _ _ _ _ _ registers bytes c.new.ensures)
