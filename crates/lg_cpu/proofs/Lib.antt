@@ -7,3 +7,4 @@ pub mod RunLemmas
 mod ShownLemmas
 pub mod SoundLemmas
 mod StartLemmas
+pub mod StepLemmas

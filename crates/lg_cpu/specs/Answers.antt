@@ -10,6 +10,13 @@ answer_of Goes = cpu.Went
 answer_of (EndedWith status) = cpu.Ended status
 answer_of (Faulted kind) = cpu.Fault kind
 
+-- how far a run has come behind which a step answers this; a write that failed leaves the run where it was
+abbrev pub progress_of : CpuStep → Progress
+progress_of cpu.Went = Goes
+progress_of (cpu.Ended status) = EndedWith status
+progress_of (cpu.Fault kind) = Faulted kind
+progress_of cpu.WriteFault = Goes
+
 -- steps that go or end the run are counted
 abbrev pub is_counted : CpuStep → Bool
 is_counted cpu.Went = true

@@ -1,5 +1,5 @@
 -- What holds of every step of the RV64IM processor, and of its start.
-use Rattle.std.specs.Prelude.{◌≡◌, ℕ, ◌+◌, ◌-◌, ◌%◌, ◌^◌, ◌<◌, ◌≤◌, List, [], ◌++◌, length, drop, slice_index, Some, ⊤}
+use Rattle.std.specs.Prelude.{◌≡◌, ◌≢◌, ℕ, ◌+◌, ◌-◌, ◌%◌, ◌^◌, ◌<◌, ◌≤◌, List, [], ◌++◌, length, drop, slice_index, Some, ⊤}
 use Rattle.lg_base.specs.Layout.{code_base}
 use Rattle.lg_base.specs.Arguments.{args_of, most_args}
 use Rattle.lg_base.specs.Runs.{IsMachine}
@@ -8,7 +8,15 @@ use Rattle.lg_rv.specs.Spelling.{IsInstr, spelling}
 use Rattle.lg_rv.specs.declared.instruction.Instr.{Instr}
 use Rattle.lg_cpu.specs.Starts.{argument_count}
 use Rattle.lg_cpu.specs.Steps.{Progress, Goes, EndedWith, Faulted, Effect, machine}
-use Rattle.lg_cpu.specs.RvStep.{RvState, act, effect}
+use Rattle.lg_cpu.specs.RvStep.{RvState, act, effect, rv_step}
+use Rattle.lg_cpu.specs.Machines.{Shown, CpuSays, run_of}
+use Rattle.lg_cpu.specs.declared.answer.CpuStep.{CpuStep}
+use Rattle.lg_cpu.specs.declared.answer.CpuStep.TheVariants as cpu
+
+-- ---- a step that is answered without a failed write is the step of the definition; code and trash word stay
+abbrev pub StepsAreThose : Type 0
+StepsAreThose = (old new : Shown) (out out' : List ℕ) (count count' : ℕ) (answer : CpuStep) → CpuSays old new (Some out) (Some out') count count' answer → answer ≢ cpu.WriteFault
+    → (run_of new out' ≡ rv_step old.code old.trash (run_of old out)) × (new.code ≡ old.code) × (new.trash ≡ old.trash)
 
 -- ---- where an instruction stands, the step is the instruction's
 abbrev pub ExecutesWhatStands : Type 0

@@ -5,8 +5,8 @@ use Rattle.lg_base.specs.Parts.{byte_at}
 use Rattle.lg_io.specs.Counts.{Rose}
 use Rattle.lg_io.specs.Wrote.{AppendsPrefix}
 use Rattle.lg_base.specs.Spaces.{stored}
-use Rattle.lg_cpu.specs.Steps.{Progress, Goes, EndedWith, Faulted, Effect, arrived}
-use Rattle.lg_cpu.specs.Answers.{answer_of, counted}
+use Rattle.lg_cpu.specs.Steps.{Progress, Goes, EndedWith, Faulted, Effect, Run, arrived}
+use Rattle.lg_cpu.specs.Answers.{answer_of, progress_of, counted}
 use Rattle.lg_cpu.specs.HostSteps.{put}
 use Rattle.lg_cpu.specs.RvStep.{RvState, effect}
 use Rattle.lg_cpu.specs.declared.riscv64.Riscv64.{Riscv64}
@@ -77,6 +77,10 @@ SaysAfter before e old new taken taken' count count' answer = (answer ≡ before
 
 abbrev pub CpuSays : Shown → Shown → Option (List ℕ) → Option (List ℕ) → ℕ → ℕ → CpuStep → Type 0
 CpuSays old new taken taken' count count' answer = SaysAfter old.answer (effect old.code old.trash old.state) old new taken taken' count count' answer
+
+-- the run of which this is seen, where these bytes were written
+abbrev pub run_of : Shown → List ℕ → Run RvState
+run_of s out = record { state = s.state; progress = progress_of s.answer; out = out }
 
 -- a register is set, the run goes on elsewhere, bytes are stored
 abbrev pub after_set : Shown → ℕ → ℕ → Shown

@@ -1,6 +1,11 @@
 // What holds of every step and of the start, for the crates above. The functions do nothing: their contracts are the laws.
 
-ghost use Rattle.lg_cpu.specs.Laws.{ExecutesWhatStands, FaultsChangeNothing, StaysSound, RunsAreMachines, CountsArguments};
+ghost use Rattle.lg_cpu.specs.Laws.{StepsAreThose, ExecutesWhatStands, FaultsChangeNothing, StaysSound, RunsAreMachines, CountsArguments};
+
+/// A call of `step` makes the step of the definition, unless a write fails.
+pub fn steps_are_those_of_the_definition()
+    ensures { StepsAreThose }
+{}
 
 /// Where the program counter is the address of an instruction's spelling in the code, the step is the instruction's.
 pub fn what_stands_is_executed()

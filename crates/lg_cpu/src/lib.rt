@@ -2,9 +2,11 @@
 #![tactic(auto)]
 
 pub mod answer;
-pub mod arguments;
-pub mod board;
+mod arguments;
+mod board;
 pub mod cpu;
 pub mod laws;
-pub mod riscv64;
+mod riscv64;
 mod start;
+#[cfg(test)]
+mod tests;
