@@ -1,2 +1,3 @@
+pub mod Abis
 pub mod Agrees
 pub mod Carries

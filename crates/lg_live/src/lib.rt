@@ -1,0 +1,5 @@
+//! Which registers a node reads and writes.
+#![tactic(auto)]
+
+pub mod reg_set;
+pub mod uses;
