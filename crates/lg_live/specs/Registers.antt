@@ -1,5 +1,5 @@
 -- The registers by their numbers and bits.
-use Rattle.std.specs.Prelude.{ℕ, ◌==◌, Bool}
+use Rattle.std.specs.Prelude.{ℕ, ◌==◌, ◌&&◌, nat_lt, Bool}
 use Rattle.lg_node.specs.declared.operand.Reg.{Reg}
 use Rattle.lg_node.specs.declared.operand.Reg.TheVariants.{R0, R1, R2, V0, V1, V2, Fp}
 
@@ -12,8 +12,9 @@ number_of V1 = 4
 number_of V2 = 5
 number_of Fp = 6
 
+-- whether both are one register, other than FP, which is in no set
 abbrev pub is_same : Reg → Reg → Bool
-is_same q r = number_of q == number_of r
+is_same q r = (number_of q == number_of r) && nat_lt (number_of r) 6
 
 -- the bit in a set; FP has none
 abbrev pub bit_of : Reg → ℕ

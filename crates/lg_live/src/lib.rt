@@ -2,4 +2,6 @@
 #![tactic(auto)]
 
 pub mod reg_set;
+#[cfg(test)]
+mod tests;
 pub mod uses;

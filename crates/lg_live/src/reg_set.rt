@@ -1,6 +1,6 @@
 // Sets of registers.
 
-ghost use Rattle.std.specs.Prelude.{◌≡◌, ◌≢◌, ◌||◌, false, ⊤, [], ◌∷◌, codes};
+ghost use Rattle.std.specs.Prelude.{◌≡◌, ◌||◌, false, ⊤, [], ◌∷◌, codes};
 ghost use Rattle.lg_node.specs.declared.operand.Reg.{Reg};
 ghost use Rattle.lg_live.specs.Registers.{bit_of, is_same};
 
@@ -60,11 +60,12 @@ fn bit_of(reg: Reg) -> u8
 }
 
 impl RegSet {
-    ghost use Rattle.lg_live.specs.RegSets.{has};
+    ghost use Rattle.lg_live.specs.RegSets.{has, IsSmall};
 
     /// The set without registers.
     pub fn none() -> RegSet
-        ensures { (r : Reg) → has result r ≡ false }
+        ensures none { (r : Reg) → has result r ≡ false }
+        ensures small { IsSmall result }
     {
         RegSet(0)
     }
@@ -78,7 +79,8 @@ impl RegSet {
 
     /// The set with a register more. FP is in none.
     pub fn with(self, reg: Reg) -> RegSet
-        ensures { (r : Reg) → r ≢ Reg.Fp → has result r ≡ (has self r || is_same reg r) }
+        ensures more { (r : Reg) → has result r ≡ (has self r || is_same reg r) }
+        ensures small { IsSmall self → IsSmall result }
     {
         RegSet(self.0 | bit_of(reg))
     }

@@ -1,8 +1,8 @@
 // The registers that a node reads and writes.
 
-ghost use Rattle.std.specs.Prelude.{◌≡◌, ◌≢◌, ◌||◌};
+ghost use Rattle.std.specs.Prelude.{◌≡◌, ◌||◌};
 ghost use Rattle.lg_node.specs.declared.operand.Reg.{Reg};
-ghost use Rattle.lg_live.specs.RegSets.{has};
+ghost use Rattle.lg_live.specs.RegSets.{has, IsSmall};
 ghost use Rattle.lg_live.specs.Uses.{is_for, names, is_call, is_read, is_written};
 
 use crate::reg_set::RegSet;
@@ -29,7 +29,8 @@ fn is_for(access: Access, form: Form) -> bool
 
 // The registers that operands name for this access.
 fn named(access: Access, forms: &[Form], operands: &[Operand]) -> RegSet
-    ensures { (r : Reg) → r ≢ Reg.Fp → has result r ≡ names access forms.now operands.now r }
+    ensures registers { (r : Reg) → has result r ≡ names access forms.now operands.now r }
+    ensures small { IsSmall result }
 {
     match forms {
         [] => RegSet::none(),
@@ -55,14 +56,16 @@ fn is_call(op: Op) -> bool
 
 /// The registers of R0 to V2 that a node reads.
 pub fn reads(node: &Node) -> RegSet
-    ensures { (r : Reg) → r ≢ Reg.Fp → has result r ≡ is_read node.now r }
+    ensures registers { (r : Reg) → has result r ≡ is_read node.now r }
+    ensures small { IsSmall result }
 {
     named(Access::Read, node.op.forms(), node.operands.as_slice())
 }
 
 /// The registers of R0 to V2 that a node writes. A call writes R0, R1 and R2.
 pub fn writes(node: &Node) -> RegSet
-    ensures { (r : Reg) → r ≢ Reg.Fp → has result r ≡ is_written node.now r }
+    ensures registers { (r : Reg) → has result r ≡ is_written node.now r }
+    ensures small { IsSmall result }
 {
     let written = named(Access::Write, node.op.forms(), node.operands.as_slice());
     if is_call(node.op) {
