@@ -24,8 +24,8 @@ pub struct Abi {
     pub target: Target,
 }
 
-// The registers of the first arguments.
-fn argument_registers(target: Target) -> &'static [u8]
+/// The registers of the first arguments.
+pub fn argument_registers(target: Target) -> &'static [u8]
     ensures { result.now ≡ argument_registers target }
 {
     match target {

@@ -3,6 +3,10 @@
 #![tactic(auto)]
 
 pub mod abi;
+pub mod choice;
+pub mod choose;
+#[cfg(test)]
+mod tests;
 
 ghost use Rattle.std.specs.Prelude.{◌≡◌, ℕ};
 ghost use Rattle.lg_base.specs.Runs.{Machine, IsMachine, EndsSilently};
