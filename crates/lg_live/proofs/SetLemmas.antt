@@ -1,5 +1,5 @@
 -- Sets of registers have no other bits.
-use Rattle.std.proofs.Common.{ℕ, ◌^◌, ◌<◌, arith}
+use Rattle.std.proofs.Common.{ℕ, ◌<◌, arith}
 use Rattle.std.specs.Prelude.{bit_or}
 use Rattle.std.proofs.lemmas.Nat.{or_lt}
 use Rattle.lg_node.specs.declared.operand.Reg.{Reg}

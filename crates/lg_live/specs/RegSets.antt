@@ -1,5 +1,5 @@
 -- Sets of registers.
-use Rattle.std.specs.Prelude.{ℕ, ◌==◌, ◌<◌, not, Bool, bit_and}
+use Rattle.std.specs.Prelude.{◌==◌, ◌<◌, not, Bool, bit_and}
 use Rattle.lg_node.specs.declared.operand.Reg.{Reg}
 use Rattle.lg_live.specs.Registers.{bit_of}
 use Rattle.lg_live.specs.declared.reg_set.RegSet.{RegSet}

@@ -1,6 +1,6 @@
 -- Which registers a node reads and writes: those that its operands name at the places of the instruction table that read
 -- and write, and a call writes R0, R1 and R2.
-use Rattle.std.specs.Prelude.{ℕ, ◌==◌, Bool, true, false, ◌&&◌, ◌||◌, nat_lt, List, [], ◌∷◌}
+use Rattle.std.specs.Prelude.{Bool, true, false, ◌&&◌, ◌||◌, nat_lt, List, ◌∷◌}
 use Rattle.lg_node.specs.Forms.{forms_of}
 use Rattle.lg_node.specs.declared.node.Node.{Node}
 use Rattle.lg_node.specs.declared.op.Op.{Op}

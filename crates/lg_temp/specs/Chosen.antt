@@ -1,5 +1,5 @@
 -- Which registers the temporaries of a node take.
-use Rattle.std.specs.Prelude.{ℕ, ◌+◌, ◌==◌, ◌&&◌, ◌||◌, not, Bool, true, false, List, [], ◌∷◌, ◌++◌, take, drop, reverse, find, unwrap_or, Option, Some, None, if◌then◌else◌}
+use Rattle.std.specs.Prelude.{ℕ, ◌+◌, ◌==◌, ◌&&◌, ◌||◌, not, Bool, false, List, [], ◌∷◌, ◌++◌, take, drop, reverse, find, unwrap_or, Option, Some, None, if◌then◌else◌}
 use Rattle.std.specs.List.{list_any}
 use Rattle.lg_base.specs.Conventions.{argument_registers, portable_registers}
 use Rattle.lg_base.specs.declared.target.Target.{Target}

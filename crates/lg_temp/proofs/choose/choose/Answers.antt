@@ -1,4 +1,4 @@
-use Rattle.std.proofs.Common.{◌≡◌, List, Bool, ◌∙◌, ap}
+use Rattle.std.proofs.Common.{◌≡◌, List, Bool, ◌∙◌}
 use mathlib.Core.Path.{fun_ext}
 use Rattle.lg_base.specs.declared.target.Target.{Target}
 use Rattle.lg_node.specs.declared.operand.Reg.{Reg}
