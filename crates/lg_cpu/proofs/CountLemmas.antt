@@ -1,15 +1,14 @@
 -- The number of arguments is that of the words.
-use Rattle.std.proofs.Common.{◌≡◌, ◌≢◌, ℕ, zero, suc, ◌+◌, ◌-◌, ◌*◌, ◌/◌, ◌^◌, ◌<◌, ◌≤◌, List, [], ◌∷◌, ◌++◌, length, take, drop, refl, sym, ap, ◌∙◌, arith, append_assoc}
+use Rattle.std.proofs.Common.{◌≡◌, ◌≢◌, ℕ, suc, ◌+◌, ◌-◌, ◌*◌, ◌/◌, ◌^◌, ◌<◌, List, [], ◌∷◌, ◌++◌, length, take, ap, ◌∙◌, arith, append_assoc}
 use Rattle.std.specs.Prelude.{sum_by}
 use Rattle.std.specs.Int.{w64, from_le_bytes, to_le_bytes}
 use Rattle.std.proofs.Math.Seq.{take-append_seam, drop-append_seam}
 use Rattle.std.proofs.lemmas.Nat.{from_le_bytes-to_le_bytes_8}
 use Rattle.std.proofs.lemmas.List.Sums.{sum_by-cons}
 use Rattle.lg_base.specs.Parts.{args_base}
-use Rattle.lg_base.specs.Arguments.{strings, pointers, args_of, most_args}
-use Rattle.lg_base.specs.Lengths.{args_len}
+use Rattle.lg_base.specs.Arguments.{strings, pointers, args_of}
 use Rattle.lg_base.proofs.ArgumentLemmas.{length-args_of}
-use Rattle.lg_cpu.specs.Starts.{words_before_zero, argument_count}
+use Rattle.lg_cpu.specs.Starts.{words_before_zero}
 use Rattle.lg_cpu.specs.Laws.{CountsArguments}
 use Rattle.lg_cpu.proofs.StartLemmas.{word_more, word_stop}
 

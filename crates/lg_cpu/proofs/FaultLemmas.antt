@@ -1,6 +1,6 @@
 -- A step that faults leaves everything as it was.
-use Rattle.std.proofs.Common.{◌≡◌, ℕ, ◌+◌, ◌-◌, ◌/◌, ◌*◌, ◌%◌, Bool, true, false, List, drop, Option, Some, None, refl}
-use Rattle.std.specs.Prelude.{◌==◌, ⊤, if◌then◌else◌}
+use Rattle.std.proofs.Common.{ℕ, ◌-◌, ◌/◌, ◌*◌, ◌%◌, Bool, true, false, List, drop, Option, Some, None, refl}
+use Rattle.std.specs.Prelude.{◌==◌, if◌then◌else◌}
 use Rattle.lg_base.specs.Fields.{word_of}
 use Rattle.lg_base.specs.Layout.{stop_address, code_base}
 use Rattle.lg_base.specs.Spaces.{mapped, loaded, stored, readable}
@@ -17,10 +17,10 @@ use Rattle.lg_rv.specs.declared.instruction.Instr.TheVariants.{Upper, Jal, Branc
 use Rattle.lg_rv.specs.declared.instruction.UpperOp.TheVariants.{Lui, Auipc}
 use Rattle.lg_rv.specs.declared.instruction.ImmOp.{ImmOp}
 use Rattle.lg_rv.specs.declared.instruction.ImmOp.TheVariants.{Jalr, Lb, Lh, Lw, Ld, Lbu, Lhu, Lwu, Addi, Slti, Sltiu, Xori, Ori, Andi, Addiw}
-use Rattle.lg_cpu.specs.Steps.{Effect, Progress, Goes, EndedWith, Faulted, arrived, faults}
+use Rattle.lg_cpu.specs.Steps.{Effect, Goes, EndedWith, arrived, faults}
 use Rattle.lg_cpu.specs.HostSteps.{argument_words, put}
 use Rattle.lg_cpu.specs.RvOperators.{is_taken}
-use Rattle.lg_cpu.specs.RvStep.{RvState, read, goes, sets, loads, load_at, store_at, store_width, jump_to, branch_to, imm_effect, act, decoded, in_code, fetch, host_effect, enter_host, effect_at, effect}
+use Rattle.lg_cpu.specs.RvStep.{RvState, read, goes, sets, loads, load_at, store_at, store_width, jump_to, branch_to, imm_effect, act, decoded, in_code, fetch, host_effect, enter_host, effect_at}
 use Rattle.lg_cpu.specs.Laws.{OnFault, IsUnchanged, FaultsChangeNothing}
 
 -- the effect is no fault, or changes nothing

@@ -1,9 +1,9 @@
 -- What the instructions compute is a word.
-use Rattle.std.proofs.Common.{◌≡◌, ℕ, ◌+◌, ◌-◌, ◌*◌, ◌/◌, ◌%◌, ◌^◌, ◌<◌, ◌≤◌, Bool, true, false, arith}
-use Rattle.std.specs.Prelude.{◌==◌, nat_lt, bit_and, bit_or, bit_xor, if◌then◌else◌}
-use Rattle.std.proofs.Math.Nat.{mod-lt, mod-le, div-le_self, div-lt_iff_lt-mul}
+use Rattle.std.proofs.Common.{ℕ, ◌+◌, ◌-◌, ◌*◌, ◌/◌, ◌%◌, ◌^◌, ◌<◌, ◌≤◌, Bool, true, false, arith}
+use Rattle.std.specs.Prelude.{◌==◌, nat_lt, bit_and, if◌then◌else◌}
+use Rattle.std.proofs.Math.Nat.{mod-lt, mod-le, div-le_self}
 use Rattle.std.proofs.lemmas.Nat.{mul-lt, and_le_l, or_lt, xor_lt}
-use Rattle.lg_base.specs.Words.{sign_32, zero_32, word_of_test, magnitude, negated, with_sign, differ, is_negative, quotient_signed, remainder_signed, high_product, extended, shifted_right_signed, complement}
+use Rattle.lg_base.specs.Words.{sign_32, zero_32, word_of_test, magnitude, with_sign, differ, is_negative, quotient_signed, remainder_signed, high_product, extended, shifted_right_signed, complement}
 use Rattle.lg_base.specs.Wide.{sign_part_of}
 use Rattle.lg_rv.specs.declared.instruction.RegOp.{RegOp}
 use Rattle.lg_rv.specs.declared.instruction.RegOp.TheVariants.{Add, Sub, Sll, Slt, Sltu, Xor, Srl, Sra, Or, And, Addw, Subw, Sllw, Srlw, Sraw, Mul, Mulh, Mulhsu, Mulhu, Div, Divu, Rem, Remu, Mulw, Divw, Divuw, Remw, Remuw}

@@ -1,6 +1,6 @@
 -- Runs are those of a machine, and what stands in the code is executed.
-use Rattle.std.proofs.Common.{◌≡◌, ◌≢◌, ℕ, ◌+◌, ◌-◌, ◌%◌, ◌<◌, ◌≤◌, Bool, true, List, [], ◌++◌, length, drop, Some, None, refl, sym, ap, ◌∙◌, arith, append-nil, length-append}
-use Rattle.std.specs.Prelude.{◌==◌, if◌then◌else◌}
+use Rattle.std.proofs.Common.{◌≡◌, ◌≢◌, ℕ, ◌+◌, ◌-◌, ◌%◌, ◌<◌, ◌≤◌, true, List, [], ◌++◌, length, drop, None, refl, sym, ap, ◌∙◌, arith, append-nil, length-append}
+use Rattle.std.specs.Prelude.{if◌then◌else◌}
 use Rattle.std.proofs.lemmas.Bool.{eq-eqb}
 use Rattle.std.proofs.lemmas.List.{length-drop}
 use Rattle.lg_base.specs.Layout.{code_base}
@@ -12,7 +12,7 @@ use Rattle.lg_rv.specs.Reading.{instr_of, front_of}
 use Rattle.lg_rv.specs.Spelling.{word_of, spelling, IsInstr}
 use Rattle.lg_rv.proofs.AgainLemmas.{read_again, word_fits}
 use Rattle.lg_cpu.specs.Steps.{Progress, Goes, EndedWith, Faulted, Effect, Run, after, on_going, stepped, status_of, machine, faults}
-use Rattle.lg_cpu.specs.RvStep.{RvState, act, decoded, in_code, fetch, effect_at, effect}
+use Rattle.lg_cpu.specs.RvStep.{decoded, in_code, effect_at, effect}
 use Rattle.lg_cpu.specs.Laws.{ExecutesWhatStands, RunsAreMachines}
 
 stays : {S : Type 0} (f : S → Effect S) (r : Run S) (p : Progress) → r.progress ≡ p → status_of p ≢ Running → stepped f r ≡ r

@@ -1,22 +1,20 @@
 -- Words stay words.
-use Rattle.std.proofs.Common.{◌≡◌, ℕ, zero, suc, ◌+◌, ◌-◌, ◌*◌, ◌/◌, ◌%◌, ◌^◌, ◌<◌, ◌≤◌, Bool, true, false, List, [], ◌∷◌, ◌++◌, length, drop, map, Option, Some, None, refl, sym, ap, ◌∙◌, arith}
+use Rattle.std.proofs.Common.{◌≡◌, ℕ, zero, suc, ◌+◌, ◌-◌, ◌*◌, ◌/◌, ◌%◌, ◌^◌, ◌<◌, Bool, true, false, List, [], ◌∷◌, ◌++◌, drop, map, Option, Some, None, refl, arith}
 use Rattle.std.specs.Prelude.{◌==◌, ◌&&◌, not, nat_lt, slice_index, is_some, unwrap_or, IfSome, ℤ, pos, negsuc, ◌≤ℤ◌, if◌then◌else◌}
 use Rattle.std.proofs.lemmas.Int.{ints}
 use Rattle.std.proofs.lemmas.List.{get_or-drop}
 use Rattle.lg_base.specs.Fields.{word_of}
-use Rattle.lg_base.specs.Layout.{code_base, stop_address}
+use Rattle.lg_base.specs.Layout.{code_base}
 use Rattle.lg_base.specs.Words.{add_words, sign_32}
 use Rattle.lg_base.specs.Spaces.{put_some, mapped, number_at, byte_or_zero, loaded, stored, readable}
 use Rattle.lg_base.specs.Conventions.{is_kept, argument_registers}
 use Rattle.lg_base.specs.HostNames.{host_by_address}
 use Rattle.lg_base.specs.declared.host_name.HostName.{HostName}
 use Rattle.lg_base.specs.declared.target.Target.TheVariants as target
-use Rattle.lg_base.specs.declared.fault.FaultKind.{FaultKind}
 use Rattle.lg_base.specs.declared.fault.FaultKind.TheVariants.{Align, Memory, Fetch, Host}
 use Rattle.lg_base.proofs.SpaceLemmas.{number_at-lt}
 use Rattle.lg_base.proofs.WordFrontLemmas.{word_spells}
-use Rattle.lg_host.specs.Blocks.{Changes, over}
-use Rattle.lg_host.specs.Host.{Host as Answer, Gives, Exits, Undefined, Mem, host_of, memory, heap_end}
+use Rattle.lg_host.specs.Host.{Host as Answer, Gives, Exits, Undefined, Mem, host_of, memory}
 use Rattle.lg_host.specs.HostLaws.{OnGives, IsAllowed}
 use Rattle.lg_host.specs.HostLaws as host
 use Rattle.lg_host.proofs.HostLawLemmas.{host_of-allowed}
@@ -32,7 +30,7 @@ use Rattle.lg_rv.specs.declared.instruction.RegOp.TheVariants.{Add, Slt, Sltu, X
 use Rattle.lg_cpu.specs.Steps.{Effect, faults}
 use Rattle.lg_cpu.specs.HostSteps.{stack_words, read_before, argument_words, put, clobbered, behind_call}
 use Rattle.lg_cpu.specs.RvOperators.{reg_value, is_taken}
-use Rattle.lg_cpu.specs.RvStep.{RvState, read, goes, sets, extended_by, loads, load_at, store_at, store_width, jump_to, branch_to, imm_effect, act, decoded, in_code, fetch, host_effect, enter_host, effect_at, effect}
+use Rattle.lg_cpu.specs.RvStep.{RvState, read, goes, sets, extended_by, loads, load_at, store_at, store_width, jump_to, branch_to, imm_effect, act, decoded, in_code, fetch, host_effect, enter_host, effect_at}
 use Rattle.lg_cpu.specs.Laws.{IsSound, AreBytes, StaysSound}
 use Rattle.lg_cpu.proofs.OperatorLemmas.{low_word, sign_32_word, choice_word, reg_word, shift_word, sign_1_word, sign_2_word, sign_4_word}
 

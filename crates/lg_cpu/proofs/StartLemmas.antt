@@ -1,12 +1,12 @@
 -- Registers, memory and the number of arguments at the start.
-use Rattle.std.proofs.Common.{◌≡◌, ◌≢◌, ℕ, zero, suc, ◌+◌, ◌-◌, ◌*◌, ◌/◌, ◌<◌, ◌≤◌, List, [], ◌∷◌, length, replicate, take, drop, Option, Some, None, Bool, true, false, refl, sym, ap, ◌∙◌, arith, ⊎_elim}
+use Rattle.std.proofs.Common.{◌≡◌, ◌≢◌, ℕ, zero, suc, ◌+◌, ◌-◌, ◌*◌, ◌<◌, ◌≤◌, List, [], ◌∷◌, length, replicate, take, drop, Some, None, true, false, refl, sym, ap, ◌∙◌, arith, ⊎_elim}
 use Rattle.std.specs.Prelude.{slice_index, nat_lt, nat_le, ◌&&◌, ◌==◌, if◌then◌else◌}
 use Rattle.std.specs.Int.{w64, from_le_bytes}
 use Rattle.std.proofs.lemmas.List.{get_or-replicate, get_or_past, drop-drop}
 use Rattle.std.proofs.lemmas.Bool.{cases_lt, eq-eqb}
 use mathlib.Core.Path.{fun_ext}
 use Rattle.lg_base.specs.Parts.{Parts, IsZeroed, byte_at, in_part, has, data_base, args_base, heap_base, stack_base}
-use Rattle.lg_cpu.specs.Starts.{start_bytes, words_before_zero, argument_count}
+use Rattle.lg_cpu.specs.Starts.{start_bytes, words_before_zero}
 
 pub trash_is : (xs : List ℕ) (trash : ℕ) → xs ≡ replicate 32 trash → length xs ≡ 32 → slice_index xs ≡ (λ r. if nat_lt r 32 then trash else 0)
 trash_is xs trash e long = fun_ext (λ r. ⊎_elim

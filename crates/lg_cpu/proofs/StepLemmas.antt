@@ -1,11 +1,11 @@
 -- A call of the processor makes the step of the definition.
-use Rattle.std.proofs.Common.{◌≡◌, ◌≢◌, ℕ, List, [], ◌++◌, Option, Some, refl, sym, ap, ◌∙◌}
+use Rattle.std.proofs.Common.{◌≡◌, ◌≢◌, ℕ, List, ◌++◌, Some, refl, sym, ap, ◌∙◌}
 use Rattle.lg_cpu.specs.declared.answer.CpuStep.{CpuStep}
 use Rattle.lg_cpu.specs.declared.answer.CpuStep.TheVariants as cpu
 use Rattle.lg_cpu.specs.Steps.{Progress, Goes, EndedWith, Faulted, Effect, Run, after, on_going}
 use Rattle.lg_cpu.specs.Answers.{answer_of, progress_of}
 use Rattle.lg_cpu.specs.RvStep.{RvState, effect, rv_step}
-use Rattle.lg_cpu.specs.Machines.{Shown, StepShows, SaysAfter, CpuSays, after_step, run_of}
+use Rattle.lg_cpu.specs.Machines.{Shown, StepShows, SaysAfter, after_step, run_of}
 use Rattle.lg_cpu.specs.Laws.{StepsAreThose}
 
 back : (p : Progress) → progress_of (answer_of p) ≡ p

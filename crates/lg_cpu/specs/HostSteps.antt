@@ -1,5 +1,5 @@
 -- Steps at the entries of host functions: the arguments that a call finds, and the registers behind it.
-use Rattle.std.specs.Prelude.{ℕ, zero, suc, ◌+◌, ◌-◌, ◌==◌, ◌&&◌, not, Bool, nat_lt, List, [], ◌∷◌, ◌++◌, length, map, Option, Some, None, if◌then◌else◌}
+use Rattle.std.specs.Prelude.{ℕ, zero, suc, ◌-◌, ◌==◌, ◌&&◌, not, nat_lt, List, [], ◌∷◌, ◌++◌, length, map, Option, Some, None, if◌then◌else◌}
 use Rattle.lg_base.specs.Words.{add_words}
 use Rattle.lg_base.specs.Spaces.{loaded}
 use Rattle.lg_base.specs.Conventions.{argument_registers, result_register, is_kept}

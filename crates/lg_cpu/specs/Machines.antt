@@ -1,11 +1,11 @@
 -- What the code of the processors answers and leaves.
-use Rattle.std.specs.Prelude.{◌≡◌, ℕ, ◌+◌, List, [], Option, slice_index}
+use Rattle.std.specs.Prelude.{◌≡◌, ℕ, List, [], Option, slice_index}
 use Rattle.std.specs.Io.KnownBytes.{Appends}
 use Rattle.lg_base.specs.Parts.{byte_at}
 use Rattle.lg_io.specs.Counts.{Rose}
 use Rattle.lg_io.specs.Wrote.{AppendsPrefix}
 use Rattle.lg_base.specs.Spaces.{stored}
-use Rattle.lg_cpu.specs.Steps.{Progress, Goes, EndedWith, Faulted, Effect, Run, arrived}
+use Rattle.lg_cpu.specs.Steps.{Effect, Run, arrived}
 use Rattle.lg_cpu.specs.Answers.{answer_of, progress_of, counted}
 use Rattle.lg_cpu.specs.HostSteps.{put}
 use Rattle.lg_cpu.specs.RvStep.{RvState, effect}

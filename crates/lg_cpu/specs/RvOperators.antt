@@ -1,7 +1,7 @@
 -- What the instructions of RV64IM compute (RISC-V unprivileged ISA, "RV32I Base Integer Instruction Set", "RV64I Base
 -- Integer Instruction Set" and "M Extension"). Registers hold words of 64 bits; the rows on 32 bits end in w, and extend
 -- what they compute by its sign.
-use Rattle.std.specs.Prelude.{ℕ, ◌+◌, ◌-◌, ◌*◌, ◌/◌, ◌%◌, ◌^◌, ◌==◌, not, Bool, bit_and, bit_or, bit_xor, if◌then◌else◌}
+use Rattle.std.specs.Prelude.{ℕ, ◌-◌, ◌%◌, ◌^◌, ◌==◌, not, Bool, bit_and, bit_or, bit_xor, if◌then◌else◌}
 use Rattle.lg_base.specs.Words.{add_words, sub_words, mul_words, high_product, high_product_signed, high_product_mixed, quotient, remainder, quotient_signed, remainder_signed, shifted_left, shifted_right, shifted_right_signed, is_less, is_less_signed, word_of_test, sign_32, zero_32}
 use Rattle.lg_rv.specs.declared.instruction.BranchOp.{BranchOp}
 use Rattle.lg_rv.specs.declared.instruction.BranchOp.TheVariants.{Beq, Bne, Blt, Bge, Bltu, Bgeu}

@@ -1,6 +1,6 @@
 -- The RV64IM processor: what a step of it does, whatever the bytes are (RISC-V unprivileged ISA). A fetch, a jump and an
 -- access that are not at a multiple of their widths fault with Align, which counts before every other fault.
-use Rattle.std.specs.Prelude.{ℕ, ◌+◌, ◌-◌, ◌*◌, ◌/◌, ◌%◌, ◌==◌, ◌&&◌, Bool, true, false, nat_le, nat_lt, ℤ, List, [], length, drop, Option, Some, None, if◌then◌else◌}
+use Rattle.std.specs.Prelude.{ℕ, ◌+◌, ◌-◌, ◌*◌, ◌/◌, ◌%◌, ◌==◌, ◌&&◌, Bool, true, false, nat_le, nat_lt, List, [], length, drop, Option, Some, None, if◌then◌else◌}
 use Rattle.lg_base.specs.Fields.{word_of}
 use Rattle.lg_base.specs.Words.{add_words, sign_32}
 use Rattle.lg_base.specs.Wide.{sign_part_of}
@@ -24,7 +24,7 @@ use Rattle.lg_rv.specs.declared.instruction.StoreOp.{StoreOp}
 use Rattle.lg_rv.specs.declared.instruction.StoreOp.TheVariants.{Sb, Sh, Sw, Sd}
 use Rattle.lg_rv.specs.declared.instruction.RegOp.TheVariants.{Add, Slt, Sltu, Xor, Or, And, Addw}
 use Rattle.lg_rv.specs.Reading.{front_of}
-use Rattle.lg_cpu.specs.Steps.{Effect, EndedWith, Run, Goes, arrived, faults, stepped, machine}
+use Rattle.lg_cpu.specs.Steps.{Effect, EndedWith, Run, arrived, faults, stepped}
 use Rattle.lg_cpu.specs.HostSteps.{argument_words, put, behind_call}
 use Rattle.lg_cpu.specs.Starts.{start_bytes, argument_count}
 use Rattle.lg_cpu.specs.RvOperators.{reg_value, shift_value, is_taken}

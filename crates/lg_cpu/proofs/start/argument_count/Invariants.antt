@@ -1,4 +1,4 @@
-use Rattle.std.proofs.Common.{◌≡◌, ◌+◌, ◌-◌, ◌*◌, ◌/◌, ◌≤◌, length, drop}
+use Rattle.std.proofs.Common.{◌≡◌, ◌+◌, ◌-◌, ◌*◌, ◌≤◌, drop}
 use Rattle.lg_cpu.specs.Starts.{words_before_zero, argument_count}
 use Rattle.lg_cpu.proofs.start.argument_count.Given as goal
 

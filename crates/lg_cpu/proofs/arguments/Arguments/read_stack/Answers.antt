@@ -1,4 +1,4 @@
-use Rattle.std.proofs.Common.{◌≡◌, ◌∙◌, sym, arith}
+use Rattle.std.proofs.Common.{◌∙◌, sym, arith}
 use Rattle.std.proofs.Math.ListN.{length-set}
 use Rattle.lg_base.specs.Parts.{byte_at}
 use Rattle.lg_cpu.proofs.ArgumentLemmas.{one_more, all_read, no_more}

@@ -1,4 +1,4 @@
-use Rattle.std.proofs.Common.{◌≡◌, ◌∙◌, ap}
+use Rattle.std.proofs.Common.{◌∙◌, ap}
 use Rattle.lg_cpu.specs.RvStep.{start_registers, start_state}
 use Rattle.lg_cpu.specs.Starts.{argument_count}
 use Rattle.lg_cpu.proofs.StartLemmas.{start_is}
