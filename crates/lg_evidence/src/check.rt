@@ -23,10 +23,7 @@ pub fn check_spelled<T: Table>(
     let mut counts = Counts::new();
     for line in text.as_str().lines() {
         let outcome = spelled_outcome::<T>(rt.alloc(), line)?;
-        counts.add(&outcome);
-        if counts.differ <= SHOWN {
-            outcome.print(rt, file, line)?;
-        }
+        counts.take(rt, file, line, &outcome)?;
     }
     counts.print(rt, file)
 }
@@ -41,27 +38,24 @@ pub fn check_refused<T: Table>(
     let mut counts = Counts::new();
     for line in text.as_str().lines() {
         let outcome = refused_outcome::<T>(rt.alloc(), line)?;
-        counts.add(&outcome);
-        if counts.differ <= SHOWN {
-            outcome.print(rt, file, line)?;
-        }
+        counts.take(rt, file, line, &outcome)?;
     }
     counts.print(rt, file)
 }
 
-// Whether a line agrees with the table, and else what was found in its place.
+/// Whether a line agrees, and else what was found in its place.
 #[derive(Drop)]
-enum Outcome {
+pub enum Outcome {
     Agrees,
     Differs(String),
 }
 
 fn spelled_outcome<T: Table>(alloc: Global, line: &str) -> Result<Outcome, AllocError> {
     let Some(wanted) = parse_spelled(line) else {
-        return unread(alloc);
+        return Outcome::unread(alloc);
     };
     let Some(bytes) = bytes_of(wanted.hex) else {
-        return unread(alloc);
+        return Outcome::unread(alloc);
     };
     match T::find(alloc, &followed(&bytes))? {
         None => Ok(Outcome::Differs(format!(in alloc; "no instruction")?)),
@@ -81,19 +75,15 @@ fn is_as_wanted(found: &Found, operation: &str, bytes: &Piece) -> bool
 
 fn refused_outcome<T: Table>(alloc: Global, line: &str) -> Result<Outcome, AllocError> {
     let Some(hex) = parse_refused(line) else {
-        return unread(alloc);
+        return Outcome::unread(alloc);
     };
     let Some(bytes) = bytes_of(hex) else {
-        return unread(alloc);
+        return Outcome::unread(alloc);
     };
     match T::find(alloc, bytes.as_slice())? {
         None => Ok(Outcome::Agrees),
         Some(found) => differing(alloc, &found),
     }
-}
-
-fn unread(alloc: Global) -> Result<Outcome, AllocError> {
-    Ok(Outcome::Differs(format!(in alloc; "a line of another form")?))
 }
 
 fn differing(alloc: Global, found: &Found) -> Result<Outcome, AllocError> {
@@ -115,6 +105,11 @@ fn followed(bytes: &Piece) -> [u8; 24]
 }
 
 impl Outcome {
+    /// The outcome of a line that is not of the form.
+    pub fn unread(alloc: Global) -> Result<Outcome, AllocError> {
+        Ok(Outcome::Differs(format!(in alloc; "a line of another form")?))
+    }
+
     // prints nothing of a line that agrees
     fn print(&self, rt: &impl Print, file: &str, line: &str) -> io::Result<()> {
         match self {
@@ -124,15 +119,16 @@ impl Outcome {
     }
 }
 
-// How many lines of a file agree and differ.
+/// How many lines of a file agree and differ.
 #[derive(Clone, Copy)]
-struct Counts {
+pub struct Counts {
     agree: u64,
     differ: u64,
 }
 
 impl Counts {
-    fn new() -> Self
+    /// No lines.
+    pub fn new() -> Self
         ensures { (result.agree ≡ 0) × (result.differ ≡ 0) }
     {
         Counts {
@@ -150,7 +146,23 @@ impl Counts {
         }
     }
 
-    fn print(self, rt: &impl Print, file: &str) -> io::Result<()> {
+    /// Counts a line, and prints it where it is one of the first that differ.
+    pub fn take(
+        &mut self,
+        rt: &impl Print,
+        file: &str,
+        line: &str,
+        outcome: &Outcome,
+    ) -> io::Result<()> {
+        self.add(outcome);
+        if self.differ <= SHOWN {
+            outcome.print(rt, file, line)?;
+        }
+        Ok(())
+    }
+
+    /// Prints the counts of a file.
+    pub fn print(self, rt: &impl Print, file: &str) -> io::Result<()> {
         let Counts { agree, differ } = self;
         if differ == 0 {
             println!(rt; "{file}: {agree} agree")

@@ -4,16 +4,22 @@
 #![tactic(auto)]
 
 mod aarch64;
+mod case;
 mod check;
+mod processor;
+mod programs;
 mod riscv64;
+mod steps;
 mod table;
 mod vector;
 mod x86_64;
 
 use aarch64::Aarch64;
 use check::{check_refused, check_spelled};
+use programs::check_programs;
 use riscv64::Riscv64;
 use std::io;
+use steps::check_steps;
 use x86_64::X86;
 
 fn main(rt: HostRuntime) -> io::Result<()> {
@@ -22,5 +28,7 @@ fn main(rt: HostRuntime) -> io::Result<()> {
     check_spelled::<Riscv64>(&rt, "encode_riscv64.tsv")?;
     check_refused::<Riscv64>(&rt, "decode_none_riscv64.tsv")?;
     check_spelled::<X86>(&rt, "encode_x86_64.tsv")?;
-    check_refused::<X86>(&rt, "decode_none_x86_64.tsv")
+    check_refused::<X86>(&rt, "decode_none_x86_64.tsv")?;
+    check_steps(&rt, "step_riscv64.tsv")?;
+    check_programs(&rt, "prog_riscv64.tsv")
 }

@@ -48,8 +48,8 @@ pub fn bytes_of(hex: &str) -> Option<Piece>
     Some(bytes)
 }
 
-// the value of a hexadecimal digit
-fn digit(code: u8) -> Option<u8>
+/// The value of a hexadecimal digit.
+pub fn digit(code: u8) -> Option<u8>
     ensures { IfSome result (λ value. (value < 16) × (hex_digit value ≡ code)) }
 {
     match code {

@@ -1,5 +1,5 @@
 -- What the agreement says of the answers of a run.
-use Rattle.std.proofs.Common.{◌≡◌, ◌≢◌, ℕ, ◌+◌, ◌-◌, ◌*◌, ◌≤◌, inl, inr, sym, ap, ◌∙◌, arith}
+use Rattle.std.proofs.Common.{◌≡◌, ◌≢◌, ℕ, ◌+◌, ◌*◌, ◌≤◌, inl, inr, sym, ap, ◌∙◌, arith}
 use Rattle.lg_base.specs.Runs.{Running, Ended, Bad, Machine, iter, IsMachine}
 use Rattle.lg_temp.specs.Agrees.{AgreesAt}
 use Rattle.lg_temp.proofs.Steps.{iter-after}

@@ -1,6 +1,6 @@
 -- Steps of a machine, one after another.
-use Rattle.std.proofs.Common.{◌≡◌, ◌≢◌, ℕ, zero, suc, ◌+◌, ◌-◌, ◌≤◌, List, [], ◌++◌, refl, sym, ap, ◌∙◌, arith, append_assoc, append-nil}
-use Rattle.lg_base.specs.Runs.{Status, Running, Machine, iter, IsPrefixOf, IsMachine}
+use Rattle.std.proofs.Common.{◌≡◌, ◌≢◌, ℕ, zero, suc, ◌+◌, ◌-◌, ◌≤◌, [], ◌++◌, refl, sym, ap, ◌∙◌, arith, append_assoc, append-nil}
+use Rattle.lg_base.specs.Runs.{Running, Machine, iter, IsPrefixOf, IsMachine}
 
 pub iter-zero : {S : Type 0} (step : S → S) (s : S) → iter step 0 s ≡ s
 unfolding iter

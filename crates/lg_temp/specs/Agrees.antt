@@ -1,7 +1,7 @@
 -- When the run of a processor agrees with the portable meaning. Both are machines: p is a state of the
 -- portable one, q one of the processor.
-use Rattle.std.specs.Prelude.{◌≡◌, ◌≢◌, ℕ, ◌+◌, ◌*◌, ◌/◌, ◌<◌, ◌≤◌, ◌⊎◌, List}
-use Rattle.lg_base.specs.Runs.{Status, Running, Ended, Bad, Machine, iter, IsPrefixOf}
+use Rattle.std.specs.Prelude.{◌≡◌, ◌≢◌, ℕ, ◌+◌, ◌*◌, ◌/◌, ◌≤◌, ◌⊎◌}
+use Rattle.lg_base.specs.Runs.{Bad, Machine, iter, IsPrefixOf}
 
 -- neither is bad, and both have one output and one status
 pub record SameAt {P Q : Type 0} (portable : Machine P) (processor : Machine Q) (p : P) (q : Q) : Type 0 where

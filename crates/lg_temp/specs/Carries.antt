@@ -1,6 +1,6 @@
 -- What one portable step is carried to, and what two states that stand for each other have.
 use Rattle.std.specs.Prelude.{◌≡◌, ℕ, ◌<◌, ◌≤◌, ◌⊎◌}
-use Rattle.lg_base.specs.Runs.{Status, Running, Ended, Bad, Machine, iter}
+use Rattle.lg_base.specs.Runs.{Running, Ended, Bad, Machine, iter}
 
 -- both run, with one output; the rank, at most the number of nodes, is how many portable steps in a row
 -- can be matched by no step of the processor

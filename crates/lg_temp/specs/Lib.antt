@@ -1,2 +1,5 @@
+pub mod Abis
 pub mod Agrees
+pub mod Arounds
 pub mod Carries
+pub mod Chosen

@@ -2,6 +2,12 @@
 //! the induction that leads from single portable steps to whole runs.
 #![tactic(auto)]
 
+pub mod abi;
+pub mod choice;
+pub mod choose;
+#[cfg(test)]
+mod tests;
+
 ghost use Rattle.std.specs.Prelude.{◌≡◌, ℕ};
 ghost use Rattle.lg_base.specs.Runs.{Machine, IsMachine, EndsSilently};
 ghost use Rattle.lg_temp.specs.Agrees.{AgreesAt};

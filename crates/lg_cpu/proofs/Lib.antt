@@ -1,0 +1,10 @@
+mod ArgumentLemmas
+mod CallLemmas
+mod CountLemmas
+mod FaultLemmas
+mod OperatorLemmas
+pub mod RunLemmas
+mod ShownLemmas
+pub mod SoundLemmas
+mod StartLemmas
+pub mod StepLemmas

@@ -1,0 +1,35 @@
+-- Steps at the entries of host functions: the arguments that a call finds, and the registers behind it.
+use Rattle.std.specs.Prelude.{ℕ, zero, suc, ◌-◌, ◌==◌, ◌&&◌, not, nat_lt, List, [], ◌∷◌, ◌++◌, length, map, Option, Some, None, if◌then◌else◌}
+use Rattle.lg_base.specs.Words.{add_words}
+use Rattle.lg_base.specs.Spaces.{loaded}
+use Rattle.lg_base.specs.Conventions.{argument_registers, result_register, is_kept}
+use Rattle.lg_base.specs.declared.target.Target.{Target}
+
+-- a word, where it can be read, and further ones
+abbrev pub read_before : Option ℕ → List ℕ → List ℕ
+read_before None more = []
+read_before (Some word) more = word ∷ more
+
+-- the words from an address on, at most so many and none behind one that can't be read
+unfoldable pub stack_words : (ℕ → Option ℕ) → ℕ → ℕ → List ℕ
+stack_words bytes address zero = []
+stack_words bytes address (suc more) = read_before (loaded bytes address 8) (stack_words bytes (add_words address 8) more)
+
+-- the arguments of a call are 16 words, the first of which lie in registers and the others in stack words from an
+-- address on; where a stack word can't be read they are the words before it
+abbrev pub argument_words : Target → (ℕ → ℕ) → (ℕ → Option ℕ) → ℕ → List ℕ
+argument_words target registers bytes stack =
+    map registers (argument_registers target) ++ stack_words bytes stack (16 - length (argument_registers target))
+
+-- registers by their numbers, with one changed
+abbrev pub put : (ℕ → ℕ) → ℕ → ℕ → ℕ → ℕ
+put registers to value r = if r == to then value else registers r
+
+-- the trash word in each of the first n registers that a call does not keep
+abbrev pub clobbered : Target → ℕ → (ℕ → ℕ) → ℕ → ℕ → ℕ
+clobbered target n registers trash r = if nat_lt r n && not (is_kept target r) then trash else registers r
+
+-- behind a call the result register has the answer, and every other of the n registers that a call does not keep the
+-- trash word
+abbrev pub behind_call : Target → ℕ → (ℕ → ℕ) → ℕ → ℕ → ℕ → ℕ
+behind_call target n registers trash answer = put (clobbered target n registers trash) (result_register target) answer

@@ -1,0 +1,58 @@
+-- What holds of every step of the RV64IM processor, and of its start.
+use Rattle.std.specs.Prelude.{◌≡◌, ◌≢◌, ℕ, ◌-◌, ◌%◌, ◌^◌, ◌<◌, ◌≤◌, List, [], ◌++◌, length, drop, slice_index, Some, ⊤}
+use Rattle.lg_base.specs.Layout.{code_base}
+use Rattle.lg_base.specs.Arguments.{args_of, most_args}
+use Rattle.lg_base.specs.Runs.{IsMachine}
+use Rattle.lg_host.specs.Host.{heap_end}
+use Rattle.lg_rv.specs.Spelling.{IsInstr, spelling}
+use Rattle.lg_rv.specs.declared.instruction.Instr.{Instr}
+use Rattle.lg_cpu.specs.Starts.{argument_count}
+use Rattle.lg_cpu.specs.Steps.{Progress, Goes, EndedWith, Faulted, Effect, machine}
+use Rattle.lg_cpu.specs.RvStep.{RvState, act, effect, rv_step}
+use Rattle.lg_cpu.specs.Machines.{Shown, CpuSays, run_of}
+use Rattle.lg_cpu.specs.declared.answer.CpuStep.{CpuStep}
+use Rattle.lg_cpu.specs.declared.answer.CpuStep.TheVariants as cpu
+
+-- ---- a step that is answered without a failed write is the step of the definition; code and trash word stay
+abbrev pub StepsAreThose : Type 0
+StepsAreThose = (old new : Shown) (out out' : List ℕ) (count count' : ℕ) (answer : CpuStep) → CpuSays old new (Some out) (Some out') count count' answer → answer ≢ cpu.WriteFault
+    → (run_of new out' ≡ rv_step old.code old.trash (run_of old out)) × (new.code ≡ old.code) × (new.trash ≡ old.trash)
+
+-- ---- where an instruction stands, the step is the instruction's
+abbrev pub ExecutesWhatStands : Type 0
+ExecutesWhatStands = (code more : List ℕ) (trash : ℕ) (q : RvState) (i : Instr) → IsInstr i → code_base ≤ q.pc → q.pc % 4 ≡ 0 → drop (q.pc - code_base) code ≡ spelling i ++ more
+    → effect code trash q ≡ act i q
+
+-- ---- a step that faults leaves everything as it was
+abbrev pub OnFault : Progress → Type 0 → Type 0
+OnFault (Faulted kind) P = P
+OnFault Goes P = ⊤
+OnFault (EndedWith status) P = ⊤
+
+abbrev pub IsUnchanged : RvState → Effect RvState → Type 0
+IsUnchanged q e = (e.to ≡ q) × (e.written ≡ [])
+
+abbrev pub FaultsChangeNothing : Type 0
+FaultsChangeNothing = (code : List ℕ) (trash : ℕ) (q : RvState) → OnFault (effect code trash q).progress (IsUnchanged q (effect code trash q))
+
+-- ---- words stay words
+-- the program counter and the registers hold words, the memory holds bytes, and the heap mark lies in the heap
+pub record IsSound (q : RvState) : Type 0 where
+  pub pc : q.pc < 2 ^ 64
+  pub words : (r : ℕ) → q.registers r < 2 ^ 64
+  pub bytes : (a b : ℕ) → q.bytes a ≡ Some b → b < 256
+  pub mark : q.mark ≤ heap_end
+
+abbrev pub AreBytes : List ℕ → Type 0
+AreBytes code = (k : ℕ) → slice_index code k < 256
+
+abbrev pub StaysSound : Type 0
+StaysSound = (code : List ℕ) (trash : ℕ) (q : RvState) → AreBytes code → trash < 2 ^ 64 → IsSound q → IsSound (effect code trash q).to
+
+-- ---- runs are those of a machine: one that is over stays, and what is written stays written
+abbrev pub RunsAreMachines : Type 0
+RunsAreMachines = (code : List ℕ) (trash : ℕ) → IsMachine (machine (effect code trash))
+
+-- ---- the number of arguments is that of the words whose argument part the memory holds
+abbrev pub CountsArguments : Type 0
+CountsArguments = (words : List (List ℕ)) → length (args_of words) ≤ most_args → argument_count (args_of words) ≡ length words

@@ -1,0 +1,181 @@
+-- The RV64IM processor: what a step of it does, whatever the bytes are (RISC-V unprivileged ISA). A fetch, a jump and an
+-- access that are not at a multiple of their widths fault with Align, which counts before every other fault.
+use Rattle.std.specs.Prelude.{ℕ, ◌+◌, ◌-◌, ◌*◌, ◌/◌, ◌%◌, ◌==◌, ◌&&◌, Bool, true, false, nat_le, nat_lt, List, [], length, drop, Option, Some, None, if◌then◌else◌}
+use Rattle.lg_base.specs.Fields.{word_of}
+use Rattle.lg_base.specs.Words.{add_words, sign_32}
+use Rattle.lg_base.specs.Wide.{sign_part_of}
+use Rattle.lg_base.specs.Spaces.{mapped, loaded, stored, readable}
+use Rattle.lg_base.specs.Parts.{args_base, heap_base}
+use Rattle.lg_base.specs.Layout.{stop_address, code_base, stack_end}
+use Rattle.lg_base.specs.HostNames.{host_by_address}
+use Rattle.lg_base.specs.declared.target.Target.TheVariants as target
+use Rattle.lg_base.specs.declared.fault.FaultKind.TheVariants.{Fetch, Decode, Memory, Align, Host}
+use Rattle.lg_base.specs.declared.host_name.HostName.{HostName}
+use Rattle.lg_host.specs.Blocks.{over}
+use Rattle.lg_host.specs.Host.{memory, host_of}
+use Rattle.lg_host.specs.Host.{Host as Answer}
+use Rattle.lg_host.specs.Host.{Gives, Exits, Undefined}
+use Rattle.lg_rv.specs.declared.instruction.Instr.{Instr}
+use Rattle.lg_rv.specs.declared.instruction.Instr.TheVariants.{Upper, Jal, Branch, Imm, Shift, Store, Reg}
+use Rattle.lg_rv.specs.declared.instruction.UpperOp.TheVariants.{Lui, Auipc}
+use Rattle.lg_rv.specs.declared.instruction.ImmOp.{ImmOp}
+use Rattle.lg_rv.specs.declared.instruction.ImmOp.TheVariants.{Jalr, Lb, Lh, Lw, Ld, Lbu, Lhu, Lwu, Addi, Slti, Sltiu, Xori, Ori, Andi, Addiw}
+use Rattle.lg_rv.specs.declared.instruction.StoreOp.{StoreOp}
+use Rattle.lg_rv.specs.declared.instruction.StoreOp.TheVariants.{Sb, Sh, Sw, Sd}
+use Rattle.lg_rv.specs.declared.instruction.RegOp.TheVariants.{Add, Slt, Sltu, Xor, Or, And, Addw}
+use Rattle.lg_rv.specs.Reading.{front_of}
+use Rattle.lg_cpu.specs.Steps.{Effect, EndedWith, Run, arrived, faults, stepped}
+use Rattle.lg_cpu.specs.HostSteps.{argument_words, put, behind_call}
+use Rattle.lg_cpu.specs.Starts.{start_bytes, argument_count}
+use Rattle.lg_cpu.specs.RvOperators.{reg_value, shift_value, is_taken}
+
+-- the program counter, the registers, the bytes of the memory by their addresses, and the heap mark
+pub record RvState : Type 0 where
+  pub pc : ℕ
+  pub registers : ℕ → ℕ
+  pub bytes : ℕ → Option ℕ
+  pub mark : ℕ
+
+-- register 0 reads as 0
+abbrev pub read : (ℕ → ℕ) → ℕ → ℕ
+read registers r = if r == 0 then 0 else registers r
+
+-- ---- what the instructions do
+
+-- the run goes on at an address, or has ended there
+abbrev pub goes : ℕ → (ℕ → ℕ) → (ℕ → Option ℕ) → ℕ → Effect RvState
+goes pc registers bytes mark =
+    record { to = record { pc = pc; registers = registers; bytes = bytes; mark = mark }; progress = arrived pc; written = [] }
+
+-- a register gets a value, and the next instruction follows
+abbrev pub sets : RvState → ℕ → ℕ → Effect RvState
+sets q to value = goes (add_words q.pc 4) (put q.registers to value) q.bytes q.mark
+
+-- what a load puts into a register: the number in so many bytes, extended by its sign or with zeros
+abbrev pub extended_by : Bool → ℕ → ℕ → ℕ
+extended_by signed width value = if signed then sign_part_of value width else value
+
+abbrev pub loads : RvState → ℕ → ℕ → Bool → Option ℕ → Effect RvState
+loads q to width signed None = faults q Memory
+loads q to width signed (Some value) = sets q to (extended_by signed width value)
+
+abbrev pub load_at : RvState → ℕ → ℕ → ℕ → Bool → Effect RvState
+load_at q to address width signed = if address % width == 0 then loads q to width signed (loaded q.bytes address width) else faults q Align
+
+abbrev pub store_at : RvState → ℕ → ℕ → ℕ → Effect RvState
+store_at q address width value =
+    if address % width == 0
+    then (if mapped q.bytes address width then goes (add_words q.pc 4) q.registers (stored q.bytes address width value) q.mark else faults q Memory)
+    else faults q Align
+
+-- a jump; the link is the next instruction's address
+abbrev pub jump_to : RvState → ℕ → ℕ → Effect RvState
+jump_to q link target = if target % 4 == 0 then goes target (put q.registers link (add_words q.pc 4)) q.bytes q.mark else faults q Align
+
+-- a branch, whose target counts only where it is taken
+abbrev pub branch_to : RvState → ℕ → Bool → Effect RvState
+branch_to q target true = if target % 4 == 0 then goes target q.registers q.bytes q.mark else faults q Align
+branch_to q target false = goes (add_words q.pc 4) q.registers q.bytes q.mark
+
+-- the rows with a number of 12 bits: a is the word in rs1, and n the number, extended by its sign
+abbrev pub imm_effect : ImmOp → ℕ → ℕ → ℕ → RvState → Effect RvState
+imm_effect Jalr rd a n q = jump_to q rd (add_words a n / 2 * 2)
+imm_effect Lb rd a n q = load_at q rd (add_words a n) 1 true
+imm_effect Lh rd a n q = load_at q rd (add_words a n) 2 true
+imm_effect Lw rd a n q = load_at q rd (add_words a n) 4 true
+imm_effect Ld rd a n q = load_at q rd (add_words a n) 8 false
+imm_effect Lbu rd a n q = load_at q rd (add_words a n) 1 false
+imm_effect Lhu rd a n q = load_at q rd (add_words a n) 2 false
+imm_effect Lwu rd a n q = load_at q rd (add_words a n) 4 false
+imm_effect Addi rd a n q = sets q rd (reg_value Add a n)
+imm_effect Slti rd a n q = sets q rd (reg_value Slt a n)
+imm_effect Sltiu rd a n q = sets q rd (reg_value Sltu a n)
+imm_effect Xori rd a n q = sets q rd (reg_value Xor a n)
+imm_effect Ori rd a n q = sets q rd (reg_value Or a n)
+imm_effect Andi rd a n q = sets q rd (reg_value And a n)
+imm_effect Addiw rd a n q = sets q rd (reg_value Addw a n)
+
+-- how many bytes a store writes
+abbrev pub store_width : StoreOp → ℕ
+store_width Sb = 1
+store_width Sh = 2
+store_width Sw = 4
+store_width Sd = 8
+
+abbrev pub act : Instr → RvState → Effect RvState
+act (Upper Lui rd imm) q = sets q rd (sign_32 (imm * 4096))
+act (Upper Auipc rd imm) q = sets q rd (add_words q.pc (sign_32 (imm * 4096)))
+act (Jal rd offset) q = jump_to q rd (add_words q.pc (word_of offset))
+act (Branch op rs1 rs2 offset) q =
+    branch_to q (add_words q.pc (word_of offset)) (is_taken op (read q.registers rs1) (read q.registers rs2))
+act (Imm op rd rs1 imm) q = imm_effect op rd (read q.registers rs1) (word_of imm) q
+act (Shift op rd rs1 amount) q = sets q rd (shift_value op (read q.registers rs1) amount)
+act (Store op rs1 rs2 imm) q =
+    store_at q (add_words (read q.registers rs1) (word_of imm)) (store_width op) (read q.registers rs2)
+act (Reg op rd rs1 rs2) q = sets q rd (reg_value op (read q.registers rs1) (read q.registers rs2))
+
+-- ---- fetching
+
+abbrev pub decoded : Option (Instr × ℕ) → RvState → Effect RvState
+decoded None q = faults q Decode
+decoded (Some (i, len)) q = act i q
+
+-- whether an address is one of the code
+abbrev pub in_code : List ℕ → ℕ → Bool
+in_code code pc = nat_le code_base pc && nat_lt pc (code_base + length code)
+
+abbrev pub fetch : List ℕ → RvState → Effect RvState
+fetch code q =
+    if q.pc % 4 == 0
+    then (if in_code code q.pc then decoded (front_of (drop (q.pc - code_base) code)) q else faults q Fetch)
+    else faults q Align
+
+-- ---- host functions
+
+-- what a host function comes to; control returns to the link, register 1
+abbrev pub host_effect : Answer → ℕ → RvState → Effect RvState
+host_effect (Gives value changes mark bytes) trash q =
+    record {
+      to = record { pc = q.registers 1; registers = behind_call target.Riscv64 32 q.registers trash value; bytes = over changes q.bytes; mark = mark };
+      progress = arrived (q.registers 1);
+      written = bytes;
+    }
+host_effect (Exits status) trash q = record { to = q; progress = EndedWith status; written = [] }
+host_effect Undefined trash q = faults q Host
+
+-- at a host entry the stack pointer, register 2, is a multiple of 16
+abbrev pub enter_host : HostName → ℕ → RvState → Effect RvState
+enter_host name trash q =
+    if q.registers 2 % 16 == 0
+    then host_effect (host_of name (argument_words target.Riscv64 q.registers q.bytes (q.registers 2)) true (memory q.bytes (readable q.bytes) q.mark)) trash q
+    else faults q Host
+
+-- ---- the step
+
+abbrev pub effect_at : Option HostName → List ℕ → ℕ → RvState → Effect RvState
+effect_at None code trash q = fetch code q
+effect_at (Some name) code trash q = enter_host name trash q
+
+-- what a step does with this code and trash word
+abbrev pub effect : List ℕ → ℕ → RvState → Effect RvState
+effect code trash q = effect_at (host_by_address q.pc) code trash q
+
+-- the run one step further; a run that is over stays
+abbrev pub rv_step : List ℕ → ℕ → Run RvState → Run RvState
+rv_step code trash = stepped (effect code trash)
+
+-- ---- the start
+
+-- the link, the stack pointer and the two arguments; every other of the 32 registers holds the trash word
+abbrev pub start_registers : ℕ → ℕ → ℕ → ℕ
+start_registers count trash r =
+    if r == 1 then stop_address
+    else if r == 2 then stack_end
+    else if r == 10 then count
+    else if r == 11 then args_base
+    else if nat_lt r 32 then trash
+    else 0
+
+abbrev pub start_state : List ℕ → List ℕ → ℕ → RvState
+start_state image args trash =
+    record { pc = code_base; registers = start_registers (argument_count args) trash; bytes = start_bytes image args; mark = heap_base }

@@ -1,0 +1,16 @@
+// The answers of steps.
+
+use lg_base::fault::FaultKind;
+
+/// What one step comes to.
+#[derive(Clone, Copy, Debug, PartialEq, Eq)]
+pub enum CpuStep {
+    /// The run goes on.
+    Went,
+    /// The run has ended with a status.
+    Ended(u8),
+    /// The step can't be taken, and nothing changed.
+    Fault(FaultKind),
+    /// A write failed.
+    WriteFault,
+}

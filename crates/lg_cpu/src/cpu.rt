@@ -1,0 +1,167 @@
+// The processor that a run is made on.
+
+ghost use Rattle.std.specs.Prelude.{◌≡◌, ◌<◌, ◌≤◌, ◌⊎◌, ◌+◌, ◌-◌, ◌^◌, length, IfOk, if◌then◌else◌};
+ghost use Rattle.lg_base.specs.Layout.{most_code};
+ghost use Rattle.lg_base.specs.Arguments.{most_args};
+ghost use Rattle.lg_base.specs.Spaces.{loaded, mapped};
+ghost use Rattle.lg_base.specs.declared.target.Target.{Target};
+ghost use Rattle.lg_cpu.specs.RvStep.{read, effect, start_state};
+ghost use Rattle.lg_cpu.specs.Answers.{is_counted};
+
+use crate::answer::CpuStep;
+use crate::board::Board;
+use crate::riscv64::Riscv64;
+use crate::start::argument_count;
+use lg_base::code::CodeBytes;
+use lg_base::image::{ArgImage, DataImage};
+use lg_base::memory::Memory;
+use lg_base::refusal::OutOfMemory;
+use lg_base::target::Target;
+use lg_host::heap_mark::HeapMark;
+use lg_io::sink::Sink;
+use std::alloc::Global;
+
+/// A processor with its memory and its code, before or behind any number of steps.
+#[derive(Drop)]
+pub struct Cpu {
+    processor: Riscv64,
+    answer: CpuStep,
+    steps: u64,
+}
+
+// Whether a step that comes to this is counted.
+fn is_counted(answer: CpuStep) -> bool
+    ensures { result ≡ is_counted answer }
+{
+    match answer {
+        CpuStep::Went | CpuStep::Ended(_) => true,
+        CpuStep::Fault(_) | CpuStep::WriteFault => false,
+    }
+}
+
+impl Cpu {
+    ghost use Rattle.lg_cpu.specs.Machines.{shown, CpuSays, StepShows, after_set, after_jump, after_store};
+
+    /// A processor before its first step: at the first address of the code, with the data part and the argument part in
+    /// memory and zeros elsewhere. The target is one that is built, the code has at most 67,108,864 bytes, the data part at
+    /// most 16,777,216, and the argument part is that of some words. No other call takes memory.
+    pub fn new(
+        alloc: Global,
+        target: Target,
+        code: &CodeBytes,
+        image: &DataImage,
+        args: &ArgImage,
+        trash: u64,
+    ) -> Result<Cpu, OutOfMemory>
+        requires built { target ≡ Target.Riscv64 }
+        requires code { length code.now.items ≤ most_code }
+        requires image { length image.now ≤ 0x1000000 }
+        requires args { length args.now ≤ most_args }
+        ensures { IfOk result (λ c. shown c ≡ record { code = code.now.items; trash = trash; state = start_state image.now args.now trash; answer = CpuStep.Went; steps = 0 }) }
+    {
+        let board = Board {
+            code: CodeBytes::of(alloc, code.as_slice())?,
+            memory: Memory::with_parts(alloc, image.as_slice(), args.as_slice())?,
+            heap: HeapMark::new(),
+            trash,
+        };
+        Ok(Cpu {
+            processor: Riscv64::new(board, argument_count(args.as_slice())),
+            answer: CpuStep::Went,
+            steps: 0,
+        })
+    }
+
+    /// The program counter.
+    pub fn pc(&self) -> u64
+        ensures { result ≡ (shown self.now).state.pc }
+    {
+        self.processor.pc
+    }
+
+    /// How many instructions and host steps went or ended.
+    pub fn steps(&self) -> u64
+        ensures { result ≡ (shown self.now).steps }
+    {
+        self.steps
+    }
+
+    /// Takes one step, and answers what it comes to: the run goes on, has ended with a status, or can't take the step, which
+    /// then changes nothing. Where a write failed a part of the output may have been written, and nothing else changed.
+    /// After an answer other than `Went` the same is answered again, and nothing changes. Fewer than `u64::MAX` steps were
+    /// taken.
+    pub fn step<O: Sink>(&mut self, out: &mut O) -> CpuStep
+        requires { (shown self.old).steps < 2 ^ 64 - 1 }
+        ensures says { CpuSays (shown self.old) (shown self.new) (O.taken out.old) (O.taken out.new) (O.faults out.old) (O.faults out.new) result }
+        ensures later { O.faults out.old ≤ O.faults out.new }
+    {
+        match self.answer {
+            CpuStep::Went => self.go_on(out),
+            over => over,
+        }
+    }
+
+    // Takes a step of a run that is not over.
+    fn go_on<O: Sink>(&mut self, out: &mut O) -> CpuStep
+        requires { self.old.steps < 2 ^ 64 - 1 }
+        ensures says { StepShows (effect (shown self.old).code (shown self.old).trash (shown self.old).state) (shown self.old) (shown self.new) (O.taken out.old) (O.taken out.new) (O.faults out.old) (O.faults out.new) result }
+        ensures later { O.faults out.old ≤ O.faults out.new }
+    {
+        let answer = self.processor.step(out);
+        self.answer = answer;
+        if is_counted(answer) {
+            self.steps += 1;
+        }
+        answer
+    }
+
+    /// What a register reads as. Its number is below 32.
+    pub fn register(&self, number: u8) -> u64
+        requires { number < 32 }
+        ensures { result ≡ read (shown self.now).state.registers number }
+    {
+        self.processor.read(number)
+    }
+
+    /// Sets a register, the number of which is below 32, and changes nothing else. Register 0 reads as 0 all the same.
+    pub fn set_register(&mut self, number: u8, value: u64)
+        requires { number < 32 }
+        ensures { shown self.new ≡ after_set (shown self.old) number value }
+    {
+        self.processor.registers[number as usize] = value;
+    }
+
+    /// Goes on at an address, whether the run was over or not; at the stop address it has ended. Nothing else changes.
+    pub fn set_pc(&mut self, pc: u64)
+        ensures { shown self.new ≡ after_jump (shown self.old) pc }
+    {
+        self.answer = self.processor.go(pc);
+    }
+
+    /// Replaces the code, which has at most 67,108,864 bytes, and changes nothing else.
+    pub fn set_code(&mut self, code: CodeBytes)
+        requires { length code.items ≤ most_code }
+        ensures { shown self.new ≡ record (shown self.old) { code = code.items } }
+    {
+        self.processor.board.code = code;
+    }
+
+    /// The number in `width` bytes of the memory from an address on, the lowest byte first. None exactly where not all bytes
+    /// lie in one part. `width` is 1, 2, 4 or 8.
+    pub fn load(&self, address: u64, width: u32) -> Option<u64>
+        requires { (width ≡ 1) ⊎ (width ≡ 2) ⊎ (width ≡ 4) ⊎ (width ≡ 8) }
+        ensures { result ≡ loaded (shown self.now).state.bytes address width }
+    {
+        self.processor.board.memory.load(address, width)
+    }
+
+    /// Writes the low `width` bytes of a number into the memory from an address on, the lowest byte first, and changes
+    /// nothing else. False exactly where not all bytes lie in one part, and then nothing changes. `width` is 1, 2, 4 or 8.
+    pub fn store(&mut self, address: u64, width: u32, value: u64) -> bool
+        requires { (width ≡ 1) ⊎ (width ≡ 2) ⊎ (width ≡ 4) ⊎ (width ≡ 8) }
+        ensures done { result ≡ mapped (shown self.old).state.bytes address width }
+        ensures changed { shown self.new ≡ (if result then after_store (shown self.old) address width value else shown self.old) }
+    {
+        self.processor.board.memory.store(address, width, value)
+    }
+}

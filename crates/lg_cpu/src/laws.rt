@@ -1,0 +1,34 @@
+// What holds of every step and of the start, for the crates above. The functions do nothing: their contracts are the laws.
+
+ghost use Rattle.lg_cpu.specs.Laws.{StepsAreThose, ExecutesWhatStands, FaultsChangeNothing, StaysSound, RunsAreMachines, CountsArguments};
+
+/// A call of `step` makes the step of the definition, unless a write fails.
+pub fn steps_are_those_of_the_definition()
+    ensures { StepsAreThose }
+{}
+
+/// Where the program counter is the address of an instruction's spelling in the code, the step is the instruction's.
+pub fn what_stands_is_executed()
+    ensures { ExecutesWhatStands }
+{}
+
+/// A step that faults leaves registers and memory as they were, and writes nothing.
+pub fn faults_change_nothing()
+    ensures { FaultsChangeNothing }
+{}
+
+/// Registers that hold words hold words behind a step, memory that holds bytes holds bytes, and the heap mark stays in the
+/// heap.
+pub fn words_stay_words()
+    ensures { StaysSound }
+{}
+
+/// Runs are those of a machine: one that is over stays, and what is written stays written.
+pub fn runs_are_machines()
+    ensures { RunsAreMachines }
+{}
+
+/// The number of arguments at the start is that of the words of which the argument part is made.
+pub fn arguments_are_counted()
+    ensures { CountsArguments }
+{}

@@ -1,0 +1,12 @@
+//! The processors as models: registers, memory, and steps that fetch, decode and execute bytes.
+#![tactic(auto)]
+
+pub mod answer;
+mod arguments;
+mod board;
+pub mod cpu;
+pub mod laws;
+mod riscv64;
+mod start;
+#[cfg(test)]
+mod tests;

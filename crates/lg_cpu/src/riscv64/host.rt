@@ -1,0 +1,111 @@
+// Steps at the entries of host functions.
+
+ghost use Rattle.std.specs.Prelude.{◌≡◌, ◌≤◌, ℕ, [], ◌∷◌, slice_index};
+ghost use Rattle.lg_base.specs.Parts.{byte_at};
+ghost use Rattle.lg_base.specs.Conventions.{is_kept};
+ghost use Rattle.lg_base.specs.declared.target.Target.{Target};
+ghost use Rattle.lg_cpu.specs.HostSteps.{argument_words, behind_call};
+
+use crate::answer::CpuStep;
+use crate::arguments::Arguments;
+use crate::riscv64::Riscv64;
+use lg_base::fault::FaultKind;
+use lg_base::host_name::HostName;
+use lg_host::call::call;
+use lg_host::host_end::HostEnd;
+use lg_io::sink::Sink;
+
+// Whether a call keeps a register.
+fn keeps(register: usize) -> bool
+    ensures { result ≡ is_kept Target.Riscv64 register }
+{
+    match register {
+        2 | 8 | 9 | 18..=27 => true,
+        _ => false,
+    }
+}
+
+// The registers behind a call of a host function that answered this.
+fn registers_behind_call(registers: &[u64; 32], trash: u64, answer: u64) -> [u64; 32]
+    ensures { slice_index result ≡ behind_call Target.Riscv64 32 (slice_index registers.now) trash answer }
+{
+    let mut behind = *registers;
+    for register in 0..32 {
+        if !keeps(register) {
+            behind[register] = trash;
+        }
+    }
+    behind[10] = answer;
+    behind
+}
+
+// The arguments in registers.
+fn register_arguments(registers: &[u64; 32]) -> Arguments
+    ensures { result ≡ slice_index registers.now 10 ∷ slice_index registers.now 11 ∷ slice_index registers.now 12 ∷ slice_index registers.now 13 ∷ slice_index registers.now 14 ∷ slice_index registers.now 15 ∷ slice_index registers.now 16 ∷ slice_index registers.now 17 ∷ [] }
+{
+    let r = registers;
+    Arguments::first(
+        [
+            r[10], r[11], r[12], r[13], r[14], r[15], r[16], r[17], 0, 0, 0, 0, 0, 0, 0, 0,
+        ],
+        8,
+    )
+}
+
+impl Riscv64 {
+    ghost use Rattle.lg_cpu.specs.RvStep.{goes, enter_host, effect};
+    ghost use Rattle.lg_cpu.specs.Machines.{state_of, Does, StepSays};
+
+    // The arguments of the convention.
+    fn arguments(&self) -> Arguments
+        ensures { result ≡ argument_words Target.Riscv64 (slice_index self.now.registers) (byte_at self.now.board.memory) (slice_index self.now.registers 2) }
+    {
+        let mut arguments = register_arguments(&self.registers);
+        arguments.read_stack(&self.board.memory, self.registers[2]);
+        arguments
+    }
+
+    // Returns from a host function that answered this.
+    fn leave_host(&mut self, answer: u64) -> CpuStep
+        ensures { Does (goes (slice_index self.old.registers 1) (behind_call Target.Riscv64 32 (slice_index self.old.registers) self.old.board.trash answer) (state_of self.old).bytes (state_of self.old).mark) self.old self.new result }
+    {
+        let link = self.registers[1];
+        self.registers = registers_behind_call(&self.registers, self.board.trash, answer);
+        self.go(link)
+    }
+
+    // Runs a host function.
+    fn enter_host<O: Sink>(&mut self, name: HostName, out: &mut O) -> CpuStep
+        ensures says { StepSays (enter_host name self.old.board.trash (state_of self.old)) self.old self.new (O.taken out.old) (O.taken out.new) (O.faults out.old) (O.faults out.new) result }
+        ensures later { O.faults out.old ≤ O.faults out.new }
+    {
+        if self.registers[2] % 16 != 0 {
+            return CpuStep::Fault(FaultKind::Host);
+        }
+        let arguments = self.arguments();
+        match call(
+            name,
+            arguments.as_slice(),
+            true,
+            &mut self.board.memory,
+            &mut self.board.heap,
+            out,
+        ) {
+            HostEnd::Value(answer) => self.leave_host(answer),
+            HostEnd::Exit(status) => CpuStep::Ended(status),
+            HostEnd::Undefined => CpuStep::Fault(FaultKind::Host),
+            HostEnd::WriteFault => CpuStep::WriteFault,
+        }
+    }
+
+    /// Takes one step, whether the run is over or not.
+    pub fn step<O: Sink>(&mut self, out: &mut O) -> CpuStep
+        ensures says { StepSays (effect self.old.board.code.items self.old.board.trash (state_of self.old)) self.old self.new (O.taken out.old) (O.taken out.new) (O.faults out.old) (O.faults out.new) result }
+        ensures later { O.faults out.old ≤ O.faults out.new }
+    {
+        match HostName::from_address(self.pc) {
+            Some(name) => self.enter_host(name, out),
+            None => self.fetch(),
+        }
+    }
+}

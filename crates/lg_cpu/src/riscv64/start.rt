@@ -1,0 +1,53 @@
+// The processor at the start of a run.
+
+ghost use Rattle.std.specs.Prelude.{◌≡◌, ◌≤◌, length, slice_index, if◌then◌else◌, nat_lt};
+ghost use Rattle.lg_cpu.specs.RvStep.{start_registers};
+
+use crate::board::Board;
+use crate::riscv64::Riscv64;
+
+const STOP: u64 = 0x0FE0_0000;
+
+const CODE: u64 = 0x1000_0000;
+
+const ARGS: u64 = 0x2800_0000;
+
+const STACK_END: u64 = 0x4000_0000;
+
+// The trash word in each register.
+fn trash_registers(trash: u64) -> [u64; 32]
+    ensures registers { slice_index result ≡ (λ r. if nat_lt r 32 then trash else 0) }
+    ensures long { length result ≡ 32 }
+{
+    [trash; 32]
+}
+
+// The registers at the start of a run with so many arguments.
+fn registers_at_start(count: u64, trash: u64) -> [u64; 32]
+    ensures { slice_index result ≡ start_registers count trash }
+{
+    let mut registers = trash_registers(trash);
+    registers[11] = ARGS;
+    registers[10] = count;
+    registers[2] = STACK_END;
+    registers[1] = STOP;
+    registers
+}
+
+impl Riscv64 {
+    ghost use Rattle.lg_base.specs.Layout.{code_base};
+    ghost use Rattle.lg_base.specs.Parts.{byte_at};
+    ghost use Rattle.lg_cpu.specs.Machines.{state_of};
+
+    /// The processor before its first step, with the number of arguments.
+    pub fn new(board: Board, count: u64) -> Riscv64
+        ensures state { state_of result ≡ record { pc = code_base; registers = start_registers count board.trash; bytes = byte_at board.memory; mark = board.heap } }
+        ensures board { result.board ≡ board }
+    {
+        Riscv64 {
+            pc: CODE,
+            registers: registers_at_start(count, board.trash),
+            board,
+        }
+    }
+}

@@ -1,0 +1,140 @@
+// The lines of the evidence on runs: columns with tabs between them, and lists of items with blanks between them.
+
+use crate::vector::digit;
+use std::alloc::{AllocError, Global};
+
+/// A line of a file on single steps: STEPS, TEXT, HEX, IN, OUT, HOW.
+#[derive(Drop)]
+pub struct Case<'a> {
+    /// STEPS, how many instructions are run at most.
+    pub steps: u64,
+    /// HEX, the code from the first program counter on.
+    pub hex: &'a str,
+    /// IN, what is set before.
+    pub before: &'a str,
+    /// OUT, what the run comes to, without its first word.
+    pub after: &'a str,
+    /// The first word of OUT: how the run stands.
+    pub answer: &'a str,
+}
+
+/// The columns of a line on single steps.
+pub fn parse_case(line: &str) -> Option<Case<'_>> {
+    let (steps, rest) = line.split_once('\t')?;
+    let (_text, rest) = rest.split_once('\t')?;
+    let (hex, rest) = rest.split_once('\t')?;
+    let (before, rest) = rest.split_once('\t')?;
+    let (out, _how) = rest.split_once('\t')?;
+    let (answer, after) = out.split_once(' ')?;
+    Some(Case {
+        steps: steps.parse().ok()?,
+        hex,
+        before,
+        after,
+        answer,
+    })
+}
+
+/// A line of a file on programs: ROW, TEXT, HEX, N, OUTCOME, HOW.
+#[derive(Drop)]
+pub struct Program<'a> {
+    /// HEX, the code.
+    pub hex: &'a str,
+    /// N, how many instructions are run at most.
+    pub most: u64,
+    /// OUTCOME: how the run ends, with `steps=` and `pc=`.
+    pub outcome: &'a str,
+}
+
+/// The columns of a line on a program.
+pub fn parse_program(line: &str) -> Option<Program<'_>> {
+    let (_row, rest) = line.split_once('\t')?;
+    let (_text, rest) = rest.split_once('\t')?;
+    let (hex, rest) = rest.split_once('\t')?;
+    let (most, rest) = rest.split_once('\t')?;
+    let (outcome, _how) = rest.split_once('\t')?;
+    Some(Program {
+        hex,
+        most: most.parse().ok()?,
+        outcome,
+    })
+}
+
+/// An item of IN or OUT.
+#[derive(Clone, Copy)]
+pub enum Item {
+    /// `pc=H`: the program counter.
+    Pc(u64),
+    /// `steps=K`: how many instructions went.
+    Steps(u64),
+    /// `xN=H`: a register.
+    Register {
+        number: u8,
+        value: u64,
+    },
+    /// `mW@A=H`: a number in memory.
+    Bytes {
+        width: u32,
+        address: u64,
+        value: u64,
+    },
+}
+
+/// An item of IN or OUT, with hexadecimal numbers but for the count of steps.
+pub fn parse_item(text: &str) -> Option<Item> {
+    let (name, value) = text.split_once('=')?;
+    match name {
+        "pc" => Some(Item::Pc(number_of(value)?)),
+        "steps" => Some(Item::Steps(value.parse().ok()?)),
+        _ => match name.split_once('@') {
+            Some((width, address)) => Some(Item::Bytes {
+                width: parse_width(width)?,
+                address: number_of(address)?,
+                value: number_of(value)?,
+            }),
+            None => Some(Item::Register {
+                number: name.strip_prefix('x')?.parse().ok()?,
+                value: number_of(value)?,
+            }),
+        },
+    }
+}
+
+fn parse_width(text: &str) -> Option<u32> {
+    match text {
+        "m1" => Some(1),
+        "m2" => Some(2),
+        "m4" => Some(4),
+        "m8" => Some(8),
+        _ => None,
+    }
+}
+
+/// The number of hexadecimal digits, which is below 2^64.
+pub fn number_of(text: &str) -> Option<u64> {
+    let mut number = 0u64;
+    for code in text.as_bytes() {
+        number = number
+            .checked_mul(16)?
+            .checked_add(u64::from(digit(*code)?))?;
+    }
+    Some(number)
+}
+
+/// So many zero bytes and then those of hexadecimal digits, two a byte; `-` is the empty list.
+pub fn code_of(alloc: Global, front: usize, hex: &str) -> Result<Option<Vec<u8>>, AllocError> {
+    let mut bytes = vec![in alloc; 0u8; front]?;
+    if hex == "-" {
+        return Ok(Some(bytes));
+    }
+    for pair in hex.as_bytes().chunks(2) {
+        match pair {
+            [high, low] => match (digit(*high), digit(*low)) {
+                (Some(high), Some(low)) => bytes.push(high * 16 + low)?,
+                _ => return Ok(None),
+            },
+            _ => return Ok(None),
+        }
+    }
+    Ok(Some(bytes))
+}

@@ -1,0 +1,202 @@
+// The check of a file of single steps.
+
+use crate::case::{Case, Item, code_of, parse_case, parse_item};
+use crate::check::{Counts, Outcome};
+use crate::processor::{CODE, TRASH, processor, run, sink};
+use lg_base::code::CodeBytes;
+use lg_cpu::answer::CpuStep;
+use lg_cpu::cpu::Cpu;
+use lg_io::memory_sink::MemorySink;
+use std::alloc::{AllocError, Global};
+use std::rt::Files;
+use std::{fs, io};
+
+// the length of the argument part
+const ARGS_LEN: usize = 4_096;
+
+// the most bytes in front of the first program counter
+const MOST_FRONT: u64 = 4_096;
+
+/// Checks a file of runs of few steps, all on one processor, which is set up anew for each.
+pub fn check_steps(rt: &(impl Files + Print + AllocGlobal), file: &str) -> io::Result<()> {
+    let text = fs::read_to_string(rt, file)?;
+    let alloc = rt.alloc();
+    let args = vec![in alloc; 0u8; ARGS_LEN]?;
+    let mut out = sink(alloc)?;
+    let mut counts = Counts::new();
+    if let Some(mut cpu) = processor(alloc, &[], &args)? {
+        for line in text.as_str().lines() {
+            let outcome = case_outcome(alloc, &mut cpu, &mut out, line)?;
+            counts.take(rt, file, line, &outcome)?;
+        }
+    }
+    counts.print(rt, file)
+}
+
+// How a run stands: what its last step came to, and how many instructions went.
+#[derive(Clone, Copy)]
+struct Stands {
+    answer: CpuStep,
+    steps: u64,
+}
+
+fn case_outcome(
+    alloc: Global,
+    cpu: &mut Cpu,
+    out: &mut MemorySink,
+    line: &str,
+) -> Result<Outcome, AllocError> {
+    let Some(case) = parse_case(line) else {
+        return Outcome::unread(alloc);
+    };
+    let Some(start) = set_up(cpu, case.before) else {
+        return Outcome::unread(alloc);
+    };
+    if !set_code(alloc, cpu, start, case.hex)? {
+        return Outcome::unread(alloc);
+    }
+    cpu.set_pc(start);
+    let before = registers(cpu);
+    let steps = cpu.steps();
+    let answer = run(cpu, out, case.steps);
+    let stands = Stands {
+        answer,
+        steps: cpu.steps().saturating_sub(steps),
+    };
+    let same = is_as_wanted(cpu, &case, &before, stands);
+    clear(cpu, case.before);
+    clear(cpu, case.after);
+    if same == Some(true) {
+        Ok(Outcome::Agrees)
+    } else {
+        differing(alloc, cpu, stands)
+    }
+}
+
+// sets what IN names and gives the first program counter
+fn set_up(cpu: &mut Cpu, items: &str) -> Option<u64> {
+    cpu.set_register(0, 0);
+    for number in 1..32 {
+        cpu.set_register(number, TRASH);
+    }
+    let mut pc = CODE;
+    if items == "-" {
+        return Some(pc);
+    }
+    for text in items.split(' ') {
+        match parse_item(text)? {
+            Item::Pc(at) => pc = at,
+            Item::Steps(_) => return None,
+            Item::Register { number, value } if number < 32 => cpu.set_register(number, value),
+            Item::Register { .. } => return None,
+            Item::Bytes {
+                width,
+                address,
+                value,
+            } => if !store(cpu, width, address, value) {
+                return None;
+            },
+        }
+    }
+    Some(pc)
+}
+
+// makes the code end with these bytes, of which the first stands at an address
+fn set_code(alloc: Global, cpu: &mut Cpu, at: u64, hex: &str) -> Result<bool, AllocError> {
+    if at < CODE || at - CODE > MOST_FRONT {
+        return Ok(false);
+    }
+    match code_of(alloc, (at - CODE) as usize, hex)? {
+        Some(bytes) if bytes.len() <= 0x1_0000 => {
+            cpu.set_code(CodeBytes::from_vec(bytes));
+            Ok(true)
+        }
+        _ => Ok(false),
+    }
+}
+
+fn registers(cpu: &Cpu) -> [u64; 32] {
+    let mut registers = [0; 32];
+    for number in 0..32u8 {
+        registers[number as usize] = cpu.register(number);
+    }
+    registers
+}
+
+fn store(cpu: &mut Cpu, width: u32, address: u64, value: u64) -> bool {
+    match width {
+        1 | 2 | 4 | 8 => cpu.store(address, width, value),
+        _ => false,
+    }
+}
+
+fn load(cpu: &Cpu, width: u32, address: u64) -> Option<u64> {
+    match width {
+        1 | 2 | 4 | 8 => cpu.load(address, width),
+        _ => None,
+    }
+}
+
+// whether the run stands as OUT says, and the registers and the memory are as they were before but for what it names
+fn is_as_wanted(cpu: &Cpu, case: &Case<'_>, before: &[u64; 32], stands: Stands) -> Option<bool> {
+    let mut wanted = *before;
+    let mut steps = 1;
+    let mut pc = 0;
+    let mut same = true;
+    for text in case.after.split(' ') {
+        match parse_item(text)? {
+            Item::Pc(at) => pc = at,
+            Item::Steps(count) => steps = count,
+            Item::Register { number, value } if number < 32 => wanted[number as usize] = value,
+            Item::Register { .. } => return None,
+            Item::Bytes {
+                width,
+                address,
+                value,
+            } => if load(cpu, width, address) != Some(value) {
+                same = false;
+            },
+        }
+    }
+    Some(
+        same && name_of(stands.answer) == case.answer
+            && stands.steps == steps
+            && cpu.pc() == pc
+            && registers(cpu) == wanted,
+    )
+}
+
+// sets the memory that these items name to 0
+fn clear(cpu: &mut Cpu, items: &str) {
+    for text in items.split(' ') {
+        if let Some(Item::Bytes { width, address, .. }) = parse_item(text) {
+            store(cpu, width, address, 0);
+        }
+    }
+}
+
+/// What a step comes to, as the evidence writes it.
+pub fn name_of(answer: CpuStep) -> &'static str {
+    match answer {
+        CpuStep::Went => "Went",
+        CpuStep::Ended(_) => "Ended",
+        CpuStep::Fault(kind) => kind.name(),
+        CpuStep::WriteFault => "WriteFault",
+    }
+}
+
+fn differing(alloc: Global, cpu: &Cpu, stands: Stands) -> Result<Outcome, AllocError> {
+    let mut text = format!(in alloc;
+        "{} steps={} pc={:x}",
+        name_of(stands.answer),
+        stands.steps,
+        cpu.pc()
+    )?;
+    for number in 0..32u8 {
+        let value = cpu.register(number);
+        if value != TRASH {
+            write!(text, " x{number}={value:x}")?;
+        }
+    }
+    Ok(Outcome::Differs(text))
+}

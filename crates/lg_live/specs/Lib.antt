@@ -1,0 +1,3 @@
+pub mod RegSets
+pub mod Registers
+pub mod Uses

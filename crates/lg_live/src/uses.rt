@@ -1,0 +1,76 @@
+// The registers that a node reads and writes.
+
+ghost use Rattle.std.specs.Prelude.{◌≡◌, ◌||◌};
+ghost use Rattle.lg_node.specs.declared.operand.Reg.{Reg};
+ghost use Rattle.lg_live.specs.RegSets.{has, IsSmall};
+ghost use Rattle.lg_live.specs.Uses.{is_for, names, is_call, is_read, is_written};
+
+use crate::reg_set::RegSet;
+use lg_node::{ControlOp, Form, Node, Op, Operand, Reg};
+
+/// What a node does with a register.
+#[derive(Clone, Copy, Debug, PartialEq, Eq)]
+pub enum Access {
+    /// It reads the register.
+    Read,
+    /// It writes the register.
+    Write,
+}
+
+// Whether an operand of this form is for this access.
+fn is_for(access: Access, form: Form) -> bool
+    ensures { result ≡ is_for access form }
+{
+    match (access, form) {
+        (_, Form::Update) | (Access::Read, Form::Read) | (Access::Write, Form::Write) => true,
+        _ => false,
+    }
+}
+
+// The registers that operands name for this access.
+fn named(access: Access, forms: &[Form], operands: &[Operand]) -> RegSet
+    ensures registers { (r : Reg) → has result r ≡ names access forms.now operands.now r }
+    ensures small { IsSmall result }
+{
+    match forms {
+        [] => RegSet::none(),
+        [form, forms @ ..] => match operands {
+            [] => RegSet::none(),
+            [operand, operands @ ..] => {
+                let rest = named(access, forms, operands);
+                match *operand {
+                    Operand::Reg(reg) if is_for(access, *form) => rest.with(reg),
+                    _ => rest,
+                }
+            }
+        },
+    }
+}
+
+// Whether an operation calls.
+fn is_call(op: Op) -> bool
+    ensures { result ≡ is_call op }
+{
+    matches!(op, Op::Control(ControlOp::Call | ControlOp::Finish, _))
+}
+
+/// The registers of R0 to V2 that a node reads.
+pub fn reads(node: &Node) -> RegSet
+    ensures registers { (r : Reg) → has result r ≡ is_read node.now r }
+    ensures small { IsSmall result }
+{
+    named(Access::Read, node.op.forms(), node.operands.as_slice())
+}
+
+/// The registers of R0 to V2 that a node writes. A call writes R0, R1 and R2.
+pub fn writes(node: &Node) -> RegSet
+    ensures registers { (r : Reg) → has result r ≡ is_written node.now r }
+    ensures small { IsSmall result }
+{
+    let written = named(Access::Write, node.op.forms(), node.operands.as_slice());
+    if is_call(node.op) {
+        written.with(Reg::R0).with(Reg::R1).with(Reg::R2)
+    } else {
+        written
+    }
+}

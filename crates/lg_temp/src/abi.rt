@@ -1,0 +1,113 @@
+// The calling conventions.
+
+ghost use Rattle.std.specs.Prelude.{◌≡◌, ◌<◌};
+ghost use Rattle.lg_base.specs.Conventions.{argument_registers, result_register, is_kept};
+ghost use Rattle.lg_temp.specs.Abis.{place_of, register_of};
+
+use lg_base::target::Target;
+use lg_node::Reg;
+
+/// Where an argument of a call lies.
+#[derive(Clone, Copy, Debug, PartialEq, Eq)]
+pub enum ArgPlace {
+    /// In a register.
+    Reg(u8),
+    /// In a stack word, counted from 0.
+    Stack(u32),
+}
+
+/// The calling convention of a target: where arguments and results lie, which registers are kept, and which register
+/// stands for each of the portable machine.
+#[derive(Clone, Copy, Debug, PartialEq, Eq)]
+pub struct Abi {
+    /// The target.
+    pub target: Target,
+}
+
+/// The registers of the first arguments.
+pub fn argument_registers(target: Target) -> &'static [u8]
+    ensures { result.now ≡ argument_registers target }
+{
+    match target {
+        Target::X86_64 => &[7, 6, 2, 1, 8, 9],
+        Target::Aarch64 => &[0, 1, 2, 3, 4, 5, 6, 7],
+        Target::Riscv64 => &[10, 11, 12, 13, 14, 15, 16, 17],
+    }
+}
+
+impl Abi {
+    /// The convention of a target.
+    pub fn of(target: Target) -> Abi
+        ensures { result.target ≡ target }
+    {
+        Abi { target }
+    }
+
+    /// Where an argument lies. Its number is below 16.
+    pub fn argument(&self, index: u32) -> ArgPlace
+        requires { index < 16 }
+        ensures { result ≡ place_of self.now.target index }
+    {
+        let registers = argument_registers(self.target);
+        match registers.get(index as usize) {
+            Some(register) => ArgPlace::Reg(*register),
+            None => ArgPlace::Stack(index - registers.len() as u32),
+        }
+    }
+
+    /// The register of a result.
+    pub fn result(&self) -> u8
+        ensures { result ≡ result_register self.now.target }
+    {
+        match self.target {
+            Target::X86_64 | Target::Aarch64 => 0,
+            Target::Riscv64 => 10,
+        }
+    }
+
+    /// Whether a call keeps a register.
+    pub fn kept(&self, reg: u8) -> bool
+        ensures { result ≡ is_kept self.now.target reg }
+    {
+        match self.target {
+            Target::X86_64 => matches!(reg, 3..=5 | 12..=15),
+            Target::Aarch64 => matches!(reg, 19..=29 | 31),
+            Target::Riscv64 => matches!(reg, 2 | 8 | 9 | 18..=27),
+        }
+    }
+
+    /// The register that stands for one of the portable machine.
+    pub fn portable(&self, reg: Reg) -> u8
+        ensures { result ≡ register_of self.now.target reg }
+    {
+        match self.target {
+            Target::X86_64 => match reg {
+                Reg::R0 => 0,
+                Reg::R1 => 10,
+                Reg::R2 => 11,
+                Reg::V0 => 3,
+                Reg::V1 => 13,
+                Reg::V2 => 14,
+                Reg::Fp => 5,
+            },
+            Target::Aarch64 => match reg {
+                Reg::R0 => 9,
+                Reg::R1 => 10,
+                Reg::R2 => 11,
+                Reg::V0 => 19,
+                Reg::V1 => 20,
+                Reg::V2 => 21,
+                Reg::Fp => 29,
+            },
+            Target::Riscv64 => match reg {
+                Reg::R0 => 5,
+                Reg::R1 => 6,
+                Reg::R2 => 7,
+                Reg::V0 => 9,
+                Reg::V1 => 18,
+                Reg::V2 => 19,
+                Reg::Fp => 8,
+            },
+        }
+    }
+}

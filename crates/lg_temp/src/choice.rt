@@ -1,0 +1,170 @@
+// What a node's temporaries need, and which registers they take.
+
+ghost use Rattle.std.specs.Prelude.{◌≡◌, ◌<◌, ◌≤◌, ◌+◌, [], ◌∷◌, ◌++◌, length, slice_set};
+ghost use Rattle.std.specs.Prelude.{true, false, replicate};
+
+use std::marker::Model;
+
+/// What a temporary of a node's code needs.
+#[derive(Clone, Copy, Debug, PartialEq, Eq)]
+pub enum Need {
+    /// Any register that can be had.
+    Any,
+    /// This register of the processor.
+    Only(u8),
+}
+
+/// The register that a temporary takes.
+#[derive(Clone, Copy, Debug, PartialEq, Eq)]
+pub enum Choice {
+    /// A register that holds nothing that is needed behind the node.
+    Free(u8),
+    /// A register that the node writes.
+    Own(u8),
+    /// A register that is saved in a spill slot before the node's code and restored behind it.
+    Spill { reg: u8, slot: u32 },
+}
+
+/// A list of at most 3 needs, held inline.
+#[derive(Drop)]
+pub struct Needs {
+    list: [Need; 3],
+    len: usize,
+}
+
+impl Model for Needs {
+    ghost use Rattle.std.specs.Prelude.{◌≤◌, List, take};
+    ghost use Rattle.lg_temp.specs.declared.choice.Need.{Need};
+
+    ghost Value = { List Need };
+
+    ghost view = { λ needs. take needs.len needs.list };
+
+    ghost invariant = { λ needs. needs.len ≤ 3 };
+}
+
+impl Needs {
+    /// The list of these needs, of which there are at most 3.
+    pub fn of(list: &[Need]) -> Needs
+        requires { length list.now ≤ 3 }
+        ensures { result ≡ list.now }
+    {
+        match list {
+            [] => Needs {
+                list: [Need::Any, Need::Any, Need::Any],
+                len: 0,
+            },
+            [a] => Needs {
+                list: [*a, Need::Any, Need::Any],
+                len: 1,
+            },
+            [a, b] => Needs {
+                list: [*a, *b, Need::Any],
+                len: 2,
+            },
+            _ => Needs {
+                list: [list[0], list[1], list[2]],
+                len: 3,
+            },
+        }
+    }
+
+    /// The needs.
+    pub fn as_slice(&self) -> &[Need]
+        ensures value { result.now ≡ self.now }
+        ensures few { length result.now ≤ 3 }
+    {
+        &self.list[..self.len]
+    }
+}
+
+// What stands behind the last choice.
+const UNUSED: Choice = Choice::Free(0);
+
+/// A list of at most 3 choices, held inline.
+#[derive(Drop)]
+pub struct Choices {
+    list: [Choice; 3],
+    len: usize,
+}
+
+impl Model for Choices {
+    ghost use Rattle.std.specs.Prelude.{◌≤◌, List, take};
+    ghost use Rattle.lg_temp.specs.declared.choice.Choice.{Choice};
+
+    ghost Value = { List Choice };
+
+    ghost view = { λ choices. take choices.len choices.list };
+
+    ghost invariant = { λ choices. choices.len ≤ 3 };
+}
+
+impl Choices {
+    /// No choices.
+    pub fn new() -> Choices
+        ensures { result ≡ [] }
+    {
+        Choices {
+            list: [UNUSED, UNUSED, UNUSED],
+            len: 0,
+        }
+    }
+
+    /// The list with a choice more. There are at most 2 before.
+    pub fn with(self, choice: Choice) -> Choices
+        requires { length self < 3 }
+        ensures { result ≡ self ++ choice ∷ [] }
+    {
+        match self.as_slice() {
+            [] => Choices {
+                list: [choice, UNUSED, UNUSED],
+                len: 1,
+            },
+            [a] => Choices {
+                list: [*a, choice, UNUSED],
+                len: 2,
+            },
+            [a, b] => Choices {
+                list: [*a, *b, choice],
+                len: 3,
+            },
+            _ => self,
+        }
+    }
+
+    /// The choices.
+    pub fn as_slice(&self) -> &[Choice]
+        ensures value { result.now ≡ self.now }
+        ensures few { length result.now ≤ 3 }
+    {
+        &self.list[..self.len]
+    }
+}
+
+/// A set of arguments of a call, by their numbers from 0 to 15.
+#[derive(Clone, Copy, Debug, PartialEq, Eq)]
+pub struct Staged {
+    /// Whether each is in the set.
+    pub arguments: [bool; 16],
+}
+
+impl Staged {
+    /// The set without arguments.
+    pub fn none() -> Staged
+        ensures { result.arguments ≡ replicate 16 false }
+    {
+        Staged {
+            arguments: [false; 16],
+        }
+    }
+
+    /// The set with an argument more. Its number is below 16.
+    pub fn with(self, index: u32) -> Staged
+        requires { index < 16 }
+        ensures { result.arguments ≡ slice_set self.arguments index true }
+    {
+        let mut arguments = self.arguments;
+        arguments[index as usize] = true;
+        Staged { arguments }
+    }
+}
