@@ -1,0 +1,4 @@
+//! Reads a `.tst` text: its statements, and the nodes, labels and data bytes that they make.
+#![tactic(auto)]
+
+mod source;
