@@ -1,2 +1,3 @@
 mod SourceLemmas
 mod TokenForms
+mod NameLemmas

@@ -1,2 +1,6 @@
+pub mod DataHolds
+pub mod DataParts
+pub mod NameTables
+pub mod Names
 pub mod Sources
 pub mod Streams
