@@ -1,3 +1,4 @@
 mod SourceLemmas
 mod TokenForms
 mod NameLemmas
+mod WordLemmas

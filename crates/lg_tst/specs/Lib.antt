@@ -4,3 +4,4 @@ pub mod NameTables
 pub mod Names
 pub mod Sources
 pub mod Streams
+pub mod Words

@@ -4,3 +4,4 @@
 mod data_part;
 mod names;
 mod source;
+mod words;
