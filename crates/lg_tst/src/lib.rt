@@ -4,4 +4,5 @@
 mod data_part;
 mod names;
 mod source;
+mod statement;
 mod words;
