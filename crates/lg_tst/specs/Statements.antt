@@ -33,16 +33,16 @@ word_in section.Data word = Err UnknownName
 
 -- a word: no floating point; `note` in either section
 abbrev pub word_statement : Section → List ℕ → Result Statement RefusalKind
-word_statement where_ word =
+word_statement here word =
     if is_float_word word then Err FloatRefused
-    else (if bytes_eq word (codes "note") then Ok statement.Note else word_in where_ word)
+    else (if bytes_eq word (codes "note") then Ok statement.Note else word_in here word)
 
 -- a directive: `.data` and `.code` in either section, `.align` in the code section, and the items and skips of the data section
 abbrev pub directive_statement : Section → Option DirectiveName → Result Statement RefusalKind
-directive_statement where_ (Some directive.Data) = Ok statement.Data
-directive_statement where_ (Some directive.Code) = Ok statement.Code
-directive_statement where_ (Some directive.Float) = Err FloatRefused
-directive_statement where_ (Some directive.Double) = Err FloatRefused
+directive_statement here (Some directive.Data) = Ok statement.Data
+directive_statement here (Some directive.Code) = Ok statement.Code
+directive_statement here (Some directive.Float) = Err FloatRefused
+directive_statement here (Some directive.Double) = Err FloatRefused
 directive_statement section.Code (Some directive.Align) = Ok (statement.Instruction (Plain plain.Align))
 directive_statement section.Data (Some directive.Align) = Ok statement.AlignData
 directive_statement section.Data (Some directive.Size) = Ok statement.Skip
@@ -50,15 +50,15 @@ directive_statement section.Data (Some directive.Char) = Ok (statement.Values On
 directive_statement section.Data (Some directive.Short) = Ok (statement.Values Two)
 directive_statement section.Data (Some directive.Int) = Ok (statement.Values Four)
 directive_statement section.Data (Some directive.Long) = Ok (statement.Values Eight)
-directive_statement where_ d = Err UnknownName
+directive_statement here d = Err UnknownName
 
 -- the statement that a token begins in a section
 abbrev pub statement_of : Section → TokenKind → List ℕ → Result Statement RefusalKind
-statement_of where_ Word text = word_statement where_ text
-statement_of where_ Directive text = directive_statement where_ (directive_of text)
-statement_of where_ LabelMark text = Ok statement.Label
-statement_of where_ Register text = if is_float_register text then Err FloatRefused else Err UnknownName
-statement_of where_ kind text = Err UnknownName
+statement_of here Word text = word_statement here text
+statement_of here Directive text = directive_statement here (directive_of text)
+statement_of here LabelMark text = Ok statement.Label
+statement_of here Register text = if is_float_register text then Err FloatRefused else Err UnknownName
+statement_of here kind text = Err UnknownName
 
 -- how many bytes a value has
 abbrev pub bytes_in : ItemSize → ℕ

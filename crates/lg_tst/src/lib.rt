@@ -3,6 +3,8 @@
 
 mod data_part;
 mod names;
+mod operand;
+mod parser;
 mod source;
 mod statement;
 mod words;

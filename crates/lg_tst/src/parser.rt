@@ -1,0 +1,107 @@
+// What is read of a text, statement by statement.
+
+ghost use Rattle.std.specs.Prelude.{◌≡◌, ◌<◌, ◌≤◌, ◌+◌, [], ◌∷◌, Ok, Err, true, length, IfOk};
+ghost use Rattle.lg_op.specs.Forms.{admits, forms_of};
+ghost use Rattle.lg_lex.specs.declared.token.TokenKind.TheVariants as kind;
+ghost use Rattle.lg_tst.specs.Answers.{Gives, GivesWith, Reads, HasRoom};
+ghost use Rattle.lg_tst.specs.Operands.{name_operand, names_behind, admitted, operand_at};
+ghost use Rattle.lg_tst.specs.Streams.{IsToken, refuse};
+ghost use Rattle.lg_tst.specs.Units.{start, wanted, behind, at_line, noted_by, noted, operand_of, operands, instruction, begun};
+
+use crate::data_part::DataPart;
+use crate::names::Names;
+use crate::operand::{admitted, argument_named, host_operand, local_named, local_size, register_operand, stays_apart};
+use crate::source::Source;
+use crate::statement::Section;
+use crate::words::behind_mark;
+use lg_base::host_name::HostName;
+use lg_base::refusal::{OutOfMemory, Refusal, RefusalKind, Stop};
+use lg_lex::{Token, TokenKind};
+use lg_node::NodeList;
+use lg_op::{Form, Node, Op, Operand, Operands, PlainOp};
+use std::alloc::Global;
+use std::marker::Model;
+
+/// The most nodes of a text.
+const MOST_NODES: u32 = 65_536;
+
+/// What has been read of a text, and the tokens that are left.
+#[derive(Drop)]
+pub struct Parser<'a> {
+    source: Source<'a>,
+    section: Section,
+    part: DataPart,
+    nodes: NodeList,
+    names: Names,
+}
+
+impl<'a> Model for Parser<'a> {
+    ghost use Rattle.lg_tst.specs.Units.{State};
+    ghost use Rattle.lg_tst.specs.Parsers.{view_of, IsParser};
+
+    ghost Value = { State };
+
+    ghost view = { view_of };
+
+    ghost invariant = { IsParser };
+}
+
+// A refusal.
+fn refuse<T>(kind: RefusalKind, line: u32) -> Result<T, Stop>
+    ensures { Reads result (refuse kind line) }
+{
+    Err(Stop::Refused(Refusal { kind, line }))
+}
+
+// A refusal's line.
+fn at_line(operand: Result<Operand, RefusalKind>, line: u32) -> Result<Operand, Stop>
+    ensures { Reads result (at_line line operand) }
+{
+    match operand {
+        Ok(operand) => Ok(operand),
+        Err(kind) => refuse(kind, line),
+    }
+}
+
+impl<'a> Parser<'a> {
+    /// Nothing is read of a text of at most 16,777,216 bytes. No memory is taken.
+    pub fn new(alloc: Global, text: &'a [u8]) -> Self
+        requires { length text.now ≤ 16777216 }
+        ensures { result ≡ start text.now }
+    {
+        Parser {
+            source: Source::new(text),
+            section: Section::Code,
+            part: DataPart::new(alloc),
+            nodes: NodeList::new(alloc),
+            names: Names::new(alloc),
+        }
+    }
+
+    // The next token, as an operand of the statement that begins in a line.
+    fn wanted(&mut self, line: u32) -> Result<Token, Stop>
+        ensures gives { GivesWith result self.new (wanted line self.old) (behind self.old) }
+        ensures token { IfOk result (λ token. IsToken self.new.source.text token) }
+        ensures room { IfOk result (λ _. HasRoom self.new) }
+    {
+        match self.source.next() {
+            Ok(Some(token)) => Ok(token),
+            Ok(None) => refuse(RefusalKind::BadOperand, line),
+            Err(refusal) => Err(Stop::Refused(refusal)),
+        }
+    }
+
+    // The label of a word, as an operand.
+    fn label_operand(&mut self, form: Form, word: &[u8], line: u32) -> Result<Operand, Stop>
+        requires word { Rattle.lg_node.specs.Nodes.is_word word.now ≡ true }
+        requires room { HasRoom self.old }
+        ensures gives { GivesWith result self.new (at_line line (operand_at self.old.list.words self.old.names form kind.Word word.now 0)) (noted_by kind.Word self.old form [] word.now) }
+        ensures form { IfOk result (λ x. admits form x ≡ true) }
+        ensures nodes { length self.new.list.nodes ≡ length self.old.list.nodes }
+    {
+        match self.nodes.label(word) {
+            Ok(label) => at_line(admitted(form, Operand::Label(label)), line),
+            Err(OutOfMemory) => Err(Stop::OutOfMemory),
+        }
+    }
+}
