@@ -1,6 +1,6 @@
 // The names that a function makes.
 
-ghost use Rattle.std.specs.Prelude.{◌≡◌, ◌≤◌, ◌<◌, ◌-◌, ◌+◌, ◌^◌, length, if◌then◌else◌, not, Some, None, slice_get, IfOk, OnOk};
+ghost use Rattle.std.specs.Prelude.{◌≡◌, ◌≤◌, ◌<◌, ◌-◌, ◌+◌, ◌^◌, length, if◌then◌else◌, not, Some, None, slice_get, IfOk, OnOk, OnErr};
 ghost use Rattle.lg_tst.specs.Names.{no_names, is_made, meaning_of, with_name, with_argument, with_local, below};
 
 use indexmap::IndexSet;
@@ -69,6 +69,7 @@ impl Names {
     fn add(&mut self, word: &[u8], meaning: Operand) -> Result<bool, OutOfMemory>
         ensures new { IfOk result (λ new. new ≡ not (is_made self.old word.now)) }
         ensures ok { OnOk result (self.new ≡ (if is_made self.old word.now then self.old else with_name self.old word.now meaning)) }
+        ensures err { OnErr result (self.new ≡ self.old) }
     {
         if self.words.get_index_of(word).is_some() {
             return Ok(false);
@@ -89,6 +90,8 @@ impl Names {
         requires { length self.old.words < 2 ^ 32 - 1 }
         ensures number { IfOk result (λ number. number ≡ (if is_made self.old word.now then None else Some self.old.arguments)) }
         ensures ok { OnOk result (self.new ≡ (if is_made self.old word.now then self.old else with_argument self.old word.now)) }
+        ensures err { OnErr result (self.new ≡ self.old) }
+        ensures few { length self.new.words ≤ length self.old.words + 1 }
     {
         let number = self.arguments;
         if !self.add(word, Operand::Slot(number))? {
@@ -105,6 +108,8 @@ impl Names {
         requires size { size ≤ 65536 }
         ensures number { IfOk result (λ number. number ≡ (if is_made self.old word.now then None else Some self.old.locals)) }
         ensures ok { OnOk result (self.new ≡ (if is_made self.old word.now then self.old else with_local self.old word.now size)) }
+        ensures err { OnErr result (self.new ≡ self.old) }
+        ensures few { length self.new.words ≤ length self.old.words + 1 }
     {
         let number = self.locals;
         let offset = self.lowest.wrapping_sub((size + 7) / 8 * 8);
