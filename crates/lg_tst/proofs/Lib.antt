@@ -1,4 +1,6 @@
-mod SourceLemmas
-mod TokenForms
 mod NameLemmas
+mod OperandLemmas
+mod SourceLemmas
+mod StopLemmas
+mod TokenForms
 mod WordLemmas

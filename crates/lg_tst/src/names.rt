@@ -47,6 +47,13 @@ impl Names {
         }
     }
 
+    /// Makes the names end.
+    pub fn clear(&mut self)
+        ensures { self.new ≡ no_names }
+    {
+        *self = Names::new(self.alloc);
+    }
+
     // The operand at a place.
     fn meaning_at(&self, index: usize) -> Operand
         requires { index < length self.now.meanings }

@@ -3,11 +3,12 @@
 ghost use Rattle.std.specs.Prelude.{◌≡◌, ◌<◌, ◌≤◌, ◌+◌, [], ◌∷◌, Ok, Err, true, length, IfOk};
 ghost use Rattle.lg_op.specs.Forms.{admits, forms_of};
 ghost use Rattle.lg_lex.specs.declared.token.TokenKind.TheVariants as kind;
-ghost use Rattle.lg_node.specs.Nodes.{is_word};
+ghost use Rattle.lg_node.specs.Nodes.{is_word, with_node};
+ghost use Rattle.lg_op.specs.Nodes.{InForm};
 ghost use Rattle.lg_tst.specs.Answers.{Gives, GivesWith, Reads, HasRoom};
 ghost use Rattle.lg_tst.specs.Operands.{name_operand, names_behind, admitted, operand_at, stays_apart};
 ghost use Rattle.lg_tst.specs.Streams.{IsToken, refuse};
-ghost use Rattle.lg_tst.specs.Units.{start, wanted, behind, at_line, token_text, noted_by, noted, operand_of, operands, instruction, begun};
+ghost use Rattle.lg_tst.specs.Units.{start, wanted, behind, at_line, token_text, noted_by, noted, operand_of, operands, instruction, begun, most_nodes};
 
 use crate::data_part::DataPart;
 use crate::names::Names;
@@ -189,5 +190,49 @@ impl<'a> Parser<'a> {
             return refuse(RefusalKind::BadOperand, token.line);
         }
         Ok(operand)
+    }
+
+    // A node, whose operands have been read.
+    fn push(&mut self, node: Node) -> Result<(), Stop>
+        requires room { length self.old.list.nodes < most_nodes }
+        requires form { InForm node }
+        ensures { Gives result self.new (Ok record self.old { list = with_node self.old.list node }) }
+    {
+        match self.nodes.push(node) {
+            Ok(()) => Ok(()),
+            Err(OutOfMemory) => Err(Stop::OutOfMemory),
+        }
+    }
+
+    // The operands of an instruction, and then its node.
+    fn operands(&mut self, op: Op, line: u32) -> Result<(), Stop>
+        requires room { length self.old.list.nodes < most_nodes }
+        ensures { Gives result self.new (operands op line (forms_of op) [] self.old) }
+    {
+        let forms = op.forms();
+        let mut done = Operands::of(&[]);
+        for form in forms {
+            let token = self.wanted(line)?;
+            let operand = self.operand(op, *form, done.as_slice(), token)?;
+            done = done.with(operand);
+        }
+        self.push(Node {
+            op,
+            operands: done,
+            line,
+        })
+    }
+
+    // An instruction, and `.align N` of code.
+    fn instruction(&mut self, op: Op, line: u32) -> Result<(), Stop>
+        ensures { Gives result self.new (instruction op self.old line) }
+    {
+        if self.nodes.len() >= MOST_NODES {
+            return refuse(RefusalKind::TooManyNodes, line);
+        }
+        if op == Op::Plain(PlainOp::Prolog) {
+            self.names.clear();
+        }
+        self.operands(op, line)
     }
 }
