@@ -1,6 +1,6 @@
 // The data part of a text as it is read.
 
-ghost use Rattle.std.specs.Prelude.{◌≡◌, ◌≤◌, ◌+◌, length, if◌then◌else◌, Some, IfOk, OnOk, is_some};
+ghost use Rattle.std.specs.Prelude.{◌≡◌, ◌≤◌, ◌+◌, length, if◌then◌else◌, Some, IfOk, OnOk, OnErr, is_some, false};
 ghost use Rattle.lg_tst.specs.DataParts.{no_data, fits, with_bytes, zeros, image_of, limit_of};
 
 use lg_base::image::DataImage;
@@ -62,11 +62,12 @@ impl DataPart {
         self.size.unwrap_or(0) as usize - self.bytes.len()
     }
 
-    /// Gives the part its size, of at least the bytes so far and at most 16,777,216, and takes the memory for all of it.
+    /// Gives the part its size, which it has not yet, of at most 16,777,216 bytes, and takes the memory for all of it.
     pub fn open(&mut self, size: u32) -> Result<(), OutOfMemory>
         requires most { size ≤ 16777216 }
-        requires least { length self.old.bytes ≤ size }
-        ensures { OnOk result (self.new ≡ record self.old { size = Some size }) }
+        requires new { is_some self.old.size ≡ false }
+        ensures ok { OnOk result (self.new ≡ record self.old { size = Some size }) }
+        ensures err { OnErr result (self.new ≡ self.old) }
     {
         self.bytes.try_reserve_exact(size as usize)?;
         self.size = Some(size);
@@ -77,6 +78,7 @@ impl DataPart {
     pub fn append(&mut self, more: &[u8]) -> Result<bool, OutOfMemory>
         ensures fits { IfOk result (λ done. done ≡ fits self.old (length more.now)) }
         ensures ok { OnOk result (self.new ≡ (if fits self.old (length more.now) then with_bytes self.old more.now else self.old)) }
+        ensures err { OnErr result (self.new ≡ self.old) }
     {
         if more.len() > self.room() {
             return Ok(false);
@@ -89,6 +91,7 @@ impl DataPart {
     pub fn skip(&mut self, count: u64) -> Result<bool, OutOfMemory>
         ensures fits { IfOk result (λ done. done ≡ fits self.old count) }
         ensures ok { OnOk result (self.new ≡ (if fits self.old count then with_bytes self.old (zeros count) else self.old)) }
+        ensures err { OnErr result (self.new ≡ self.old) }
     {
         if count > self.room() as u64 {
             return Ok(false);
@@ -100,7 +103,8 @@ impl DataPart {
 
     /// The bytes of the whole part: behind the items and skips come zeros.
     pub fn into_image(self) -> Result<DataImage, OutOfMemory>
-        ensures { IfOk result (λ image. image ≡ image_of self) }
+        ensures image { IfOk result (λ image. image ≡ image_of self) }
+        ensures most { IfOk result (λ image. length image ≤ 16777216) }
     {
         let DataPart { size, mut bytes } = self;
         bytes.resize(size.unwrap_or(0) as usize, 0)?;

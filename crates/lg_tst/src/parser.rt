@@ -1,20 +1,21 @@
 // What is read of a text, statement by statement.
 
-ghost use Rattle.std.specs.Prelude.{◌≡◌, ◌<◌, ◌≤◌, ◌+◌, [], ◌∷◌, Ok, Err, true, length, IfOk};
+ghost use Rattle.std.specs.Prelude.{◌≡◌, ◌<◌, ◌≤◌, ◌+◌, [], ◌∷◌, Ok, Err, true, false, is_some, length, IfOk};
 ghost use Rattle.lg_op.specs.Forms.{admits, forms_of};
 ghost use Rattle.lg_lex.specs.declared.token.TokenKind.TheVariants as kind;
 ghost use Rattle.lg_node.specs.Nodes.{is_word, with_node};
 ghost use Rattle.lg_op.specs.Nodes.{InForm};
 ghost use Rattle.lg_tst.specs.Answers.{Gives, GivesWith, Reads, HasRoom};
 ghost use Rattle.lg_tst.specs.Operands.{name_operand, names_behind, admitted, operand_at, stays_apart};
+ghost use Rattle.lg_tst.specs.DataParts.{zeros};
 ghost use Rattle.lg_tst.specs.Streams.{IsToken, refuse};
-ghost use Rattle.lg_tst.specs.Units.{start, wanted, behind, at_line, token_text, noted_by, noted, operand_of, operands, instruction, begun, most_nodes};
+ghost use Rattle.lg_tst.specs.Units.{start, wanted, behind, at_line, token_text, noted_by, noted, operand_of, operands, instruction, begun, most_nodes, number_wanted, opened, data_section, stored, skip, is_data_alignment, padding, aligned, align_data};
 
-use crate::data_part::DataPart;
+use crate::data_part::{DataPart, MOST_DATA};
 use crate::names::Names;
-use crate::operand::{admitted, argument_named, host_operand, local_named, local_size, register_operand, stays_apart};
+use crate::operand::{admitted, argument_named, host_operand, local_named, local_size, misfit, register_operand, stays_apart};
 use crate::source::Source;
-use crate::statement::Section;
+use crate::statement::{Section, is_number};
 use crate::words::behind_mark;
 use lg_base::host_name::HostName;
 use lg_base::refusal::{OutOfMemory, Refusal, RefusalKind, Stop};
@@ -63,6 +64,25 @@ fn at_line(operand: Result<Operand, RefusalKind>, line: u32) -> Result<Operand, 
         Ok(operand) => Ok(operand),
         Err(kind) => refuse(kind, line),
     }
+}
+
+// Whether a number is a power of two from 1 to 4,096.
+fn is_data_alignment(number: u64) -> bool
+    ensures value { result ≡ is_data_alignment number }
+    ensures some { result ≡ true → 0 < number }
+{
+    matches!(
+        number,
+        1 | 2 | 4 | 8 | 16 | 32 | 64 | 128 | 256 | 512 | 1024 | 2048 | 4096
+    )
+}
+
+// How many bytes lie between a place and the next multiple.
+fn padding(place: u64, multiple: u64) -> u64
+    requires { 0 < multiple }
+    ensures { result ≡ padding place multiple }
+{
+    (multiple - place % multiple) % multiple
 }
 
 impl<'a> Parser<'a> {
@@ -234,5 +254,94 @@ impl<'a> Parser<'a> {
             self.names.clear();
         }
         self.operands(op, line)
+    }
+
+    // A number, a character or an expression, as an operand of the statement that begins in a line.
+    fn number(&mut self, line: u32) -> Result<Token, Stop>
+        ensures gives { GivesWith result self.new (number_wanted line self.old) (behind self.old) }
+        ensures room { IfOk result (λ _. HasRoom self.new) }
+    {
+        let token = self.wanted(line)?;
+        if !is_number(token.kind) {
+            return refuse(misfit(token.kind, self.source.text_of(token)), token.line);
+        }
+        Ok(token)
+    }
+
+    // Begins the data section, whose part has so many bytes.
+    fn open(&mut self, size: Token) -> Result<(), Stop>
+        requires { is_some self.old.part.size ≡ false }
+        ensures { Gives result self.new (opened self.old size) }
+    {
+        if size.value > MOST_DATA {
+            return refuse(RefusalKind::BadOperand, size.line);
+        }
+        match self.part.open(size.value as u32) {
+            Ok(()) => {
+                self.section = Section::Data;
+                Ok(())
+            }
+            Err(OutOfMemory) => Err(Stop::OutOfMemory),
+        }
+    }
+
+    // `.data N`, once.
+    fn data_section(&mut self, line: u32) -> Result<(), Stop>
+        ensures { Gives result self.new (data_section self.old line) }
+    {
+        if self.part.has_size() {
+            return refuse(RefusalKind::UnknownName, line);
+        }
+        let size = self.number(line)?;
+        self.open(size)
+    }
+
+    // Bytes of the data part.
+    fn store(&mut self, bytes: &[u8], line: u32) -> Result<(), Stop>
+        ensures { Gives result self.new (stored line (length bytes.now) bytes.now self.old) }
+    {
+        match self.part.append(bytes) {
+            Ok(true) => Ok(()),
+            Ok(false) => refuse(RefusalKind::DataFull, line),
+            Err(OutOfMemory) => Err(Stop::OutOfMemory),
+        }
+    }
+
+    // So many zeros of the data part.
+    fn store_zeros(&mut self, count: u64, line: u32) -> Result<(), Stop>
+        ensures { Gives result self.new (stored line count (zeros count) self.old) }
+    {
+        match self.part.skip(count) {
+            Ok(true) => Ok(()),
+            Ok(false) => refuse(RefusalKind::DataFull, line),
+            Err(OutOfMemory) => Err(Stop::OutOfMemory),
+        }
+    }
+
+    // `.size N`.
+    fn skip(&mut self, line: u32) -> Result<(), Stop>
+        ensures { Gives result self.new (skip self.old line) }
+    {
+        let count = self.number(line)?;
+        self.store_zeros(count.value, count.line)
+    }
+
+    // The skip to a multiple.
+    fn align_to(&mut self, multiple: Token) -> Result<(), Stop>
+        ensures { Gives result self.new (aligned self.old multiple) }
+    {
+        if !is_data_alignment(multiple.value) {
+            return refuse(RefusalKind::BadOperand, multiple.line);
+        }
+        let count = padding(u64::from(self.part.len()), multiple.value);
+        self.store_zeros(count, multiple.line)
+    }
+
+    // `.align N` of data.
+    fn align_data(&mut self, line: u32) -> Result<(), Stop>
+        ensures { Gives result self.new (align_data self.old line) }
+    {
+        let multiple = self.number(line)?;
+        self.align_to(multiple)
     }
 }
