@@ -1,3 +1,4 @@
+mod LabelLemmas
 mod NameLemmas
 mod OperandLemmas
 mod SourceLemmas

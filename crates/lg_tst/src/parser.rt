@@ -1,27 +1,31 @@
 // What is read of a text, statement by statement.
 
-ghost use Rattle.std.specs.Prelude.{◌≡◌, ◌<◌, ◌≤◌, ◌+◌, [], ◌∷◌, Ok, Err, true, false, is_some, length, IfOk};
+ghost use Rattle.std.specs.Prelude.{◌≡◌, ◌<◌, ◌≤◌, ◌+◌, [], ◌∷◌, ◌++◌, Ok, Err, Some, true, false, is_some, length, take, IfOk};
 ghost use Rattle.lg_op.specs.Forms.{admits, forms_of};
+ghost use Rattle.byteorder.specs.Endian.{little_bytes};
+ghost use Rattle.lg_lex.specs.Escapes.{string_left};
+ghost use Rattle.lg_tst.specs.Statements.{bytes_in};
 ghost use Rattle.lg_lex.specs.declared.token.TokenKind.TheVariants as kind;
-ghost use Rattle.lg_node.specs.Nodes.{is_word, with_node};
+ghost use Rattle.lg_node.specs.Nodes.{is_word, with_node, IsWithin};
 ghost use Rattle.lg_op.specs.Nodes.{InForm};
-ghost use Rattle.lg_tst.specs.Answers.{Gives, GivesWith, Reads, HasRoom};
+ghost use Rattle.lg_tst.specs.Answers.{Gives, GivesWith, Reads, HasRoom, LiesWithin};
 ghost use Rattle.lg_tst.specs.Operands.{name_operand, names_behind, admitted, operand_at, stays_apart};
 ghost use Rattle.lg_tst.specs.DataParts.{zeros};
 ghost use Rattle.lg_tst.specs.Streams.{IsToken, refuse};
-ghost use Rattle.lg_tst.specs.Units.{start, wanted, behind, at_line, token_text, noted_by, noted, operand_of, operands, instruction, begun, most_nodes, number_wanted, opened, data_section, stored, skip, is_data_alignment, padding, aligned, align_data};
+ghost use Rattle.lg_tst.specs.Units.{start, wanted, behind, at_line, token_text, noted_by, noted, operand_of, operands, instruction, begun, most_nodes, number_wanted, opened, data_section, stored, skip, is_data_alignment, padding, aligned, align_data, item, first_value, place_in, bound_at, or_twice, label, name_word, skip_if, is_string, more_values};
 
 use crate::data_part::{DataPart, MOST_DATA};
 use crate::names::Names;
 use crate::operand::{admitted, argument_named, host_operand, local_named, local_size, misfit, register_operand, stays_apart};
 use crate::source::Source;
-use crate::statement::{Section, is_number};
+use crate::statement::{ItemSize, Section, is_number};
 use crate::words::behind_mark;
+use byteorder::{ByteOrder, LittleEndian};
 use lg_base::host_name::HostName;
 use lg_base::refusal::{OutOfMemory, Refusal, RefusalKind, Stop};
-use lg_lex::{Token, TokenKind};
-use lg_node::NodeList;
-use lg_op::{Form, Node, Op, Operand, Operands, PlainOp};
+use lg_lex::{Token, TokenKind, string_bytes};
+use lg_node::{NodeList, Place};
+use lg_op::{Form, Label, Node, Op, Operand, Operands, PlainOp};
 use std::alloc::Global;
 use std::marker::Model;
 
@@ -343,5 +347,118 @@ impl<'a> Parser<'a> {
     {
         let multiple = self.number(line)?;
         self.align_to(multiple)
+    }
+
+    // The bytes of a string, and a zero.
+    fn string(&mut self, text: &[u8], line: u32) -> Result<(), Stop>
+        ensures { Gives result self.new (stored line (length (string_left text.now 0 ++ 0 ∷ [])) (string_left text.now 0 ++ 0 ∷ []) self.old) }
+    {
+        let mut at = 0;
+        while let Some(byte) = string_bytes(text, &mut at) {
+            self.store(&[byte], line)?;
+        }
+        self.store(&[0], line)
+    }
+
+    // The low bytes of a number.
+    fn low_bytes(&mut self, size: ItemSize, value: u64, line: u32) -> Result<(), Stop>
+        ensures { Gives result self.new (stored line (length (take (bytes_in size) (little_bytes 8 value))) (take (bytes_in size) (little_bytes 8 value)) self.old) }
+    {
+        let mut bytes = [0; 8];
+        LittleEndian::write_u64(&mut bytes, value);
+        self.store(&bytes[..size.bytes()], line)
+    }
+
+    // A value of a data item.
+    fn item(&mut self, size: ItemSize, token: Token) -> Result<(), Stop>
+        requires { IsToken self.old.source.text token }
+        ensures { Gives result self.new (item size token self.old) }
+    {
+        let text = self.source.text_of(token);
+        match token.kind {
+            TokenKind::Str => self.string(text, token.line),
+            _ => self.low_bytes(size, token.value, token.line),
+        }
+    }
+
+    // The first value of a data item.
+    fn first_value(&mut self, size: ItemSize, token: Token) -> Result<(), Stop>
+        requires { IsToken self.old.source.text token }
+        ensures { Gives result self.new (first_value size self.old token) }
+    {
+        if !size.takes(token.kind) {
+            return refuse(misfit(token.kind, self.source.text_of(token)), token.line);
+        }
+        self.item(size, token)
+    }
+
+    // Where the next node or the next data byte stands.
+    fn place(&self) -> Place
+        ensures { result ≡ place_in self.now.section self.now }
+    {
+        match self.section {
+            Section::Code => Place::Node(self.nodes.len()),
+            Section::Data => Place::Image(self.part.len()),
+        }
+    }
+
+    // Binds a label at a place, once.
+    fn bind(&mut self, label: Label, place: Place, line: u32) -> Result<(), Stop>
+        requires label { label.0 < length self.old.list.words }
+        requires node { IsWithin (length self.old.list.nodes) place }
+        requires byte { LiesWithin (length self.old.part.bytes) (Some place) }
+        ensures { Gives result self.new (or_twice (bound_at self.old.list label.0 place) self.old line) }
+    {
+        if self.nodes.bind(label, place) {
+            return Ok(());
+        }
+        refuse(RefusalKind::LabelTwice, line)
+    }
+
+    // A label.
+    fn label(&mut self, word: &[u8], line: u32) -> Result<(), Stop>
+        requires word { is_word word.now ≡ true }
+        requires room { HasRoom self.old }
+        ensures { Gives result self.new (label self.old word.now line) }
+    {
+        let place = self.place();
+        match self.nodes.label(word) {
+            Ok(label) => self.bind(label, place, line),
+            Err(OutOfMemory) => Err(Stop::OutOfMemory),
+        }
+    }
+
+    // `name x`.
+    fn name_word(&mut self, line: u32) -> Result<(), Stop>
+        ensures { Gives result self.new (name_word self.old line) }
+    {
+        let token = self.wanted(line)?;
+        if token.kind != TokenKind::Word {
+            return refuse(misfit(token.kind, self.source.text_of(token)), token.line);
+        }
+        Ok(())
+    }
+
+    // Goes behind the next token where that is of a kind; a fault stays where it is.
+    fn skip_string(&mut self)
+        ensures { self.new ≡ skip_if is_string self.old }
+    {
+        if let Ok(Some(token)) = self.source.peek() && token.kind == TokenKind::Str {
+            self.source.skip();
+        }
+    }
+
+    // The values that follow the first of a data item.
+    fn more_values(&mut self, size: ItemSize) -> Result<(), Stop>
+        ensures { Gives result self.new (more_values size self.old.source.left self.old) }
+    {
+        while let Ok(Some(token)) = self.source.peek() {
+            if !size.takes(token.kind) {
+                return Ok(());
+            }
+            self.source.skip();
+            self.item(size, token)?;
+        }
+        Ok(())
     }
 }

@@ -68,6 +68,13 @@ impl<'a> Source<'a> {
         Ok(self.ahead)
     }
 
+    /// Takes the next token, where there is one.
+    pub fn skip(&mut self)
+        ensures { self.new ≡ passed self.old }
+    {
+        let _ = self.next();
+    }
+
     /// The bytes of a token.
     pub fn text_of(&self, token: Token) -> &'a [u8]
         requires { IsToken self.now.text token }
