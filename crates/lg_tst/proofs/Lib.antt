@@ -4,4 +4,5 @@ mod OperandLemmas
 mod SourceLemmas
 mod StopLemmas
 mod TokenForms
+mod ValueLemmas
 mod WordLemmas

@@ -42,6 +42,11 @@ wanted_of line [] None = refuse BadOperand line
 wanted_of line [] (Some refusal) = Err refusal
 wanted_of line (token ∷ more) fault = Ok token
 
+-- the first token, where one is left
+abbrev pub head_of : List Token → Option Token
+head_of [] = None
+head_of (token ∷ more) = Some token
+
 -- the tokens without the first
 abbrev pub tail_of : List Token → List Token
 tail_of [] = []

@@ -151,6 +151,10 @@ unfoldable pub more_values : ItemSize → List Token → State → Result State 
 more_values size [] s = Ok s
 more_values size (t ∷ more) s = if is_value size t.kind then (item size t (behind s) >>= λ u. more_values size more u) else Ok s
 
+-- a value, and those that follow
+abbrev pub value_and_more : ItemSize → Token → State → Result State Refusal
+value_and_more size t s = item size t s >>= λ u. more_values size s.source.left u
+
 abbrev pub first_value : ItemSize → State → Token → Result State Refusal
 first_value size s t = if is_value size t.kind then item size t s else refuse (misfit t.kind (token_text s t)) t.line
 

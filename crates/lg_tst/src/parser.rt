@@ -1,6 +1,6 @@
 // What is read of a text, statement by statement.
 
-ghost use Rattle.std.specs.Prelude.{◌≡◌, ◌<◌, ◌≤◌, ◌+◌, [], ◌∷◌, ◌++◌, Ok, Err, Some, true, false, is_some, length, take, IfOk};
+ghost use Rattle.std.specs.Prelude.{◌≡◌, ◌<◌, ◌≤◌, ◌+◌, [], ◌∷◌, ◌++◌, Ok, Err, Some, true, false, is_some, length, take, IfOk, IfSome, IfNone};
 ghost use Rattle.lg_op.specs.Forms.{admits, forms_of};
 ghost use Rattle.byteorder.specs.Endian.{little_bytes};
 ghost use Rattle.lg_lex.specs.Escapes.{string_left};
@@ -12,14 +12,14 @@ ghost use Rattle.lg_tst.specs.Answers.{Gives, GivesWith, Reads, HasRoom, LiesWit
 ghost use Rattle.lg_tst.specs.Operands.{name_operand, names_behind, admitted, operand_at, stays_apart};
 ghost use Rattle.lg_tst.specs.DataParts.{zeros};
 ghost use Rattle.lg_tst.specs.Streams.{IsToken, refuse};
-ghost use Rattle.lg_tst.specs.Units.{start, wanted, behind, at_line, token_text, noted_by, noted, operand_of, operands, instruction, begun, most_nodes, number_wanted, opened, data_section, stored, skip, is_data_alignment, padding, aligned, align_data, item, first_value, place_in, bound_at, or_twice, label, name_word, skip_if, is_string, more_values};
+ghost use Rattle.lg_tst.specs.Units.{start, wanted, behind, at_line, token_text, noted_by, noted, operand_of, operands, instruction, begun, most_nodes, number_wanted, opened, data_section, stored, skip, is_data_alignment, padding, aligned, align_data, item, first_value, place_in, bound_at, or_twice, label, name_word, skip_if, is_string, more_values, value_and_more, values, is_digits, note, statement_from};
 
 use crate::data_part::{DataPart, MOST_DATA};
 use crate::names::Names;
 use crate::operand::{admitted, argument_named, host_operand, local_named, local_size, misfit, register_operand, stays_apart};
 use crate::source::Source;
-use crate::statement::{ItemSize, Section, is_number};
-use crate::words::behind_mark;
+use crate::statement::{ItemSize, Section, Statement, is_number, statement_of};
+use crate::words::{behind_mark, without_last};
 use byteorder::{ByteOrder, LittleEndian};
 use lg_base::host_name::HostName;
 use lg_base::refusal::{OutOfMemory, Refusal, RefusalKind, Stop};
@@ -302,7 +302,8 @@ impl<'a> Parser<'a> {
 
     // Bytes of the data part.
     fn store(&mut self, bytes: &[u8], line: u32) -> Result<(), Stop>
-        ensures { Gives result self.new (stored line (length bytes.now) bytes.now self.old) }
+        ensures gives { Gives result self.new (stored line (length bytes.now) bytes.now self.old) }
+        ensures source { self.new.source ≡ self.old.source }
     {
         match self.part.append(bytes) {
             Ok(true) => Ok(()),
@@ -351,7 +352,8 @@ impl<'a> Parser<'a> {
 
     // The bytes of a string, and a zero.
     fn string(&mut self, text: &[u8], line: u32) -> Result<(), Stop>
-        ensures { Gives result self.new (stored line (length (string_left text.now 0 ++ 0 ∷ [])) (string_left text.now 0 ++ 0 ∷ []) self.old) }
+        ensures gives { Gives result self.new (stored line (length (string_left text.now 0 ++ 0 ∷ [])) (string_left text.now 0 ++ 0 ∷ []) self.old) }
+        ensures source { self.new.source ≡ self.old.source }
     {
         let mut at = 0;
         while let Some(byte) = string_bytes(text, &mut at) {
@@ -362,7 +364,8 @@ impl<'a> Parser<'a> {
 
     // The low bytes of a number.
     fn low_bytes(&mut self, size: ItemSize, value: u64, line: u32) -> Result<(), Stop>
-        ensures { Gives result self.new (stored line (length (take (bytes_in size) (little_bytes 8 value))) (take (bytes_in size) (little_bytes 8 value)) self.old) }
+        ensures gives { Gives result self.new (stored line (length (take (bytes_in size) (little_bytes 8 value))) (take (bytes_in size) (little_bytes 8 value)) self.old) }
+        ensures source { self.new.source ≡ self.old.source }
     {
         let mut bytes = [0; 8];
         LittleEndian::write_u64(&mut bytes, value);
@@ -372,7 +375,8 @@ impl<'a> Parser<'a> {
     // A value of a data item.
     fn item(&mut self, size: ItemSize, token: Token) -> Result<(), Stop>
         requires { IsToken self.old.source.text token }
-        ensures { Gives result self.new (item size token self.old) }
+        ensures gives { Gives result self.new (item size token self.old) }
+        ensures source { self.new.source ≡ self.old.source }
     {
         let text = self.source.text_of(token);
         match token.kind {
@@ -439,12 +443,45 @@ impl<'a> Parser<'a> {
         Ok(())
     }
 
-    // Goes behind the next token where that is of a kind; a fault stays where it is.
+    // Goes behind the next token where that is a string.
     fn skip_string(&mut self)
         ensures { self.new ≡ skip_if is_string self.old }
     {
-        if let Ok(Some(token)) = self.source.peek() && token.kind == TokenKind::Str {
+        if let Some(token) = self.source.peek() && token.kind == TokenKind::Str {
             self.source.skip();
+        }
+    }
+
+    // Goes behind the next token where that is a number.
+    fn skip_number(&mut self)
+        ensures { self.new ≡ skip_if is_digits self.old }
+    {
+        if let Some(token) = self.source.peek() && token.kind == TokenKind::Number {
+            self.source.skip();
+        }
+    }
+
+    // `note`, and an optional string and then an optional number.
+    fn note(&mut self)
+        ensures { self.new ≡ note self.old }
+    {
+        self.skip_string();
+        self.skip_number();
+    }
+
+    // The next value of a data item, where the next token is one.
+    fn next_value(&mut self, size: ItemSize) -> Option<Token>
+        ensures none { IfNone result (more_values size self.old.source.left self.old ≡ Ok self.new) }
+        ensures some { IfSome result (λ token. more_values size self.old.source.left self.old ≡ value_and_more size token self.new) }
+        ensures token { IfSome result (λ token. IsToken self.new.source.text token) }
+        ensures less { IfSome result (λ _. length self.new.source.left < length self.old.source.left) }
+    {
+        match self.source.peek() {
+            Some(token) if size.takes(token.kind) => {
+                self.source.skip();
+                Some(token)
+            }
+            _ => None,
         }
     }
 
@@ -452,13 +489,46 @@ impl<'a> Parser<'a> {
     fn more_values(&mut self, size: ItemSize) -> Result<(), Stop>
         ensures { Gives result self.new (more_values size self.old.source.left self.old) }
     {
-        while let Ok(Some(token)) = self.source.peek() {
-            if !size.takes(token.kind) {
-                return Ok(());
-            }
-            self.source.skip();
+        while let Some(token) = self.next_value(size) {
             self.item(size, token)?;
         }
         Ok(())
+    }
+
+    // A data item.
+    fn values(&mut self, size: ItemSize, line: u32) -> Result<(), Stop>
+        ensures { Gives result self.new (values size self.old line) }
+    {
+        let token = self.wanted(line)?;
+        self.first_value(size, token)?;
+        self.more_values(size)
+    }
+
+    // A statement, whose first token has been taken.
+    fn statement(&mut self, token: Token) -> Result<(), Stop>
+        requires token { IsToken self.old.source.text token }
+        requires room { HasRoom self.old }
+        ensures { Gives result self.new (statement_from self.old token) }
+    {
+        let text = self.source.text_of(token);
+        let line = token.line;
+        match statement_of(self.section, token.kind, text) {
+            Ok(Statement::Data) => self.data_section(line),
+            Ok(Statement::Code) => {
+                self.section = Section::Code;
+                Ok(())
+            }
+            Ok(Statement::Label) => self.label(without_last(text), line),
+            Ok(Statement::Name) => self.name_word(line),
+            Ok(Statement::Note) => {
+                self.note();
+                Ok(())
+            }
+            Ok(Statement::Values(size)) => self.values(size, line),
+            Ok(Statement::Skip) => self.skip(line),
+            Ok(Statement::AlignData) => self.align_data(line),
+            Ok(Statement::Instruction(op)) => self.instruction(op, line),
+            Err(kind) => refuse(kind, line),
+        }
     }
 }

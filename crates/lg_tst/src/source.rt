@@ -2,7 +2,7 @@
 
 ghost use Rattle.std.specs.Prelude.{◌≡◌, ◌≤◌, ◌<◌, length, IfSome, IfOk};
 ghost use Rattle.lg_lex.specs.Tokens.{tokens_of};
-ghost use Rattle.lg_tst.specs.Streams.{Stream, IsToken, next_of, passed, text_of};
+ghost use Rattle.lg_tst.specs.Streams.{Stream, IsToken, head_of, next_of, passed, text_of};
 
 use lg_base::refusal::Refusal;
 use lg_lex::{Lexer, Token};
@@ -56,16 +56,16 @@ impl<'a> Source<'a> {
         }
     }
 
-    /// The next token, which stays where it is.
-    pub fn peek(&mut self) -> Result<Option<Token>, Refusal>
-        ensures value { result ≡ next_of self.old.left self.old.fault }
+    /// The next token, which stays where it is. None at the end of the text and at a fault, which stays too.
+    pub fn peek(&mut self) -> Option<Token>
+        ensures value { result ≡ head_of self.old.left }
         ensures same { self.new ≡ self.old }
-        ensures token { IfOk result (λ next. IfSome next (λ token. IsToken self.old.text token)) }
+        ensures token { IfSome result (λ token. IsToken self.old.text token) }
     {
-        if self.ahead.is_none() {
-            self.ahead = self.lexer.next()?;
+        if self.ahead.is_none() && let Ok(next) = self.lexer.next() {
+            self.ahead = next;
         }
-        Ok(self.ahead)
+        self.ahead
     }
 
     /// Takes the next token, where there is one.

@@ -7,6 +7,6 @@ abbrev pub decreases-loop-byte : goal.decreases-loop-byte
 decreases-loop-byte l = length (string_left l.text l.at)
 
 abbrev pub invariant-loop-byte : goal.invariant-loop-byte
-invariant-loop-byte l =
+invariant-loop-byte l = (l.self.source ≡ l.fn.self.source) × (
     stored l.line (length (string_left l.text l.at ++ 0 ∷ [])) (string_left l.text l.at ++ 0 ∷ []) l.self
-    ≡ stored l.line (length (string_left l.text 0 ++ 0 ∷ [])) (string_left l.text 0 ++ 0 ∷ []) l.fn.self
+    ≡ stored l.line (length (string_left l.text 0 ++ 0 ∷ [])) (string_left l.text 0 ++ 0 ∷ []) l.fn.self)
