@@ -1,8 +1,11 @@
 mod LabelLemmas
 mod NameLemmas
 mod OperandLemmas
+mod ProgressLemmas
 mod SourceLemmas
+mod StatementLemmas
 mod StopLemmas
+mod TextLemmas
 mod TokenForms
 mod ValueLemmas
 mod WordLemmas

@@ -245,6 +245,10 @@ unfoldable pub statements : ℕ → State → Result State Refusal
 statements zero s = Ok s
 statements (suc k) s = text_from (statements k) s (next_of s.source.left s.source.fault)
 
+-- all statements that are left: there are no more than tokens
+abbrev pub statements_of : State → Result State Refusal
+statements_of s = statements (suc (length s.source.left)) s
+
 abbrev pub no_nodes : LabelledNodes
 no_nodes = record { nodes = []; words = []; places = [] }
 
@@ -258,6 +262,6 @@ start text = record {
   names = no_names;
 }
 
--- the unit of a text, or its first fault; no text has more statements than tokens
+-- the unit of a text, or its first fault
 abbrev pub unit_of : List ℕ → Result TextUnit Refusal
-unit_of text = statements (suc (length (tokens_of text).0)) (start text) >>= λ s. Ok (record { nodes = s.list; image = image_of s.part })
+unit_of text = statements_of (start text) >>= λ s. Ok (record { nodes = s.list; image = image_of s.part })

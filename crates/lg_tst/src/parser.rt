@@ -11,8 +11,8 @@ ghost use Rattle.lg_op.specs.Nodes.{InForm};
 ghost use Rattle.lg_tst.specs.Answers.{Gives, GivesWith, Reads, HasRoom, LiesWithin};
 ghost use Rattle.lg_tst.specs.Operands.{name_operand, names_behind, admitted, operand_at, stays_apart};
 ghost use Rattle.lg_tst.specs.DataParts.{zeros};
-ghost use Rattle.lg_tst.specs.Streams.{IsToken, refuse};
-ghost use Rattle.lg_tst.specs.Units.{start, wanted, behind, at_line, token_text, noted_by, noted, operand_of, operands, instruction, begun, most_nodes, number_wanted, opened, data_section, stored, skip, is_data_alignment, padding, aligned, align_data, item, first_value, place_in, bound_at, or_twice, label, name_word, skip_if, is_string, more_values, value_and_more, values, is_digits, note, statement_from};
+ghost use Rattle.lg_tst.specs.Streams.{IsToken, refuse, next_of};
+ghost use Rattle.lg_tst.specs.Units.{start, wanted, behind, at_line, token_text, noted_by, noted, operand_of, operands, instruction, begun, most_nodes, number_wanted, opened, data_section, stored, skip, is_data_alignment, padding, aligned, align_data, item, first_value, place_in, bound_at, or_twice, label, name_word, skip_if, is_string, more_values, value_and_more, values, is_digits, note, statement_from, statements_of};
 
 use crate::data_part::{DataPart, MOST_DATA};
 use crate::names::Names;
@@ -530,5 +530,28 @@ impl<'a> Parser<'a> {
             Ok(Statement::Instruction(op)) => self.instruction(op, line),
             Err(kind) => refuse(kind, line),
         }
+    }
+
+    // The next token, as the first of a statement: None at the end of the text.
+    fn next_token(&mut self) -> Result<Option<Token>, Stop>
+        ensures value { Reads result (next_of self.old.source.left self.old.source.fault) }
+        ensures behind { self.new ≡ behind self.old }
+        ensures token { IfOk result (λ next. IfSome next (λ token. IsToken self.new.source.text token)) }
+        ensures room { IfOk result (λ next. IfSome next (λ _. HasRoom self.new)) }
+    {
+        match self.source.next() {
+            Ok(next) => Ok(next),
+            Err(refusal) => Err(Stop::Refused(refusal)),
+        }
+    }
+
+    /// Reads all statements that are left.
+    pub fn statements(&mut self) -> Result<(), Stop>
+        ensures { Gives result self.new (statements_of self.old) }
+    {
+        while let Some(token) = self.next_token()? {
+            self.statement(token)?;
+        }
+        Ok(())
     }
 }
