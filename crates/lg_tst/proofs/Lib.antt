@@ -1,6 +1,7 @@
 mod LabelLemmas
 mod NameLemmas
 mod OperandLemmas
+mod PlaceLemmas
 mod ProgressLemmas
 mod SourceLemmas
 mod StatementLemmas

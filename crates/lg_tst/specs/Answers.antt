@@ -7,6 +7,7 @@ use Rattle.lg_base.specs.declared.refusal.Stop.{Stop}
 use Rattle.lg_base.specs.declared.refusal.Stop.TheVariants.{Refused, OutOfMemory}
 use Rattle.lg_node.specs.declared.place.Place.{Place}
 use Rattle.lg_node.specs.declared.place.Place.TheVariants as place
+use Rattle.lg_node.specs.declared.unit.Unit.{Unit as TextUnit}
 use Rattle.lg_tst.specs.Units.{State}
 
 -- a call that gives x and leaves a state, or refuses, as a definition says; where memory was wanted nothing is said
@@ -35,3 +36,8 @@ HasRoom s = length s.list.words + length s.names.words + length s.source.left < 
 abbrev pub LiesWithin : ℕ → Option Place → Type 0
 LiesWithin n (Some (place.Image k)) = k ≤ n
 LiesWithin n bound = Unit {0}
+
+-- the data part of a unit has at most 16 MiB, and no data label is bound behind its end
+pub record IsWhole (u : TextUnit) : Type 0 where
+  pub image : length u.image ≤ 16777216
+  pub places : All (LiesWithin (length u.image)) u.nodes.places

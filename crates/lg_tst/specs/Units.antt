@@ -262,6 +262,10 @@ start text = record {
   names = no_names;
 }
 
+-- the nodes and labels of what was read, and the bytes of its data part
+abbrev pub unit_from : State → TextUnit
+unit_from s = record { nodes = s.list; image = image_of s.part }
+
 -- the unit of a text, or its first fault
 abbrev pub unit_of : List ℕ → Result TextUnit Refusal
-unit_of text = statements_of (start text) >>= λ s. Ok (record { nodes = s.list; image = image_of s.part })
+unit_of text = statements_of (start text) >>= λ s. Ok (unit_from s)

@@ -8,11 +8,11 @@ ghost use Rattle.lg_tst.specs.Statements.{bytes_in};
 ghost use Rattle.lg_lex.specs.declared.token.TokenKind.TheVariants as kind;
 ghost use Rattle.lg_node.specs.Nodes.{is_word, with_node, IsWithin};
 ghost use Rattle.lg_op.specs.Nodes.{InForm};
-ghost use Rattle.lg_tst.specs.Answers.{Gives, GivesWith, Reads, HasRoom, LiesWithin};
+ghost use Rattle.lg_tst.specs.Answers.{Gives, GivesWith, Reads, HasRoom, LiesWithin, IsWhole};
 ghost use Rattle.lg_tst.specs.Operands.{name_operand, names_behind, admitted, operand_at, stays_apart};
 ghost use Rattle.lg_tst.specs.DataParts.{zeros};
 ghost use Rattle.lg_tst.specs.Streams.{IsToken, refuse, next_of};
-ghost use Rattle.lg_tst.specs.Units.{start, wanted, behind, at_line, token_text, noted_by, noted, operand_of, operands, instruction, begun, most_nodes, number_wanted, opened, data_section, stored, skip, is_data_alignment, padding, aligned, align_data, item, first_value, place_in, bound_at, or_twice, label, name_word, skip_if, is_string, more_values, value_and_more, values, is_digits, note, statement_from, statements_of};
+ghost use Rattle.lg_tst.specs.Units.{start, wanted, behind, at_line, token_text, noted_by, noted, operand_of, operands, instruction, begun, most_nodes, number_wanted, opened, data_section, stored, skip, is_data_alignment, padding, aligned, align_data, item, first_value, place_in, bound_at, or_twice, label, name_word, skip_if, is_string, more_values, value_and_more, values, is_digits, note, statement_from, statements_of, unit_from};
 
 use crate::data_part::{DataPart, MOST_DATA};
 use crate::names::Names;
@@ -24,7 +24,7 @@ use byteorder::{ByteOrder, LittleEndian};
 use lg_base::host_name::HostName;
 use lg_base::refusal::{OutOfMemory, Refusal, RefusalKind, Stop};
 use lg_lex::{Token, TokenKind, string_bytes};
-use lg_node::{NodeList, Place};
+use lg_node::{NodeList, Place, Unit};
 use lg_op::{Form, Label, Node, Op, Operand, Operands, PlainOp};
 use std::alloc::Global;
 use std::marker::Model;
@@ -553,5 +553,23 @@ impl<'a> Parser<'a> {
             self.statement(token)?;
         }
         Ok(())
+    }
+
+    /// The unit of what was read.
+    pub fn into_unit(self) -> Result<Unit, Stop>
+        ensures unit { Reads result (Ok (unit_from self.entry)) }
+        ensures whole { IfOk result IsWhole }
+    {
+        let Parser {
+            source: _,
+            section: _,
+            part,
+            nodes,
+            names: _,
+        } = self;
+        match part.into_image() {
+            Ok(image) => Ok(Unit { nodes, image }),
+            Err(OutOfMemory) => Err(Stop::OutOfMemory),
+        }
     }
 }
