@@ -1,5 +1,5 @@
 -- Names as they are held: keys with their bytes, and meanings beside them.
-use Rattle.std.proofs.Common.{◌≡◌, ℕ, Bool, true, false, not, if◌then◌else◌, List, [], ◌∷◌, ◌++◌, Option, refl, sym, ap, ◌∙◌, length, map, position, is_some}
+use Rattle.std.proofs.Common.{◌≡◌, ℕ, true, false, if◌then◌else◌, List, Option, refl, sym, ap, ◌∙◌, map, position, is_some}
 use Rattle.std.proofs.lemmas.List.{length-map}
 use Rattle.std.specs.Str.{bytes_eq}
 use Rattle.lg_op.specs.declared.operand.Operand.{Operand}

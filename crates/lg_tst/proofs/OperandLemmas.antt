@@ -1,16 +1,14 @@
 -- The operands of an instruction, one after another.
-use Rattle.std.proofs.Common.{◌≡◌, ◌≢◌, ℕ, ◌+◌, ◌<◌, ◌≤◌, Bool, true, false, not, ◌&&◌, cond, List, [], ◌∷◌, ◌++◌, length, length-append, get_or, take, drop, Option, Some, None, Result, Ok, Err, refl, sym, ap, subst, ◌∙◌, add-one, lit≤, arith}
-use Rattle.std.proofs.Math.Seq.{drop-cons, take-suc, take-length}
+use Rattle.std.proofs.Common.{◌≡◌, ◌≢◌, ℕ, ◌+◌, ◌<◌, ◌≤◌, Bool, true, false, not, ◌&&◌, List, [], ◌∷◌, ◌++◌, length, length-append, get_or, take, drop, Ok, Err, refl, sym, ap, subst, ◌∙◌, add-one, lit≤, arith}
+use Rattle.std.proofs.Math.Seq.{drop-cons, take-suc}
 use Rattle.std.proofs.lemmas.Bool.{false≢true}
 use Rattle.std.proofs.lemmas.List.{drop_all, take_all}
 use Rattle.std.proofs.lemmas.Slice.Eq.{bytes_eq-Decides}
-use Rattle.std.specs.Str.{bytes_eq}
 use Rattle.lg_base.specs.declared.refusal.Refusal.{Refusal}
 use Rattle.lg_lex.specs.declared.token.Token.{Token}
 use Rattle.lg_op.specs.Forms.{forms_of, admits, admit}
 use Rattle.lg_op.specs.Nodes.{InForm, IsApart}
 use Rattle.lg_op.specs.declared.form.Form.{Form}
-use Rattle.lg_op.specs.declared.node.Node.{Node}
 use Rattle.lg_op.specs.declared.op.Op.{Op}
 use Rattle.lg_op.specs.declared.op.Op.TheVariants.{Binary, Wide, Branch, BranchSum, Control, Unary, Plain, Load, Store, Retval, Getarg}
 use Rattle.lg_op.specs.declared.op.LastOperand.TheVariants as last_operand
@@ -144,7 +142,6 @@ module _ (op : Op) (line i : ℕ) (done : List Operand) (s first : State) (read 
       not_operand : (refusal : Refusal) → operand_of (behind s) op form done t ≡ Err refusal → operands op line (forms_of op) [] first ≡ Err refusal
       not_operand refusal e = there ∙ ap (λ r. r >>= λ x. operands op line (drop (i + 1) (forms_of op)) (done ++ x ∷ []) (noted (behind s) form done t)) e
 
-
       operand_read : (x : Operand) (new : State) → operand_of (behind s) op form done t ≡ Ok x → new ≡ noted (behind s) form done t → admits form x ≡ true → stays_apart op done x ≡ true → length new.list.nodes ≡ length s.list.nodes → IsRead op line (i + 1) (done ++ x ∷ []) new first
       operand_read x new e same admitted apart kept =
           let more = length-append done (x ∷ []) in
@@ -170,11 +167,11 @@ module _ (op : Op) (line i : ℕ) (done : List Operand) (s first : State) (read 
         one_read x new all as_all e same admitted apart kept =
             subst (λ xs. IsRead op line (i + 1) xs new first) (sym (as_all ∙ ap (λ xs. xs ++ x ∷ []) as_done))
             (operand_read x new
-              (sym (here_is (λ u f x. operand_of u op f x t)) ∙ e)
-              (same ∙ here_is (λ u f x. noted u f x t))
-              (sym (ap (λ f. admits (get_or f i d) x) as_forms) ∙ admitted)
-              (sym (ap (λ ds. stays_apart op ds x) as_done) ∙ apart)
-              (kept ∙ ap (λ (u : State). length u.list.nodes) as_state))
+            (sym (here_is (λ u f x. operand_of u op f x t)) ∙ e)
+            (same ∙ here_is (λ u f x. noted u f x t))
+            (sym (ap (λ f. admits (get_or f i d) x) as_forms) ∙ admitted)
+            (sym (ap (λ ds. stays_apart op ds x) as_done) ∙ apart)
+            (kept ∙ ap (λ (u : State). length u.list.nodes) as_state))
 
   -- all are read
   pub in_form : length (forms_of op) ≤ i → InForm record { op = op; operands = done; line = line }

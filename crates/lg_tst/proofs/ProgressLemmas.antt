@@ -1,5 +1,5 @@
 -- No statement leaves more tokens than it found.
-use Rattle.std.proofs.Common.{◌≡◌, ℕ, ◌<◌, ◌≤◌, Bool, true, false, cond, List, [], ◌∷◌, ◌++◌, length, Option, Some, None, Result, Ok, Err, IfOk, refl, is_some, nat_lt, nat_le, subst, arith}
+use Rattle.std.proofs.Common.{◌≡◌, ℕ, ◌≤◌, Bool, true, false, cond, List, [], ◌∷◌, ◌++◌, length, Option, Some, None, Result, Ok, Err, IfOk, is_some, nat_lt, nat_le, subst, arith}
 use Rattle.lg_base.specs.declared.refusal.Refusal.{Refusal}
 use Rattle.lg_base.specs.declared.refusal.RefusalKind.{RefusalKind}
 use Rattle.lg_lex.specs.declared.token.Token.{Token}
@@ -13,9 +13,9 @@ use Rattle.lg_op.specs.declared.op.PlainOp.TheVariants as plain
 use Rattle.lg_op.specs.declared.operand.Operand.{Operand}
 use Rattle.lg_node.specs.Nodes.{LabelledNodes}
 use Rattle.lg_tst.specs.DataParts.{fits}
-use Rattle.lg_tst.specs.Statements.{statement_of, is_value}
+use Rattle.lg_tst.specs.Statements.{is_value}
 use Rattle.lg_tst.specs.Streams.{◌>>=◌, tail_of}
-use Rattle.lg_tst.specs.Units.{State, token_text, behind, wanted, operand_of, noted_by, noted, operands, begun, instruction, number_wanted, opened, data_section, stored, skip, is_data_alignment, aligned, align_data, item, more_values, first_value, values, or_twice, label, is_word_kind, named, name_word, is_string, is_digits, behind_if, skip_if, note, statement_by, statement_from}
+use Rattle.lg_tst.specs.Units.{State, token_text, behind, wanted, operand_of, noted_by, noted, operands, begun, instruction, number_wanted, opened, data_section, stored, is_data_alignment, aligned, item, more_values, first_value, values, or_twice, is_word_kind, named, is_string, is_digits, behind_if, skip_if, note, statement_by, statement_from}
 use Rattle.lg_tst.specs.declared.statement.ItemSize.{ItemSize}
 use Rattle.lg_tst.specs.declared.statement.Statement.{Statement}
 use Rattle.lg_tst.specs.declared.statement.Statement.TheVariants as statement

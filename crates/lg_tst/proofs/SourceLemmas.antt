@@ -1,7 +1,6 @@
 -- What is left of the tokens after one was taken.
-use Rattle.std.proofs.Common.{◌≡◌, List, [], ◌∷◌, ◌++◌, Option, Some, None, Result, subst, sym}
+use Rattle.std.proofs.Common.{List, [], ◌∷◌, Option, Some, None, Result, subst, sym}
 use Rattle.std.specs.List.{All}
-use Rattle.std.specs.Prelude.{option_to_list}
 use Rattle.std.proofs.lemmas.List.Elements.{All-nil, All-tail}
 use Rattle.lg_base.specs.declared.refusal.Refusal.{Refusal}
 use Rattle.lg_lex.specs.declared.token.Token.{Token}

@@ -1,5 +1,5 @@
 -- The statement that binds a label begins with a label definition.
-use Rattle.std.proofs.Common.{◌≡◌, ℕ, Bool, true, false, cond, List, Option, Some, None, Result, Ok, Err, refl, subst, codes}
+use Rattle.std.proofs.Common.{◌≡◌, ℕ, Bool, true, false, cond, List, Option, Some, None, Result, Ok, refl, subst, codes}
 use Rattle.std.specs.Str.{bytes_eq}
 use Rattle.lg_base.specs.declared.refusal.RefusalKind.{RefusalKind}
 use Rattle.lg_lex.specs.declared.token.TokenKind.{TokenKind}

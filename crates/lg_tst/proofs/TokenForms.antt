@@ -1,12 +1,11 @@
 -- The tokens of a text lie within it, and those that are words have the form of words.
-use Rattle.std.proofs.Common.{◌≡◌, ◌≢◌, ℕ, zero, suc, ◌+◌, ◌-◌, ◌<◌, ◌≤◌, ◌&&◌, ◌||◌, Bool, true, false, cond, eqb, List, [], ◌∷◌, length, get_or, take, drop, refl, sym, ap, ◌∙◌, arith, rules, Option, Some, None}
+use Rattle.std.proofs.Common.{◌≡◌, ◌≢◌, ℕ, zero, suc, ◌+◌, ◌-◌, ◌<◌, ◌≤◌, ◌&&◌, ◌||◌, Bool, true, false, cond, eqb, List, [], ◌∷◌, length, get_or, take, drop, refl, ap, ◌∙◌, arith, rules, Option, Some, None}
 use Rattle.std.specs.Char.{is_ascii_digit}
 use Rattle.std.specs.List.{All, list_all, prefix_len}
 use Rattle.std.specs.Option.{option_map_or}
 use Rattle.std.proofs.lemmas.Bool.{false≢true}
 use Rattle.std.proofs.lemmas.List.{length-drop, length-take-le}
 use Rattle.std.proofs.lemmas.List.Elements.{All-nil, All-cons}
-use Rattle.lg_lex.specs.declared.token.Token.{Token}
 use Rattle.lg_lex.specs.declared.token.TokenKind.{TokenKind}
 use Rattle.lg_lex.specs.declared.token.TokenKind.TheVariants.{Word, Directive, LabelMark, Register, Number, Character, Expression, Name, Host, Str}
 use Rattle.lg_lex.specs.Bytes.{is_word_start, is_word_byte}
@@ -14,11 +13,11 @@ use Rattle.lg_lex.specs.Blanks.{blank_at}
 use Rattle.lg_lex.specs.Escapes.{character_at, string_at}
 use Rattle.lg_lex.specs.Expressions.{expression_at}
 use Rattle.lg_lex.specs.Numbers.{number_at}
-use Rattle.lg_lex.specs.Fronts.{LiesWithin, word_len, word_at, marked_at, marker_at, literal_token, expression_token, string_token, dollar_at, mark_at, token_at, front_at}
+use Rattle.lg_lex.specs.Fronts.{LiesWithin, word_len, word_at, marked_at, marker_at, dollar_at, mark_at, token_at, front_at}
 use Rattle.lg_lex.specs.Tokens.{Tokens, line_of, is_fresh, behind_piece, token_then, with_front, tokens_from, tokens_at, tokens_of}
 use Rattle.lg_lex.proofs.FrontLemmas.{front_within}
 use Rattle.lg_node.specs.Nodes.{is_word}
-use Rattle.lg_tst.specs.Streams.{IsToken, text_of, without_last}
+use Rattle.lg_tst.specs.Streams.{IsToken, without_last}
 
 passes_more : (p : ℕ → Bool) (b n : ℕ) (bytes : List ℕ) → p b ≡ true → list_all p (take n bytes) ≡ true → list_all p (take (1 + n) (b ∷ bytes)) ≡ true
 passes_more p b n bytes e more =
@@ -105,7 +104,7 @@ module _ (text : List ℕ) (place : ℕ) (behind : ℕ → Tokens) (rest : (n : 
   unfolding dollar_at with_front
   dollar_are = by_cond (λ f. LiesWithin f (length bytes)) (with_front text place behind) (eqb (get_or bytes 1 0) 40) _ _
       (λ first. by_option (λ f. LiesWithin f (length bytes)) (with_front text place behind) _ (expression_at bytes) _
-          (λ read inside. other Expression _ _ ((λ e. cc), (λ e. cc)) inside) (λ inside. All-nil (IsToken text)))
+      (λ read inside. other Expression _ _ ((λ e. cc), (λ e. cc)) inside) (λ inside. All-nil (IsToken text)))
       (marked_are Name ((λ e. cc), (λ e. cc)))
 
   marker_are : (fresh : Bool) → LiesWithin (marker_at fresh bytes) (length bytes) → AreTokens (with_front text place behind (marker_at fresh bytes))
@@ -124,10 +123,10 @@ module _ (text : List ℕ) (place : ℕ) (behind : ℕ → Tokens) (rest : (n : 
       step (eqb b 64) _ _ (λ _. marked_are Host ((λ e. cc), (λ e. cc))) (
       step (eqb b 36) _ _ (λ _. dollar_are) (
       step (eqb b 39) _ _ (λ _. by_option (λ f. LiesWithin f (length bytes)) (with_front text place behind) _ (character_at bytes) _
-          (λ read inside. other Character _ _ ((λ e. cc), (λ e. cc)) inside) (λ inside. All-nil (IsToken text))) (
+      (λ read inside. other Character _ _ ((λ e. cc), (λ e. cc)) inside) (λ inside. All-nil (IsToken text))) (
       step (eqb b 34) _ _ (λ _. by_option (λ f. LiesWithin f (length bytes)) (with_front text place behind) _ (string_at bytes) _
-          (λ n inside. other Str n 0 ((λ e. cc), (λ e. cc)) inside) (λ inside. All-nil (IsToken text)))
-          (λ inside. All-nil (IsToken text))))))))
+      (λ n inside. other Str n 0 ((λ e. cc), (λ e. cc)) inside) (λ inside. All-nil (IsToken text)))
+      (λ inside. All-nil (IsToken text))))))))
 
   token_are : (fresh : Bool) → LiesWithin (token_at fresh bytes) (length bytes) → AreTokens (with_front text place behind (token_at fresh bytes))
   unfolding token_at with_front
@@ -135,7 +134,7 @@ module _ (text : List ℕ) (place : ℕ) (behind : ℕ → Tokens) (rest : (n : 
       let step = by_cond (λ f. LiesWithin f (length bytes)) (with_front text place behind) in
       step (is_word_start (get_or bytes 0 0)) _ _ word_are (
       step (is_ascii_digit (get_or bytes 0 0) || (eqb (get_or bytes 0 0) 45 || eqb (get_or bytes 0 0) 43)) _ _ (λ _. by_option (λ f. LiesWithin f (length bytes)) (with_front text place behind) _ (number_at bytes) _
-          (λ read inside. other Number _ _ ((λ e. cc), (λ e. cc)) inside) (λ inside. All-nil (IsToken text)))
+      (λ read inside. other Number _ _ ((λ e. cc), (λ e. cc)) inside) (λ inside. All-nil (IsToken text)))
       (mark_are fresh))
 
   front_are : (fresh : Bool) → LiesWithin (front_at fresh bytes) (length bytes) → AreTokens (with_front text place behind (front_at fresh bytes))

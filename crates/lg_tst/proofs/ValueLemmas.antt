@@ -1,5 +1,5 @@
 -- The values of a data item, one after another.
-use Rattle.std.proofs.Common.{◌≡◌, ℕ, Bool, true, false, if◌then◌else◌, List, [], ◌∷◌, Option, Some, None, Ok, sym, ap, ◌∙◌, refl}
+use Rattle.std.proofs.Common.{◌≡◌, true, false, if◌then◌else◌, List, [], ◌∷◌, Some, None, Ok, sym, ap, ◌∙◌, refl}
 use Rattle.lg_lex.specs.declared.token.Token.{Token}
 use Rattle.lg_tst.specs.Statements.{is_value}
 use Rattle.lg_tst.specs.Streams.{◌>>=◌, head_of, tail_of}

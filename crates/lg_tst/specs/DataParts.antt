@@ -1,5 +1,5 @@
 -- The data part of a text as it is read.
-use Rattle.std.specs.Prelude.{ℕ, ◌+◌, ◌-◌, Bool, nat_le, List, [], ◌++◌, length, replicate, Option, Some, None, unwrap_or, Result}
+use Rattle.std.specs.Prelude.{ℕ, ◌+◌, ◌-◌, Bool, nat_le, List, [], ◌++◌, length, replicate, Option, None, unwrap_or}
 
 -- the size that `.data` gives it, and the bytes of the items and skips so far
 pub record DataBytes : Type 0 where

@@ -1,5 +1,5 @@
 -- How the names of a function are held.
-use Rattle.std.specs.Prelude.{◌≡◌, ◌<◌, ◌≤◌, ◌^◌, length, map}
+use Rattle.std.specs.Prelude.{◌≡◌, ◌≤◌, length, map}
 use Rattle.lg_tst.specs.Names.{FunctionNames}
 use Rattle.lg_tst.specs.declared.names.Names.TheInside.{Inside}
 

@@ -1,5 +1,5 @@
 -- The operands of instructions, by the token at an operand's place and the form that the place asks.
-use Rattle.std.specs.Prelude.{◌≡◌, ℕ, ◌==◌, min, Bool, true, false, not, ◌||◌, if◌then◌else◌, List, [], ◌∷◌, drop, Option, Some, None, Result, Ok, Err}
+use Rattle.std.specs.Prelude.{ℕ, min, Bool, true, false, not, if◌then◌else◌, List, [], ◌∷◌, drop, Option, Some, None, Result, Ok, Err}
 use Rattle.std.specs.Str.{bytes_eq}
 use Rattle.lg_base.specs.HostNames.{host_by_name}
 use Rattle.lg_base.specs.declared.host_name.HostName.{HostName}

@@ -1,5 +1,5 @@
 -- How the tokens that are left are held: one may be read ahead of the others.
-use Rattle.std.specs.Prelude.{◌≡◌, List, ◌++◌, option_to_list}
+use Rattle.std.specs.Prelude.{List, ◌++◌, option_to_list}
 use Rattle.std.specs.List.{All}
 use Rattle.lg_lex.specs.declared.token.Token.{Token}
 use Rattle.lg_tst.specs.Streams.{Stream, IsToken}

@@ -1,5 +1,5 @@
 -- The statements of a text, by the token that they begin with.
-use Rattle.std.specs.Prelude.{◌≡◌, ℕ, Bool, true, false, ◌&&◌, if◌then◌else◌, List, Option, Some, None, Result, Ok, Err, codes}
+use Rattle.std.specs.Prelude.{ℕ, Bool, true, false, if◌then◌else◌, List, Option, Some, None, Result, Ok, Err, codes}
 use Rattle.std.specs.Str.{bytes_eq}
 use Rattle.lg_base.specs.declared.refusal.RefusalKind.{RefusalKind}
 use Rattle.lg_base.specs.declared.refusal.RefusalKind.TheVariants.{UnknownName, FloatRefused}

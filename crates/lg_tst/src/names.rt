@@ -9,7 +9,6 @@ use lg_op::Operand;
 use std::alloc::Global;
 use std::marker::Model;
 
-
 /// The names that a function makes, each with the operand that it stands for.
 #[derive(Drop)]
 pub struct Names {

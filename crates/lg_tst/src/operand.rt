@@ -107,7 +107,8 @@ pub fn misfit(kind: TokenKind, text: &[u8]) -> RefusalKind
 {
     match kind {
         TokenKind::Register if is_float_register(text) => RefusalKind::FloatRefused,
-        TokenKind::Host if HostName::by_name(behind_mark(text)).is_none() => RefusalKind::UnknownHost,
+        TokenKind::Host if HostName::by_name(behind_mark(text)).is_none() =>
+            RefusalKind::UnknownHost,
         _ => RefusalKind::BadOperand,
     }
 }

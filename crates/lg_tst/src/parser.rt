@@ -16,7 +16,10 @@ ghost use Rattle.lg_tst.specs.Units.{start, wanted, behind, at_line, token_text,
 
 use crate::data_part::{DataPart, MOST_DATA};
 use crate::names::Names;
-use crate::operand::{admitted, argument_named, host_operand, local_named, local_size, misfit, register_operand, stays_apart};
+use crate::operand::{
+    admitted, argument_named, host_operand, local_named, local_size, misfit, register_operand,
+    stays_apart,
+};
 use crate::source::Source;
 use crate::statement::{ItemSize, Section, Statement, is_number, statement_of};
 use crate::words::{behind_mark, without_last};
@@ -160,7 +163,13 @@ impl<'a> Parser<'a> {
     }
 
     // A name as an operand.
-    fn name_operand(&mut self, form: Form, done: &[Operand], word: &[u8], line: u32) -> Result<Operand, Stop>
+    fn name_operand(
+        &mut self,
+        form: Form,
+        done: &[Operand],
+        word: &[u8],
+        line: u32,
+    ) -> Result<Operand, Stop>
         requires room { HasRoom self.old }
         ensures gives { GivesWith result self.new (at_line line (name_operand form self.old.names word.now)) record self.old { names = names_behind form done.now self.old.names word.now } }
         ensures form { IfOk result (λ x. admits form x ≡ true) }
@@ -171,9 +180,13 @@ impl<'a> Parser<'a> {
             Form::NewLocal => self.new_local(done, word, line),
             Form::Argument => at_line(argument_named(self.names.meaning(word)), line),
             Form::Immediate => at_line(local_named(self.names.meaning(word)), line),
-            Form::Write | Form::Update | Form::Read | Form::Target | Form::Callee | Form::Size | Form::Alignment => {
-                refuse(RefusalKind::BadOperand, line)
-            }
+            Form::Write
+            | Form::Update
+            | Form::Read
+            | Form::Target
+            | Form::Callee
+            | Form::Size
+            | Form::Alignment => { refuse(RefusalKind::BadOperand, line) }
         }
     }
 
@@ -188,7 +201,10 @@ impl<'a> Parser<'a> {
         let text = self.source.text_of(token);
         match token.kind {
             TokenKind::Register => at_line(register_operand(form, text), token.line),
-            TokenKind::Host => at_line(host_operand(form, HostName::by_name(behind_mark(text))), token.line),
+            TokenKind::Host => at_line(
+                host_operand(form, HostName::by_name(behind_mark(text))),
+                token.line,
+            ),
             TokenKind::Name => self.name_operand(form, done, behind_mark(text), token.line),
             TokenKind::Word => self.label_operand(form, text, token.line),
             TokenKind::Number | TokenKind::Character | TokenKind::Expression => {
@@ -201,7 +217,13 @@ impl<'a> Parser<'a> {
     }
 
     // The operand that a token is, behind those before it.
-    fn operand(&mut self, op: Op, form: Form, done: &[Operand], token: Token) -> Result<Operand, Stop>
+    fn operand(
+        &mut self,
+        op: Op,
+        form: Form,
+        done: &[Operand],
+        token: Token,
+    ) -> Result<Operand, Stop>
         requires token { IsToken self.old.source.text token }
         requires room { HasRoom self.old }
         ensures gives { GivesWith result self.new (operand_of self.old op form done.now token) (noted self.old form done.now token) }
@@ -447,7 +469,9 @@ impl<'a> Parser<'a> {
     fn skip_string(&mut self)
         ensures { self.new ≡ skip_if is_string self.old }
     {
-        if let Some(token) = self.source.peek() && token.kind == TokenKind::Str {
+        if let Some(token) = self.source.peek()
+            && token.kind == TokenKind::Str
+        {
             self.source.skip();
         }
     }
@@ -456,7 +480,9 @@ impl<'a> Parser<'a> {
     fn skip_number(&mut self)
         ensures { self.new ≡ skip_if is_digits self.old }
     {
-        if let Some(token) = self.source.peek() && token.kind == TokenKind::Number {
+        if let Some(token) = self.source.peek()
+            && token.kind == TokenKind::Number
+        {
             self.source.skip();
         }
     }

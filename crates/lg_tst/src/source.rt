@@ -62,7 +62,9 @@ impl<'a> Source<'a> {
         ensures same { self.new ≡ self.old }
         ensures token { IfSome result (λ token. IsToken self.old.text token) }
     {
-        if self.ahead.is_none() && let Ok(next) = self.lexer.next() {
+        if self.ahead.is_none()
+            && let Ok(next) = self.lexer.next()
+        {
             self.ahead = next;
         }
         self.ahead

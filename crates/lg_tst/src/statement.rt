@@ -83,14 +83,19 @@ fn word_statement(section: Section, word: &[u8]) -> Result<Statement, RefusalKin
 }
 
 // What a directive begins.
-fn directive_statement(section: Section, directive: Option<Directive>) -> Result<Statement, RefusalKind>
+fn directive_statement(
+    section: Section,
+    directive: Option<Directive>,
+) -> Result<Statement, RefusalKind>
     ensures { result ≡ directive_statement section directive }
 {
     match (section, directive) {
         (_, Some(Directive::Data)) => Ok(Statement::Data),
         (_, Some(Directive::Code)) => Ok(Statement::Code),
         (_, Some(Directive::Float | Directive::Double)) => Err(RefusalKind::FloatRefused),
-        (Section::Code, Some(Directive::Align)) => Ok(Statement::Instruction(Op::Plain(PlainOp::Align))),
+        (Section::Code, Some(Directive::Align)) => Ok(Statement::Instruction(Op::Plain(
+            PlainOp::Align,
+        ))),
         (Section::Data, Some(Directive::Align)) => Ok(Statement::AlignData),
         (Section::Data, Some(Directive::Size)) => Ok(Statement::Skip),
         (Section::Data, Some(Directive::Char)) => Ok(Statement::Values(ItemSize::One)),
@@ -102,7 +107,11 @@ fn directive_statement(section: Section, directive: Option<Directive>) -> Result
 }
 
 /// The statement that a token of a text begins in a section, or why it begins none.
-pub fn statement_of(section: Section, kind: TokenKind, text: &[u8]) -> Result<Statement, RefusalKind>
+pub fn statement_of(
+    section: Section,
+    kind: TokenKind,
+    text: &[u8],
+) -> Result<Statement, RefusalKind>
     ensures { result ≡ statement_of section kind text.now }
 {
     match kind {

@@ -1,4 +1,4 @@
-use Rattle.std.proofs.Common.{◌≡◌, ℕ, not, List, [], ◌∷◌, ◌++◌, sym, ap, ◌∙◌, is_some, map}
+use Rattle.std.proofs.Common.{ℕ, not, List, [], ◌∷◌, ◌++◌, sym, ap, ◌∙◌, map}
 use Rattle.lg_op.specs.declared.operand.Operand.{Operand}
 use Rattle.lg_node.proofs.NodeListLemmas.{keys-new, map-push}
 use Rattle.lg_tst.specs.Names.{FunctionNames, is_made}

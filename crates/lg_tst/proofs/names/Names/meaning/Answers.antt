@@ -1,4 +1,4 @@
-use Rattle.std.proofs.Common.{◌≡◌, sym, ap, ◌∙◌}
+use Rattle.std.proofs.Common.{sym, ap, ◌∙◌}
 use Rattle.std.specs.Prelude.{option_and_then, slice_get}
 use Rattle.lg_tst.specs.Names.{FunctionNames, place_in}
 use Rattle.lg_tst.proofs.NameLemmas.{place_held}

@@ -1,5 +1,3 @@
-use Rattle.std.proofs.Common.{◌<◌, ◌≡◌, length, sym, ap, ◌∙◌, subst}
-use Rattle.lg_node.specs.Nodes.{LabelledNodes}
 use Rattle.lg_tst.proofs.LabelLemmas.{label_within}
 use Rattle.lg_tst.proofs.parser.Parser.label.Goals as goal
 

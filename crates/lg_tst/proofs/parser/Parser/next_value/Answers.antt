@@ -1,4 +1,4 @@
-use Rattle.std.proofs.Common.{◌≡◌, sym, ap, ◌∙◌}
+use Rattle.std.proofs.Common.{sym, ap, ◌∙◌}
 use Rattle.lg_tst.specs.Streams.{Stream, passed}
 use Rattle.lg_tst.specs.Units.{State}
 use Rattle.lg_tst.proofs.ValueLemmas.{value_after, other_after, none_after}

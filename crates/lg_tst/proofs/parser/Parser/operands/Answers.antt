@@ -1,8 +1,7 @@
-use Rattle.std.proofs.Common.{◌≡◌, ◌<◌, ◌≤◌, ◌∷◌, [], ◌++◌, length, sym, ap, subst, ◌∙◌}
-use Rattle.lg_op.specs.Forms.{forms_of}
+use Rattle.std.proofs.Common.{◌<◌, ◌≤◌, ◌∷◌, [], ◌++◌, length, sym, ap, subst, ◌∙◌}
 use Rattle.lg_op.specs.declared.form.Form.TheVariants.{Write}
 use Rattle.lg_tst.specs.Answers.{Gives}
-use Rattle.lg_tst.proofs.OperandLemmas.{not_wanted, no_operand, one_read, in_form, all_read, few_forms}
+use Rattle.lg_tst.proofs.OperandLemmas.{not_wanted, no_operand, one_read, all_read}
 use Rattle.lg_tst.proofs.StopLemmas.{stops_with}
 use Rattle.lg_tst.proofs.parser.Parser.operands.Goals as goal
 

@@ -1,4 +1,4 @@
-use Rattle.std.proofs.Common.{◌≡◌, sym, ap, ◌∙◌, Ok}
+use Rattle.std.proofs.Common.{sym, ap, ◌∙◌, Ok}
 use Rattle.lg_node.specs.Nodes.{is_word}
 use Rattle.lg_tst.specs.Streams.{text_of, without_last}
 use Rattle.lg_tst.specs.Units.{State}

@@ -1,4 +1,4 @@
-use Rattle.std.proofs.Common.{◌≡◌, Ok, sym, ap, ◌∙◌}
+use Rattle.std.proofs.Common.{Ok, sym, ap, ◌∙◌}
 use Rattle.lg_tst.specs.Units.{State, statement_from}
 use Rattle.lg_tst.proofs.StopLemmas.{stops, stops_state}
 use Rattle.lg_tst.proofs.TextLemmas.{text_ends, text_faults, statement_faults, fewer_left, statement_read}

@@ -1,4 +1,4 @@
-use Rattle.std.proofs.Common.{◌≡◌, ℕ, ◌∷◌, [], ◌++◌, length}
+use Rattle.std.proofs.Common.{◌≡◌, ◌∷◌, [], ◌++◌, length}
 use Rattle.lg_lex.specs.Escapes.{string_left}
 use Rattle.lg_tst.specs.Units.{stored}
 use Rattle.lg_tst.proofs.parser.Parser.string.Given as goal

@@ -1,4 +1,4 @@
-use Rattle.std.proofs.Common.{◌≡◌, subst, sym}
+use Rattle.std.proofs.Common.{subst, sym}
 use Rattle.std.specs.List.{All}
 use Rattle.lg_lex.specs.Tokens.{Tokens}
 use Rattle.lg_tst.specs.Streams.{IsToken}

@@ -1,4 +1,4 @@
-use Rattle.std.proofs.Common.{◌≡◌, ◌++◌, subst, sym}
+use Rattle.std.proofs.Common.{◌++◌, subst, sym}
 use Rattle.std.specs.Prelude.{option_to_list}
 use Rattle.std.specs.List.{All}
 use Rattle.std.proofs.lemmas.List.Elements.{All-tail}
