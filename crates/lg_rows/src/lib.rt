@@ -10,6 +10,10 @@ mod first_path;
 mod lists;
 #[cfg(test)]
 mod memory;
+#[cfg(test)]
+mod parse_rows;
+#[cfg(test)]
+mod readings;
 pub mod texts;
 #[cfg(test)]
 mod wide;

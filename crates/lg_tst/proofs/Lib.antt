@@ -1,0 +1,12 @@
+mod LabelLemmas
+mod NameLemmas
+mod OperandLemmas
+mod PlaceLemmas
+mod ProgressLemmas
+mod SourceLemmas
+mod StatementLemmas
+mod StopLemmas
+mod TextLemmas
+mod TokenForms
+mod ValueLemmas
+mod WordLemmas

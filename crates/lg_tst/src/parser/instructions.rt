@@ -1,0 +1,188 @@
+// Instructions and their operands.
+
+ghost use Rattle.std.specs.Prelude.{◌≡◌, ◌<◌, [], Ok, true, length, IfOk};
+ghost use Rattle.lg_op.specs.Forms.{admits, forms_of};
+ghost use Rattle.lg_op.specs.Nodes.{InForm};
+ghost use Rattle.lg_lex.specs.declared.token.TokenKind.TheVariants as kind;
+ghost use Rattle.lg_node.specs.Nodes.{is_word, with_node};
+ghost use Rattle.lg_tst.specs.Answers.{Gives, GivesWith, HasRoom};
+ghost use Rattle.lg_tst.specs.Operands.{name_operand, names_behind, operand_at, stays_apart};
+ghost use Rattle.lg_tst.specs.Streams.{IsToken};
+ghost use Rattle.lg_tst.specs.Units.{at_line, token_text, noted_by, noted, operand_of, operands, instruction, most_nodes};
+
+use super::{Parser, at_line, refuse};
+use crate::operand::{
+    admitted, argument_named, host_operand, local_named, local_size, register_operand, stays_apart,
+};
+use crate::words::behind_mark;
+use lg_base::host_name::HostName;
+use lg_base::refusal::{OutOfMemory, RefusalKind, Stop};
+use lg_lex::{Token, TokenKind};
+use lg_op::{Form, Node, Op, Operand, Operands, PlainOp};
+
+// The most nodes of a text.
+const MOST_NODES: u32 = 65_536;
+
+impl Parser<'_> {
+    // The label of a word, as an operand.
+    fn label_operand(&mut self, form: Form, word: &[u8], line: u32) -> Result<Operand, Stop>
+        requires word { is_word word.now ≡ true }
+        requires room { HasRoom self.old }
+        ensures gives { GivesWith result self.new (at_line line (operand_at self.old.list.words self.old.names form kind.Word word.now 0)) (noted_by kind.Word self.old form [] word.now) }
+        ensures form { IfOk result (λ x. admits form x ≡ true) }
+        ensures nodes { length self.new.list.nodes ≡ length self.old.list.nodes }
+    {
+        match self.nodes.label(word) {
+            Ok(label) => at_line(admitted(form, Operand::Label(label)), line),
+            Err(OutOfMemory) => Err(Stop::OutOfMemory),
+        }
+    }
+
+    // A name that `arg` makes.
+    fn new_argument(&mut self, word: &[u8], line: u32) -> Result<Operand, Stop>
+        requires room { HasRoom self.old }
+        ensures gives { GivesWith result self.new (at_line line (name_operand Form.NewArgument self.old.names word.now)) record self.old { names = names_behind Form.NewArgument [] self.old.names word.now } }
+        ensures form { IfOk result (λ x. admits Form.NewArgument x ≡ true) }
+        ensures nodes { length self.new.list.nodes ≡ length self.old.list.nodes }
+    {
+        match self.names.add_argument(word) {
+            Ok(Some(number)) => Ok(Operand::Slot(number)),
+            Ok(None) => refuse(RefusalKind::LabelTwice, line),
+            Err(OutOfMemory) => Err(Stop::OutOfMemory),
+        }
+    }
+
+    // A name that `allocai` makes behind its first operand.
+    fn new_local(&mut self, done: &[Operand], word: &[u8], line: u32) -> Result<Operand, Stop>
+        requires room { HasRoom self.old }
+        ensures gives { GivesWith result self.new (at_line line (name_operand Form.NewLocal self.old.names word.now)) record self.old { names = names_behind Form.NewLocal done.now self.old.names word.now } }
+        ensures form { IfOk result (λ x. admits Form.NewLocal x ≡ true) }
+        ensures nodes { length self.new.list.nodes ≡ length self.old.list.nodes }
+    {
+        match self.names.add_local(word, local_size(done)) {
+            Ok(Some(number)) => Ok(Operand::Slot(number)),
+            Ok(None) => refuse(RefusalKind::LabelTwice, line),
+            Err(OutOfMemory) => Err(Stop::OutOfMemory),
+        }
+    }
+
+    // A name as an operand.
+    fn name_operand(
+        &mut self,
+        form: Form,
+        done: &[Operand],
+        word: &[u8],
+        line: u32,
+    ) -> Result<Operand, Stop>
+        requires room { HasRoom self.old }
+        ensures gives { GivesWith result self.new (at_line line (name_operand form self.old.names word.now)) record self.old { names = names_behind form done.now self.old.names word.now } }
+        ensures form { IfOk result (λ x. admits form x ≡ true) }
+        ensures nodes { length self.new.list.nodes ≡ length self.old.list.nodes }
+    {
+        match form {
+            Form::NewArgument => self.new_argument(word, line),
+            Form::NewLocal => self.new_local(done, word, line),
+            Form::Argument => at_line(argument_named(self.names.meaning(word)), line),
+            Form::Immediate => at_line(local_named(self.names.meaning(word)), line),
+            Form::Write
+            | Form::Update
+            | Form::Read
+            | Form::Target
+            | Form::Callee
+            | Form::Size
+            | Form::Alignment => { refuse(RefusalKind::BadOperand, line) }
+        }
+    }
+
+    // The operand that a token is, where a register stands wherever the place takes one.
+    fn operand_at(&mut self, form: Form, done: &[Operand], token: Token) -> Result<Operand, Stop>
+        requires token { IsToken self.old.source.text token }
+        requires room { HasRoom self.old }
+        ensures gives { GivesWith result self.new (at_line token.line (operand_at self.old.list.words self.old.names form token.kind (token_text self.old token) token.value)) (noted self.old form done.now token) }
+        ensures form { IfOk result (λ x. admits form x ≡ true) }
+        ensures nodes { length self.new.list.nodes ≡ length self.old.list.nodes }
+    {
+        let text = self.source.text_of(token);
+        match token.kind {
+            TokenKind::Register => at_line(register_operand(form, text), token.line),
+            TokenKind::Host => at_line(
+                host_operand(form, HostName::by_name(behind_mark(text))),
+                token.line,
+            ),
+            TokenKind::Name => self.name_operand(form, done, behind_mark(text), token.line),
+            TokenKind::Word => self.label_operand(form, text, token.line),
+            TokenKind::Number | TokenKind::Character | TokenKind::Expression => {
+                at_line(admitted(form, Operand::Number(token.value)), token.line)
+            }
+            TokenKind::Directive | TokenKind::LabelMark | TokenKind::Str => {
+                refuse(RefusalKind::BadOperand, token.line)
+            }
+        }
+    }
+
+    // The operand that a token is, behind those before it.
+    fn operand(
+        &mut self,
+        op: Op,
+        form: Form,
+        done: &[Operand],
+        token: Token,
+    ) -> Result<Operand, Stop>
+        requires token { IsToken self.old.source.text token }
+        requires room { HasRoom self.old }
+        ensures gives { GivesWith result self.new (operand_of self.old op form done.now token) (noted self.old form done.now token) }
+        ensures form { IfOk result (λ x. admits form x ≡ true) }
+        ensures apart { IfOk result (λ x. stays_apart op done.now x ≡ true) }
+        ensures nodes { length self.new.list.nodes ≡ length self.old.list.nodes }
+    {
+        let operand = self.operand_at(form, done, token)?;
+        if !stays_apart(op, done, operand) {
+            return refuse(RefusalKind::BadOperand, token.line);
+        }
+        Ok(operand)
+    }
+
+    // A node, whose operands have been read.
+    fn push(&mut self, node: Node) -> Result<(), Stop>
+        requires room { length self.old.list.nodes < most_nodes }
+        requires form { InForm node }
+        ensures { Gives result self.new (Ok record self.old { list = with_node self.old.list node }) }
+    {
+        match self.nodes.push(node) {
+            Ok(()) => Ok(()),
+            Err(OutOfMemory) => Err(Stop::OutOfMemory),
+        }
+    }
+
+    // The operands of an instruction, and then its node.
+    fn operands(&mut self, op: Op, line: u32) -> Result<(), Stop>
+        requires room { length self.old.list.nodes < most_nodes }
+        ensures { Gives result self.new (operands op line (forms_of op) [] self.old) }
+    {
+        let forms = op.forms();
+        let mut done = Operands::of(&[]);
+        for form in forms {
+            let token = self.wanted(line)?;
+            let operand = self.operand(op, *form, done.as_slice(), token)?;
+            done = done.with(operand);
+        }
+        self.push(Node {
+            op,
+            operands: done,
+            line,
+        })
+    }
+
+    // An instruction, and `.align N` of code.
+    pub(super) fn instruction(&mut self, op: Op, line: u32) -> Result<(), Stop>
+        ensures { Gives result self.new (instruction op self.old line) }
+    {
+        if self.nodes.len() >= MOST_NODES {
+            return refuse(RefusalKind::TooManyNodes, line);
+        }
+        if op == Op::Plain(PlainOp::Prolog) {
+            self.names.clear();
+        }
+        self.operands(op, line)
+    }
+}
