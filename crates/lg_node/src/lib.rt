@@ -1,9 +1,12 @@
 //! The nodes of a text with its labels, and the text as a unit.
 #![tactic(auto)]
 
+mod function;
 mod label_addresses;
 mod node_list;
 mod place;
+mod preparation;
+mod shape;
 mod unit;
 
 pub use label_addresses::LabelAddresses;
@@ -13,6 +16,7 @@ pub use lg_op::{
 };
 pub use node_list::NodeList;
 pub use place::Place;
+pub use shape::Shape;
 pub use unit::Unit;
 
 #[cfg(test)]

@@ -1,0 +1,40 @@
+-- The calls that are being prepared: from the node behind a `prepare` up to and with the next `finishr` or `finishi`.
+use Rattle.std.specs.Prelude.{ℕ, zero, suc, ◌+◌, Bool, true, false, List, Option, Some, None, slice_get}
+use Rattle.lg_op.specs.declared.op.Op.{Op}
+use Rattle.lg_op.specs.declared.op.Op.TheVariants.{Control, Plain}
+use Rattle.lg_op.specs.declared.op.ControlOp.TheVariants as control
+use Rattle.lg_op.specs.declared.op.PlainOp.TheVariants as plain
+use Rattle.lg_op.specs.declared.node.Node.{Node}
+use Rattle.lg_node.specs.declared.preparation.Preparation.{Preparation}
+
+-- what is being prepared behind an operation
+abbrev pub prepared_behind : Option Preparation → Op → Option Preparation
+prepared_behind current (Plain plain.Prepare) = Some record { pushed = 0; variadic = false }
+prepared_behind current (Control control.Finish last) = None
+prepared_behind (Some call) (Plain plain.Ellipsis) = Some record call { variadic = true }
+prepared_behind (Some call) (Control control.Pusharg last) = Some record call { pushed = call.pushed + 1 }
+prepared_behind current op = current
+
+abbrev pub prepared_behind_at : Option Preparation → Option Node → Option Preparation
+prepared_behind_at current None = current
+prepared_behind_at current (Some n) = prepared_behind current n.op
+
+-- the call that is being prepared before a node
+unfoldable pub prepared_before : List Node → ℕ → Option Preparation
+prepared_before nodes zero = None
+prepared_before nodes (suc i) = prepared_behind_at (prepared_before nodes i) (slice_get nodes i)
+
+abbrev pub pushed_of : Option Preparation → ℕ
+pushed_of None = 0
+pushed_of (Some call) = call.pushed
+
+abbrev pub variadic_of : Option Preparation → Bool
+variadic_of None = false
+variadic_of (Some call) = call.variadic
+
+-- how many arguments are pushed before a node, and whether an `ellipsis` came
+abbrev pub pushed : List Node → ℕ → ℕ
+pushed nodes i = pushed_of (prepared_before nodes i)
+
+abbrev pub variadic : List Node → ℕ → Bool
+variadic nodes i = variadic_of (prepared_before nodes i)

@@ -1,0 +1,89 @@
+// The shape of an accepted text.
+
+ghost use Rattle.std.specs.Prelude.{◌≡◌, ◌<◌, ◌≤◌, length, slice_get, slice_index_or, IfSome, Some, false};
+ghost use Rattle.std.specs.Option.{option_map};
+ghost use Rattle.lg_node.specs.Functions.{function_of, frame_of};
+
+use crate::function::Function;
+use lg_op::Label;
+use std::marker::Model;
+
+// The bytes of a frame without locals: the words that every function has, and its outgoing stack arguments.
+const LEAST_FRAME: u32 = 272;
+
+/// The shape of an accepted text: its functions, with the frame of each, and the labels that are taken.
+#[derive(Drop)]
+pub struct Shape {
+    functions: Vec<Function>,
+    numbers: Vec<Option<u32>>,
+    taken: Vec<bool>,
+}
+
+impl Model for Shape {
+    ghost use Rattle.lg_node.specs.Shapes.{TextShape};
+
+    ghost Value = { TextShape };
+
+    ghost use Rattle.lg_node.specs.ShapeTables.{view_of, IsShape};
+
+    ghost view = { view_of };
+
+    ghost invariant = { IsShape };
+}
+
+impl Shape {
+    /// How many functions there are. They are numbered in the order of the text.
+    pub fn functions(&self) -> u32
+        ensures { result ≡ length self.now.functions }
+    {
+        self.functions.len() as u32
+    }
+
+    /// The first node of a function, which is below `functions`.
+    pub fn entry(&self, function: u32) -> u32
+        requires { function < length self.now.functions }
+        ensures { Some result ≡ option_map (λ f. f.entry) (slice_get self.now.functions function) }
+    {
+        self.functions[function as usize].entry
+    }
+
+    /// The last node of a function, which is below `functions`.
+    pub fn last(&self, function: u32) -> u32
+        requires { function < length self.now.functions }
+        ensures { Some result ≡ option_map (λ f. f.last) (slice_get self.now.functions function) }
+    {
+        self.functions[function as usize].last
+    }
+
+    /// The bytes of a function's locals, a multiple of 8 of at most 65,536. The function is below `functions`.
+    pub fn locals(&self, function: u32) -> u32
+        requires { function < length self.now.functions }
+        ensures value { Some result ≡ option_map (λ f. f.locals) (slice_get self.now.functions function) }
+        ensures small { result ≤ 65536 }
+    {
+        self.functions[function as usize].locals
+    }
+
+    /// The bytes of a function's frame, a multiple of 16 of at most 65,808. The function is below `functions`.
+    pub fn frame(&self, function: u32) -> u32
+        requires { function < length self.now.functions }
+        ensures { Some result ≡ option_map frame_of (slice_get self.now.functions function) }
+    {
+        (LEAST_FRAME + self.locals(function)).div_ceil(16) * 16
+    }
+
+    /// The number of the function in which a node stands, and None exactly outside of each function.
+    pub fn function_of(&self, node: u32) -> Option<u32>
+        ensures value { result ≡ function_of self.now.functions node }
+        ensures within { IfSome result (λ f. f < length self.now.functions) }
+    {
+        self.numbers.get(node as usize).copied().flatten()
+    }
+
+    /// Whether a label is taken: a `movi`, `pushargi` or `reti` of the text names it, and it was bound in a function behind its `prolog`.
+    pub fn taken(&self, label: Label) -> bool
+        ensures { result ≡ slice_index_or self.now.taken label.0 false }
+    {
+        self.taken.get(label.0 as usize).copied().unwrap_or(false)
+    }
+}
