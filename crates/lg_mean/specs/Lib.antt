@@ -1,1 +1,5 @@
+pub mod Machines
 pub mod Operators
+pub mod Says
+pub mod States
+pub mod Steps
