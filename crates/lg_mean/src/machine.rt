@@ -158,7 +158,7 @@ impl Machine {
     }
 
     // Goes to the next node, with the carry as it is.
-    fn go_on_with_carry(&mut self)
+    pub(crate) fn go_on_with_carry(&mut self)
         requires { self.old.at < 2 ^ 32 - 1 }
         ensures { state_of self.new ≡ on_with_carry (state_of self.old) }
     {

@@ -211,7 +211,7 @@ pub(crate) fn is_move(op: UnaryOp) -> bool
 // How many bytes a type reads.
 pub(crate) fn width(value_type: ValueType) -> u32
     ensures value { result ≡ width value_type }
-    ensures bound { result ≤ 8 }
+    ensures sizes { (result ≡ 1) ⊎ ((result ≡ 2) ⊎ ((result ≡ 4) ⊎ (result ≡ 8))) }
 {
     match value_type {
         ValueType::Char | ValueType::UnsignedChar => 1,
@@ -239,7 +239,7 @@ pub(crate) fn typed(value_type: ValueType, a: u64) -> u64
 // How many bytes a type writes.
 pub(crate) fn store_width(store_type: StoreType) -> u32
     ensures value { result ≡ store_width store_type }
-    ensures bound { result ≤ 8 }
+    ensures sizes { (result ≡ 1) ⊎ ((result ≡ 2) ⊎ ((result ≡ 4) ⊎ (result ≡ 8))) }
 {
     match store_type {
         StoreType::Char => 1,

@@ -9,6 +9,7 @@ mod preparation;
 mod shape;
 mod unit;
 
+pub use function::Function;
 pub use label_addresses::LabelAddresses;
 pub use lg_op::{
     Addressing, BinaryOp, BranchSumOp, Condition, ControlOp, Form, Label, LastOperand, Node, Op,
