@@ -1,3 +1,4 @@
 pub mod FrameLemmas
+pub mod HostLemmas
 pub mod LandingLemmas
 pub mod ReadLemmas
