@@ -16,7 +16,7 @@ use crate::targets::function_here;
 use lg_node::{Function, Node, Shape};
 
 // The bytes of a function's frame.
-fn frame_size(function: Function) -> u32
+pub(crate) fn frame_size(function: Function) -> u32
     requires { function.locals ≤ 65536 }
     ensures value { result ≡ frame_of function }
     ensures whole { 272 + function.locals ≤ result }
@@ -71,7 +71,7 @@ impl Machine {
     }
 
     // The running frame gets its size, and its locals are there, unwritten.
-    fn begin(&mut self, function: Function, size: u32)
+    pub(crate) fn begin(&mut self, function: Function, size: u32)
         requires size { size ≡ frame_of function }
         requires whole { 272 + function.locals ≤ size }
         requires fresh { self.old.top.locals ≡ 0 }
@@ -85,7 +85,7 @@ impl Machine {
     }
 
     // All registers are undefined, and nothing is pushed.
-    fn start(&mut self, node: u32)
+    pub(crate) fn start(&mut self, node: u32)
         ensures { state_of self.new ≡ started (state_of self.old) node }
     {
         self.registers = [None, None, None, None, None, None, None];
@@ -95,14 +95,14 @@ impl Machine {
     }
 
     // Whether a frame of this size fits below the running one.
-    fn has_room(&self, size: u32) -> bool
+    pub(crate) fn has_room(&self, size: u32) -> bool
         ensures { result ≡ nat_le (0x3FF00010 + size) ((state_of self.now).frame.sp - (state_of self.now).frame.size) }
     {
         0x3FF0_0010 + size as u64 <= self.top.sp - self.top.size as u64
     }
 
     // The frame of a call from here.
-    fn callee(&self, count: u32) -> KeptFrame
+    pub(crate) fn callee(&self, count: u32) -> KeptFrame
         requires { self.now.at < 2 ^ 32 - 1 }
         ensures made { frame_in result ≡ called (state_of self.now) (take count self.now.staged) }
         ensures below { result.sp + self.now.top.size ≡ self.now.top.sp }
@@ -121,7 +121,7 @@ impl Machine {
     }
 
     // A new running frame.
-    fn down(&mut self, callee: KeptFrame)
+    pub(crate) fn down(&mut self, callee: KeptFrame)
         requires below { callee.sp + self.old.top.size ≡ self.old.top.sp }
         requires begun { 272 + self.old.top.locals ≤ self.old.top.size }
         requires fits { 0x3FF00010 ≤ callee.sp }

@@ -1,6 +1,6 @@
 // Calls of host functions.
 
-ghost use Rattle.std.specs.Prelude.{◌≡◌, ◌<◌, ◌≤◌, ◌-◌, ◌^◌, ◌∷◌, [], ℕ, take, length, Some};
+ghost use Rattle.std.specs.Prelude.{◌≡◌, ◌<◌, ◌≤◌, ◌-◌, ◌+◌, ◌^◌, ◌∷◌, [], ℕ, take, length, Some};
 ghost use Rattle.lg_host.specs.Host.{HostSays, host_of, memory, outcome};
 ghost use Rattle.lg_cells.specs.Memories.{byte_at, room_at};
 ghost use Rattle.lg_mean.specs.States.{is_open};
@@ -36,5 +36,33 @@ impl Machine {
             &mut self.heap,
             out,
         )
+    }
+
+    // Goes behind a host call, which answered a word.
+    fn behind(&mut self, word: u64)
+        requires { self.old.at < 2 ^ 32 - 1 }
+        ensures { state_of self.new ≡ resumed (state_of self.old) (self.old.at + 1) (regs_of self.old.registers) (Some word) }
+    {
+        let next = self.at + 1;
+        let registers = self.registers;
+        self.resume(next, registers, Some(word));
+    }
+
+    // Calls a host function with so many of the staged arguments.
+    pub(crate) fn host<O: Sink>(&mut self, name: HostName, count: u32, line: u32, out: &mut O) -> MeanStep
+        requires room { self.old.at < 2 ^ 32 - 1 }
+        requires few { count ≤ 16 }
+        ensures says { Steps (call_host (state_of self.old) (take count self.old.staged) name) line (state_of self.old) result (state_of self.new) (O.taken out.old) (O.taken out.new) (O.faults out.old) (O.faults out.new) }
+        ensures later { O.faults out.old ≤ O.faults out.new }
+    {
+        match self.call_out(name, count, out) {
+            HostEnd::Value(word) => {
+                self.behind(word);
+                MeanStep::Went
+            }
+            HostEnd::Exit(status) => MeanStep::Ended(status),
+            HostEnd::Undefined => MeanStep::Undefined { line },
+            HostEnd::WriteFault => MeanStep::WriteFault,
+        }
     }
 }

@@ -10,4 +10,5 @@ mod host_calls;
 mod machine;
 pub mod mean_step;
 mod operators;
+mod step;
 mod targets;

@@ -1,6 +1,6 @@
 // Where words lead that are addresses of labels.
 
-ghost use Rattle.std.specs.Prelude.{◌≡◌, ◌<◌, ◌≤◌, ℕ, length, Bool, Option, Some, None, slice_get, slice_index_or, false};
+ghost use Rattle.std.specs.Prelude.{◌≡◌, ◌<◌, ◌≤◌, ℕ, length, Bool, Option, Some, None, slice_get, slice_index_or, false, IfSome};
 ghost use Rattle.std.specs.Option.{option_flatten};
 ghost use Rattle.lg_node.specs.Functions.{frame_of};
 ghost use Rattle.lg_mean.specs.Steps.{function_here, later, landing, last_landing, is_target, is_entry_label, jump_target, entry_target, is_same, begins};
@@ -10,7 +10,8 @@ use lg_node::{Function, Label, NodeList, Place, Shape};
 
 // The function of a node.
 pub(crate) fn function_here(shape: &Shape, node: u32) -> Option<Function>
-    ensures { result ≡ function_here shape.now.functions node }
+    ensures value { result ≡ function_here shape.now.functions node }
+    ensures small { IfSome result (λ f. f.locals ≤ 65536) }
 {
     match shape.function_of(node) {
         Some(function) => Some(Function {
