@@ -65,4 +65,103 @@ impl Machine {
             None => false,
         }
     }
+
+    // The answer of a call of the function that begins at a node.
+    fn call_at(&mut self, count: u32, target: u32, node: &Node, nodes: &NodeList, shape: &Shape, labels: &[u64]) -> MeanStep
+        requires room { self.old.at < 2 ^ 32 - 1 }
+        requires begun { HasBegun (state_of self.old) }
+        ensures { Quiet (call_node (text nodes.now shape.now labels.now) (state_of self.old) (take count self.old.staged) target) node.now.line (state_of self.old) result (state_of self.new) }
+    {
+        let went = self.call_node(count, target, nodes, shape, labels);
+        answer(went, node.line)
+    }
+
+    // Calls a label or a host function.
+    fn call_operand<O: Sink>(&mut self, count: u32, node: &Node, nodes: &NodeList, shape: &Shape, labels: &[u64], out: &mut O) -> MeanStep
+        requires room { self.old.at < 2 ^ 32 - 1 }
+        requires few { count ≤ 16 }
+        requires begun { HasBegun (state_of self.old) }
+        requires known { AreKnown (length labels.now) node.now }
+        requires same { length labels.now ≡ length nodes.now.words }
+        ensures says { Steps (call_operand (text nodes.now shape.now labels.now) (state_of self.old) (take count self.old.staged) (operand_at node.now 0)) node.now.line (state_of self.old) result (state_of self.new) (O.taken out.old) (O.taken out.new) (O.faults out.old) (O.faults out.new) }
+        ensures later { O.faults out.old ≤ O.faults out.new }
+    {
+        match operand(node, 0) {
+            Operand::Host(name) => self.host(name, count, node.line, out),
+            other => {
+                let target = node_of_label(nodes, other);
+                self.call_at(count, target, node, nodes, shape, labels)
+            }
+        }
+    }
+
+    // Calls a function of the text by a word that is the address of its label.
+    fn call_address(&mut self, count: u32, word: u64, node: &Node, nodes: &NodeList, shape: &Shape, labels: &[u64]) -> MeanStep
+        requires room { self.old.at < 2 ^ 32 - 1 }
+        requires begun { HasBegun (state_of self.old) }
+        requires same { length labels.now ≡ length nodes.now.words }
+        ensures { Quiet (need (entry_target (text nodes.now shape.now labels.now) word) (call_node (text nodes.now shape.now labels.now) (state_of self.old) (take count self.old.staged))) node.now.line (state_of self.old) result (state_of self.new) }
+    {
+        match entry_target(nodes, shape, labels, word) {
+            Some(target) => self.call_at(count, target, node, nodes, shape, labels),
+            None => MeanStep::Undefined { line: node.line },
+        }
+    }
+
+    // Calls a word.
+    fn call_word<O: Sink>(&mut self, count: u32, word: u64, node: &Node, nodes: &NodeList, shape: &Shape, labels: &[u64], out: &mut O) -> MeanStep
+        requires room { self.old.at < 2 ^ 32 - 1 }
+        requires few { count ≤ 16 }
+        requires begun { HasBegun (state_of self.old) }
+        requires same { length labels.now ≡ length nodes.now.words }
+        ensures says { Steps (call_word (text nodes.now shape.now labels.now) (state_of self.old) (take count self.old.staged) word) node.now.line (state_of self.old) result (state_of self.new) (O.taken out.old) (O.taken out.new) (O.faults out.old) (O.faults out.new) }
+        ensures later { O.faults out.old ≤ O.faults out.new }
+    {
+        match HostName::from_address(word) {
+            Some(name) => self.host(name, count, node.line, out),
+            None => self.call_address(count, word, node, nodes, shape, labels),
+        }
+    }
+
+    // A call with so many of the staged arguments.
+    fn call<O: Sink>(&mut self, last: LastOperand, count: u32, node: &Node, nodes: &NodeList, shape: &Shape, labels: &[u64], out: &mut O) -> MeanStep
+        requires room { self.old.at < 2 ^ 32 - 1 }
+        requires few { count ≤ 16 }
+        requires begun { HasBegun (state_of self.old) }
+        requires known { AreKnown (length labels.now) node.now }
+        requires same { length labels.now ≡ length nodes.now.words }
+        ensures says { Steps (call_step (text nodes.now shape.now labels.now) node.now last (take count self.old.staged) (state_of self.old)) node.now.line (state_of self.old) result (state_of self.new) (O.taken out.old) (O.taken out.new) (O.faults out.old) (O.faults out.new) }
+        ensures later { O.faults out.old ≤ O.faults out.new }
+    {
+        match last {
+            LastOperand::Immediate => self.call_operand(count, node, nodes, shape, labels, out),
+            LastOperand::Register => match self.value(labels, operand(node, 0)) {
+                Some(word) => self.call_word(count, word, node, nodes, shape, labels, out),
+                None => MeanStep::Undefined { line: node.line },
+            },
+        }
+    }
+
+    // A return.
+    fn go_back(&mut self, word: Option<u64>) -> MeanStep
+        requires { HasBegun (state_of self.old) }
+        ensures { (line : ℕ) → Quiet (leave (state_of self.old) word) line (state_of self.old) result (state_of self.new) }
+    {
+        match self.leave(word) {
+            Some(status) => MeanStep::Ended(status),
+            None => MeanStep::Went,
+        }
+    }
+
+    // A return with a result.
+    fn go_back_with(&mut self, node: &Node, labels: &[u64]) -> MeanStep
+        requires begun { HasBegun (state_of self.old) }
+        requires known { AreKnown (length labels.now) node.now }
+        ensures { Quiet (ret_step labels.now node.now (state_of self.old)) node.now.line (state_of self.old) result (state_of self.new) }
+    {
+        match self.value(labels, operand(node, 0)) {
+            Some(word) => self.go_back(Some(word)),
+            None => MeanStep::Undefined { line: node.line },
+        }
+    }
 }
