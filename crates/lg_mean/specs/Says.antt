@@ -84,3 +84,12 @@ Suits functions (op.Plain plain.Prolog) s count = CanBegin functions s
 Suits functions (op.Plain plain.Epilog) s count = HasBegun s
 Suits functions (op.Plain plain.Ret) s count = HasBegun s
 Suits functions o s count = Unit {0}
+
+-- the nodes that neither call nor return
+abbrev pub stays : Op → Bool
+stays (op.Control control.Call last) = false
+stays (op.Control control.Finish last) = false
+stays (op.Control control.Ret last) = false
+stays (op.Plain plain.Epilog) = false
+stays (op.Plain plain.Ret) = false
+stays o = true

@@ -1,10 +1,12 @@
 // One step of the portable machine.
 
-ghost use Rattle.std.specs.Prelude.{◌≡◌, ◌<◌, ◌≤◌, ◌-◌, ◌+◌, ◌^◌, ◌∷◌, [], ℕ, take, length, Bool, true, false, Some, None, if◌then◌else◌};
+ghost use Rattle.std.specs.Prelude.{◌≡◌, ◌<◌, ◌≤◌, ◌-◌, ◌+◌, ◌^◌, ◌∷◌, [], ℕ, take, length, Bool, true, false, Some, None, if◌then◌else◌, IsTrue};
+ghost use Rattle.lg_op.specs.declared.op.Op.TheVariants as op_of;
+ghost use Rattle.lg_op.specs.declared.op.ControlOp.TheVariants as control;
 ghost use Rattle.lg_mean.specs.States.{value};
 ghost use Rattle.lg_mean.specs.Steps.{need, quiet, on, enter, prolog_step, leave, ret_step, function_here, call_node, call_operand, call_named, call_word, call_step, entry_target, operand_at, plain_step, node_step, node_of_label, begun};
 ghost use Rattle.lg_mean.specs.Machines.{state_of};
-ghost use Rattle.lg_mean.specs.Says.{AreKnown, IsKnown, Does, Quiet, Steps, text, HasBegun, CanBegin, Suits, answer_of};
+ghost use Rattle.lg_mean.specs.Says.{AreKnown, IsKnown, Does, Quiet, Steps, text, HasBegun, CanBegin, Suits, stays, answer_of};
 
 use crate::calls::frame_size;
 use crate::machine::{node_of_label, operand, Machine};
@@ -162,6 +164,52 @@ impl Machine {
         match self.value(labels, operand(node, 0)) {
             Some(word) => self.go_back(Some(word)),
             None => MeanStep::Undefined { line: node.line },
+        }
+    }
+
+    // A jump.
+    fn jump_node(&mut self, last: LastOperand, node: &Node, nodes: &NodeList, shape: &Shape, labels: &[u64]) -> bool
+        requires room { self.old.at < 2 ^ 32 - 1 }
+        requires known { AreKnown (length labels.now) node.now }
+        requires same { length labels.now ≡ length nodes.now.words }
+        ensures { Does (node_step (text nodes.now shape.now labels.now) node.now (op_of.Control control.Jmp last) (state_of self.old)) (state_of self.old) result (state_of self.new) }
+    {
+        match last {
+            LastOperand::Register => self.jump(node, nodes, shape, labels),
+            LastOperand::Immediate => self.branch(true, nodes, operand(node, 0)),
+        }
+    }
+
+    // A node that changes nothing.
+    fn pass(&mut self) -> bool
+        requires { self.old.at < 2 ^ 32 - 1 }
+        ensures { Does (quiet (on (state_of self.old))) (state_of self.old) result (state_of self.new) }
+    {
+        self.go_on();
+        true
+    }
+
+    // A node that comes in one form and is no return.
+    fn plain(&mut self, form: PlainOp, node: &Node, nodes: &NodeList, shape: &Shape, labels: &[u64]) -> bool
+        requires room { self.old.at < 2 ^ 32 - 1 }
+        requires stays { IsTrue (stays (op_of.Plain form)) }
+        requires suits { Suits shape.now.functions (op_of.Plain form) (state_of self.old) self.old.count }
+        requires known { AreKnown (length labels.now) node.now }
+        ensures { Does (plain_step (text nodes.now shape.now labels.now) node.now form (state_of self.old)) (state_of self.old) result (state_of self.new) }
+    {
+        match form {
+            PlainOp::Movi => self.movi(node, labels),
+            PlainOp::Prepare => {
+                self.prepare();
+                true
+            }
+            PlainOp::Ellipsis => {
+                self.ellipsis();
+                true
+            }
+            PlainOp::Prolog => self.prolog(nodes, shape, labels),
+            PlainOp::Arg | PlainOp::Allocai | PlainOp::Align => self.pass(),
+            PlainOp::Epilog | PlainOp::Ret => false,
         }
     }
 }
