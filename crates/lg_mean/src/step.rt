@@ -23,6 +23,16 @@ fn answer(went: bool, line: u32) -> MeanStep
     if went { MeanStep::Went } else { MeanStep::Undefined { line } }
 }
 
+// Whether a node neither calls nor returns.
+fn stays(op: Op) -> bool
+    ensures { result ≡ stays op }
+{
+    !matches!(
+        op,
+        Op::Control(ControlOp::Call | ControlOp::Finish | ControlOp::Ret, _) | Op::Plain(PlainOp::Epilog | PlainOp::Ret)
+    )
+}
+
 impl Machine {
     // A function begins.
     fn prolog(&mut self, nodes: &NodeList, shape: &Shape, labels: &[u64]) -> bool
@@ -147,7 +157,7 @@ impl Machine {
     // A return.
     fn go_back(&mut self, word: Option<u64>) -> MeanStep
         requires { HasBegun (state_of self.old) }
-        ensures { (line : ℕ) → Quiet (leave (state_of self.old) word) line (state_of self.old) result (state_of self.new) }
+        ensures { Quiet (leave (state_of self.old) word) 0 (state_of self.old) result (state_of self.new) }
     {
         match self.leave(word) {
             Some(status) => MeanStep::Ended(status),
@@ -211,5 +221,80 @@ impl Machine {
             PlainOp::Arg | PlainOp::Allocai | PlainOp::Align => self.pass(),
             PlainOp::Epilog | PlainOp::Ret => false,
         }
+    }
+
+    // A node that neither calls nor returns.
+    fn stay(&mut self, node: &Node, nodes: &NodeList, shape: &Shape, labels: &[u64]) -> bool
+        requires room { self.old.at < 2 ^ 32 - 1 }
+        requires stays { IsTrue (stays node.now.op) }
+        requires suits { Suits shape.now.functions node.now.op (state_of self.old) self.old.count }
+        requires known { AreKnown (length labels.now) node.now }
+        requires same { length labels.now ≡ length nodes.now.words }
+        ensures { Does (node_step (text nodes.now shape.now labels.now) node.now node.now.op (state_of self.old)) (state_of self.old) result (state_of self.new) }
+    {
+        match node.op {
+            Op::Binary(op, _) => self.binary_node(op, node, labels),
+            Op::Wide(op, _) => self.wide(op, node, labels),
+            Op::Branch(condition, _) => self.branch_where(condition, node, nodes, shape, labels),
+            Op::BranchSum(op, _) => self.branch_sum(op, node, nodes, shape, labels),
+            Op::Control(ControlOp::Jmp, last) => self.jump_node(last, node, nodes, shape, labels),
+            Op::Control(ControlOp::Pusharg, _) => self.push(node, labels),
+            Op::Control(_, _) => false,
+            Op::Unary(op) => self.unary(op, node, labels),
+            Op::Plain(form) => self.plain(form, node, nodes, shape, labels),
+            Op::Load(value_type, addressing) => self.load(value_type, addressing, node, labels),
+            Op::Store(store_type, addressing) => self.store(store_type, addressing, node, labels),
+            Op::Retval(value_type) => self.retval(node, value_type),
+            Op::Getarg(value_type) => self.getarg(node, value_type),
+        }
+    }
+
+    // A finish, with the arguments that are staged.
+    fn finish<O: Sink>(&mut self, last: LastOperand, node: &Node, nodes: &NodeList, shape: &Shape, labels: &[u64], out: &mut O) -> MeanStep
+        requires room { self.old.at < 2 ^ 32 - 1 }
+        requires begun { HasBegun (state_of self.old) }
+        requires known { AreKnown (length labels.now) node.now }
+        requires same { length labels.now ≡ length nodes.now.words }
+        ensures says { Steps (call_step (text nodes.now shape.now labels.now) node.now last (state_of self.old).pushed (state_of self.old)) node.now.line (state_of self.old) result (state_of self.new) (O.taken out.old) (O.taken out.new) (O.faults out.old) (O.faults out.new) }
+        ensures later { O.faults out.old ≤ O.faults out.new }
+    {
+        let count = self.count;
+        self.call(last, count, node, nodes, shape, labels, out)
+    }
+
+    // A node that calls or returns.
+    fn move_on<O: Sink>(&mut self, node: &Node, nodes: &NodeList, shape: &Shape, labels: &[u64], out: &mut O) -> MeanStep
+        requires room { self.old.at < 2 ^ 32 - 1 }
+        requires moves { stays node.now.op ≡ false }
+        requires suits { Suits shape.now.functions node.now.op (state_of self.old) self.old.count }
+        requires known { AreKnown (length labels.now) node.now }
+        requires same { length labels.now ≡ length nodes.now.words }
+        ensures says { Steps (node_step (text nodes.now shape.now labels.now) node.now node.now.op (state_of self.old)) node.now.line (state_of self.old) result (state_of self.new) (O.taken out.old) (O.taken out.new) (O.faults out.old) (O.faults out.new) }
+        ensures later { O.faults out.old ≤ O.faults out.new }
+    {
+        match node.op {
+            Op::Control(ControlOp::Call, last) => self.call(last, 0, node, nodes, shape, labels, out),
+            Op::Control(ControlOp::Finish, last) => self.finish(last, node, nodes, shape, labels, out),
+            Op::Control(ControlOp::Ret, _) => self.go_back_with(node, labels),
+            Op::Plain(PlainOp::Epilog) => self.go_back(None),
+            Op::Plain(PlainOp::Ret) => self.go_back(None),
+            _ => MeanStep::Undefined { line: node.line },
+        }
+    }
+
+    // One step of a node.
+    pub(crate) fn step_node<O: Sink>(&mut self, node: &Node, nodes: &NodeList, shape: &Shape, labels: &[u64], out: &mut O) -> MeanStep
+        requires room { self.old.at < 2 ^ 32 - 1 }
+        requires suits { Suits shape.now.functions node.now.op (state_of self.old) self.old.count }
+        requires known { AreKnown (length labels.now) node.now }
+        requires same { length labels.now ≡ length nodes.now.words }
+        ensures says { Steps (node_step (text nodes.now shape.now labels.now) node.now node.now.op (state_of self.old)) node.now.line (state_of self.old) result (state_of self.new) (O.taken out.old) (O.taken out.new) (O.faults out.old) (O.faults out.new) }
+        ensures later { O.faults out.old ≤ O.faults out.new }
+    {
+        if stays(node.op) {
+            let went = self.stay(node, nodes, shape, labels);
+            return answer(went, node.line);
+        }
+        self.move_on(node, nodes, shape, labels, out)
     }
 }
