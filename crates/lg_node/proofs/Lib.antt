@@ -1,1 +1,10 @@
+pub mod AcceptedLaws
+pub mod FunctionLaws
+pub mod FunctionLemmas
+pub mod LimitLemmas
 pub mod NodeListLemmas
+pub mod NumberLaws
+pub mod SuccessorLaws
+pub mod TableLemmas
+pub mod WalkLemmas
+pub mod WellShaped

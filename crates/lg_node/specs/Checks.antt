@@ -125,6 +125,11 @@ refuses l i n kind = false
 abbrev pub kinds : List RefusalKind
 kinds = LabelMissing ∷ NotInFunction ∷ FunctionOpen ∷ TargetOutside ∷ BadCall ∷ TooManyArgs ∷ FrameTooBig ∷ []
 
+-- a test fails at each kind
+abbrev pub FailsAll : (RefusalKind → Bool) → List RefusalKind → Type 0
+FailsAll test [] = Unit {0}
+FailsAll test (k ∷ ks) = (test k ≡ false) × FailsAll test ks
+
 abbrev pub refusal_of : LabelledNodes → ℕ → Node → Option Refusal
 refusal_of l i n = option_map (λ k. record { kind = k; line = n.line }) (find (refuses l i n) kinds)
 

@@ -1,7 +1,8 @@
 -- The functions of a list of nodes. A function runs from a `prolog` to the next `epilog`, both included: over a `prolog` inside it, and
 -- to the last node where no `epilog` follows.
-use Rattle.std.specs.Prelude.{ℕ, zero, suc, ◌+◌, ◌*◌, ◌/◌, Bool, true, false, if◌then◌else◌, List, [], ◌∷◌, ◌++◌, Option, Some, None, length, take, slice_get, slice_range, nat_le, ◌&&◌}
-use Rattle.std.specs.List.{find, list_any, position, sum_by}
+use Rattle.std.specs.Prelude.{◌≡◌, ℕ, zero, suc, ◌+◌, ◌*◌, ◌/◌, ◌<◌, ◌≤◌, Bool, true, false, if◌then◌else◌, List, [], ◌∷◌, ◌++◌, Option, Some, None, length, slice_get, slice_range, nat_le, ◌&&◌}
+use Rattle.std.specs.List.{find, position, sum_by}
+use Rattle.std.specs.Option.{option_to_list}
 use Rattle.lg_base.specs.Layout.{frame_size}
 use Rattle.lg_op.specs.declared.op.Op.{Op}
 use Rattle.lg_op.specs.declared.op.Op.TheVariants.{Plain}
@@ -63,18 +64,18 @@ abbrev pub local_size : Node → ℕ
 local_size n = local_of n.op n.operands
 
 -- the function that ends at a node with this operation, of the function that begins at p; its locals are those of all its nodes
-abbrev pub ended : List Node → Option ℕ → ℕ → Op → List Function
-ended nodes None i op = []
-ended nodes (Some p) i op = if is_epilog op then record { entry = p; last = i; locals = sum_by local_size (slice_range nodes p (i + 1)) } ∷ [] else []
+abbrev pub ended : List Node → Option ℕ → ℕ → Op → Option Function
+ended nodes None i op = None
+ended nodes (Some p) i op = if is_epilog op then Some record { entry = p; last = i; locals = sum_by local_size (slice_range nodes p (i + 1)) } else None
 
-abbrev pub ended_at : List Node → Option ℕ → ℕ → Option Node → List Function
-ended_at nodes home i None = []
+abbrev pub ended_at : List Node → Option ℕ → ℕ → Option Node → Option Function
+ended_at nodes home i None = None
 ended_at nodes home i (Some n) = ended nodes home i n.op
 
 -- the functions that end before a node, in order
 unfoldable pub functions_before : List Node → ℕ → List Function
 functions_before nodes zero = []
-functions_before nodes (suc i) = functions_before nodes i ++ ended_at nodes (home nodes i) i (slice_get nodes i)
+functions_before nodes (suc i) = functions_before nodes i ++ option_to_list (ended_at nodes (home nodes i) i (slice_get nodes i))
 
 -- the functions, in order
 abbrev pub functions : List Node → List Function
@@ -90,6 +91,24 @@ function_of functions node = position (has_node node) functions
 
 abbrev pub function_at : List Function → ℕ → Option Function
 function_at functions node = find (has_node node) functions
+
+abbrev pub is_prolog_at : Option Node → Bool
+is_prolog_at None = false
+is_prolog_at (Some n) = is_prolog n.op
+
+abbrev pub is_epilog_at : Option Node → Bool
+is_epilog_at None = false
+is_epilog_at (Some n) = is_epilog n.op
+
+-- a function is a range of nodes from a `prolog` to an `epilog`: its nodes are those of the range and no others
+pub record IsFunction (nodes : List Node) (f : Function) : Type 0 where
+  pub order : f.entry ≤ f.last
+  pub within : f.last < length nodes
+  pub begins : is_prolog_at (slice_get nodes f.entry) ≡ true
+  pub ends : is_epilog_at (slice_get nodes f.last) ≡ true
+  pub all : (k : ℕ) → f.entry ≤ k → k ≤ f.last → home nodes k ≡ Some f.entry
+  pub only : (k : ℕ) → home nodes k ≡ Some f.entry → (f.entry ≤ k) × (k ≤ f.last)
+  pub locals : f.locals ≡ sum_by local_size (slice_range nodes f.entry (f.last + 1))
 
 -- the bytes of a function's frame
 abbrev pub frame_of : Function → ℕ

@@ -14,7 +14,7 @@ use Rattle.lg_op.specs.declared.node.Node.{Node}
 use Rattle.lg_node.specs.declared.place.Place.{Place}
 use Rattle.lg_node.specs.declared.place.Place.TheVariants as place
 use Rattle.lg_node.specs.Nodes.{LabelledNodes}
-use Rattle.lg_node.specs.Functions.{home, is_prolog_node}
+use Rattle.lg_node.specs.Functions.{home, is_prolog_at}
 
 -- the place at which a label is bound
 abbrev pub place_of : List (Option Place) → Label → Option Place
@@ -32,10 +32,6 @@ is_labelled places i = list_any (is_at i) places
 abbrev pub is_code : Option Place → Bool
 is_code (Some (place.Node k)) = true
 is_code p = false
-
-abbrev pub is_prolog_at : Option Node → Bool
-is_prolog_at None = false
-is_prolog_at (Some n) = is_prolog_node n
 
 -- the place is a `prolog`
 abbrev pub is_entry : List Node → Option Place → Bool

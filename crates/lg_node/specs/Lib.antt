@@ -4,5 +4,8 @@ pub mod Labels
 pub mod NodeLists
 pub mod Nodes
 pub mod Preparations
+pub mod ShapeLaws
 pub mod ShapeTables
 pub mod Shapes
+pub mod Tables
+pub mod Walks

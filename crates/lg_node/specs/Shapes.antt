@@ -1,6 +1,6 @@
 -- The shape of an accepted text: its functions, the labels that are taken, and the successors of each node.
-use Rattle.std.specs.Prelude.{◌≡◌, ◌⊎◌, ℕ, ◌+◌, ◌<◌, Bool, true, false, List, [], ◌∷◌, Option, Some, None, length, slice_get, slice_index_or}
-use Rattle.lg_base.specs.declared.refusal.Stop.{Stop}
+use Rattle.std.specs.Prelude.{◌≡◌, ◌⊎◌, ℕ, ◌+◌, ◌<◌, Bool, true, false, List, ◌∷◌, Option, Some, None, Result, Ok, Err, length, slice_get, slice_index_or}
+use Rattle.lg_base.specs.declared.refusal.Refusal.{Refusal}
 use Rattle.lg_op.specs.declared.op.Op.{Op}
 use Rattle.lg_op.specs.declared.op.Op.TheVariants.{Branch, BranchSum, Control, Plain}
 use Rattle.lg_op.specs.declared.op.ControlOp.TheVariants as control
@@ -13,9 +13,9 @@ use Rattle.lg_node.specs.declared.function.Function.{Function}
 use Rattle.lg_node.specs.declared.place.Place.{Place}
 use Rattle.lg_node.specs.declared.place.Place.TheVariants as place
 use Rattle.lg_node.specs.Nodes.{LabelledNodes}
-use Rattle.lg_node.specs.Functions.{functions, function_of}
-use Rattle.lg_node.specs.Labels.{place_of}
-use Rattle.lg_node.specs.Checks.{IsAccepted}
+use Rattle.lg_node.specs.Functions.{home, functions}
+use Rattle.lg_node.specs.Labels.{place_of, taken_labels}
+use Rattle.lg_node.specs.Checks.{IsAccepted, IsRefused}
 
 -- the functions in order, and of each label whether it is taken
 pub record TextShape : Type 0 where
@@ -30,6 +30,11 @@ shape_of nodes taken = record { functions = functions nodes; taken = taken }
 pub record IsShapeOf (l : LabelledNodes) (s : TextShape) : Type 0 where
   pub accepted : IsAccepted l
   pub functions : s.functions ≡ functions l.nodes
+
+-- a text has this shape, or is refused so
+abbrev pub IsChecked : LabelledNodes → Result TextShape Refusal → Type 0
+IsChecked l (Ok s) = IsShapeOf l s × (s.taken ≡ taken_labels l)
+IsChecked l (Err r) = IsRefused l r
 
 abbrev pub IsTaken : TextShape → ℕ → Type 0
 IsTaken s label = slice_index_or s.taken label false ≡ true
@@ -66,12 +71,15 @@ IsNext l i k = (k ≡ i + 1) × (k < length l.nodes)
 abbrev pub IsTarget : LabelledNodes → Node → ℕ → Type 0
 IsTarget l n k = target_of l.places n.operands ≡ Some (place.Node k)
 
--- a taken label is bound at node k, which is in the function of node i
+-- a taken label is bound at node k, in the function of node i behind its `prolog`
 pub record IsTakenIn (l : LabelledNodes) (s : TextShape) (i k : ℕ) : Type 0 where
   pub label : ℕ
   pub taken : IsTaken s label
   pub place : slice_get l.places label ≡ Some (Some (place.Node k))
-  pub same : function_of s.functions k ≡ function_of s.functions i
+  pub function : ℕ
+  pub here : home l.nodes i ≡ Some function
+  pub there : home l.nodes k ≡ Some function
+  pub behind : function < k
 
 abbrev pub GoesBy : LabelledNodes → TextShape → ℕ → Node → Way → ℕ → Type 0
 GoesBy l s i n Next k = IsNext l i k

@@ -1,15 +1,24 @@
 //! The nodes of a text with its labels, and the text as a unit.
 #![tactic(auto)]
 
+mod checks;
 mod function;
 mod label_addresses;
+mod labels;
+pub mod laws;
 mod node_list;
 mod place;
 mod preparation;
+mod ranges;
+mod refusals;
 mod shape;
+mod tables;
+mod taken;
 mod unit;
+mod walk;
 
 pub use function::Function;
+pub use checks::{check, reshape};
 pub use label_addresses::LabelAddresses;
 pub use lg_op::{
     Addressing, BinaryOp, BranchSumOp, Condition, ControlOp, Form, Label, LastOperand, Node, Op,

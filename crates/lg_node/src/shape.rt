@@ -1,11 +1,16 @@
 // The shape of an accepted text.
 
-ghost use Rattle.std.specs.Prelude.{◌≡◌, ◌<◌, ◌≤◌, length, slice_get, slice_index_or, IfSome, Some, false};
+ghost use Rattle.std.specs.Prelude.{◌≡◌, ◌<◌, ◌≤◌, ◌^◌, length, slice_get, slice_index_or, IfSome, IfOk, Some, false};
+ghost use Rattle.std.specs.List.{All};
+ghost use Rattle.lg_node.specs.ShapeTables.{IsSmall, AreNumbers};
 ghost use Rattle.std.specs.Option.{option_map};
 ghost use Rattle.lg_node.specs.Functions.{function_of, frame_of};
 
 use crate::function::Function;
+use crate::ranges::Ranges;
+use lg_base::refusal::OutOfMemory;
 use lg_op::Label;
+use std::alloc::Global;
 use std::marker::Model;
 
 // The bytes of a frame without locals: the words that every function has, and its outgoing stack arguments.
@@ -32,6 +37,29 @@ impl Model for Shape {
 }
 
 impl Shape {
+    /// The shape of these functions, where these labels are taken.
+    pub fn from_ranges(ranges: Ranges, taken: Vec<bool>) -> Shape
+        requires few { length ranges.functions.items < 2 ^ 32 }
+        requires small { All IsSmall ranges.functions.items }
+        requires numbers { AreNumbers ranges.functions.items ranges.numbers.items }
+        ensures functions { result.functions ≡ ranges.functions.items }
+        ensures taken { result.taken ≡ taken.items }
+    {
+        Shape {
+            functions: ranges.functions,
+            numbers: ranges.numbers,
+            taken,
+        }
+    }
+
+    /// The list of the labels that are taken.
+    pub fn clone_taken(&self, alloc: Global) -> Result<Vec<bool>, OutOfMemory>
+        ensures { IfOk result (λ taken. taken.items ≡ self.now.taken) }
+    {
+        let taken = Vec::from_slice(alloc, &self.taken)?;
+        Ok(taken)
+    }
+
     /// How many functions there are. They are numbered in the order of the text.
     pub fn functions(&self) -> u32
         ensures { result ≡ length self.now.functions }

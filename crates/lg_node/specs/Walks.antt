@@ -1,0 +1,29 @@
+-- What is known before a node when the nodes are walked in order.
+use Rattle.std.specs.Prelude.{ℕ, ◌+◌, ◌≤◌, ◌||◌, cond, if◌then◌else◌, List, Option, is_some}
+use Rattle.lg_op.specs.declared.node.Node.{Node}
+use Rattle.lg_node.specs.declared.walk.Walk.{Walk}
+use Rattle.lg_node.specs.Functions.{is_prolog, home_of, open_behind, open_before, local_size}
+use Rattle.lg_node.specs.Preparations.{prepared_behind, prepared_before, pushed_of}
+use Rattle.lg_node.specs.Checks.{is_arg, is_begun, args_before, locals_before}
+
+abbrev pub walk_at : List Node → ℕ → Walk
+walk_at nodes i = record { function = open_before nodes i; begun = is_begun nodes i; args = args_before nodes i; locals = locals_before nodes i; call = prepared_before nodes i }
+
+-- what is known behind a node: counts are kept while a function is open
+abbrev pub behind_in : Option ℕ → Walk → Node → Walk
+behind_in function w n = record {
+  function = function;
+  begun = w.begun || is_prolog n.op;
+  args = if is_some function then w.args + cond (is_arg n.op) 1 0 else 0;
+  locals = if is_some function then w.locals + local_size n else 0;
+  call = prepared_behind w.call n.op;
+}
+
+abbrev pub walk_behind : Walk → ℕ → Node → Walk
+walk_behind w i n = behind_in (open_behind (home_of w.function i n.op) n.op) w n
+
+-- the limits of a function and of a call
+pub record IsWithinLimits (w : Walk) : Type 0 where
+  pub args : w.args ≤ 16
+  pub locals : w.locals ≤ 65536
+  pub pushed : pushed_of w.call ≤ 16
