@@ -1,4 +1,6 @@
+pub mod Fits
 pub mod Machines
+pub mod Portables
 pub mod Operators
 pub mod Says
 pub mod States

@@ -10,5 +10,6 @@ mod host_calls;
 mod machine;
 pub mod mean_step;
 mod operators;
+pub mod portable;
 mod step;
 mod targets;

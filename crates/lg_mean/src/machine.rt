@@ -1,7 +1,7 @@
 // The state of the portable machine, and how it goes on.
 
 ghost use Rattle.std.specs.Prelude.{◌≡◌, ◌<◌, ◌≤◌, ◌-◌, ◌+◌, ◌^◌, ◌∷◌, ◌++◌, [], ℕ, length, slice_index_or, take, true, Some, None};
-ghost use Rattle.lg_mean.specs.States.{value, reg, named, number};
+ghost use Rattle.lg_mean.specs.States.{value, reg, named, number, is_open};
 ghost use Rattle.lg_mean.specs.Steps.{on, on_with_carry, to, with_reg, operand_at, node_of_label, node_in, slot};
 ghost use Rattle.lg_mean.specs.Machines.{state_of, regs_of};
 ghost use Rattle.lg_mean.specs.Says.{IsKnown};
@@ -100,6 +100,22 @@ pub(crate) fn node_of_label(nodes: &NodeList, operand: Operand) -> u32
 }
 
 impl Machine {
+    // The node that comes next. Each byte of a machine lies in a part.
+    pub(crate) fn place(&self) -> u32
+        ensures value { result ≡ self.now.at }
+        ensures memory { (a b : ℕ) → (state_of self.now).mem a ≡ Some b → is_open (state_of self.now) a ≡ true }
+    {
+        self.at
+    }
+
+    // How many arguments are pushed.
+    pub(crate) fn pushed(&self) -> usize
+        ensures value { result ≡ self.now.count }
+        ensures pushed { length (state_of self.now).pushed ≡ result }
+    {
+        self.staged[..self.count as usize].len()
+    }
+
     // What a register holds.
     fn reg(&self, register: Reg) -> Option<u64>
         ensures { result ≡ reg (state_of self.now) register }
