@@ -17,6 +17,7 @@ mod taken;
 mod unit;
 mod walk;
 
+pub use function::Function;
 pub use checks::{check, reshape};
 pub use label_addresses::LabelAddresses;
 pub use lg_op::{

@@ -1,0 +1,4 @@
+pub mod CellLemmas
+pub mod FirstLemmas
+pub mod LoadLemmas
+pub mod PlaceLemmas

@@ -1,0 +1,243 @@
+// The memory of the portable machine.
+
+ghost use Rattle.std.specs.Prelude.{◌≡◌, ℕ, ◌+◌, ◌-◌, ◌<◌, ◌≤◌, ◌^◌, ◌⊎◌, length, IsTrue, IfOk, if◌then◌else◌};
+ghost use Rattle.lg_base.specs.Spaces.{put_some, raised, loaded, stored};
+ghost use Rattle.lg_cells.specs.Cells.{cell_of, first_cells};
+ghost use Rattle.lg_cells.specs.Memories.{byte_at, room_at, place_of, without, opened, closed, first_bytes, first_room, writable, cell_at, IsSameSize};
+
+use crate::cell::{closed_cells, fill, put_bytes, Cell};
+use lg_base::refusal::OutOfMemory;
+use lg_base::space::Space;
+use std::alloc::Global;
+use std::marker::Model;
+
+const DATA: u64 = 0x2000_0000;
+
+const ARGS: u64 = 0x2800_0000;
+
+const HEAP: u64 = 0x3000_0000;
+
+const HEAP_SIZE: u64 = 0x40_0000;
+
+const STACK: u64 = 0x3FF0_0000;
+
+const STACK_SIZE: u64 = 0x10_0000;
+
+/// The data part, the argument part, the heap and the stack, at the addresses 0x20000000, 0x28000000, 0x30000000 and
+/// 0x3FF00000, with a mark at each byte that was never written. Addresses of the heap from its mark on, and those of the stack
+/// that are not open, hold nothing and can't be written.
+#[derive(Drop)]
+pub struct CellMemory {
+    data_size: u64,
+    args_size: u64,
+    mark: u64,
+    cells: Vec<Cell>,
+}
+
+impl Model for CellMemory {
+    ghost use Rattle.lg_cells.specs.Memories.{Marked, IsMarked};
+
+    ghost Value = { Marked };
+
+    ghost view = { λ m. record { data_size = m.data_size; args_size = m.args_size; mark = m.mark; cells = m.cells.items } };
+
+    ghost invariant = { λ m. IsMarked record { data_size = m.data_size; args_size = m.args_size; mark = m.mark; cells = m.cells.items } };
+}
+
+// The place of an address among the cells, for parts of these sizes.
+fn place(data_size: u64, args_size: u64, mark: u64, address: u64) -> Option<usize>
+    requires data_part { data_size ≤ 0x1000000 }
+    requires args { args_size ≤ 0x100000 }
+    requires mark { (0x30000000 ≤ mark) × (mark ≤ 0x30400000) }
+    ensures { result ≡ place_of data_size args_size mark address }
+{
+    if DATA <= address && address < DATA + data_size {
+        Some((address - DATA) as usize)
+    } else if ARGS <= address && address < ARGS + args_size {
+        Some((address - ARGS + data_size) as usize)
+    } else if HEAP <= address && address < mark {
+        Some((address - HEAP + data_size + args_size) as usize)
+    } else if STACK <= address && address < STACK + STACK_SIZE {
+        Some((address - STACK + data_size + args_size + HEAP_SIZE) as usize)
+    } else {
+        None
+    }
+}
+
+// Sets cells that are closed to the bytes of a data and an argument part, and those of the heap behind them to fresh ones.
+fn begin(cells: &mut [Cell], image: &[u8], args: &[u8])
+    requires image { length image.now ≤ 0x1000000 }
+    requires args { length args.now ≤ 0x100000 }
+    requires room { length image.now + length args.now + 0x400000 ≤ length cells.old }
+    ensures { cell_of cells.new ≡ first_cells (cell_of cells.old) image.now args.now }
+{
+    put_bytes(cells, 0, image);
+    put_bytes(cells, image.len(), args);
+    fill(cells, image.len() + args.len(), HEAP_SIZE as usize, Cell::Fresh);
+}
+
+impl CellMemory {
+    /// The memory of a run's start, with these data and argument parts, of at most 16,777,216 and 1,048,576 bytes: their bytes
+    /// are written and can be written, and no other address can.
+    pub fn new(alloc: Global, image: &[u8], args: &[u8]) -> Result<CellMemory, OutOfMemory>
+        requires image { length image.now ≤ 0x1000000 }
+        requires args { length args.now ≤ 0x100000 }
+        ensures bytes { IfOk result (λ m. byte_at m ≡ first_bytes image.now args.now) }
+        ensures rooms { IfOk result (λ m. room_at m ≡ first_room (length image.now) (length args.now)) }
+        ensures data_size { IfOk result (λ m. m.data_size ≡ length image.now) }
+        ensures args_size { IfOk result (λ m. m.args_size ≡ length args.now) }
+        ensures mark { IfOk result (λ m. m.mark ≡ 0x30000000) }
+    {
+        let mut cells = closed_cells(alloc, image.len() + args.len() + (HEAP_SIZE + STACK_SIZE) as usize)?;
+        begin(&mut cells, image, args);
+        Ok(CellMemory {
+            data_size: image.len() as u64,
+            args_size: args.len() as u64,
+            mark: HEAP,
+            cells,
+        })
+    }
+
+    // The cell of an address.
+    fn cell(&self, address: u64) -> Cell
+        ensures { result ≡ cell_at self.now address }
+    {
+        match place(self.data_size, self.args_size, self.mark, address) {
+            Some(at) => self.cells[at],
+            None => Cell::Closed,
+        }
+    }
+
+    // The byte that was written at an address.
+    fn byte(&self, address: u64) -> Option<u8>
+        ensures { result ≡ byte_at self.now address }
+    {
+        self.cell(address).byte()
+    }
+
+    // Whether an address can be written.
+    fn is_room(&self, address: u64) -> bool
+        ensures { result ≡ room_at self.now address }
+    {
+        self.cell(address).is_room()
+    }
+
+    /// The number in `width` bytes from an address on, the lowest byte first. None exactly where one of them was never written or
+    /// can't stand there. `width` is at most 8, and the bytes end by 2^64.
+    pub fn load(&self, address: u64, width: u32) -> Option<u64>
+        requires narrow { width ≤ 8 }
+        requires end { address + width ≤ 2 ^ 64 }
+        ensures { result ≡ loaded (byte_at self.now) address width }
+    {
+        let mut value: u64 = 0;
+        let mut left = width as u64;
+        while left > 0 {
+            left -= 1;
+            match self.byte(address + left) {
+                Some(byte) => value = value * 256 + byte as u64,
+                None => return None,
+            }
+        }
+        Some(value)
+    }
+
+    /// Whether each of `width` bytes from an address on can be written. `width` is at most 8, and the bytes end by 2^64.
+    pub fn can_store(&self, address: u64, width: u32) -> bool
+        requires narrow { width ≤ 8 }
+        requires end { address + width ≤ 2 ^ 64 }
+        ensures { result ≡ writable (room_at self.now) address width }
+    {
+        for i in 0..width as u64 {
+            if !self.is_room(address + i) {
+                return false;
+            }
+        }
+        true
+    }
+
+    /// Writes the low `width` bytes of a number from an address on, the lowest byte first. Each of the bytes can be written;
+    /// `width` is at most 8, and the bytes end by 2^64.
+    pub fn store(&mut self, address: u64, width: u32, value: u64)
+        requires narrow { width ≤ 8 }
+        requires end { address + width ≤ 2 ^ 64 }
+        requires room { IsTrue (writable (room_at self.old) address width) }
+        ensures bytes { byte_at self.new ≡ stored (byte_at self.old) address width value }
+        ensures rooms { room_at self.new ≡ room_at self.old }
+        ensures sizes { IsSameSize self.old self.new }
+    {
+        let mut rest = value;
+        for i in 0..width as u64 {
+            let _ = self.write(address + i, (rest % 256) as u8);
+            rest /= 256;
+        }
+    }
+
+    // Writes a byte. False exactly where the address can't be written, and then nothing changes.
+    fn write(&mut self, address: u64, byte: u8) -> bool
+        ensures done { result ≡ room_at self.old address }
+        ensures bytes { byte_at self.new ≡ (if result then put_some (byte_at self.old) address byte else byte_at self.old) }
+        ensures rooms { room_at self.new ≡ room_at self.old }
+        ensures sizes { IsSameSize self.old self.new }
+    {
+        if !self.is_room(address) {
+            return false;
+        }
+        let Some(at) = place(self.data_size, self.args_size, self.mark, address) else {
+            return false;
+        };
+        self.cells[at] = Cell::Holds(byte);
+        true
+    }
+
+    /// Lets so many addresses of the stack from one on be written; no byte stands there. They lie from 0x3FF00000 to
+    /// 0x40000000.
+    pub fn open(&mut self, from: u64, count: u64)
+        requires low { 0x3FF00000 ≤ from }
+        requires high { from + count ≤ 0x40000000 }
+        ensures bytes { byte_at self.new ≡ without (byte_at self.old) from count }
+        ensures rooms { room_at self.new ≡ opened (room_at self.old) from count }
+        ensures sizes { IsSameSize self.old self.new }
+    {
+        let at = from - STACK + self.data_size + self.args_size + HEAP_SIZE;
+        fill(&mut self.cells, at as usize, count as usize, Cell::Fresh);
+    }
+
+    /// Takes so many addresses of the stack from one on out of the memory, with their bytes. They lie from 0x3FF00000 to
+    /// 0x40000000.
+    pub fn close(&mut self, from: u64, count: u64)
+        requires low { 0x3FF00000 ≤ from }
+        requires high { from + count ≤ 0x40000000 }
+        ensures bytes { byte_at self.new ≡ without (byte_at self.old) from count }
+        ensures rooms { room_at self.new ≡ closed (room_at self.old) from count }
+        ensures sizes { IsSameSize self.old self.new }
+    {
+        let at = from - STACK + self.data_size + self.args_size + HEAP_SIZE;
+        fill(&mut self.cells, at as usize, count as usize, Cell::Closed);
+    }
+}
+
+impl Space for CellMemory {
+    ghost use Rattle.lg_cells.specs.Memories.{byte_at, room_at};
+
+    ghost byte_of = { byte_at };
+
+    ghost room = { room_at };
+
+    fn get(&self, address: u64) -> Option<u8> {
+        self.byte(address)
+    }
+
+    fn can_put(&self, address: u64) -> bool {
+        self.is_room(address)
+    }
+
+    fn put(&mut self, address: u64, byte: u8) -> bool {
+        self.write(address, byte)
+    }
+
+    fn raise(&mut self, mark: u64) {
+        if mark > self.mark {
+            self.mark = mark;
+        }
+    }
+}

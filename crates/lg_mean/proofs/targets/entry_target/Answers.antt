@@ -1,0 +1,16 @@
+use Rattle.std.proofs.Common.{sym, ap, ◌∙◌}
+use Rattle.lg_mean.specs.Steps.{later, landing, is_entry_label}
+use Rattle.lg_mean.specs.Says.{text}
+use Rattle.lg_mean.proofs.LandingLemmas.{last_landing-none, last_landing-next}
+use Rattle.lg_mean.proofs.targets.entry_target.Goals as goal
+
+pub loop-label-init : goal.loop-label-init
+loop-label-init c = last_landing-none _ _ _ _
+
+pub loop-label-preserved : goal.loop-label-preserved
+loop-label-preserved c =
+    let test = (is_entry_label (text c.args.nodes.now c.args.shape.now c.args.labels.now)) in
+    c.later-target.ensures
+    ∙ ap (λ o. later o c.loop-label.target) c.entry_landing.ensures
+    ∙ ap (λ o. later (landing test c.args.nodes.now.places c.args.labels.now c.args.word c.loop-label.label) o) c.loop-label.invariant
+    ∙ sym (last_landing-next test c.args.nodes.now.places c.args.labels.now c.args.word c.loop-label.label)

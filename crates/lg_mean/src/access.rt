@@ -1,0 +1,148 @@
+// Loads and stores of the portable machine. Each method answers whether the step is defined.
+
+ghost use Rattle.std.specs.Prelude.{◌≡◌, ◌<◌, ◌≤◌, ◌-◌, ◌+◌, ◌%◌, ◌^◌, ◌==◌, ◌&&◌, ◌⊎◌, ℕ, length, Bool, true, false, if◌then◌else◌, IsTrue, Option, None};
+ghost use Rattle.lg_base.specs.Spaces.{loaded, stored};
+ghost use Rattle.lg_cells.specs.Memories.{writable};
+ghost use Rattle.lg_mean.specs.States.{is_open};
+ghost use Rattle.lg_mean.specs.Operators.{width, store_width};
+ghost use Rattle.lg_mean.specs.Steps.{read, load_to, store_to, load_step, store_step, address, sum_value, is_indexed, stored_operand, on_with_carry, quiet};
+ghost use Rattle.lg_mean.specs.Machines.{state_of};
+ghost use Rattle.lg_mean.specs.Says.{AreKnown, Does};
+
+use crate::machine::{operand, Machine};
+use crate::operators;
+use lg_node::{Addressing, Node, Operand, StoreType, ValueType};
+
+// Whether an address is a multiple of a width.
+fn is_aligned(address: u64, width: u32) -> bool
+    requires { (width ≡ 1) ⊎ ((width ≡ 2) ⊎ ((width ≡ 4) ⊎ (width ≡ 8))) }
+    ensures value { result ≡ (address % width == 0) }
+    ensures end { IsTrue result → address + width ≤ 2 ^ 64 }
+{
+    address % width as u64 == 0
+}
+
+// Whether an address is the sum of two operands.
+fn is_indexed(addressing: Addressing) -> bool
+    ensures { result ≡ is_indexed addressing }
+{
+    matches!(addressing, Addressing::RegisterRegister | Addressing::RegisterImmediate)
+}
+
+// The place of the operand that is stored.
+fn stored_operand(addressing: Addressing) -> usize
+    ensures value { result ≡ stored_operand addressing }
+    ensures bound { result < 4 }
+{
+    if is_indexed(addressing) { 2 } else { 1 }
+}
+
+impl Machine {
+    // The address of an access.
+    fn address(&self, addressing: Addressing, node: &Node, first: usize, labels: &[u64]) -> Option<u64>
+        requires known { AreKnown (length labels.now) node.now }
+        requires first { first < 3 }
+        ensures { result ≡ address labels.now (state_of self.now) addressing node.now first }
+    {
+        let a = self.value(labels, operand(node, first))?;
+        if !is_indexed(addressing) {
+            return Some(a);
+        }
+        let b = self.value(labels, operand(node, first + 1))?;
+        Some(a.wrapping_add(b))
+    }
+
+    // The number in so many bytes at an address, where each lies in a part and was written.
+    fn number(&self, address: u64, width: u32) -> Option<u64>
+        requires narrow { width ≤ 8 }
+        requires end { address + width ≤ 2 ^ 64 }
+        ensures { result ≡ (if writable (is_open (state_of self.now)) address width then loaded (state_of self.now).mem address width else None) }
+    {
+        self.memory.load(address, width)
+    }
+
+    // The number that a type reads at an address.
+    fn read(&self, value_type: ValueType, address: u64) -> Option<u64>
+        ensures { result ≡ read (state_of self.now) address (width value_type) }
+    {
+        let width = operators::width(value_type);
+        if is_aligned(address, width) {
+            self.number(address, width)
+        } else {
+            None
+        }
+    }
+
+    // O1 = what stands at an address.
+    fn load_to(&mut self, value_type: ValueType, address: u64, operand: Operand) -> bool
+        requires { self.old.at < 2 ^ 32 - 1 }
+        ensures { Does (load_to (state_of self.old) value_type address operand) (state_of self.old) result (state_of self.new) }
+    {
+        match self.read(value_type, address) {
+            Some(word) => {
+                self.operate_with_carry(operand, operators::typed(value_type, word));
+                true
+            }
+            None => false,
+        }
+    }
+
+    // Loads.
+    pub(crate) fn load(&mut self, value_type: ValueType, addressing: Addressing, node: &Node, labels: &[u64]) -> bool
+        requires room { self.old.at < 2 ^ 32 - 1 }
+        requires known { AreKnown (length labels.now) node.now }
+        ensures { Does (load_step labels.now node.now value_type addressing (state_of self.old)) (state_of self.old) result (state_of self.new) }
+    {
+        match self.address(addressing, node, 1, labels) {
+            Some(address) => self.load_to(value_type, address, operand(node, 0)),
+            None => false,
+        }
+    }
+
+    // Whether so many bytes at an address can be written.
+    fn can_write(&self, store_type: StoreType, address: u64) -> bool
+        ensures value { result ≡ ((address % store_width store_type == 0) && writable (is_open (state_of self.now)) address (store_width store_type)) }
+        ensures end { IsTrue result → address + store_width store_type ≤ 2 ^ 64 }
+    {
+        let width = operators::store_width(store_type);
+        is_aligned(address, width) && self.memory.can_store(address, width)
+    }
+
+    // Writes bytes that can be written.
+    fn write(&mut self, store_type: StoreType, address: u64, word: u64)
+        requires room { IsTrue (writable (is_open (state_of self.old)) address (store_width store_type)) }
+        requires end { address + store_width store_type ≤ 2 ^ 64 }
+        ensures { state_of self.new ≡ record (state_of self.old) { mem = stored (state_of self.old).mem address (store_width store_type) word } }
+    {
+        let width = operators::store_width(store_type);
+        self.memory.store(address, width, word);
+    }
+
+    // The low bytes of a word go to an address.
+    fn store_to(&mut self, store_type: StoreType, address: u64, word: u64) -> bool
+        requires { self.old.at < 2 ^ 32 - 1 }
+        ensures { Does (store_to (state_of self.old) store_type address word) (state_of self.old) result (state_of self.new) }
+    {
+        if !self.can_write(store_type, address) {
+            return false;
+        }
+        self.write(store_type, address, word);
+        self.go_on_with_carry();
+        true
+    }
+
+    // Stores.
+    pub(crate) fn store(&mut self, store_type: StoreType, addressing: Addressing, node: &Node, labels: &[u64]) -> bool
+        requires room { self.old.at < 2 ^ 32 - 1 }
+        requires known { AreKnown (length labels.now) node.now }
+        ensures { Does (store_step labels.now node.now store_type addressing (state_of self.old)) (state_of self.old) result (state_of self.new) }
+    {
+        let Some(address) = self.address(addressing, node, 0, labels) else {
+            return false;
+        };
+        match self.value(labels, operand(node, stored_operand(addressing))) {
+            Some(word) => self.store_to(store_type, address, word),
+            None => false,
+        }
+    }
+}

@@ -1,0 +1,238 @@
+// Arithmetic, branches and jumps of the portable machine. Each method answers whether the step is defined.
+
+ghost use Rattle.std.specs.Prelude.{◌≡◌, ◌<◌, ◌-◌, ◌^◌, ◌∷◌, [], ℕ, length, slice_get, Bool, true, false, if◌then◌else◌};
+ghost use Rattle.lg_mean.specs.Operators.{binary_value, is_carried};
+ghost use Rattle.lg_mean.specs.Steps.{binary_step, carried_step, carried_to, wide_step, unary_step, movi_step, branch, branch_step, branch_sum_step, jump_step, retval_step, getarg_step, quiet, on};
+ghost use Rattle.lg_mean.specs.Machines.{state_of};
+ghost use Rattle.lg_mean.specs.Says.{AreKnown, IsKnown, Does, text};
+
+use crate::carry::Carry;
+use crate::machine::{node_of_label, operand, slot, Machine};
+use crate::operators;
+use crate::targets::jump_target;
+use lg_node::{
+    BinaryOp, BranchSumOp, Condition, Node, NodeList, Operand, Shape, UnaryOp, ValueType, WideOp,
+};
+
+impl Machine {
+    // O1 = O2 op O3.
+    fn binary(&mut self, op: BinaryOp, node: &Node, labels: &[u64]) -> bool
+        requires room { self.old.at < 2 ^ 32 - 1 }
+        requires known { AreKnown (length labels.now) node.now }
+        ensures { Does (binary_step labels.now node.now (binary_value op) (state_of self.old)) (state_of self.old) result (state_of self.new) }
+    {
+        let Some(a) = self.value(labels, operand(node, 1)) else {
+            return false;
+        };
+        let Some(b) = self.value(labels, operand(node, 2)) else {
+            return false;
+        };
+        match operators::binary(op, a, b) {
+            Some(word) => {
+                self.operate(operand(node, 0), word);
+                true
+            }
+            None => false,
+        }
+    }
+
+    // Writes a register and the carry, and goes to the next node.
+    fn operate_carried(&mut self, operand: Operand, word: u64, carry: Carry)
+        requires { self.old.at < 2 ^ 32 - 1 }
+        ensures { state_of self.new ≡ carried_to (state_of self.old) operand word carry }
+    {
+        self.operate_with_carry(operand, word);
+        self.set_carry(carry);
+    }
+
+    // O1 = O2 op O3, with the carry.
+    fn carried(&mut self, op: BinaryOp, node: &Node, labels: &[u64]) -> bool
+        requires room { self.old.at < 2 ^ 32 - 1 }
+        requires known { AreKnown (length labels.now) node.now }
+        ensures { Does (carried_step labels.now node.now op (state_of self.old)) (state_of self.old) result (state_of self.new) }
+    {
+        let Some(a) = self.value(labels, operand(node, 1)) else {
+            return false;
+        };
+        let Some(b) = self.value(labels, operand(node, 2)) else {
+            return false;
+        };
+        let Some(bit) = operators::carry_in(op, self.carry) else {
+            return false;
+        };
+        let word = operators::carried(op, a, b, bit);
+        let carry = operators::carry_out(op, a, b, bit);
+        self.operate_carried(operand(node, 0), word, carry);
+        true
+    }
+
+    // An operation of two operands and one result.
+    pub(crate) fn binary_node(&mut self, op: BinaryOp, node: &Node, labels: &[u64]) -> bool
+        requires room { self.old.at < 2 ^ 32 - 1 }
+        requires known { AreKnown (length labels.now) node.now }
+        ensures { Does (if is_carried op then carried_step labels.now node.now op (state_of self.old) else binary_step labels.now node.now (binary_value op) (state_of self.old)) (state_of self.old) result (state_of self.new) }
+    {
+        if operators::is_carried(op) {
+            self.carried(op, node, labels)
+        } else {
+            self.binary(op, node, labels)
+        }
+    }
+
+    // O1 and O2 = O3 op O4.
+    pub(crate) fn wide(&mut self, op: WideOp, node: &Node, labels: &[u64]) -> bool
+        requires room { self.old.at < 2 ^ 32 - 1 }
+        requires known { AreKnown (length labels.now) node.now }
+        ensures { Does (wide_step labels.now node.now op (state_of self.old)) (state_of self.old) result (state_of self.new) }
+    {
+        let Some(a) = self.value(labels, operand(node, 2)) else {
+            return false;
+        };
+        let Some(b) = self.value(labels, operand(node, 3)) else {
+            return false;
+        };
+        match operators::wide(op, a, b) {
+            Some((first, second)) => {
+                self.set(operand(node, 0), first);
+                self.operate(operand(node, 1), second);
+                true
+            }
+            None => false,
+        }
+    }
+
+    // O1 = op O2.
+    pub(crate) fn unary(&mut self, op: UnaryOp, node: &Node, labels: &[u64]) -> bool
+        requires room { self.old.at < 2 ^ 32 - 1 }
+        requires known { AreKnown (length labels.now) node.now }
+        ensures { Does (unary_step labels.now node.now op (state_of self.old)) (state_of self.old) result (state_of self.new) }
+    {
+        let Some(a) = self.value(labels, operand(node, 1)) else {
+            return false;
+        };
+        let word = operators::unary(op, a);
+        if operators::is_move(op) {
+            self.operate_with_carry(operand(node, 0), word);
+        } else {
+            self.operate(operand(node, 0), word);
+        }
+        true
+    }
+
+    // O1 = an immediate.
+    pub(crate) fn movi(&mut self, node: &Node, labels: &[u64]) -> bool
+        requires room { self.old.at < 2 ^ 32 - 1 }
+        requires known { AreKnown (length labels.now) node.now }
+        ensures { Does (movi_step labels.now node.now (state_of self.old)) (state_of self.old) result (state_of self.new) }
+    {
+        match self.value(labels, operand(node, 1)) {
+            Some(word) => {
+                self.operate_with_carry(operand(node, 0), word);
+                true
+            }
+            None => false,
+        }
+    }
+
+    // Goes to the label of an operand, or to the next node.
+    pub(crate) fn branch(&mut self, goes: bool, nodes: &NodeList, operand: Operand) -> bool
+        requires room { self.old.at < 2 ^ 32 - 1 }
+        requires known { IsKnown (length nodes.now.words) operand }
+        ensures { Does (branch goes nodes.now.places (state_of self.old) operand) (state_of self.old) result (state_of self.new) }
+    {
+        let next = self.at + 1;
+        let target = if goes { node_of_label(nodes, operand) } else { next };
+        self.go_to(target);
+        true
+    }
+
+    // Goes to O1 where O2 and O3 pass a test.
+    pub(crate) fn branch_where(&mut self, condition: Condition, node: &Node, nodes: &NodeList, shape: &Shape, labels: &[u64]) -> bool
+        requires room { self.old.at < 2 ^ 32 - 1 }
+        requires known { AreKnown (length labels.now) node.now }
+        requires same { length labels.now ≡ length nodes.now.words }
+        ensures { Does (branch_step (text nodes.now shape.now labels.now) node.now condition (state_of self.old)) (state_of self.old) result (state_of self.new) }
+    {
+        let Some(a) = self.value(labels, operand(node, 1)) else {
+            return false;
+        };
+        let Some(b) = self.value(labels, operand(node, 2)) else {
+            return false;
+        };
+        self.branch(operators::holds(condition, a, b), nodes, operand(node, 0))
+    }
+
+    // O2 = O2 + O3 or O2 - O3, and goes to O1 where the result fits, or where it doesn't.
+    pub(crate) fn branch_sum(&mut self, op: BranchSumOp, node: &Node, nodes: &NodeList, shape: &Shape, labels: &[u64]) -> bool
+        requires room { self.old.at < 2 ^ 32 - 1 }
+        requires known { AreKnown (length labels.now) node.now }
+        requires same { length labels.now ≡ length nodes.now.words }
+        ensures { Does (branch_sum_step (text nodes.now shape.now labels.now) node.now op (state_of self.old)) (state_of self.old) result (state_of self.new) }
+    {
+        let Some(a) = self.value(labels, operand(node, 1)) else {
+            return false;
+        };
+        let Some(b) = self.value(labels, operand(node, 2)) else {
+            return false;
+        };
+        self.set(operand(node, 1), operators::branch_sum(op, a, b));
+        self.branch(operators::branch_sum_goes(op, a, b), nodes, operand(node, 0))
+    }
+
+    // Jumps to the address in O1.
+    pub(crate) fn jump(&mut self, node: &Node, nodes: &NodeList, shape: &Shape, labels: &[u64]) -> bool
+        requires known { AreKnown (length labels.now) node.now }
+        requires same { length labels.now ≡ length nodes.now.words }
+        ensures { Does (jump_step (text nodes.now shape.now labels.now) node.now (state_of self.old)) (state_of self.old) result (state_of self.new) }
+    {
+        let Some(word) = self.value(labels, operand(node, 0)) else {
+            return false;
+        };
+        match jump_target(nodes, shape, labels, self.at, word) {
+            Some(target) => {
+                self.go_to(target);
+                true
+            }
+            None => false,
+        }
+    }
+
+    // O1 = the result of a call.
+    pub(crate) fn retval(&mut self, node: &Node, value_type: ValueType) -> bool
+        requires room { self.old.at < 2 ^ 32 - 1 }
+        ensures { Does (retval_step node.now value_type (state_of self.old)) (state_of self.old) result (state_of self.new) }
+    {
+        match self.answer {
+            Some(word) => {
+                self.operate(operand(node, 0), operators::typed(value_type, word));
+                true
+            }
+            None => false,
+        }
+    }
+
+    // The argument of a number.
+    fn argument(&self, index: u32) -> Option<u64>
+        ensures { result ≡ slice_get (state_of self.now).frame.args index }
+    {
+        if index < self.top.count {
+            self.top.args.get(index as usize).copied()
+        } else {
+            None
+        }
+    }
+
+    // O1 = an argument.
+    pub(crate) fn getarg(&mut self, node: &Node, value_type: ValueType) -> bool
+        requires room { self.old.at < 2 ^ 32 - 1 }
+        ensures { Does (getarg_step node.now value_type (state_of self.old)) (state_of self.old) result (state_of self.new) }
+    {
+        match self.argument(slot(operand(node, 1))) {
+            Some(word) => {
+                self.operate(operand(node, 0), operators::typed(value_type, word));
+                true
+            }
+            None => false,
+        }
+    }
+}

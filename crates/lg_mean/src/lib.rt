@@ -1,0 +1,15 @@
+//! The portable meaning of a text: what each instruction does, step by step.
+#![tactic(auto)]
+
+mod access;
+mod arithmetic;
+mod calls;
+pub mod carry;
+mod frame;
+mod host_calls;
+mod machine;
+pub mod mean_step;
+mod operators;
+pub mod portable;
+mod step;
+mod targets;

@@ -1,0 +1,300 @@
+// One step of the portable machine.
+
+ghost use Rattle.std.specs.Prelude.{◌≡◌, ◌<◌, ◌≤◌, ◌-◌, ◌+◌, ◌^◌, ◌∷◌, [], ℕ, take, length, Bool, true, false, Some, None, if◌then◌else◌, IsTrue};
+ghost use Rattle.lg_op.specs.declared.op.Op.TheVariants as op_of;
+ghost use Rattle.lg_op.specs.declared.op.ControlOp.TheVariants as control;
+ghost use Rattle.lg_mean.specs.States.{value};
+ghost use Rattle.lg_mean.specs.Steps.{need, quiet, on, enter, prolog_step, leave, ret_step, function_here, call_node, call_operand, call_named, call_word, call_step, entry_target, operand_at, plain_step, node_step, node_of_label, begun};
+ghost use Rattle.lg_mean.specs.Machines.{state_of};
+ghost use Rattle.lg_mean.specs.Says.{AreKnown, IsKnown, Does, Quiet, Steps, text, HasBegun, CanBegin, Suits, stays, answer_of};
+
+use crate::calls::frame_size;
+use crate::machine::{node_of_label, operand, Machine};
+use crate::mean_step::MeanStep;
+use crate::targets::{entry_target, function_here};
+use lg_base::host_name::HostName;
+use lg_io::sink::Sink;
+use lg_node::{ControlOp, Function, LastOperand, Node, NodeList, Op, Operand, PlainOp, Shape};
+
+// The answer of a step that neither ends the run nor writes.
+fn answer(went: bool, line: u32) -> MeanStep
+    ensures { result ≡ answer_of went line }
+{
+    if went { MeanStep::Went } else { MeanStep::Undefined { line } }
+}
+
+// Whether a node neither calls nor returns.
+fn stays(op: Op) -> bool
+    ensures { result ≡ stays op }
+{
+    !matches!(
+        op,
+        Op::Control(ControlOp::Call | ControlOp::Finish | ControlOp::Ret, _) | Op::Plain(PlainOp::Epilog | PlainOp::Ret)
+    )
+}
+
+impl Machine {
+    // A function begins.
+    fn prolog(&mut self, nodes: &NodeList, shape: &Shape, labels: &[u64]) -> bool
+        requires room { self.old.at < 2 ^ 32 - 1 }
+        requires can { CanBegin shape.now.functions (state_of self.old) }
+        ensures { Does (prolog_step (text nodes.now shape.now labels.now) (state_of self.old)) (state_of self.old) result (state_of self.new) }
+    {
+        match function_here(shape, self.at) {
+            Some(function) => {
+                self.begin(function, frame_size(function));
+                self.go_on();
+                true
+            }
+            None => false,
+        }
+    }
+
+    // Goes into a function with so many of the staged arguments, where its frame fits.
+    fn enter(&mut self, count: u32, function: Function) -> bool
+        requires room { self.old.at < 2 ^ 32 - 1 }
+        requires small { function.locals ≤ 65536 }
+        requires begun { HasBegun (state_of self.old) }
+        ensures { Does (enter (state_of self.old) (take count self.old.staged) function) (state_of self.old) result (state_of self.new) }
+    {
+        if !self.has_room(frame_size(function)) {
+            return false;
+        }
+        let callee = self.callee(count);
+        self.down(callee);
+        self.start(function.entry);
+        true
+    }
+
+    // Calls the function that begins at a node.
+    fn call_node(&mut self, count: u32, node: u32, nodes: &NodeList, shape: &Shape, labels: &[u64]) -> bool
+        requires room { self.old.at < 2 ^ 32 - 1 }
+        requires begun { HasBegun (state_of self.old) }
+        ensures { Does (call_node (text nodes.now shape.now labels.now) (state_of self.old) (take count self.old.staged) node) (state_of self.old) result (state_of self.new) }
+    {
+        match function_here(shape, node) {
+            Some(function) => self.enter(count, function),
+            None => false,
+        }
+    }
+
+    // The answer of a call of the function that begins at a node.
+    fn call_at(&mut self, count: u32, target: u32, node: &Node, nodes: &NodeList, shape: &Shape, labels: &[u64]) -> MeanStep
+        requires room { self.old.at < 2 ^ 32 - 1 }
+        requires begun { HasBegun (state_of self.old) }
+        ensures { Quiet (call_node (text nodes.now shape.now labels.now) (state_of self.old) (take count self.old.staged) target) node.now.line (state_of self.old) result (state_of self.new) }
+    {
+        let went = self.call_node(count, target, nodes, shape, labels);
+        answer(went, node.line)
+    }
+
+    // Calls a label or a host function.
+    fn call_operand<O: Sink>(&mut self, count: u32, node: &Node, nodes: &NodeList, shape: &Shape, labels: &[u64], out: &mut O) -> MeanStep
+        requires room { self.old.at < 2 ^ 32 - 1 }
+        requires few { count ≤ 16 }
+        requires begun { HasBegun (state_of self.old) }
+        requires known { AreKnown (length labels.now) node.now }
+        requires same { length labels.now ≡ length nodes.now.words }
+        ensures says { Steps (call_operand (text nodes.now shape.now labels.now) (state_of self.old) (take count self.old.staged) (operand_at node.now 0)) node.now.line (state_of self.old) result (state_of self.new) (O.taken out.old) (O.taken out.new) (O.faults out.old) (O.faults out.new) }
+        ensures later { O.faults out.old ≤ O.faults out.new }
+    {
+        match operand(node, 0) {
+            Operand::Host(name) => self.host(name, count, node.line, out),
+            other => {
+                let target = node_of_label(nodes, other);
+                self.call_at(count, target, node, nodes, shape, labels)
+            }
+        }
+    }
+
+    // Calls a function of the text by a word that is the address of its label.
+    fn call_address(&mut self, count: u32, word: u64, node: &Node, nodes: &NodeList, shape: &Shape, labels: &[u64]) -> MeanStep
+        requires room { self.old.at < 2 ^ 32 - 1 }
+        requires begun { HasBegun (state_of self.old) }
+        requires same { length labels.now ≡ length nodes.now.words }
+        ensures { Quiet (need (entry_target (text nodes.now shape.now labels.now) word) (call_node (text nodes.now shape.now labels.now) (state_of self.old) (take count self.old.staged))) node.now.line (state_of self.old) result (state_of self.new) }
+    {
+        match entry_target(nodes, shape, labels, word) {
+            Some(target) => self.call_at(count, target, node, nodes, shape, labels),
+            None => MeanStep::Undefined { line: node.line },
+        }
+    }
+
+    // Calls a word.
+    fn call_word<O: Sink>(&mut self, count: u32, word: u64, node: &Node, nodes: &NodeList, shape: &Shape, labels: &[u64], out: &mut O) -> MeanStep
+        requires room { self.old.at < 2 ^ 32 - 1 }
+        requires few { count ≤ 16 }
+        requires begun { HasBegun (state_of self.old) }
+        requires same { length labels.now ≡ length nodes.now.words }
+        ensures says { Steps (call_word (text nodes.now shape.now labels.now) (state_of self.old) (take count self.old.staged) word) node.now.line (state_of self.old) result (state_of self.new) (O.taken out.old) (O.taken out.new) (O.faults out.old) (O.faults out.new) }
+        ensures later { O.faults out.old ≤ O.faults out.new }
+    {
+        match HostName::from_address(word) {
+            Some(name) => self.host(name, count, node.line, out),
+            None => self.call_address(count, word, node, nodes, shape, labels),
+        }
+    }
+
+    // A call with so many of the staged arguments.
+    fn call<O: Sink>(&mut self, last: LastOperand, count: u32, node: &Node, nodes: &NodeList, shape: &Shape, labels: &[u64], out: &mut O) -> MeanStep
+        requires room { self.old.at < 2 ^ 32 - 1 }
+        requires few { count ≤ 16 }
+        requires begun { HasBegun (state_of self.old) }
+        requires known { AreKnown (length labels.now) node.now }
+        requires same { length labels.now ≡ length nodes.now.words }
+        ensures says { Steps (call_step (text nodes.now shape.now labels.now) node.now last (take count self.old.staged) (state_of self.old)) node.now.line (state_of self.old) result (state_of self.new) (O.taken out.old) (O.taken out.new) (O.faults out.old) (O.faults out.new) }
+        ensures later { O.faults out.old ≤ O.faults out.new }
+    {
+        match last {
+            LastOperand::Immediate => self.call_operand(count, node, nodes, shape, labels, out),
+            LastOperand::Register => match self.value(labels, operand(node, 0)) {
+                Some(word) => self.call_word(count, word, node, nodes, shape, labels, out),
+                None => MeanStep::Undefined { line: node.line },
+            },
+        }
+    }
+
+    // A return.
+    fn go_back(&mut self, word: Option<u64>) -> MeanStep
+        requires { HasBegun (state_of self.old) }
+        ensures { Quiet (leave (state_of self.old) word) 0 (state_of self.old) result (state_of self.new) }
+    {
+        match self.leave(word) {
+            Some(status) => MeanStep::Ended(status),
+            None => MeanStep::Went,
+        }
+    }
+
+    // A return with a result.
+    fn go_back_with(&mut self, node: &Node, labels: &[u64]) -> MeanStep
+        requires begun { HasBegun (state_of self.old) }
+        requires known { AreKnown (length labels.now) node.now }
+        ensures { Quiet (ret_step labels.now node.now (state_of self.old)) node.now.line (state_of self.old) result (state_of self.new) }
+    {
+        match self.value(labels, operand(node, 0)) {
+            Some(word) => self.go_back(Some(word)),
+            None => MeanStep::Undefined { line: node.line },
+        }
+    }
+
+    // A jump.
+    fn jump_node(&mut self, last: LastOperand, node: &Node, nodes: &NodeList, shape: &Shape, labels: &[u64]) -> bool
+        requires room { self.old.at < 2 ^ 32 - 1 }
+        requires known { AreKnown (length labels.now) node.now }
+        requires same { length labels.now ≡ length nodes.now.words }
+        ensures { Does (node_step (text nodes.now shape.now labels.now) node.now (op_of.Control control.Jmp last) (state_of self.old)) (state_of self.old) result (state_of self.new) }
+    {
+        match last {
+            LastOperand::Register => self.jump(node, nodes, shape, labels),
+            LastOperand::Immediate => self.branch(true, nodes, operand(node, 0)),
+        }
+    }
+
+    // A node that changes nothing.
+    fn pass(&mut self) -> bool
+        requires { self.old.at < 2 ^ 32 - 1 }
+        ensures { Does (quiet (on (state_of self.old))) (state_of self.old) result (state_of self.new) }
+    {
+        self.go_on();
+        true
+    }
+
+    // A node that comes in one form and is no return.
+    fn plain(&mut self, form: PlainOp, node: &Node, nodes: &NodeList, shape: &Shape, labels: &[u64]) -> bool
+        requires room { self.old.at < 2 ^ 32 - 1 }
+        requires stays { IsTrue (stays (op_of.Plain form)) }
+        requires suits { Suits shape.now.functions (op_of.Plain form) (state_of self.old) self.old.count }
+        requires known { AreKnown (length labels.now) node.now }
+        ensures { Does (plain_step (text nodes.now shape.now labels.now) node.now form (state_of self.old)) (state_of self.old) result (state_of self.new) }
+    {
+        match form {
+            PlainOp::Movi => self.movi(node, labels),
+            PlainOp::Prepare => {
+                self.prepare();
+                true
+            }
+            PlainOp::Ellipsis => {
+                self.ellipsis();
+                true
+            }
+            PlainOp::Prolog => self.prolog(nodes, shape, labels),
+            PlainOp::Arg | PlainOp::Allocai | PlainOp::Align => self.pass(),
+            PlainOp::Epilog | PlainOp::Ret => false,
+        }
+    }
+
+    // A node that neither calls nor returns.
+    fn stay(&mut self, node: &Node, nodes: &NodeList, shape: &Shape, labels: &[u64]) -> bool
+        requires room { self.old.at < 2 ^ 32 - 1 }
+        requires stays { IsTrue (stays node.now.op) }
+        requires suits { Suits shape.now.functions node.now.op (state_of self.old) self.old.count }
+        requires known { AreKnown (length labels.now) node.now }
+        requires same { length labels.now ≡ length nodes.now.words }
+        ensures { Does (node_step (text nodes.now shape.now labels.now) node.now node.now.op (state_of self.old)) (state_of self.old) result (state_of self.new) }
+    {
+        match node.op {
+            Op::Binary(op, _) => self.binary_node(op, node, labels),
+            Op::Wide(op, _) => self.wide(op, node, labels),
+            Op::Branch(condition, _) => self.branch_where(condition, node, nodes, shape, labels),
+            Op::BranchSum(op, _) => self.branch_sum(op, node, nodes, shape, labels),
+            Op::Control(ControlOp::Jmp, last) => self.jump_node(last, node, nodes, shape, labels),
+            Op::Control(ControlOp::Pusharg, _) => self.push(node, labels),
+            Op::Control(_, _) => false,
+            Op::Unary(op) => self.unary(op, node, labels),
+            Op::Plain(form) => self.plain(form, node, nodes, shape, labels),
+            Op::Load(value_type, addressing) => self.load(value_type, addressing, node, labels),
+            Op::Store(store_type, addressing) => self.store(store_type, addressing, node, labels),
+            Op::Retval(value_type) => self.retval(node, value_type),
+            Op::Getarg(value_type) => self.getarg(node, value_type),
+        }
+    }
+
+    // A finish, with the arguments that are staged.
+    fn finish<O: Sink>(&mut self, last: LastOperand, node: &Node, nodes: &NodeList, shape: &Shape, labels: &[u64], out: &mut O) -> MeanStep
+        requires room { self.old.at < 2 ^ 32 - 1 }
+        requires begun { HasBegun (state_of self.old) }
+        requires known { AreKnown (length labels.now) node.now }
+        requires same { length labels.now ≡ length nodes.now.words }
+        ensures says { Steps (call_step (text nodes.now shape.now labels.now) node.now last (state_of self.old).pushed (state_of self.old)) node.now.line (state_of self.old) result (state_of self.new) (O.taken out.old) (O.taken out.new) (O.faults out.old) (O.faults out.new) }
+        ensures later { O.faults out.old ≤ O.faults out.new }
+    {
+        let count = self.count;
+        self.call(last, count, node, nodes, shape, labels, out)
+    }
+
+    // A node that calls or returns.
+    fn move_on<O: Sink>(&mut self, node: &Node, nodes: &NodeList, shape: &Shape, labels: &[u64], out: &mut O) -> MeanStep
+        requires room { self.old.at < 2 ^ 32 - 1 }
+        requires moves { stays node.now.op ≡ false }
+        requires suits { Suits shape.now.functions node.now.op (state_of self.old) self.old.count }
+        requires known { AreKnown (length labels.now) node.now }
+        requires same { length labels.now ≡ length nodes.now.words }
+        ensures says { Steps (node_step (text nodes.now shape.now labels.now) node.now node.now.op (state_of self.old)) node.now.line (state_of self.old) result (state_of self.new) (O.taken out.old) (O.taken out.new) (O.faults out.old) (O.faults out.new) }
+        ensures later { O.faults out.old ≤ O.faults out.new }
+    {
+        match node.op {
+            Op::Control(ControlOp::Call, last) => self.call(last, 0, node, nodes, shape, labels, out),
+            Op::Control(ControlOp::Finish, last) => self.finish(last, node, nodes, shape, labels, out),
+            Op::Control(ControlOp::Ret, _) => self.go_back_with(node, labels),
+            Op::Plain(PlainOp::Epilog) => self.go_back(None),
+            Op::Plain(PlainOp::Ret) => self.go_back(None),
+            _ => MeanStep::Undefined { line: node.line },
+        }
+    }
+
+    // One step of a node.
+    pub(crate) fn step_node<O: Sink>(&mut self, node: &Node, nodes: &NodeList, shape: &Shape, labels: &[u64], out: &mut O) -> MeanStep
+        requires room { self.old.at < 2 ^ 32 - 1 }
+        requires suits { Suits shape.now.functions node.now.op (state_of self.old) self.old.count }
+        requires known { AreKnown (length labels.now) node.now }
+        requires same { length labels.now ≡ length nodes.now.words }
+        ensures says { Steps (node_step (text nodes.now shape.now labels.now) node.now node.now.op (state_of self.old)) node.now.line (state_of self.old) result (state_of self.new) (O.taken out.old) (O.taken out.new) (O.faults out.old) (O.faults out.new) }
+        ensures later { O.faults out.old ≤ O.faults out.new }
+    {
+        if stays(node.op) {
+            let went = self.stay(node, nodes, shape, labels);
+            return answer(went, node.line);
+        }
+        self.move_on(node, nodes, shape, labels, out)
+    }
+}
