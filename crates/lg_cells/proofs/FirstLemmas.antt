@@ -77,11 +77,11 @@ module _ (image args : List ℕ) (cells : List Cell) (hd : length image ≤ 0x10
 
   pub first-marked : length cells ≡ length image + length args + 0x500000 → IsMarked record { data_size = length image; args_size = length args; mark = 0x30000000; cells = cells }
   first-marked l = record {
-      data_small = hd;
-      args_small = hg;
-      mark_low = omega arith;
-      mark_high = omega arith;
-      len = l;
-      heap = λ k h h'. ap is_room (in_heap k h h');
-      fresh = λ k h h'. in_heap k (omega arith) h';
-    }
+    data_small = hd;
+    args_small = hg;
+    mark_low = omega arith;
+    mark_high = omega arith;
+    len = l;
+    heap = λ k h h'. ap is_room (in_heap k h h');
+    fresh = λ k h h'. in_heap k (omega arith) h';
+  }

@@ -20,6 +20,7 @@ by_part d g m x k P e p q r s =
   where
     ins : (lo n : ℕ) → within lo n x ≡ true → (lo ≤ x) × (x < lo + n)
     ins lo n h = (grind arith, grind arith)
+
     by : (b1 b2 b3 b4 : Bool) → within 0x20000000 d x ≡ b1 → within 0x28000000 g x ≡ b2 → within 0x30000000 (m - 0x30000000) x ≡ b3 → within 0x3FF00000 0x100000 x ≡ b4 → (if b1 then Some (x - 0x20000000) else (if b2 then Some (x - 0x28000000 + d) else (if b3 then Some (x - 0x30000000 + d + g) else (if b4 then Some (x - 0x3FF00000 + d + g + 0x400000) else None)))) ≡ Some k → P
     by true b2 b3 b4 h1 h2 h3 h4 f = let i = ins 0x20000000 d h1 in p (i.0, i.1, cc)
     by false true b3 b4 h1 h2 h3 h4 f = let i = ins 0x28000000 g h2 in q (i.0, i.1, cc)
@@ -135,14 +136,14 @@ fill_rooms m n lo w c cells i low high same ec = fun_ext (λ x. ap is_room (fill
 -- what a memory keeps when cells of the stack are filled
 pub fill_marked : (m : Marked) (lo w : ℕ) (c : Cell) (cells : List Cell) → IsMarked m → 0x3FF00000 ≤ lo → length cells ≡ length m.cells → cell_of cells ≡ with_cells (cell_of m.cells) (lo - 0x3FF00000 + m.data_size + m.args_size + 0x400000) w c → IsMarked record m { cells = cells }
 fill_marked m lo w c cells i low len ec = record {
-    data_small = i.data_small;
-    args_small = i.args_small;
-    mark_low = i.mark_low;
-    mark_high = i.mark_high;
-    len = len ∙ i.len;
-    heap = λ k h h'. ap is_room (same k h') ∙ i.heap k h h';
-    fresh = λ k h h'. same k h' ∙ i.fresh k h h';
-  }
+  data_small = i.data_small;
+  args_small = i.args_small;
+  mark_low = i.mark_low;
+  mark_high = i.mark_high;
+  len = len ∙ i.len;
+  heap = λ k h h'. ap is_room (same k h') ∙ i.heap k h h';
+  fresh = λ k h h'. same k h' ∙ i.fresh k h h';
+}
   where
     same : (k : ℕ) → k < m.data_size + m.args_size + 0x400000 → cell_of cells k ≡ cell_of m.cells k
     same k h = let e : within (lo - 0x3FF00000 + m.data_size + m.args_size + 0x400000) w k ≡ false = below_within _ w k (omega arith) in ap (λ f. f k) ec ∙ rw e

@@ -5,7 +5,7 @@ ghost use Rattle.lg_base.specs.Spaces.{put_some, raised, loaded, stored};
 ghost use Rattle.lg_cells.specs.Cells.{cell_of, first_cells};
 ghost use Rattle.lg_cells.specs.Memories.{byte_at, room_at, place_of, without, opened, closed, first_bytes, first_room, writable, cell_at, IsSameSize};
 
-use crate::cell::{closed_cells, fill, put_bytes, Cell};
+use crate::cell::{Cell, closed_cells, fill, put_bytes};
 use lg_base::refusal::OutOfMemory;
 use lg_base::space::Space;
 use std::alloc::Global;
@@ -73,7 +73,12 @@ fn begin(cells: &mut [Cell], image: &[u8], args: &[u8])
 {
     put_bytes(cells, 0, image);
     put_bytes(cells, image.len(), args);
-    fill(cells, image.len() + args.len(), HEAP_SIZE as usize, Cell::Fresh);
+    fill(
+        cells,
+        image.len() + args.len(),
+        HEAP_SIZE as usize,
+        Cell::Fresh,
+    );
 }
 
 impl CellMemory {
@@ -88,7 +93,10 @@ impl CellMemory {
         ensures args_size { IfOk result (λ m. m.args_size ≡ length args.now) }
         ensures mark { IfOk result (λ m. m.mark ≡ 0x30000000) }
     {
-        let mut cells = closed_cells(alloc, image.len() + args.len() + (HEAP_SIZE + STACK_SIZE) as usize)?;
+        let mut cells = closed_cells(
+            alloc,
+            image.len() + args.len() + (HEAP_SIZE + STACK_SIZE) as usize,
+        )?;
         begin(&mut cells, image, args);
         Ok(CellMemory {
             data_size: image.len() as u64,

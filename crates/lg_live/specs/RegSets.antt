@@ -1,6 +1,6 @@
 -- Sets of registers.
 use Rattle.std.specs.Prelude.{◌==◌, ◌<◌, not, Bool, bit_and}
-use Rattle.lg_node.specs.declared.operand.Reg.{Reg}
+use Rattle.lg_op.specs.declared.operand.Reg.{Reg}
 use Rattle.lg_live.specs.Registers.{bit_of}
 use Rattle.lg_live.specs.declared.reg_set.RegSet.{RegSet}
 

@@ -1,7 +1,7 @@
 -- The registers by their numbers and bits.
 use Rattle.std.specs.Prelude.{ℕ, ◌==◌, ◌&&◌, nat_lt, Bool}
-use Rattle.lg_node.specs.declared.operand.Reg.{Reg}
-use Rattle.lg_node.specs.declared.operand.Reg.TheVariants.{R0, R1, R2, V0, V1, V2, Fp}
+use Rattle.lg_op.specs.declared.operand.Reg.{Reg}
+use Rattle.lg_op.specs.declared.operand.Reg.TheVariants.{R0, R1, R2, V0, V1, V2, Fp}
 
 abbrev pub number_of : Reg → ℕ
 number_of R0 = 0

@@ -1,16 +1,16 @@
 -- Which registers a node reads and writes: those that its operands name at the places of the instruction table that read
 -- and write, and a call writes R0, R1 and R2.
 use Rattle.std.specs.Prelude.{Bool, true, false, ◌&&◌, ◌||◌, nat_lt, List, ◌∷◌}
-use Rattle.lg_node.specs.Forms.{forms_of}
-use Rattle.lg_node.specs.declared.node.Node.{Node}
-use Rattle.lg_node.specs.declared.op.Op.{Op}
-use Rattle.lg_node.specs.declared.op.Op.TheVariants.{Control}
-use Rattle.lg_node.specs.declared.op.ControlOp.TheVariants.{Call, Finish}
-use Rattle.lg_node.specs.declared.form.Form.{Form}
-use Rattle.lg_node.specs.declared.form.Form.TheVariants.{Write, Update, Read}
-use Rattle.lg_node.specs.declared.operand.Reg.{Reg}
-use Rattle.lg_node.specs.declared.operand.Operand.{Operand}
-use Rattle.lg_node.specs.declared.operand.Operand.TheVariants as operand
+use Rattle.lg_op.specs.Forms.{forms_of}
+use Rattle.lg_op.specs.declared.node.Node.{Node}
+use Rattle.lg_op.specs.declared.op.Op.{Op}
+use Rattle.lg_op.specs.declared.op.Op.TheVariants.{Control}
+use Rattle.lg_op.specs.declared.op.ControlOp.TheVariants.{Call, Finish}
+use Rattle.lg_op.specs.declared.form.Form.{Form}
+use Rattle.lg_op.specs.declared.form.Form.TheVariants.{Write, Update, Read}
+use Rattle.lg_op.specs.declared.operand.Reg.{Reg}
+use Rattle.lg_op.specs.declared.operand.Operand.{Operand}
+use Rattle.lg_op.specs.declared.operand.Operand.TheVariants as operand
 use Rattle.lg_live.specs.Registers.{number_of, is_same}
 use Rattle.lg_live.specs.declared.uses.Access.{Access}
 use Rattle.lg_live.specs.declared.uses.Access.TheVariants as access

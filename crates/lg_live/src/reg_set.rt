@@ -1,11 +1,11 @@
 // Sets of registers.
 
 ghost use Rattle.std.specs.Prelude.{◌≡◌, ◌||◌, false, ⊤, [], ◌∷◌, codes};
-ghost use Rattle.lg_node.specs.declared.operand.Reg.{Reg};
+ghost use Rattle.lg_op.specs.declared.operand.Reg.{Reg};
 ghost use Rattle.lg_live.specs.Registers.{bit_of, is_same};
 
 use bitflags::{Flag, Flags, bitflag_items};
-use lg_node::Reg;
+use lg_op::Reg;
 
 /// A set of the registers R0, R1, R2, V0, V1 and V2.
 #[derive(Clone, Copy, PartialEq, Eq, Debug)]

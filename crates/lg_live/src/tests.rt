@@ -3,7 +3,7 @@ ghost use Rattle.std.specs.Prelude.{◌≤◌, length};
 use crate::reg_set::RegSet;
 use crate::uses::{reads, writes};
 use bitflags::Flags;
-use lg_node::{Label, Node, Op, Operand, Operands, Reg};
+use lg_op::{Label, Node, Op, Operand, Operands, Reg};
 
 // the registers that an operation with these operands reads and writes
 fn used(name: &[u8], operands: &[Operand]) -> Option<(u8, u8)>

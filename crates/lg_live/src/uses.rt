@@ -1,12 +1,12 @@
 // The registers that a node reads and writes.
 
 ghost use Rattle.std.specs.Prelude.{◌≡◌, ◌||◌};
-ghost use Rattle.lg_node.specs.declared.operand.Reg.{Reg};
+ghost use Rattle.lg_op.specs.declared.operand.Reg.{Reg};
 ghost use Rattle.lg_live.specs.RegSets.{has, IsSmall};
 ghost use Rattle.lg_live.specs.Uses.{is_for, names, is_call, is_read, is_written};
 
 use crate::reg_set::RegSet;
-use lg_node::{ControlOp, Form, Node, Op, Operand, Reg};
+use lg_op::{ControlOp, Form, Node, Op, Operand, Reg};
 
 /// What a node does with a register.
 #[derive(Clone, Copy, Debug, PartialEq, Eq)]

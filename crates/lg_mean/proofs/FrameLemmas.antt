@@ -61,6 +61,7 @@ part_leave d g mark f fs hd hg hm st room = fun_ext (λ a. by a (in_locals f a) 
     last : (a : ℕ) → a < f.sp → (b : Bool) → in_any_locals fs a ≡ b → b ≡ false
     last a lt false h = refl
     last a lt true h = absurd (omega (arith, lt, stacked_above f fs a st h))
+
     by : (a : ℕ) (b : Bool) → in_locals f a ≡ b → (if b then false else within 0x20000000 d a || (within 0x28000000 g a || (within 0x30000000 (mark - 0x30000000) a || (b || in_any_locals fs a)))) ≡ is_part d g mark fs a
     by a false h = refl
     by a true h =

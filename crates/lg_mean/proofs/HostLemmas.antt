@@ -69,8 +69,10 @@ part_raised d g k k' frames low rise = fun_ext (λ a. by (within 0x20000000 d a)
   where
     heap : (a : ℕ) → in_heap k' a ≡ within 0x30000000 (k' - 0x30000000) a
     heap a = grind (arith, low, rise)
+
     more : (a : ℕ) → within 0x30000000 (k - 0x30000000) a ≡ true → within 0x30000000 (k' - 0x30000000) a ≡ true
     more a h = grind (arith, low, rise, h)
+
     by : (x y z r w l : Bool) → r ≡ w → (z ≡ true → w ≡ true) → (x || (y || (z || l))) || r ≡ x || (y || (w || l))
     by true y z r w l e f = refl
     by false true z r w l e f = refl

@@ -29,6 +29,7 @@ loaded_is_read m p a w h = by (mapped m a w) refl
     none_either : (b : Bool) → ◌≡◌ {A = Option ℕ} None (if b then None else None)
     none_either true = refl
     none_either false = refl
+
     by : (t : Bool) → mapped m a w ≡ t → (if t then Some (number_at (byte_or_zero m) a w) else None) ≡ (if writable p a w then (if t then Some (number_at (byte_or_zero m) a w) else None) else None)
     by true e = rw (mapped_writable m p a w h e) refl
     by false e = none_either (writable p a w)

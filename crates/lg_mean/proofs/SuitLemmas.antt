@@ -40,6 +40,7 @@ module _ (l : LabelledNodes) (shape : TextShape) (w : IsWellShaped l) (s : State
     where
       no_prolog : is_prolog_at (slice_get l.nodes s.at) ≡ false
       no_prolog = rw here other_op
+
       by : (p : ℕ) × (home l.nodes s.at ≡ Some p) → HasBegun s
       by x =
           let r : RunsIn shape s x.0 = subst (IsTopOf shape s) x.1 fits.top in

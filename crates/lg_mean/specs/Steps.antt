@@ -105,12 +105,12 @@ carried_to s d v c = record (with_reg s d v) { at = s.at + 1; answer = None; car
 abbrev pub carried_step : List ℕ → Node → BinaryOp → State → Outcome
 carried_step A n o s =
     need (value A s (operand_at n 1)) (λ a. need (value A s (operand_at n 2)) (λ b. need (carry_in o s.carry) (λ bit.
-      quiet (carried_to s (operand_at n 0) (carried_value o a b (bit_word bit)) (carried_out o a b (bit_word bit))))))
+    quiet (carried_to s (operand_at n 0) (carried_value o a b (bit_word bit)) (carried_out o a b (bit_word bit))))))
 
 abbrev pub wide_step : List ℕ → Node → WideOp → State → Outcome
 wide_step A n o s =
     need (value A s (operand_at n 2)) (λ a. need (value A s (operand_at n 3)) (λ b. need (wide_value o a b) (λ p.
-      quiet (on (with_reg (with_reg s (operand_at n 0) p.0) (operand_at n 1) p.1)))))
+    quiet (on (with_reg (with_reg s (operand_at n 0) p.0) (operand_at n 1) p.1)))))
 
 abbrev pub unary_step : List ℕ → Node → UnaryOp → State → Outcome
 unary_step A n o s =
@@ -247,9 +247,9 @@ function_here functions k = option_and_then (slice_get functions) (function_of f
 -- a function begins: its locals are there, and unwritten
 abbrev pub begun : State → Function → State
 begun s f = record s {
-    frame = record s.frame { size = frame_of f; locals = f.locals };
-    mem = without s.mem (s.frame.sp - 144 - f.locals) f.locals;
-  }
+  frame = record s.frame { size = frame_of f; locals = f.locals };
+  mem = without s.mem (s.frame.sp - 144 - f.locals) f.locals;
+}
 
 abbrev pub prolog_step : Text → State → Outcome
 prolog_step t s = need (function_here t.functions s.at) (λ f. quiet (on (begun s f)))

@@ -9,7 +9,7 @@ ghost use Rattle.lg_mean.specs.Steps.{read, load_to, store_to, load_step, store_
 ghost use Rattle.lg_mean.specs.Machines.{state_of};
 ghost use Rattle.lg_mean.specs.Says.{AreKnown, Does};
 
-use crate::machine::{operand, Machine};
+use crate::machine::{Machine, operand};
 use crate::operators;
 use lg_node::{Addressing, Node, Operand, StoreType, ValueType};
 
@@ -26,7 +26,10 @@ fn is_aligned(address: u64, width: u32) -> bool
 fn is_indexed(addressing: Addressing) -> bool
     ensures { result ≡ is_indexed addressing }
 {
-    matches!(addressing, Addressing::RegisterRegister | Addressing::RegisterImmediate)
+    matches!(
+        addressing,
+        Addressing::RegisterRegister | Addressing::RegisterImmediate
+    )
 }
 
 // The place of the operand that is stored.
@@ -39,7 +42,13 @@ fn stored_operand(addressing: Addressing) -> usize
 
 impl Machine {
     // The address of an access.
-    fn address(&self, addressing: Addressing, node: &Node, first: usize, labels: &[u64]) -> Option<u64>
+    fn address(
+        &self,
+        addressing: Addressing,
+        node: &Node,
+        first: usize,
+        labels: &[u64],
+    ) -> Option<u64>
         requires known { AreKnown (length labels.now) node.now }
         requires first { first < 3 }
         ensures { result ≡ address labels.now (state_of self.now) addressing node.now first }
@@ -88,7 +97,13 @@ impl Machine {
     }
 
     // Loads.
-    pub(crate) fn load(&mut self, value_type: ValueType, addressing: Addressing, node: &Node, labels: &[u64]) -> bool
+    pub(crate) fn load(
+        &mut self,
+        value_type: ValueType,
+        addressing: Addressing,
+        node: &Node,
+        labels: &[u64],
+    ) -> bool
         requires room { self.old.at < 2 ^ 32 - 1 }
         requires known { AreKnown (length labels.now) node.now }
         ensures { Does (load_step labels.now node.now value_type addressing (state_of self.old)) (state_of self.old) result (state_of self.new) }
@@ -132,7 +147,13 @@ impl Machine {
     }
 
     // Stores.
-    pub(crate) fn store(&mut self, store_type: StoreType, addressing: Addressing, node: &Node, labels: &[u64]) -> bool
+    pub(crate) fn store(
+        &mut self,
+        store_type: StoreType,
+        addressing: Addressing,
+        node: &Node,
+        labels: &[u64],
+    ) -> bool
         requires room { self.old.at < 2 ^ 32 - 1 }
         requires known { AreKnown (length labels.now) node.now }
         ensures { Does (store_step labels.now node.now store_type addressing (state_of self.old)) (state_of self.old) result (state_of self.new) }

@@ -7,7 +7,7 @@ ghost use Rattle.lg_mean.specs.Machines.{state_of};
 ghost use Rattle.lg_mean.specs.Says.{AreKnown, IsKnown, Does, text};
 
 use crate::carry::Carry;
-use crate::machine::{node_of_label, operand, slot, Machine};
+use crate::machine::{Machine, node_of_label, operand, slot};
 use crate::operators;
 use crate::targets::jump_target;
 use lg_node::{
@@ -141,13 +141,24 @@ impl Machine {
         ensures { Does (branch goes nodes.now.places (state_of self.old) operand) (state_of self.old) result (state_of self.new) }
     {
         let next = self.at + 1;
-        let target = if goes { node_of_label(nodes, operand) } else { next };
+        let target = if goes {
+            node_of_label(nodes, operand)
+        } else {
+            next
+        };
         self.go_to(target);
         true
     }
 
     // Goes to O1 where O2 and O3 pass a test.
-    pub(crate) fn branch_where(&mut self, condition: Condition, node: &Node, nodes: &NodeList, shape: &Shape, labels: &[u64]) -> bool
+    pub(crate) fn branch_where(
+        &mut self,
+        condition: Condition,
+        node: &Node,
+        nodes: &NodeList,
+        shape: &Shape,
+        labels: &[u64],
+    ) -> bool
         requires room { self.old.at < 2 ^ 32 - 1 }
         requires known { AreKnown (length labels.now) node.now }
         requires same { length labels.now ≡ length nodes.now.words }
@@ -163,7 +174,14 @@ impl Machine {
     }
 
     // O2 = O2 + O3 or O2 - O3, and goes to O1 where the result fits, or where it doesn't.
-    pub(crate) fn branch_sum(&mut self, op: BranchSumOp, node: &Node, nodes: &NodeList, shape: &Shape, labels: &[u64]) -> bool
+    pub(crate) fn branch_sum(
+        &mut self,
+        op: BranchSumOp,
+        node: &Node,
+        nodes: &NodeList,
+        shape: &Shape,
+        labels: &[u64],
+    ) -> bool
         requires room { self.old.at < 2 ^ 32 - 1 }
         requires known { AreKnown (length labels.now) node.now }
         requires same { length labels.now ≡ length nodes.now.words }
@@ -176,11 +194,21 @@ impl Machine {
             return false;
         };
         self.set(operand(node, 1), operators::branch_sum(op, a, b));
-        self.branch(operators::branch_sum_goes(op, a, b), nodes, operand(node, 0))
+        self.branch(
+            operators::branch_sum_goes(op, a, b),
+            nodes,
+            operand(node, 0),
+        )
     }
 
     // Jumps to the address in O1.
-    pub(crate) fn jump(&mut self, node: &Node, nodes: &NodeList, shape: &Shape, labels: &[u64]) -> bool
+    pub(crate) fn jump(
+        &mut self,
+        node: &Node,
+        nodes: &NodeList,
+        shape: &Shape,
+        labels: &[u64],
+    ) -> bool
         requires known { AreKnown (length labels.now) node.now }
         requires same { length labels.now ≡ length nodes.now.words }
         ensures { Does (jump_step (text nodes.now shape.now labels.now) node.now (state_of self.old)) (state_of self.old) result (state_of self.new) }

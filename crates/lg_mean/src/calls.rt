@@ -11,7 +11,7 @@ ghost use Rattle.lg_mean.specs.Says.{AreKnown, Does, Leaves, WentUp, text, HasBe
 
 use crate::carry::Carry;
 use crate::frame::KeptFrame;
-use crate::machine::{operand, Machine};
+use crate::machine::{Machine, operand};
 use crate::targets::function_here;
 use lg_node::{Function, Node, Shape};
 

@@ -49,7 +49,13 @@ impl Machine {
     }
 
     // Calls a host function with so many of the staged arguments.
-    pub(crate) fn host<O: Sink>(&mut self, name: HostName, count: u32, line: u32, out: &mut O) -> MeanStep
+    pub(crate) fn host<O: Sink>(
+        &mut self,
+        name: HostName,
+        count: u32,
+        line: u32,
+        out: &mut O,
+    ) -> MeanStep
         requires room { self.old.at < 2 ^ 32 - 1 }
         requires few { count ≤ 16 }
         ensures says { Steps (call_host (state_of self.old) (take count self.old.staged) name) line (state_of self.old) result (state_of self.new) (O.taken out.old) (O.taken out.new) (O.faults out.old) (O.faults out.new) }

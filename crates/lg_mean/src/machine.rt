@@ -72,7 +72,11 @@ fn named(operand: Operand) -> usize
 pub(crate) fn operand(node: &Node, index: usize) -> Operand
     ensures { result ≡ operand_at node.now index }
 {
-    node.operands.as_slice().get(index).copied().unwrap_or(Operand::Number(0))
+    node.operands
+        .as_slice()
+        .get(index)
+        .copied()
+        .unwrap_or(Operand::Number(0))
 }
 
 // The number of the `arg` or `allocai` that an operand names.
@@ -122,7 +126,9 @@ impl Machine {
     {
         match register {
             Reg::Fp => Some(self.top.sp - 16),
-            Reg::R0 | Reg::R1 | Reg::R2 | Reg::V0 | Reg::V1 | Reg::V2 => self.registers[number(register)],
+            Reg::R0 | Reg::R1 | Reg::R2 | Reg::V0 | Reg::V1 | Reg::V2 => self.registers[number(
+                register,
+            )],
         }
     }
 

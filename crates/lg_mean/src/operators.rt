@@ -64,7 +64,10 @@ pub(crate) fn binary(op: BinaryOp, a: u64, b: u64) -> Option<u64>
 pub(crate) fn is_carried(op: BinaryOp) -> bool
     ensures { result ≡ is_carried op }
 {
-    matches!(op, BinaryOp::Addc | BinaryOp::Subc | BinaryOp::Addx | BinaryOp::Subx)
+    matches!(
+        op,
+        BinaryOp::Addc | BinaryOp::Subc | BinaryOp::Addx | BinaryOp::Subx
+    )
 }
 
 // The carry that an operation takes, where it is of its family.
@@ -133,8 +136,14 @@ pub(crate) fn branch_sum(op: BranchSumOp, a: u64, b: u64) -> u64
     ensures { result ≡ branch_sum_value op a b }
 {
     match op {
-        BranchSumOp::OverflowAdd | BranchSumOp::OverflowAddU | BranchSumOp::FitAdd | BranchSumOp::FitAddU => a.wrapping_add(b),
-        BranchSumOp::OverflowSub | BranchSumOp::OverflowSubU | BranchSumOp::FitSub | BranchSumOp::FitSubU => a.wrapping_sub(b),
+        BranchSumOp::OverflowAdd
+        | BranchSumOp::OverflowAddU
+        | BranchSumOp::FitAdd
+        | BranchSumOp::FitAddU => a.wrapping_add(b),
+        BranchSumOp::OverflowSub
+        | BranchSumOp::OverflowSubU
+        | BranchSumOp::FitSub
+        | BranchSumOp::FitSubU => a.wrapping_sub(b),
     }
 }
 
@@ -171,13 +180,7 @@ pub(crate) fn wide(op: WideOp, a: u64, b: u64) -> Option<(u64, u64)>
                 None
             }
         }
-        WideOp::DivU => {
-            if b != 0 {
-                Some((a / b, a % b))
-            } else {
-                None
-            }
-        }
+        WideOp::DivU => { if b != 0 { Some((a / b, a % b)) } else { None } }
     }
 }
 

@@ -65,7 +65,9 @@ impl Portable {
         told_of(nodes);
         let _ = self.machine.pushed();
         let node = nodes.node(self.machine.place());
-        let answer = self.machine.step_node(&node, nodes, shape, self.addresses.as_slice(), out);
+        let answer = self
+            .machine
+            .step_node(&node, nodes, shape, self.addresses.as_slice(), out);
         self.over = over_of(answer);
         self.steps += counts(answer);
         answer

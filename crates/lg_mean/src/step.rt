@@ -9,7 +9,7 @@ ghost use Rattle.lg_mean.specs.Machines.{state_of};
 ghost use Rattle.lg_mean.specs.Says.{AreKnown, IsKnown, Does, Quiet, Steps, text, HasBegun, CanBegin, Suits, stays, answer_of};
 
 use crate::calls::frame_size;
-use crate::machine::{node_of_label, operand, Machine};
+use crate::machine::{Machine, node_of_label, operand};
 use crate::mean_step::MeanStep;
 use crate::targets::{entry_target, function_here};
 use lg_base::host_name::HostName;
@@ -20,7 +20,11 @@ use lg_node::{ControlOp, Function, LastOperand, Node, NodeList, Op, Operand, Pla
 fn answer(went: bool, line: u32) -> MeanStep
     ensures { result ≡ answer_of went line }
 {
-    if went { MeanStep::Went } else { MeanStep::Undefined { line } }
+    if went {
+        MeanStep::Went
+    } else {
+        MeanStep::Undefined { line }
+    }
 }
 
 // Whether a node neither calls nor returns.
@@ -29,7 +33,8 @@ fn stays(op: Op) -> bool
 {
     !matches!(
         op,
-        Op::Control(ControlOp::Call | ControlOp::Finish | ControlOp::Ret, _) | Op::Plain(PlainOp::Epilog | PlainOp::Ret)
+        Op::Control(ControlOp::Call | ControlOp::Finish | ControlOp::Ret, _)
+            | Op::Plain(PlainOp::Epilog | PlainOp::Ret)
     )
 }
 
@@ -67,7 +72,14 @@ impl Machine {
     }
 
     // Calls the function that begins at a node.
-    fn call_node(&mut self, count: u32, node: u32, nodes: &NodeList, shape: &Shape, labels: &[u64]) -> bool
+    fn call_node(
+        &mut self,
+        count: u32,
+        node: u32,
+        nodes: &NodeList,
+        shape: &Shape,
+        labels: &[u64],
+    ) -> bool
         requires room { self.old.at < 2 ^ 32 - 1 }
         requires begun { HasBegun (state_of self.old) }
         ensures { Does (call_node (text nodes.now shape.now labels.now) (state_of self.old) (take count self.old.staged) node) (state_of self.old) result (state_of self.new) }
@@ -79,7 +91,15 @@ impl Machine {
     }
 
     // The answer of a call of the function that begins at a node.
-    fn call_at(&mut self, count: u32, target: u32, node: &Node, nodes: &NodeList, shape: &Shape, labels: &[u64]) -> MeanStep
+    fn call_at(
+        &mut self,
+        count: u32,
+        target: u32,
+        node: &Node,
+        nodes: &NodeList,
+        shape: &Shape,
+        labels: &[u64],
+    ) -> MeanStep
         requires room { self.old.at < 2 ^ 32 - 1 }
         requires begun { HasBegun (state_of self.old) }
         ensures { Quiet (call_node (text nodes.now shape.now labels.now) (state_of self.old) (take count self.old.staged) target) node.now.line (state_of self.old) result (state_of self.new) }
@@ -89,7 +109,15 @@ impl Machine {
     }
 
     // Calls a label or a host function.
-    fn call_operand<O: Sink>(&mut self, count: u32, node: &Node, nodes: &NodeList, shape: &Shape, labels: &[u64], out: &mut O) -> MeanStep
+    fn call_operand<O: Sink>(
+        &mut self,
+        count: u32,
+        node: &Node,
+        nodes: &NodeList,
+        shape: &Shape,
+        labels: &[u64],
+        out: &mut O,
+    ) -> MeanStep
         requires room { self.old.at < 2 ^ 32 - 1 }
         requires few { count ≤ 16 }
         requires begun { HasBegun (state_of self.old) }
@@ -108,7 +136,15 @@ impl Machine {
     }
 
     // Calls a function of the text by a word that is the address of its label.
-    fn call_address(&mut self, count: u32, word: u64, node: &Node, nodes: &NodeList, shape: &Shape, labels: &[u64]) -> MeanStep
+    fn call_address(
+        &mut self,
+        count: u32,
+        word: u64,
+        node: &Node,
+        nodes: &NodeList,
+        shape: &Shape,
+        labels: &[u64],
+    ) -> MeanStep
         requires room { self.old.at < 2 ^ 32 - 1 }
         requires begun { HasBegun (state_of self.old) }
         requires same { length labels.now ≡ length nodes.now.words }
@@ -121,7 +157,16 @@ impl Machine {
     }
 
     // Calls a word.
-    fn call_word<O: Sink>(&mut self, count: u32, word: u64, node: &Node, nodes: &NodeList, shape: &Shape, labels: &[u64], out: &mut O) -> MeanStep
+    fn call_word<O: Sink>(
+        &mut self,
+        count: u32,
+        word: u64,
+        node: &Node,
+        nodes: &NodeList,
+        shape: &Shape,
+        labels: &[u64],
+        out: &mut O,
+    ) -> MeanStep
         requires room { self.old.at < 2 ^ 32 - 1 }
         requires few { count ≤ 16 }
         requires begun { HasBegun (state_of self.old) }
@@ -136,7 +181,16 @@ impl Machine {
     }
 
     // A call with so many of the staged arguments.
-    fn call<O: Sink>(&mut self, last: LastOperand, count: u32, node: &Node, nodes: &NodeList, shape: &Shape, labels: &[u64], out: &mut O) -> MeanStep
+    fn call<O: Sink>(
+        &mut self,
+        last: LastOperand,
+        count: u32,
+        node: &Node,
+        nodes: &NodeList,
+        shape: &Shape,
+        labels: &[u64],
+        out: &mut O,
+    ) -> MeanStep
         requires room { self.old.at < 2 ^ 32 - 1 }
         requires few { count ≤ 16 }
         requires begun { HasBegun (state_of self.old) }
@@ -178,7 +232,14 @@ impl Machine {
     }
 
     // A jump.
-    fn jump_node(&mut self, last: LastOperand, node: &Node, nodes: &NodeList, shape: &Shape, labels: &[u64]) -> bool
+    fn jump_node(
+        &mut self,
+        last: LastOperand,
+        node: &Node,
+        nodes: &NodeList,
+        shape: &Shape,
+        labels: &[u64],
+    ) -> bool
         requires room { self.old.at < 2 ^ 32 - 1 }
         requires known { AreKnown (length labels.now) node.now }
         requires same { length labels.now ≡ length nodes.now.words }
@@ -200,7 +261,14 @@ impl Machine {
     }
 
     // A node that comes in one form and is no return.
-    fn plain(&mut self, form: PlainOp, node: &Node, nodes: &NodeList, shape: &Shape, labels: &[u64]) -> bool
+    fn plain(
+        &mut self,
+        form: PlainOp,
+        node: &Node,
+        nodes: &NodeList,
+        shape: &Shape,
+        labels: &[u64],
+    ) -> bool
         requires room { self.old.at < 2 ^ 32 - 1 }
         requires stays { IsTrue (stays (op_of.Plain form)) }
         requires suits { Suits shape.now.functions (op_of.Plain form) (state_of self.old) self.old.count }
@@ -250,7 +318,15 @@ impl Machine {
     }
 
     // A finish, with the arguments that are staged.
-    fn finish<O: Sink>(&mut self, last: LastOperand, node: &Node, nodes: &NodeList, shape: &Shape, labels: &[u64], out: &mut O) -> MeanStep
+    fn finish<O: Sink>(
+        &mut self,
+        last: LastOperand,
+        node: &Node,
+        nodes: &NodeList,
+        shape: &Shape,
+        labels: &[u64],
+        out: &mut O,
+    ) -> MeanStep
         requires room { self.old.at < 2 ^ 32 - 1 }
         requires begun { HasBegun (state_of self.old) }
         requires known { AreKnown (length labels.now) node.now }
@@ -263,7 +339,14 @@ impl Machine {
     }
 
     // A node that calls or returns.
-    fn move_on<O: Sink>(&mut self, node: &Node, nodes: &NodeList, shape: &Shape, labels: &[u64], out: &mut O) -> MeanStep
+    fn move_on<O: Sink>(
+        &mut self,
+        node: &Node,
+        nodes: &NodeList,
+        shape: &Shape,
+        labels: &[u64],
+        out: &mut O,
+    ) -> MeanStep
         requires room { self.old.at < 2 ^ 32 - 1 }
         requires moves { stays node.now.op ≡ false }
         requires suits { Suits shape.now.functions node.now.op (state_of self.old) self.old.count }
@@ -273,8 +356,12 @@ impl Machine {
         ensures later { O.faults out.old ≤ O.faults out.new }
     {
         match node.op {
-            Op::Control(ControlOp::Call, last) => self.call(last, 0, node, nodes, shape, labels, out),
-            Op::Control(ControlOp::Finish, last) => self.finish(last, node, nodes, shape, labels, out),
+            Op::Control(ControlOp::Call, last) => self.call(
+                last, 0, node, nodes, shape, labels, out,
+            ),
+            Op::Control(ControlOp::Finish, last) => self.finish(
+                last, node, nodes, shape, labels, out,
+            ),
             Op::Control(ControlOp::Ret, _) => self.go_back_with(node, labels),
             Op::Plain(PlainOp::Epilog) => self.go_back(None),
             Op::Plain(PlainOp::Ret) => self.go_back(None),
@@ -283,7 +370,14 @@ impl Machine {
     }
 
     // One step of a node.
-    pub(crate) fn step_node<O: Sink>(&mut self, node: &Node, nodes: &NodeList, shape: &Shape, labels: &[u64], out: &mut O) -> MeanStep
+    pub(crate) fn step_node<O: Sink>(
+        &mut self,
+        node: &Node,
+        nodes: &NodeList,
+        shape: &Shape,
+        labels: &[u64],
+        out: &mut O,
+    ) -> MeanStep
         requires room { self.old.at < 2 ^ 32 - 1 }
         requires suits { Suits shape.now.functions node.now.op (state_of self.old) self.old.count }
         requires known { AreKnown (length labels.now) node.now }

@@ -34,7 +34,14 @@ fn is_same(one: Option<u32>, other: Option<u32>) -> bool
 }
 
 // Whether a label is a taken label of the function of a node.
-fn is_target(nodes: &NodeList, shape: &Shape, labels: &[u64], at: u32, label: u32, node: u32) -> bool
+fn is_target(
+    nodes: &NodeList,
+    shape: &Shape,
+    labels: &[u64],
+    at: u32,
+    label: u32,
+    node: u32,
+) -> bool
     ensures { result ≡ is_target (text nodes.now shape.now labels.now) at label node }
 {
     shape.taken(Label(label)) && is_same(shape.function_of(node), shape.function_of(at))
@@ -62,7 +69,14 @@ fn later(one: Option<u32>, other: Option<u32>) -> Option<u32>
 }
 
 // The node of a label that has this address and is a taken label of the function of a node.
-fn jump_landing(nodes: &NodeList, shape: &Shape, labels: &[u64], at: u32, word: u64, label: u32) -> Option<u32>
+fn jump_landing(
+    nodes: &NodeList,
+    shape: &Shape,
+    labels: &[u64],
+    at: u32,
+    word: u64,
+    label: u32,
+) -> Option<u32>
     requires same { length labels.now ≡ length nodes.now.words }
     requires label { label < length nodes.now.words }
     ensures { result ≡ landing (is_target (text nodes.now shape.now labels.now) at) nodes.now.places labels.now word label }
@@ -80,7 +94,13 @@ fn jump_landing(nodes: &NodeList, shape: &Shape, labels: &[u64], at: u32, word: 
 }
 
 // The node to which `jmpr` goes from a node with this word.
-pub(crate) fn jump_target(nodes: &NodeList, shape: &Shape, labels: &[u64], at: u32, word: u64) -> Option<u32>
+pub(crate) fn jump_target(
+    nodes: &NodeList,
+    shape: &Shape,
+    labels: &[u64],
+    at: u32,
+    word: u64,
+) -> Option<u32>
     requires same { length labels.now ≡ length nodes.now.words }
     ensures { result ≡ jump_target (text nodes.now shape.now labels.now) at word }
 {
@@ -92,7 +112,13 @@ pub(crate) fn jump_target(nodes: &NodeList, shape: &Shape, labels: &[u64], at: u
 }
 
 // The node of a label that has this address and is bound where a function begins.
-fn entry_landing(nodes: &NodeList, shape: &Shape, labels: &[u64], word: u64, label: u32) -> Option<u32>
+fn entry_landing(
+    nodes: &NodeList,
+    shape: &Shape,
+    labels: &[u64],
+    word: u64,
+    label: u32,
+) -> Option<u32>
     requires same { length labels.now ≡ length nodes.now.words }
     requires label { label < length nodes.now.words }
     ensures { result ≡ landing (is_entry_label (text nodes.now shape.now labels.now)) nodes.now.places labels.now word label }
@@ -110,7 +136,12 @@ fn entry_landing(nodes: &NodeList, shape: &Shape, labels: &[u64], word: u64, lab
 }
 
 // The node of the `prolog` to which a call of this word goes.
-pub(crate) fn entry_target(nodes: &NodeList, shape: &Shape, labels: &[u64], word: u64) -> Option<u32>
+pub(crate) fn entry_target(
+    nodes: &NodeList,
+    shape: &Shape,
+    labels: &[u64],
+    word: u64,
+) -> Option<u32>
     requires same { length labels.now ≡ length nodes.now.words }
     ensures { result ≡ entry_target (text nodes.now shape.now labels.now) word }
 {

@@ -17,8 +17,8 @@ mod taken;
 mod unit;
 mod walk;
 
-pub use function::Function;
 pub use checks::{check, reshape};
+pub use function::Function;
 pub use label_addresses::LabelAddresses;
 pub use lg_op::{
     Addressing, BinaryOp, BranchSumOp, Condition, ControlOp, Form, Label, LastOperand, Node, Op,

@@ -3,9 +3,9 @@ use Rattle.std.specs.Prelude.{ℕ, ◌+◌, ◌==◌, ◌&&◌, ◌||◌, not, B
 use Rattle.std.specs.List.{list_any}
 use Rattle.lg_base.specs.Conventions.{argument_registers, portable_registers}
 use Rattle.lg_base.specs.declared.target.Target.{Target}
-use Rattle.lg_node.specs.declared.node.Node.{Node}
-use Rattle.lg_node.specs.declared.operand.Reg.{Reg}
-use Rattle.lg_node.specs.declared.operand.Reg.TheVariants.{R0, R1, R2, V0, V1, V2}
+use Rattle.lg_op.specs.declared.node.Node.{Node}
+use Rattle.lg_op.specs.declared.operand.Reg.{Reg}
+use Rattle.lg_op.specs.declared.operand.Reg.TheVariants.{R0, R1, R2, V0, V1, V2}
 use Rattle.lg_live.specs.Uses.{is_read, is_written}
 use Rattle.lg_temp.specs.Abis.{register_of}
 use Rattle.lg_temp.specs.declared.choice.Need.{Need}

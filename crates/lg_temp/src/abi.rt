@@ -5,7 +5,7 @@ ghost use Rattle.lg_base.specs.Conventions.{argument_registers, result_register,
 ghost use Rattle.lg_temp.specs.Abis.{place_of, register_of};
 
 use lg_base::target::Target;
-use lg_node::Reg;
+use lg_op::Reg;
 
 /// Where an argument of a call lies.
 #[derive(Clone, Copy, Debug, PartialEq, Eq)]

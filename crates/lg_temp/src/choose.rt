@@ -10,7 +10,7 @@ use crate::choice::{Choice, Choices, Need, Needs, Staged};
 use lg_base::target::Target;
 use lg_live::reg_set::RegSet;
 use lg_live::uses::{reads, writes};
-use lg_node::{Node, Reg};
+use lg_op::{Node, Reg};
 
 // The order in which registers are tried.
 fn order(target: Target) -> &'static [u8]

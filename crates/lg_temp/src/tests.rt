@@ -5,7 +5,7 @@ use crate::choice::{Choice, Need, Needs, Staged};
 use crate::choose::choose;
 use lg_base::target::Target;
 use lg_live::reg_set::RegSet;
-use lg_node::{Node, Op, Operand, Operands, Reg};
+use lg_op::{Node, Op, Operand, Operands, Reg};
 
 // `addi %r0 %r0 4096`
 fn node() -> Option<Node> {

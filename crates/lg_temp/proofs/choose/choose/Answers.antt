@@ -1,7 +1,7 @@
 use Rattle.std.proofs.Common.{◌≡◌, List, Bool, ◌∙◌}
 use mathlib.Core.Path.{fun_ext}
 use Rattle.lg_base.specs.declared.target.Target.{Target}
-use Rattle.lg_node.specs.declared.operand.Reg.{Reg}
+use Rattle.lg_op.specs.declared.operand.Reg.{Reg}
 use Rattle.lg_live.specs.RegSets.{has}
 use Rattle.lg_live.specs.Uses.{is_read, is_written}
 use Rattle.lg_temp.specs.Chosen.{Around, chosen}

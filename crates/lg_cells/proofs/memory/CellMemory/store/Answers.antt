@@ -11,8 +11,8 @@ loop-i-preserved c =
     let b : byte_at c.write.new.self ≡ put_some (byte_at c.loop-i.self) (c.args.address + c.loop-i.i) (c.loop-i.rest % 256) = rw (c.write.ensures.done ∙ can) at c.write.ensures.bytes in
     record {
       bytes = ap (λ f. stored f (c.args.address + (c.loop-i.i + 1)) (c.args.width - (c.loop-i.i + 1)) (c.loop-i.rest / 256)) b
-        ∙ sym (stored-step (byte_at c.loop-i.self) (c.args.address + c.loop-i.i) (c.args.width - c.loop-i.i) _ _ c.loop-i.rest (omega arith) (omega arith))
-        ∙ c.loop-i.invariant.bytes;
+          ∙ sym (stored-step (byte_at c.loop-i.self) (c.args.address + c.loop-i.i) (c.args.width - c.loop-i.i) _ _ c.loop-i.rest (omega arith) (omega arith))
+          ∙ c.loop-i.invariant.bytes;
       rooms = c.write.ensures.rooms ∙ c.loop-i.invariant.rooms;
       sizes = record { data_same = c.write.ensures.sizes.data_same ∙ c.loop-i.invariant.sizes.data_same; args_same = c.write.ensures.sizes.args_same ∙ c.loop-i.invariant.sizes.args_same };
     }

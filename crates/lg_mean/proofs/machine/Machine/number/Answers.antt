@@ -12,4 +12,4 @@ returns c =
     rw (← c.self.view_is)
     (c.load.ensures
     ∙ loaded_is_read (byte_at m.memory) (is_part m.data_size m.args_size m.heap (frame_in m.top ∷ map frame_in (reverse m.below.items))) c.args.address c.args.width
-      (λ j b h. sym (ap (λ p. p j) c.self.invariant.rooms) ∙ byte_room m.memory j b h))
+    (λ j b h. sym (ap (λ p. p j) c.self.invariant.rooms) ∙ byte_room m.memory j b h))
