@@ -1,7 +1,6 @@
 pub mod Fits
 pub mod Machines
 pub mod Portables
-pub mod Operators
 pub mod Says
 pub mod States
 pub mod Steps

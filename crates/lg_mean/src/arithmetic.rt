@@ -1,18 +1,18 @@
 // Arithmetic, branches and jumps of the portable machine. Each method answers whether the step is defined.
 
 ghost use Rattle.std.specs.Prelude.{◌≡◌, ◌<◌, ◌-◌, ◌^◌, ◌∷◌, [], ℕ, length, slice_get, Bool, true, false, if◌then◌else◌};
-ghost use Rattle.lg_mean.specs.Operators.{binary_value, is_carried};
+ghost use Rattle.lg_operators.specs.Operators.{binary_value, is_carried};
 ghost use Rattle.lg_mean.specs.Steps.{binary_step, carried_step, carried_to, wide_step, unary_step, movi_step, branch, branch_step, branch_sum_step, jump_step, retval_step, getarg_step, quiet, on};
 ghost use Rattle.lg_mean.specs.Machines.{state_of};
 ghost use Rattle.lg_mean.specs.Says.{AreKnown, IsKnown, Does, text};
 
-use crate::carry::Carry;
 use crate::machine::{Machine, node_of_label, operand, slot};
-use crate::operators;
 use crate::targets::jump_target;
 use lg_node::{
     BinaryOp, BranchSumOp, Condition, Node, NodeList, Operand, Shape, UnaryOp, ValueType, WideOp,
 };
+use lg_operators::carry::Carry;
+use lg_operators::operators;
 
 impl Machine {
     // O1 = O2 op O3.

@@ -9,11 +9,11 @@ ghost use Rattle.lg_mean.specs.Steps.{prepare_step, ellipsis_step, push_step, st
 ghost use Rattle.lg_mean.specs.Machines.{state_of, regs_of, frame_in};
 ghost use Rattle.lg_mean.specs.Says.{AreKnown, Does, Leaves, WentUp, text, HasBegun, CanBegin};
 
-use crate::carry::Carry;
 use crate::frame::KeptFrame;
 use crate::machine::{Machine, operand};
 use crate::targets::function_here;
 use lg_node::{Function, Node, Shape};
+use lg_operators::carry::Carry;
 
 // The bytes of a function's frame.
 pub(crate) fn frame_size(function: Function) -> u32

@@ -4,12 +4,10 @@
 mod access;
 mod arithmetic;
 mod calls;
-pub mod carry;
 mod frame;
 mod host_calls;
 mod machine;
 pub mod mean_step;
-mod operators;
 pub mod portable;
 mod step;
 mod targets;

@@ -6,11 +6,11 @@ ghost use Rattle.lg_mean.specs.Steps.{on, on_with_carry, to, with_reg, operand_a
 ghost use Rattle.lg_mean.specs.Machines.{state_of, regs_of};
 ghost use Rattle.lg_mean.specs.Says.{IsKnown};
 
-use crate::carry::Carry;
 use crate::frame::KeptFrame;
 use lg_cells::CellMemory;
 use lg_host::heap_mark::HeapMark;
 use lg_node::{Node, NodeList, Operand, Place, Reg};
+use lg_operators::carry::Carry;
 use std::marker::Model;
 
 /// The state of the portable machine.

@@ -16,8 +16,8 @@ use Rattle.lg_op.specs.declared.op.ValueType.{ValueType}
 use Rattle.lg_op.specs.declared.op.ValueType.TheVariants as value_type
 use Rattle.lg_op.specs.declared.op.StoreType.{StoreType}
 use Rattle.lg_op.specs.declared.op.StoreType.TheVariants as store_type
-use Rattle.lg_mean.specs.declared.carry.Carry.{Carry}
-use Rattle.lg_mean.specs.declared.carry.Carry.TheVariants as carry
+use Rattle.lg_operators.specs.declared.carry.Carry.{Carry}
+use Rattle.lg_operators.specs.declared.carry.Carry.TheVariants as carry
 
 -- a word, where something holds
 abbrev pub word_where : Bool → ℕ → Option ℕ

@@ -1,7 +1,7 @@
 // What the operations of the instruction set make of words.
 
 ghost use Rattle.std.specs.Prelude.{◌≡◌, ◌⊎◌, ◌≤◌, ◌<◌, Bool, if◌then◌else◌};
-ghost use Rattle.lg_mean.specs.Operators.{binary_value, partial_value, is_carried, carry_in, is_sum, carried_value, carried_out, holds, branch_sum_value, branch_sum_goes, wide_value, unary_value, is_move, width, typed, store_width, divides};
+ghost use Rattle.lg_operators.specs.Operators.{binary_value, partial_value, is_carried, carry_in, is_sum, carried_value, carried_out, holds, branch_sum_value, branch_sum_goes, wide_value, unary_value, is_move, width, typed, store_width, divides};
 
 use crate::carry::Carry;
 use lg_base::wide::{mul_high, mul_high_u, sign_part, swap_bytes, zero_part};
@@ -34,8 +34,9 @@ fn partial(op: BinaryOp, a: u64, b: u64) -> Option<u64>
     }
 }
 
-// The word of two words, or None where it is undefined.
-pub(crate) fn binary(op: BinaryOp, a: u64, b: u64) -> Option<u64>
+/// The word of two words, for an operation with two operands and one result that sets no carry; None where it is undefined: a shift by
+/// 64 or more, a zero divisor, and the signed quotient or remainder of the least word by -1. None for operations that set the carry.
+pub fn binary(op: BinaryOp, a: u64, b: u64) -> Option<u64>
     ensures { result ≡ binary_value op a b }
 {
     match op {
@@ -60,8 +61,8 @@ pub(crate) fn binary(op: BinaryOp, a: u64, b: u64) -> Option<u64>
     }
 }
 
-// Whether an operation sets the carry.
-pub(crate) fn is_carried(op: BinaryOp) -> bool
+/// Whether an operation sets the carry: `addc`, `subc`, `addx` and `subx`.
+pub fn is_carried(op: BinaryOp) -> bool
     ensures { result ≡ is_carried op }
 {
     matches!(
@@ -70,8 +71,9 @@ pub(crate) fn is_carried(op: BinaryOp) -> bool
     )
 }
 
-// The carry that an operation takes, where it is of its family.
-pub(crate) fn carry_in(op: BinaryOp, carry: Carry) -> Option<bool>
+/// The carry that an operation takes: none for `addc` and `subc`, that of its own family for `addx` and `subx`; None where it is
+/// undefined or of the other family.
+pub fn carry_in(op: BinaryOp, carry: Carry) -> Option<bool>
     ensures { result ≡ carry_in op carry }
 {
     match (op, carry) {
@@ -89,8 +91,8 @@ fn is_sum(op: BinaryOp) -> bool
     matches!(op, BinaryOp::Addc | BinaryOp::Addx)
 }
 
-// The word of an operation with a carry.
-pub(crate) fn carried(op: BinaryOp, a: u64, b: u64, bit: bool) -> u64
+/// The word of an operation that sets the carry: the sum with the carry, or the difference less the borrow, modulo 2^64.
+pub fn carried(op: BinaryOp, a: u64, b: u64, bit: bool) -> u64
     ensures { result ≡ carried_value op a b (if bit then 1 else 0) }
 {
     if is_sum(op) {
@@ -100,8 +102,8 @@ pub(crate) fn carried(op: BinaryOp, a: u64, b: u64, bit: bool) -> u64
     }
 }
 
-// The carry behind it.
-pub(crate) fn carry_out(op: BinaryOp, a: u64, b: u64, bit: bool) -> Carry
+/// The carry behind such an operation: that of the sum, or the borrow of the whole difference.
+pub fn carry_out(op: BinaryOp, a: u64, b: u64, bit: bool) -> Carry
     ensures { result ≡ carried_out op a b (if bit then 1 else 0) }
 {
     if is_sum(op) {
@@ -111,8 +113,8 @@ pub(crate) fn carry_out(op: BinaryOp, a: u64, b: u64, bit: bool) -> Carry
     }
 }
 
-// Whether a branch goes.
-pub(crate) fn holds(condition: Condition, a: u64, b: u64) -> bool
+/// Whether a branch goes.
+pub fn holds(condition: Condition, a: u64, b: u64) -> bool
     ensures { result ≡ holds condition a b }
 {
     match condition {
@@ -131,8 +133,8 @@ pub(crate) fn holds(condition: Condition, a: u64, b: u64) -> bool
     }
 }
 
-// The wrapped sum or difference of a branch that adds or subtracts.
-pub(crate) fn branch_sum(op: BranchSumOp, a: u64, b: u64) -> u64
+/// The wrapped sum or difference of a branch that adds or subtracts.
+pub fn branch_sum(op: BranchSumOp, a: u64, b: u64) -> u64
     ensures { result ≡ branch_sum_value op a b }
 {
     match op {
@@ -147,8 +149,8 @@ pub(crate) fn branch_sum(op: BranchSumOp, a: u64, b: u64) -> u64
     }
 }
 
-// Whether it goes.
-pub(crate) fn branch_sum_goes(op: BranchSumOp, a: u64, b: u64) -> bool
+/// Whether such a branch goes: where the exact result does not fit a word, or where it does.
+pub fn branch_sum_goes(op: BranchSumOp, a: u64, b: u64) -> bool
     ensures { result ≡ branch_sum_goes op a b }
 {
     match op {
@@ -163,8 +165,8 @@ pub(crate) fn branch_sum_goes(op: BranchSumOp, a: u64, b: u64) -> bool
     }
 }
 
-// The two words of two words, or None where they are undefined.
-pub(crate) fn wide(op: WideOp, a: u64, b: u64) -> Option<(u64, u64)>
+/// The two words of a product of 128 bits, low and high, or of a quotient and a remainder; None where these are undefined.
+pub fn wide(op: WideOp, a: u64, b: u64) -> Option<(u64, u64)>
     ensures { result ≡ wide_value op a b }
 {
     match op {
@@ -184,8 +186,8 @@ pub(crate) fn wide(op: WideOp, a: u64, b: u64) -> Option<(u64, u64)>
     }
 }
 
-// The word of one word.
-pub(crate) fn unary(op: UnaryOp, a: u64) -> u64
+/// The word of one word.
+pub fn unary(op: UnaryOp, a: u64) -> u64
     ensures { result ≡ unary_value op a }
 {
     match op {
@@ -204,15 +206,15 @@ pub(crate) fn unary(op: UnaryOp, a: u64) -> u64
     }
 }
 
-// Whether an operation keeps the carry.
-pub(crate) fn is_move(op: UnaryOp) -> bool
+/// Whether an operation keeps the carry, as `movr` does.
+pub fn is_move(op: UnaryOp) -> bool
     ensures { result ≡ is_move op }
 {
     matches!(op, UnaryOp::Mov)
 }
 
-// How many bytes a type reads.
-pub(crate) fn width(value_type: ValueType) -> u32
+/// How many bytes a type reads.
+pub fn width(value_type: ValueType) -> u32
     ensures value { result ≡ width value_type }
     ensures sizes { (result ≡ 1) ⊎ ((result ≡ 2) ⊎ ((result ≡ 4) ⊎ (result ≡ 8))) }
 {
@@ -224,8 +226,8 @@ pub(crate) fn width(value_type: ValueType) -> u32
     }
 }
 
-// How a type extends them.
-pub(crate) fn typed(value_type: ValueType, a: u64) -> u64
+/// The low bytes of a word, extended by a type.
+pub fn typed(value_type: ValueType, a: u64) -> u64
     ensures { result ≡ typed value_type a }
 {
     match value_type {
@@ -239,8 +241,8 @@ pub(crate) fn typed(value_type: ValueType, a: u64) -> u64
     }
 }
 
-// How many bytes a type writes.
-pub(crate) fn store_width(store_type: StoreType) -> u32
+/// How many bytes a type writes.
+pub fn store_width(store_type: StoreType) -> u32
     ensures value { result ≡ store_width store_type }
     ensures sizes { (result ≡ 1) ⊎ ((result ≡ 2) ⊎ ((result ≡ 4) ⊎ (result ≡ 8))) }
 {
