@@ -5,6 +5,8 @@
 #[cfg(test)]
 mod arguments;
 #[cfg(test)]
+mod check_rows;
+#[cfg(test)]
 mod first_path;
 #[cfg(test)]
 mod lists;
