@@ -29,10 +29,7 @@ fn read(alloc: Global, text: &[u8]) -> Result<Unit, Fail> {
     if text.len() > 16_777_216 {
         return Err(Fail::from(AllocError));
     }
-    match parse(alloc, text) {
-        Ok(unit) => Ok(unit),
-        Err(_) => Err(Fail::from(AllocError)),
-    }
+    Ok(parse(alloc, text)?)
 }
 
 // The kind and the line of a text's refusal.

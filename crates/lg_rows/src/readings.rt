@@ -172,6 +172,15 @@ fn refuses_data(rt: HostRuntime) -> Result<(), Fail> {
             (b".data -1", BadOperand, 1),
             (b".data 16777217", BadOperand, 1),
             (b".data x", BadOperand, 1),
+        ],
+    )
+}
+
+#[test]
+fn refuses_what_is_no_data(rt: HostRuntime) -> Result<(), Fail> {
+    check(
+        &rt,
+        &[
             (b".data 4 .align 3", BadOperand, 1),
             (b".data 4 .align 8192", BadOperand, 1),
             (b".data 4 .c %r0", BadOperand, 1),
