@@ -200,3 +200,46 @@ fn differing(alloc: Global, cpu: &Cpu, stands: Stands) -> Result<Outcome, AllocE
     }
     Ok(Outcome::Differs(text))
 }
+
+#[cfg(test)]
+mod tests {
+    use super::*;
+    use std::test::Fail;
+
+    #[test]
+    fn compares_runs(rt: HostRuntime) -> Result<(), Fail> {
+        let alloc = rt.alloc();
+        let mut out = sink(alloc)?;
+        let Some(mut cpu) = processor(alloc, &[], &[0; 8])? else {
+            assert!(rt; false, "no processor");
+            return Ok(());
+        };
+        for (line, agrees) in [
+            ("1\taddi\t93021000\t-\tWent pc=10000004 x5=1\tgas", true),
+            ("1\taddi\t93021000\t-\tWent pc=10000004 x5=2\tgas", false),
+            ("1\taddi\t93021000\t-\tWent pc=10000008 x5=1\tgas", false),
+            ("1\taddi\t93021000\t-\tWent pc=10000004\tgas", false),
+            (
+                "2\taddi\t93021000\t-\tFetch steps=1 pc=10000004 x5=1\tgas",
+                true,
+            ),
+            (
+                "2\taddi\t93021000\t-\tFetch steps=2 pc=10000004 x5=1\tgas",
+                false,
+            ),
+            (
+                "1\tsd\t23305500\tx5=7 x10=20000000\tWent pc=10000004 m8@20000000=7\tgas",
+                true,
+            ),
+            (
+                "1\tsd\t23305500\tx5=7 x10=20000000\tWent pc=10000004 m8@20000000=8\tgas",
+                false,
+            ),
+            ("1\tsd\t23305500\tx5=7 x10=20000000", false),
+        ] {
+            let outcome = case_outcome(alloc, &mut cpu, &mut out, line)?;
+            assert_eq!(rt; matches!(outcome, Outcome::Agrees), agrees, "at {line}");
+        }
+        Ok(())
+    }
+}
