@@ -1,11 +1,11 @@
 -- The memory of a run's start.
-use Rattle.std.proofs.Common.{◌≡◌, ◌≢◌, ℕ, ◌+◌, ◌-◌, ◌<◌, ◌≤◌, Bool, true, false, length, List, Option, Some, None, refl, sym, ap, ◌∙◌, ⊎_elim, arith}
-use Rattle.std.specs.Prelude.{nat_lt, nat_le, ◌==◌, ◌&&◌, if◌then◌else◌, slice_index}
+use Rattle.std.proofs.Common.{◌≡◌, ℕ, ◌+◌, ◌-◌, ◌<◌, ◌≤◌, Bool, true, false, length, List, Some, None, refl, ap, ◌∙◌, arith}
+use Rattle.std.specs.Prelude.{if◌then◌else◌, slice_index}
 use mathlib.Core.Path.{fun_ext}
 use Rattle.lg_cells.specs.declared.cell.Cell.{Cell}
 use Rattle.lg_cells.specs.declared.cell.Cell.TheVariants.{Closed, Fresh, Holds}
-use Rattle.lg_cells.specs.Cells.{byte_in, is_room, cell_of, within, with_cells, with_bytes, first_cells}
-use Rattle.lg_cells.specs.Memories.{Marked, IsMarked, place_of, cell_in, cell_at, byte_at, room_at, first_bytes, first_room}
+use Rattle.lg_cells.specs.Cells.{byte_in, is_room, cell_of, within, first_cells}
+use Rattle.lg_cells.specs.Memories.{IsMarked, place_of, cell_in, byte_at, room_at, first_bytes, first_room}
 
 -- what stands in the cell of an address at first
 abbrev first_cell : List ℕ → List ℕ → ℕ → Cell

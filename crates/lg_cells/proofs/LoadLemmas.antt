@@ -1,8 +1,8 @@
 -- Numbers of several bytes, byte by byte.
-use Rattle.std.proofs.Common.{◌≡◌, ◌≢◌, ℕ, zero, suc, ◌+◌, ◌-◌, ◌*◌, ◌/◌, ◌%◌, ◌^◌, ◌<◌, ◌≤◌, Bool, true, false, Option, Some, None, refl, sym, ap, ◌∙◌, subst, arith}
+use Rattle.std.proofs.Common.{◌≡◌, ℕ, zero, suc, ◌+◌, ◌*◌, ◌^◌, ◌<◌, ◌≤◌, Bool, true, false, Option, Some, None, refl, sym, ap, ◌∙◌, arith}
 use Rattle.std.specs.Prelude.{◌&&◌, is_some, if◌then◌else◌}
 use Rattle.std.proofs.Math.Nat.{pow-le-pow_right}
-use Rattle.lg_base.specs.Spaces.{mapped, number_at, byte_or_zero, loaded, stored, put_some}
+use Rattle.lg_base.specs.Spaces.{mapped, number_at, byte_or_zero, loaded}
 use Rattle.lg_cells.specs.Memories.{writable}
 
 pub loaded_empty : (m : ℕ → Option ℕ) (a n : ℕ) → n ≡ 0 → loaded m a n ≡ Some 0

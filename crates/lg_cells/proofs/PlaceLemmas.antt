@@ -1,13 +1,13 @@
 -- Addresses and their places among the cells: no two addresses have one place, and an address of the stack has a place behind all others.
 use Rattle.std.proofs.Common.{◌≡◌, ◌≢◌, ℕ, ◌+◌, ◌-◌, ◌<◌, ◌≤◌, Bool, true, false, length, List, Option, Some, None, refl, sym, ap, ◌∙◌, ⊎_elim, arith, get_or-set_other, get_or-set_same}
-use Rattle.std.specs.Prelude.{nat_lt, nat_le, ◌==◌, ◌&&◌, if◌then◌else◌, slice_index, slice_set}
+use Rattle.std.specs.Prelude.{nat_lt, ◌==◌, if◌then◌else◌, slice_set}
 use Rattle.std.proofs.lemmas.Bool.{cases_eq}
 use mathlib.Core.Path.{fun_ext}
 use Rattle.lg_base.specs.Spaces.{put_some}
 use Rattle.lg_cells.specs.declared.cell.Cell.{Cell}
 use Rattle.lg_cells.specs.declared.cell.Cell.TheVariants.{Closed, Fresh, Holds}
-use Rattle.lg_cells.specs.Cells.{byte_in, is_room, cell_of, within, with_cells, with_bytes}
-use Rattle.lg_cells.specs.Memories.{Marked, IsMarked, place_of, cell_in, cell_at, byte_at, room_at, without, first_bytes, first_room}
+use Rattle.lg_cells.specs.Cells.{byte_in, is_room, cell_of, within, with_cells}
+use Rattle.lg_cells.specs.Memories.{Marked, IsMarked, place_of, cell_in, cell_at, byte_at, room_at, without}
 
 -- the address of a place
 abbrev address_of : ℕ → ℕ → ℕ → ℕ

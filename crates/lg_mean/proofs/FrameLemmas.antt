@@ -1,11 +1,11 @@
 -- Frames and their locals.
-use Rattle.std.proofs.Common.{◌≡◌, ◌≢◌, ℕ, zero, suc, ◌+◌, ◌-◌, ◌*◌, ◌<◌, ◌≤◌, ◌⊎◌, Bool, true, false, length, List, [], ◌∷◌, ◌++◌, map, reverse, Option, Some, None, refl, sym, ap, ◌∙◌, subst, ⊎_elim, inl, inr, arith}
-use Rattle.std.specs.Prelude.{nat_lt, nat_le, ◌&&◌, ◌||◌, if◌then◌else◌}
+use Rattle.std.proofs.Common.{◌≡◌, ℕ, ◌+◌, ◌-◌, ◌*◌, ◌<◌, ◌≤◌, ◌⊎◌, Bool, true, false, length, List, [], ◌∷◌, ◌++◌, map, reverse, refl, sym, ap, ◌∙◌, ⊎_elim, inl, inr, arith}
+use Rattle.std.specs.Prelude.{◌||◌, if◌then◌else◌}
 use Rattle.std.proofs.lemmas.List.{reverse-append}
 use mathlib.Core.Path.{fun_ext}
 use Rattle.lg_cells.specs.Cells.{within}
 use Rattle.lg_mean.specs.States.{Frame, in_locals, in_any_locals, is_part}
-use Rattle.lg_mean.specs.Machines.{AreStacked, IsTop}
+use Rattle.lg_mean.specs.Machines.{AreStacked}
 
 pub stacked_len : (f : Frame) (fs : List Frame) → AreStacked f fs → f.sp + 272 * length fs ≤ 0x40000000
 stacked_len f [] h = omega (arith, h)

@@ -1,12 +1,12 @@
 -- The heap mark never falls over a host call, and the parts of the memory grow with it.
-use Rattle.std.proofs.Common.{◌≡◌, ℕ, ◌+◌, ◌-◌, ◌*◌, ◌%◌, ◌≤◌, Bool, true, false, not, List, [], ◌∷◌, ◌++◌, Option, Some, None, refl, sym, ap, ◌∙◌, length, drop, slice_index, arith}
+use Rattle.std.proofs.Common.{◌≡◌, ℕ, ◌+◌, ◌-◌, ◌*◌, ◌%◌, ◌≤◌, Bool, true, false, not, List, [], Option, Some, None, refl, sym, ap, ◌∙◌, length, slice_index, arith}
 use Rattle.std.specs.Prelude.{◌==◌, ◌&&◌, ◌||◌, nat_lt, nat_le, if◌then◌else◌}
 use mathlib.Core.Path.{fun_ext}
 use Rattle.lg_base.specs.Spaces.{raised, in_heap, mapped}
 use Rattle.lg_base.specs.declared.host_name.HostName.{HostName}
 use Rattle.lg_base.specs.declared.host_name.HostName.TheVariants as host
 use Rattle.lg_host.specs.Blocks.{Changes, unchanged, copied, filled, can_write, is_below_end, overlaps}
-use Rattle.lg_host.specs.Host.{Mem, Host, Gives, Exits, Undefined, heap_end, rounded, fits, malloc, calloc, memset, memcpy, text, answered, table, named, host_of, after, Same, Out, HostSays}
+use Rattle.lg_host.specs.Host.{Mem, Host, Gives, Exits, Undefined, heap_end, rounded, fits, text, answered, table, named, host_of, Out, HostSays}
 use Rattle.lg_host.specs.declared.host_end.HostEnd.{HostEnd}
 use Rattle.lg_host.specs.declared.host_end.HostEnd.TheVariants as end
 use Rattle.lg_cells.specs.Cells.{within}

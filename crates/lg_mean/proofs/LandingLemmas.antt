@@ -1,5 +1,5 @@
 -- The last of the labels that have an address, label by label.
-use Rattle.std.proofs.Common.{◌≡◌, ℕ, ◌+◌, suc, Bool, List, Option, Some, None, refl, sym, ap, ◌∙◌, arith}
+use Rattle.std.proofs.Common.{◌≡◌, ℕ, ◌+◌, suc, Bool, List, Option, None, refl, arith}
 use Rattle.lg_node.specs.declared.place.Place.{Place}
 use Rattle.lg_mean.specs.Steps.{later, landing, last_landing}
 

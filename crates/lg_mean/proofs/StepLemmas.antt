@@ -1,6 +1,5 @@
 -- From the answer of a step that neither ends the run nor writes to that of a whole step.
-use Rattle.std.proofs.Common.{◌≡◌, ℕ, Bool, true, false, List, [], Option, Some, None, refl, sym, ap, ◌∙◌, inl}
-use Rattle.std.specs.Io.KnownBytes.{Appends}
+use Rattle.std.proofs.Common.{◌≡◌, ℕ, Bool, List, Option, ap, ◌∙◌, inl}
 use Rattle.std.proofs.KnownBytes.{Appends-nil}
 use Rattle.lg_mean.specs.declared.mean_step.MeanStep.{MeanStep}
 use Rattle.lg_mean.specs.States.{State}

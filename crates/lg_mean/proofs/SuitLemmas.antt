@@ -1,25 +1,22 @@
 -- What a node of an accepted text asks of a state that fits its shape.
-use Rattle.std.proofs.Common.{◌≡◌, ◌≢◌, ℕ, ◌+◌, ◌*◌, ◌/◌, ◌<◌, ◌≤◌, Bool, true, false, not, List, [], ◌∷◌, Option, Some, None, refl, sym, ap, ◌∙◌, length, subst, arith}
-use Rattle.std.specs.Prelude.{◌&&◌, ◌||◌, slice_get, is_none}
+use Rattle.std.proofs.Common.{◌≡◌, ◌≢◌, ℕ, ◌+◌, ◌<◌, ◌≤◌, Bool, true, false, not, Option, Some, None, refl, sym, ap, ◌∙◌, length, subst, arith}
+use Rattle.std.specs.Prelude.{◌&&◌, slice_get, is_none}
 use Rattle.lg_op.specs.declared.node.Node.{Node}
 use Rattle.lg_op.specs.declared.op.Op.{Op}
 use Rattle.lg_op.specs.declared.op.Op.TheVariants as op
-use Rattle.lg_op.specs.declared.op.ControlOp.{ControlOp}
 use Rattle.lg_op.specs.declared.op.ControlOp.TheVariants as control
 use Rattle.lg_op.specs.declared.op.PlainOp.TheVariants as plain
 use Rattle.lg_op.specs.declared.op.LastOperand.{LastOperand}
-use Rattle.lg_op.specs.declared.op.LastOperand.TheVariants as last_operand
 use Rattle.lg_node.specs.declared.function.Function.{Function}
 use Rattle.lg_node.specs.Nodes.{LabelledNodes}
 use Rattle.lg_node.specs.Functions.{home, is_prolog, is_prolog_at, frame_of}
-use Rattle.lg_node.specs.Preparations.{pushed, prepared_before, pushed_of}
-use Rattle.lg_node.specs.Checks.{is_begun, may_stand_outside, IsAccepted}
+use Rattle.lg_node.specs.Preparations.{pushed_of}
+use Rattle.lg_node.specs.Checks.{is_begun, may_stand_outside}
 use Rattle.lg_node.specs.Shapes.{TextShape}
 use Rattle.lg_node.specs.ShapeLaws.{IsWellShaped}
 use Rattle.lg_mean.specs.States.{State}
-use Rattle.lg_mean.specs.Steps.{function_here}
 use Rattle.lg_mean.specs.Says.{HasBegun, CanBegin, Suits}
-use Rattle.lg_mean.specs.Fits.{IsOf, RunsIn, IsTopOf, Fits}
+use Rattle.lg_mean.specs.Fits.{RunsIn, IsTopOf, Fits}
 
 whole : (f : Function) → 272 + f.locals ≤ frame_of f
 whole f = omega arith

@@ -1,5 +1,5 @@
 -- How the portable state is held: frames with their words in arrays, and memory in cells.
-use Rattle.std.specs.Prelude.{◌≡◌, ◌≤◌, ◌⊎◌, ℕ, ◌+◌, ◌-◌, Bool, Option, Some, None, List, [], ◌∷◌, take, map, reverse, slice_index_or, vec_capacity}
+use Rattle.std.specs.Prelude.{◌≡◌, ◌≤◌, ◌⊎◌, ℕ, ◌+◌, Bool, Option, None, List, [], ◌∷◌, take, map, reverse, slice_index_or, vec_capacity}
 use Rattle.lg_cells.specs.Memories.{Marked, byte_at, room_at}
 use Rattle.lg_operators.specs.declared.carry.Carry.{Carry}
 use Rattle.lg_mean.specs.declared.frame.KeptFrame.{KeptFrame}

@@ -1,5 +1,5 @@
 -- What contracts see of the portable machine with its text.
-use Rattle.std.specs.Prelude.{◌≡◌, ℕ, ◌+◌, ◌-◌, ◌^◌, ◌<◌, Option, Some, None, List, length, slice_get}
+use Rattle.std.specs.Prelude.{ℕ, Option, Some, None, List, slice_get}
 use Rattle.lg_op.specs.declared.node.Node.{Node}
 use Rattle.lg_node.specs.Nodes.{LabelledNodes}
 use Rattle.lg_node.specs.Shapes.{TextShape}

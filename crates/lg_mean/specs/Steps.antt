@@ -1,6 +1,6 @@
 -- One step of the portable machine: a row for each family of the instruction table. A step is undefined where a word that it reads is
 -- undefined, and it then changes and writes nothing.
-use Rattle.std.specs.Prelude.{◌≡◌, ℕ, zero, suc, ◌+◌, ◌-◌, ◌%◌, ◌==◌, ◌&&◌, Bool, true, false, nat_lt, nat_le, max, if◌then◌else◌, Option, Some, None, List, [], ◌∷◌, ◌++◌, length, slice_index, slice_index_or, slice_get}
+use Rattle.std.specs.Prelude.{ℕ, zero, suc, ◌+◌, ◌-◌, ◌%◌, ◌==◌, ◌&&◌, Bool, true, false, nat_lt, nat_le, max, if◌then◌else◌, Option, Some, None, List, [], ◌∷◌, ◌++◌, length, slice_index, slice_index_or, slice_get}
 use Rattle.std.specs.Option.{option_and_then, option_flatten}
 use Rattle.lg_base.specs.Words.{add_words}
 use Rattle.lg_base.specs.Spaces.{loaded, stored}
@@ -9,7 +9,6 @@ use Rattle.lg_base.specs.declared.host_name.HostName.{HostName}
 use Rattle.lg_host.specs.Host.{Host, Gives, Exits, memory, after, host_of}
 use Rattle.lg_host.specs.Host as host
 use Rattle.lg_op.specs.declared.node.Node.{Node}
-use Rattle.lg_op.specs.declared.operand.Label.{Label}
 use Rattle.lg_op.specs.declared.operand.Operand.{Operand}
 use Rattle.lg_op.specs.declared.operand.Operand.TheVariants as operand
 use Rattle.lg_op.specs.declared.op.Op.{Op}

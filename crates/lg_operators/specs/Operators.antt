@@ -1,5 +1,5 @@
 -- What the operations of the instruction set make of words.
-use Rattle.std.specs.Prelude.{ℕ, ◌+◌, ◌-◌, ◌*◌, ◌/◌, ◌%◌, ◌^◌, ◌==◌, ◌&&◌, ◌||◌, not, Bool, true, false, nat_lt, nat_le, if◌then◌else◌, Option, Some, None, bit_and, bit_or, bit_xor}
+use Rattle.std.specs.Prelude.{ℕ, ◌+◌, ◌-◌, ◌%◌, ◌^◌, ◌==◌, ◌&&◌, ◌||◌, not, Bool, true, false, nat_lt, if◌then◌else◌, Option, Some, None, bit_and, bit_or, bit_xor}
 use Rattle.lg_base.specs.Words.{add_words, sub_words, mul_words, negated, complement, high_product, high_product_signed, quotient, remainder, quotient_signed, remainder_signed, shifted_left, shifted_right, shifted_right_signed, is_less, is_less_signed, word_of_test, carry_out, borrow_out, sum_overflows, difference_overflows}
 use Rattle.lg_base.specs.Wide.{zero_part_of, sign_part_of, swapped}
 use Rattle.lg_op.specs.declared.op.BinaryOp.{BinaryOp}

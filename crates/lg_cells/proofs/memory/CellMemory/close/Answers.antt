@@ -1,10 +1,10 @@
-use Rattle.std.proofs.Common.{◌≡◌, ◌+◌, ◌-◌, length, ap, ◌∙◌, List, ℕ, refl, arith}
+use Rattle.std.proofs.Common.{◌≡◌, ◌+◌, ◌-◌, length, ap, ◌∙◌, List, refl}
 use Rattle.std.proofs.lemmas.List.{with_items_is}
 use Rattle.lg_cells.specs.declared.cell.Cell.{Cell}
 use Rattle.lg_cells.specs.declared.cell.Cell.TheVariants.{Closed}
 use Rattle.lg_cells.specs.Cells.{cell_of, with_cells}
 use Rattle.lg_cells.specs.Memories.{Marked}
-use Rattle.lg_cells.proofs.PlaceLemmas.{HasCells, fill_bytes, fill_rooms, fill_marked}
+use Rattle.lg_cells.proofs.PlaceLemmas.{fill_bytes, fill_rooms, fill_marked}
 use Rattle.lg_cells.proofs.memory.CellMemory.close.Goals as goal
 
 pub invariant_of-self : goal.invariant_of-self

@@ -1,4 +1,4 @@
-use Rattle.std.proofs.Common.{◌≡◌, ◌+◌, ◌-◌, ◌*◌, ◌<◌, ◌≤◌, ◌^◌, sym, ap, ◌∙◌, arith}
+use Rattle.std.proofs.Common.{◌≡◌, ◌+◌, ◌-◌, sym, arith}
 use Rattle.lg_cells.specs.Memories.{byte_at}
 use Rattle.lg_cells.proofs.LoadLemmas.{loaded_empty, loaded_more, loaded_missing, pow7, pow_more}
 use Rattle.lg_cells.proofs.memory.CellMemory.load.Goals as goal

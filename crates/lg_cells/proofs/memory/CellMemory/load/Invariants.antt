@@ -1,4 +1,4 @@
-use Rattle.std.proofs.Common.{◌≡◌, ℕ, ◌+◌, ◌-◌, ◌^◌, ◌<◌, ◌≤◌, Some}
+use Rattle.std.proofs.Common.{◌≡◌, ◌+◌, ◌-◌, ◌^◌, ◌<◌, ◌≤◌, Some}
 use Rattle.lg_base.specs.Spaces.{loaded}
 use Rattle.lg_cells.specs.Memories.{byte_at}
 use Rattle.lg_cells.proofs.memory.CellMemory.load.Given as goal

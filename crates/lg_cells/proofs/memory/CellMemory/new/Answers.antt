@@ -1,4 +1,4 @@
-use Rattle.std.proofs.Common.{◌≡◌, ◌+◌, length, ap, ◌∙◌, List, ℕ, refl, arith}
+use Rattle.std.proofs.Common.{◌≡◌, length, ap, ◌∙◌, List}
 use Rattle.std.proofs.lemmas.List.{with_items_is}
 use Rattle.lg_cells.specs.declared.cell.Cell.{Cell}
 use Rattle.lg_cells.specs.declared.cell.Cell.TheVariants.{Closed}

@@ -1,8 +1,5 @@
 use Rattle.std.proofs.Common.{◌≡◌, ◌<◌, length, true, sym, ◌∙◌, ap, refl, arith}
-use Rattle.std.specs.Prelude.{slice_set}
-use Rattle.lg_cells.specs.declared.cell.Cell.TheVariants.{Holds}
-use Rattle.lg_cells.specs.Cells.{cell_of, is_room}
-use Rattle.lg_cells.specs.Memories.{Marked, cell_in, room_at}
+use Rattle.lg_cells.specs.Memories.{Marked, room_at}
 use Rattle.lg_cells.proofs.PlaceLemmas.{put_bytes, put_rooms, place_bound}
 use Rattle.lg_cells.proofs.memory.CellMemory.write.Goals as goal
 

@@ -1,5 +1,5 @@
-use Rattle.std.proofs.Common.{◌≡◌, ℕ, Bool, ap, sym, refl, inr, ◌∙◌, map, reverse, ◌∷◌, ◌-◌, arith}
-use Rattle.lg_cells.specs.Memories.{opened, room_at}
+use Rattle.std.proofs.Common.{◌≡◌, ℕ, Bool, ap, refl, inr, ◌∙◌, map, reverse, ◌-◌, arith}
+use Rattle.lg_cells.specs.Memories.{opened}
 use Rattle.lg_mean.specs.States.{Frame}
 use Rattle.lg_mean.specs.Machines.{MachineState, frame_in}
 use Rattle.lg_mean.proofs.FrameLemmas.{stacked_top, part_begin}

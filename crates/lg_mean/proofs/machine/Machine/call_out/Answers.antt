@@ -1,4 +1,4 @@
-use Rattle.std.proofs.Common.{◌≡◌, ℕ, Bool, ap, sym, refl, ◌∙◌, map, reverse, take, ◌∷◌, subst}
+use Rattle.std.proofs.Common.{ℕ, Bool, map, reverse, take, ◌∷◌, subst}
 use Rattle.lg_host.specs.Host.{Mem, HostSays, host_of, memory, outcome}
 use Rattle.lg_cells.specs.Memories.{byte_at, room_at}
 use Rattle.lg_mean.specs.States.{is_part}

@@ -1,7 +1,6 @@
-use Rattle.std.proofs.Common.{◌≡◌, ℕ, ap, sym, refl, inl, ◌∙◌, ◌+◌, ◌≤◌, map, reverse, ◌∷◌, arith}
+use Rattle.std.proofs.Common.{◌≡◌, ap, sym, inl, ◌∙◌, map, reverse, ◌∷◌, arith}
 use Rattle.std.proofs.lemmas.List.{length-map, length-reverse}
-use Rattle.lg_mean.specs.States.{is_part}
-use Rattle.lg_mean.specs.Machines.{MachineState, frame_in, AreStacked}
+use Rattle.lg_mean.specs.Machines.{MachineState, frame_in}
 use Rattle.lg_mean.proofs.FrameLemmas.{stacked_len, part_enter, map_push}
 use Rattle.lg_mean.proofs.machine.Machine.down.Goals as goal
 

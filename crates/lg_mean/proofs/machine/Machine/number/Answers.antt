@@ -1,4 +1,4 @@
-use Rattle.std.proofs.Common.{ℕ, ap, sym, ◌∙◌, map, reverse, ◌∷◌}
+use Rattle.std.proofs.Common.{ap, sym, ◌∙◌, map, reverse, ◌∷◌}
 use Rattle.lg_cells.specs.Memories.{byte_at}
 use Rattle.lg_cells.proofs.PlaceLemmas.{byte_room}
 use Rattle.lg_mean.specs.States.{is_part}

@@ -1,4 +1,4 @@
-use Rattle.std.proofs.Common.{◌≡◌, ℕ, Bool, ap, sym, refl, inr, ◌∙◌, map, reverse, ◌∷◌, ◌++◌, [], ◌-◌, ◌+◌, ◌≤◌, arith}
+use Rattle.std.proofs.Common.{◌≡◌, ℕ, Bool, ap, inr, ◌∙◌, map, reverse, ◌∷◌, ◌-◌, arith}
 use Rattle.lg_cells.specs.Memories.{closed}
 use Rattle.lg_mean.specs.Machines.{MachineState, frame_in, AreStacked}
 use Rattle.lg_mean.proofs.FrameLemmas.{stacked_len, part_leave, map_push}
