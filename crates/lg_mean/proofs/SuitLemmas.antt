@@ -40,7 +40,7 @@ module _ (l : LabelledNodes) (shape : TextShape) (w : IsWellShaped l) (s : State
 
       by : (p : ℕ) × (home l.nodes s.at ≡ Some p) → HasBegun s
       by x =
-          let r : RunsIn shape s x.0 = subst (IsTopOf shape s) x.1 fits.top in
+          let r : RunsIn shape s x.0 = subst (IsTopOf l shape s) x.1 fits.top in
           let other : s.at ≢ r.function.entry = λ e. differ (sym no_prolog ∙ w.prologs s.at (x.1 ∙ ap Some (sym r.entry ∙ sym e))) in
           let size = r.top.behind other in
           omega (arith, size.0, size.1, whole r.function)
@@ -50,7 +50,7 @@ module _ (l : LabelledNodes) (shape : TextShape) (w : IsWellShaped l) (s : State
 
   can_begin : is_prolog n.op ≡ true → CanBegin shape.functions s
   can_begin begins =
-      let r : RunsIn shape s s.at = subst (IsTopOf shape s) (w.entries s.at (rw here begins)).0 fits.top in
+      let r : RunsIn shape s s.at = subst (IsTopOf l shape s) (w.entries s.at (rw here begins)).0 fits.top in
       let before = r.top.before (sym r.entry) in
       (r.function, r.here, before.1, before.2)
 

@@ -8,6 +8,7 @@ use Rattle.lg_node.specs.declared.function.Function.{Function}
 use Rattle.lg_node.specs.Nodes.{LabelledNodes}
 use Rattle.lg_node.specs.Functions.{home, frame_of}
 use Rattle.lg_node.specs.Preparations.{pushed, variadic}
+use Rattle.lg_node.specs.Checks.{is_begun}
 use Rattle.lg_node.specs.Shapes.{TextShape}
 use Rattle.lg_mean.specs.States.{Frame, State, is_open}
 use Rattle.lg_mean.specs.Steps.{function_here}
@@ -24,10 +25,17 @@ pub record RunsIn (shape : TextShape) (s : State) (p : ℕ) : Type 0 where
   pub entry : function.entry ≡ p
   pub top : IsOf function s
 
+-- before the first `prolog` of the text there is the entry's frame alone
+pub record IsBeforeAll (l : LabelledNodes) (s : State) : Type 0 where
+  pub outside : is_begun l.nodes s.at ≡ false
+  pub alone : s.callers ≡ []
+  pub size : s.frame.size ≡ 0
+  pub locals : s.frame.locals ≡ 0
+
 -- the running frame is one of the function in which the state's node stands, or the entry's alone
-abbrev pub IsTopOf : TextShape → State → Option ℕ → Type 0
-IsTopOf shape s (Some p) = RunsIn shape s p
-IsTopOf shape s None = (s.callers ≡ []) × (s.frame.size ≡ 0) × (s.frame.locals ≡ 0)
+abbrev pub IsTopOf : LabelledNodes → TextShape → State → Option ℕ → Type 0
+IsTopOf l shape s (Some p) = RunsIn shape s p
+IsTopOf l shape s None = IsBeforeAll l s
 
 abbrev pub is_call : Op → Bool
 is_call (op.Control control.Call last) = true
@@ -62,7 +70,7 @@ AreLinked l shape f (g ∷ gs) = IsCaller l shape f g × AreLinked l shape g gs
 -- a state fits the shape of nodes
 pub record Fits (l : LabelledNodes) (shape : TextShape) (s : State) : Type 0 where
   pub inside : s.at < length l.nodes
-  pub top : IsTopOf shape s (home l.nodes s.at)
+  pub top : IsTopOf l shape s (home l.nodes s.at)
   pub linked : AreLinked l shape s.frame s.callers
   pub pushed : length s.pushed ≡ pushed l.nodes s.at
   pub variadic : s.variadic ≡ variadic l.nodes s.at

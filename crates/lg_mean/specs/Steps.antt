@@ -145,10 +145,6 @@ later None o = o
 later (Some k) None = Some k
 later (Some k) (Some j) = Some (max k j)
 
-abbrev pub is_same : Option ℕ → Option ℕ → Bool
-is_same (Some i) (Some j) = i == j
-is_same o p = false
-
 -- the node of a label where it has this address and passes a test
 abbrev pub landing : (ℕ → ℕ → Bool) → List (Option Place) → List ℕ → ℕ → ℕ → Option ℕ
 landing test places addresses w l = node_if (option_flatten (slice_get places l))
@@ -162,9 +158,18 @@ unfoldable pub last_landing : (ℕ → ℕ → Bool) → List (Option Place) →
 last_landing test places addresses w zero = None
 last_landing test places addresses w (suc l) = later (landing test places addresses w l) (last_landing test places addresses w l)
 
--- a taken label of the function of a node
+-- the function of a node
+abbrev pub function_here : List Function → ℕ → Option Function
+function_here functions k = option_and_then (slice_get functions) (function_of functions k)
+
+-- a node of a function behind its `prolog`
+abbrev pub is_behind : Option Function → ℕ → Bool
+is_behind None k = false
+is_behind (Some f) k = nat_lt f.entry k && nat_le k f.last
+
+-- a taken label that is bound in the function of a node behind its `prolog`
 abbrev pub is_target : Text → ℕ → ℕ → ℕ → Bool
-is_target t at l k = slice_index_or t.taken l false && is_same (function_of t.functions k) (function_of t.functions at)
+is_target t at l k = slice_index_or t.taken l false && is_behind (function_here t.functions at) k
 
 -- `jmpr` goes to the last of the taken labels of its function that have this address
 abbrev pub jump_target : Text → ℕ → ℕ → Option ℕ
@@ -238,10 +243,6 @@ called s args = record { sp = s.frame.sp - s.frame.size; back = s.at + 1; args =
 abbrev pub enter : State → List ℕ → Function → Outcome
 enter s args f =
     when (nat_le (0x3FF00010 + frame_of f) (s.frame.sp - s.frame.size)) (quiet (started (record s { frame = called s args; callers = s.frame ∷ s.callers }) f.entry))
-
--- the function of a node
-abbrev pub function_here : List Function → ℕ → Option Function
-function_here functions k = option_and_then (slice_get functions) (function_of functions k)
 
 -- a function begins: its locals are there, and unwritten
 abbrev pub begun : State → Function → State

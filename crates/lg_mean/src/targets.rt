@@ -3,7 +3,7 @@
 ghost use Rattle.std.specs.Prelude.{◌≡◌, ◌<◌, ◌≤◌, ℕ, length, Bool, Option, Some, None, slice_get, slice_index_or, false, IfSome};
 ghost use Rattle.std.specs.Option.{option_flatten};
 ghost use Rattle.lg_node.specs.Functions.{frame_of};
-ghost use Rattle.lg_mean.specs.Steps.{function_here, later, landing, last_landing, is_target, is_entry_label, jump_target, entry_target, is_same, begins};
+ghost use Rattle.lg_mean.specs.Steps.{function_here, later, landing, last_landing, is_target, is_entry_label, jump_target, entry_target, is_behind, begins};
 ghost use Rattle.lg_mean.specs.Says.{text};
 
 use lg_node::{Function, Label, NodeList, Place, Shape};
@@ -23,17 +23,17 @@ pub(crate) fn function_here(shape: &Shape, node: u32) -> Option<Function>
     }
 }
 
-// Whether two nodes are in one function.
-fn is_same(one: Option<u32>, other: Option<u32>) -> bool
-    ensures { result ≡ is_same one other }
+// Whether a node is one of a function behind its `prolog`.
+fn is_behind(function: Option<Function>, node: u32) -> bool
+    ensures { result ≡ is_behind function node }
 {
-    match (one, other) {
-        (Some(i), Some(j)) => i == j,
-        _ => false,
+    match function {
+        Some(function) => function.entry < node && node <= function.last,
+        None => false,
     }
 }
 
-// Whether a label is a taken label of the function of a node.
+// Whether a label is a taken label that is bound in the function of a node behind its `prolog`.
 fn is_target(
     nodes: &NodeList,
     shape: &Shape,
@@ -44,7 +44,7 @@ fn is_target(
 ) -> bool
     ensures { result ≡ is_target (text nodes.now shape.now labels.now) at label node }
 {
-    shape.taken(Label(label)) && is_same(shape.function_of(node), shape.function_of(at))
+    shape.taken(Label(label)) && is_behind(function_here(shape, at), node)
 }
 
 // Whether a function begins at a node.
