@@ -1,0 +1,52 @@
+// Work that is timed from outside. `names N` looks up each name of the instruction table N times; `text N` reads and checks a text of N
+// instructions, at most 65,000. Without words it does a little of both.
+#![tactic(auto)]
+
+mod names;
+mod texts;
+
+use lg_base::refusal::Stop;
+use names::found;
+use std::{env, io, str};
+use texts::{Counts, read_and_check};
+
+// How often, at most.
+const MOST: u32 = 10_000_000;
+
+// Looks up each name so many times.
+fn look_up(rt: &HostRuntime, times: u32) -> io::Result<()> {
+    let mut count = 0u64;
+    for _ in 0..times {
+        count = count.wrapping_add(u64::from(found()));
+    }
+    println!(rt; "{count} names found")
+}
+
+// Reads and checks a text of so many instructions.
+fn read(rt: &HostRuntime, instructions: u32) -> io::Result<()> {
+    match read_and_check(rt.alloc(), instructions) {
+        Ok(Counts { nodes, functions }) => println!(rt; "{nodes} nodes, {functions} functions"),
+        Err(Stop::Refused(refusal)) => println!(rt; "refused at line {}", refusal.line),
+        Err(Stop::OutOfMemory) => println!(rt; "out of memory"),
+    }
+}
+
+fn main(rt: HostRuntime) -> io::Result<()> {
+    let mut words = env::args(&rt)?;
+    let _ = words.next();
+    match (words.next(), words.next()) {
+        (Some(mode), Some(number)) => {
+            let number = str::parse::<u32>(&number).unwrap_or(1);
+            let times = if number < MOST { number } else { MOST };
+            match mode.as_str() {
+                "names" => look_up(&rt, times),
+                "text" => read(&rt, times),
+                _ => println!(rt; "no such work"),
+            }
+        }
+        _ => {
+            look_up(&rt, 1)?;
+            read(&rt, 64)
+        }
+    }
+}

@@ -1,0 +1,47 @@
+// A text of many instructions.
+
+ghost use Rattle.std.specs.Prelude.{◌≤◌, length, IfOk};
+
+use lg_base::refusal::{OutOfMemory, Stop};
+use lg_node::check;
+use lg_tst::parse;
+use std::alloc::Global;
+
+/// What a text has.
+pub struct Counts {
+    /// Its nodes.
+    pub nodes: u32,
+    /// Its functions.
+    pub functions: u32,
+}
+
+// A function with so many instructions, at most 65,000.
+fn text(alloc: Global, instructions: u32) -> Result<Vec<u8>, OutOfMemory>
+    ensures { IfOk result (λ t. length t.items ≤ 16777216) }
+{
+    let mut text = Vec::from_slice(alloc, b"prolog movi %r0 0\n")?;
+    let times = if instructions < 65_000 {
+        instructions
+    } else {
+        65_000
+    };
+    for i in 0..times {
+        text.extend_from_slice(b"addi %r0 %r0 1\n")?;
+    }
+    text.extend_from_slice(b"retr %r0 epilog\n")?;
+    Ok(text)
+}
+
+/// Reads and checks a text of so many instructions, at most 65,000.
+pub fn read_and_check(alloc: Global, instructions: u32) -> Result<Counts, Stop> {
+    let text = match text(alloc, instructions) {
+        Ok(text) => text,
+        Err(OutOfMemory) => return Err(Stop::OutOfMemory),
+    };
+    let unit = parse(alloc, &text)?;
+    let shape = check(alloc, &unit)?;
+    Ok(Counts {
+        nodes: unit.nodes.len(),
+        functions: shape.functions(),
+    })
+}
