@@ -1,4 +1,5 @@
 pub mod ArgumentLemmas
+pub mod CountLemmas
 pub mod FieldLemmas
 pub mod NumberLemmas
 pub mod PartLemmas

@@ -1,7 +1,6 @@
 -- Signed numbers in fields.
 use Rattle.std.proofs.Common.{◌≡◌, ℕ, suc, ◌+◌, ◌-◌, ◌<◌, ◌≤◌, ℤ, pos, negsuc, ◌+ℤ◌, ◌≤ℤ◌, refl, arith, nat_lt, Bool, true, false}
 use Rattle.std.proofs.lemmas.Int.{ints}
-use Rattle.std.proofs.lemmas.Bool.Decides.{nat_tests}
 use Rattle.lg_base.specs.Fields.{signed, bits_of}
 
 -- the bits of the number that stands in a field are those in the field

@@ -1,10 +1,10 @@
 -- Loads and stores in the parts of the memory.
-use Rattle.std.proofs.Common.{◌≡◌, ◌≢◌, ℕ, zero, suc, ◌+◌, ◌-◌, ◌/◌, ◌%◌, ◌<◌, ◌≤◌, ◌⊎◌, inl, inr, List, length, Option, Some, None, Bool, true, false, refl, sym, ap, ◌∙◌, subst, arith, ⊎_elim}
-use Rattle.std.specs.Prelude.{is_some, unwrap_or, slice_index, nat_le, nat_lt, ◌&&◌, ◌||◌, if◌then◌else◌}
+use Rattle.std.proofs.Common.{◌≡◌, ℕ, ◌+◌, ◌-◌, ◌/◌, ◌%◌, ◌<◌, ◌≤◌, ◌⊎◌, inl, inr, List, length, Option, Some, None, Bool, true, false, refl, sym, ap, ◌∙◌, arith, ⊎_elim}
+use Rattle.std.specs.Prelude.{is_some, unwrap_or, slice_index, ◌||◌, if◌then◌else◌}
 use Rattle.std.proofs.lemmas.Bool.{cases_lt, cases_eq}
 use mathlib.Core.Path.{fun_ext}
 use Rattle.lg_base.specs.Spaces.{mapped, number_at, byte_or_zero, loaded, stored, written, put_some, readable, raised, in_heap}
-use Rattle.lg_base.specs.Parts.{Parts, IsSized, data_base, args_base, heap_base, stack_base, has, in_part, byte_at, LiesIn, LiesInOnePart, lies_in}
+use Rattle.lg_base.specs.Parts.{Parts, IsSized, data_base, args_base, heap_base, stack_base, has, in_part, byte_at, lies_in}
 use Rattle.lg_base.proofs.SpaceLemmas.{mapped-each, mapped-all, number_at-shift, stored-out, stored-shift, stored-step, stored-none, put_some_same, put_some_other}
 
 -- a list of bytes is the part of the memory at a base

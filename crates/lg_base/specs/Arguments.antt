@@ -1,6 +1,6 @@
 -- The argument part: the words of the command, as C's main gets them.
-use Rattle.std.specs.Prelude.{◌≡◌, ℕ, ◌+◌, ◌*◌, List, [], ◌∷◌, ◌++◌, length, map, string_bytes, String, ◌<◌}
-use Rattle.std.specs.Int.{w64, to_le_bytes}
+use Rattle.std.specs.Prelude.{◌≡◌, ◌≤◌, ℕ, zero, suc, ◌+◌, ◌*◌, ◌/◌, ◌==◌, List, [], ◌∷◌, ◌++◌, length, take, drop, map, string_bytes, String, if◌then◌else◌}
+use Rattle.std.specs.Int.{w64, to_le_bytes, from_le_bytes}
 use Rattle.std.specs.declared.alloc.Global.{Global}
 use Rattle.lg_base.specs.Parts.{args_base}
 use Rattle.lg_base.specs.declared.refusal.Refusal.{Refusal}
@@ -31,3 +31,16 @@ most_args = 0x100000
 -- the refusal of words that do not fit
 abbrev pub args_too_long : Refusal
 args_too_long = record { kind = ArgsTooLong; line = 0 }
+
+-- how many of the first n words of 8 bytes stand before the first that is 0
+unfoldable pub words_before_zero : ℕ → List ℕ → ℕ
+words_before_zero zero bytes = 0
+words_before_zero (suc n) bytes = if from_le_bytes w64 (take 8 bytes) == 0 then 0 else suc (words_before_zero n (drop 8 bytes))
+
+-- the number of strings of an argument part: its pointers are not 0, and a word of 0 follows them
+abbrev pub argument_count : List ℕ → ℕ
+argument_count args = words_before_zero (length args / 8) args
+
+-- that number is the number of the words of which the argument part is made
+abbrev pub CountsArguments : Type 0
+CountsArguments = (words : List (List ℕ)) → length (args_of words) ≤ most_args → argument_count (args_of words) ≡ length words

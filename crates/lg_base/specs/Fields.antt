@@ -1,5 +1,5 @@
 -- Fields: runs of neighbouring bits of a word, and the numbers that they hold.
-use Rattle.std.specs.Prelude.{ℕ, suc, ◌+◌, ◌-◌, ◌*◌, ◌/◌, ◌%◌, ◌^◌, ℤ, pos, negsuc, nat_lt, if◌then◌else◌}
+use Rattle.std.specs.Prelude.{ℕ, suc, ◌+◌, ◌-◌, ◌/◌, ◌%◌, ◌^◌, ℤ, pos, negsuc, nat_lt, if◌then◌else◌}
 
 -- the len bits of a word from bit lo on
 abbrev pub part : ℕ → ℕ → ℕ → ℕ

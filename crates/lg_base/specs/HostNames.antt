@@ -1,5 +1,5 @@
 -- The host functions, in the order of their entries.
-use Rattle.std.specs.Prelude.{ℕ, ◌+◌, ◌*◌, ◌==◌, List, [], ◌∷◌, Option, find, codes, slice_index}
+use Rattle.std.specs.Prelude.{ℕ, ◌+◌, ◌*◌, ◌==◌, List, [], ◌∷◌, Option, find, codes}
 use Rattle.std.specs.Str.{bytes_eq}
 use Rattle.lg_base.specs.declared.host_name.HostName.{HostName}
 use Rattle.lg_base.specs.declared.host_name.HostName.TheVariants.{Printf, Puts, Putchar, Exit, Abort, Atoi, Malloc, Calloc, Free, Memcpy, Memset, Strlen, Strcmp}

@@ -1,5 +1,5 @@
 -- The memory of a run: four parts at fixed addresses, which never touch.
-use Rattle.std.specs.Prelude.{◌≡◌, ℕ, ◌+◌, ◌-◌, ◌≤◌, ◌⊎◌, ◌&&◌, ◌||◌, Bool, List, length, slice_index, nat_lt, nat_le, Option, Some, None, if◌then◌else◌}
+use Rattle.std.specs.Prelude.{◌≡◌, ℕ, ◌+◌, ◌-◌, ◌≤◌, ◌⊎◌, ◌&&◌, Bool, List, length, slice_index, nat_lt, nat_le, Option, Some, None, if◌then◌else◌}
 
 -- the bytes of each part
 pub record Parts : Type 0 where

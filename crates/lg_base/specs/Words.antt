@@ -1,6 +1,6 @@
 -- Words of 64 bits: numbers below 2 ^ 64, and the operators that the portable meaning and the three
 -- processors share. Arithmetic is modulo 2 ^ 64; signed operators read a word in two's complement.
-use Rattle.std.specs.Prelude.{ℕ, ◌+◌, ◌-◌, ◌*◌, ◌/◌, ◌%◌, ◌^◌, ◌==◌, ◌&&◌, ◌||◌, Bool, true, false, nat_lt, nat_le, ℤ, pos, negsuc, if◌then◌else◌, not}
+use Rattle.std.specs.Prelude.{ℕ, ◌+◌, ◌-◌, ◌*◌, ◌/◌, ◌%◌, ◌^◌, Bool, false, nat_lt, nat_le, ℤ, pos, negsuc, if◌then◌else◌, not}
 
 -- the signed view of a word
 abbrev pub signed_view : ℕ → ℤ

@@ -1,7 +1,8 @@
 // The argument part.
 
-ghost use Rattle.std.specs.Prelude.{◌≡◌, ◌<◌, ◌≤◌, ◌+◌, ◌*◌, ◌^◌, ◌↔◌, ◌++◌, length, Err, IfOk, OnOk, IsTrue};
-ghost use Rattle.lg_base.specs.Arguments.{texts_of, strings, pointers, args_of, most_args, args_too_long};
+ghost use Rattle.std.specs.Prelude.{◌≡◌, ◌<◌, ◌≤◌, ◌+◌, ◌*◌, ◌^◌, ◌↔◌, ◌++◌, length, take, drop, Err, IfOk, OnOk, IsTrue};
+ghost use Rattle.std.specs.Int.{w64, from_le_bytes};
+ghost use Rattle.lg_base.specs.Arguments.{texts_of, strings, pointers, args_of, most_args, args_too_long, argument_count, CountsArguments};
 ghost use Rattle.lg_base.specs.Parts.{args_base};
 ghost use Rattle.lg_base.specs.Lengths.{args_len};
 
@@ -89,3 +90,39 @@ pub fn args_image(alloc: Global, words: &Vec<String>) -> Result<ArgImage, Stop>
         Err(OutOfMemory) => Err(Stop::OutOfMemory),
     }
 }
+
+// The word of 8 bytes at a place, the lowest byte first.
+fn word_at(bytes: &[u8], at: usize) -> u64
+    requires { at + 8 ≤ length bytes.now }
+    ensures { result ≡ from_le_bytes w64 (take 8 (drop at bytes.now)) }
+{
+    u64::from_le_bytes([
+        bytes[at],
+        bytes[at + 1],
+        bytes[at + 2],
+        bytes[at + 3],
+        bytes[at + 4],
+        bytes[at + 5],
+        bytes[at + 6],
+        bytes[at + 7],
+    ])
+}
+
+/// The number of strings of an argument part: how many words of 8 bytes stand before the first that is 0. Any bytes have such a
+/// number; that of an argument part made of words is their number.
+pub fn argument_count(args: &[u8]) -> u64
+    ensures { result ≡ argument_count args.now }
+{
+    let words = args.len() / 8;
+    let mut count = 0;
+    while count < words && word_at(args, 8 * count) != 0 {
+        count += 1;
+    }
+    count as u64
+}
+
+/// The number of strings of an argument part is that of the words of which it is made. The function does nothing: its contract
+/// is the law.
+pub fn arguments_are_counted()
+    ensures { CountsArguments }
+{}

@@ -1,6 +1,5 @@
 mod ArgumentLemmas
 mod CallLemmas
-mod CountLemmas
 mod FaultLemmas
 mod OperatorLemmas
 pub mod RunLemmas

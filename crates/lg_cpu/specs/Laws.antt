@@ -1,12 +1,10 @@
--- What holds of every step of the RV64IM processor, and of its start.
-use Rattle.std.specs.Prelude.{◌≡◌, ◌≢◌, ℕ, ◌-◌, ◌%◌, ◌^◌, ◌<◌, ◌≤◌, List, [], ◌++◌, length, drop, slice_index, Some, ⊤}
+-- What holds of every step of the RV64IM processor.
+use Rattle.std.specs.Prelude.{◌≡◌, ◌≢◌, ℕ, ◌-◌, ◌%◌, ◌^◌, ◌<◌, ◌≤◌, List, [], ◌++◌, drop, slice_index, Some, ⊤}
 use Rattle.lg_base.specs.Layout.{code_base}
-use Rattle.lg_base.specs.Arguments.{args_of, most_args}
 use Rattle.lg_base.specs.Runs.{IsMachine}
 use Rattle.lg_host.specs.Host.{heap_end}
 use Rattle.lg_rv.specs.Spelling.{IsInstr, spelling}
 use Rattle.lg_rv.specs.declared.instruction.Instr.{Instr}
-use Rattle.lg_cpu.specs.Starts.{argument_count}
 use Rattle.lg_cpu.specs.Steps.{Progress, Goes, EndedWith, Faulted, Effect, machine}
 use Rattle.lg_cpu.specs.RvStep.{RvState, act, effect, rv_step}
 use Rattle.lg_cpu.specs.Machines.{Shown, CpuSays, run_of}
@@ -52,7 +50,3 @@ StaysSound = (code : List ℕ) (trash : ℕ) (q : RvState) → AreBytes code →
 -- ---- runs are those of a machine: one that is over stays, and what is written stays written
 abbrev pub RunsAreMachines : Type 0
 RunsAreMachines = (code : List ℕ) (trash : ℕ) → IsMachine (machine (effect code trash))
-
--- ---- the number of arguments is that of the words whose argument part the memory holds
-abbrev pub CountsArguments : Type 0
-CountsArguments = (words : List (List ℕ)) → length (args_of words) ≤ most_args → argument_count (args_of words) ≡ length words

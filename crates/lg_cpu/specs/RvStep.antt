@@ -26,7 +26,8 @@ use Rattle.lg_rv.specs.declared.instruction.RegOp.TheVariants.{Add, Slt, Sltu, X
 use Rattle.lg_rv.specs.Reading.{front_of}
 use Rattle.lg_cpu.specs.Steps.{Effect, EndedWith, Run, arrived, faults, stepped}
 use Rattle.lg_cpu.specs.HostSteps.{argument_words, put, behind_call}
-use Rattle.lg_cpu.specs.Starts.{start_bytes, argument_count}
+use Rattle.lg_base.specs.Arguments.{argument_count}
+use Rattle.lg_cpu.specs.Starts.{start_bytes}
 use Rattle.lg_cpu.specs.RvOperators.{reg_value, shift_value, is_taken}
 
 -- the program counter, the registers, the bytes of the memory by their addresses, and the heap mark

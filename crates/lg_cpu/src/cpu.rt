@@ -11,7 +11,7 @@ ghost use Rattle.lg_cpu.specs.Answers.{is_counted};
 use crate::answer::CpuStep;
 use crate::board::Board;
 use crate::riscv64::Riscv64;
-use crate::start::argument_count;
+use lg_base::args::argument_count;
 use lg_base::code::CodeBytes;
 use lg_base::image::{ArgImage, DataImage};
 use lg_base::memory::Memory;

@@ -1,6 +1,6 @@
-// What holds of every step and of the start, for the crates above. The functions do nothing: their contracts are the laws.
+// What holds of every step, for the crates above. The functions do nothing: their contracts are the laws.
 
-ghost use Rattle.lg_cpu.specs.Laws.{StepsAreThose, ExecutesWhatStands, FaultsChangeNothing, StaysSound, RunsAreMachines, CountsArguments};
+ghost use Rattle.lg_cpu.specs.Laws.{StepsAreThose, ExecutesWhatStands, FaultsChangeNothing, StaysSound, RunsAreMachines};
 
 /// A call of `step` makes the step of the definition, unless a write fails.
 pub fn steps_are_those_of_the_definition()
@@ -26,9 +26,4 @@ pub fn words_stay_words()
 /// Runs are those of a machine: one that is over stays, and what is written stays written.
 pub fn runs_are_machines()
     ensures { RunsAreMachines }
-{}
-
-/// The number of arguments at the start is that of the words of which the argument part is made.
-pub fn arguments_are_counted()
-    ensures { CountsArguments }
 {}

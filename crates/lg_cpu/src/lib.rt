@@ -7,6 +7,5 @@ mod board;
 pub mod cpu;
 pub mod laws;
 mod riscv64;
-mod start;
 #[cfg(test)]
 mod tests;

@@ -1,7 +1,7 @@
-use Rattle.std.proofs.Common.{◌≡◌, ◌≤◌, arith, ap, ◌∙◌, length, refl}
+use Rattle.std.proofs.Common.{◌≤◌, arith, ap, length, refl}
 use Rattle.lg_base.proofs.ArgumentLemmas.{length-args_of}
 use Rattle.lg_base.specs.Lengths.{args_len}
-use Rattle.lg_base.specs.Arguments.{texts_of, most_args, args_of}
+use Rattle.lg_base.specs.Arguments.{texts_of, most_args}
 use Rattle.lg_base.proofs.args.args_image.Goals as goal
 
 pub returns-then-not-fits-clause-refused : goal.returns-then-not-fits-clause-refused

@@ -1,7 +1,5 @@
-use Rattle.std.proofs.Common.{◌≡◌, ◌+◌, ◌*◌, ◌++◌, arith, ap, ◌∙◌, length, rules}
-use Rattle.std.specs.Int.{w64, to_le_bytes}
-use Rattle.lg_base.specs.Parts.{args_base}
-use Rattle.lg_base.specs.Arguments.{texts_of, args_of, pointers, strings}
+use Rattle.std.proofs.Common.{◌≡◌, arith, ap, length, rules}
+use Rattle.lg_base.specs.Arguments.{texts_of, args_of}
 use Rattle.lg_base.proofs.ArgumentLemmas.{length-args_of}
 use Rattle.lg_base.proofs.args.build.Goals as goal
 

@@ -1,4 +1,4 @@
-use Rattle.std.proofs.Common.{◌≡◌, ◌+◌, ◌*◌, ◌≤◌, ◌++◌, drop}
+use Rattle.std.proofs.Common.{◌≡◌, ◌+◌, ◌*◌, ◌++◌, drop}
 use Rattle.std.specs.Prelude.{sum_by, length}
 use Rattle.lg_base.specs.Parts.{args_base}
 use Rattle.lg_base.specs.Arguments.{texts_of, pointers}

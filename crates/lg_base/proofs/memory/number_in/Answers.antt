@@ -1,6 +1,5 @@
-use Rattle.std.proofs.Common.{◌≡◌, ◌+◌, ◌-◌, ◌*◌, ◌<◌, sym, ap, ◌∙◌, arith, add-zero}
+use Rattle.std.proofs.Common.{◌≡◌, ◌+◌, ◌-◌, sym, arith}
 use Rattle.std.specs.Prelude.{slice_index}
-use Rattle.lg_base.specs.Spaces.{number_at}
 use Rattle.lg_base.proofs.SpaceLemmas.{number_at-none, number_at-step, number_at-room}
 use Rattle.lg_base.proofs.memory.number_in.Goals as goal
 

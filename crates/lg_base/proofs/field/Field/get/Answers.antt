@@ -1,4 +1,4 @@
-use Rattle.std.proofs.Common.{◌*◌, ◌%◌, ◌^◌, ◌-◌, ◌/◌, bit_and, ap, ◌∙◌, arith}
+use Rattle.std.proofs.Common.{◌^◌, ◌-◌, ◌/◌, bit_and, ap, ◌∙◌, arith}
 use Rattle.std.proofs.lemmas.Nat.{and_mask, one_shl}
 use Rattle.lg_base.proofs.field.Field.get.Goals as goal
 

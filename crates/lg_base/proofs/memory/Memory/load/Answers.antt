@@ -1,4 +1,4 @@
-use Rattle.std.proofs.Common.{◌≡◌, ◌≤◌, ◌<◌, sym, ap, ◌∙◌, arith, true, false}
+use Rattle.std.proofs.Common.{◌≡◌, ◌≤◌, sym, ap, ◌∙◌, true, false}
 use Rattle.lg_base.specs.Parts.{Parts, lies_in, byte_at, data_base, args_base, heap_base, stack_base}
 use Rattle.lg_base.specs.Spaces.{mapped, number_at, byte_or_zero}
 use Rattle.std.specs.Prelude.{Some, None, if◌then◌else◌}

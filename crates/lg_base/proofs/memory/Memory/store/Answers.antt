@@ -1,4 +1,4 @@
-use Rattle.std.proofs.Common.{◌≡◌, ◌≤◌, ◌<◌, ◌-◌, length, sym, ap, ◌∙◌, arith, true, false}
+use Rattle.std.proofs.Common.{◌≡◌, ◌≤◌, ◌-◌, length, sym, ap, ◌∙◌, arith, true, false}
 use Rattle.lg_base.specs.Parts.{Parts, IsSized, lies_in, byte_at, data_base, args_base, heap_base, stack_base}
 use Rattle.lg_base.specs.Spaces.{mapped, written}
 use Rattle.std.specs.Prelude.{slice_index}

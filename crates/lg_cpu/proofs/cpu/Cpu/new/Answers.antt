@@ -1,6 +1,6 @@
 use Rattle.std.proofs.Common.{◌∙◌, ap}
 use Rattle.lg_cpu.specs.RvStep.{start_registers, start_state}
-use Rattle.lg_cpu.specs.Starts.{argument_count}
+use Rattle.lg_base.specs.Arguments.{argument_count}
 use Rattle.lg_cpu.proofs.StartLemmas.{start_is}
 use Rattle.lg_cpu.proofs.ShownLemmas.{same_state, same_shown}
 use Rattle.lg_cpu.proofs.cpu.Cpu.new.Goals as goal

@@ -1,6 +1,6 @@
 use Rattle.std.proofs.Common.{◌/◌, length, ◌∙◌, sym, arith}
-use Rattle.lg_cpu.proofs.StartLemmas.{one_more, no_more, all_counted}
-use Rattle.lg_cpu.proofs.start.argument_count.Goals as goal
+use Rattle.lg_base.proofs.CountLemmas.{one_more, no_more, all_counted}
+use Rattle.lg_base.proofs.args.argument_count.Goals as goal
 
 pub loop-count-preserved : goal.loop-count-preserved
 loop-count-preserved c =

@@ -1,6 +1,6 @@
 use Rattle.std.proofs.Common.{◌≡◌, ◌+◌, ◌-◌, ◌*◌, ◌≤◌, drop}
-use Rattle.lg_cpu.specs.Starts.{words_before_zero, argument_count}
-use Rattle.lg_cpu.proofs.start.argument_count.Given as goal
+use Rattle.lg_base.specs.Arguments.{words_before_zero, argument_count}
+use Rattle.lg_base.proofs.args.argument_count.Given as goal
 
 abbrev pub invariant-loop-count : goal.invariant-loop-count
 invariant-loop-count l = record {
