@@ -4,7 +4,7 @@ use Rattle.std.specs.Prelude.{◌||◌, if◌then◌else◌}
 use Rattle.std.proofs.lemmas.List.{reverse-append}
 use mathlib.Core.Path.{fun_ext}
 use Rattle.lg_cells.specs.Cells.{within}
-use Rattle.lg_mean.specs.States.{Frame, in_locals, in_any_locals, is_part}
+use Rattle.lg_meaning.specs.States.{Frame, in_locals, in_any_locals, is_part}
 use Rattle.lg_mean.specs.Machines.{AreStacked}
 
 pub stacked_len : (f : Frame) (fs : List Frame) → AreStacked f fs → f.sp + 272 * length fs ≤ 0x40000000

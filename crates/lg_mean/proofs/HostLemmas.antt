@@ -10,7 +10,7 @@ use Rattle.lg_host.specs.Host.{Mem, Host, Gives, Exits, Undefined, heap_end, rou
 use Rattle.lg_host.specs.declared.host_end.HostEnd.{HostEnd}
 use Rattle.lg_host.specs.declared.host_end.HostEnd.TheVariants as end
 use Rattle.lg_cells.specs.Cells.{within}
-use Rattle.lg_mean.specs.States.{Frame, in_any_locals, is_part}
+use Rattle.lg_meaning.specs.States.{Frame, in_any_locals, is_part}
 
 -- the mark behind a call, if there is one
 abbrev pub AllowsMark : ℕ → Host → Type 0

@@ -1,7 +1,7 @@
 -- The last of the labels that have an address, label by label.
 use Rattle.std.proofs.Common.{◌≡◌, ℕ, ◌+◌, suc, Bool, List, Option, None, refl, arith}
 use Rattle.lg_node.specs.declared.place.Place.{Place}
-use Rattle.lg_mean.specs.Steps.{later, landing, last_landing}
+use Rattle.lg_meaning.specs.Steps.{later, landing, last_landing}
 
 pub last_landing-none : (test : ℕ → ℕ → Bool) (places : List (Option Place)) (A : List ℕ) (w : ℕ) → None ≡ last_landing test places A w 0
 unfolding last_landing

@@ -2,8 +2,8 @@
 use Rattle.std.proofs.Common.{◌≡◌, ℕ, Bool, List, Option, ap, ◌∙◌, inl}
 use Rattle.std.proofs.KnownBytes.{Appends-nil}
 use Rattle.lg_mean.specs.declared.mean_step.MeanStep.{MeanStep}
-use Rattle.lg_mean.specs.States.{State}
-use Rattle.lg_mean.specs.Steps.{Outcome, Goes, Ends, Undefined}
+use Rattle.lg_meaning.specs.States.{State}
+use Rattle.lg_meaning.specs.Steps.{Outcome, Goes, Ends, Undefined}
 use Rattle.lg_mean.specs.Says.{Does, Steps, answer_of}
 
 pub does_steps : (o : Outcome) (line : ℕ) (old : State) (went : Bool) (a : MeanStep) (new : State) (t : Option (List ℕ)) (f : ℕ) → a ≡ answer_of went line → Does o old went new → Steps o line old a new t t f f

@@ -14,9 +14,9 @@ use Rattle.lg_node.specs.Preparations.{pushed_of}
 use Rattle.lg_node.specs.Checks.{is_begun, may_stand_outside}
 use Rattle.lg_node.specs.Shapes.{TextShape}
 use Rattle.lg_node.specs.ShapeLaws.{IsWellShaped}
-use Rattle.lg_mean.specs.States.{State}
+use Rattle.lg_meaning.specs.States.{State}
 use Rattle.lg_mean.specs.Says.{HasBegun, CanBegin, Suits}
-use Rattle.lg_mean.specs.Fits.{RunsIn, IsTopOf, Fits}
+use Rattle.lg_meaning.specs.Fits.{RunsIn, IsTopOf, Fits}
 
 whole : (f : Function) → 272 + f.locals ≤ frame_of f
 whole f = omega arith

@@ -4,7 +4,7 @@ use Rattle.lg_cells.specs.Memories.{Marked, byte_at, room_at}
 use Rattle.lg_operators.specs.declared.carry.Carry.{Carry}
 use Rattle.lg_mean.specs.declared.frame.KeptFrame.{KeptFrame}
 use Rattle.lg_mean.specs.declared.machine.Machine.TheInside.{Inside}
-use Rattle.lg_mean.specs.States.{Frame, State, is_part}
+use Rattle.lg_meaning.specs.States.{Frame, State, is_part}
 
 pub record MachineState : Type 0 where
   pub at : ℕ

@@ -15,14 +15,10 @@ use Rattle.lg_node.specs.Nodes.{LabelledNodes}
 use Rattle.lg_node.specs.Shapes.{TextShape}
 use Rattle.lg_node.specs.Functions.{frame_of}
 use Rattle.lg_cells.specs.Memories.{without}
-use Rattle.lg_mean.specs.States.{Frame, State}
-use Rattle.lg_mean.specs.Steps.{Outcome, Goes, Ends, Undefined, Text, operand_at, function_here}
+use Rattle.lg_meaning.specs.States.{Frame, State}
+use Rattle.lg_meaning.specs.Steps.{Outcome, Goes, Ends, Undefined, Text, operand_at, function_here}
 use Rattle.lg_mean.specs.declared.mean_step.MeanStep.{MeanStep}
 use Rattle.lg_mean.specs.declared.mean_step.MeanStep.TheVariants as mean
-
--- what the steps of a text know of it
-abbrev pub text : LabelledNodes → TextShape → List ℕ → Text
-text nodes shape addresses = record { addresses = addresses; places = nodes.places; functions = shape.functions; taken = shape.taken }
 
 -- the answer and the new state of a node that neither ends the run nor writes
 abbrev pub Does : Outcome → State → Bool → State → Type 0

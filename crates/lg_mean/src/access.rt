@@ -3,9 +3,9 @@
 ghost use Rattle.std.specs.Prelude.{◌≡◌, ◌<◌, ◌≤◌, ◌-◌, ◌+◌, ◌%◌, ◌^◌, ◌==◌, ◌&&◌, ◌⊎◌, ℕ, length, Bool, true, false, if◌then◌else◌, IsTrue, Option, None};
 ghost use Rattle.lg_base.specs.Spaces.{loaded, stored};
 ghost use Rattle.lg_cells.specs.Memories.{writable};
-ghost use Rattle.lg_mean.specs.States.{is_open};
+ghost use Rattle.lg_meaning.specs.States.{is_open};
 ghost use Rattle.lg_operators.specs.Operators.{width, store_width};
-ghost use Rattle.lg_mean.specs.Steps.{read, load_to, store_to, load_step, store_step, address, sum_value, is_indexed, stored_operand, on_with_carry, quiet};
+ghost use Rattle.lg_meaning.specs.Steps.{read, load_to, store_to, load_step, store_step, address, sum_value, is_indexed, stored_operand, on_with_carry, quiet};
 ghost use Rattle.lg_mean.specs.Machines.{state_of};
 ghost use Rattle.lg_mean.specs.Says.{AreKnown, Does};
 

@@ -2,9 +2,10 @@
 
 ghost use Rattle.std.specs.Prelude.{◌≡◌, ◌<◌, ◌-◌, ◌^◌, ◌∷◌, [], ℕ, length, slice_get, Bool, true, false, if◌then◌else◌};
 ghost use Rattle.lg_operators.specs.Operators.{binary_value, is_carried};
-ghost use Rattle.lg_mean.specs.Steps.{binary_step, carried_step, carried_to, wide_step, unary_step, movi_step, branch, branch_step, branch_sum_step, jump_step, retval_step, getarg_step, quiet, on};
+ghost use Rattle.lg_meaning.specs.Steps.{binary_step, carried_step, carried_to, wide_step, unary_step, movi_step, branch, branch_step, branch_sum_step, jump_step, retval_step, getarg_step, quiet, on};
 ghost use Rattle.lg_mean.specs.Machines.{state_of};
-ghost use Rattle.lg_mean.specs.Says.{AreKnown, IsKnown, Does, text};
+ghost use Rattle.lg_meaning.specs.Texts.{text};
+ghost use Rattle.lg_mean.specs.Says.{AreKnown, IsKnown, Does};
 
 use crate::machine::{Machine, node_of_label, operand, slot};
 use crate::targets::jump_target;

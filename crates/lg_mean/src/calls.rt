@@ -4,10 +4,11 @@ ghost use Rattle.std.specs.Prelude.{◌≡◌, ◌<◌, ◌≤◌, ◌-◌, ◌+
 ghost use Rattle.lg_node.specs.Functions.{frame_of};
 ghost use Rattle.lg_host.specs.Host.{HostSays, host_of, memory, outcome};
 ghost use Rattle.lg_cells.specs.Memories.{byte_at, room_at};
-ghost use Rattle.lg_mean.specs.States.{is_open};
-ghost use Rattle.lg_mean.specs.Steps.{prepare_step, ellipsis_step, push_step, started, kept, resumed, called, enter, begun, prolog_step, back_to, leave, ret_step, quiet, on, function_here};
+ghost use Rattle.lg_meaning.specs.States.{is_open};
+ghost use Rattle.lg_meaning.specs.Steps.{prepare_step, ellipsis_step, push_step, started, kept, resumed, called, enter, begun, prolog_step, back_to, leave, ret_step, quiet, on, function_here};
 ghost use Rattle.lg_mean.specs.Machines.{state_of, regs_of, frame_in};
-ghost use Rattle.lg_mean.specs.Says.{AreKnown, Does, Leaves, WentUp, text, HasBegun, CanBegin};
+ghost use Rattle.lg_meaning.specs.Texts.{text};
+ghost use Rattle.lg_mean.specs.Says.{AreKnown, Does, Leaves, WentUp, HasBegun, CanBegin};
 
 use crate::frame::KeptFrame;
 use crate::machine::{Machine, operand};

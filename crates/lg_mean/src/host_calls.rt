@@ -3,8 +3,8 @@
 ghost use Rattle.std.specs.Prelude.{◌≡◌, ◌<◌, ◌≤◌, ◌-◌, ◌+◌, ◌^◌, ◌∷◌, [], ℕ, take, length, Some};
 ghost use Rattle.lg_host.specs.Host.{HostSays, host_of, memory, outcome};
 ghost use Rattle.lg_cells.specs.Memories.{byte_at, room_at};
-ghost use Rattle.lg_mean.specs.States.{is_open};
-ghost use Rattle.lg_mean.specs.Steps.{call_host, resumed};
+ghost use Rattle.lg_meaning.specs.States.{is_open};
+ghost use Rattle.lg_meaning.specs.Steps.{call_host, resumed};
 ghost use Rattle.lg_mean.specs.Machines.{state_of, regs_of};
 ghost use Rattle.lg_mean.specs.Says.{Steps};
 

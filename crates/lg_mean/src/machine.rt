@@ -1,8 +1,8 @@
 // The state of the portable machine, and how it goes on.
 
 ghost use Rattle.std.specs.Prelude.{◌≡◌, ◌<◌, ◌≤◌, ◌-◌, ◌+◌, ◌^◌, ◌∷◌, ◌++◌, [], ℕ, length, slice_index_or, take, true, Some, None};
-ghost use Rattle.lg_mean.specs.States.{value, reg, named, number, is_open};
-ghost use Rattle.lg_mean.specs.Steps.{on, on_with_carry, to, with_reg, operand_at, node_of_label, node_in, slot};
+ghost use Rattle.lg_meaning.specs.States.{value, reg, named, number, is_open};
+ghost use Rattle.lg_meaning.specs.Steps.{on, on_with_carry, to, with_reg, operand_at, node_of_label, node_in, slot};
 ghost use Rattle.lg_mean.specs.Machines.{state_of, regs_of};
 ghost use Rattle.lg_mean.specs.Says.{IsKnown};
 

@@ -3,10 +3,11 @@
 ghost use Rattle.std.specs.Prelude.{◌≡◌, ◌<◌, ◌≤◌, ◌-◌, ◌+◌, ◌^◌, ℕ, length, IfSome, IfNone, Some, None, [], slice_get};
 ghost use Rattle.std.specs.Io.KnownBytes.{Appends};
 ghost use Rattle.lg_node.specs.Shapes.{IsShapeOf};
-ghost use Rattle.lg_mean.specs.Fits.{Fits};
+ghost use Rattle.lg_meaning.specs.Fits.{Fits};
 ghost use Rattle.lg_mean.specs.Machines.{state_of};
 ghost use Rattle.lg_mean.specs.Says.{Steps};
-ghost use Rattle.lg_mean.specs.Portables.{step, line_at, over_of, counts};
+ghost use Rattle.lg_meaning.specs.Texts.{step, line_at};
+ghost use Rattle.lg_mean.specs.Portables.{over_of, counts};
 
 use crate::machine::Machine;
 use crate::mean_step::MeanStep;

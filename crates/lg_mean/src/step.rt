@@ -3,10 +3,11 @@
 ghost use Rattle.std.specs.Prelude.{◌≡◌, ◌<◌, ◌≤◌, ◌-◌, ◌+◌, ◌^◌, ◌∷◌, [], ℕ, take, length, Bool, true, false, Some, None, if◌then◌else◌, IsTrue};
 ghost use Rattle.lg_op.specs.declared.op.Op.TheVariants as op_of;
 ghost use Rattle.lg_op.specs.declared.op.ControlOp.TheVariants as control;
-ghost use Rattle.lg_mean.specs.States.{value};
-ghost use Rattle.lg_mean.specs.Steps.{need, quiet, on, enter, prolog_step, leave, ret_step, function_here, call_node, call_operand, call_named, call_word, call_step, entry_target, operand_at, plain_step, node_step, node_of_label, begun};
+ghost use Rattle.lg_meaning.specs.States.{value};
+ghost use Rattle.lg_meaning.specs.Steps.{need, quiet, on, enter, prolog_step, leave, ret_step, function_here, call_node, call_operand, call_named, call_word, call_step, entry_target, operand_at, plain_step, node_step, node_of_label, begun};
 ghost use Rattle.lg_mean.specs.Machines.{state_of};
-ghost use Rattle.lg_mean.specs.Says.{AreKnown, IsKnown, Does, Quiet, Steps, text, HasBegun, CanBegin, Suits, stays, answer_of};
+ghost use Rattle.lg_meaning.specs.Texts.{text};
+ghost use Rattle.lg_mean.specs.Says.{AreKnown, IsKnown, Does, Quiet, Steps, HasBegun, CanBegin, Suits, stays, answer_of};
 
 use crate::calls::frame_size;
 use crate::machine::{Machine, node_of_label, operand};

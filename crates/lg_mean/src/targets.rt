@@ -3,8 +3,8 @@
 ghost use Rattle.std.specs.Prelude.{◌≡◌, ◌<◌, ◌≤◌, ℕ, length, Bool, Option, Some, None, slice_get, slice_index_or, false, IfSome};
 ghost use Rattle.std.specs.Option.{option_flatten};
 ghost use Rattle.lg_node.specs.Functions.{frame_of};
-ghost use Rattle.lg_mean.specs.Steps.{function_here, later, landing, last_landing, is_target, is_entry_label, jump_target, entry_target, is_behind, begins};
-ghost use Rattle.lg_mean.specs.Says.{text};
+ghost use Rattle.lg_meaning.specs.Steps.{function_here, later, landing, last_landing, is_target, is_entry_label, jump_target, entry_target, is_behind, begins};
+ghost use Rattle.lg_meaning.specs.Texts.{text};
 
 use lg_node::{Function, Label, NodeList, Place, Shape};
 

@@ -1,6 +1,6 @@
 use Rattle.std.proofs.Common.{sym, ap, ◌∙◌}
-use Rattle.lg_mean.specs.Steps.{later, landing, is_target}
-use Rattle.lg_mean.specs.Says.{text}
+use Rattle.lg_meaning.specs.Steps.{later, landing, is_target}
+use Rattle.lg_meaning.specs.Texts.{text}
 use Rattle.lg_mean.proofs.LandingLemmas.{last_landing-none, last_landing-next}
 use Rattle.lg_mean.proofs.targets.jump_target.Goals as goal
 

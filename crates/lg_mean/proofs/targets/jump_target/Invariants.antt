@@ -1,6 +1,6 @@
 use Rattle.std.proofs.Common.{◌≡◌}
-use Rattle.lg_mean.specs.Steps.{last_landing, is_target}
-use Rattle.lg_mean.specs.Says.{text}
+use Rattle.lg_meaning.specs.Steps.{last_landing, is_target}
+use Rattle.lg_meaning.specs.Texts.{text}
 use Rattle.lg_mean.proofs.targets.jump_target.Given as goal
 
 abbrev pub invariant-loop-label : goal.invariant-loop-label

@@ -1,6 +1,6 @@
 use Rattle.std.proofs.Common.{◌≡◌, ℕ, Bool, ap, refl, inr, ◌∙◌, map, reverse, ◌-◌, arith}
 use Rattle.lg_cells.specs.Memories.{opened}
-use Rattle.lg_mean.specs.States.{Frame}
+use Rattle.lg_meaning.specs.States.{Frame}
 use Rattle.lg_mean.specs.Machines.{MachineState, frame_in}
 use Rattle.lg_mean.proofs.FrameLemmas.{stacked_top, part_begin}
 use Rattle.lg_mean.proofs.machine.Machine.begin.Goals as goal

@@ -1,7 +1,7 @@
 use Rattle.std.proofs.Common.{ℕ, Bool, map, reverse, take, ◌∷◌, subst}
 use Rattle.lg_host.specs.Host.{Mem, HostSays, host_of, memory, outcome}
 use Rattle.lg_cells.specs.Memories.{byte_at, room_at}
-use Rattle.lg_mean.specs.States.{is_part}
+use Rattle.lg_meaning.specs.States.{is_part}
 use Rattle.lg_mean.specs.Machines.{frame_in}
 use Rattle.lg_mean.proofs.HostLemmas.{IsLater, host_mark, host_later}
 use Rattle.lg_mean.proofs.machine.Machine.call_out.Goals as goal

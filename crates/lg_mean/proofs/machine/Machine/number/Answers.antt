@@ -1,7 +1,7 @@
 use Rattle.std.proofs.Common.{ap, sym, ◌∙◌, map, reverse, ◌∷◌}
 use Rattle.lg_cells.specs.Memories.{byte_at}
 use Rattle.lg_cells.proofs.PlaceLemmas.{byte_room}
-use Rattle.lg_mean.specs.States.{is_part}
+use Rattle.lg_meaning.specs.States.{is_part}
 use Rattle.lg_mean.specs.Machines.{frame_in}
 use Rattle.lg_mean.proofs.ReadLemmas.{loaded_is_read}
 use Rattle.lg_mean.proofs.machine.Machine.number.Goals as goal

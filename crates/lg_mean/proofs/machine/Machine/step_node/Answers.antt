@@ -1,6 +1,6 @@
-use Rattle.lg_mean.specs.Steps.{node_step}
+use Rattle.lg_meaning.specs.Steps.{node_step}
 use Rattle.lg_mean.specs.Machines.{state_of}
-use Rattle.lg_mean.specs.Says.{text}
+use Rattle.lg_meaning.specs.Texts.{text}
 use Rattle.lg_mean.proofs.StepLemmas.{does_steps}
 use Rattle.lg_mean.proofs.machine.Machine.step_node.Goals as goal
 

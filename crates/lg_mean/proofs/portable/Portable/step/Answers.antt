@@ -2,7 +2,7 @@ use Rattle.std.proofs.Common.{◌≡◌, ℕ, ap, sym, ◌∙◌, length, subst,
 use Rattle.std.specs.Prelude.{slice_get}
 use Rattle.lg_node.specs.ShapeLaws.{IsWellShaped}
 use Rattle.lg_mean.specs.Says.{Suits}
-use Rattle.lg_mean.specs.Fits.{Fits}
+use Rattle.lg_meaning.specs.Fits.{Fits}
 use Rattle.lg_mean.specs.Machines.{state_of}
 use Rattle.lg_mean.specs.Portables.{PortableState}
 use Rattle.lg_mean.proofs.SuitLemmas.{suits}

@@ -36,7 +36,7 @@ use Rattle.lg_cells.specs.Memories.{without, writable}
 use Rattle.lg_operators.specs.declared.carry.Carry.{Carry}
 use Rattle.lg_operators.specs.declared.carry.Carry.TheVariants as carry
 use Rattle.lg_operators.specs.Operators.{binary_value, is_carried, carry_in, carried_value, carried_out, holds, branch_sum_value, branch_sum_goes, wide_value, unary_value, is_move, width, typed, store_width}
-use Rattle.lg_mean.specs.States.{Frame, State, value, named, is_open}
+use Rattle.lg_meaning.specs.States.{Frame, State, value, named, is_open}
 
 -- what a step does: it goes to a state and writes bytes, ends the run with a status, or is undefined
 pub data Outcome : Type 0 where

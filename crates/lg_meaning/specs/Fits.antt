@@ -10,8 +10,8 @@ use Rattle.lg_node.specs.Functions.{home, frame_of}
 use Rattle.lg_node.specs.Preparations.{pushed, variadic}
 use Rattle.lg_node.specs.Checks.{is_begun}
 use Rattle.lg_node.specs.Shapes.{TextShape}
-use Rattle.lg_mean.specs.States.{Frame, State, is_open}
-use Rattle.lg_mean.specs.Steps.{function_here}
+use Rattle.lg_meaning.specs.States.{Frame, State, is_open}
+use Rattle.lg_meaning.specs.Steps.{function_here}
 
 -- the running frame is one of a function: before its `prolog` it has no size yet, and can get that of the function; then it has it
 pub record IsOf (f : Function) (s : State) : Type 0 where

@@ -1,0 +1,4 @@
+pub mod Fits
+pub mod States
+pub mod Steps
+pub mod Texts
