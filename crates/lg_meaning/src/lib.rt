@@ -1,5 +1,3 @@
 //! The portable meaning of a text, as definitions: the state, its steps by the instruction table, and when a state fits the
-//! shape of a text. The functions of `laws` do nothing: their contracts are laws for the crates above.
+//! shape of a text.
 #![tactic(auto)]
-
-pub mod laws;
