@@ -36,7 +36,7 @@ first_open image args a b e =
     one_of (within data_base (length image) a) (within args_base (length args) a) (within heap_base (heap_base - heap_base) a || in_any_locals (start_frame (argument_count args) ∷ []) a) (slice_index image (a - data_base)) (slice_index args (a - args_base)) b e
 
 -- the first frame of each function fits the stack
-frame_small : (f : Function) → f.locals ≤ 65536 → 0x3FF00010 + frame_of f ≤ 0x40000000
+pub frame_small : (f : Function) → f.locals ≤ 65536 → 0x3FF00010 + frame_of f ≤ 0x40000000
 frame_small f h = omega arith
 
 least_node : (n : ℕ) → n ≤ 0 → 0 ≡ n

@@ -1,5 +1,7 @@
 -- When a portable state fits the shape of a text.
 use Rattle.std.specs.Prelude.{◌≡◌, ◌≢◌, ℕ, ◌+◌, ◌<◌, ◌≤◌, Bool, true, false, Option, Some, None, List, [], ◌∷◌, length, slice_get}
+use Rattle.lg_base.specs.Parts.{heap_base}
+use Rattle.lg_host.specs.Host.{heap_end}
 use Rattle.lg_op.specs.declared.op.Op.{Op}
 use Rattle.lg_op.specs.declared.op.Op.TheVariants as op
 use Rattle.lg_op.specs.declared.op.ControlOp.TheVariants as control
@@ -75,3 +77,13 @@ pub record Fits (l : LabelledNodes) (shape : TextShape) (s : State) : Type 0 whe
   pub pushed : length s.pushed ≡ pushed l.nodes s.at
   pub variadic : s.variadic ≡ variadic l.nodes s.at
   pub memory : (a b : ℕ) → s.mem a ≡ Some b → is_open s a ≡ true
+
+-- the heap mark stands in the heap
+pub record IsHeapMark (mark : ℕ) : Type 0 where
+  pub low : heap_base ≤ mark
+  pub high : mark ≤ heap_end
+
+-- a state that fits, and whose heap mark stands in the heap; without the latter a host function could write below the heap
+pub record FitsWell (l : LabelledNodes) (shape : TextShape) (s : State) : Type 0 where
+  pub fits : Fits l shape s
+  pub heap : IsHeapMark s.mark
