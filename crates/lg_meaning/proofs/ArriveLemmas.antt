@@ -35,6 +35,7 @@ module _ (l : LabelledNodes) (shape : TextShape) (s : State) (n : Node) (x : AtN
       inside = rw g.at lt;
       top = subst (λ (i : ℕ). IsTopOf l shape t (home l.nodes i)) (sym g.at) top;
       linked = rw (g.frame, g.callers) x.well.fits.linked;
+      low = rw g.frame x.well.fits.low;
       pushed = g.pushed ∙ sym (ap (pushed l.nodes) g.at);
       variadic = g.variadic ∙ sym (ap (variadic l.nodes) g.at);
       memory = g.memory;

@@ -100,6 +100,7 @@ module _ (l : LabelledNodes) (shape : TextShape) (s : State) (n : Node) (x : AtN
             fits = record {
               inside = home_within l.nodes (s.at + 1) s.at next.0;
               top = subst (IsTopOf l shape (on (begun s f))) (sym next.0) (behind_top l shape s n x (on (begun s f)) (s.at + 1) s.at g.0 g.1 next.1 refl (ap frame_of one) (ap (λ u. u.locals) one));
+              low = subst (λ (u : Function). 0x3FF00010 + frame_of u ≤ s.frame.sp) same fresh.2;
               linked = relinked l shape s.frame (frame_of f) f.locals s.callers x.well.fits.linked;
               pushed = x.well.fits.pushed ∙ sym (ap pushed_of behind);
               variadic = x.well.fits.variadic ∙ sym (ap variadic_of behind);
@@ -127,6 +128,7 @@ module _ (l : LabelledNodes) (shape : TextShape) (s : State) (n : Node) (x : AtN
           inside = home_within l.nodes s.frame.back c.function.entry h;
           top = subst (IsTopOf l shape t) (sym h) (behind_top l shape s n x t (c.at + 1) c.function.entry f.0 f.1 next.1 c.back (c.size ∙ ap frame_of same) (c.locals ∙ ap (λ u. u.locals) same));
           linked = linked.1;
+          low = (let top : 0x3FF00010 + s.frame.size ≤ s.frame.sp = x.well.fits.low in let below : s.frame.sp + g.size ≡ g.sp = c.below in omega arith);
           pushed = sym (ap pushed_of none);
           variadic = sym (ap variadic_of none);
           memory = λ a b m.
@@ -164,6 +166,7 @@ module _ (l : LabelledNodes) (shape : TextShape) (s : State) (n : Node) (x : AtN
               fits = record {
                 inside = home_within l.nodes f.entry k there;
                 top = subst (IsTopOf l shape t) (sym there) (before_top l shape s n x t k f is is.entry refl refl room);
+                low = omega (arith, room);
                 linked = (
                   record {
                     at = s.at;

@@ -60,6 +60,7 @@ module _ (l : LabelledNodes) (shape : TextShape) (is : IsShapeOf l shape) (has :
     inside = some_node l.nodes is.accepted.end;
     top = top_at (home l.nodes 0) refl;
     linked = (refl, refl);
+    low = omega arith;
     pushed = sym (ap pushed_of (prepared_start l.nodes));
     variadic = sym (ap variadic_of (prepared_start l.nodes));
     memory = first_open image args;

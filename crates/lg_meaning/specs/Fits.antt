@@ -69,11 +69,12 @@ abbrev pub AreLinked : LabelledNodes → TextShape → Frame → List Frame → 
 AreLinked l shape f [] = (f.sp ≡ 0x40000000) × (length f.args ≡ 2)
 AreLinked l shape f (g ∷ gs) = IsCaller l shape f g × AreLinked l shape g gs
 
--- a state fits the shape of nodes
+-- a state fits the shape of nodes; no frame begins below 0x3FF00010, since each begins below those of its callers
 pub record Fits (l : LabelledNodes) (shape : TextShape) (s : State) : Type 0 where
   pub inside : s.at < length l.nodes
   pub top : IsTopOf l shape s (home l.nodes s.at)
   pub linked : AreLinked l shape s.frame s.callers
+  pub low : 0x3FF00010 + s.frame.size ≤ s.frame.sp
   pub pushed : length s.pushed ≡ pushed l.nodes s.at
   pub variadic : s.variadic ≡ variadic l.nodes s.at
   pub memory : (a b : ℕ) → s.mem a ≡ Some b → is_open s a ≡ true
