@@ -1,6 +1,10 @@
 -- Runs of the portable meaning are those of a machine, go step by step, and keep the fit.
 use Rattle.std.proofs.Common.{◌≡◌, ◌≢◌, ℕ, zero, suc, List, [], refl, sym, ap, ◌∙◌, subst, append-nil, add-one, arith}
+use Rattle.std.specs.List.{All}
+use Rattle.std.proofs.lemmas.List.Elements.{All-get_or}
+use Rattle.std.proofs.lemmas.Option.{slice_get_within, get_or_from_slice_get}
 use Rattle.lg_base.specs.Runs.{Status, Running, Ended, Bad, IsPrefixOf, iter}
+use Rattle.lg_op.specs.Nodes.{InForm}
 use Rattle.lg_node.specs.Nodes.{LabelledNodes}
 use Rattle.lg_node.specs.Shapes.{TextShape, IsShapeOf}
 use Rattle.lg_node.specs.ShapeLaws.{IsWellShaped, HasFunctions}
@@ -58,9 +62,12 @@ unfolding iter
 steps_are_means l shape A start s out k e = rw add-one (ap (run_step (step l shape A)) e)
 
 -- ---- the fit
-module _ (l : LabelledNodes) (shape : TextShape) (A : List ℕ) (is : IsShapeOf l shape) (w : IsWellShaped l) (has : HasFunctions l) (formed : (i : ℕ) → IsFormedAt l i) where
+module _ (l : LabelledNodes) (shape : TextShape) (A : List ℕ) (is : IsShapeOf l shape) (w : IsWellShaped l) (has : HasFunctions l) (formed : All InForm l.nodes) where
+  formed_at : (i : ℕ) → IsFormedAt l i
+  formed_at i n e = subst InForm (get_or_from_slice_get l.nodes i n n e) (All-get_or InForm l.nodes i n (slice_get_within l.nodes i n e) formed)
+
   outcome_fits : (r : Run) (o : Outcome) → step l shape A r.state ≡ o → FitsWell l shape r.state → FitsWell l shape (behind r o).state
-  outcome_fits r (Goes t bytes) e well = steps_fit l shape A r.state t bytes is w has (formed r.state.at) well e
+  outcome_fits r (Goes t bytes) e well = steps_fit l shape A r.state t bytes is w has (formed_at r.state.at) well e
   outcome_fits r (Ends status) e well = well
   outcome_fits r Undefined e well = well
 

@@ -1,5 +1,6 @@
 -- What holds of the portable meaning: laws for the crates that hold its state and follow its runs.
-use Rattle.std.specs.Prelude.{◌≡◌, ℕ, ◌+◌, ◌*◌, List, Some, length, slice_get}
+use Rattle.std.specs.Prelude.{◌≡◌, ℕ, ◌+◌, ◌*◌, ◌≤◌, List, Some, length, slice_get}
+use Rattle.std.specs.List.{All}
 use Rattle.lg_base.specs.Runs.{IsMachine, EndsSilently}
 use Rattle.lg_op.specs.declared.node.Node.{Node}
 use Rattle.lg_op.specs.Nodes.{InForm}
@@ -27,10 +28,10 @@ abbrev pub StepsKeepFit : Type 0
 StepsKeepFit = (l : LabelledNodes) (shape : TextShape) (addresses : List ℕ) (s t : State) (bytes : List ℕ)
     → IsShapeOf l shape → IsFormedAt l s.at → FitsWell l shape s → step l shape addresses s ≡ Goes t bytes → FitsWell l shape t
 
--- so each state of the portable meaning fits
+-- so each state of the portable meaning of nodes that have the operands of their operations fits
 abbrev pub MeansFit : Type 0
 MeansFit = (l : LabelledNodes) (shape : TextShape) (addresses image args : List ℕ) (k : ℕ)
-    → IsShapeOf l shape → ((i : ℕ) → IsFormedAt l i) → FitsWell l shape (mean l shape addresses image args k).state
+    → IsShapeOf l shape → All InForm l.nodes → FitsWell l shape (mean l shape addresses image args k).state
 
 -- ---- runs
 -- a run that is over stays, what was written stays written, and a step that ends a run or is undefined writes nothing
@@ -43,6 +44,6 @@ StepsAreMeans = (l : LabelledNodes) (shape : TextShape) (addresses : List ℕ) (
     → mean_from l shape addresses start k ≡ running s out → mean_from l shape addresses start (k + 1) ≡ behind (running s out) (step l shape addresses s)
 
 -- ---- addresses
--- the plain addresses are addresses of the labels, over code of 256 bytes for each node
+-- the plain addresses are addresses of the labels, over code of at least 256 bytes for each node
 abbrev pub PlainAddressesAre : Type 0
-PlainAddressesAre = (l : LabelledNodes) → AreWithin l → AreAddresses l (256 * length l.nodes) (plain_addresses l)
+PlainAddressesAre = (l : LabelledNodes) (size : ℕ) → AreWithin l → 256 * length l.nodes ≤ size → AreAddresses l size (plain_addresses l)

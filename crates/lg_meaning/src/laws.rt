@@ -41,7 +41,7 @@ pub fn steps_are_those_of_the_meaning()
 {}
 
 /// 0x10000000 + 256 i for a label at node i and the byte's address for a data label are addresses of the labels of a text, over
-/// code of 256 bytes for each node.
+/// code of at least 256 bytes for each node.
 pub fn plain_addresses_are_addresses()
     ensures { PlainAddressesAre }
 {}
