@@ -12,7 +12,7 @@ use Rattle.lg_meaning.specs.Texts.{step}
 use Rattle.lg_meaning.specs.Addresses.{AreAddresses, AreWithin, plain_addresses}
 use Rattle.lg_meaning.specs.Fits.{Fits, FitsWell}
 use Rattle.lg_meaning.specs.Starts.{start_state}
-use Rattle.lg_meaning.specs.Means.{running, behind, machine, mean_from, mean}
+use Rattle.lg_meaning.specs.Means.{run_at, behind, machine, mean_from, mean}
 
 -- ---- the fit
 -- the state at the start fits the shape of each accepted text
@@ -41,7 +41,7 @@ MeansAreMachines = (l : LabelledNodes) (shape : TextShape) (addresses : List ℕ
 -- where a run that goes on stands after k steps, its next step leads to where it stands after k + 1
 abbrev pub StepsAreMeans : Type 0
 StepsAreMeans = (l : LabelledNodes) (shape : TextShape) (addresses : List ℕ) (start s : State) (out : List ℕ) (k : ℕ)
-    → mean_from l shape addresses start k ≡ running s out → mean_from l shape addresses start (k + 1) ≡ behind (running s out) (step l shape addresses s)
+    → mean_from l shape addresses start k ≡ run_at s out → mean_from l shape addresses start (k + 1) ≡ behind (run_at s out) (step l shape addresses s)
 
 -- ---- addresses
 -- the plain addresses are addresses of the labels, over code of at least 256 bytes for each node
