@@ -10,5 +10,6 @@ pub mod NodeFacts
 pub mod OpenFacts
 pub mod Outcomes
 pub mod PushLemmas
+pub mod StackLemmas
 pub mod StartLemmas
 pub mod StayLemmas

@@ -11,6 +11,7 @@ use Rattle.lg_meaning.specs.Steps.{Goes}
 use Rattle.lg_meaning.specs.Texts.{step}
 use Rattle.lg_meaning.specs.Addresses.{AreAddresses, AreWithin, plain_addresses}
 use Rattle.lg_meaning.specs.Fits.{Fits, FitsWell}
+use Rattle.lg_meaning.specs.Stacks.{HasSmallParts, OpensLocalsAlone}
 use Rattle.lg_meaning.specs.Starts.{start_state}
 use Rattle.lg_meaning.specs.Means.{run_at, behind, machine, mean_from, mean}
 
@@ -32,6 +33,10 @@ StepsKeepFit = (l : LabelledNodes) (shape : TextShape) (addresses : List ℕ) (s
 abbrev pub MeansFit : Type 0
 MeansFit = (l : LabelledNodes) (shape : TextShape) (addresses image args : List ℕ) (k : ℕ)
     → IsShapeOf l shape → All InForm l.nodes → FitsWell l shape (mean l shape addresses image args k).state
+
+-- where a state fits, only the locals of the frames are open in the stack
+abbrev pub FitsOpensLocals : Type 0
+FitsOpensLocals = (l : LabelledNodes) (shape : TextShape) (s : State) → FitsWell l shape s → HasSmallParts s → OpensLocalsAlone s
 
 -- ---- runs
 -- a run that is over stays, what was written stays written, and a step that ends a run or is undefined writes nothing

@@ -1,7 +1,7 @@
 // What holds of the portable meaning, for the crates that hold its state and follow its runs. The functions do nothing: their
 // contracts are the laws.
 
-ghost use Rattle.lg_meaning.specs.Laws.{StartsFit, StepsKeepFit, MeansFit, MeansAreMachines, StepsAreMeans, PlainAddressesAre};
+ghost use Rattle.lg_meaning.specs.Laws.{StartsFit, StepsKeepFit, MeansFit, FitsOpensLocals, MeansAreMachines, StepsAreMeans, PlainAddressesAre};
 
 use lg_node::laws::{accepted_nodes_are_well_shaped, accepted_nodes_have_functions};
 
@@ -28,6 +28,12 @@ pub fn states_of_the_meaning_fit()
     accepted_nodes_are_well_shaped();
     accepted_nodes_have_functions();
 }
+
+/// In a state that fits, only the locals of the frames are memory in the stack: no return address, saved register, home, spill slot or
+/// word for an argument can be read or written by a text.
+pub fn only_locals_are_open_in_the_stack()
+    ensures { FitsOpensLocals }
+{}
 
 /// Runs of the portable meaning are those of a machine: one that ended or became undefined stays, what is written stays written, and
 /// a step that ends the run or is undefined writes nothing.
