@@ -3,12 +3,14 @@ pub mod ArriveLemmas
 pub mod CallLemmas
 pub mod FallLemmas
 pub mod FunctionFacts
+pub mod GrowLemmas
 pub mod HostFacts
 pub mod KeepLemmas
 pub mod MeanLemmas
 pub mod NodeFacts
 pub mod OpenFacts
 pub mod Outcomes
+pub mod PartLemmas
 pub mod PushLemmas
 pub mod StackLemmas
 pub mod StartLemmas

@@ -108,7 +108,7 @@ module _ (l : LabelledNodes) (shape : TextShape) (s : State) (well : FitsWell l 
   begins (suc k) f e = let up = frame_above s.frame f s.callers k st e in let low = well.fits.low in omega arith
 
   -- all open addresses behind the heap lie in frames
-  in_frames : (a : ℕ) → in_any_locals (s.frame ∷ s.callers) a ≡ true → (s.frame.sp - s.frame.size ≤ a) × (a < 0x40000000)
+  pub in_frames : (a : ℕ) → in_any_locals (s.frame ∷ s.callers) a ≡ true → (s.frame.sp - s.frame.size ≤ a) × (a < 0x40000000)
   in_frames a t =
       ⊎_elim
       (λ (e : in_locals s.frame a ≡ true). let i = within_frame s.frame a w le e in (i.0, (let end = top_low s.frame s.callers st in omega (arith, i.1))))

@@ -1,6 +1,7 @@
 -- What holds of the portable meaning: laws for the crates that hold its state and follow its runs.
 use Rattle.std.specs.Prelude.{◌≡◌, ℕ, ◌+◌, ◌*◌, ◌≤◌, List, Some, length, slice_get}
 use Rattle.std.specs.List.{All}
+use Rattle.lg_base.specs.Arguments.{most_args}
 use Rattle.lg_base.specs.Runs.{IsMachine, EndsSilently}
 use Rattle.lg_op.specs.declared.node.Node.{Node}
 use Rattle.lg_op.specs.Nodes.{InForm}
@@ -11,6 +12,7 @@ use Rattle.lg_meaning.specs.Steps.{Goes}
 use Rattle.lg_meaning.specs.Texts.{step}
 use Rattle.lg_meaning.specs.Addresses.{AreAddresses, AreWithin, plain_addresses}
 use Rattle.lg_meaning.specs.Fits.{Fits, FitsWell}
+use Rattle.lg_meaning.specs.Parts.{Grows, HoldsParts}
 use Rattle.lg_meaning.specs.Stacks.{HasSmallParts, OpensLocalsAlone}
 use Rattle.lg_meaning.specs.Starts.{start_state}
 use Rattle.lg_meaning.specs.Means.{run_at, behind, machine, mean_from, mean}
@@ -33,6 +35,16 @@ StepsKeepFit = (l : LabelledNodes) (shape : TextShape) (addresses : List ℕ) (s
 abbrev pub MeansFit : Type 0
 MeansFit = (l : LabelledNodes) (shape : TextShape) (addresses image args : List ℕ) (k : ℕ)
     → IsShapeOf l shape → All InForm l.nodes → FitsWell l shape (mean l shape addresses image args k).state
+
+-- a step takes no byte out of the data, the arguments and the heap, and the heap mark never falls
+abbrev pub StepsGrow : Type 0
+StepsGrow = (l : LabelledNodes) (shape : TextShape) (addresses : List ℕ) (s t : State) (bytes : List ℕ)
+    → IsShapeOf l shape → FitsWell l shape s → step l shape addresses s ≡ Goes t bytes → Grows s t
+
+-- so memory holds the data part and the argument part throughout, and nothing else in their ranges
+abbrev pub MeansHoldParts : Type 0
+MeansHoldParts = (l : LabelledNodes) (shape : TextShape) (addresses image args : List ℕ) (k : ℕ)
+    → IsShapeOf l shape → All InForm l.nodes → length image ≤ 0x1000000 → length args ≤ most_args → HoldsParts image args (mean l shape addresses image args k).state
 
 -- where a state fits, only the locals of the frames are open in the stack
 abbrev pub FitsOpensLocals : Type 0

@@ -1,7 +1,7 @@
 // What holds of the portable meaning, for the crates that hold its state and follow its runs. The functions do nothing: their
 // contracts are the laws.
 
-ghost use Rattle.lg_meaning.specs.Laws.{StartsFit, StepsKeepFit, MeansFit, FitsOpensLocals, MeansAreMachines, StepsAreMeans, PlainAddressesAre};
+ghost use Rattle.lg_meaning.specs.Laws.{StartsFit, StepsKeepFit, MeansFit, StepsGrow, MeansHoldParts, FitsOpensLocals, MeansAreMachines, StepsAreMeans, PlainAddressesAre};
 
 use lg_node::laws::{accepted_nodes_are_well_shaped, accepted_nodes_have_functions};
 
@@ -24,6 +24,22 @@ pub fn steps_keep_the_fit()
 /// Each state of the portable meaning of an accepted text fits the text's shape.
 pub fn states_of_the_meaning_fit()
     ensures { MeansFit }
+{
+    accepted_nodes_are_well_shaped();
+    accepted_nodes_have_functions();
+}
+
+/// A step takes no byte out of the data, the arguments and the heap, their sizes stay, and the heap mark never falls.
+pub fn steps_take_nothing_out()
+    ensures { StepsGrow }
+{
+    accepted_nodes_are_well_shaped();
+}
+
+/// The memory of each state of the portable meaning has bytes at exactly the addresses of the data part and of the argument part, as
+/// far as the ranges of these parts go.
+pub fn parts_are_held()
+    ensures { MeansHoldParts }
 {
     accepted_nodes_are_well_shaped();
     accepted_nodes_have_functions();
