@@ -68,7 +68,7 @@ locals_high : (sp locals size a : ℕ) → 0x3FF00010 + size ≤ sp → 272 + lo
 locals_high sp locals size a low room lt = grind arith
 
 frame_high : (f : Frame) (a : ℕ) → IsWhole f → 0x3FF00010 + f.size ≤ f.sp → a < 0x3FF00000 → within (f.sp - 144 - f.locals) f.locals a ≡ false
-frame_high f a (inl none) low lt = no_locals f a none
+frame_high f a (inl none) low lt = no_locals f a none.1
 frame_high f a (inr room) low lt = locals_high f.sp f.locals f.size a low room lt
 
 module _ (s : State) where
