@@ -2,6 +2,7 @@ pub mod AddressLemmas
 pub mod ArriveLemmas
 pub mod CallLemmas
 pub mod FallLemmas
+pub mod FrameLemmas
 pub mod FunctionFacts
 pub mod GrowLemmas
 pub mod HostFacts

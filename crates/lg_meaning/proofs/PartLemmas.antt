@@ -1,5 +1,5 @@
 -- Memory holds the data part and the argument part, and nothing else in their ranges.
-use Rattle.std.proofs.Common.{◌≡◌, ⊎_elim, ℕ, ◌+◌, ◌-◌, ◌<◌, ◌≤◌, Bool, true, false, List, ◌∷◌, Option, Some, None, refl, sym, ap, ◌∙◌, length, arith}
+use Rattle.std.proofs.Common.{◌≡◌, ⊎_elim, ℕ, ◌-◌, ◌<◌, ◌≤◌, Bool, true, false, List, ◌∷◌, Option, Some, None, refl, sym, ap, ◌∙◌, length, arith}
 use Rattle.std.specs.Prelude.{◌||◌, is_some, if◌then◌else◌}
 use Rattle.std.specs.List.{All}
 use Rattle.std.proofs.lemmas.Bool.{or_cases}
@@ -20,7 +20,7 @@ use Rattle.lg_meaning.specs.Starts.{start_state}
 use Rattle.lg_meaning.proofs.GrowLemmas.{steps_grow}
 use Rattle.lg_meaning.proofs.KeepLemmas.{steps_fit}
 use Rattle.lg_meaning.proofs.MeanLemmas.{always, formed_at, start_fits_well}
-use Rattle.lg_meaning.proofs.StackLemmas.{in_frames}
+use Rattle.lg_meaning.proofs.StackLemmas.{inside, in_frames}
 
 -- a state that fits and holds the bytes of the two parts
 record Holds (l : LabelledNodes) (shape : TextShape) (image args : List ℕ) (s : State) : Type 0 where
@@ -34,9 +34,6 @@ both_ways : (x y : Bool) → (x ≡ true → y ≡ true) → (y ≡ true → x �
 both_ways true y f g = sym (f refl)
 both_ways false true f g = g refl
 both_ways false false f g = refl
-
-inside : (lo n a : ℕ) → within lo n a ≡ true → (lo ≤ a) × (a < lo + n)
-inside lo n a h = (grind arith, grind arith)
 
 -- an open address is of one part
 data_alone : (d g mark : ℕ) (fs : List Frame) (a : ℕ) → a < 0x28000000 → (in_any_locals fs a ≡ true → ⊥) → is_part d g mark fs a ≡ true → within 0x20000000 d a ≡ true

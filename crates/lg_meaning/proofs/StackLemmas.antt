@@ -37,7 +37,7 @@ not_true : (b : Bool) → (b ≡ true → ⊥) → b ≡ false
 not_true true h = absurd (h refl)
 not_true false h = refl
 
-inside : (lo n a : ℕ) → within lo n a ≡ true → (lo ≤ a) × (a < lo + n)
+pub inside : (lo n a : ℕ) → within lo n a ≡ true → (lo ≤ a) × (a < lo + n)
 inside lo n a h = (grind arith, grind arith)
 
 -- the locals of a frame lie in it

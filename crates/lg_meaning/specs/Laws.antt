@@ -1,17 +1,18 @@
 -- What holds of the portable meaning: laws for the crates that hold its state and follow its runs.
-use Rattle.std.specs.Prelude.{◌≡◌, ℕ, ◌+◌, ◌*◌, ◌≤◌, List, Some, length, slice_get}
+use Rattle.std.specs.Prelude.{◌≡◌, ℕ, ◌+◌, ◌*◌, ◌≤◌, true, false, List, Some, length, slice_get}
 use Rattle.std.specs.List.{All}
 use Rattle.lg_base.specs.Arguments.{most_args}
 use Rattle.lg_base.specs.Runs.{IsMachine, EndsSilently}
 use Rattle.lg_op.specs.declared.node.Node.{Node}
 use Rattle.lg_op.specs.Nodes.{InForm}
 use Rattle.lg_node.specs.Nodes.{LabelledNodes}
+use Rattle.lg_node.specs.Functions.{home, is_prolog_at}
 use Rattle.lg_node.specs.Shapes.{TextShape, IsShapeOf}
 use Rattle.lg_meaning.specs.States.{State}
 use Rattle.lg_meaning.specs.Steps.{Goes}
 use Rattle.lg_meaning.specs.Texts.{step}
 use Rattle.lg_meaning.specs.Addresses.{AreAddresses, AreWithin, plain_addresses}
-use Rattle.lg_meaning.specs.Fits.{Fits, FitsWell}
+use Rattle.lg_meaning.specs.Fits.{Fits, FitsWell, IsRunning, IsBeginning}
 use Rattle.lg_meaning.specs.Parts.{Grows, HoldsParts}
 use Rattle.lg_meaning.specs.Stacks.{HasSmallParts, OpensLocalsAlone}
 use Rattle.lg_meaning.specs.Starts.{start_state}
@@ -35,6 +36,11 @@ StepsKeepFit = (l : LabelledNodes) (shape : TextShape) (addresses : List ℕ) (s
 abbrev pub MeansFit : Type 0
 MeansFit = (l : LabelledNodes) (shape : TextShape) (addresses image args : List ℕ) (k : ℕ)
     → IsShapeOf l shape → All InForm l.nodes → FitsWell l shape (mean l shape addresses image args k).state
+
+-- where a state fits at a node of a function, the running frame has that function's size and locals behind the `prolog`, and neither at it
+abbrev pub FramesAreOfFunctions : Type 0
+FramesAreOfFunctions = (l : LabelledNodes) (shape : TextShape) (s : State) (p : ℕ) → IsShapeOf l shape → Fits l shape s → home l.nodes s.at ≡ Some p
+    → (is_prolog_at (slice_get l.nodes s.at) ≡ false → IsRunning shape.functions s) × (is_prolog_at (slice_get l.nodes s.at) ≡ true → IsBeginning shape.functions s)
 
 -- a step takes no byte out of the data, the arguments and the heap, and the heap mark never falls
 abbrev pub StepsGrow : Type 0

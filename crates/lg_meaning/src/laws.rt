@@ -1,7 +1,7 @@
 // What holds of the portable meaning, for the crates that hold its state and follow its runs. The functions do nothing: their
 // contracts are the laws.
 
-ghost use Rattle.lg_meaning.specs.Laws.{StartsFit, StepsKeepFit, MeansFit, StepsGrow, MeansHoldParts, FitsOpensLocals, MeansAreMachines, StepsAreMeans, PlainAddressesAre};
+ghost use Rattle.lg_meaning.specs.Laws.{StartsFit, StepsKeepFit, MeansFit, FramesAreOfFunctions, StepsGrow, MeansHoldParts, FitsOpensLocals, MeansAreMachines, StepsAreMeans, PlainAddressesAre};
 
 use lg_node::laws::{accepted_nodes_are_well_shaped, accepted_nodes_have_functions};
 
@@ -24,6 +24,15 @@ pub fn steps_keep_the_fit()
 /// Each state of the portable meaning of an accepted text fits the text's shape.
 pub fn states_of_the_meaning_fit()
     ensures { MeansFit }
+{
+    accepted_nodes_are_well_shaped();
+    accepted_nodes_have_functions();
+}
+
+/// In a state that fits, the running frame is one of the function of the state's node: it has that function's size and locals behind the
+/// `prolog`, and at the `prolog` room for them.
+pub fn running_frames_are_of_their_functions()
+    ensures { FramesAreOfFunctions }
 {
     accepted_nodes_are_well_shaped();
     accepted_nodes_have_functions();
