@@ -21,7 +21,8 @@ pub fn steps_keep_the_fit()
     accepted_nodes_have_functions();
 }
 
-/// Each state of the portable meaning of an accepted text fits the text's shape.
+/// Each state of the portable meaning of an accepted text, whose nodes have the operands of their operations, fits the text's shape,
+/// and its heap mark stands in the heap.
 pub fn states_of_the_meaning_fit()
     ensures { MeansFit }
 {
@@ -46,7 +47,7 @@ pub fn steps_take_nothing_out()
 }
 
 /// The memory of each state of the portable meaning has bytes at exactly the addresses of the data part and of the argument part, as
-/// far as the ranges of these parts go.
+/// far as the ranges of these parts go. The data part has at most 16,777,216 bytes, the argument part at most 1,048,576.
 pub fn parts_are_held()
     ensures { MeansHoldParts }
 {
@@ -55,7 +56,8 @@ pub fn parts_are_held()
 }
 
 /// In a state that fits, only the locals of the frames are memory in the stack: no return address, saved register, home, spill slot or
-/// word for an argument can be read or written by a text.
+/// word for an argument can be read or written by a text. Its data part has at most 16,777,216 bytes, its argument part at most
+/// 1,048,576.
 pub fn only_locals_are_open_in_the_stack()
     ensures { FitsOpensLocals }
 {}
