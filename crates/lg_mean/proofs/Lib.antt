@@ -1,3 +1,4 @@
+pub mod AddressLemmas
 pub mod FitLemmas
 pub mod FollowLemmas
 pub mod FrameLemmas

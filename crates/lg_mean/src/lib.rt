@@ -2,6 +2,7 @@
 #![tactic(auto)]
 
 mod access;
+pub mod addresses;
 mod arithmetic;
 mod calls;
 mod frame;
