@@ -25,9 +25,8 @@ pub fn run(alloc: Global, instructions: u32) -> Result<u64, OutOfMemory> {
     let args = ArgImage::of(alloc, &ARGS)?;
     let mut cpu = Cpu::new(alloc, Target::Riscv64, &code, &image, &args, 0)?;
     let mut out = MemorySink::new(alloc, 0, &[])?;
-    let most = u64::from(instructions);
-    while cpu.steps() < most {
-        if cpu.step(&mut out) != CpuStep::Went {
+    for _ in 0..instructions {
+        if cpu.steps() == u64::MAX || cpu.step(&mut out) != CpuStep::Went {
             break;
         }
     }
