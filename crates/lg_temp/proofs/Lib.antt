@@ -1,3 +1,4 @@
 pub mod Answers
 pub mod Induction
+pub mod SavedLemmas
 pub mod Steps
