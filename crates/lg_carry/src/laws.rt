@@ -1,0 +1,33 @@
+// What holds of the states that stand for each other, on every target. The functions do nothing: their contracts are the laws.
+
+ghost use Rattle.lg_carry.specs.Laws.{RegistersAreKept, ArgumentsAreKept, StackArgumentsAreKept, FrameIsKept, FramesAreKept, RunningFrameIsKept};
+
+/// The registers of a set are held while they are kept.
+pub fn registers_are_kept()
+    ensures { RegistersAreKept }
+{}
+
+/// The arguments in registers are held while their registers are kept.
+pub fn arguments_are_kept()
+    ensures { ArgumentsAreKept }
+{}
+
+/// Stack arguments are there while their words are kept.
+pub fn stack_arguments_are_kept()
+    ensures { StackArgumentsAreKept }
+{}
+
+/// A frame has its words while they are kept.
+pub fn frame_is_kept()
+    ensures { FrameIsKept }
+{}
+
+/// The frames of the callers have their words while they are kept.
+pub fn frames_are_kept()
+    ensures { FramesAreKept }
+{}
+
+/// The running frame is settled while its words, FP and the stack pointer are kept.
+pub fn running_frame_is_kept()
+    ensures { RunningFrameIsKept }
+{}
