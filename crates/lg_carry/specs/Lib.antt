@@ -1,3 +1,4 @@
+pub mod Blocks
 pub mod Carries
 pub mod Codes
 pub mod Frames
@@ -5,4 +6,5 @@ pub mod Laws
 pub mod Places
 pub mod Processors
 pub mod Registers
+pub mod Rows
 pub mod Stands

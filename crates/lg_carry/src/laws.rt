@@ -1,5 +1,7 @@
 // What holds of the states that stand for each other, on every target. The functions do nothing: their contracts are the laws.
 
+ghost use Rattle.lg_carry.specs.Blocks.{BlocksRun};
+ghost use Rattle.lg_carry.specs.Rows.{Rows, AreRows};
 ghost use Rattle.lg_carry.specs.Laws.{RegistersAreKept, ArgumentsAreKept, StackArgumentsAreKept, FrameIsKept, FramesAreKept, RunningFrameIsKept};
 
 /// The registers of a set are held while they are kept.
@@ -30,4 +32,28 @@ pub fn frames_are_kept()
 /// The running frame is settled while its words, FP and the stack pointer are kept.
 pub fn running_frame_is_kept()
     ensures { RunningFrameIsKept }
+{}
+
+/// A processor that runs some code, by its instructions.
+pub trait Instructions {
+    /// A state of the processor.
+    type State;
+
+    /// An instruction.
+    type Instruction;
+
+    /// The processor, its code, and what is known of its instructions.
+    ghost rows: { Rows Self.State Self.Instruction };
+
+    /// Whether an instruction is one of the processor.
+    ghost fits: { Self.Instruction → Type 0 };
+
+    /// What stands at the program counter is executed.
+    ghost rows_are: { AreRows rows fits };
+}
+
+/// Where the spellings of a block of instructions stand at the program counter, as many steps as there are do what they do, one after the
+/// other.
+pub fn blocks_run<P: Instructions>()
+    ensures { BlocksRun P.rows P.fits }
 {}
