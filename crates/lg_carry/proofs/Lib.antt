@@ -1,3 +1,4 @@
 pub mod BlockLemmas
 pub mod KeptLemmas
+pub mod SpillLemmas
 pub mod WordLemmas

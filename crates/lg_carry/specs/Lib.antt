@@ -7,4 +7,5 @@ pub mod Places
 pub mod Processors
 pub mod Registers
 pub mod Rows
+pub mod Spills
 pub mod Stands

@@ -2,6 +2,7 @@
 
 ghost use Rattle.lg_carry.specs.Blocks.{BlocksRun};
 ghost use Rattle.lg_carry.specs.Rows.{Rows, AreRows};
+ghost use Rattle.lg_carry.specs.Spills.{AreSpills, SavesRestore};
 ghost use Rattle.lg_carry.specs.Laws.{RegistersAreKept, ArgumentsAreKept, StackArgumentsAreKept, FrameIsKept, FramesAreKept, RunningFrameIsKept};
 
 /// The registers of a set are held while they are kept.
@@ -56,4 +57,15 @@ pub trait Instructions {
 /// other.
 pub fn blocks_run<P: Instructions>()
     ensures { BlocksRun P.rows P.fits }
+{}
+
+/// A processor whose instructions save registers in the spill slots of the frame and restore them.
+pub trait SavesRegisters: Instructions {
+    /// A save stores a register in its slot, and a restore loads it from there.
+    ghost spills_are: { AreSpills Self.rows };
+}
+
+/// Saves, the code of a node, and restores do what the code does, and spoil no register that is restored.
+pub fn saves_restore<P: SavesRegisters>()
+    ensures { SavesRestore P.rows }
 {}
