@@ -1,5 +1,6 @@
 // What holds of the states that stand for each other, on every target. The functions do nothing: their contracts are the laws.
 
+ghost use Rattle.lg_carry.specs.Again.{AgreesAgain, AgreesOffSlots};
 ghost use Rattle.lg_carry.specs.Blocks.{BlocksRun};
 ghost use Rattle.lg_carry.specs.Rows.{Rows, AreRows};
 ghost use Rattle.lg_carry.specs.Spills.{AreSpills, SavesRestore};
@@ -68,4 +69,14 @@ pub trait SavesRegisters: Instructions {
 /// Saves, the code of a node, and restores do what the code does, and spoil no register that is restored.
 pub fn saves_restore<P: SavesRegisters>()
     ensures { SavesRestore P.rows }
+{}
+
+/// Behind a node that stays in its frame and keeps the words of the frames, states agree again.
+pub fn states_agree_again()
+    ensures { AgreesAgain }
+{}
+
+/// So they do behind a node that writes no memory but spill slots.
+pub fn states_agree_off_slots()
+    ensures { AgreesOffSlots }
 {}

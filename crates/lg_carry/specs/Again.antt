@@ -1,0 +1,57 @@
+-- How states agree again behind a node that stays in its frame: laws for the code of nodes.
+use Rattle.std.specs.Prelude.{◌≡◌, ℕ, Bool, true, false, ◌∷◌}
+use Rattle.lg_base.specs.Conventions.{frame_register, stack_register}
+use Rattle.lg_base.specs.Layout.{frame_pointer}
+use Rattle.lg_base.specs.declared.target.Target.{Target}
+use Rattle.lg_meaning.specs.States.{Frame, State}
+use Rattle.lg_meaning.specs.Fits.{Fits}
+use Rattle.lg_carry.specs.Processors.{Seen, IsSeen}
+use Rattle.lg_carry.specs.Codes.{Code, is_inside}
+use Rattle.lg_carry.specs.Registers.{HoldsRegisters, HoldsCarry, HoldsResult, HoldsArguments, HasArguments}
+use Rattle.lg_carry.specs.Places.{InWords, ArePassedFew}
+use Rattle.lg_carry.specs.Spills.{in_slots}
+use Rattle.lg_carry.specs.Stands.{lowest, HasParts, HasMemory, StatesAgree}
+
+-- from state s to state t, and from q to u: both nodes stand in a function behind its `prolog`, and the frames, FP and the stack pointer stay
+pub record StaysInFrame (target : Target) (c : Code) (s t : State) (q u : Seen) : Type 0 where
+  pub few : ArePassedFew c.nodes.nodes
+  pub fits : Fits c.nodes c.shape t
+  pub seen : IsSeen u
+  pub here : u.pc ≡ c.place t.at
+  pub before : is_inside c s.at ≡ true
+  pub behind : is_inside c t.at ≡ true
+  pub frame : t.frame ≡ s.frame
+  pub callers : t.callers ≡ s.callers
+  pub pointer : u.registers (frame_register target) ≡ q.registers (frame_register target)
+  pub stack : u.registers (stack_register target) ≡ q.registers (stack_register target)
+  pub mark : u.mark ≡ t.mark
+
+-- what the processor is to hold of state t
+pub record Holds (target : Target) (t : State) (u : Seen) (S : ℕ → Bool) : Type 0 where
+  pub registers : HoldsRegisters target u.registers t.regs S
+  pub carry : HoldsCarry target u.registers u.flag t.carry
+  pub result : HoldsResult target u.registers t.answer
+  pub pushed : HoldsArguments target u.registers t.pushed
+
+-- and have of it in memory
+pub record Has (target : Target) (t : State) (u : Seen) : Type 0 where
+  pub parts : HasParts t u.bytes
+  pub outgoing : HasArguments target u.bytes (lowest t.frame) t.pushed
+  pub memory : HasMemory t u.bytes
+
+-- memory may change but for the words of the frames
+abbrev pub AgreesAgain : Type 0
+AgreesAgain = (target : Target) (c : Code) (live : Frame → ℕ → Bool) (s t : State) (q u : Seen) (S S' : ℕ → Bool) → StatesAgree target c live s q S → StaysInFrame target c s t q u
+    → ((a : ℕ) → InWords (s.frame ∷ s.callers) a → u.bytes a ≡ q.bytes a) → Holds target t u S' → Has target t u → StatesAgree target c live t u S'
+
+-- neither the portable memory nor the pushed arguments change, and the processor's memory in spill slots alone
+pub record ChangesSlots (s t : State) (q u : Seen) : Type 0 where
+  pub mem : t.mem ≡ s.mem
+  pub data_size : t.data_size ≡ s.data_size
+  pub args_size : t.args_size ≡ s.args_size
+  pub pushed : t.pushed ≡ s.pushed
+  pub bytes : (a : ℕ) → in_slots (frame_pointer s.frame.sp) a ≡ false → u.bytes a ≡ q.bytes a
+
+abbrev pub AgreesOffSlots : Type 0
+AgreesOffSlots = (target : Target) (c : Code) (live : Frame → ℕ → Bool) (s t : State) (q u : Seen) (S S' : ℕ → Bool) → StatesAgree target c live s q S → StaysInFrame target c s t q u
+    → ChangesSlots s t q u → Holds target t u S' → StatesAgree target c live t u S'
