@@ -6,6 +6,7 @@ pub mod Frames
 pub mod Laws
 pub mod Places
 pub mod Processors
+pub mod Ranks
 pub mod Registers
 pub mod Rows
 pub mod Spills

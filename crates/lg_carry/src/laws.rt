@@ -2,6 +2,12 @@
 
 ghost use Rattle.lg_carry.specs.Again.{AgreesAgain, AgreesOffSlots};
 ghost use Rattle.lg_carry.specs.Blocks.{BlocksRun};
+ghost use Rattle.std.specs.Prelude.{ℕ, Bool};
+ghost use Rattle.lg_base.specs.Runs.{Machine};
+ghost use Rattle.lg_meaning.specs.States.{State};
+ghost use Rattle.lg_carry.specs.Codes.{Code};
+ghost use Rattle.lg_carry.specs.Processors.{Processor};
+ghost use Rattle.lg_carry.specs.Ranks.{NodesFall, IsCarried, CarriedRunsAgree};
 ghost use Rattle.lg_carry.specs.Rows.{Rows, AreRows};
 ghost use Rattle.lg_carry.specs.Spills.{AreSpills, SavesRestore};
 ghost use Rattle.lg_carry.specs.Laws.{RegistersAreKept, ArgumentsAreKept, StackArgumentsAreKept, FrameIsKept, FramesAreKept, RunningFrameIsKept};
@@ -79,4 +85,42 @@ pub fn states_agree_again()
 /// So they do behind a node that writes no memory but spill slots.
 pub fn states_agree_off_slots()
     ensures { AgreesOffSlots }
+{}
+
+/// A node that is no branch, jump, call or return goes to the next one.
+pub fn nodes_fall()
+    ensures { NodesFall }
+{}
+
+/// Code of which the bytes of each node carry it.
+pub trait CarriedCode {
+    /// A state of the meaning's run.
+    type Meaning;
+
+    /// A state of the processor.
+    type State;
+
+    /// The run of the meaning.
+    ghost meaning: { Machine Self.Meaning };
+
+    /// The portable state of a run that goes on.
+    ghost state: { Self.Meaning → State };
+
+    /// The processor that runs the code.
+    ghost processor: { Processor Self.State };
+
+    /// The code.
+    ghost code: { Code };
+
+    /// Of a node, which registers are live before it.
+    ghost before: { ℕ → ℕ → Bool };
+
+    /// The code carries each node.
+    ghost is_carried: { IsCarried meaning state processor code before };
+}
+
+/// From states that stand for each other, the run of the code agrees with the meaning after any number of steps, also over nodes without
+/// bytes.
+pub fn carried_runs_agree<C: CarriedCode>()
+    ensures { CarriedRunsAgree C.meaning C.state C.processor C.code C.before }
 {}
