@@ -6,7 +6,7 @@ use Rattle.lg_base.specs.Layout.{return_word, frame_pointer, saved_word, home_wo
 use Rattle.lg_base.specs.declared.target.Target.{Target}
 use Rattle.lg_base.specs.declared.target.Target.TheVariants.{X86_64, Aarch64, Riscv64}
 use Rattle.lg_meaning.specs.States.{Frame}
-use Rattle.lg_carry.specs.Frames.{MayKeepCaller}
+use Rattle.lg_carry.specs.Frames.{at_call, MayKeepCaller}
 use Rattle.lg_carry.specs.Laws.{RegistersAreKept, ArgumentsAreKept, StackArgumentsAreKept, FrameIsKept, FramesAreKept, RunningFrameIsKept}
 use Rattle.lg_carry.proofs.WordLemmas.{word-kept}
 
@@ -53,7 +53,7 @@ frame-kept target place m m' f gs live high h o =
 pub frames-kept : FramesAreKept
 frames-kept target place live m m' low [] t few h o = o
 frames-kept target place live m m' low (f ∷ fs) t few h o = (
-  frame-kept target place m m' f fs (live f) (omega (arith, t.0, t.1)) (λ a le lt. h a (inl (le, omega arith))) o.0,
+  frame-kept target place m m' f fs (live (at_call f)) (omega (arith, t.0, t.1)) (λ a le lt. h a (inl (le, omega arith))) o.0,
   stack_arguments-kept target m m' f.sp f.args few.0 (λ a le lt. h a (inl (omega arith, lt))) o.1,
   frames-kept target place live m m' f.sp fs t.3 few.1 (λ a i. h a (inr i)) o.2,
 )

@@ -1,9 +1,10 @@
 -- How states agree again behind a node that stays in its frame: laws for the code of nodes.
-use Rattle.std.specs.Prelude.{◌≡◌, ℕ, Bool, true, false, ◌∷◌}
+use Rattle.std.specs.Prelude.{◌≡◌, ℕ, ◌-◌, ◌⊎◌, ◌||◌, Bool, true, false, [], ◌∷◌}
 use Rattle.lg_base.specs.Conventions.{frame_register, stack_register}
 use Rattle.lg_base.specs.Layout.{frame_pointer}
 use Rattle.lg_base.specs.declared.target.Target.{Target}
-use Rattle.lg_meaning.specs.States.{Frame, State}
+use Rattle.lg_cells.specs.Cells.{within}
+use Rattle.lg_meaning.specs.States.{Frame, State, is_open}
 use Rattle.lg_meaning.specs.Fits.{Fits}
 use Rattle.lg_carry.specs.Processors.{Seen, IsSeen}
 use Rattle.lg_carry.specs.Codes.{Code, is_inside}
@@ -44,14 +45,45 @@ abbrev pub AgreesAgain : Type 0
 AgreesAgain = (target : Target) (c : Code) (live : Frame → ℕ → Bool) (s t : State) (q u : Seen) (S S' : ℕ → Bool) → StatesAgree target c live s q S → StaysInFrame target c s t q u
     → ((a : ℕ) → InWords (s.frame ∷ s.callers) a → u.bytes a ≡ q.bytes a) → Holds target t u S' → Has target t u → StatesAgree target c live t u S'
 
--- neither the portable memory nor the pushed arguments change, and the processor's memory in spill slots alone
-pub record ChangesSlots (s t : State) (q u : Seen) : Type 0 where
+-- what the code of a node may spoil: the spill slots of its frame, and the word below the stack pointer
+abbrev pub is_spoilt : State → ℕ → Bool
+is_spoilt s a = in_slots (frame_pointer s.frame.sp) a || within (lowest s.frame - 8) 8 a
+
+-- neither the portable memory nor the pushed arguments change, and of the processor's memory that alone
+pub record ChangesNothing (s t : State) (q u : Seen) : Type 0 where
   pub mem : t.mem ≡ s.mem
   pub data_size : t.data_size ≡ s.data_size
   pub args_size : t.args_size ≡ s.args_size
   pub pushed : t.pushed ≡ s.pushed
-  pub bytes : (a : ℕ) → in_slots (frame_pointer s.frame.sp) a ≡ false → u.bytes a ≡ q.bytes a
+  pub bytes : (a : ℕ) → is_spoilt s a ≡ false → u.bytes a ≡ q.bytes a
 
-abbrev pub AgreesOffSlots : Type 0
-AgreesOffSlots = (target : Target) (c : Code) (live : Frame → ℕ → Bool) (s t : State) (q u : Seen) (S S' : ℕ → Bool) → StatesAgree target c live s q S → StaysInFrame target c s t q u
-    → ChangesSlots s t q u → Holds target t u S' → StatesAgree target c live t u S'
+abbrev pub AgreesBehindQuiet : Type 0
+AgreesBehindQuiet = (target : Target) (c : Code) (live : Frame → ℕ → Bool) (s t : State) (q u : Seen) (S S' : ℕ → Bool) → StatesAgree target c live s q S → StaysInFrame target c s t q u
+    → ChangesNothing s t q u → Holds target t u S' → StatesAgree target c live t u S'
+
+-- an argument is pushed: of the processor's memory besides an outgoing word changes
+pub record Pushes (target : Target) (s t : State) (q u : Seen) : Type 0 where
+  pub mem : t.mem ≡ s.mem
+  pub data_size : t.data_size ≡ s.data_size
+  pub args_size : t.args_size ≡ s.args_size
+  pub bytes : (a : ℕ) → is_spoilt s a ≡ false → within (lowest s.frame) 80 a ≡ false → u.bytes a ≡ q.bytes a
+  pub outgoing : HasArguments target u.bytes (lowest t.frame) t.pushed
+
+abbrev pub AgreesBehindPush : Type 0
+AgreesBehindPush = (target : Target) (c : Code) (live : Frame → ℕ → Bool) (s t : State) (q u : Seen) (S S' : ℕ → Bool) → StatesAgree target c live s q S → StaysInFrame target c s t q u
+    → Pushes target s t q u → Holds target t u S' → StatesAgree target c live t u S'
+
+-- a store or a host function: the processor's memory changes besides where the portable machine may write
+pub record Writes (s t : State) (q u : Seen) : Type 0 where
+  pub bytes : (a : ℕ) → is_spoilt s a ≡ false → (u.bytes a ≡ q.bytes a) ⊎ (is_open t a ≡ true)
+  pub parts : HasParts t u.bytes
+  pub memory : HasMemory t u.bytes
+
+abbrev pub AgreesBehindStore : Type 0
+AgreesBehindStore = (target : Target) (c : Code) (live : Frame → ℕ → Bool) (s t : State) (q u : Seen) (S S' : ℕ → Bool) → StatesAgree target c live s q S → StaysInFrame target c s t q u
+    → Writes s t q u → t.pushed ≡ s.pushed → Holds target t u S' → StatesAgree target c live t u S'
+
+-- behind a host function nothing is pushed
+abbrev pub AgreesBehindHost : Type 0
+AgreesBehindHost = (target : Target) (c : Code) (live : Frame → ℕ → Bool) (s t : State) (q u : Seen) (S S' : ℕ → Bool) → StatesAgree target c live s q S → StaysInFrame target c s t q u
+    → Writes s t q u → t.pushed ≡ [] → Holds target t u S' → StatesAgree target c live t u S'

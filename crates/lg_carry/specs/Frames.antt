@@ -28,11 +28,15 @@ pub record HasWords (target : Target) (place : ℕ → ℕ) (bytes : ℕ → Opt
   pub caller : MayKeepCaller bytes f gs live
   pub homes : (i w : ℕ) → i < length (argument_registers target) → slice_get f.args i ≡ Some w → HasWord bytes (home_word (frame_pointer f.sp) i) w
 
--- the frames of the callers, the last one first, each with its stack arguments; live tells for a frame which registers are live at its
--- return
+-- a frame as its call made it
+abbrev pub at_call : Frame → Frame
+at_call f = record f { size = 0; locals = 0 }
+
+-- the frames of the callers, the last one first, each with its stack arguments; live tells for a frame, as its call made it, which registers
+-- are live at its return
 abbrev pub HaveWords : Target → (ℕ → ℕ) → (Frame → ℕ → Bool) → (ℕ → Option ℕ) → List Frame → Type 0
 HaveWords target place live bytes [] = ⊤
-HaveWords target place live bytes (f ∷ fs) = HasWords target place bytes f fs (live f) × HasArguments target bytes f.sp f.args × HaveWords target place live bytes fs
+HaveWords target place live bytes (f ∷ fs) = HasWords target place bytes f fs (live (at_call f)) × HasArguments target bytes f.sp f.args × HaveWords target place live bytes fs
 
 -- ---- the running frame
 -- behind its `prolog`: its words, FP and the stack pointer

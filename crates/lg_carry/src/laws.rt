@@ -1,6 +1,6 @@
 // What holds of the states that stand for each other, on every target. The functions do nothing: their contracts are the laws.
 
-ghost use Rattle.lg_carry.specs.Again.{AgreesAgain, AgreesOffSlots};
+ghost use Rattle.lg_carry.specs.Again.{AgreesAgain, AgreesBehindQuiet, AgreesBehindPush, AgreesBehindStore, AgreesBehindHost};
 ghost use Rattle.lg_carry.specs.Blocks.{BlocksRun};
 ghost use Rattle.std.specs.Prelude.{ℕ, Bool};
 ghost use Rattle.lg_base.specs.Runs.{Machine};
@@ -82,9 +82,24 @@ pub fn states_agree_again()
     ensures { AgreesAgain }
 {}
 
-/// So they do behind a node that writes no memory but spill slots.
-pub fn states_agree_off_slots()
-    ensures { AgreesOffSlots }
+/// So they do behind a node that writes no memory but spill slots and the word below the stack pointer.
+pub fn states_agree_behind_quiet_nodes()
+    ensures { AgreesBehindQuiet }
+{}
+
+/// So they do behind a pushed argument.
+pub fn states_agree_behind_pushes()
+    ensures { AgreesBehindPush }
+{}
+
+/// So they do behind a store where the portable machine may write.
+pub fn states_agree_behind_stores()
+    ensures { AgreesBehindStore }
+{}
+
+/// So they do behind a host function that writes there.
+pub fn states_agree_behind_hosts()
+    ensures { AgreesBehindHost }
 {}
 
 /// A node that is no branch, jump, call or return goes to the next one.
