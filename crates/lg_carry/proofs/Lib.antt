@@ -1,3 +1,4 @@
+pub mod AcrossLemmas
 pub mod AgainLemmas
 pub mod BlockLemmas
 pub mod FallLemmas

@@ -1,3 +1,4 @@
+pub mod Across
 pub mod Again
 pub mod Blocks
 pub mod Carries

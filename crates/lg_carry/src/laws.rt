@@ -1,5 +1,6 @@
 // What holds of the states that stand for each other, on every target. The functions do nothing: their contracts are the laws.
 
+ghost use Rattle.lg_carry.specs.Across.{AgreesAtCall, AgreesBehindProlog, AgreesBehindReturn, AgreesAtStart};
 ghost use Rattle.lg_carry.specs.Again.{AgreesAgain, AgreesBehindQuiet, AgreesBehindPush, AgreesBehindStore, AgreesBehindHost};
 ghost use Rattle.lg_carry.specs.Blocks.{BlocksRun};
 ghost use Rattle.std.specs.Prelude.{ℕ, Bool};
@@ -138,4 +139,24 @@ pub trait CarriedCode {
 /// bytes.
 pub fn carried_runs_agree<C: CarriedCode>()
     ensures { CarriedRunsAgree C.meaning C.state C.processor C.code C.before }
+{}
+
+/// At the `prolog` of a function that is called, states agree again.
+pub fn states_agree_at_calls()
+    ensures { AgreesAtCall }
+{}
+
+/// So they do behind a `prolog`.
+pub fn states_agree_behind_prologs()
+    ensures { AgreesBehindProlog }
+{}
+
+/// So they do behind a return, on the registers that are live there.
+pub fn states_agree_behind_returns()
+    ensures { AgreesBehindReturn }
+{}
+
+/// At the start of a run, states agree.
+pub fn states_agree_at_the_start()
+    ensures { AgreesAtStart }
 {}
