@@ -1,5 +1,5 @@
 -- States agree again across frames.
-use Rattle.std.proofs.Common.{◌≡◌, ℕ, ◌+◌, ◌-◌, ◌<◌, ◌≤◌, ◌⊎◌, inl, inr, Bool, true, false, List, ◌∷◌, Option, Some, None, refl, sym, ap, ◌∙◌, subst, arith, ⊎_elim}
+use Rattle.std.proofs.Common.{◌≡◌, ℕ, ◌+◌, ◌-◌, ◌<◌, ◌≤◌, ◌⊎◌, inl, inr, Bool, true, false, List, ◌∷◌, Option, Some, None, refl, sym, ap, ◌∙◌, subst, arith, ⊎_elim, length, []}
 use Rattle.std.specs.Prelude.{is_some, nat_lt, if◌then◌else◌}
 use Rattle.std.proofs.lemmas.Bool.{cases_lt}
 use Rattle.lg_base.specs.Conventions.{portable_register, link_register}
@@ -9,10 +9,10 @@ use Rattle.lg_base.specs.declared.target.Target.{Target}
 use Rattle.lg_cells.specs.Cells.{within}
 use Rattle.lg_cells.specs.Memories.{without}
 use Rattle.lg_node.specs.declared.function.Function.{Function}
-use Rattle.lg_node.specs.Functions.{frame_of}
-use Rattle.lg_meaning.specs.States.{Frame, in_locals, in_any_locals, is_open}
-use Rattle.lg_meaning.specs.Steps.{called, on, begun, kept}
-use Rattle.lg_meaning.specs.Fits.{AreLinked}
+use Rattle.lg_node.specs.Functions.{frame_of, home}
+use Rattle.lg_meaning.specs.States.{Frame, in_locals, in_any_locals, is_open, State}
+use Rattle.lg_meaning.specs.Steps.{called, on, begun, kept, function_here}
+use Rattle.lg_meaning.specs.Fits.{AreLinked, IsTopOf}
 use Rattle.lg_carry.specs.Codes.{is_inside}
 use Rattle.lg_carry.specs.Registers.{HasArguments, HoldsCarry, HoldsArguments}
 use Rattle.lg_carry.specs.Frames.{at_call, KeepsCaller, MayKeepCaller, HaveWords, IsArriving, IsRunning, IsLinked, arriving}
@@ -23,6 +23,9 @@ use Rattle.lg_carry.proofs.KeptLemmas.{registers-some, stack_arguments-kept, fra
 use Rattle.lg_carry.proofs.StackLemmas.{stacked, few-arguments, stacked-running, words-above, within-where, or-cases, locals-above, open-where}
 use Rattle.lg_carry.proofs.AgainLemmas.{settled, running, is-false}
 use Rattle.std.proofs.lemmas.Option.{slice_get_within}
+use Rattle.lg_node.specs.Nodes.{LabelledNodes}
+use Rattle.lg_node.specs.Shapes.{TextShape}
+use Rattle.lg_node.specs.Preparations.{pushed_of}
 
 arrived : (target : Target) (b : Bool) (place : ℕ → ℕ) (m : ℕ → Option ℕ) (w : ℕ → ℕ) (f : Frame) (gs : List Frame) (live : ℕ → Bool) → b ≡ false → IsArriving target place m w f gs live → IsRunning b target place m w f gs live
 arrived target b place m w f gs live e h = subst (λ x. IsRunning x target place m w f gs live) (sym e) h
@@ -92,13 +95,29 @@ there m from count a b e = by (within from count a) refl e
 frame-apart : (f : Function) (sp : ℕ) → least_frame + frame_of f ≤ sp → (272 + f.locals ≤ sp) × (0x3FF00000 + 272 + f.locals ≤ sp)
 frame-apart f sp h = (omega (arith, h), omega (arith, h))
 
+-- a frame has room for the function that begins
+some-same : {A : Type 0} (x y : A) → Some x ≡ Some y → x ≡ y
+some-same x y e = cc
+
+frame-room : (l : LabelledNodes) (shape : TextShape) (s : State) (f : Function) (o : Option ℕ) → o ≡ Some s.at → function_here shape.functions s.at ≡ Some f → IsTopOf l shape s o → least_frame + frame_of f ≤ s.frame.sp
+frame-room l shape s f None e h t = cc
+frame-room l shape s f (Some p) e h t =
+    let here : t.function ≡ f = some-same t.function f (sym t.here ∙ h) in
+    let at : s.at ≡ t.function.entry = sym (some-same p s.at e) ∙ sym t.entry in
+    let room = (t.top.before at).2 in
+    subst (λ g. least_frame + frame_of g ≤ s.frame.sp) here (omega (arith, room))
+
+empty-list : (xs : List ℕ) → length xs ≡ 0 → xs ≡ []
+empty-list [] e = refl
+empty-list (x ∷ xs) e = absurd (omega (arith, e))
+
 pub prolog-agrees : AgreesBehindProlog
 prolog-agrees target c live s f q u S S' st k arrives holds =
     let t = on (begun s f) in
     let linked = st.fits.linked in
     let few = few-arguments c.nodes c.shape s.frame s.callers arrives.few linked in
     let tower = stacked c.nodes c.shape s.frame s.callers linked in
-    let size = frame-apart f s.frame.sp k.room in
+    let size = frame-apart f s.frame.sp room in
     let above : (a : ℕ) → s.frame.sp ≤ a → u.bytes a ≡ q.bytes a = λ a le. k.bytes a (inr le) in
     let below : (a : ℕ) → a < 0x3FF00000 → u.bytes a ≡ q.bytes a = λ a lt. k.bytes a (inl (omega (arith, lt, size.1))) in
     let parts : HasParts t u.bytes = record {
@@ -110,7 +129,7 @@ prolog-agrees target c live s f q u S S' st k arrives holds =
     } in
     record {
       fits = arrives.fits;
-      low = omega (arith, k.room);
+      low = omega (arith, room);
       seen = arrives.seen;
       parts = parts;
       here = arrives.here;
@@ -118,7 +137,7 @@ prolog-agrees target c live s f q u S S' st k arrives holds =
       carry = holds.carry;
       result = holds.result;
       pushed = holds.pushed;
-      outgoing = subst (λ args. HasArguments target u.bytes (s.frame.sp - frame_of f) args) (sym k.nothing) record { is = λ i w le e. cc };
+      outgoing = subst (λ args. HasArguments target u.bytes (s.frame.sp - frame_of f) args) (sym nothing) record { is = λ i w le e. cc };
       incoming = stack_arguments-kept target q.bytes u.bytes s.frame.sp s.frame.args few.0 (λ a le lt. above a le) st.incoming;
       frame = running target (is_inside c (s.at + 1)) c.place u.bytes u.registers t.frame s.callers (live (at_call s.frame)) k.behind k.settled;
       callers = frames-kept target c.place live q.bytes u.bytes s.frame.sp s.callers tower few.1 (λ a i. let w = words-above s.frame.sp s.callers a tower i in above a (omega (arith, w))) st.callers;
@@ -126,9 +145,15 @@ prolog-agrees target c live s f q u S S' st k arrives holds =
       mark = arrives.mark;
     }
   where
+    room : least_frame + frame_of f ≤ s.frame.sp
+    room = frame-room c.nodes c.shape s f (home c.nodes.nodes s.at) k.prolog k.function st.fits.top
+
+    nothing : s.pushed ≡ []
+    nothing = empty-list s.pushed (st.fits.pushed ∙ ap pushed_of k.unprepared)
+
     -- an address below the stack is none of a local
     same : (a : ℕ) → a < 0x3FF00000 → without s.mem (s.frame.sp - 144 - f.locals) f.locals a ≡ s.mem a
-    same a lt = let z = frame-apart f s.frame.sp k.room in let n : within (s.frame.sp - 144 - f.locals) f.locals a ≡ false = is-false (within (s.frame.sp - 144 - f.locals) f.locals a) (λ e. let w = within-where (s.frame.sp - 144 - f.locals) f.locals a e in omega (arith, w.0, z.1, lt)) in ap (λ b. if b then None else s.mem a) n
+    same a lt = let z = frame-apart f s.frame.sp room in let n : within (s.frame.sp - 144 - f.locals) f.locals a ≡ false = is-false (within (s.frame.sp - 144 - f.locals) f.locals a) (λ e. let w = within-where (s.frame.sp - 144 - f.locals) f.locals a e in omega (arith, w.0, z.1, lt)) in ap (λ b. if b then None else s.mem a) n
 
     stays : (a : ℕ) → a < 0x3FF00000 → is_some (s.mem a) ≡ true → is_some (without s.mem (s.frame.sp - 144 - f.locals) f.locals a) ≡ true
     stays a lt h = ap is_some (same a lt) ∙ h
@@ -138,7 +163,7 @@ prolog-agrees target c live s f q u S S' st k arrives holds =
 
     apart : (a : ℕ) → within (s.frame.sp - 144 - f.locals) f.locals a ≡ false → is_open (on (begun s f)) a ≡ true → HasParts (on (begun s f)) u.bytes → (a + 144 < s.frame.sp) ⊎ (s.frame.sp ≤ a)
     apart a n e parts =
-        let z = frame-apart f s.frame.sp k.room in
+        let z = frame-apart f s.frame.sp room in
         let high : s.mark ≤ 0x30400000 = omega (arith, st.seen.high, st.mark) in
         ⊎_elim
         (λ below. inl (omega (arith, below, z.1)))

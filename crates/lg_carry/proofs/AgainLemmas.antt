@@ -120,7 +120,7 @@ module _ (target : Target) (c : Code) (live : Frame → ℕ → Bool) (s t : Sta
 
   outgoing-again : t.pushed ≡ s.pushed → ((a : ℕ) → lowest s.frame ≤ a → a < lowest s.frame + 80 → u.bytes a ≡ q.bytes a) → HasArguments target u.bytes (lowest t.frame) t.pushed
   outgoing-again pushed same = subst (λ n. HasArguments target u.bytes n t.pushed) (sym (ap lowest stays.frame)) (subst (λ args. HasArguments target u.bytes (lowest s.frame) args) (sym pushed)
-      (stack_arguments-kept target q.bytes u.bytes (lowest s.frame) s.pushed (omega (arith, st.fits.pushed, stays.few s.at)) same st.outgoing))
+      (stack_arguments-kept target q.bytes u.bytes (lowest s.frame) s.pushed (omega (arith, st.fits.pushed, stays.few s.at (omega (arith, st.fits.inside)))) same st.outgoing))
 
   pub behind-quiet : ChangesNothing s t q u → Holds target t u S' → StatesAgree target c live t u S'
   behind-quiet k holds = agrees-again target c live s t q u S S' st stays (λ a i. k.bytes a (words-off s tower st.low a i)) holds record {

@@ -4,6 +4,7 @@ pub mod BlockLemmas
 pub mod FallLemmas
 pub mod KeptLemmas
 pub mod RankLemmas
+pub mod ShapedLemmas
 pub mod SpillLemmas
 pub mod StackLemmas
 pub mod WordLemmas

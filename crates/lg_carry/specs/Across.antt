@@ -1,15 +1,16 @@
 -- How states agree again across frames, at a call, behind a `prolog` and behind a return, and at the start of a run: laws for the code of nodes.
-use Rattle.std.specs.Prelude.{◌≡◌, ℕ, ◌+◌, ◌-◌, ◌<◌, ◌≤◌, ◌⊎◌, Bool, true, false, List, [], ◌∷◌, length, Option, None}
+use Rattle.std.specs.Prelude.{◌≡◌, ℕ, ◌+◌, ◌-◌, ◌<◌, ◌≤◌, ◌⊎◌, Bool, true, false, List, [], ◌∷◌, length, Option, Some, None}
 use Rattle.lg_base.specs.Conventions.{portable_register, frame_register, stack_register, link_register}
-use Rattle.lg_base.specs.Layout.{stop_address, stack_end, frame_pointer, saved_word, least_frame}
+use Rattle.lg_base.specs.Layout.{stop_address, stack_end, frame_pointer, saved_word}
 use Rattle.lg_base.specs.declared.target.Target.{Target}
 use Rattle.lg_cells.specs.Cells.{within}
 use Rattle.lg_cells.specs.Memories.{without}
 use Rattle.lg_operators.specs.declared.carry.Carry.TheVariants as carry
 use Rattle.lg_node.specs.declared.function.Function.{Function}
-use Rattle.lg_node.specs.Functions.{frame_of}
+use Rattle.lg_node.specs.Functions.{home}
+use Rattle.lg_node.specs.Preparations.{prepared_before}
 use Rattle.lg_meaning.specs.States.{Frame, State}
-use Rattle.lg_meaning.specs.Steps.{started, called, on, begun, resumed}
+use Rattle.lg_meaning.specs.Steps.{started, called, on, begun, resumed, function_here}
 use Rattle.lg_meaning.specs.Fits.{Fits}
 use Rattle.lg_carry.specs.Processors.{Seen, IsSeen}
 use Rattle.lg_carry.specs.Codes.{Code, is_inside}
@@ -50,11 +51,12 @@ AgreesAtCall = (target : Target) (c : Code) (live : Frame → ℕ → Bool) (s :
     → Calls target c live s args q u S → is_inside c to ≡ false → Arrives c (entered s args to) u → StatesAgree target c live (entered s args to) u S'
 
 -- ---- behind a `prolog`
--- the frame has its words, FP and the stack pointer are set, and memory changes in the words and slots of the frame alone
+-- the node begins function f; the frame has its words, FP and the stack pointer are set, and memory changes in the words and slots of the frame alone
 pub record Begins (target : Target) (c : Code) (live : Frame → ℕ → Bool) (s : State) (f : Function) (q u : Seen) : Type 0 where
-  pub room : least_frame + frame_of f ≤ s.frame.sp
+  pub prolog : home c.nodes.nodes s.at ≡ Some s.at
+  pub function : function_here c.shape.functions s.at ≡ Some f
+  pub unprepared : prepared_before c.nodes.nodes s.at ≡ None
   pub behind : is_inside c (s.at + 1) ≡ true
-  pub nothing : s.pushed ≡ []
   pub settled : IsSettled target c.place u.bytes u.registers (on (begun s f)).frame s.callers (live (at_call s.frame))
   pub bytes : (a : ℕ) → (a + 144 < s.frame.sp) ⊎ (s.frame.sp ≤ a) → u.bytes a ≡ q.bytes a
 

@@ -10,5 +10,6 @@ pub mod Processors
 pub mod Ranks
 pub mod Registers
 pub mod Rows
+pub mod Shaped
 pub mod Spills
 pub mod Stands

@@ -10,6 +10,7 @@ ghost use Rattle.lg_carry.specs.Codes.{Code};
 ghost use Rattle.lg_carry.specs.Processors.{Processor};
 ghost use Rattle.lg_carry.specs.Ranks.{NodesFall, IsCarried, CarriedRunsAgree};
 ghost use Rattle.lg_carry.specs.Rows.{Rows, AreRows};
+ghost use Rattle.lg_carry.specs.Shaped.{WellShapedIsShaped};
 ghost use Rattle.lg_carry.specs.Spills.{AreSpills, SavesRestore};
 ghost use Rattle.lg_carry.specs.Laws.{RegistersAreKept, ArgumentsAreKept, StackArgumentsAreKept, FrameIsKept, FramesAreKept, RunningFrameIsKept};
 
@@ -159,4 +160,9 @@ pub fn states_agree_behind_returns()
 /// At the start of a run, states agree.
 pub fn states_agree_at_the_start()
     ensures { AgreesAtStart }
+{}
+
+/// What the laws ask of the shape of a text holds of each accepted one.
+pub fn accepted_nodes_are_shaped()
+    ensures { WellShapedIsShaped }
 {}
