@@ -1,5 +1,6 @@
 pub mod AcrossLemmas
 pub mod AgainLemmas
+pub mod ApartLemmas
 pub mod BlockLemmas
 pub mod FallLemmas
 pub mod KeptLemmas

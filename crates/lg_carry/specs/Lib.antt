@@ -1,5 +1,6 @@
 pub mod Across
 pub mod Again
+pub mod Apart
 pub mod Blocks
 pub mod Carries
 pub mod Codes

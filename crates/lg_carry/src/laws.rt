@@ -2,6 +2,7 @@
 
 ghost use Rattle.lg_carry.specs.Across.{AgreesAtCall, AgreesBehindProlog, AgreesBehindReturn, AgreesAtStart};
 ghost use Rattle.lg_carry.specs.Again.{AgreesAgain, AgreesBehindQuiet, AgreesBehindPush, AgreesBehindStore, AgreesBehindHost};
+ghost use Rattle.lg_carry.specs.Apart.{ConventionsAreApart};
 ghost use Rattle.lg_carry.specs.Blocks.{BlocksRun};
 ghost use Rattle.std.specs.Prelude.{ℕ, Bool};
 ghost use Rattle.lg_base.specs.Runs.{Machine};
@@ -165,4 +166,9 @@ pub fn states_agree_at_the_start()
 /// What the laws ask of the shape of a text holds of each accepted one.
 pub fn accepted_nodes_are_shaped()
     ensures { WellShapedIsShaped }
+{}
+
+/// The registers of the conventions of a target are apart.
+pub fn conventions_are_apart()
+    ensures { ConventionsAreApart }
 {}
