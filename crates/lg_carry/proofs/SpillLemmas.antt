@@ -1,5 +1,5 @@
 -- Saves, the code of a node, and restores.
-use Rattle.std.proofs.Common.{◌≡◌, ◌≢◌, ℕ, zero, suc, ◌+◌, ◌/◌, ◌%◌, ◌^◌, ◌<◌, ◌≤◌, ◌⊎◌, inl, inr, Bool, true, false, List, [], ◌∷◌, ◌++◌, Option, refl, sym, ap, ◌∙◌, subst, arith, ⊎_elim}
+use Rattle.std.proofs.Common.{◌≡◌, ◌≢◌, ℕ, zero, suc, ◌+◌, ◌/◌, ◌%◌, ◌^◌, ◌<◌, ◌≤◌, ◌⊎◌, inl, inr, Bool, true, false, List, [], ◌∷◌, ◌++◌, Option, refl, sym, ap, ◌∙◌, subst, arith, ⊎_elim, length, length-append}
 use Rattle.std.specs.Prelude.{◌==◌, ◌&&◌, not, is_some}
 use Rattle.std.proofs.lemmas.Bool.{cases_eq, cases_lt}
 use Rattle.lg_base.specs.Conventions.{frame_register}
@@ -11,8 +11,8 @@ use Rattle.lg_temp.specs.declared.choice.Choice.{Choice}
 use Rattle.lg_temp.specs.declared.choice.Choice.TheVariants.{Free, Own, Spill}
 use Rattle.lg_carry.specs.Registers.{HasWord}
 use Rattle.lg_carry.specs.Rows.{Rows}
-use Rattle.lg_carry.specs.Blocks.{done, GoesThrough}
-use Rattle.lg_carry.specs.Spills.{IsFramePointer, in_slots, in_first_slots, IsSaved, with_register, IsRestored, AreSpills, Looks, Leaves, Work, Does, wrapped, AreInOrder, spilled, lost, KeepsFrame, SavesRestore}
+use Rattle.lg_carry.specs.Blocks.{done, GoesThrough, spellings}
+use Rattle.lg_carry.specs.Spills.{IsFramePointer, in_slots, in_first_slots, IsSaved, with_register, IsRestored, AreSpills, Looks, Leaves, Work, Does, wrapped, AreInOrder, spilled, lost, KeepsFrame, SavesRestore, IsBehind}
 use Rattle.lg_carry.proofs.WordLemmas.{word-kept}
 
 -- ---- lists of instructions
@@ -23,6 +23,14 @@ goes-append does status (i ∷ xs) ys q a b = (a.0, goes-append does status xs y
 done-append : {Q I : Type 0} (does : I → Q → Q) (xs ys : List I) (q : Q) → done does (xs ++ ys) q ≡ done does ys (done does xs q)
 done-append does [] ys q = refl
 done-append does (i ∷ xs) ys q = done-append does xs ys (does i q)
+
+spellings-append : {I : Type 0} (spelling : I → List ℕ) (xs ys : List I) → length (spellings spelling (xs ++ ys)) ≡ length (spellings spelling xs) + length (spellings spelling ys)
+spellings-append spelling [] ys = omega arith
+spellings-append spelling (i ∷ xs) ys =
+    let rest = spellings-append spelling xs ys in
+    let whole = length-append (spelling i) (spellings spelling (xs ++ ys)) in
+    let front = length-append (spelling i) (spellings spelling xs) in
+    omega (arith, rest, whole, front)
 
 -- ---- slots
 -- a store leaves what was there
@@ -67,9 +75,10 @@ other T r x e ne = by (T x) (x == r) refl refl e
 module _ {Q I : Type 0} (R : Rows Q I) (ok : AreSpills R) where
   around : (w : Work) (code : List I) (r k fp : ℕ) (T : ℕ → Bool) → IsFramePointer fp → ((x : ℕ) → w.registers x < 2 ^ 64) → k < 5 → R.can_save r ≡ true → w.end_registers r ≡ w.registers r
       → KeepsFrame w T (frame_register R.processor.target) fp → Does R w code fp (k + 1) T → Does R w (R.save r k ∷ (code ++ R.restore r k ∷ [])) fp k (λ x. T x && not (x == r))
-  around w code r k fp T f words few can same keeps does q looks = record {
+  around w code r k fp T f words few can same keeps does q looks room = record {
     through = (looks.runs, goes-append R.does R.processor.machine.status code (R.restore r k ∷ []) q1 e.through (e.runs, tt));
     runs = subst (λ s. R.processor.machine.status s ≡ Running) (sym last) x.runs;
+    behind = subst (λ s. IsBehind R (R.save r k ∷ (code ++ R.restore r k ∷ [])) q s) (sym last) (omega (arith, x.behind, e.behind, s.behind, after, first));
     registers = λ y keep. subst (λ s. (R.processor.seen s).registers y ≡ w.end_registers y) (sym last) (back y keep);
     bytes = λ a off. subst (λ s. (R.processor.seen s).bytes a ≡ w.end_bytes a) (sym last) (x.bytes a ∙ e.bytes a off);
     slots = λ a first. subst (λ s. (R.processor.seen s).bytes a ≡ (R.processor.seen q).bytes a) (sym last) (x.bytes a ∙ e.slots a (slot-more fp k a few low first) ∙ s.bytes a ∙ stored-out (R.processor.seen q).bytes (spill_word fp k) 8 value a (inr (slot-below fp k a few low first)));
@@ -77,6 +86,12 @@ module _ {Q I : Type 0} (R : Rows Q I) (ok : AreSpills R) where
     has_flag = subst (λ s. (R.processor.seen s).flag ≡ w.end_flag) (sym last) (x.marks.1 ∙ e.has_flag);
   }
     where
+      first : length (spellings R.spelling (R.save r k ∷ (code ++ R.restore r k ∷ []))) ≡ length (spellings R.spelling (R.save r k ∷ [])) + length (spellings R.spelling (code ++ R.restore r k ∷ []))
+      first = spellings-append R.spelling (R.save r k ∷ []) (code ++ R.restore r k ∷ [])
+
+      after : length (spellings R.spelling (code ++ R.restore r k ∷ [])) ≡ length (spellings R.spelling code) + length (spellings R.spelling (R.restore r k ∷ []))
+      after = spellings-append R.spelling code (R.restore r k ∷ [])
+
       low : 128 ≤ fp
       low = omega (arith, f.low)
 
@@ -87,7 +102,7 @@ module _ {Q I : Type 0} (R : Rows Q I) (ok : AreSpills R) where
       q1 = R.does (R.save r k) q
 
       s : IsSaved R r k fp q q1
-      s = ok.saves q r k fp can few f looks.runs (looks.has_registers (frame_register R.processor.target) ∙ keeps.before) looks.has_slots
+      s = ok.saves q r k fp can few f looks.runs record { low = room.low; high = omega (arith, room.high, first) } (looks.has_registers (frame_register R.processor.target) ∙ keeps.before) looks.has_slots
 
       looks1 : Looks R fp w.registers w.bytes w.mark w.flag q1
       looks1 = record {
@@ -100,7 +115,7 @@ module _ {Q I : Type 0} (R : Rows Q I) (ok : AreSpills R) where
       }
 
       e : Leaves R code fp (k + 1) w.end_registers w.end_bytes w.end_mark w.end_flag T q1
-      e = does q1 looks1
+      e = does q1 looks1 record { low = omega (arith, s.behind, room.low); high = omega (arith, s.behind, room.high, first, after) }
 
       q2 : Q
       q2 = done R.does code q1
@@ -110,8 +125,8 @@ module _ {Q I : Type 0} (R : Rows Q I) (ok : AreSpills R) where
           (λ j le lt. e.slots j (slot-first fp k j few low le lt) ∙ s.bytes j)
           (loaded-stored (R.processor.seen q).bytes (spill_word fp k) 8 value (let v = words r in let h = looks.has_registers r in omega (arith, v, h)))
 
-      x : IsRestored R r value q2 (R.does (R.restore r k) q2)
-      x = ok.restores q2 r k fp value can few f e.runs (e.registers (frame_register R.processor.target) keeps.unspoiled ∙ keeps.behind) held
+      x : IsRestored R r k value q2 (R.does (R.restore r k) q2)
+      x = ok.restores q2 r k fp value can few f e.runs record { low = omega (arith, e.behind, s.behind, room.low); high = omega (arith, e.behind, s.behind, room.high, first, after) } (e.registers (frame_register R.processor.target) keeps.unspoiled ∙ keeps.behind) held
 
       last : done R.does (R.save r k ∷ (code ++ R.restore r k ∷ [])) q ≡ R.does (R.restore r k) q2
       last = done-append R.does code (R.restore r k ∷ []) q1

@@ -1,7 +1,7 @@
 -- Registers that are saved before the code of a node and restored behind it.
-use Rattle.std.specs.Prelude.{◌≡◌, ◌≢◌, ℕ, ◌+◌, ◌-◌, ◌*◌, ◌%◌, ◌^◌, ◌==◌, ◌<◌, ◌≤◌, ◌&&◌, not, Bool, true, false, List, [], ◌∷◌, ◌++◌, Option, is_some, if◌then◌else◌, ⊤}
+use Rattle.std.specs.Prelude.{◌≡◌, ◌≢◌, ℕ, ◌+◌, ◌-◌, ◌*◌, ◌%◌, ◌^◌, ◌==◌, ◌<◌, ◌≤◌, ◌&&◌, not, Bool, true, false, List, [], ◌∷◌, ◌++◌, length, Option, is_some, if◌then◌else◌, ⊤}
 use Rattle.lg_base.specs.Conventions.{frame_register}
-use Rattle.lg_base.specs.Layout.{spill_word}
+use Rattle.lg_base.specs.Layout.{spill_word, code_base, most_code}
 use Rattle.lg_base.specs.Parts.{stack_base}
 use Rattle.lg_base.specs.Runs.{Running}
 use Rattle.lg_base.specs.Spaces.{stored}
@@ -10,7 +10,7 @@ use Rattle.lg_temp.specs.declared.choice.Choice.{Choice}
 use Rattle.lg_temp.specs.declared.choice.Choice.TheVariants.{Free, Own, Spill}
 use Rattle.lg_carry.specs.Registers.{HasWord}
 use Rattle.lg_carry.specs.Rows.{Rows}
-use Rattle.lg_carry.specs.Blocks.{done, GoesThrough}
+use Rattle.lg_carry.specs.Blocks.{spellings, done, GoesThrough}
 
 -- the frame pointer of a frame in the stack
 pub record IsFramePointer (fp : ℕ) : Type 0 where
@@ -27,12 +27,22 @@ abbrev pub in_first_slots : ℕ → ℕ → ℕ → Bool
 in_first_slots fp n a = within (fp - (88 + 8 * n)) (8 * n) a
 
 -- ---- what saves and restores do
+-- the code from the program counter on lies where code may
+pub record HasRoom {Q I : Type 0} (R : Rows Q I) (code : List I) (q : Q) : Type 0 where
+  pub low : code_base ≤ (R.processor.seen q).pc
+  pub high : (R.processor.seen q).pc + length (spellings R.spelling code) ≤ code_base + most_code
+
+-- the program counter is behind the code
+abbrev pub IsBehind : {Q I : Type 0} → Rows Q I → List I → Q → Q → Type 0
+IsBehind R code q q' = (R.processor.seen q').pc ≡ (R.processor.seen q).pc + length (spellings R.spelling code)
+
 -- registers, mark and flag of a state are those of another
 abbrev pub HasMarks : {Q I : Type 0} → Rows Q I → Q → Q → Type 0
 HasMarks R q q' = ((R.processor.seen q').mark ≡ (R.processor.seen q).mark) × ((R.processor.seen q').flag ≡ (R.processor.seen q).flag)
 
 pub record IsSaved {Q I : Type 0} (R : Rows Q I) (r k fp : ℕ) (q q' : Q) : Type 0 where
   pub runs : R.processor.machine.status q' ≡ Running
+  pub behind : IsBehind R (R.save r k ∷ []) q q'
   pub registers : (x : ℕ) → (R.processor.seen q').registers x ≡ (R.processor.seen q).registers x
   pub bytes : (a : ℕ) → (R.processor.seen q').bytes a ≡ stored (R.processor.seen q).bytes (spill_word fp k) 8 ((R.processor.seen q).registers r) a
   pub marks : HasMarks R q q'
@@ -41,8 +51,9 @@ pub record IsSaved {Q I : Type 0} (R : Rows Q I) (r k fp : ℕ) (q q' : Q) : Typ
 abbrev pub with_register : (ℕ → ℕ) → ℕ → ℕ → ℕ → ℕ
 with_register registers r w x = if x == r then w else registers x
 
-pub record IsRestored {Q I : Type 0} (R : Rows Q I) (r w : ℕ) (q q' : Q) : Type 0 where
+pub record IsRestored {Q I : Type 0} (R : Rows Q I) (r k w : ℕ) (q q' : Q) : Type 0 where
   pub runs : R.processor.machine.status q' ≡ Running
+  pub behind : IsBehind R (R.restore r k ∷ []) q q'
   pub registers : (x : ℕ) → (R.processor.seen q').registers x ≡ with_register (R.processor.seen q).registers r w x
   pub bytes : (a : ℕ) → (R.processor.seen q').bytes a ≡ (R.processor.seen q).bytes a
   pub marks : HasMarks R q q'
@@ -50,10 +61,10 @@ pub record IsRestored {Q I : Type 0} (R : Rows Q I) (r w : ℕ) (q q' : Q) : Typ
 -- a save stores the register in its slot, and a restore loads it from there
 pub record AreSpills {Q I : Type 0} (R : Rows Q I) : Type 0 where
   pub apart : (r : ℕ) → R.can_save r ≡ true → r ≢ frame_register R.processor.target
-  pub saves : (q : Q) (r k fp : ℕ) → R.can_save r ≡ true → k < 5 → IsFramePointer fp → R.processor.machine.status q ≡ Running → (R.processor.seen q).registers (frame_register R.processor.target) ≡ fp
+  pub saves : (q : Q) (r k fp : ℕ) → R.can_save r ≡ true → k < 5 → IsFramePointer fp → R.processor.machine.status q ≡ Running → HasRoom R (R.save r k ∷ []) q → (R.processor.seen q).registers (frame_register R.processor.target) ≡ fp
       → ((a : ℕ) → in_slots fp a ≡ true → is_some ((R.processor.seen q).bytes a) ≡ true) → IsSaved R r k fp q (R.does (R.save r k) q)
-  pub restores : (q : Q) (r k fp w : ℕ) → R.can_save r ≡ true → k < 5 → IsFramePointer fp → R.processor.machine.status q ≡ Running → (R.processor.seen q).registers (frame_register R.processor.target) ≡ fp
-      → HasWord (R.processor.seen q).bytes (spill_word fp k) w → IsRestored R r w q (R.does (R.restore r k) q)
+  pub restores : (q : Q) (r k fp w : ℕ) → R.can_save r ≡ true → k < 5 → IsFramePointer fp → R.processor.machine.status q ≡ Running → HasRoom R (R.restore r k ∷ []) q → (R.processor.seen q).registers (frame_register R.processor.target) ≡ fp
+      → HasWord (R.processor.seen q).bytes (spill_word fp k) w → IsRestored R r k w q (R.does (R.restore r k) q)
 
 -- ---- what code does
 -- how a state looks to the code of a node: it runs; registers, bytes off the slots, mark and flag are these; and the slots are there
@@ -65,11 +76,12 @@ pub record Looks {Q I : Type 0} (R : Rows Q I) (fp : ℕ) (registers : ℕ → �
   pub has_mark : (R.processor.seen q).mark ≡ mark
   pub has_flag : (R.processor.seen q).flag ≡ flag
 
--- the code goes through and leaves the registers W but for those of T, the bytes M but for the slots, and this mark and flag; it keeps the
+-- the code goes through to its end and leaves the registers W but for those of T, the bytes M but for the slots, and this mark and flag; it keeps the
 -- first n slots
 pub record Leaves {Q I : Type 0} (R : Rows Q I) (code : List I) (fp n : ℕ) (W : ℕ → ℕ) (M : ℕ → Option ℕ) (mark : ℕ) (flag : Option Bool) (T : ℕ → Bool) (q : Q) : Type 0 where
   pub through : GoesThrough R.does R.processor.machine.status code q
   pub runs : R.processor.machine.status (done R.does code q) ≡ Running
+  pub behind : IsBehind R code q (done R.does code q)
   pub registers : (r : ℕ) → T r ≡ false → (R.processor.seen (done R.does code q)).registers r ≡ W r
   pub bytes : (a : ℕ) → in_slots fp a ≡ false → (R.processor.seen (done R.does code q)).bytes a ≡ M a
   pub slots : (a : ℕ) → in_first_slots fp n a ≡ true → (R.processor.seen (done R.does code q)).bytes a ≡ (R.processor.seen q).bytes a
@@ -87,9 +99,9 @@ pub record Work : Type 0 where
   pub end_mark : ℕ
   pub end_flag : Option Bool
 
--- code does so from every state that looks so, whatever stands in the slots
+-- code does so from every state that looks so, wherever it lies and whatever stands in the slots
 abbrev pub Does : {Q I : Type 0} → Rows Q I → Work → List I → ℕ → ℕ → (ℕ → Bool) → Type 0
-Does {Q} R w code fp n T = (q : Q) → Looks R fp w.registers w.bytes w.mark w.flag q → Leaves R code fp n w.end_registers w.end_bytes w.end_mark w.end_flag T q
+Does {Q} R w code fp n T = (q : Q) → Looks R fp w.registers w.bytes w.mark w.flag q → HasRoom R code q → Leaves R code fp n w.end_registers w.end_bytes w.end_mark w.end_flag T q
 
 -- ---- saved registers
 -- the code of a node, with each register that is spilled saved before it and restored behind it
