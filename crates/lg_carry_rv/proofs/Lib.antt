@@ -1,0 +1,3 @@
+pub mod ActLemmas
+pub mod RowLemmas
+pub mod SlotLemmas

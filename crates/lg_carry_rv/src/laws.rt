@@ -1,0 +1,13 @@
+// What holds of the instructions of RV64IM, for the code of nodes. The functions do nothing: their contracts are the laws.
+
+ghost use Rattle.lg_carry_rv.specs.RvRows.{InstructionsAreRows, InstructionsAreSpills};
+
+/// The instruction whose spelling stands at the program counter is executed, and the next one follows.
+pub fn instructions_are_rows()
+    ensures { InstructionsAreRows }
+{}
+
+/// `sd` saves a register in a spill slot, and `ld` restores it.
+pub fn instructions_are_spills()
+    ensures { InstructionsAreSpills }
+{}
