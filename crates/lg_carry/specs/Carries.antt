@@ -68,15 +68,15 @@ pub record Leads {Q : Type 0} (P : Processor Q) (c : Code) (live : Frame → ℕ
   pub there : Meets P c live after next out (iter P.machine.step steps q)
 
 -- from all states at node i that stand for each other on a set of registers, the portable step is undefined, or it is carried. Live tells for a
--- frame which registers are live at its return, and after for a state which are live at its node
-abbrev pub CarriesBy : {Q : Type 0} → Processor Q → Code → (Frame → ℕ → Bool) → (State → ℕ → Bool) → ℕ → (ℕ → Bool) → Type 0
+-- frame which registers are live at its return, and after for a state and the one that follows which are live at the node of the latter
+abbrev pub CarriesBy : {Q : Type 0} → Processor Q → Code → (Frame → ℕ → Bool) → (State → State → ℕ → Bool) → ℕ → (ℕ → Bool) → Type 0
 CarriesBy {Q} P c live after i S =
     (s : State) (out : List ℕ) (q : Q) → s.at ≡ i → Stands P c live s out q S
-    → (step c.nodes c.shape c.addresses s ≡ Undefined) ⊎ Leads P c live after i (step c.nodes c.shape c.addresses s) out q
+    → (step c.nodes c.shape c.addresses s ≡ Undefined) ⊎ Leads P c live (after s) i (step c.nodes c.shape c.addresses s) out q
 
 -- a node has at most 256 bytes, and its code carries it from the registers that are live before it to those that are live before the next node;
 -- before tells for a node which registers are live before it
 pub record Carries {Q : Type 0} (P : Processor Q) (c : Code) (before : ℕ → ℕ → Bool) (i : ℕ) : Type 0 where
   pub order : c.place i ≤ c.place (i + 1)
   pub short : c.place (i + 1) ≤ c.place i + 256
-  pub carries : CarriesBy P c (λ f. before f.back) (λ t. before t.at) i (before i)
+  pub carries : CarriesBy P c (λ f. before f.back) (λ s t. before t.at) i (before i)

@@ -8,6 +8,7 @@ ghost use Rattle.std.specs.Prelude.{ℕ, Bool};
 ghost use Rattle.lg_base.specs.Runs.{Machine};
 ghost use Rattle.lg_meaning.specs.States.{State};
 ghost use Rattle.lg_carry.specs.Codes.{Code};
+ghost use Rattle.lg_carry.specs.NodeCode.{NodeCodeCarries};
 ghost use Rattle.lg_carry.specs.Processors.{Processor};
 ghost use Rattle.lg_carry.specs.Ranks.{NodesFall, IsCarried, CarriedRunsAgree};
 ghost use Rattle.lg_carry.specs.Rows.{Rows, AreRows};
@@ -171,4 +172,18 @@ pub fn accepted_nodes_are_shaped()
 /// The registers of the conventions of a target are apart.
 pub fn conventions_are_apart()
     ensures { ConventionsAreApart }
+{}
+
+/// A processor.
+pub trait Runs {
+    /// A state of the processor.
+    type State;
+
+    /// The processor.
+    ghost processor: { Processor Self.State };
+}
+
+/// Where the code of a node carries it for the registers that are live behind it, it carries it.
+pub fn node_code_carries<R: Runs>()
+    ensures { NodeCodeCarries R.processor }
 {}
