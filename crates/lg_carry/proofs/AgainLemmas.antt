@@ -1,5 +1,5 @@
 -- States agree again behind a node that stays in its frame.
-use Rattle.std.proofs.Common.{◌≡◌, ℕ, ◌+◌, ◌<◌, ◌≤◌, inl, inr, Bool, true, false, List, ◌∷◌, Option, Some, refl, sym, ap, ◌∙◌, subst, arith, ⊎_elim, [], ◌-◌, ◌⊎◌}
+use Rattle.std.proofs.Common.{◌≡◌, ℕ, ◌+◌, ◌<◌, ◌≤◌, inl, inr, Bool, true, false, List, ◌∷◌, Option, Some, refl, sym, ap, ◌∙◌, subst, arith, ⊎_elim, [], ◌-◌, ◌⊎◌, ◌≢◌, None}
 use Rattle.lg_base.specs.Parts.{data_base, args_base}
 use Rattle.lg_cells.specs.Cells.{within}
 use Rattle.std.specs.Prelude.{is_some}
@@ -7,15 +7,17 @@ use Rattle.lg_base.specs.Layout.{frame_pointer, least_frame}
 use Rattle.lg_base.specs.declared.target.Target.{Target}
 use Rattle.lg_meaning.specs.States.{Frame, State, is_open}
 use Rattle.lg_carry.specs.Codes.{is_inside, Code}
-use Rattle.lg_carry.specs.Registers.{HasArguments}
+use Rattle.lg_carry.specs.Registers.{HasArguments, HoldsArguments}
 use Rattle.lg_carry.specs.Frames.{at_call, IsSettled, IsRunning, HaveWords}
 use Rattle.lg_carry.specs.Places.{AreStacked, InWords}
 use Rattle.lg_carry.specs.Spills.{in_slots}
 use Rattle.lg_carry.specs.Stands.{lowest, HasParts, HasMemory, StatesAgree}
-use Rattle.lg_carry.specs.Again.{AgreesAgain, is_spoilt, StaysInFrame, Holds, ChangesNothing, AgreesBehindQuiet, Pushes, AgreesBehindPush, Writes, AgreesBehindStore, AgreesBehindHost}
-use Rattle.lg_carry.proofs.KeptLemmas.{stack_arguments-kept, frames-kept, running-kept}
+use Rattle.lg_carry.specs.Again.{AgreesAgain, is_spoilt, StaysInFrame, Holds, ChangesNothing, AgreesBehindQuiet, Pushes, AgreesBehindPush, Writes, AgreesBehindStore, AgreesBehindHost, AgreesBehindWrite}
+use Rattle.lg_carry.proofs.KeptLemmas.{stack_arguments-kept, frames-kept, running-kept, arguments-kept}
 use Rattle.lg_carry.proofs.StackLemmas.{stacked, few-arguments, stacked-running, words-above, within-where, or-cases, locals-above, locals-apart, locals-off, open-where, slot-where}
 use Rattle.lg_carry.specs.Processors.{Seen}
+use Rattle.lg_base.specs.Conventions.{portable_register}
+use Rattle.lg_meaning.specs.Steps.{with_word}
 
 pub settled : (target : Target) (b : Bool) (place : ℕ → ℕ) (m : ℕ → Option ℕ) (w : ℕ → ℕ) (f : Frame) (gs : List Frame) (live : ℕ → Bool) → b ≡ true → IsRunning b target place m w f gs live → IsSettled target place m w f gs live
 settled target b place m w f gs live e h = subst (λ x. IsRunning x target place m w f gs live) e h
@@ -181,3 +183,23 @@ store-agrees target c live s t q u S S' st stays k pushed holds = behind-store t
 
 pub host-agrees : AgreesBehindHost
 host-agrees target c live s t q u S S' st stays k pushed holds = behind-host target c live s t q u S S' st stays k pushed holds
+
+-- ---- a register is written
+written : (f : ℕ → Option ℕ) (d v r w : ℕ) → with_word f d v r ≡ Some w → ((r ≡ d) × (v ≡ w)) ⊎ ((r ≢ d) × (f r ≡ Some w))
+written f d v r w e = grind arith
+
+pub write-agrees : AgreesBehindWrite
+write-agrees target c live s t q u S S' d v st stays quiet k carry = behind-quiet target c live s t q u S S' st stays quiet record {
+  registers = record {
+    is = λ r w lt m e. ⊎_elim
+        (λ z. ap (λ n. u.registers (portable_register target n)) z.0 ∙ k.value ∙ z.1)
+        (λ z. let h = k.kept r lt m z.0 in h.1 ∙ st.registers.is r w lt h.0 z.1)
+        (written s.regs d v r w (ap (λ f. f r) (sym k.regs) ∙ e));
+  };
+  carry = carry;
+  result = record { is = λ w e. absurd (none k.answer e) };
+  pushed = subst (λ args. HoldsArguments target u.registers args) (sym quiet.pushed) (arguments-kept target q.registers u.registers s.pushed k.arguments st.pushed);
+}
+  where
+    none : {o : Option ℕ} {w : ℕ} → o ≡ None → o ≡ Some w → ⊥
+    none e h = cc

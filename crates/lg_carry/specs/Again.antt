@@ -1,6 +1,6 @@
 -- How states agree again behind a node that stays in its frame: laws for the code of nodes.
-use Rattle.std.specs.Prelude.{◌≡◌, ℕ, ◌-◌, ◌⊎◌, ◌||◌, Bool, true, false, [], ◌∷◌}
-use Rattle.lg_base.specs.Conventions.{frame_register, stack_register}
+use Rattle.std.specs.Prelude.{◌≡◌, ℕ, ◌-◌, ◌⊎◌, ◌||◌, Bool, true, false, [], ◌∷◌, ◌≢◌, ◌<◌, length, slice_index, None}
+use Rattle.lg_base.specs.Conventions.{frame_register, stack_register, argument_registers, portable_register}
 use Rattle.lg_base.specs.Layout.{frame_pointer}
 use Rattle.lg_base.specs.declared.target.Target.{Target}
 use Rattle.lg_cells.specs.Cells.{within}
@@ -12,6 +12,7 @@ use Rattle.lg_carry.specs.Registers.{HoldsRegisters, HoldsCarry, HoldsResult, Ho
 use Rattle.lg_carry.specs.Places.{InWords, ArePassedFew}
 use Rattle.lg_carry.specs.Spills.{in_slots}
 use Rattle.lg_carry.specs.Stands.{lowest, HasParts, HasMemory, StatesAgree}
+use Rattle.lg_meaning.specs.Steps.{with_word}
 
 -- from state s to state t, and from q to u: both nodes stand in a function behind its `prolog`, and the frames, FP and the stack pointer stay
 pub record StaysInFrame (target : Target) (c : Code) (s t : State) (q u : Seen) : Type 0 where
@@ -87,3 +88,16 @@ AgreesBehindStore = (target : Target) (c : Code) (live : Frame → ℕ → Bool)
 abbrev pub AgreesBehindHost : Type 0
 AgreesBehindHost = (target : Target) (c : Code) (live : Frame → ℕ → Bool) (s t : State) (q u : Seen) (S S' : ℕ → Bool) → StatesAgree target c live s q S → StaysInFrame target c s t q u
     → Writes s t q u → t.pushed ≡ [] → Holds target t u S' → StatesAgree target c live t u S'
+
+-- a register is written, and memory changes as behind a quiet node: the register holds the word, the others that are live behind the node are
+-- kept, and so are the registers of the arguments that are pushed
+pub record WritesRegister (target : Target) (s t : State) (q u : Seen) (S S' : ℕ → Bool) (d v : ℕ) : Type 0 where
+  pub regs : t.regs ≡ with_word s.regs d v
+  pub answer : t.answer ≡ None
+  pub value : u.registers (portable_register target d) ≡ v
+  pub kept : (r : ℕ) → r < 6 → S' r ≡ true → r ≢ d → (S r ≡ true) × (u.registers (portable_register target r) ≡ q.registers (portable_register target r))
+  pub arguments : (i : ℕ) → i < length (argument_registers target) → i < length s.pushed → u.registers (slice_index (argument_registers target) i) ≡ q.registers (slice_index (argument_registers target) i)
+
+abbrev pub AgreesBehindWrite : Type 0
+AgreesBehindWrite = (target : Target) (c : Code) (live : Frame → ℕ → Bool) (s t : State) (q u : Seen) (S S' : ℕ → Bool) (d v : ℕ) → StatesAgree target c live s q S → StaysInFrame target c s t q u
+    → ChangesNothing s t q u → WritesRegister target s t q u S S' d v → HoldsCarry target u.registers u.flag t.carry → StatesAgree target c live t u S'

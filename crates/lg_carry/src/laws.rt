@@ -1,7 +1,7 @@
 // What holds of the states that stand for each other, on every target. The functions do nothing: their contracts are the laws.
 
 ghost use Rattle.lg_carry.specs.Across.{AgreesAtCall, AgreesBehindProlog, AgreesBehindReturn, AgreesAtStart};
-ghost use Rattle.lg_carry.specs.Again.{AgreesAgain, AgreesBehindQuiet, AgreesBehindPush, AgreesBehindStore, AgreesBehindHost};
+ghost use Rattle.lg_carry.specs.Again.{AgreesAgain, AgreesBehindQuiet, AgreesBehindPush, AgreesBehindStore, AgreesBehindHost, AgreesBehindWrite};
 ghost use Rattle.lg_carry.specs.Apart.{ConventionsAreApart};
 ghost use Rattle.lg_carry.specs.Blocks.{BlocksRun};
 ghost use Rattle.std.specs.Prelude.{ℕ, Bool};
@@ -186,4 +186,9 @@ pub trait Runs {
 /// Where the code of a node carries it for the registers that are live behind it, it carries it.
 pub fn node_code_carries<R: Runs>()
     ensures { NodeCodeCarries R.processor }
+{}
+
+/// Behind a node that writes a register and else is quiet, states agree again.
+pub fn states_agree_behind_writes()
+    ensures { AgreesBehindWrite }
 {}
