@@ -11,7 +11,7 @@ use Rattle.lg_node.specs.Preparations.{prepared_before, pushed_of}
 use Rattle.lg_meaning.specs.Fits.{is_call}
 use Rattle.lg_carry.specs.Shaped.{WellShapedIsShaped}
 
-inner : (o : Option ℕ) (p k : ℕ) → o ≡ Some p → p < k → is_inner o k ≡ true
+pub inner : (o : Option ℕ) (p k : ℕ) → o ≡ Some p → p < k → is_inner o k ≡ true
 inner o p k e lt = subst (λ x. is_inner x k ≡ true) (sym e) (grind (arith, lt))
 
 few-at : (o : Option Preparation) → ((call : Preparation) → o ≡ Some call → call.pushed ≤ 16) → pushed_of o ≤ 16

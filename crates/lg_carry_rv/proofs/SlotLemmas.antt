@@ -32,14 +32,14 @@ saved-some r can = grind (arith, can)
 saved-apart : (r : ℕ) → can_save r ≡ true → r ≢ 8
 saved-apart r can = λ e. absurd (grind (arith, can, e))
 
-pc-next : (pc : ℕ) → pc + 4 ≤ code_base + most_code → add_words pc 4 ≡ pc + 4
+pub pc-next : (pc : ℕ) → pc + 4 ≤ code_base + most_code → add_words pc 4 ≡ pc + 4
 pc-next pc h = grind (arith, h)
 
 -- the code goes on
 no-stop : (pc : ℕ) → code_base ≤ pc → pc + 4 ≤ code_base + most_code → (add_words pc 4 == stop_address) ≡ false
 no-stop pc low high = grind (arith, low, high)
 
-goes-on : (pc : ℕ) → code_base ≤ pc → pc + 4 ≤ code_base + most_code → status_of (arrived (add_words pc 4)) ≡ Running
+pub goes-on : (pc : ℕ) → code_base ≤ pc → pc + 4 ≤ code_base + most_code → status_of (arrived (add_words pc 4)) ≡ Running
 goes-on pc low high = let n = no-stop pc low high in rw n refl
 
 -- ---- what the two instructions do

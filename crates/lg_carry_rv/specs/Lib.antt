@@ -1,1 +1,2 @@
+pub mod RegisterNodes
 pub mod RvRows

@@ -1,5 +1,6 @@
 // What holds of the instructions of RV64IM, for the code of nodes. The functions do nothing: their contracts are the laws.
 
+ghost use Rattle.lg_carry_rv.specs.RegisterNodes.{RegisterNodesCarry};
 ghost use Rattle.lg_carry_rv.specs.RvRows.{InstructionsAreRows, InstructionsAreSpills};
 
 /// The instruction whose spelling stands at the program counter is executed, and the next one follows.
@@ -10,4 +11,9 @@ pub fn instructions_are_rows()
 /// `sd` saves a register in a spill slot, and `ld` restores it.
 pub fn instructions_are_spills()
     ensures { InstructionsAreSpills }
+{}
+
+/// A node of two registers into one that is a single instruction is carried by it.
+pub fn register_nodes_are_carried()
+    ensures { RegisterNodesCarry }
 {}

@@ -1,0 +1,71 @@
+-- The nodes of two registers into one that are a single instruction.
+use Rattle.std.specs.Prelude.{◌≡◌, ◌≢◌, ℕ, ◌+◌, ◌-◌, ◌%◌, ◌^◌, ◌<◌, ◌≤◌, Bool, List, [], ◌∷◌, ◌++◌, length, drop, slice_get, Option, Some, None}
+use Rattle.lg_base.specs.Layout.{code_base, most_code}
+use Rattle.lg_base.specs.declared.target.Target.TheVariants.{Riscv64}
+use Rattle.lg_op.specs.declared.op.BinaryOp.{BinaryOp}
+use Rattle.lg_op.specs.declared.op.BinaryOp.TheVariants as binary
+use Rattle.lg_op.specs.declared.op.LastOperand.TheVariants as last_operand
+use Rattle.lg_op.specs.declared.op.Op.TheVariants as op
+use Rattle.lg_op.specs.declared.node.Node.{Node}
+use Rattle.lg_op.specs.declared.operand.Reg.{Reg}
+use Rattle.lg_op.specs.declared.operand.Reg.TheVariants.{Fp}
+use Rattle.lg_op.specs.declared.operand.Operand.TheVariants as operand
+use Rattle.lg_node.specs.Functions.{home}
+use Rattle.lg_rv.specs.Spelling.{spelling}
+use Rattle.lg_rv.specs.declared.instruction.Instr.{Instr}
+use Rattle.lg_rv.specs.declared.instruction.Instr.TheVariants as instr
+use Rattle.lg_rv.specs.declared.instruction.RegOp.{RegOp}
+use Rattle.lg_rv.specs.declared.instruction.RegOp.TheVariants as row
+use Rattle.lg_cpu.specs.Laws.{AreBytes}
+use Rattle.lg_meaning.specs.States.{State}
+use Rattle.lg_meaning.specs.Steps.{Goes}
+use Rattle.lg_meaning.specs.Texts.{step}
+use Rattle.lg_meaning.specs.Fits.{Fits}
+use Rattle.lg_temp.specs.Abis.{register_of}
+use Rattle.lg_carry.specs.Codes.{Code}
+use Rattle.lg_carry.specs.Shaped.{IsShaped}
+use Rattle.lg_carry.specs.NodeCode.{CarriesNode}
+use Rattle.lg_carry_rv.specs.RvRows.{rv_processor}
+use Rattle.lg_base.specs.Parts.{heap_base}
+
+-- the row of the operations that are one
+abbrev pub row_of : BinaryOp → Option RegOp
+row_of binary.Add = Some row.Add
+row_of binary.Sub = Some row.Sub
+row_of binary.Mul = Some row.Mul
+row_of binary.And = Some row.And
+row_of binary.Or = Some row.Or
+row_of binary.Xor = Some row.Xor
+row_of o = None
+
+abbrev pub register_node : BinaryOp → Reg → Reg → Reg → ℕ → Node
+register_node o d a b line = record { op = op.Binary o last_operand.Register; operands = operand.Reg d ∷ operand.Reg a ∷ operand.Reg b ∷ []; line = line }
+
+abbrev pub register_code : RegOp → Reg → Reg → Reg → Instr
+register_code r d a b = instr.Reg r (register_of Riscv64 d) (register_of Riscv64 a) (register_of Riscv64 b)
+
+-- the text is accepted, its steps from states whose heap mark is in the heap keep the fit, and node i stands in a function behind its `prolog`
+pub record IsInText (c : Code) (i : ℕ) (n : Node) : Type 0 where
+  pub shaped : IsShaped c.nodes
+  pub keeps : (s t : State) (bytes : List ℕ) → heap_base ≤ s.mark → s.mark ≤ 0x30400000 → Fits c.nodes c.shape s → step c.nodes c.shape c.addresses s ≡ Goes t bytes → Fits c.nodes c.shape t
+  pub here : slice_get c.nodes.nodes i ≡ Some n
+  pub entry : ℕ
+  pub home : home c.nodes.nodes i ≡ Some entry
+  pub behind : entry < i
+
+-- the bytes of one instruction stand at node i, and they are all its bytes
+pub record IsInCode (code : List ℕ) (trash : ℕ) (c : Code) (i : ℕ) (x : Instr) : Type 0 where
+  pub small : length code ≤ most_code
+  pub bytes : AreBytes code
+  pub word : trash < 2 ^ 64
+  pub low : code_base ≤ c.place i
+  pub aligned : c.place i % 4 ≡ 0
+  pub more : List ℕ
+  pub stands : drop (c.place i - code_base) code ≡ spelling x ++ more
+  pub next : c.place (i + 1) ≡ c.place i + 4
+
+-- such a node is carried by its instruction
+abbrev pub RegisterNodesCarry : Type 0
+RegisterNodesCarry =
+    (code : List ℕ) (trash : ℕ) (c : Code) (i : ℕ) (o : BinaryOp) (r : RegOp) (d a b : Reg) (line : ℕ) (S : ℕ → Bool) → row_of o ≡ Some r → d ≢ Fp
+    → IsInText c i (register_node o d a b line) → IsInCode code trash c i (register_code r d a b) → CarriesNode (rv_processor code trash) c i (register_node o d a b line) S
