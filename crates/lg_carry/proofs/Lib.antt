@@ -7,6 +7,7 @@ pub mod KeptLemmas
 pub mod NodeCodeLemmas
 pub mod RankLemmas
 pub mod ShapedLemmas
+pub mod SpillChoiceLemmas
 pub mod SpillLemmas
 pub mod StackLemmas
 pub mod WordLemmas

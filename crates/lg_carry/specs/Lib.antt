@@ -13,5 +13,6 @@ pub mod Ranks
 pub mod Registers
 pub mod Rows
 pub mod Shaped
+pub mod SpillChoices
 pub mod Spills
 pub mod Stands

@@ -13,6 +13,7 @@ ghost use Rattle.lg_carry.specs.Processors.{Processor};
 ghost use Rattle.lg_carry.specs.Ranks.{NodesFall, IsCarried, CarriedRunsAgree};
 ghost use Rattle.lg_carry.specs.Rows.{Rows, AreRows};
 ghost use Rattle.lg_carry.specs.Shaped.{WellShapedIsShaped};
+ghost use Rattle.lg_carry.specs.SpillChoices.{ChoicesAreInOrder, SpilledAreUnwritten};
 ghost use Rattle.lg_carry.specs.Spills.{AreSpills, SavesRestore};
 ghost use Rattle.lg_carry.specs.Laws.{RegistersAreKept, ArgumentsAreKept, StackArgumentsAreKept, FrameIsKept, FramesAreKept, RunningFrameIsKept};
 
@@ -104,6 +105,16 @@ pub fn states_agree_behind_stores()
 /// So they do behind a host function that writes there.
 pub fn states_agree_behind_hosts()
     ensures { AgreesBehindHost }
+{}
+
+/// The choices for the needs of a node use the slots in order.
+pub fn choices_are_in_order<P: SavesRegisters>()
+    ensures { ChoicesAreInOrder P.rows }
+{}
+
+/// They save no register that the node writes.
+pub fn spilled_registers_are_unwritten()
+    ensures { SpilledAreUnwritten }
 {}
 
 /// A node that is no branch, jump, call or return goes to the next one.
