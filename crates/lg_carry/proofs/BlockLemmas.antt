@@ -7,6 +7,7 @@ use Rattle.lg_base.specs.Runs.{Running, iter}
 use Rattle.lg_temp.proofs.Steps.{iter-zero, iter-first}
 use Rattle.lg_carry.specs.Rows.{Rows, AreRows}
 use Rattle.lg_carry.specs.Blocks.{spellings, RunsBlock, BlocksRun}
+use Rattle.lg_carry.specs.Processors.{IsSeen}
 
 module _ {Q I : Type 0} (R : Rows Q I) where
   abbrev pc : Q → ℕ
@@ -21,16 +22,18 @@ module _ {Q I : Type 0} (R : Rows Q I) where
     inside = λ j lt. absurd (omega arith);
     goes = λ j lt. absurd (omega arith);
     silent = λ j le. let z : j ≡ 0 = omega arith in ap (λ k. R.processor.machine.out (iter R.processor.machine.step k q)) z ∙ ap R.processor.machine.out (iter-zero R.processor.machine.step q);
+    keeps = λ h. h;
   }
 
   -- one instruction, and then the others
   more : (i : I) (is : List I) (q : Q) → R.processor.machine.status q ≡ Running → R.processor.machine.step q ≡ R.does i q → R.processor.machine.out (R.does i q) ≡ R.processor.machine.out q → 0 < length (R.spelling i)
-      → (0 < length is → pc (R.does i q) ≡ pc q + length (R.spelling i)) → RunsBlock R is (R.does i q) → RunsBlock R (i ∷ is) q
-  more i is q runs is_step silent long follows rest = record {
+      → (0 < length is → pc (R.does i q) ≡ pc q + length (R.spelling i)) → (IsSeen (R.processor.seen q) → IsSeen (R.processor.seen (R.does i q))) → RunsBlock R is (R.does i q) → RunsBlock R (i ∷ is) q
+  more i is q runs is_step silent long follows keep rest = record {
     leads = there (length is) ∙ rest.leads;
     inside = inside;
     goes = goes;
     silent = quiet;
+    keeps = λ h. rest.keeps (keep h);
   }
     where
       there : (n : ℕ) → iter R.processor.machine.step (suc n) q ≡ iter R.processor.machine.step n (R.does i q)
@@ -66,7 +69,7 @@ module _ {Q I : Type 0} (R : Rows Q I) (fits : I → Type 0) (ok : AreRows R fit
       let runs = through.0 in
       let this : fits i = all 0 i (omega arith) in
       let at : drop ((R.processor.seen q).pc - code_base) R.code ≡ R.spelling i ++ ([] ++ rest) = e ∙ append_assoc (R.spelling i) [] rest in
-      more R i [] q runs (ok.executes q i ([] ++ rest) this runs low place at) (ok.silent q i this) (ok.long i this) (λ lt. absurd (omega (arith, lt))) (none R (R.does i q))
+      more R i [] q runs (ok.executes q i ([] ++ rest) this runs low place at) (ok.silent q i this) (ok.long i this) (λ lt. absurd (omega (arith, lt))) (ok.keeps q i ([] ++ rest) this runs low place at) (none R (R.does i q))
   blocks-run (i ∷ j ∷ is) q rest all block through low place e =
       let this : fits i = all 0 i (omega arith) in
       let pc = (R.processor.seen q).pc in
@@ -77,5 +80,5 @@ module _ {Q I : Type 0} (R : Rows Q I) (fits : I → Type 0) (ok : AreRows R fit
       let size : length R.code - (pc - code_base) ≡ length (R.spelling i) + length (others ++ rest) = sym (length-drop (pc - code_base) R.code) ∙ ap length at ∙ length-append (R.spelling i) (others ++ rest) in
       let f = ok.follows q i this block.0 (omega (arith, size, long, ok.small, low)) through.1.0 in
       let there : drop ((R.processor.seen (R.does i q)).pc - code_base) R.code ≡ others ++ rest = behind R (pc - code_base) ((R.processor.seen (R.does i q)).pc - code_base) (R.spelling i) (others ++ rest) at (omega (arith, f, low)) in
-      more R i (j ∷ is) q runs (ok.executes q i (others ++ rest) this runs low place at) (ok.silent q i this) long (λ lt. f)
+      more R i (j ∷ is) q runs (ok.executes q i (others ++ rest) this runs low place at) (ok.silent q i this) long (λ lt. f) (ok.keeps q i (others ++ rest) this runs low place at)
       (blocks-run (j ∷ is) (R.does i q) rest (λ k d lt. all (suc k) d (omega (arith, lt))) block.1 through.1 (omega (arith, f, low)) (subst (λ n. R.is_place n ≡ true) (sym f) (ok.places pc i this place)) there)

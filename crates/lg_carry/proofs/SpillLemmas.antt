@@ -34,7 +34,7 @@ spellings-append spelling (i ∷ xs) ys =
 
 -- ---- slots
 -- a store leaves what was there
-stored-there : (m : ℕ → Option ℕ) (a w v j : ℕ) → is_some (m j) ≡ true → is_some (stored m a w v j) ≡ true
+pub stored-there : (m : ℕ → Option ℕ) (a w v j : ℕ) → is_some (m j) ≡ true → is_some (stored m a w v j) ≡ true
 unfolding stored
 stored-there m a zero v j h = h
 stored-there m a (suc w) v j h = stored-there (put_some m a (v % 256)) (a + 1) w (v / 256) j (⊎_elim

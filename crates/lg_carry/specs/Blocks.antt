@@ -3,6 +3,7 @@ use Rattle.std.specs.Prelude.{◌≡◌, ℕ, ◌+◌, ◌-◌, ◌<◌, ◌≤�
 use Rattle.std.specs.List.{All}
 use Rattle.lg_base.specs.Layout.{code_base}
 use Rattle.lg_base.specs.Runs.{Status, Running, iter}
+use Rattle.lg_carry.specs.Processors.{IsSeen}
 use Rattle.lg_carry.specs.Rows.{Rows}
 
 -- their bytes
@@ -26,13 +27,15 @@ IsBlock straight [] = ⊤
 IsBlock straight (i ∷ []) = ⊤
 IsBlock straight (i ∷ j ∷ is) = (straight i ≡ true) × IsBlock straight (j ∷ is)
 
--- as many steps as there are instructions do what they do; each step begins in their bytes, from a state that runs, and writes nothing
+-- as many steps as there are instructions do what they do; each step begins in their bytes, from a state that runs, and writes nothing; and words
+-- stay words
 pub record RunsBlock {Q I : Type 0} (R : Rows Q I) (is : List I) (q : Q) : Type 0 where
   pub leads : iter R.processor.machine.step (length is) q ≡ done R.does is q
   pub inside : (j : ℕ) → j < length is → ((R.processor.seen q).pc ≤ (R.processor.seen (iter R.processor.machine.step j q)).pc)
       × ((R.processor.seen (iter R.processor.machine.step j q)).pc < (R.processor.seen q).pc + length (spellings R.spelling is))
   pub goes : (j : ℕ) → j < length is → R.processor.machine.status (iter R.processor.machine.step j q) ≡ Running
   pub silent : (j : ℕ) → j ≤ length is → R.processor.machine.out (iter R.processor.machine.step j q) ≡ R.processor.machine.out q
+  pub keeps : IsSeen (R.processor.seen q) → IsSeen (R.processor.seen (done R.does is q))
 
 -- where the spellings of a block stand at the program counter, and the run goes on at each of its instructions, it is run
 abbrev pub BlocksRun : {Q I : Type 0} → Rows Q I → (I → Type 0) → Type 0

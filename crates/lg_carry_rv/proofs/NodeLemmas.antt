@@ -1,5 +1,5 @@
 -- A node of two registers into one is carried by its instruction.
-use Rattle.std.proofs.Common.{◌≡◌, ◌≢◌, ℕ, zero, suc, ◌+◌, ◌-◌, ◌%◌, ◌^◌, ◌<◌, ◌≤◌, ◌⊎◌, inl, inr, Bool, true, false, List, [], ◌∷◌, ◌++◌, Option, Some, None, refl, sym, ap, ◌∙◌, subst, arith, length, drop, length-append}
+use Rattle.std.proofs.Common.{◌≡◌, ◌≢◌, ℕ, zero, suc, ◌+◌, ◌-◌, ◌%◌, ◌<◌, ◌≤◌, ◌⊎◌, inl, inr, Bool, true, false, List, [], ◌∷◌, ◌++◌, Option, Some, None, refl, sym, ap, ◌∙◌, subst, arith, length, drop, length-append}
 use Rattle.std.specs.Prelude.{◌==◌, ◌||◌, ◌&&◌, not, slice_get, slice_index, if◌then◌else◌, slice_index_or}
 use Rattle.lg_base.specs.Conventions.{argument_registers, portable_register}
 use Rattle.lg_base.specs.Layout.{code_base, most_code, frame_pointer}
@@ -20,9 +20,7 @@ use Rattle.lg_rv.specs.Spelling.{spelling, IsInstr}
 use Rattle.lg_cpu.specs.Steps.{Run, after}
 use Rattle.lg_cpu.specs.HostSteps.{put}
 use Rattle.lg_cpu.specs.RvOperators.{reg_value}
-use Rattle.lg_cpu.specs.RvStep.{RvState, read, sets, act, effect}
-use Rattle.lg_cpu.proofs.RunLemmas.{stands-executed}
-use Rattle.lg_cpu.proofs.SoundLemmas.{stays-sound}
+use Rattle.lg_cpu.specs.RvStep.{RvState, read, sets, act}
 use Rattle.lg_meaning.specs.States.{Frame, State, reg, number}
 use Rattle.lg_meaning.specs.Steps.{Goes, Undefined, need, on, with_reg, operate, binary_step, carried_step}
 use Rattle.lg_meaning.specs.Texts.{text, step_at, step}
@@ -134,7 +132,7 @@ module _ (code : List ℕ) (trash : ℕ) (c : Code) (i : ℕ) (o : BinaryOp) (r 
     room = let l : length (drop (c.place i - code_base) code) ≡ 4 + length k.more = ap length k.stands ∙ length-append (spelling x) k.more in let e = length-drop (c.place i - code_base) code in omega (arith, l, e, k.small, k.low, at)
 
     one : RunsBlock (rv_rows code trash) (x ∷ []) q
-    one = blocks-run (rv_rows code trash) IsInstr (are-rows code trash k.small) (x ∷ []) q k.more (λ j e lt. first j e (omega (arith, lt))) tt (runs, tt) (omega (arith, at, k.low))
+    one = blocks-run (rv_rows code trash) IsInstr (are-rows code trash k.small k.bytes k.word) (x ∷ []) q k.more (λ j e lt. first j e (omega (arith, lt))) tt (runs, tt) (omega (arith, at, k.low))
         (let z : (c.place i % 4 == 0) ≡ true = even (c.place i) k.aligned in ap (λ p. p % 4 == 0) at ∙ z)
         (ap (λ p. drop (p - code_base) code) at ∙ k.stands)
       where
@@ -152,17 +150,7 @@ module _ (code : List ℕ) (trash : ℕ) (c : Code) (i : ℕ) (o : BinaryOp) (r 
     goes = goes-on q.state.pc (omega (arith, at, k.low)) room
 
     seen-again : IsSeen (rv_seen q) → IsSeen (rv_seen q1)
-    seen-again h =
-        let stood : effect code trash q.state ≡ act x q.state = stands-executed code k.more trash q.state x fits (omega (arith, at, k.low)) (ap (λ p. p % 4) at ∙ k.aligned) (ap (λ p. drop (p - code_base) code) at ∙ k.stands) in
-        let sound = stays-sound code trash q.state k.bytes k.word record { pc = omega (arith, room); words = h.words; bytes = h.bytes; mark = h.high } in
-        record {
-          words = λ y. subst (λ e. e.to.registers y < 2 ^ 64) stood (sound.words y);
-          bytes = h.bytes;
-          heap = h.heap;
-          stack = h.stack;
-          low = h.low;
-          high = h.high;
-        }
+    seen-again h = subst (λ z. IsSeen (rv_seen z)) (went q (act x q.state) runs) (one.keeps h)
 
     -- both sides
     behind : (live : Frame → ℕ → Bool) (s : State) (xa xb : ℕ) → s.at ≡ i → reg s a ≡ Some xa → reg s b ≡ Some xb → step c.nodes c.shape c.addresses s ≡ Goes (on (with_reg s (operand.Reg d) (reg_value r xa xb))) []

@@ -1,5 +1,5 @@
 -- The RV64IM processor by its instructions.
-use Rattle.std.specs.Prelude.{ℕ, ◌+◌, ◌*◌, ◌%◌, ◌==◌, ◌≤◌, ◌&&◌, not, nat_lt, Bool, true, false, ℤ, negsuc, List, length, None}
+use Rattle.std.specs.Prelude.{ℕ, ◌+◌, ◌*◌, ◌%◌, ◌==◌, ◌≤◌, ◌&&◌, not, nat_lt, Bool, true, false, ℤ, negsuc, List, length, None, ◌<◌, ◌^◌}
 use Rattle.lg_base.specs.Layout.{most_code}
 use Rattle.lg_base.specs.declared.target.Target.TheVariants.{Riscv64}
 use Rattle.lg_rv.specs.Spelling.{spelling, IsInstr}
@@ -12,6 +12,7 @@ use Rattle.lg_cpu.specs.RvStep.{RvState, act, effect}
 use Rattle.lg_carry.specs.Processors.{Seen, Processor}
 use Rattle.lg_carry.specs.Rows.{Rows, AreRows}
 use Rattle.lg_carry.specs.Spills.{AreSpills}
+use Rattle.lg_cpu.specs.Laws.{AreBytes}
 
 -- the carry is in a register, so there is no flag
 abbrev pub rv_seen : Run RvState → Seen
@@ -54,7 +55,7 @@ rv_rows code trash = record {
 }
 
 abbrev pub InstructionsAreRows : Type 0
-InstructionsAreRows = (code : List ℕ) (trash : ℕ) → length code ≤ most_code → AreRows (rv_rows code trash) IsInstr
+InstructionsAreRows = (code : List ℕ) (trash : ℕ) → length code ≤ most_code → AreBytes code → trash < 2 ^ 64 → AreRows (rv_rows code trash) IsInstr
 
 abbrev pub InstructionsAreSpills : Type 0
 InstructionsAreSpills = (code : List ℕ) (trash : ℕ) → AreSpills (rv_rows code trash)
