@@ -8,6 +8,7 @@ ghost use Rattle.std.specs.Prelude.{ℕ, Bool};
 ghost use Rattle.lg_base.specs.Runs.{Machine};
 ghost use Rattle.lg_meaning.specs.States.{State};
 ghost use Rattle.lg_carry.specs.Codes.{Code};
+ghost use Rattle.lg_carry.specs.NodeBlocks.{NodeBlocksLead};
 ghost use Rattle.lg_carry.specs.NodeCode.{NodeCodeCarries};
 ghost use Rattle.lg_carry.specs.Processors.{Processor};
 ghost use Rattle.lg_carry.specs.Ranks.{NodesFall, IsCarried, CarriedRunsAgree};
@@ -69,6 +70,11 @@ pub trait Instructions {
 /// other.
 pub fn blocks_run<P: Instructions>()
     ensures { BlocksRun P.rows P.fits }
+{}
+
+/// Where the instructions of a node go through and lead to a state that meets the outcome of its step, the code of the node leads there.
+pub fn node_blocks_lead<P: Instructions>()
+    ensures { NodeBlocksLead P.rows P.fits }
 {}
 
 /// A processor whose instructions save registers in the spill slots of the frame and restore them.
