@@ -1,9 +1,9 @@
 -- A node of two registers into one is carried by its instruction.
-use Rattle.std.proofs.Common.{◌≡◌, ◌≢◌, ℕ, zero, suc, ◌+◌, ◌-◌, ◌%◌, ◌<◌, ◌≤◌, ◌⊎◌, inl, inr, Bool, true, false, List, [], ◌∷◌, ◌++◌, Option, Some, None, refl, sym, ap, ◌∙◌, subst, arith, length, drop, length-append}
-use Rattle.std.specs.Prelude.{◌==◌, ◌||◌, ◌&&◌, not, slice_get, slice_index, if◌then◌else◌, slice_index_or}
+use Rattle.std.proofs.Common.{◌≡◌, ◌≢◌, ℕ, ◌+◌, ◌-◌, ◌%◌, ◌<◌, ◌≤◌, ◌⊎◌, inl, inr, Bool, true, false, List, [], ◌∷◌, ◌++◌, Option, Some, None, refl, sym, ap, ◌∙◌, subst, arith, drop}
+use Rattle.std.specs.Prelude.{◌==◌, ◌||◌, ◌&&◌, not, slice_get, slice_index, if◌then◌else◌}
 use Rattle.lg_base.specs.Conventions.{argument_registers, portable_register}
 use Rattle.lg_base.specs.Layout.{code_base, most_code, frame_pointer}
-use Rattle.lg_base.specs.Runs.{Running, iter}
+use Rattle.lg_base.specs.Runs.{Running}
 use Rattle.lg_base.specs.declared.target.Target.TheVariants.{Riscv64}
 use Rattle.lg_op.specs.declared.op.BinaryOp.{BinaryOp}
 use Rattle.lg_op.specs.declared.op.BinaryOp.TheVariants as binary
@@ -30,19 +30,16 @@ use Rattle.lg_carry.specs.Codes.{Code, is_inside}
 use Rattle.lg_carry.specs.Stands.{StatesAgree, Stands}
 use Rattle.lg_carry.specs.Carries.{Leads}
 use Rattle.lg_carry.specs.NodeCode.{live_before, live_behind, CarriesNode, numbered}
-use Rattle.lg_carry.specs.Blocks.{RunsBlock}
 use Rattle.lg_carry.proofs.AgainLemmas.{settled, write-agrees}
 use Rattle.lg_carry.proofs.ApartLemmas.{conventions-apart}
-use Rattle.lg_carry.proofs.BlockLemmas.{blocks-run}
 use Rattle.lg_carry.proofs.ShapedLemmas.{inner}
-use Rattle.lg_carry_rv.specs.RvRows.{rv_seen, rv_processor, rv_rows}
+use Rattle.lg_carry_rv.specs.RvRows.{rv_seen, rv_processor, rv_rows, rv_does}
 use Rattle.lg_carry_rv.specs.RegisterNodes.{row_of, register_node, register_code, IsInText, IsInCode, RegisterNodesCarry}
-use Rattle.lg_carry_rv.proofs.RowLemmas.{went, are-rows}
+use Rattle.lg_carry_rv.proofs.RowLemmas.{went, are-rows, in-code}
 use Rattle.lg_carry_rv.proofs.SlotLemmas.{pc-next, goes-on}
 use Rattle.lg_carry_rv.proofs.UseLemmas.{stands-for, number-few, not-written, first-read, second-read}
-use Rattle.std.proofs.lemmas.List.{length-drop}
 use Rattle.lg_live.specs.Uses.{is_written}
-use Rattle.lg_temp.proofs.Steps.{iter-zero}
+use Rattle.lg_carry.proofs.NodeBlockLemmas.{node-blocks-lead}
 
 -- the operation of a row does what the row does, and sets no carry
 pub record IsRow (o : BinaryOp) (r : RegOp) : Type 0 where
@@ -101,7 +98,7 @@ still o d a b line S r m ne = or-last _ (S r) _ m (not-written o d a b line r ne
     or-last false y z h k = rw (h, k) refl
 
 module _ (code : List ℕ) (trash : ℕ) (c : Code) (i : ℕ) (o : BinaryOp) (r : RegOp) (d a b : Reg) (line : ℕ) (S : ℕ → Bool) (is : IsRow o r) (named : d ≢ Fp)
-    (t : IsInText c i (register_node o d a b line)) (k : IsInCode code trash c i (register_code r d a b)) where
+    (t : IsInText c i (register_node o d a b line)) (k : IsInCode code trash c i (register_code r d a b ∷ [])) where
   abbrev n : Node
   n = register_node o d a b line
 
@@ -117,10 +114,10 @@ module _ (code : List ℕ) (trash : ℕ) (c : Code) (i : ℕ) (o : BinaryOp) (r 
   next-inside : is_inside c (i + 1) ≡ true
   next-inside = t.shaped.next i t.entry t.home (ap (λ m. is_epilog_at m) t.here)
 
-  fits : IsInstr x
-  fits = (register-small d, register-small a, register-small b)
+  stands : drop (c.place i - code_base) code ≡ spelling x ++ k.block.more
+  stands = k.block.stands
 
-  -- the processor's side: one step from q
+  -- the processor's side: the instruction, from q
   module _ (q : Run RvState) (runs : (rv_processor code trash).machine.status q ≡ Running) (at : q.state.pc ≡ c.place i) where
     abbrev v : ℕ
     v = reg_value r (read q.state.registers (register_of Riscv64 a)) (read q.state.registers (register_of Riscv64 b))
@@ -128,29 +125,23 @@ module _ (code : List ℕ) (trash : ℕ) (c : Code) (i : ℕ) (o : BinaryOp) (r 
     abbrev q1 : Run RvState
     q1 = after q (sets q.state rd v)
 
+    does : rv_does x q ≡ q1
+    does = went q (act x q.state) runs
+
+    low : code_base ≤ q.state.pc
+    low = omega (arith, at, k.block.low)
+
+    here : drop (q.state.pc - code_base) code ≡ spelling x ++ k.block.more
+    here = ap (λ p. drop (p - code_base) code) at ∙ stands
+
     room : q.state.pc + 4 ≤ code_base + most_code
-    room = let l : length (drop (c.place i - code_base) code) ≡ 4 + length k.more = ap length k.stands ∙ length-append (spelling x) k.more in let e = length-drop (c.place i - code_base) code in omega (arith, l, e, k.small, k.low, at)
-
-    one : RunsBlock (rv_rows code trash) (x ∷ []) q
-    one = blocks-run (rv_rows code trash) IsInstr (are-rows code trash k.small k.bytes k.word) (x ∷ []) q k.more (λ j e lt. first j e (omega (arith, lt))) tt (runs, tt) (omega (arith, at, k.low))
-        (let z : (c.place i % 4 == 0) ≡ true = even (c.place i) k.aligned in ap (λ p. p % 4 == 0) at ∙ z)
-        (ap (λ p. drop (p - code_base) code) at ∙ k.stands)
-      where
-        first : (j : ℕ) (e : Instr) → j < 1 → IsInstr (slice_index_or (x ∷ []) j e)
-        first zero e lt = fits
-        first (suc j) e lt = absurd (omega (arith, lt))
-
-        even : (p : ℕ) → p % 4 ≡ 0 → (p % 4 == 0) ≡ true
-        even p h = grind (arith, h)
-
-    goes-to : iter (rv_processor code trash).machine.step 1 q ≡ q1
-    goes-to = one.leads ∙ went q (act x q.state) runs
+    room = in-code code (spelling x) k.block.more q.state.pc low refl here k.small
 
     goes : (rv_processor code trash).machine.status q1 ≡ Running
-    goes = goes-on q.state.pc (omega (arith, at, k.low)) room
+    goes = goes-on q.state.pc low room
 
     seen-again : IsSeen (rv_seen q) → IsSeen (rv_seen q1)
-    seen-again h = subst (λ z. IsSeen (rv_seen z)) (went q (act x q.state) runs) (one.keeps h)
+    seen-again h = subst (λ z. IsSeen (rv_seen z)) does ((are-rows code trash k.small k.bytes k.word).keeps q x k.block.more (k.block.fit 0 x (omega arith)) runs low (ap (λ p. p % 4 == 0) at ∙ k.block.place) here h)
 
     -- both sides
     behind : (live : Frame → ℕ → Bool) (s : State) (xa xb : ℕ) → s.at ≡ i → reg s a ≡ Some xa → reg s b ≡ Some xb → step c.nodes c.shape c.addresses s ≡ Goes (on (with_reg s (operand.Reg d) (reg_value r xa xb))) []
@@ -168,7 +159,7 @@ module _ (code : List ℕ) (trash : ℕ) (c : Code) (i : ℕ) (o : BinaryOp) (r 
           few = t.shaped.few;
           fits = t.keeps s (on (with_reg s (operand.Reg d) (reg_value r xa xb))) [] (omega (arith, st.seen.low, st.mark)) (omega (arith, st.seen.high, st.mark)) st.fits goes;
           seen = seen-again st.seen;
-          here = pc-next q.state.pc room ∙ ap (λ p. p + 4) at ∙ sym k.next ∙ ap (λ j. c.place (j + 1)) (sym here);
+          here = pc-next q.state.pc room ∙ ap (λ p. p + 4) at ∙ sym k.block.next ∙ ap (λ j. c.place (j + 1)) (sym here);
           before = inside;
           behind = ap (λ j. is_inside c (j + 1)) here ∙ next-inside;
           frame = refl;
@@ -200,28 +191,12 @@ module _ (code : List ℕ) (trash : ℕ) (c : Code) (i : ℕ) (o : BinaryOp) (r 
       by None ob ea eb = inl (stepped ∙ ap (λ z. need z (λ xa. need (reg s b) (λ xb. operate s (operand.Reg d) (binary_value o xa xb)))) ea)
       by (Some xa) None ea eb = inl (stepped ∙ ap (λ z. need z (λ xa. need (reg s b) (λ xb. operate s (operand.Reg d) (binary_value o xa xb)))) ea ∙ ap (λ z. need z (λ xb. operate s (operand.Reg d) (binary_value o xa xb))) eb)
       by (Some xa) (Some xb) ea eb =
-          let goes = stepped ∙ ap (λ z. need z (λ xa. need (reg s b) (λ xb. operate s (operand.Reg d) (binary_value o xa xb)))) ea ∙ ap (λ z. need z (λ xb. operate s (operand.Reg d) (binary_value o xa xb))) eb ∙ ap (operate s (operand.Reg d)) (is.value xa xb) in
+          let goes' = stepped ∙ ap (λ z. need z (λ xa. need (reg s b) (λ xb. operate s (operand.Reg d) (binary_value o xa xb)))) ea ∙ ap (λ z. need z (λ xb. operate s (operand.Reg d) (binary_value o xa xb))) eb ∙ ap (operate s (operand.Reg d)) (is.value xa xb) in
           let to = on (with_reg s (operand.Reg d) (reg_value r xa xb)) in
-          let agree = behind q st.runs here live s xa xb at ea eb goes st.state in
-          let last : Stands (rv_processor code trash) c live to (out ++ []) (q1 q st.runs here) S = record { runs = goes-q; wrote = ap (λ w. w ++ []) st.wrote; state = agree } in
-          inr (subst (λ z. Leads (rv_processor code trash) c live (live_behind live n S s) i z out q) (sym goes) record {
-            steps = 1;
-            few = omega arith;
-            inside = λ j lt. inl (began j lt);
-            none = λ e. absurd (omega (arith, e));
-            some = λ e. omega arith;
-            way = λ j lt. inl (ap (λ m. (rv_processor code trash).machine.out (iter (rv_processor code trash).machine.step m q)) (first j lt) ∙ ap (rv_processor code trash).machine.out (iter-zero (rv_processor code trash).machine.step q) ∙ st.wrote);
-            there = subst (λ z. Stands (rv_processor code trash) c live to (out ++ []) z S) (sym (goes-to q st.runs here)) last;
-          })
-        where
-          goes-q : (rv_processor code trash).machine.status (q1 q st.runs here) ≡ Running
-          goes-q = goes q st.runs here
-
-          first : (j : ℕ) → j < 1 → j ≡ 0
-          first j lt = omega (arith, lt)
-
-          began : (j : ℕ) → j < 1 → (c.place i ≤ (rv_seen (iter (rv_processor code trash).machine.step j q)).pc) × ((rv_seen (iter (rv_processor code trash).machine.step j q)).pc < c.place (i + 1))
-          began j lt = let e : (rv_seen (iter (rv_processor code trash).machine.step j q)).pc ≡ c.place i = ap (λ m. (rv_seen (iter (rv_processor code trash).machine.step m q)).pc) (first j lt) ∙ ap (λ z. z.state.pc) (iter-zero (rv_processor code trash).machine.step q) ∙ here in (omega (arith, e), omega (arith, e, k.next))
+          let last : Stands (rv_processor code trash) c live to (out ++ []) (q1 q st.runs here) S = record { runs = goes q st.runs here; wrote = ap (λ w. w ++ []) st.wrote; state = behind q st.runs here live s xa xb at ea eb goes' st.state } in
+          inr (subst (λ z. Leads (rv_processor code trash) c live (live_behind live n S s) i z out q) (sym goes')
+          (node-blocks-lead (rv_rows code trash) IsInstr (are-rows code trash k.small k.bytes k.word) c live (live_behind live n S s) i (x ∷ []) (Goes to []) out q k.block here st.wrote (st.runs, tt)
+          (subst (λ z. Stands (rv_processor code trash) c live to (out ++ []) z S) (sym (does q st.runs here)) last)))
 
 pub register-nodes-carry : RegisterNodesCarry
 register-nodes-carry code trash c i o r d a b line S e named t k = carried code trash c i o r d a b line S (is-row o r e) named t k

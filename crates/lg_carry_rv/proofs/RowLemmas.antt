@@ -56,7 +56,7 @@ aligned : (pc : ℕ) → (pc % 4 == 0) ≡ true → pc % 4 ≡ 0
 aligned pc h = grind (arith, h)
 
 -- the code begins below its end
-in-code : (code four more : List ℕ) (pc : ℕ) → code_base ≤ pc → length four ≡ 4 → drop (pc - code_base) code ≡ four ++ more → length code ≤ most_code → pc + 4 ≤ code_base + most_code
+pub in-code : (code four more : List ℕ) (pc : ℕ) → code_base ≤ pc → length four ≡ 4 → drop (pc - code_base) code ≡ four ++ more → length code ≤ most_code → pc + 4 ≤ code_base + most_code
 in-code code four more pc low long e small =
     let l : length (drop (pc - code_base) code) ≡ 4 + length more = ap length e ∙ length-append four more ∙ ap (λ n. n + length more) long in
     let d = length-drop (pc - code_base) code in

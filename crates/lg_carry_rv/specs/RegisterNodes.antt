@@ -1,6 +1,6 @@
 -- The nodes of two registers into one that are a single instruction.
-use Rattle.std.specs.Prelude.{◌≡◌, ◌≢◌, ℕ, ◌+◌, ◌-◌, ◌%◌, ◌^◌, ◌<◌, ◌≤◌, Bool, List, [], ◌∷◌, ◌++◌, length, drop, slice_get, Option, Some, None}
-use Rattle.lg_base.specs.Layout.{code_base, most_code}
+use Rattle.std.specs.Prelude.{◌≡◌, ◌≢◌, ℕ, ◌^◌, ◌<◌, ◌≤◌, Bool, List, [], ◌∷◌, length, slice_get, Option, Some, None}
+use Rattle.lg_base.specs.Layout.{most_code}
 use Rattle.lg_base.specs.declared.target.Target.TheVariants.{Riscv64}
 use Rattle.lg_op.specs.declared.op.BinaryOp.{BinaryOp}
 use Rattle.lg_op.specs.declared.op.BinaryOp.TheVariants as binary
@@ -11,7 +11,7 @@ use Rattle.lg_op.specs.declared.operand.Reg.{Reg}
 use Rattle.lg_op.specs.declared.operand.Reg.TheVariants.{Fp}
 use Rattle.lg_op.specs.declared.operand.Operand.TheVariants as operand
 use Rattle.lg_node.specs.Functions.{home}
-use Rattle.lg_rv.specs.Spelling.{spelling}
+use Rattle.lg_rv.specs.Spelling.{IsInstr}
 use Rattle.lg_rv.specs.declared.instruction.Instr.{Instr}
 use Rattle.lg_rv.specs.declared.instruction.Instr.TheVariants as instr
 use Rattle.lg_rv.specs.declared.instruction.RegOp.{RegOp}
@@ -25,8 +25,9 @@ use Rattle.lg_temp.specs.Abis.{register_of}
 use Rattle.lg_carry.specs.Codes.{Code}
 use Rattle.lg_carry.specs.Shaped.{IsShaped}
 use Rattle.lg_carry.specs.NodeCode.{CarriesNode}
-use Rattle.lg_carry_rv.specs.RvRows.{rv_processor}
+use Rattle.lg_carry_rv.specs.RvRows.{rv_processor, rv_rows}
 use Rattle.lg_base.specs.Parts.{heap_base}
+use Rattle.lg_carry.specs.NodeBlocks.{IsNodeBlock}
 
 -- the row of the operations that are one
 abbrev pub row_of : BinaryOp → Option RegOp
@@ -53,19 +54,15 @@ pub record IsInText (c : Code) (i : ℕ) (n : Node) : Type 0 where
   pub home : home c.nodes.nodes i ≡ Some entry
   pub behind : entry < i
 
--- the bytes of one instruction stand at node i, and they are all its bytes
-pub record IsInCode (code : List ℕ) (trash : ℕ) (c : Code) (i : ℕ) (x : Instr) : Type 0 where
+-- the code that the processor runs, in which these instructions are those of node i
+pub record IsInCode (code : List ℕ) (trash : ℕ) (c : Code) (i : ℕ) (is : List Instr) : Type 0 where
   pub small : length code ≤ most_code
   pub bytes : AreBytes code
   pub word : trash < 2 ^ 64
-  pub low : code_base ≤ c.place i
-  pub aligned : c.place i % 4 ≡ 0
-  pub more : List ℕ
-  pub stands : drop (c.place i - code_base) code ≡ spelling x ++ more
-  pub next : c.place (i + 1) ≡ c.place i + 4
+  pub block : IsNodeBlock (rv_rows code trash) IsInstr c i is
 
 -- such a node is carried by its instruction
 abbrev pub RegisterNodesCarry : Type 0
 RegisterNodesCarry =
     (code : List ℕ) (trash : ℕ) (c : Code) (i : ℕ) (o : BinaryOp) (r : RegOp) (d a b : Reg) (line : ℕ) (S : ℕ → Bool) → row_of o ≡ Some r → d ≢ Fp
-    → IsInText c i (register_node o d a b line) → IsInCode code trash c i (register_code r d a b) → CarriesNode (rv_processor code trash) c i (register_node o d a b line) S
+    → IsInText c i (register_node o d a b line) → IsInCode code trash c i (register_code r d a b ∷ []) → CarriesNode (rv_processor code trash) c i (register_node o d a b line) S
