@@ -11,4 +11,5 @@ pub mod ShapedLemmas
 pub mod SpillChoiceLemmas
 pub mod SpillLemmas
 pub mod StackLemmas
+pub mod TakenLemmas
 pub mod WordLemmas

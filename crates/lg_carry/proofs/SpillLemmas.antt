@@ -134,7 +134,7 @@ module _ {Q I : Type 0} (R : Rows Q I) (ok : AreSpills R) where
       back : (y : ℕ) → (T y && not (y == r)) ≡ false → (R.processor.seen (R.does (R.restore r k) q2)).registers y ≡ w.end_registers y
       back y keep = ⊎_elim (λ (z : y ≡ r). x.registers y ∙ (let h : with_register (R.processor.seen q2).registers r value y ≡ value = grind (arith, z) in h) ∙ looks.has_registers r ∙ sym same ∙ ap w.end_registers (sym z)) (λ (ne : y ≢ r). x.registers y ∙ (let h : with_register (R.processor.seen q2).registers r value y ≡ (R.processor.seen q2).registers y = grind (arith, ne) in h) ∙ e.registers y (other T r y keep ne)) (cases_eq y r)
 
-  lost-none : (choices : List Choice) (T : ℕ → Bool) (r : ℕ) → T r ≡ false → lost choices T r ≡ false
+  pub lost-none : (choices : List Choice) (T : ℕ → Bool) (r : ℕ) → T r ≡ false → lost choices T r ≡ false
   lost-none [] T r h = h
   lost-none (Free x ∷ choices) T r h = lost-none choices T r h
   lost-none (Own x ∷ choices) T r h = lost-none choices T r h

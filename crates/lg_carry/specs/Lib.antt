@@ -17,3 +17,4 @@ pub mod Shaped
 pub mod SpillChoices
 pub mod Spills
 pub mod Stands
+pub mod Taken

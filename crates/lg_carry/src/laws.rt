@@ -15,6 +15,7 @@ ghost use Rattle.lg_carry.specs.Ranks.{NodesFall, IsCarried, CarriedRunsAgree};
 ghost use Rattle.lg_carry.specs.Rows.{Rows, AreRows};
 ghost use Rattle.lg_carry.specs.Shaped.{WellShapedIsShaped};
 ghost use Rattle.lg_carry.specs.SpillChoices.{ChoicesAreInOrder, SpilledAreUnwritten};
+ghost use Rattle.lg_carry.specs.Taken.{NoneIsStoodFor, NoneIsStaged, TriedAreSpare};
 ghost use Rattle.lg_carry.specs.Spills.{AreSpills, SavesRestore};
 ghost use Rattle.lg_carry.specs.Laws.{RegistersAreKept, ArgumentsAreKept, StackArgumentsAreKept, FrameIsKept, FramesAreKept, RunningFrameIsKept};
 
@@ -208,4 +209,19 @@ pub fn node_code_carries<R: Runs>()
 /// Behind a node that writes a register and else is quiet, states agree again.
 pub fn states_agree_behind_writes()
     ensures { AgreesBehindWrite }
+{}
+
+/// A register that stands for none of a set of portable registers is that of none of them.
+pub fn none_is_stood_for()
+    ensures { NoneIsStoodFor }
+{}
+
+/// A register of no staged argument is that of none.
+pub fn none_is_staged()
+    ensures { NoneIsStaged }
+{}
+
+/// A register that is tried for a temporary is neither FP nor the stack pointer, nor the link or the carry.
+pub fn tried_registers_are_spare()
+    ensures { TriedAreSpare }
 {}
