@@ -61,10 +61,10 @@ is-row binary.Or r e = as-row binary.Or row.Or r record { value = λ x y. refl; 
 is-row binary.Xor r e = as-row binary.Xor row.Xor r record { value = λ x y. refl; plain = refl } e
 is-row o r e = cc
 
-put-same : (w : ℕ → ℕ) (d v : ℕ) → put w d v d ≡ v
+pub put-same : (w : ℕ → ℕ) (d v : ℕ) → put w d v d ≡ v
 put-same w d v = grind arith
 
-put-other : (w : ℕ → ℕ) (d v x : ℕ) → x ≢ d → put w d v x ≡ w x
+pub put-other : (w : ℕ → ℕ) (d v x : ℕ) → x ≢ d → put w d v x ≡ w x
 put-other w d v x ne = grind (arith, ne)
 
 register-small : (d : Reg) → register_of Riscv64 d < 32
@@ -77,7 +77,7 @@ register-small V2 = omega arith
 register-small Fp = omega arith
 
 -- a word that an operand gives is in its register
-given : (c : Code) (live : Frame → ℕ → Bool) (s : State) (q : Seen) (S : ℕ → Bool) (a : Reg) (x : ℕ) → StatesAgree Riscv64 c live s q S → is_inside c s.at ≡ true → (a ≢ Fp → S (number a) ≡ true) → reg s a ≡ Some x
+pub given : (c : Code) (live : Frame → ℕ → Bool) (s : State) (q : Seen) (S : ℕ → Bool) (a : Reg) (x : ℕ) → StatesAgree Riscv64 c live s q S → is_inside c s.at ≡ true → (a ≢ Fp → S (number a) ≡ true) → reg s a ≡ Some x
     → read q.registers (register_of Riscv64 a) ≡ x
 given c live s q S R0 x st inside m e = st.registers.is 0 x (omega arith) (m (λ z. cc)) e
 given c live s q S R1 x st inside m e = st.registers.is 1 x (omega arith) (m (λ z. cc)) e

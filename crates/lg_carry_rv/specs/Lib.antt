@@ -1,2 +1,3 @@
+pub mod NumberNodes
 pub mod RegisterNodes
 pub mod RvRows

@@ -1,5 +1,6 @@
 // What holds of the instructions of RV64IM, for the code of nodes. The functions do nothing: their contracts are the laws.
 
+ghost use Rattle.lg_carry_rv.specs.NumberNodes.{NumberNodesCarry};
 ghost use Rattle.lg_carry_rv.specs.RegisterNodes.{RegisterNodesCarry};
 ghost use Rattle.lg_carry_rv.specs.RvRows.{InstructionsAreRows, InstructionsAreSpills};
 
@@ -16,4 +17,10 @@ pub fn instructions_are_spills()
 /// A node of two registers into one that is a single instruction is carried by it.
 pub fn register_nodes_are_carried()
     ensures { RegisterNodesCarry }
+{}
+
+/// A node that adds a number of up to 32 bits is carried by `lui`, `addiw` and `add` over a temporary, which is saved and restored where no
+/// register is free.
+pub fn number_nodes_are_carried()
+    ensures { NumberNodesCarry }
 {}
