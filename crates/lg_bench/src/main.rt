@@ -1,17 +1,16 @@
 // Work that is timed from outside. `names N` looks up each name of the instruction table N times; `text N` reads and checks a text of N
-// instructions, at most 65,000. Without words it does a little of both.
+// instructions, at most 65,000; `cpu N` runs N instructions of a loop on the modelled RV64IM processor. Without words it does a little of
+// each.
 #![tactic(auto)]
 
 mod names;
+mod processor;
 mod texts;
 
-use lg_base::refusal::Stop;
+use lg_base::refusal::{OutOfMemory, Stop};
 use names::found;
 use std::{env, io, str};
 use texts::{Counts, read_and_check};
-
-// How often, at most.
-const MOST: u32 = 10_000_000;
 
 // Looks up each name so many times.
 fn look_up(rt: &HostRuntime, times: u32) -> io::Result<()> {
@@ -31,22 +30,31 @@ fn read(rt: &HostRuntime, instructions: u32) -> io::Result<()> {
     }
 }
 
+// Runs so many instructions on the processor.
+fn run(rt: &HostRuntime, instructions: u32) -> io::Result<()> {
+    match processor::run(rt.alloc(), instructions) {
+        Ok(count) => println!(rt; "{count} instructions"),
+        Err(OutOfMemory) => println!(rt; "out of memory"),
+    }
+}
+
 fn main(rt: HostRuntime) -> io::Result<()> {
     let mut words = env::args(&rt)?;
     let _ = words.next();
     match (words.next(), words.next()) {
         (Some(mode), Some(number)) => {
-            let number = str::parse::<u32>(&number).unwrap_or(1);
-            let times = if number < MOST { number } else { MOST };
+            let times = str::parse::<u32>(&number).unwrap_or(1);
             match mode.as_str() {
                 "names" => look_up(&rt, times),
                 "text" => read(&rt, times),
+                "cpu" => run(&rt, times),
                 _ => println!(rt; "no such work"),
             }
         }
         _ => {
             look_up(&rt, 1)?;
-            read(&rt, 64)
+            read(&rt, 64)?;
+            run(&rt, 1000)
         }
     }
 }

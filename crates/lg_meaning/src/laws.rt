@@ -1,0 +1,80 @@
+// What holds of the portable meaning, for the crates that hold its state and follow its runs. The functions do nothing: their
+// contracts are the laws.
+
+ghost use Rattle.lg_meaning.specs.Laws.{StartsFit, StepsKeepFit, MeansFit, FramesAreOfFunctions, StepsGrow, MeansHoldParts, FitsOpensLocals, MeansAreMachines, StepsAreMeans, PlainAddressesAre};
+
+use lg_node::laws::{accepted_nodes_are_well_shaped, accepted_nodes_have_functions};
+
+/// The state at the start of a run fits the shape of each accepted text, whatever its data and its arguments are.
+pub fn starts_fit()
+    ensures { StartsFit }
+{
+    accepted_nodes_have_functions();
+}
+
+/// A step goes from a state that fits the shape of an accepted text to one that fits it, whatever the addresses of the labels are.
+/// Its node has the operands of its operation, and the heap mark stands in the heap, and does so behind the step.
+pub fn steps_keep_the_fit()
+    ensures { StepsKeepFit }
+{
+    accepted_nodes_are_well_shaped();
+    accepted_nodes_have_functions();
+}
+
+/// Each state of the portable meaning of an accepted text, whose nodes have the operands of their operations, fits the text's shape,
+/// and its heap mark stands in the heap.
+pub fn states_of_the_meaning_fit()
+    ensures { MeansFit }
+{
+    accepted_nodes_are_well_shaped();
+    accepted_nodes_have_functions();
+}
+
+/// In a state that fits, the running frame is one of the function of the state's node: it has that function's size and locals behind the
+/// `prolog`, and at the `prolog` room for them.
+pub fn running_frames_are_of_their_functions()
+    ensures { FramesAreOfFunctions }
+{
+    accepted_nodes_are_well_shaped();
+    accepted_nodes_have_functions();
+}
+
+/// A step takes no byte out of the data, the arguments and the heap, their sizes stay, and the heap mark never falls.
+pub fn steps_take_nothing_out()
+    ensures { StepsGrow }
+{
+    accepted_nodes_are_well_shaped();
+}
+
+/// The memory of each state of the portable meaning has bytes at exactly the addresses of the data part and of the argument part, as
+/// far as the ranges of these parts go. The data part has at most 16,777,216 bytes, the argument part at most 1,048,576.
+pub fn parts_are_held()
+    ensures { MeansHoldParts }
+{
+    accepted_nodes_are_well_shaped();
+    accepted_nodes_have_functions();
+}
+
+/// In a state that fits, only the locals of the frames are memory in the stack: no return address, saved register, home, spill slot or
+/// word for an argument can be read or written by a text. Its data part has at most 16,777,216 bytes, its argument part at most
+/// 1,048,576.
+pub fn only_locals_are_open_in_the_stack()
+    ensures { FitsOpensLocals }
+{}
+
+/// Runs of the portable meaning are those of a machine: one that ended or became undefined stays, what is written stays written, and
+/// a step that ends the run or is undefined writes nothing.
+pub fn meanings_are_machines()
+    ensures { MeansAreMachines }
+{}
+
+/// Where a run stands after k steps and goes on, its next step leads to where it stands after k + 1 steps.
+pub fn steps_are_those_of_the_meaning()
+    ensures { StepsAreMeans }
+{}
+
+/// 0x10000000 + 256 i for a label at node i and the byte's address for a data label are addresses of the labels of a text, over
+/// code of at least 256 bytes for each node.
+pub fn plain_addresses_are_addresses()
+    ensures { PlainAddressesAre }
+{}
