@@ -4,6 +4,7 @@ pub mod ApartLemmas
 pub mod BlockLemmas
 pub mod FallLemmas
 pub mod KeptLemmas
+pub mod MeaningLemmas
 pub mod NodeBlockLemmas
 pub mod NodeCodeLemmas
 pub mod RankLemmas

@@ -6,6 +6,7 @@ pub mod Carries
 pub mod Codes
 pub mod Frames
 pub mod Laws
+pub mod Meanings
 pub mod NodeBlocks
 pub mod NodeCode
 pub mod Places

@@ -8,6 +8,7 @@ ghost use Rattle.std.specs.Prelude.{ℕ, Bool};
 ghost use Rattle.lg_base.specs.Runs.{Machine};
 ghost use Rattle.lg_meaning.specs.States.{State};
 ghost use Rattle.lg_carry.specs.Codes.{Code};
+ghost use Rattle.lg_carry.specs.Meanings.{StartsAre, CodeAgrees};
 ghost use Rattle.lg_carry.specs.NodeBlocks.{NodeBlocksLead};
 ghost use Rattle.lg_carry.specs.NodeCode.{NodeCodeCarries};
 ghost use Rattle.lg_carry.specs.Processors.{Processor};
@@ -224,4 +225,14 @@ pub fn none_is_staged()
 /// A register that is tried for a temporary is neither FP nor the stack pointer, nor the link or the carry.
 pub fn tried_registers_are_spare()
     ensures { TriedAreSpare }
+{}
+
+/// The state at the start of the portable meaning is one at which states agree.
+pub fn starts_are_starts()
+    ensures { StartsAre }
+{}
+
+/// Where the code carries each node, and the processor stands for the state at the start, its run agrees with the portable meaning.
+pub fn carried_code_agrees_with_the_meaning<R: Runs>()
+    ensures { CodeAgrees R.processor }
 {}
