@@ -32,7 +32,7 @@ use Rattle.lg_carry.specs.Carries.{Leads}
 use Rattle.lg_carry.specs.NodeCode.{live_before, live_behind, CarriesNode, numbered}
 use Rattle.lg_carry.proofs.AgainLemmas.{settled, write-agrees}
 use Rattle.lg_carry.proofs.ApartLemmas.{conventions-apart}
-use Rattle.lg_carry.proofs.ShapedLemmas.{inner}
+use Rattle.lg_carry.proofs.ShapedLemmas.{inner, shaped}
 use Rattle.lg_carry_rv.specs.RvRows.{rv_seen, rv_processor, rv_rows, rv_does}
 use Rattle.lg_carry_rv.specs.RegisterNodes.{row_of, register_node, register_code, IsInText, IsInCode, RegisterNodesCarry}
 use Rattle.lg_carry_rv.proofs.RowLemmas.{went, are-rows, in-code}
@@ -40,6 +40,14 @@ use Rattle.lg_carry_rv.proofs.SlotLemmas.{pc-next, goes-on}
 use Rattle.lg_carry_rv.proofs.UseLemmas.{stands-for, number-few, not-written, first-read, second-read}
 use Rattle.lg_live.specs.Uses.{is_written}
 use Rattle.lg_carry.proofs.NodeBlockLemmas.{node-blocks-lead}
+use Rattle.lg_meaning.specs.Laws.{IsFormedAt}
+use Rattle.lg_meaning.proofs.KeepLemmas.{steps_fit}
+use Rattle.lg_base.specs.Parts.{heap_base}
+use Rattle.lg_meaning.specs.Fits.{Fits}
+
+-- steps keep the fit
+pub text-keeps : (c : Code) (i : ℕ) (n : Node) → IsInText c i n → (s t : State) (bytes : List ℕ) → s.at ≡ i → heap_base ≤ s.mark → s.mark ≤ 0x30400000 → Fits c.nodes c.shape s → step c.nodes c.shape c.addresses s ≡ Goes t bytes → Fits c.nodes c.shape t
+text-keeps c i n t s u bytes at low high fits goes = (steps_fit c.nodes c.shape c.addresses s u bytes t.shape t.well t.functions (subst (IsFormedAt c.nodes) (sym at) t.formed) record { fits = fits; heap = record { low = low; high = high } } goes).fits
 
 -- the operation of a row does what the row does, and sets no carry
 pub record IsRow (o : BinaryOp) (r : RegOp) : Type 0 where
@@ -112,7 +120,7 @@ module _ (code : List ℕ) (trash : ℕ) (c : Code) (i : ℕ) (o : BinaryOp) (r 
   inside-at = inner (home c.nodes.nodes i) t.entry i t.home t.behind
 
   next-inside : is_inside c (i + 1) ≡ true
-  next-inside = t.shaped.next i t.entry t.home (ap (λ m. is_epilog_at m) t.here)
+  next-inside = (shaped c.nodes t.well).next i t.entry t.home (ap (λ m. is_epilog_at m) t.here)
 
   stands : drop (c.place i - code_base) code ≡ spelling x ++ k.block.more
   stands = k.block.stands
@@ -156,8 +164,8 @@ module _ (code : List ℕ) (trash : ℕ) (c : Code) (i : ℕ) (o : BinaryOp) (r 
         let value : v ≡ reg_value r xa xb = λ j. reg_value r (ga j) (gb j) in
         write-agrees Riscv64 c live s (on (with_reg s (operand.Reg d) (reg_value r xa xb))) (rv_seen q) (rv_seen q1) (live_before n S) S (number d) (reg_value r xa xb) st
         record {
-          few = t.shaped.few;
-          fits = t.keeps s (on (with_reg s (operand.Reg d) (reg_value r xa xb))) [] (omega (arith, st.seen.low, st.mark)) (omega (arith, st.seen.high, st.mark)) st.fits goes;
+          few = (shaped c.nodes t.well).few;
+          fits = text-keeps c i n t s (on (with_reg s (operand.Reg d) (reg_value r xa xb))) [] here (omega (arith, st.seen.low, st.mark)) (omega (arith, st.seen.high, st.mark)) st.fits goes;
           seen = seen-again st.seen;
           here = pc-next q.state.pc room ∙ ap (λ p. p + 4) at ∙ sym k.block.next ∙ ap (λ j. c.place (j + 1)) (sym here);
           before = inside;

@@ -43,7 +43,7 @@ use Rattle.lg_carry.proofs.AgainLemmas.{settled, write-agrees}
 use Rattle.lg_carry.proofs.ApartLemmas.{conventions-apart}
 use Rattle.lg_carry.proofs.BlockLemmas.{blocks-run}
 use Rattle.lg_carry.proofs.NodeBlockLemmas.{node-blocks-lead}
-use Rattle.lg_carry.proofs.ShapedLemmas.{inner}
+use Rattle.lg_carry.proofs.ShapedLemmas.{inner, shaped}
 use Rattle.lg_carry.proofs.SpillLemmas.{saves-restore}
 use Rattle.lg_carry.proofs.SpillChoiceLemmas.{choices-in-order, spilled-unwritten}
 use Rattle.lg_carry.proofs.StackLemmas.{stacked-running, stacked-high}
@@ -52,7 +52,7 @@ use Rattle.lg_carry_rv.specs.RvRows.{rv_seen, rv_processor, rv_does, rv_rows, ca
 use Rattle.lg_carry_rv.specs.RegisterNodes.{IsInText, IsInCode}
 use Rattle.lg_carry_rv.specs.NumberNodes.{number_node, number_body, NumberNodesCarry}
 use Rattle.lg_carry_rv.proofs.BodyLemmas.{body_work, body-does}
-use Rattle.lg_carry_rv.proofs.NodeLemmas.{given, put-same, put-other}
+use Rattle.lg_carry_rv.proofs.NodeLemmas.{given, put-same, put-other, text-keeps}
 use Rattle.lg_carry_rv.proofs.NumberUseLemmas.{number-unwritten, number-written, number-read}
 use Rattle.lg_carry_rv.proofs.RowLemmas.{are-rows}
 use Rattle.lg_carry_rv.proofs.SlotLemmas.{are-spills}
@@ -255,12 +255,12 @@ module _ (code : List ℕ) (trash : ℕ) (c : Code) (i : ℕ) (d a : Reg) (v lin
         let to = on (with_reg s (operand.Reg d) (add_words xa v)) in
         write-agrees Riscv64 c frames s to (rv_seen q) (rv_seen u) (live_before n S) S (number d) (add_words xa v) st
         record {
-          few = t.shaped.few;
-          fits = t.keeps s to [] (omega (arith, st.seen.low, st.mark)) (omega (arith, st.seen.high, st.mark)) st.fits goes;
+          few = (shaped c.nodes t.well).few;
+          fits = text-keeps c i n t s to [] at (omega (arith, st.seen.low, st.mark)) (omega (arith, st.seen.high, st.mark)) st.fits goes;
           seen = run.keeps st.seen;
           here = leaves.behind ∙ ap (λ p. p + length (spellings (rv_rows code trash).spelling is)) here ∙ sym k.block.next ∙ ap (λ j. c.place (j + 1)) (sym at);
           before = inside;
-          behind = ap (λ j. is_inside c (j + 1)) at ∙ t.shaped.next i t.entry t.home (ap is_epilog_at t.here);
+          behind = ap (λ j. is_inside c (j + 1)) at ∙ (shaped c.nodes t.well).next i t.entry t.home (ap is_epilog_at t.here);
           frame = refl;
           callers = refl;
           pointer = leaves.registers 8 (temp.free 8 spare.pointer) ∙ put-other q.state.registers rd sum 8 (λ z. apart.portable_pointer (number d) few (sym (z ∙ hw)));

@@ -17,17 +17,14 @@ use Rattle.lg_rv.specs.declared.instruction.Instr.TheVariants as instr
 use Rattle.lg_rv.specs.declared.instruction.RegOp.{RegOp}
 use Rattle.lg_rv.specs.declared.instruction.RegOp.TheVariants as row
 use Rattle.lg_cpu.specs.Laws.{AreBytes}
-use Rattle.lg_meaning.specs.States.{State}
-use Rattle.lg_meaning.specs.Steps.{Goes}
-use Rattle.lg_meaning.specs.Texts.{step}
-use Rattle.lg_meaning.specs.Fits.{Fits}
 use Rattle.lg_temp.specs.Abis.{register_of}
 use Rattle.lg_carry.specs.Codes.{Code}
-use Rattle.lg_carry.specs.Shaped.{IsShaped}
 use Rattle.lg_carry.specs.NodeCode.{CarriesNode}
 use Rattle.lg_carry_rv.specs.RvRows.{rv_processor, rv_rows}
-use Rattle.lg_base.specs.Parts.{heap_base}
 use Rattle.lg_carry.specs.NodeBlocks.{IsNodeBlock}
+use Rattle.lg_node.specs.Shapes.{IsShapeOf}
+use Rattle.lg_node.specs.ShapeLaws.{IsWellShaped, HasFunctions}
+use Rattle.lg_meaning.specs.Laws.{IsFormedAt}
 
 -- the row of the operations that are one
 abbrev pub row_of : BinaryOp → Option RegOp
@@ -45,10 +42,12 @@ register_node o d a b line = record { op = op.Binary o last_operand.Register; op
 abbrev pub register_code : RegOp → Reg → Reg → Reg → Instr
 register_code r d a b = instr.Reg r (register_of Riscv64 d) (register_of Riscv64 a) (register_of Riscv64 b)
 
--- the text is accepted, its steps from states whose heap mark is in the heap keep the fit, and node i stands in a function behind its `prolog`
+-- the text is accepted, and node i has the operands of its operation and stands in a function behind its `prolog`
 pub record IsInText (c : Code) (i : ℕ) (n : Node) : Type 0 where
-  pub shaped : IsShaped c.nodes
-  pub keeps : (s t : State) (bytes : List ℕ) → heap_base ≤ s.mark → s.mark ≤ 0x30400000 → Fits c.nodes c.shape s → step c.nodes c.shape c.addresses s ≡ Goes t bytes → Fits c.nodes c.shape t
+  pub shape : IsShapeOf c.nodes c.shape
+  pub well : IsWellShaped c.nodes
+  pub functions : HasFunctions c.nodes
+  pub formed : IsFormedAt c.nodes i
   pub here : slice_get c.nodes.nodes i ≡ Some n
   pub entry : ℕ
   pub home : home c.nodes.nodes i ≡ Some entry
