@@ -1,3 +1,5 @@
 pub mod Answers
+pub mod ChoiceLemmas
 pub mod Induction
+pub mod SavedLemmas
 pub mod Steps

@@ -1,6 +1,7 @@
 -- Which registers the temporaries of a node take.
-use Rattle.std.specs.Prelude.{ℕ, ◌+◌, ◌==◌, ◌&&◌, ◌||◌, not, Bool, false, List, [], ◌∷◌, ◌++◌, take, drop, reverse, find, unwrap_or, Option, Some, None, if◌then◌else◌}
+use Rattle.std.specs.Prelude.{ℕ, ◌+◌, ◌==◌, ◌&&◌, ◌||◌, not, Bool, false, List, [], ◌∷◌, ◌++◌, take, drop, reverse, find, Option, Some, None, if◌then◌else◌}
 use Rattle.std.specs.List.{list_any}
+use Rattle.std.specs.Option.{option_and_then}
 use Rattle.lg_base.specs.Conventions.{argument_registers, portable_registers}
 use Rattle.lg_base.specs.declared.target.Target.{Target}
 use Rattle.lg_op.specs.declared.node.Node.{Node}
@@ -84,11 +85,12 @@ abbrev pub first_free : Around → List Need → List Choice → List ℕ → Op
 first_free a needs choices registers = find (λ r. not (is_barred a needs choices r || is_busy a r)) registers
 
 -- any register: the first that is free, and only where there is none the first that can be saved
-abbrev pub free_or_saved : Option ℕ → Option ℕ → ℕ → Choice
-free_or_saved (Some r) saved slot = Free r
-free_or_saved None saved slot = Spill (unwrap_or saved 0) slot
+abbrev pub free_or_saved : Option ℕ → Option ℕ → ℕ → Option Choice
+free_or_saved (Some r) saved slot = Some (Free r)
+free_or_saved None (Some r) slot = Some (Spill r slot)
+free_or_saved None None slot = None
 
-abbrev pub pick_any : Around → List Need → List Choice → Choice
+abbrev pub pick_any : Around → List Need → List Choice → Option Choice
 pick_any a needs choices =
     free_or_saved (first_free a needs choices (order a.target)) (first_saved a needs choices (order a.target)) (spills choices)
 
@@ -100,14 +102,15 @@ pick_only a choices r =
     else if stands_in a.target a.reads r || is_busy a r then Spill r (spills choices)
     else Free r
 
-abbrev pub pick : Around → List Need → List Choice → Need → Choice
+abbrev pub pick : Around → List Need → List Choice → Need → Option Choice
 pick a needs choices Any = pick_any a needs choices
-pick a needs choices (Only r) = pick_only a choices r
+pick a needs choices (Only r) = Some (pick_only a choices r)
 
 -- the choices for the needs that are left, behind those that are made
-abbrev pub chosen : Around → List Need → List Need → List Choice → List Choice
-chosen a needs [] choices = choices
-chosen a needs (need ∷ left) choices = chosen a needs left (choices ++ pick a needs choices need ∷ [])
+abbrev pub chosen : Around → List Need → List Need → List Choice → Option (List Choice)
+chosen a needs [] choices = Some choices
+chosen a needs (need ∷ left) choices = option_and_then (λ choice. chosen a needs left (choices ++ choice ∷ [])) (pick a needs choices need)
 
-abbrev pub choices_of : Around → List Need → List Choice
+-- the choices for the needs of a node, of which there are at most 3
+abbrev pub choices_of : Around → List Need → Option (List Choice)
 choices_of a needs = chosen a needs needs []

@@ -1,6 +1,6 @@
 // The choice of registers for a node's temporaries.
 
-ghost use Rattle.std.specs.Prelude.{◌≡◌, ◌+◌, ◌≤◌, length};
+ghost use Rattle.std.specs.Prelude.{◌≡◌, ◌+◌, ◌≤◌, Some, length};
 ghost use Rattle.lg_base.specs.Conventions.{argument_registers};
 ghost use Rattle.lg_live.specs.RegSets.{has};
 ghost use Rattle.lg_temp.specs.Chosen.{order, stands_in, staged_in, is_named, taken_by, is_chosen, spills, around, choices_of};
@@ -163,17 +163,21 @@ impl Around {
         }
     }
 
-    // The choice for a need that names no register.
+    // The choice for a need that names no register. One can always be saved.
     fn pick_any(&self, needs: &[Need], choices: &[Choice]) -> Choice
-        requires { length choices.now ≤ 3 }
-        ensures { result ≡ pick_any (seen self.now) needs.now choices.now }
+        requires needs { length needs.now ≤ 3 }
+        requires room { length choices.now ≤ 2 }
+        ensures { pick_any (seen self.now) needs.now choices.now ≡ Some result }
     {
         let registers = order(self.target);
         match self.first_free(needs, choices, registers) {
             Some(register) => Choice::Free(register),
-            None => Choice::Spill {
-                reg: self.first_saved(needs, choices, registers).unwrap_or(0),
-                slot: spills(choices),
+            None => match self.first_saved(needs, choices, registers) {
+                Some(reg) => Choice::Spill {
+                    reg,
+                    slot: spills(choices),
+                },
+                None => unreachable!(),
             },
         }
     }
@@ -195,18 +199,28 @@ impl Around {
         }
     }
 
+    // The choice for a need.
+    fn pick(&self, needs: &[Need], choices: &[Choice], need: Need) -> Choice
+        requires needs { length needs.now ≤ 3 }
+        requires room { length choices.now ≤ 2 }
+        ensures { pick (seen self.now) needs.now choices.now need ≡ Some result }
+    {
+        match need {
+            Need::Any => self.pick_any(needs, choices),
+            Need::Only(register) => self.pick_only(choices, register),
+        }
+    }
+
     // The choices for the needs that are left, behind those that are made.
     fn chosen(&self, needs: &[Need], left: &[Need], choices: Choices) -> Choices
-        requires { length left.now + length choices ≤ 3 }
-        ensures { result ≡ chosen (seen self.now) needs.now left.now choices }
+        requires needs { length needs.now ≤ 3 }
+        requires room { length left.now + length choices ≤ 3 }
+        ensures { chosen (seen self.now) needs.now left.now choices ≡ Some result }
     {
         match left {
             [] => choices,
             [need, left @ ..] => {
-                let choice = match need {
-                    Need::Any => self.pick_any(needs, choices.as_slice()),
-                    Need::Only(register) => self.pick_only(choices.as_slice(), *register),
-                };
+                let choice = self.pick(needs, choices.as_slice(), *need);
                 self.chosen(needs, left, choices.with(choice))
             }
         }
@@ -225,7 +239,7 @@ pub fn choose(
     live_after: RegSet,
     staged: Staged,
 ) -> Choices
-    ensures { result ≡ choices_of (around target node.now (has live_after) staged.arguments) needs.now }
+    ensures { choices_of (around target node.now (has live_after) staged.arguments) needs.now ≡ Some result }
 {
     let around = Around {
         target,

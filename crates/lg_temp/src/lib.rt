@@ -5,6 +5,7 @@
 pub mod abi;
 pub mod choice;
 pub mod choose;
+pub mod laws;
 #[cfg(test)]
 mod tests;
 

@@ -1,4 +1,4 @@
-use Rattle.std.proofs.Common.{◌≡◌, List, Bool, ◌∙◌}
+use Rattle.std.proofs.Common.{◌≡◌, List, Bool, sym, ◌∙◌}
 use mathlib.Core.Path.{fun_ext}
 use Rattle.lg_base.specs.declared.target.Target.{Target}
 use Rattle.lg_op.specs.declared.operand.Reg.{Reg}
@@ -17,4 +17,4 @@ returns c =
     (fun_ext c.reads.ensures.registers) (fun_ext c.writes.ensures.registers) in
     let needs = c.as_slice.ensures.value in
     let left = c.as_slice-2.ensures.value in
-    c.chosen.ensures ∙ (λ i. chosen (a i) (needs i) (left i) (c.new.ensures i))
+    sym (λ i. chosen (a i) (needs i) (left i) (c.new.ensures i)) ∙ c.chosen.ensures

@@ -1,0 +1,16 @@
+pub mod AcrossLemmas
+pub mod AgainLemmas
+pub mod ApartLemmas
+pub mod BlockLemmas
+pub mod FallLemmas
+pub mod KeptLemmas
+pub mod MeaningLemmas
+pub mod NodeBlockLemmas
+pub mod NodeCodeLemmas
+pub mod RankLemmas
+pub mod ShapedLemmas
+pub mod SpillChoiceLemmas
+pub mod SpillLemmas
+pub mod StackLemmas
+pub mod TakenLemmas
+pub mod WordLemmas

@@ -1,0 +1,3 @@
+pub mod NumberNodes
+pub mod RegisterNodes
+pub mod RvRows
