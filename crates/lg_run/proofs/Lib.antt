@@ -4,13 +4,13 @@ pub mod CarryLemmas
 pub mod CauseLemmas
 pub mod CodeLemmas
 pub mod CompleteLemmas
+pub mod DueLemmas
 pub mod EndLemmas
-pub mod GrammarLemmas
+pub mod FormLemmas
+pub mod HeldLemmas
 pub mod MachineLemmas
 pub mod NodeLemmas
 pub mod ProcessorLemmas
-pub mod RangeLemmas
-pub mod ReadingLemmas
+pub mod RefusedLemmas
 pub mod RunLemmas
 pub mod SaysLemmas
-pub mod TokenLemmas

@@ -3,16 +3,15 @@ use Rattle.std.specs.Prelude.{◌≡◌, ℕ, ◌<◌, ◌≤◌, ◌^◌, List,
 use Rattle.lg_base.specs.Arguments.{args_of, most_args}
 use Rattle.lg_base.specs.Runs.{iter}
 use Rattle.lg_temp.specs.Agrees.{AgreesAt}
-use Rattle.lg_run.specs.Nodes.{nodes_of}
 use Rattle.lg_run.specs.Portable as meaning
 use Rattle.lg_run.specs.Processor as machine
-use Rattle.lg_run.specs.declared.form.Item.{Item}
+use Rattle.lg_run.specs.declared.form.FormNode.{FormNode}
 
--- for every argument part, every trash word and every number of instructions
-abbrev pub Agrees : List ℕ → List Item → Type 0
-Agrees bytes items =
-    (words : List (List ℕ)) (trash n : ℕ) → 0 < length words → length (args_of words) ≤ most_args → trash < 2 ^ 64
-    → AgreesAt (meaning.portable (nodes_of items)) (machine.processor bytes trash) (length (nodes_of items)) meaning.start (machine.start words trash) n
+-- for every data part and argument part, every trash word and every number of instructions
+abbrev pub Agrees : List ℕ → List FormNode → Type 0
+Agrees bytes nodes =
+    (image : List ℕ) (words : List (List ℕ)) (trash n : ℕ) → 0 < length words → length (args_of words) ≤ most_args → trash < 2 ^ 64
+    → AgreesAt (meaning.portable nodes) (machine.processor bytes trash) (length nodes) meaning.start (machine.start image words trash) n
 
 -- the most steps of a run of such code: three for each node
 abbrev pub most_run : ℕ
@@ -21,4 +20,4 @@ most_run = 12000
 -- every run of the code ends after at most so many steps
 abbrev pub EndsWithin : ℕ → List ℕ → Type 0
 EndsWithin most bytes =
-    (words : List (List ℕ)) (trash : ℕ) → (n : ℕ) × (s : ℕ) × (n ≤ most) × ((iter (machine.step bytes trash) n (machine.start words trash)).stands ≡ machine.EndedWith s)
+    (image : List ℕ) (words : List (List ℕ)) (trash : ℕ) → (n : ℕ) × (s : ℕ) × (n ≤ most) × ((iter (machine.step bytes trash) n (machine.start image words trash)).stands ≡ machine.EndedWith s)

@@ -1,10 +1,11 @@
 -- The portable meaning of a text of the first form (GNU lightning manual, "The instruction set"): what each node does.
-use Rattle.std.specs.Prelude.{◌≡◌, ℕ, suc, ◌+◌, ◌%◌, ◌==◌, Bool, nat_lt, List, [], ◌∷◌, ◌++◌, Option, Some, None, option_map, option_and_then, slice_get, if◌then◌else◌}
+use Rattle.std.specs.Prelude.{ℕ, ◌+◌, ◌%◌, ◌==◌, nat_lt, List, [], ◌∷◌, ◌++◌, Option, Some, None, option_map, option_and_then, slice_get, if◌then◌else◌}
 use Rattle.lg_base.specs.Fields.{word_of}
 use Rattle.lg_base.specs.Words.{add_words}
 use Rattle.lg_base.specs.Runs.{Status, Running, Ended, Bad, Machine}
 use Rattle.lg_run.specs.Forms.{index_of}
-use Rattle.lg_run.specs.Nodes.{Node, Prolog, Movi, Addi, Addr, Prepare, Pushargr, Finishi, Ret, Epilog}
+use Rattle.lg_run.specs.declared.form.FormNode.{FormNode}
+use Rattle.lg_run.specs.declared.form.FormNode.TheVariants.{Prolog, Movi, Addi, Addr, Prepare, Pushargr, Finishi, Ret, Epilog}
 use Rattle.lg_run.specs.declared.form.Register.{Register}
 use Rattle.lg_run.specs.declared.form.Callee.{Callee}
 use Rattle.lg_run.specs.declared.form.Callee.TheVariants.{Putchar, Exit}
@@ -70,8 +71,8 @@ calls p Exit (n ∷ more) = ends p (n % 256)
 abbrev pub sum_of : Option ℕ → Option ℕ → Option ℕ
 sum_of left right = option_and_then (λ a. option_map (λ b. add_words a b) right) left
 
-abbrev pub effect : Node → Place → Effect
-effect Prolog p = goes p undefined [] []
+abbrev pub effect : FormNode → Place → Effect
+effect Prolog p = goes p p.registers p.pushed []
 effect (Movi to number) p = writes p to (Some (word_of number))
 effect (Addi to from number) p = writes p to (sum_of (p.registers (index_of from)) (Some (word_of number)))
 effect (Addr to left right) p = writes p to (sum_of (p.registers (index_of left)) (p.registers (index_of right)))
@@ -84,7 +85,7 @@ effect Epilog p = ends p 0
 -- ---- the machine
 
 -- no node stands at the place
-abbrev pub effect_at : Option Node → Place → Effect
+abbrev pub effect_at : Option FormNode → Place → Effect
 effect_at None p = is_undefined p
 effect_at (Some node) p = effect node p
 
@@ -97,10 +98,10 @@ on_running Running next s = next
 on_running (Ended status) next s = s
 on_running Bad next s = s
 
-abbrev pub step : List Node → Portable → Portable
+abbrev pub step : List FormNode → Portable → Portable
 step nodes s = on_running s.status (after s (effect_at (slice_get nodes s.place.node) s.place)) s
 
-abbrev pub portable : List Node → Machine Portable
+abbrev pub portable : List FormNode → Machine Portable
 portable nodes = record { step = step nodes; status = λ s. s.status; out = λ s. s.out }
 
 -- the first node, with nothing defined
