@@ -1,4 +1,4 @@
-// Texts of the first form, and calls that end otherwise.
+// Texts of the first form, the largest texts, and calls that end otherwise.
 
 use crate::texts::{first_letter, kept_registers, wrapped_sum};
 use lg_io::memory_sink::MemorySink;
@@ -59,50 +59,37 @@ fn runs_texts(rt: HostRuntime) -> Result<(), Fail> {
     check(&rt, &plain(kept_registers(), b"Hi!\n", b"", 0))?;
     check(&rt, &plain(wrapped_sum(), b"", b"", 42))?;
     check(&rt, &plain(b".code prolog ret epilog", b"", b"", 0))?;
-    let refused = b"lightning: t.tst:0: refused 0 NotYet\n";
     check(
         &rt,
         &plain(
-            b".code prolog movi %r0 65 nop ret epilog",
+            b"# 1 \"t.c\"\n.data 16 x: .c \"hi\" y: .code /* data, names and notes */ prolog name f note \"n\" 3 ret epilog",
             b"",
-            refused,
-            121,
+            b"",
+            0,
         ),
-    )?;
-    check(&rt, &plain(b"", b"", refused, 121))?;
-    check(&rt, &plain(b"\x00\xff", b"", refused, 121))?;
-    check(
-        &rt,
-        &plain(b".code prolog ret epilog ret", b"", refused, 121),
     )
 }
 
 #[test]
 fn reads_numbers_in_their_range(rt: HostRuntime) -> Result<(), Fail> {
-    let refused = b"lightning: t.tst:0: refused 0 NotYet\n";
     let front = b".code prolog movi %r0 ";
     let back = b" prepare pushargr %r0 finishi @exit ret epilog";
     for (number, wanted) in [
         ("2047", 255u8),
         ("-2048", 0),
         ("-1", 255),
+        ("18446744073709551615", 255),
         ("0", 0),
         ("-0", 0),
-        ("2048", 121),
-        ("-2049", 121),
-        ("00007", 121),
-        ("1x", 121),
-        ("-", 121),
+        ("00007", 7),
+        ("0x10", 16),
+        ("'A'", 65),
+        ("$(1 << 4 | 3)", 19),
     ] {
         let mut text = Vec::from_slice(rt.alloc(), front)?;
         text.extend_from_slice(number.as_bytes())?;
         text.extend_from_slice(back)?;
-        let err = if wanted == 121 {
-            refused.as_slice()
-        } else {
-            b"".as_slice()
-        };
-        check(&rt, &plain(&text, b"", err, wanted))?;
+        check(&rt, &plain(&text, b"", b"", wanted))?;
     }
     Ok(())
 }
@@ -116,30 +103,67 @@ fn takes_4000_nodes_and_no_more(rt: HostRuntime) -> Result<(), Fail> {
     let mut long = Vec::from_slice(rt.alloc(), &text)?;
     text.extend_from_slice(b" ret epilog")?;
     check(&rt, &plain(&text, b"", b"", 0))?;
-    long.extend_from_slice(b" movi %v2 7 ret epilog")?;
+    long.extend_from_slice(b" movi %v2 7 ret\nepilog")?;
     check(
         &rt,
-        &plain(&long, b"", b"lightning: t.tst:0: refused 0 NotYet\n", 121),
+        &plain(&long, b"", b"lightning: t.tst:2: refused 0 NotYet\n", 121),
     )
 }
 
 #[test]
-fn refuses_a_text_that_is_too_long(rt: HostRuntime) -> Result<(), Fail> {
+fn refuses_the_largest_texts(rt: HostRuntime) -> Result<(), Fail> {
+    let mut nodes = Vec::from_slice(rt.alloc(), b".code prolog")?;
+    for _ in 0..65_534 {
+        nodes.extend_from_slice(b" ret")?;
+    }
+    let mut most = Vec::from_slice(rt.alloc(), &nodes)?;
+    most.extend_from_slice(b" epilog")?;
+    let departs = b"lightning: t.tst:1: refused 0 NotYet\n";
+    check(&rt, &plain(&most, b"", departs, 121))?;
+    let too_many = b"lightning: t.tst:2: refused 17 TooManyNodes\n".as_slice();
+    let unknown = b"lightning: t.tst:2: refused 2 UnknownName\n".as_slice();
+    let float = b"lightning: t.tst:2: refused 3 FloatRefused\n".as_slice();
+    for (last, refused) in [
+        (b" ret\nret".as_slice(), too_many),
+        (b" ret\nmovi".as_slice(), too_many),
+        (b" ret\n.align 3".as_slice(), too_many),
+        (b" ret\nnop".as_slice(), unknown),
+        (b" ret\nx_f".as_slice(), float),
+    ] {
+        let mut text = Vec::from_slice(rt.alloc(), &nodes)?;
+        text.extend_from_slice(last)?;
+        check(&rt, &plain(&text, b"", refused, 121))?;
+    }
     let mut text = vec![in rt.alloc(); b' '; 16_777_216]?;
-    check(
-        &rt,
-        &plain(&text, b"", b"lightning: t.tst:0: refused 0 NotYet\n", 121),
-    )?;
+    let no_code = b"lightning: t.tst:1: refused 20 NoCode\n";
+    check(&rt, &plain(&text, b"", no_code, 121))?;
     text.push(b' ')?;
-    check(
-        &rt,
-        &plain(
-            &text,
-            b"",
-            b"lightning: t.tst:0: refused 16 TextTooLong\n",
-            121,
+    let too_long = b"lightning: t.tst:0: refused 16 TextTooLong\n";
+    check(&rt, &plain(&text, b"", too_long, 121))
+}
+
+#[test]
+fn gives_the_addresses_of_labels(rt: HostRuntime) -> Result<(), Fail> {
+    let mut words = Vec::new(rt.alloc());
+    for word in ["lightning", "--target", "riscv64", "t.tst"] {
+        words.push(String::from_str(rt.alloc(), word)?)?;
+    }
+    let mut texts = MemoryTexts::new(rt.alloc(), &[])?;
+    texts.add(
+        "t.tst",
+        b".data 16 a: .c 1 b: .align 8 c: .code prolog ret epilog",
+    )?;
+    let mut out = MemorySink::new(rt.alloc(), 16, &[])?;
+    let mut err = MemorySink::new(rt.alloc(), 16, &[])?;
+    let done = lightning(rt.alloc(), &words, &mut texts, &mut out, &mut err);
+    match &done.code {
+        Some(code) => assert_eq!(rt;
+            code.labels().as_slice(),
+            [0x2000_0000u64, 0x2000_0001, 0x2000_0008].as_slice()
         ),
-    )
+        None => assert!(rt; false),
+    }
+    Ok(())
 }
 
 #[test]
