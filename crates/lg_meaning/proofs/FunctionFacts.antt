@@ -1,12 +1,12 @@
 -- The function of a node of an accepted text: each node of a function has that function, and no other.
-use Rattle.std.proofs.Common.{◌≡◌, ◌≢◌, ℕ, ◌+◌, ◌<◌, ◌≤◌, Bool, true, false, List, Option, Some, None, refl, sym, ap, ◌∙◌, length, subst, arith, slice_index_or}
+use Rattle.std.proofs.Common.{◌≡◌, ℕ, ◌+◌, ◌≤◌, Some, refl, sym, ap, ◌∙◌, subst, arith}
 use Rattle.std.specs.Prelude.{slice_get, slice_range, sum_by}
 use Rattle.std.specs.Option.{option_and_then}
 use Rattle.std.proofs.lemmas.Option.{slice_get_within, get_or_from_slice_get}
 use Rattle.std.proofs.lemmas.List.Elements.{All-get_or}
 use Rattle.lg_node.specs.declared.function.Function.{Function}
 use Rattle.lg_node.specs.Nodes.{LabelledNodes}
-use Rattle.lg_node.specs.Functions.{home, functions, function_of, local_size, IsFunction}
+use Rattle.lg_node.specs.Functions.{home, functions, local_size, IsFunction}
 use Rattle.lg_node.specs.Shapes.{TextShape}
 use Rattle.lg_node.specs.ShapeTables.{IsSmall}
 use Rattle.lg_node.specs.ShapeLaws.{HasFunctions}
@@ -26,13 +26,15 @@ module _ (l : LabelledNodes) (shape : TextShape) (hf : HasFunctions l) (fe : sha
       let fs = functions l.nodes in
       let lt = slice_get_within fs x.number x.function x.listed in
       let e = get_or_from_slice_get fs x.number x.function x.function x.listed in
-      let small : IsSmall x.function = subst IsSmall e (All-get_or IsSmall fs x.number x.function lt hf.small) in
-      (x.function, record {
-        here = rw fe (ap (option_and_then (slice_get fs)) x.numbered ∙ x.listed);
-        entry = x.entry;
-        is = subst (IsFunction l.nodes) e (All-get_or (IsFunction l.nodes) fs x.number x.function lt hf.ranges);
-        small = small.locals;
-      })
+      let small : IsSmall x.function = subst IsSmall e (All-get_or IsSmall fs x.number x.function lt hf.small) in (
+        x.function,
+        record {
+          here = rw fe (ap (option_and_then (slice_get fs)) x.numbered ∙ x.listed);
+          entry = x.entry;
+          is = subst (IsFunction l.nodes) e (All-get_or (IsFunction l.nodes) fs x.number x.function lt hf.ranges);
+          small = small.locals;
+        },
+      )
 
 -- two functions with one entry are one
 pub same_function : (l : LabelledNodes) (f g : Function) → IsFunction l.nodes f → IsFunction l.nodes g → f.entry ≡ g.entry → f ≡ g

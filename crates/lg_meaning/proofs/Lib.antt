@@ -1,1 +1,14 @@
+pub mod AddressLemmas
+pub mod ArriveLemmas
+pub mod CallLemmas
+pub mod FallLemmas
 pub mod FunctionFacts
+pub mod HostFacts
+pub mod KeepLemmas
+pub mod MeanLemmas
+pub mod NodeFacts
+pub mod OpenFacts
+pub mod Outcomes
+pub mod PushLemmas
+pub mod StartLemmas
+pub mod StayLemmas

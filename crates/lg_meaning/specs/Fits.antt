@@ -1,5 +1,7 @@
 -- When a portable state fits the shape of a text.
 use Rattle.std.specs.Prelude.{◌≡◌, ◌≢◌, ℕ, ◌+◌, ◌<◌, ◌≤◌, Bool, true, false, Option, Some, None, List, [], ◌∷◌, length, slice_get}
+use Rattle.lg_base.specs.Parts.{heap_base}
+use Rattle.lg_host.specs.Host.{heap_end}
 use Rattle.lg_op.specs.declared.op.Op.{Op}
 use Rattle.lg_op.specs.declared.op.Op.TheVariants as op
 use Rattle.lg_op.specs.declared.op.ControlOp.TheVariants as control
@@ -67,11 +69,22 @@ abbrev pub AreLinked : LabelledNodes → TextShape → Frame → List Frame → 
 AreLinked l shape f [] = (f.sp ≡ 0x40000000) × (length f.args ≡ 2)
 AreLinked l shape f (g ∷ gs) = IsCaller l shape f g × AreLinked l shape g gs
 
--- a state fits the shape of nodes
+-- a state fits the shape of nodes; no frame begins below 0x3FF00010, since each begins below those of its callers
 pub record Fits (l : LabelledNodes) (shape : TextShape) (s : State) : Type 0 where
   pub inside : s.at < length l.nodes
   pub top : IsTopOf l shape s (home l.nodes s.at)
   pub linked : AreLinked l shape s.frame s.callers
+  pub low : 0x3FF00010 + s.frame.size ≤ s.frame.sp
   pub pushed : length s.pushed ≡ pushed l.nodes s.at
   pub variadic : s.variadic ≡ variadic l.nodes s.at
   pub memory : (a b : ℕ) → s.mem a ≡ Some b → is_open s a ≡ true
+
+-- the heap mark stands in the heap
+pub record IsHeapMark (mark : ℕ) : Type 0 where
+  pub low : heap_base ≤ mark
+  pub high : mark ≤ heap_end
+
+-- a state that fits, and whose heap mark stands in the heap; without the latter a host function could write below the heap
+pub record FitsWell (l : LabelledNodes) (shape : TextShape) (s : State) : Type 0 where
+  pub fits : Fits l shape s
+  pub heap : IsHeapMark s.mark

@@ -1,4 +1,8 @@
+pub mod Addresses
 pub mod Fits
+pub mod Laws
+pub mod Means
+pub mod Starts
 pub mod States
 pub mod Steps
 pub mod Texts
