@@ -13,7 +13,7 @@ use Rattle.lg_run.specs.FirstForm.{InRange}
 use Rattle.lg_run.specs.Forms.{hardware, index_of}
 use Rattle.lg_run.specs.declared.form.FormNode.{FormNode}
 use Rattle.lg_run.specs.declared.form.FormNode.TheVariants.{Prolog, Movi, Addi, Addr, Prepare, Pushargr, Finishi, Ret, Epilog}
-use Rattle.lg_run.specs.Portable as meaning
+use Rattle.lg_run.proofs.FormMeaning as meaning
 use Rattle.lg_run.specs.Processor as machine
 use Rattle.lg_run.specs.declared.form.Register.{Register}
 use Rattle.lg_run.specs.declared.form.Register.TheVariants.{R0, R1, R2, V0, V1, V2}

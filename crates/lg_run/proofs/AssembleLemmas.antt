@@ -1,21 +1,27 @@
 -- The code of nodes of the first form: how long it is, and that it agrees with their meaning.
-use Rattle.std.proofs.Common.{◌≡◌, ℕ, ◌+◌, ◌-◌, ◌*◌, ◌<◌, ◌≤◌, inl, List, [], ◌∷◌, ◌++◌, length, Option, Some, None, Bool, true, false, refl, sym, ap, ◌∙◌, subst, arith, length-append}
+use Rattle.std.proofs.Common.{◌≡◌, ℕ, ◌+◌, ◌-◌, ◌*◌, ◌^◌, ◌<◌, ◌≤◌, inl, List, [], ◌∷◌, ◌++◌, length, Option, Some, None, Bool, true, false, refl, sym, ap, ◌∙◌, subst, arith, length-append}
 use Rattle.std.specs.Prelude.{◌&&◌, nat_le, nat_lt, is_some, slice_index, if◌then◌else◌}
-use Rattle.lg_base.specs.Arguments.{args_of}
+use Rattle.lg_base.specs.Arguments.{args_of, most_args}
 use Rattle.lg_base.specs.Parts.{data_base, args_base, heap_base, stack_base}
 use Rattle.lg_base.specs.Spaces.{mapped}
 use Rattle.lg_base.proofs.SpaceLemmas.{mapped-all}
 use Rattle.lg_temp.proofs.Induction.{agrees}
-use Rattle.lg_run.specs.Agreement.{Agrees}
+use Rattle.lg_node.specs.Checks.{IsAccepted}
+use Rattle.lg_node.specs.declared.unit.Unit.{Unit as TextUnit}
+use Rattle.lg_temp.specs.Agrees.{AgreesAt}
+use Rattle.lg_run.specs.Addresses.{addresses_of}
+use Rattle.lg_run.specs.Agreement.{Agrees, shape_of_unit}
 use Rattle.lg_run.specs.Emission.{bytes_of, code_of, node_code}
 use Rattle.lg_run.specs.declared.form.FormNode.{FormNode}
 use Rattle.lg_run.specs.declared.form.FormNode.TheVariants.{Prolog, Movi, Addi, Addr, Prepare, Pushargr, Finishi, Ret, Epilog}
-use Rattle.lg_run.specs.FirstForm.{IsItem, IsBody, IsForm, movi, addi, addr, call, closing, more, most_nodes}
-use Rattle.lg_run.specs.Portable as meaning
+use Rattle.lg_run.specs.FirstForm.{IsItem, IsBody, IsForm, IsFirstForm, movi, addi, addr, call, closing, more, most_nodes}
+use Rattle.lg_run.proofs.FormMeaning as meaning
 use Rattle.lg_run.specs.Processor as machine
 use Rattle.lg_run.proofs.AgreeLemmas.{Fits, Stands}
 use Rattle.lg_run.proofs.CarryLemmas.{carries, standing}
 use Rattle.lg_run.proofs.CodeLemmas.{length-bytes_of}
+use Rattle.lg_run.proofs.HeldLemmas.{are_addresses}
+use Rattle.lg_run.proofs.MeanLemmas.{agrees_with_unit}
 use Rattle.lg_run.proofs.MachineLemmas.{portable_is, portable_ends, processor_is}
 
 -- what is pushed is called with
@@ -77,7 +83,13 @@ starts nodes image words trash = inl record {
 }
 
 -- ---- the agreement
-agrees_body : (body : List FormNode) (bytes : List ℕ) → IsBody body → length (Prolog ∷ body) ≤ most_nodes → bytes ≡ bytes_of (code_of (Prolog ∷ body)) → Agrees bytes (Prolog ∷ body)
+-- the bytes agree with the meaning of the nodes, over every data part
+abbrev FormAgrees : List ℕ → List FormNode → Type 0
+FormAgrees bytes nodes =
+    (image : List ℕ) (words : List (List ℕ)) (trash n : ℕ) → 0 < length words → length (args_of words) ≤ most_args → trash < 2 ^ 64
+    → AgreesAt (meaning.portable nodes) (machine.processor bytes trash) (length nodes) meaning.start (machine.start image words trash) n
+
+agrees_body : (body : List FormNode) (bytes : List ℕ) → IsBody body → length (Prolog ∷ body) ≤ most_nodes → bytes ≡ bytes_of (code_of (Prolog ∷ body)) → FormAgrees bytes (Prolog ∷ body)
 agrees_body body bytes items few is image words trash n some short small =
     let nodes = Prolog ∷ body in
     let size = bytes_few nodes bytes is few in
@@ -86,7 +98,16 @@ agrees_body body bytes items few is image words trash n some short small =
     (λ p q rank st. carries body bytes trash (fits_body body items) is (omega (arith, size)) p q rank st)
     meaning.start (machine.start image words trash) (length nodes) (starts nodes image words trash) n
 
-pub agrees_form : (nodes : List FormNode) (bytes : List ℕ) → IsForm nodes → length nodes ≤ most_nodes → bytes ≡ bytes_of (code_of nodes) → Agrees bytes nodes
+agrees_form : (nodes : List FormNode) (bytes : List ℕ) → IsForm nodes → length nodes ≤ most_nodes → bytes ≡ bytes_of (code_of nodes) → FormAgrees bytes nodes
 agrees_form nodes bytes form few is =
-    subst (Agrees bytes) (sym form.begins)
+    subst (FormAgrees bytes) (sym form.begins)
     (agrees_body form.body bytes form.items (subst (λ ns. length ns ≤ most_nodes) form.begins few) (is ∙ ap (λ ns. bytes_of (code_of ns)) form.begins))
+
+-- the code of a unit of the first form agrees with the unit's meaning
+pub agrees_unit : (unit : TextUnit) (nodes : List FormNode) (bytes : List ℕ) → IsAccepted unit.nodes → IsFirstForm unit.nodes nodes → bytes ≡ bytes_of (code_of nodes) → Agrees bytes (addresses_of unit.nodes.places) unit
+agrees_unit unit nodes bytes accepted form is = record {
+  labels = are_addresses unit.nodes nodes (length bytes) form;
+  runs = λ words trash n some short small.
+      agrees_with_unit unit.nodes (shape_of_unit unit) (addresses_of unit.nodes.places) accepted refl nodes unit.image (args_of words) (machine.processor bytes trash) (machine.start unit.image words trash) n form.are
+      (agrees_form nodes bytes form.form form.few is unit.image words trash n some short small);
+}

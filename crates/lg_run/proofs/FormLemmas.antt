@@ -1,7 +1,8 @@
 -- What a node of a unit is that is one of the first form.
-use Rattle.std.proofs.Common.{◌≡◌, ℕ, ◌-◌, ◌^◌, ◌≤◌, ℤ, pos, negsuc, List, [], ◌∷◌, map, Some, None, Bool, true, false, refl, subst, arith}
+use Rattle.std.proofs.Common.{◌≡◌, ℕ, ◌-◌, ◌^◌, ◌≤◌, ℤ, pos, negsuc, List, [], ◌∷◌, length, map, Some, None, Bool, true, false, refl, sym, ap, ◌∙◌, subst, arith}
 use Rattle.std.specs.Prelude.{◌&&◌, nat_le, nat_lt, if◌then◌else◌}
 use Rattle.std.proofs.lemmas.Int.{ints}
+use Rattle.std.proofs.lemmas.List.{length-map}
 use Rattle.std.proofs.lemmas.Option.{option_and_then_some}
 use Rattle.lg_op.specs.declared.op.Op.{Op}
 use Rattle.lg_op.specs.declared.op.Op.TheVariants as op
@@ -128,6 +129,9 @@ range_of o xs f (ret _) = tt
 range_of o xs f (epilog _) = tt
 
 -- ---- lists of nodes
+pub length_forms : (nodes : List Node) (forms : List FormNode) → AreForms nodes forms → length nodes ≡ length forms
+length_forms nodes forms are = sym (length-map nodes form_at) ∙ ap length are ∙ length-map forms Some
+
 pub are_first : (n : Node) (ns : List Node) (f : FormNode) (fs : List FormNode) → AreForms (n ∷ ns) (f ∷ fs) → (form_at n ≡ Some f) × AreForms ns fs
 are_first n ns f fs e = (head e, tail e)
   where

@@ -1,6 +1,6 @@
 -- Holding the nodes of a unit against the first form, node by node.
-use Rattle.std.proofs.Common.{◌≡◌, ℕ, zero, suc, ◌+◌, ◌<◌, ◌≤◌, List, [], ◌∷◌, ◌++◌, length, map, take, min, Option, Some, None, refl, sym, ap, ◌∙◌, subst, arith, append-nil, ⊎_elim}
-use Rattle.std.specs.Prelude.{slice_get, IfSome}
+use Rattle.std.proofs.Common.{◌≡◌, ℕ, zero, suc, ◌+◌, ◌<◌, ◌≤◌, List, [], ◌∷◌, ◌++◌, length, map, take, Option, Some, None, refl, sym, ap, ◌∙◌, subst, arith, append-nil, ⊎_elim}
+use Rattle.std.specs.Prelude.{slice_get, slice_index, IfSome}
 use Rattle.std.specs.List.{list_any}
 use Rattle.std.proofs.Math.Seq.{take-length}
 use Rattle.std.proofs.lemmas.Bool.{cases_lt}
@@ -16,57 +16,19 @@ use Rattle.lg_node.specs.Checks.{IsAccepted, end_refusal, end_refusal_of}
 use Rattle.lg_node.specs.declared.place.Place.{Place}
 use Rattle.lg_node.specs.declared.place.Place.TheVariants as place
 use Rattle.lg_node.proofs.WalkLemmas.{take_on}
+use Rattle.lg_meaning.specs.Addresses.{AreAddresses}
 use Rattle.lg_run.specs.Addresses.{address_of, addresses_of}
-use Rattle.lg_run.specs.Dues.{due_behind, walk, open_in, earlier, IsFirstOf, IsFirstBound, IsHeld, IsFree}
+use Rattle.lg_run.specs.Dues.{due_behind, walk, open_in, IsFirstBound, IsHeld, IsFree}
 use Rattle.lg_run.specs.Forms.{form_at}
 use Rattle.lg_run.specs.FirstForm.{AreForms, IsForm, IsBoundAt, Begins, Departs, misplaced, labelled, followed, late, IsFirstForm, most_nodes}
 use Rattle.lg_run.specs.declared.form.FormNode.{FormNode}
 use Rattle.lg_run.specs.declared.form.FormNode.TheVariants.{Prolog, Movi, Addi, Addr, Prepare, Pushargr, Finishi, Ret, Epilog}
 use Rattle.lg_run.specs.declared.first_form.Due.{Due}
 use Rattle.lg_run.specs.declared.first_form.Due.TheVariants.{Entry, Statement, Argument, Call, Close, Nothing}
-use Rattle.lg_run.proofs.FormLemmas.{none_some, some_same, ranged, means, Means, prolog, movi, addi, addr, prepare, pushargr, finishi, ret, epilog}
+use Rattle.lg_run.proofs.FormLemmas.{none_some, some_same, length_forms, ranged, means, Means, prolog, movi, addi, addr, prepare, pushargr, finishi, ret, epilog}
 use Rattle.lg_run.proofs.DueLemmas.{walk-front, walk-more, form_walks, walk_begins, walk_whole}
 
 -- ---- the first label
--- one label more
-pub earlier_more : (l : LabelledNodes) (n : ℕ) (first : Option ℕ) (bound : Option Place) → IsFirstOf l n first → slice_get l.places n ≡ Some bound → IsFirstOf l (n + 1) (earlier first bound)
-earlier_more l n None (Some (place.Node k)) f here = (
-  record { label = n; bound = here },
-  λ label i lt e. ⊎_elim (λ less. absurd (f label i less e)) (λ more. same_place label i (omega arith) e) (cases_lt label n),
-)
-  where
-    node_same : {k i : ℕ} → ◌≡◌ {A = Option (Option Place)} (Some (Some (place.Node k))) (Some (Some (place.Node i))) → k ≡ i
-    node_same e = cc
-
-    same_place : (label i : ℕ) → label ≡ n → slice_get l.places label ≡ Some (Some (place.Node i)) → k ≤ i
-    same_place label i same e = let eq : k ≡ i = node_same (sym here ∙ ap (slice_get l.places) (sym same) ∙ e) in omega (arith, eq)
-earlier_more l n (Some first) (Some (place.Node k)) f here = (
-  ⊎_elim (λ lt. let eq : first ≡ min first k = grind (arith, lt) in subst (IsBoundAt l) eq f.0) (λ ge. let eq : k ≡ min first k = grind (arith, ge) in record { label = n; bound = here ∙ ap (λ x. Some (Some (place.Node x))) eq }) (cases_lt first k),
-  λ label i lt e. ⊎_elim (λ less. let le = f.1 label i less e in omega (arith, le)) (λ more. same_place label i (omega arith) e) (cases_lt label n),
-)
-  where
-    node_same : {k i : ℕ} → ◌≡◌ {A = Option (Option Place)} (Some (Some (place.Node k))) (Some (Some (place.Node i))) → k ≡ i
-    node_same e = cc
-
-    same_place : (label i : ℕ) → label ≡ n → slice_get l.places label ≡ Some (Some (place.Node i)) → min first k ≤ i
-    same_place label i same e = let eq : k ≡ i = node_same (sym here ∙ ap (slice_get l.places) (sym same) ∙ e) in omega (arith, eq)
-earlier_more l n None None f here = λ label i lt e. ⊎_elim (λ less. f label i less e) (λ more. let same : label ≡ n = omega arith in none_node (sym here ∙ ap (slice_get l.places) (sym same) ∙ e)) (cases_lt label n)
-  where
-    none_node : {i : ℕ} → ◌≡◌ {A = Option (Option Place)} (Some None) (Some (Some (place.Node i))) → ⊥
-    none_node e = cc
-earlier_more l n None (Some (place.Image k)) f here = λ label i lt e. ⊎_elim (λ less. f label i less e) (λ more. let same : label ≡ n = omega arith in image_node (sym here ∙ ap (slice_get l.places) (sym same) ∙ e)) (cases_lt label n)
-  where
-    image_node : {i : ℕ} → ◌≡◌ {A = Option (Option Place)} (Some (Some (place.Image k))) (Some (Some (place.Node i))) → ⊥
-    image_node e = cc
-earlier_more l n (Some first) None f here = (f.0, λ label i lt e. ⊎_elim (λ less. f.1 label i less e) (λ more. let same : label ≡ n = omega arith in absurd (none_node (sym here ∙ ap (slice_get l.places) (sym same) ∙ e))) (cases_lt label n))
-  where
-    none_node : {i : ℕ} → ◌≡◌ {A = Option (Option Place)} (Some None) (Some (Some (place.Node i))) → ⊥
-    none_node e = cc
-earlier_more l n (Some first) (Some (place.Image k)) f here = (f.0, λ label i lt e. ⊎_elim (λ less. f.1 label i less e) (λ more. let same : label ≡ n = omega arith in absurd (image_node (sym here ∙ ap (slice_get l.places) (sym same) ∙ e))) (cases_lt label n))
-  where
-    image_node : {i : ℕ} → ◌≡◌ {A = Option (Option Place)} (Some (Some (place.Image k))) (Some (Some (place.Node i))) → ⊥
-    image_node e = cc
-
 pub first_none : (l : LabelledNodes) (i : ℕ) → IsFirstBound l None → IsBoundAt l i → ⊥
 first_none l i f b = f b.label i (slice_get_within l.places b.label (Some (place.Node i)) b.bound) b.bound
 
@@ -247,16 +209,13 @@ nothing_due nodes Close opened entry e = absurd (some_none (sym (ap (λ o. end_r
     some_none : {r : Refusal} → Some r ≡ None → ⊥
     some_none e = cc
 
-length_forms : (nodes : List Node) (forms : List FormNode) → AreForms nodes forms → length nodes ≡ length forms
-length_forms nodes forms are = sym (length-map nodes form_at) ∙ ap length are ∙ length-map forms Some
-
 -- a form has at least a node
 form_long : (forms : List FormNode) → IsForm forms → 0 < length forms
 form_long forms f = let long = ap length f.begins in omega (arith, long)
 
 -- all nodes of an accepted unit are held: it is of the first form
-pub held_whole : (l : LabelledNodes) (forms : List FormNode) (due : Due) → IsAccepted l → IsHeld l (length l.nodes) forms due → IsFirstForm l forms
-held_whole l forms due accepted h =
+pub held_whole : (l : LabelledNodes) (forms : List FormNode) (due : Due) (first : Option ℕ) → IsAccepted l → IsFirstBound l first → IsHeld l (length l.nodes) forms due → IsFirstForm l forms
+held_whole l forms due first accepted labels h =
     let are : AreForms l.nodes forms = ap (map form_at) (sym (take-length l.nodes)) ∙ h.are in
     let nothing : due ≡ Nothing = nothing_due l.nodes due h.opened h.entry accepted.end in
     let form : IsForm forms = subst IsForm (append-nil forms) (walk_whole forms (h.walked ∙ ap Some nothing) (ranged l.nodes forms are)) in
@@ -266,7 +225,7 @@ held_whole l forms due accepted h =
       are = are;
       form = form;
       few = omega (arith, h.few, same);
-      unbound = λ i le b. ⊎_elim (λ lt. h.none i lt (labelled l i b)) (λ ge. behind i (omega (arith, le, ge)) b (omega (arith, long, same))) (cases_lt i (length l.nodes));
+      unbound = λ i b. nowhere first labels i b (omega (arith, long, same));
     }
   where
     last_at : (i n : ℕ) → i ≡ suc n → i ≡ length l.nodes → IsBoundAt l i → ⊥
@@ -278,8 +237,27 @@ held_whole l forms due accepted h =
     behind zero all b some = absurd (omega (arith, all, some))
     behind (suc n) all b some = last_at (suc n) n refl all b
 
+    nowhere : (o : Option ℕ) → IsFirstBound l o → (i : ℕ) → IsBoundAt l i → 0 < length l.nodes → ⊥
+    nowhere None f i b some = first_none l i f b
+    nowhere (Some first) f i b some = let le = f.2 in ⊎_elim (λ lt. h.none first lt (labelled l first f.0)) (λ ge. behind first (omega (arith, le, ge)) f.0 some) (cases_lt first (length l.nodes))
+
 -- ---- addresses
 pub addresses_more : (places : List (Option Place)) (i : ℕ) (bound : Option Place) → slice_get places i ≡ Some bound → addresses_of (take (i + 1) places) ≡ addresses_of (take i places) ++ address_of bound ∷ []
 addresses_more places i bound e =
     ap addresses_of (take_more places i bound (slice_get_within places i bound e) ∙ ap (λ x. take i places ++ x ∷ []) (get_or_from_slice_get places i bound bound e))
     ∙ map-append address_of (take i places) (bound ∷ [])
+
+address_at : (places : List (Option Place)) (x : ℕ) (o : Option Place) → slice_get places x ≡ Some o → slice_index (addresses_of places) x ≡ address_of o
+address_at [] x o e = absurd (none_some e)
+address_at (p ∷ ps) zero o e = ap address_of (some_same e)
+address_at (p ∷ ps) (suc x) o e = address_at ps x o e
+
+-- the labels of a unit of the first form are all bound to data
+pub are_addresses : (l : LabelledNodes) (forms : List FormNode) (size : ℕ) → IsFirstForm l forms → AreAddresses l size (addresses_of l.places)
+are_addresses l forms size f = record {
+  count = length-map l.places address_of;
+  images = λ x k e. address_at l.places x (Some (place.Image k)) e;
+  within = λ x i e. absurd (f.unbound i record { label = x; bound = e });
+  order = λ x y i j e _ _. absurd (f.unbound i record { label = x; bound = e });
+  entries = λ x y i j b _ _. absurd (f.unbound i record { label = x; bound = b.bound });
+}

@@ -7,8 +7,10 @@ pub mod CompleteLemmas
 pub mod DueLemmas
 pub mod EndLemmas
 pub mod FormLemmas
+pub mod FormMeaning
 pub mod HeldLemmas
 pub mod MachineLemmas
+pub mod MeanLemmas
 pub mod NodeLemmas
 pub mod ProcessorLemmas
 pub mod RefusedLemmas

@@ -6,7 +6,7 @@ use Rattle.lg_run.specs.declared.form.FormNode.{FormNode}
 use Rattle.lg_run.specs.declared.form.FormNode.TheVariants.{Prolog, Movi, Addi, Addr, Prepare, Pushargr, Finishi, Ret, Epilog}
 use Rattle.lg_run.specs.Forms.{index_of}
 use Rattle.lg_base.specs.Fields.{word_of}
-use Rattle.lg_run.specs.Portable as meaning
+use Rattle.lg_run.proofs.FormMeaning as meaning
 use Rattle.lg_run.specs.Processor as machine
 use Rattle.lg_run.specs.declared.form.Register.{Register}
 use Rattle.lg_run.specs.declared.form.Callee.{Callee}

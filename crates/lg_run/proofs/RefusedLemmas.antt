@@ -2,7 +2,7 @@
 use Rattle.std.proofs.Common.{◌≡◌, ℕ, zero, suc, ◌+◌, ◌<◌, ◌≤◌, inl, inr, List, [], ◌∷◌, length, take, drop, Option, Some, None, refl, sym, ap, ◌∙◌, subst, arith, ⊎_elim}
 use Rattle.std.specs.Prelude.{slice_get, IfSome, Result, Ok, Err}
 use Rattle.std.proofs.lemmas.Bool.{cases_lt}
-use Rattle.std.proofs.lemmas.List.{length-map, take-append-drop, take-map}
+use Rattle.std.proofs.lemmas.List.{take-append-drop, take-map}
 use Rattle.std.proofs.lemmas.Option.{slice_get_within}
 use Rattle.lg_base.specs.declared.refusal.Refusal.{Refusal}
 use Rattle.lg_base.specs.declared.refusal.RefusalKind.TheVariants.{NotYet}
@@ -12,9 +12,10 @@ use Rattle.lg_node.specs.Checks.{IsAccepted, IsRefused, refusal_at}
 use Rattle.lg_node.specs.declared.unit.Unit.{Unit as TextUnit}
 use Rattle.lg_tst.specs.Units.{unit_of}
 use Rattle.lg_run.specs.Forms.{form_at}
-use Rattle.lg_run.specs.FirstForm.{AreForms, IsForm, Begins, Departs, misplaced, labelled, followed, late, DepartsFirst, IsFirstForm, IsNotYet}
+use Rattle.lg_run.specs.FirstForm.{IsForm, Begins, Departs, misplaced, labelled, followed, late, DepartsFirst, IsFirstForm, IsNotYet}
 use Rattle.lg_run.specs.Refused.{IsRefusedUnit, IsRefusedAs, IsRefusedText, Refuses, IsUnitOf, most_text, text_too_long}
 use Rattle.lg_run.specs.declared.form.FormNode.{FormNode}
+use Rattle.lg_run.proofs.FormLemmas.{length_forms}
 
 -- ---- the checks
 none_some : {A : Type 0} {a : A} → None ≡ Some a → ⊥
@@ -54,9 +55,6 @@ unit_once l r q (inl a) (inr b) = absurd (accepted_not l r b.0 a)
 unit_once l r q (inr a) (inl b) = absurd (accepted_not l q a.0 b)
 unit_once l r q (inr a) (inr b) = not_yet_once l r q a.1 b.1
 
-length_forms : (nodes : List Node) (forms : List FormNode) → AreForms nodes forms → length nodes ≡ length forms
-length_forms nodes forms are = sym (length-map nodes form_at) ∙ ap length are ∙ length-map forms Some
-
 -- a unit of the first form departs nowhere
 form_begins : (l : LabelledNodes) (forms : List FormNode) (n : ℕ) → IsFirstForm l forms → Begins (take n l.nodes)
 form_begins l forms n f = record {
@@ -68,8 +66,8 @@ form_begins l forms n f = record {
 
 never_departs : (l : LabelledNodes) (forms : List FormNode) (i : ℕ) → IsFirstForm l forms → i < length l.nodes → Departs l i → ⊥
 never_departs l forms i f lt (misplaced l' i' never) = never (form_begins l forms (i + 1) f)
-never_departs l forms i f lt (labelled l' i' b) = f.unbound i (omega (arith, lt)) b
-never_departs l forms i f lt (followed l' i' last b) = f.unbound (i + 1) (omega (arith, lt)) b
+never_departs l forms i f lt (labelled l' i' b) = f.unbound i b
+never_departs l forms i f lt (followed l' i' last b) = f.unbound (i + 1) b
 never_departs l forms i f lt (late l' i' le) = let same = length_forms l.nodes forms f.are in absurd (omega (arith, lt, le, same, f.few))
 
 pub form_not_refused : (l : LabelledNodes) (forms : List FormNode) (r : Refusal) → IsAccepted l → IsFirstForm l forms → IsRefusedUnit l r → ⊥

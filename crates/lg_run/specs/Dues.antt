@@ -45,10 +45,10 @@ earlier None (Some (place.Node i)) = Some i
 earlier (Some first) (Some (place.Node i)) = Some (min first i)
 earlier first bound = first
 
--- the first node at which one of the first n labels is bound
+-- the first node at which one of the first n labels is bound, which may be the place behind the last node
 abbrev pub IsFirstOf : LabelledNodes → ℕ → Option ℕ → Type 0
 IsFirstOf l n None = (label i : ℕ) → label < n → slice_get l.places label ≡ Some (Some (place.Node i)) → ⊥
-IsFirstOf l n (Some first) = IsBoundAt l first × ((label i : ℕ) → label < n → slice_get l.places label ≡ Some (Some (place.Node i)) → first ≤ i)
+IsFirstOf l n (Some first) = IsBoundAt l first × ((label i : ℕ) → label < n → slice_get l.places label ≡ Some (Some (place.Node i)) → first ≤ i) × (first ≤ length l.nodes)
 
 -- the first node at which a label is bound
 abbrev pub IsFirstBound : LabelledNodes → Option ℕ → Type 0

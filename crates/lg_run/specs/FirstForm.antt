@@ -63,7 +63,7 @@ pub record IsFirstForm (l : LabelledNodes) (forms : List FormNode) : Type 0 wher
   pub are : AreForms l.nodes forms
   pub form : IsForm forms
   pub few : length forms ≤ most_nodes
-  pub unbound : (i : ℕ) → i ≤ length l.nodes → IsBoundAt l i → ⊥
+  pub unbound : (i : ℕ) → IsBoundAt l i → ⊥
 
 -- ---- departures
 

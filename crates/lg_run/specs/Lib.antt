@@ -10,7 +10,6 @@ pub mod Forms
 pub mod Lines
 pub mod Machines
 pub mod Moves
-pub mod Portable
 pub mod Processor
 pub mod Refused
 pub mod Says

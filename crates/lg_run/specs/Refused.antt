@@ -6,7 +6,8 @@ use Rattle.lg_node.specs.Nodes.{LabelledNodes}
 use Rattle.lg_node.specs.Checks.{IsAccepted, IsRefused}
 use Rattle.lg_node.specs.declared.unit.Unit.{Unit as TextUnit}
 use Rattle.lg_tst.specs.Units.{unit_of}
-use Rattle.lg_run.specs.FirstForm.{IsNotYet}
+use Rattle.lg_run.specs.FirstForm.{IsFirstForm, IsNotYet}
+use Rattle.lg_run.specs.declared.form.FormNode.{FormNode}
 
 -- the most bytes of a text
 abbrev pub most_text : ℕ
@@ -38,3 +39,10 @@ pub record Refuses (told : Option (List ℕ)) (refusal : Refusal) : Type 0 where
 -- what a text of the allowed length is read as; where it is not told nothing is said
 abbrev pub IsUnitOf : Option (List ℕ) → TextUnit → Type 0
 IsUnitOf told unit = IfSome told (λ t. (length t ≤ most_text) × (unit_of t ≡ Ok unit))
+
+-- a text is refused for one reason, and not where its unit is accepted and of the first form
+abbrev pub TextsAreRefusedOnce : Type 0
+TextsAreRefusedOnce =
+    (text : List ℕ) (refusal : Refusal) → IsRefusedText text refusal
+    → ((other : Refusal) → IsRefusedText text other → other ≡ refusal)
+    × ((unit : TextUnit) (nodes : List FormNode) → length text ≤ most_text → unit_of text ≡ Ok unit → IsAccepted unit.nodes → IsFirstForm unit.nodes nodes → ⊥)

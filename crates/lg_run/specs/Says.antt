@@ -8,7 +8,6 @@ use Rattle.lg_io.specs.Wrote.{AppendsPrefix}
 use Rattle.lg_io.specs.NamedTexts.{NamedTexts, text_under}
 use Rattle.lg_node.specs.Checks.{IsAccepted}
 use Rattle.lg_node.specs.declared.unit.Unit.{Unit as TextUnit}
-use Rattle.lg_run.specs.Addresses.{addresses_of}
 use Rattle.lg_run.specs.FirstForm.{IsFirstForm}
 use Rattle.lg_run.specs.Refused.{Refuses, IsUnitOf}
 use Rattle.lg_run.specs.Processor.{Core, Processor, Goes, EndedWith, Faulted, step, effect, start}
@@ -109,7 +108,7 @@ AnswerSays file text code steps c Listed = ⊥
 AnswerSays file text code steps c (Undefined line) = ⊥
 
 -- the code is that of a text whose unit is accepted and of the first form: it is made for RV64, fits the size, agrees with the unit's
--- meaning, and each run of it ends; the addresses are those of the unit's labels
+-- meaning over the addresses of its labels, and each run of it ends
 pub record IsCodeOf (text : Option (List ℕ)) (code : Code) : Type 0 where
   pub unit : TextUnit
   pub reads : IsUnitOf text unit
@@ -118,8 +117,7 @@ pub record IsCodeOf (text : Option (List ℕ)) (code : Code) : Type 0 where
   pub form : IsFirstForm unit.nodes nodes
   pub target : code.target ≡ Riscv64
   pub size : length code.bytes.items ≤ most_code
-  pub labels : code.labels ≡ addresses_of unit.nodes.places
-  pub agrees : Agrees code.bytes.items nodes
+  pub agrees : Agrees code.bytes.items code.labels unit
   pub ends : EndsWithin most_run code.bytes.items
 
 abbrev pub CodeSays : Option (List ℕ) → Option Code → Type 0

@@ -7,7 +7,6 @@ ghost use Rattle.lg_base.specs.declared.target.Target.{Target};
 ghost use Rattle.lg_io.specs.Counts.{Rose};
 ghost use Rattle.lg_node.specs.Checks.{IsAccepted};
 ghost use Rattle.lg_run.specs.Agreement.{Agrees, EndsWithin, most_run};
-ghost use Rattle.lg_run.specs.Addresses.{addresses_of};
 ghost use Rattle.lg_run.specs.Causes.{CutShort, IsRefusedCall};
 ghost use Rattle.lg_run.specs.Command.{command_of, is_file};
 ghost use Rattle.lg_run.specs.Machines.{core_of};
@@ -59,11 +58,11 @@ fn too_long() -> Answer
 
 // The code of a unit of the first form.
 fn assemble(alloc: Global, text: &Accepted) -> Result<Code, OutOfMemory>
+    requires accepted { IsAccepted text.now.unit.nodes }
     requires form { IsFirstForm text.now.unit.nodes text.now.nodes.items }
     ensures target { IfOk result (λ c. c.target ≡ Target.Riscv64) }
     ensures size { IfOk result (λ c. length c.bytes.items ≤ most_code) }
-    ensures labels { IfOk result (λ c. c.labels ≡ addresses_of text.now.unit.nodes.places) }
-    ensures agrees { IfOk result (λ c. Agrees c.bytes.items text.now.nodes.items) }
+    ensures agrees { IfOk result (λ c. Agrees c.bytes.items c.labels text.now.unit) }
     ensures ends { IfOk result (λ c. EndsWithin most_run c.bytes.items) }
 {
     let labels = label_addresses(alloc, &text.unit.nodes)?;

@@ -11,4 +11,4 @@ loop-index-init c = subst (λ (xs : List FormNode). IsHeld c.args.nodes.now 0 xs
 pub returns-clause-form : goal.returns-clause-form
 returns-clause-form c =
     let all : c.loop-index.index ≡ length c.args.nodes.now.nodes = omega (arith, c.loop-index-test.false, c.loop-index.invariant.within, c.len-index-end.ensures) in
-    held_whole c.args.nodes.now c.loop-index.forms.items c.loop-index.due c.requires (subst (λ i. IsHeld c.args.nodes.now i c.loop-index.forms.items c.loop-index.due) all c.loop-index.invariant)
+    held_whole c.args.nodes.now c.loop-index.forms.items c.loop-index.due c.first_bound-first.result c.requires c.first_bound-first.ensures (subst (λ i. IsHeld c.args.nodes.now i c.loop-index.forms.items c.loop-index.due) all c.loop-index.invariant)

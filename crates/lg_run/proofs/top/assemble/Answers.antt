@@ -1,7 +1,8 @@
 use Rattle.std.proofs.Common.{length, ap, sym, ◌∙◌, subst, arith}
+use Rattle.lg_run.specs.Agreement.{Agrees}
 use Rattle.lg_run.specs.Emission.{bytes_of, code_of}
 use Rattle.lg_run.specs.FirstForm.{AreRanged}
-use Rattle.lg_run.proofs.AssembleLemmas.{agrees_form, bytes_few}
+use Rattle.lg_run.proofs.AssembleLemmas.{agrees_unit, bytes_few}
 use Rattle.lg_run.proofs.EndLemmas.{ends_within}
 use Rattle.lg_run.proofs.FormLemmas.{ranged}
 use Rattle.lg_run.proofs.top.assemble.Goals as goal
@@ -21,8 +22,9 @@ returns-clause-size c =
 
 pub returns-clause-agrees : goal.returns-clause-agrees
 returns-clause-agrees c =
-    agrees_form c.args.text.now.nodes.items c.of_bytes.result.bytes.items c.requires.form.form c.requires.form.few
-    (ap (λ b. b.items) c.of_bytes.ensures.bytes ∙ c.from_vec.ensures.items ∙ c.in_ok-bytes.ensures ∙ ap (λ ns. bytes_of (code_of ns)) c.deref.ensures.value)
+    subst (λ A. Agrees c.of_bytes.result.bytes.items A c.args.text.now.unit) (sym (c.of_bytes.ensures.labels ∙ c.in_ok-labels.ensures))
+    (agrees_unit c.args.text.now.unit c.args.text.now.nodes.items c.of_bytes.result.bytes.items c.requires.accepted c.requires.form
+    (ap (λ b. b.items) c.of_bytes.ensures.bytes ∙ c.from_vec.ensures.items ∙ c.in_ok-bytes.ensures ∙ ap (λ ns. bytes_of (code_of ns)) c.deref.ensures.value))
 
 pub returns-clause-ends : goal.returns-clause-ends
 returns-clause-ends c =

@@ -1,4 +1,5 @@
--- The portable meaning of a text of the first form (GNU lightning manual, "The instruction set"): what each node does.
+-- The portable meaning of nodes of the first form, over the registers and the pushed arguments alone. It goes step by step as that of
+-- the unit (MeanLemmas.antt).
 use Rattle.std.specs.Prelude.{ℕ, ◌+◌, ◌%◌, ◌==◌, nat_lt, List, [], ◌∷◌, ◌++◌, Option, Some, None, option_map, option_and_then, slice_get, if◌then◌else◌}
 use Rattle.lg_base.specs.Fields.{word_of}
 use Rattle.lg_base.specs.Words.{add_words}
