@@ -1,5 +1,5 @@
 -- The causes of answers, and completeness, from what a call says.
-use Rattle.std.proofs.Common.{◌≡◌, ◌≢◌, ℕ, ◌⊎◌, inl, inr, List, Option, Some, None, refl, sym, ap, ◌∙◌, subst}
+use Rattle.std.proofs.Common.{◌≡◌, ◌≢◌, ℕ, ◌⊎◌, inl, inr, List, Option, Some, None, IfSome, refl, sym, ap, ◌∙◌, subst}
 use Rattle.lg_base.specs.declared.fault.FaultKind.{FaultKind}
 use Rattle.lg_base.specs.declared.refusal.Refusal.{Refusal}
 use Rattle.lg_io.specs.Counts.{Rose}
@@ -16,8 +16,8 @@ use Rattle.lg_run.proofs.RefusedLemmas.{form_accepted, text_once}
 -- Usage comes only where the words are of no form
 pub usage_none : (words : Option (List ℕ)) (held : Option NamedTexts) (code : Option Code) (steps : ℕ) (c : Change) (e : ErrChange) (outer : Answer) → Says words held code steps c e outer → outer ≡ Usage → words ≡ None
 usage_none None held code steps c e outer says is = refl
-usage_none (Some file) held code steps c e outer says is = elim says.3 [
-  | inl h ↦ absurd (subst (AnswerSays file (text_of held file) code steps c) (sym h.0 ∙ is) says.1)
+usage_none (Some file) held code steps c e outer says is = elim says.2 [
+  | inl h ↦ absurd (subst (AnswerSays file says.1.text code steps c) (sym h.0 ∙ is) says.1.says)
   | inr h ↦ absurd (write_usage (sym h.0 ∙ is))
 ]
   where
@@ -46,8 +46,8 @@ read_cause None held code steps c e outer says is = elim says.1 [
 
     write_read : WriteFault ≡ ReadFault → ⊥
     write_read e = cc
-read_cause (Some file) held code steps c e outer says is = elim says.3 [
-  | inl h ↦ (subst (AnswerSays file (text_of held file) code steps c) (sym h.0 ∙ is) says.1).1
+read_cause (Some file) held code steps c e outer says is = elim says.2 [
+  | inl h ↦ (subst (AnswerSays file says.1.text code steps c) (sym h.0 ∙ is) says.1.says).1
   | inr h ↦ absurd (write_read (sym h.0 ∙ is))
 ]
   where
@@ -62,16 +62,16 @@ write_cause None held code steps c e outer says is = elim says.1 [
   where
     usage_write : Usage ≡ WriteFault → ⊥
     usage_write e = cc
-write_cause (Some file) held code steps c e outer says is = elim says.3 [
-  | inl h ↦ inl (subst (AnswerSays file (text_of held file) code steps c) (sym h.0 ∙ is) says.1).0
+write_cause (Some file) held code steps c e outer says is = elim says.2 [
+  | inl h ↦ inl (subst (AnswerSays file says.1.text code steps c) (sym h.0 ∙ is) says.1.says).0
   | inr h ↦ inr h.1
 ]
 
 -- want of memory leaves all as it was
 pub memory_cause : (words : Option (List ℕ)) (held : Option NamedTexts) (code : Option Code) (steps : ℕ) (c : Change) (e : ErrChange) (outer : Answer) → Says words held code steps c e outer → outer ≡ OutOfMemory → IsUntouched code steps c
 memory_cause None held code steps c e outer says is = says.0
-memory_cause (Some file) held code steps c e outer says is = elim says.3 [
-  | inl h ↦ subst (AnswerSays file (text_of held file) code steps c) (sym h.0 ∙ is) says.1
+memory_cause (Some file) held code steps c e outer says is = elim says.2 [
+  | inl h ↦ subst (AnswerSays file says.1.text code steps c) (sym h.0 ∙ is) says.1.says
   | inr h ↦ absurd (write_memory (sym h.0 ∙ is))
 ]
   where
@@ -89,8 +89,8 @@ refusal_cause None held code steps c e outer refusal says is = elim says.1 [
 
     write_refused : WriteFault ≡ Refused refusal → ⊥
     write_refused e = cc
-refusal_cause (Some file) held code steps c e outer refusal says is = elim says.3 [
-  | inl h ↦ (subst (AnswerSays file (text_of held file) code steps c) (sym h.0 ∙ is) says.1).1
+refusal_cause (Some file) held code steps c e outer refusal says is = elim says.2 [
+  | inl h ↦ (says.1.text, says.1.is, (subst (AnswerSays file says.1.text code steps c) (sym h.0 ∙ is) says.1.says).1)
   | inr h ↦ absurd (write_refused (sym h.0 ∙ is))
 ]
   where
@@ -100,13 +100,13 @@ refusal_cause (Some file) held code steps c e outer refusal says is = elim says.
 -- ---- texts that are refused
 
 -- code is there only for a text that is not refused
-coded : (file text : List ℕ) (code : Option Code) (steps : ℕ) (c : Change) (answer : Answer) (refusal : Refusal) → Runs file (Some text) code steps c answer → CodeSays (Some text) code → IsRefusedText text refusal → ⊥
+coded : (file text : List ℕ) (code : Option Code) (steps : ℕ) (c : Change) (answer : Answer) (refusal : Refusal) → Runs file text code steps c answer → CodeSays text code → IsRefusedText text refusal → ⊥
 coded file text code steps c answer refusal runs says why =
-    let made : IsCodeOf (Some text) runs.ran = subst (CodeSays (Some text)) runs.is says in
+    let made : IsCodeOf text runs.ran = subst (CodeSays text) runs.is says in
     form_accepted text made.unit made.nodes refusal made.reads.0 made.reads.1 made.accepted made.form why
 
 -- a call on a text that is refused refuses it so, or is cut short
-refuses_inner : (file text : List ℕ) (code : Option Code) (steps : ℕ) (c : Change) (e : ErrChange) (inner outer : Answer) (refusal : Refusal) → AnswerSays file (Some text) code steps c inner → CodeSays (Some text) code → ReportSays file steps e inner outer
+refuses_inner : (file text : List ℕ) (code : Option Code) (steps : ℕ) (c : Change) (e : ErrChange) (inner outer : Answer) (refusal : Refusal) → AnswerSays file text code steps c inner → CodeSays text code → ReportSays file steps e inner outer
     → IsRefusedText text refusal → (outer ≡ Refused refusal) ⊎ CutShort c e outer
 refuses_inner file text code steps c e (Ended status) outer refusal says made report why = absurd (coded file text code steps c (Ended status) refusal says made why)
 refuses_inner file text code steps c e StepsOut outer refusal says made report why = absurd (coded file text code steps c StepsOut refusal says made why)
@@ -121,16 +121,17 @@ refuses_inner file text code steps c e OutOfMemory outer refusal says made repor
   | inr h ↦ inr (inr (inr h.1))
 ]
 refuses_inner file text code steps c e (Refused other) outer refusal says made report why = elim report [
-  | inl h ↦ inl (h.0 ∙ ap Refused (text_once text other refusal (subst (λ t. IsRefusedText t other) (sym says.1.is) says.1.why) why))
+  | inl h ↦ inl (h.0 ∙ ap Refused (text_once text other refusal says.1 why))
   | inr h ↦ inr (inr (inr h.1))
 ]
 
 -- what holds of the words that name a file
 pub with_file : (words : Option (List ℕ)) (file text : List ℕ) (held : Option NamedTexts) (code : Option Code) (steps : ℕ) (c : Change) (e : ErrChange) (outer : Answer) (P : Type 0) → Says words held code steps c e outer → words ≡ Some file → text_of held file ≡ Some text
-    → ((inner : Answer) → AnswerSays file (Some text) code steps c inner → CodeSays (Some text) code → ReportSays file steps e inner outer → P) → P
+    → ((inner : Answer) → AnswerSays file text code steps c inner → CodeSays text code → ReportSays file steps e inner outer → P) → P
 with_file words file text held code steps c e outer P says is holds go =
     let s = subst (λ w. Says w held code steps c e outer) is says in
-    go s.0 (subst (λ t. AnswerSays file t code steps c s.0) holds s.1) (subst (λ t. CodeSays t code) holds s.2) s.3
+    let same : s.1.text ≡ text = sym (subst (λ o. IfSome o (λ t. t ≡ s.1.text)) holds s.1.is) in
+    go s.0 (subst (λ t. AnswerSays file t code steps c s.0) same s.1.says) (subst (λ t. CodeSays t code) same s.1.made) s.2
 
 -- a text that is refused is refused so
 pub refuses : (words : Option (List ℕ)) (file text : List ℕ) (held : Option NamedTexts) (code : Option Code) (steps : ℕ) (c : Change) (e : ErrChange) (outer : Answer) (refusal : Refusal) → Says words held code steps c e outer → words ≡ Some file → text_of held file ≡ Some text → IsRefusedText text refusal

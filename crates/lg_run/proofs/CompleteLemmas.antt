@@ -18,7 +18,7 @@ use Rattle.lg_run.specs.Command.{command_of, is_file}
 use Rattle.lg_run.specs.Complete.{Completeness, IsComplete, NoneRose, meaning}
 use Rattle.lg_run.specs.FirstForm.{IsFirstForm}
 use Rattle.lg_run.specs.Processor as machine
-use Rattle.lg_run.specs.Refused.{IsRefusedText, most_text}
+use Rattle.lg_run.specs.Refused.{most_text}
 use Rattle.lg_run.specs.Says.{AnswerSays, Change, CodeSays, ErrChange, IsCodeOf, NotStuck, Runs, most_steps, trash_word}
 use Rattle.lg_run.specs.declared.answer.Answer.{Answer}
 use Rattle.lg_run.specs.declared.answer.Code.{Code}
@@ -109,7 +109,7 @@ ok_same e = cc
 some_same : {x y : Code} → Some x ≡ Some y → x ≡ y
 some_same e = cc
 
-complete_end : (file text : List ℕ) (unit : TextUnit) (code : Option Code) (steps : ℕ) (c : Change) (status : ℕ) → is_file file ≡ true → unit_of text ≡ Ok unit → AnswerSays file (Some text) code steps c (Ended status) → CodeSays (Some text) code
+complete_end : (file text : List ℕ) (unit : TextUnit) (code : Option Code) (steps : ℕ) (c : Change) (status : ℕ) → is_file file ≡ true → unit_of text ≡ Ok unit → AnswerSays file text code steps c (Ended status) → CodeSays text code
     → IsComplete unit file code (Ended status)
 complete_end file text unit code steps c status is read says made =
     record {
@@ -120,7 +120,7 @@ complete_end file text unit code steps c status is read says made =
   where
     at : (ran : Code) (m status' : ℕ) → code ≡ Some ran → 64 * m ≤ most_steps → (meaning unit ran.labels file m).status ≡ runs.Ended status' → status ≡ status'
     at ran m status' there time ended =
-        let made' : IsCodeOf (Some text) ran = subst (CodeSays (Some text)) there made in
+        let made' : IsCodeOf text ran = subst (CodeSays text) there made in
         let same : made'.unit ≡ unit = ok_same (sym made'.reads.1 ∙ read) in
         let agrees : Agrees ran.bytes.items ran.labels unit = subst (Agrees ran.bytes.items ran.labels) same made'.agrees in
         let code_same : says.ran ≡ ran = some_same (sym says.is ∙ there) in
@@ -130,13 +130,13 @@ complete_end file text unit code steps c status is read says made =
         (subst (λ u. (iter (machine.step says.ran.bytes.items trash_word) steps (machine.start u.image (file ∷ []) trash_word)).stands ≡ machine.EndedWith status) unit_same says.says.1) in
         ended_is file unit ran.bytes.items ran.labels steps status m status' is agrees says.says.0 end time ended
 
-complete_stuck : (file text : List ℕ) (code : Option Code) (steps : ℕ) (c : Change) (answer : Answer) → Runs file (Some text) code steps c answer → AnswerSays file (Some text) code steps c answer → CodeSays (Some text) code → NotStuck answer
+complete_stuck : (file text : List ℕ) (code : Option Code) (steps : ℕ) (c : Change) (answer : Answer) → Runs file text code steps c answer → AnswerSays file text code steps c answer → CodeSays text code → NotStuck answer
 complete_stuck file text code steps c answer runs says made =
-    let made' : IsCodeOf (Some text) runs.ran = subst (CodeSays (Some text)) runs.is made in
-    ends_says file (Some text) runs.ran steps c answer made'.ends (subst (λ x. AnswerSays file (Some text) x steps c answer) runs.is says)
+    let made' : IsCodeOf text runs.ran = subst (CodeSays text) runs.is made in
+    ends_says file text runs.ran steps c answer made'.ends (subst (λ x. AnswerSays file text x steps c answer) runs.is says)
 
 complete_inner : (file text : List ℕ) (unit : TextUnit) (nodes : List FormNode) (code : Option Code) (steps : ℕ) (c : Change) (e : ErrChange) (inner : Answer) → is_file file ≡ true → length text ≤ most_text → unit_of text ≡ Ok unit → IsAccepted unit.nodes → IsFirstForm unit.nodes nodes → NoneRose c e
-    → AnswerSays file (Some text) code steps c inner → CodeSays (Some text) code → IsComplete unit file code inner
+    → AnswerSays file text code steps c inner → CodeSays text code → IsComplete unit file code inner
 complete_inner file text unit nodes code steps c e (Ended status) is short read accepted form rose says made = complete_end file text unit code steps c status is read says made
 complete_inner file text unit nodes code steps c e StepsOut is short read accepted form rose says made = absurd (complete_stuck file text code steps c StepsOut says says made)
 complete_inner file text unit nodes code steps c e (Fault kind pc) is short read accepted form rose says made = absurd (complete_stuck file text code steps c (Fault kind pc) says says made)
@@ -146,7 +146,7 @@ complete_inner file text unit nodes code steps c e Usage is short read accepted 
 complete_inner file text unit nodes code steps c e Listed is short read accepted form rose says made = absurd says
 complete_inner file text unit nodes code steps c e (Undefined line) is short read accepted form rose says made = absurd says
 complete_inner file text unit nodes code steps c e (Refused refusal) is short read accepted form rose says made =
-    absurd (form_accepted text unit nodes refusal short read accepted form (subst (λ t. IsRefusedText t refusal) (sym says.1.is) says.1.why))
+    absurd (form_accepted text unit nodes refusal short read accepted form says.1)
 complete_inner file text unit nodes code steps c e OutOfMemory is short read accepted form rose says made = record {
   made = inr refl;
   ends = λ ran m status there time ended. inr refl;
@@ -154,8 +154,8 @@ complete_inner file text unit nodes code steps c e OutOfMemory is short read acc
 }
 
 pub complete : Completeness
-complete words file held code steps c e outer text unit nodes says rose is holds short read accepted form =
+complete words file held code steps c e outer text unit nodes says rose is holds read accepted form =
     with_file (command_of words) file text held code steps c e outer _ says is holds (λ inner answer made report. elim report [
-      | inl h ↦ subst (IsComplete unit file code) (sym h.0) (complete_inner file text unit nodes code steps c e inner (command_file words file is) short read accepted form rose answer made)
+      | inl h ↦ subst (IsComplete unit file code) (sym h.0) (complete_inner file text unit nodes code steps c e inner (command_file words file is) read.0 read.1 accepted form rose answer made)
       | inr h ↦ absurd (rose.errs h.1)
     ])

@@ -166,7 +166,7 @@ not_stuck bytes trash image words steps taken taken' count count' Usage ends say
 not_stuck bytes trash image words steps taken taken' count count' ReadFault ends says = tt
 not_stuck bytes trash image words steps taken taken' count count' OutOfMemory ends says = tt
 
-pub ends_says : (file : List ℕ) (text : Option (List ℕ)) (code : Code) (steps : ℕ) (c : Change) (answer : Answer) → EndsWithin most_run code.bytes.items → AnswerSays file text (Some code) steps c answer → NotStuck answer
+pub ends_says : (file : List ℕ) (text : List ℕ) (code : Code) (steps : ℕ) (c : Change) (answer : Answer) → EndsWithin most_run code.bytes.items → AnswerSays file text (Some code) steps c answer → NotStuck answer
 ends_says file text code steps c StepsOut ends says =
     let same : says.ran ≡ code = cc (says.is) in
     let other : EndsWithin most_run says.ran.bytes.items = subst (λ x. EndsWithin most_run x.bytes.items) (sym same) ends in

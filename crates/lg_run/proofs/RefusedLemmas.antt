@@ -1,6 +1,6 @@
 -- A text is refused for one reason, and then it is not of the first form.
-use Rattle.std.proofs.Common.{◌≡◌, ℕ, zero, suc, ◌+◌, ◌<◌, ◌≤◌, inl, inr, List, [], ◌∷◌, length, take, drop, Option, Some, None, refl, sym, ap, ◌∙◌, subst, arith, ⊎_elim}
-use Rattle.std.specs.Prelude.{slice_get, IfSome, Result, Ok, Err}
+use Rattle.std.proofs.Common.{◌≡◌, ℕ, ◌+◌, ◌<◌, ◌≤◌, inl, inr, List, length, take, drop, Some, None, sym, ap, ◌∙◌, subst, arith, ⊎_elim}
+use Rattle.std.specs.Prelude.{slice_get, Result, Ok, Err}
 use Rattle.std.proofs.lemmas.Bool.{cases_lt}
 use Rattle.std.proofs.lemmas.List.{take-append-drop, take-map}
 use Rattle.std.proofs.lemmas.Option.{slice_get_within}
@@ -13,7 +13,7 @@ use Rattle.lg_node.specs.declared.unit.Unit.{Unit as TextUnit}
 use Rattle.lg_tst.specs.Units.{unit_of}
 use Rattle.lg_run.specs.Forms.{form_at}
 use Rattle.lg_run.specs.FirstForm.{IsForm, Begins, Departs, misplaced, labelled, followed, late, DepartsFirst, IsFirstForm, IsNotYet}
-use Rattle.lg_run.specs.Refused.{IsRefusedUnit, IsRefusedAs, IsRefusedText, Refuses, IsUnitOf, most_text, text_too_long}
+use Rattle.lg_run.specs.Refused.{IsRefusedUnit, IsRefusedAs, IsRefusedText, most_text}
 use Rattle.lg_run.specs.declared.form.FormNode.{FormNode}
 use Rattle.lg_run.proofs.FormLemmas.{length_forms}
 
@@ -89,20 +89,3 @@ text_once text r q (inr a) (inr b) = as_once (unit_of text) r q a.1 b.1
 pub form_accepted : (text : List ℕ) (unit : TextUnit) (forms : List FormNode) (r : Refusal) → length text ≤ most_text → unit_of text ≡ Ok unit → IsAccepted unit.nodes → IsFirstForm unit.nodes forms → IsRefusedText text r → ⊥
 form_accepted text unit forms r short read accepted f (inl a) = let long = a.1 in absurd (omega (arith, long, short))
 form_accepted text unit forms r short read accepted f (inr a) = form_not_refused unit.nodes forms r accepted f (subst (λ u. IsRefusedAs u r) read a.1)
-
--- ---- what was read is the text
-pub unit_told : (told : Option (List ℕ)) (bytes : List ℕ) (unit : TextUnit) → IfSome told (λ t. bytes ≡ t) → length bytes ≤ most_text → unit_of bytes ≡ Ok unit → IsUnitOf told unit
-unit_told None bytes unit is short read = tt
-unit_told (Some t) bytes unit is short read = (subst (λ x. length x ≤ most_text) is short, ap unit_of (sym is) ∙ read)
-
-pub refuses_told : (told : Option (List ℕ)) (bytes : List ℕ) (refusal : Refusal) → IfSome told (λ t. bytes ≡ t) → length bytes ≤ most_text → IsRefusedAs (unit_of bytes) refusal → Refuses told refusal
-refuses_told None bytes refusal is short why = record { text = bytes; is = tt; why = inr (short, why) }
-refuses_told (Some t) bytes refusal is short why = record { text = bytes; is = sym is; why = inr (short, why) }
-
-longer : (n : ℕ) → (t : List ℕ) × (n < length t)
-longer zero = (0 ∷ [], omega arith)
-longer (suc n) = let t = longer n in (0 ∷ t.0, let lt = t.1 in omega (arith, lt))
-
-pub refuses_long : (told : Option (List ℕ)) → IfSome told (λ t. most_text < length t) → Refuses told text_too_long
-refuses_long None long = let t = longer most_text in record { text = t.0; is = tt; why = inl (refl, t.1) }
-refuses_long (Some t) long = record { text = t; is = refl; why = inl (refl, long) }

@@ -1,17 +1,16 @@
 -- When the answer is the run's end.
-use Rattle.std.specs.Prelude.{◌≡◌, ◌≢◌, ◌≤◌, ◌*◌, ◌⊎◌, ℕ, List, [], ◌∷◌, length, Option, Some, IsSome, Ok}
+use Rattle.std.specs.Prelude.{◌≡◌, ◌≢◌, ◌≤◌, ◌*◌, ◌⊎◌, ℕ, List, [], ◌∷◌, Option, Some, IsSome}
 use Rattle.lg_base.specs.Arguments.{args_of}
 use Rattle.lg_base.specs.Runs.{Ended, Bad}
 use Rattle.lg_io.specs.Counts.{Rose}
 use Rattle.lg_io.specs.NamedTexts.{NamedTexts}
 use Rattle.lg_node.specs.Checks.{IsAccepted}
 use Rattle.lg_node.specs.declared.unit.Unit.{Unit as TextUnit}
-use Rattle.lg_tst.specs.Units.{unit_of}
 use Rattle.lg_meaning.specs.Means.{Run, mean}
 use Rattle.lg_run.specs.Agreement.{shape_of_unit}
 use Rattle.lg_run.specs.Command.{command_of}
 use Rattle.lg_run.specs.FirstForm.{IsFirstForm}
-use Rattle.lg_run.specs.Refused.{most_text}
+use Rattle.lg_run.specs.Refused.{IsUnitOf}
 use Rattle.lg_run.specs.Says.{Says, Change, ErrChange, text_of, most_steps}
 use Rattle.lg_run.specs.declared.form.FormNode.{FormNode}
 use Rattle.lg_run.specs.declared.answer.Code.{Code}
@@ -41,6 +40,6 @@ pub record IsComplete (unit : TextUnit) (file : List ℕ) (code : Option Code) (
 abbrev pub Completeness : Type 0
 Completeness =
     (words : List (List ℕ)) (file : List ℕ) (held : Option NamedTexts) (code : Option Code) (steps : ℕ) (c : Change) (e : ErrChange) (outer : Answer) (text : List ℕ) (unit : TextUnit) (nodes : List FormNode)
-    → Says (command_of words) held code steps c e outer → NoneRose c e → command_of words ≡ Some file → text_of held file ≡ Some text → length text ≤ most_text
-    → unit_of text ≡ Ok unit → IsAccepted unit.nodes → IsFirstForm unit.nodes nodes
+    → Says (command_of words) held code steps c e outer → NoneRose c e → command_of words ≡ Some file → text_of held file ≡ Some text
+    → IsUnitOf text unit → IsAccepted unit.nodes → IsFirstForm unit.nodes nodes
     → IsComplete unit file code outer

@@ -1,5 +1,5 @@
 -- Why texts are refused, in the order of the reasons.
-use Rattle.std.specs.Prelude.{◌≡◌, ◌⊎◌, ℕ, ◌<◌, ◌≤◌, List, length, Option, IfSome, Result, Ok, Err}
+use Rattle.std.specs.Prelude.{◌≡◌, ◌⊎◌, ℕ, ◌<◌, ◌≤◌, List, length, Result, Ok, Err}
 use Rattle.lg_base.specs.declared.refusal.Refusal.{Refusal}
 use Rattle.lg_base.specs.declared.refusal.RefusalKind.TheVariants.{TextTooLong}
 use Rattle.lg_node.specs.Nodes.{LabelledNodes}
@@ -30,19 +30,13 @@ abbrev pub IsRefusedText : List ℕ → Refusal → Type 0
 IsRefusedText text refusal =
     ((refusal ≡ text_too_long) × (most_text < length text)) ⊎ ((length text ≤ most_text) × IsRefusedAs (unit_of text) refusal)
 
--- the text is refused so; where it is not told, some text is
-pub record Refuses (told : Option (List ℕ)) (refusal : Refusal) : Type 0 where
-  pub text : List ℕ
-  pub is : IfSome told (λ t. t ≡ text)
-  pub why : IsRefusedText text refusal
-
--- what a text of the allowed length is read as; where it is not told nothing is said
-abbrev pub IsUnitOf : Option (List ℕ) → TextUnit → Type 0
-IsUnitOf told unit = IfSome told (λ t. (length t ≤ most_text) × (unit_of t ≡ Ok unit))
+-- what a text of the allowed length is read as
+abbrev pub IsUnitOf : List ℕ → TextUnit → Type 0
+IsUnitOf text unit = (length text ≤ most_text) × (unit_of text ≡ Ok unit)
 
 -- a text is refused for one reason, and not where its unit is accepted and of the first form
 abbrev pub TextsAreRefusedOnce : Type 0
 TextsAreRefusedOnce =
     (text : List ℕ) (refusal : Refusal) → IsRefusedText text refusal
     → ((other : Refusal) → IsRefusedText text other → other ≡ refusal)
-    × ((unit : TextUnit) (nodes : List FormNode) → length text ≤ most_text → unit_of text ≡ Ok unit → IsAccepted unit.nodes → IsFirstForm unit.nodes nodes → ⊥)
+    × ((unit : TextUnit) (nodes : List FormNode) → IsUnitOf text unit → IsAccepted unit.nodes → IsFirstForm unit.nodes nodes → ⊥)

@@ -13,7 +13,7 @@ ghost use Rattle.lg_run.specs.Machines.{core_of};
 ghost use Rattle.lg_run.specs.Processor.{start};
 ghost use Rattle.lg_run.specs.FirstForm.{IsFirstForm};
 ghost use Rattle.lg_run.specs.Refused.{IsRefusedText, IsUnitOf, most_text, text_too_long};
-ghost use Rattle.lg_run.specs.Says.{AnswerSays, CodeSays, IsCodeOf, IsUntouched, NotStuck, ReportSays, RunSays, Says, most_code, text_of, trash_word};
+ghost use Rattle.lg_run.specs.Says.{AnswerSays, CodeSays, IsCodeOf, IsUntouched, NotStuck, ReportSays, RunSays, Says, WorkSays, most_code, text_of, trash_word};
 
 use crate::addresses::label_addresses;
 use crate::answer::{Answer, Code, Done};
@@ -102,8 +102,8 @@ fn run_unit<O: Sink>(alloc: Global, file: &str, text: &Accepted, out: &mut O) ->
     requires image { length text.now.unit.image ≤ 16777216 }
     requires accepted { IsAccepted text.now.unit.nodes }
     requires form { IsFirstForm text.now.unit.nodes text.now.nodes.items }
-    ensures says { (told : Option (List ℕ)) (reads reads' : ℕ) → IsUnitOf told text.now.unit → AnswerSays file.now told result.code result.steps record { taken = O.taken out.old; taken' = O.taken out.new; reads = reads; reads' = reads'; writes = O.faults out.old; writes' = O.faults out.new } result.answer }
-    ensures code { (told : Option (List ℕ)) → IsUnitOf told text.now.unit → CodeSays told result.code }
+    ensures says { (bytes : List ℕ) (reads reads' : ℕ) → IsUnitOf bytes text.now.unit → AnswerSays file.now bytes result.code result.steps record { taken = O.taken out.old; taken' = O.taken out.new; reads = reads; reads' = reads'; writes = O.faults out.old; writes' = O.faults out.new } result.answer }
+    ensures code { (bytes : List ℕ) → IsUnitOf bytes text.now.unit → CodeSays bytes result.code }
     ensures not_stuck { NotStuck result.answer }
 {
     let mut cpu = match start_cpu(alloc, &text.unit.image, file) {
@@ -127,8 +127,8 @@ fn run_unit<O: Sink>(alloc: Global, file: &str, text: &Accepted, out: &mut O) ->
 fn run_text<O: Sink>(alloc: Global, file: &str, text: &[u8], out: &mut O) -> Done
     requires file { is_file file.now ≡ true }
     requires short { length text.now ≤ most_text }
-    ensures says { (told : Option (List ℕ)) (reads reads' : ℕ) → IfSome told (λ t. text.now ≡ t) → AnswerSays file.now told result.code result.steps record { taken = O.taken out.old; taken' = O.taken out.new; reads = reads; reads' = reads'; writes = O.faults out.old; writes' = O.faults out.new } result.answer }
-    ensures code { (told : Option (List ℕ)) → IfSome told (λ t. text.now ≡ t) → CodeSays told result.code }
+    ensures says { (reads reads' : ℕ) → AnswerSays file.now text.now result.code result.steps record { taken = O.taken out.old; taken' = O.taken out.new; reads = reads; reads' = reads'; writes = O.faults out.old; writes' = O.faults out.new } result.answer }
+    ensures code { CodeSays text.now result.code }
     ensures not_stuck { NotStuck result.answer }
 {
     match read_unit(alloc, text) {
@@ -141,8 +141,7 @@ fn run_text<O: Sink>(alloc: Global, file: &str, text: &[u8], out: &mut O) -> Don
 // Reads the text of a file, and runs it.
 fn work<T: Texts, O: Sink>(alloc: Global, file: &str, texts: &mut T, out: &mut O) -> Done
     requires { is_file file.now ≡ true }
-    ensures says { AnswerSays file.now (text_of (T.held texts.old) file.now) result.code result.steps record { taken = O.taken out.old; taken' = O.taken out.new; reads = T.faults texts.old; reads' = T.faults texts.new; writes = O.faults out.old; writes' = O.faults out.new } result.answer }
-    ensures code { CodeSays (text_of (T.held texts.old) file.now) result.code }
+    ensures says { WorkSays file.now (T.held texts.old) result.code result.steps record { taken = O.taken out.old; taken' = O.taken out.new; reads = T.faults texts.old; reads' = T.faults texts.new; writes = O.faults out.old; writes' = O.faults out.new } result.answer }
     ensures not_stuck { NotStuck result.answer }
 {
     match read_text(alloc, file, texts) {
