@@ -26,7 +26,6 @@ pub struct CodeBuf {
     labels: Vec<Option<u32>>,
     fixes: Vec<Fix>,
     room: u32,
-    bytes: CodeBytes,
     places: Places,
 }
 
@@ -49,7 +48,6 @@ impl Model for CodeBuf {
     ghost invariant = { λ b.
         (vec_len b.fixes + b.room ≤ vec_capacity b.fixes)
         × AreSound (length b.store.items) (length b.labels.items) b.fixes.items
-        × IsRoomFor b.store.size b.bytes
         × IsRoomFor (length b.labels.items) b.places };
 }
 
@@ -74,7 +72,6 @@ impl CodeBuf {
         let store = Store::new(alloc, size)?;
         let unbound = Vec::from_elem(alloc, None, labels as usize)?;
         let no_fixes = Vec::with_capacity(alloc, fixes as usize)?;
-        let bytes = CodeBytes::with_room(alloc, size)?;
         let places = Places::with_room(alloc, labels)?;
         Ok(CodeBuf {
             allocator: alloc,
@@ -82,7 +79,6 @@ impl CodeBuf {
             labels: unbound,
             fixes: no_fixes,
             room: fixes,
-            bytes,
             places,
         })
     }
@@ -169,13 +165,12 @@ impl CodeBuf {
             labels,
             fixes,
             room: _,
-            bytes,
             mut places,
         } = self;
         patches::patch_all(&mut store, labels.as_slice(), fixes.as_slice());
         add_places(&mut places, labels.as_slice());
         Finished {
-            bytes: store.into_bytes(bytes),
+            bytes: store.into_bytes(),
             places,
         }
     }

@@ -2,7 +2,7 @@
 
 ghost use Rattle.std.specs.Prelude.{◌≡◌, ◌+◌, ◌<◌, ◌≤◌, ◌^◌, [], ◌∷◌, ◌++◌, length, slice_index, slice_set, IfOk};
 ghost use Rattle.lg_base.specs.WordFronts.{word_at};
-ghost use Rattle.lg_buf.specs.Stores.{ChangesOnly, IsRoomFor};
+ghost use Rattle.lg_buf.specs.Stores.{ChangesOnly};
 
 use lg_base::code::CodeBytes;
 use lg_base::field::Field;
@@ -49,13 +49,13 @@ impl Store {
         self.bytes.len() as u32
     }
 
-    /// Appends a byte. There is room left.
-    pub(crate) fn push(&mut self, byte: u8)
-        requires { length self.old.items < self.old.size }
-        ensures items { self.new.items ≡ self.old.items ++ byte ∷ [] }
+    /// Appends bytes. There is room left for them.
+    pub(crate) fn write(&mut self, piece: &[u8])
+        requires { length self.old.items + length piece.now ≤ self.old.size }
+        ensures items { self.new.items ≡ self.old.items ++ piece.now }
         ensures size { self.new.size ≡ self.old.size }
     {
-        self.bytes.push_reserved(byte);
+        let _ = self.bytes.extend_from_slice(piece);
     }
 
     /// Rereads the byte of a place, which is below `len`.
@@ -83,17 +83,6 @@ impl Store {
         ensures { length self.now.items + result ≡ self.now.size }
     {
         self.size - self.len()
-    }
-
-    /// Appends bytes. There is room left for them.
-    pub(crate) fn write(&mut self, piece: &[u8])
-        requires { length self.old.items + length piece.now ≤ self.old.size }
-        ensures items { self.new.items ≡ self.old.items ++ piece.now }
-        ensures size { self.new.size ≡ self.old.size }
-    {
-        'bytes: for byte in piece {
-            self.push(*byte);
-        }
     }
 
     /// Rereads the word of 32 bits at a place, the lowest byte first. Its bytes are below `len`.
@@ -125,15 +114,12 @@ impl Store {
         self.set(place + 3, Field::<24, 8>::get(word) as u8);
     }
 
-    /// Hands out the bytes in an empty list that has room for `size` of them.
-    pub(crate) fn into_bytes(mut self, mut into: CodeBytes) -> CodeBytes
-        requires { IsRoomFor self.size into }
+    /// Hands out the bytes.
+    pub(crate) fn into_bytes(self) -> CodeBytes
         ensures { result.items ≡ self.items }
     {
-        let len = self.len();
-        'bytes: for place in 0..len {
-            into.push(self.get(place));
-        }
-        into
+        // the size fits 32 bits
+        let _size = self.size;
+        CodeBytes::from_vec(self.bytes)
     }
 }

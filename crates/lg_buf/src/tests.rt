@@ -4,7 +4,6 @@
 ghost use Rattle.std.specs.Prelude.{◌≡◌, ◌+◌, ◌<◌, ◌≤◌, ◌↔◌, ◌++◌, [], ◌∷◌, length, IsTrue};
 
 use super::*;
-use crate::words::{distance, with_branch_26};
 use std::process::Abort;
 use std::test::Fail;
 
@@ -66,6 +65,21 @@ fn leads_to_labels(rt: HostRuntime) -> Result<(), Fail> {
     Ok(())
 }
 
+// appends so many zeros, piece by piece
+fn pad(buf: &mut CodeBuf, zeros: &[u8], count: usize) -> bool
+    ensures { buf.new ≡ record buf.old { bytes = buf.new.bytes } }
+{
+    let mut left = count;
+    while left > 0 {
+        let piece = left.min(zeros.len());
+        if piece == 0 || !buf.emit(&zeros[..piece]) {
+            return false;
+        }
+        left -= piece;
+    }
+    true
+}
+
 // the code ends with a fix at the place; what it is once the fix is patched, or None where the fix can't be
 fn patched_is<R: Abort + AllocGlobal>(
     rt: &R,
@@ -78,8 +92,8 @@ fn patched_is<R: Abort + AllocGlobal>(
     let end = place.saturating_add(kind.size());
     let start = (end as usize).saturating_sub(code.len());
     let mut buf = CodeBuf::new(rt.alloc(), end, 0, 0)?;
-    let zeros = vec![in buf.allocator(); 0u8; start]?;
-    assert!(rt; buf.emit(zeros.as_slice()));
+    let zeros = vec![in rt.alloc(); 0u8; 0x10_0000]?;
+    assert!(rt; pad(&mut buf, zeros.as_slice(), start));
     assert!(rt; buf.emit(code));
     assert!(rt; place as u64 + kind.size() as u64 <= buf.here() as u64);
     assert_eq!(rt; kind.fits(place, target), want.is_some());
@@ -178,13 +192,16 @@ fn reaches_on_aarch64(rt: HostRuntime) -> Result<(), Fail> {
     )?;
     patched_is(&rt, FixKind::A64Branch26, 4, 134_217_732, &bl, None)?;
     patched_is(&rt, FixKind::A64Branch26, 4, 10, &bl, None)?;
-    // 134,217,728 bytes back, with no buffer of that size
-    assert!(rt; FixKind::A64Branch26.fits(134_217_728, 0));
+    // 134,217,728 bytes back
+    patched_is(
+        &rt,
+        FixKind::A64Branch26,
+        134_217_728,
+        0,
+        &bl,
+        Some(&[0x00, 0x00, 0x00, 0x96]),
+    )?;
     assert!(rt; !FixKind::A64Branch26.fits(134_217_732, 0));
-    assert_eq!(rt;
-        with_branch_26(0x1400_0000, distance(134_217_728, 134_217_728, 0) / 4),
-        0x1600_0000
-    );
     let b_ne = [0x01, 0x00, 0x00, 0x54];
     patched_is(
         &rt,
@@ -249,10 +266,16 @@ fn reaches_on_x86_64(rt: HostRuntime) -> Result<(), Fail> {
         Some(&[0xe9, 0xff, 0xff, 0xff, 0x7f]),
     )?;
     patched_is(&rt, FixKind::X86Rel32, 1, 0x8000_0005, &jmp32, None)?;
-    // 2,147,483,648 bytes back, with no buffer of that size
-    assert!(rt; FixKind::X86Rel32.fits(0x7fff_fffc, 0));
+    // 2,147,483,648 bytes back
+    patched_is(
+        &rt,
+        FixKind::X86Rel32,
+        0x7fff_fffc,
+        0,
+        &jmp32,
+        Some(&[0xe9, 0x00, 0x00, 0x00, 0x80]),
+    )?;
     assert!(rt; !FixKind::X86Rel32.fits(0x7fff_fffd, 0));
-    assert_eq!(rt; distance(0x8000_0000, 0x8000_0000, 0), 0x8000_0000);
     let movi32 = [0x41, 0xb9, 0x00, 0x00, 0x00, 0x00];
     patched_is(
         &rt,

@@ -4,6 +4,7 @@ use Rattle.std.specs.Prelude.{◌||◌, if◌then◌else◌}
 use Rattle.std.proofs.lemmas.List.{reverse-append}
 use mathlib.Core.Path.{fun_ext}
 use Rattle.lg_cells.specs.Cells.{within}
+use Rattle.lg_cells.specs.Memories.{first_room}
 use Rattle.lg_meaning.specs.States.{Frame, in_locals, in_any_locals, is_part}
 use Rattle.lg_mean.specs.Machines.{AreStacked}
 
@@ -76,3 +77,15 @@ map_push f xs x = ap (λ l. map f l) (reverse-append xs (x ∷ []))
 pub stacked_top : (f g : Frame) (fs : List Frame) → f.sp ≡ g.sp → AreStacked f fs → AreStacked g fs
 stacked_top f g [] e h = sym e ∙ h
 stacked_top f g (k ∷ fs) e h = (omega (arith, h.0, e), h.1, h.2)
+
+-- at the start there are the data part and the argument part alone
+pub first_parts : (d g heap : ℕ) (f : Frame) → heap ≡ 0x30000000 → f.locals ≡ 0 → first_room d g ≡ is_part d g heap (f ∷ [])
+first_parts d g heap f h e = fun_ext (λ a. by a)
+  where
+    by : (a : ℕ) → first_room d g a ≡ is_part d g heap (f ∷ []) a
+    by a = rw (h, e, none_inside 0x30000000 a, none_inside (f.sp - 144 - 0) a) (last (within 0x20000000 d a) (within 0x28000000 g a))
+      where
+        last : (b c : Bool) → (if b then true else c) ≡ b || (c || (false || (false || false)))
+        last true c = refl
+        last false true = refl
+        last false false = refl

@@ -1,3 +1,6 @@
+pub mod AddressLemmas
+pub mod FitLemmas
+pub mod FollowLemmas
 pub mod FrameLemmas
 pub mod HostLemmas
 pub mod KnownLemmas
@@ -5,3 +8,4 @@ pub mod LandingLemmas
 pub mod ReadLemmas
 pub mod StepLemmas
 pub mod SuitLemmas
+pub mod TableLemmas

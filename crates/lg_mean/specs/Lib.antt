@@ -1,3 +1,5 @@
+pub mod Follows
 pub mod Machines
 pub mod Portables
+pub mod Programs
 pub mod Says

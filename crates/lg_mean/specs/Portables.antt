@@ -1,19 +1,14 @@
 -- What contracts see of the portable machine with its text.
-use Rattle.std.specs.Prelude.{ℕ, Option, Some, None, List, slice_get}
-use Rattle.lg_op.specs.declared.node.Node.{Node}
-use Rattle.lg_node.specs.Nodes.{LabelledNodes}
-use Rattle.lg_node.specs.Shapes.{TextShape}
+use Rattle.std.specs.Prelude.{ℕ, Option, Some, None}
 use Rattle.lg_mean.specs.declared.mean_step.MeanStep.{MeanStep}
 use Rattle.lg_mean.specs.declared.mean_step.MeanStep.TheVariants as mean
-use Rattle.lg_meaning.specs.States.{State}
 use Rattle.lg_mean.specs.Machines.{MachineState}
-use Rattle.lg_meaning.specs.Steps.{Outcome, Undefined, Text, node_step}
-use Rattle.lg_meaning.specs.Texts.{text}
+use Rattle.lg_mean.specs.Programs.{LabelTable}
 
--- the state as it is held, the addresses of the labels, the answer of the last step if it is repeated from now on, and how many steps went or ended
+-- the state as it is held, the labels, the answer of the last step if it is repeated from now on, and how many steps went or ended
 pub record PortableState : Type 0 where
   pub machine : MachineState
-  pub addresses : List ℕ
+  pub labels : LabelTable
   pub over : Option MeanStep
   pub steps : ℕ
 

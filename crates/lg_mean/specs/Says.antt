@@ -11,12 +11,10 @@ use Rattle.lg_op.specs.declared.op.Op.TheVariants as op
 use Rattle.lg_op.specs.declared.op.ControlOp.TheVariants as control
 use Rattle.lg_op.specs.declared.op.PlainOp.TheVariants as plain
 use Rattle.lg_node.specs.declared.function.Function.{Function}
-use Rattle.lg_node.specs.Nodes.{LabelledNodes}
-use Rattle.lg_node.specs.Shapes.{TextShape}
 use Rattle.lg_node.specs.Functions.{frame_of}
 use Rattle.lg_cells.specs.Memories.{without}
 use Rattle.lg_meaning.specs.States.{Frame, State}
-use Rattle.lg_meaning.specs.Steps.{Outcome, Goes, Ends, Undefined, Text, operand_at, function_here}
+use Rattle.lg_meaning.specs.Steps.{Outcome, Goes, Ends, Undefined, operand_at, function_here}
 use Rattle.lg_mean.specs.declared.mean_step.MeanStep.{MeanStep}
 use Rattle.lg_mean.specs.declared.mean_step.MeanStep.TheVariants as mean
 

@@ -4,13 +4,13 @@ ghost use Rattle.std.specs.Prelude.{◌≡◌, ◌<◌, ◌-◌, ◌^◌, ◌∷
 ghost use Rattle.lg_operators.specs.Operators.{binary_value, is_carried};
 ghost use Rattle.lg_meaning.specs.Steps.{binary_step, carried_step, carried_to, wide_step, unary_step, movi_step, branch, branch_step, branch_sum_step, jump_step, retval_step, getarg_step, quiet, on};
 ghost use Rattle.lg_mean.specs.Machines.{state_of};
-ghost use Rattle.lg_meaning.specs.Texts.{text};
+ghost use Rattle.lg_mean.specs.Programs.{text_of};
 ghost use Rattle.lg_mean.specs.Says.{AreKnown, IsKnown, Does};
 
 use crate::machine::{Machine, node_of_label, operand, slot};
-use crate::targets::jump_target;
+use crate::program::Program;
 use lg_node::{
-    BinaryOp, BranchSumOp, Condition, Node, NodeList, Operand, Shape, UnaryOp, ValueType, WideOp,
+    BinaryOp, BranchSumOp, Condition, Node, NodeList, Operand, UnaryOp, ValueType, WideOp,
 };
 use lg_operators::carry::Carry;
 use lg_operators::operators;
@@ -156,68 +156,54 @@ impl Machine {
         &mut self,
         condition: Condition,
         node: &Node,
-        nodes: &NodeList,
-        shape: &Shape,
-        labels: &[u64],
+        program: &Program,
     ) -> bool
         requires room { self.old.at < 2 ^ 32 - 1 }
-        requires known { AreKnown (length labels.now) node.now }
-        requires same { length labels.now ≡ length nodes.now.words }
-        ensures { Does (branch_step (text nodes.now shape.now labels.now) node.now condition (state_of self.old)) (state_of self.old) result (state_of self.new) }
+        requires known { AreKnown (length program.now.labels.addresses) node.now }
+        ensures { Does (branch_step (text_of program.now) node.now condition (state_of self.old)) (state_of self.old) result (state_of self.new) }
     {
-        let Some(a) = self.value(labels, operand(node, 1)) else {
+        let Some(a) = self.value(program.addresses(), operand(node, 1)) else {
             return false;
         };
-        let Some(b) = self.value(labels, operand(node, 2)) else {
+        let Some(b) = self.value(program.addresses(), operand(node, 2)) else {
             return false;
         };
-        self.branch(operators::holds(condition, a, b), nodes, operand(node, 0))
+        self.branch(
+            operators::holds(condition, a, b),
+            program.nodes(),
+            operand(node, 0),
+        )
     }
 
     // O2 = O2 + O3 or O2 - O3, and goes to O1 where the result fits, or where it doesn't.
-    pub(crate) fn branch_sum(
-        &mut self,
-        op: BranchSumOp,
-        node: &Node,
-        nodes: &NodeList,
-        shape: &Shape,
-        labels: &[u64],
-    ) -> bool
+    pub(crate) fn branch_sum(&mut self, op: BranchSumOp, node: &Node, program: &Program) -> bool
         requires room { self.old.at < 2 ^ 32 - 1 }
-        requires known { AreKnown (length labels.now) node.now }
-        requires same { length labels.now ≡ length nodes.now.words }
-        ensures { Does (branch_sum_step (text nodes.now shape.now labels.now) node.now op (state_of self.old)) (state_of self.old) result (state_of self.new) }
+        requires known { AreKnown (length program.now.labels.addresses) node.now }
+        ensures { Does (branch_sum_step (text_of program.now) node.now op (state_of self.old)) (state_of self.old) result (state_of self.new) }
     {
-        let Some(a) = self.value(labels, operand(node, 1)) else {
+        let Some(a) = self.value(program.addresses(), operand(node, 1)) else {
             return false;
         };
-        let Some(b) = self.value(labels, operand(node, 2)) else {
+        let Some(b) = self.value(program.addresses(), operand(node, 2)) else {
             return false;
         };
         self.set(operand(node, 1), operators::branch_sum(op, a, b));
         self.branch(
             operators::branch_sum_goes(op, a, b),
-            nodes,
+            program.nodes(),
             operand(node, 0),
         )
     }
 
     // Jumps to the address in O1.
-    pub(crate) fn jump(
-        &mut self,
-        node: &Node,
-        nodes: &NodeList,
-        shape: &Shape,
-        labels: &[u64],
-    ) -> bool
-        requires known { AreKnown (length labels.now) node.now }
-        requires same { length labels.now ≡ length nodes.now.words }
-        ensures { Does (jump_step (text nodes.now shape.now labels.now) node.now (state_of self.old)) (state_of self.old) result (state_of self.new) }
+    pub(crate) fn jump(&mut self, node: &Node, program: &Program) -> bool
+        requires known { AreKnown (length program.now.labels.addresses) node.now }
+        ensures { Does (jump_step (text_of program.now) node.now (state_of self.old)) (state_of self.old) result (state_of self.new) }
     {
-        let Some(word) = self.value(labels, operand(node, 0)) else {
+        let Some(word) = self.value(program.addresses(), operand(node, 0)) else {
             return false;
         };
-        match jump_target(nodes, shape, labels, self.at, word) {
+        match program.jump_target(self.at, word) {
             Some(target) => {
                 self.go_to(target);
                 true

@@ -12,8 +12,7 @@ ghost use Rattle.lg_mean.specs.Says.{AreKnown, Does, Leaves, WentUp, HasBegun, C
 
 use crate::frame::KeptFrame;
 use crate::machine::{Machine, operand};
-use crate::targets::function_here;
-use lg_node::{Function, Node, Shape};
+use lg_node::{Function, Node};
 use lg_operators::carry::Carry;
 
 // The bytes of a function's frame.

@@ -2,12 +2,17 @@
 #![tactic(auto)]
 
 mod access;
+pub mod addresses;
 mod arithmetic;
 mod calls;
 mod frame;
+mod functions;
 mod host_calls;
+mod labels;
+pub mod laws;
 mod machine;
 pub mod mean_step;
 pub mod portable;
+mod program;
+mod start;
 mod step;
-mod targets;

@@ -3,6 +3,7 @@
 ghost use Rattle.std.specs.Prelude.{◌≡◌, ◌<◌, ◌≤◌, ◌-◌, ◌+◌, ◌^◌, ◌∷◌, ◌++◌, [], ℕ, length, slice_index_or, take, true, Some, None};
 ghost use Rattle.lg_meaning.specs.States.{value, reg, named, number, is_open};
 ghost use Rattle.lg_meaning.specs.Steps.{on, on_with_carry, to, with_reg, operand_at, node_of_label, node_in, slot};
+ghost use Rattle.lg_meaning.specs.Fits.{IsHeapMark};
 ghost use Rattle.lg_mean.specs.Machines.{state_of, regs_of};
 ghost use Rattle.lg_mean.specs.Says.{IsKnown};
 
@@ -104,10 +105,11 @@ pub(crate) fn node_of_label(nodes: &NodeList, operand: Operand) -> u32
 }
 
 impl Machine {
-    // The node that comes next. Each byte of a machine lies in a part.
+    // The node that comes next. Each byte of a machine lies in a part, and its heap mark in the heap.
     pub(crate) fn place(&self) -> u32
         ensures value { result ≡ self.now.at }
         ensures memory { (a b : ℕ) → (state_of self.now).mem a ≡ Some b → is_open (state_of self.now) a ≡ true }
+        ensures heap { IsHeapMark (state_of self.now).mark }
     {
         self.at
     }

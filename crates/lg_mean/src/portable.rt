@@ -1,26 +1,35 @@
 // The portable machine with its text.
 
-ghost use Rattle.std.specs.Prelude.{◌≡◌, ◌<◌, ◌≤◌, ◌-◌, ◌+◌, ◌^◌, ℕ, length, IfSome, IfNone, Some, None, [], slice_get};
+ghost use Rattle.std.specs.Prelude.{◌≡◌, ◌<◌, ◌≤◌, ◌-◌, ◌+◌, ◌^◌, ℕ, length, IfSome, IfNone, IfOk, None, []};
 ghost use Rattle.std.specs.Io.KnownBytes.{Appends};
+ghost use Rattle.lg_base.specs.Arguments.{most_args};
 ghost use Rattle.lg_node.specs.Shapes.{IsShapeOf};
 ghost use Rattle.lg_meaning.specs.Fits.{Fits};
-ghost use Rattle.lg_mean.specs.Machines.{state_of};
-ghost use Rattle.lg_mean.specs.Says.{Steps};
+ghost use Rattle.lg_meaning.specs.Starts.{start_state};
 ghost use Rattle.lg_meaning.specs.Texts.{step, line_at};
+ghost use Rattle.lg_mean.specs.Machines.{state_of};
+ghost use Rattle.lg_mean.specs.Programs.{IsTableOf};
+ghost use Rattle.lg_mean.specs.Says.{Steps};
 ghost use Rattle.lg_mean.specs.Portables.{over_of, counts};
 
+use crate::labels::Labels;
 use crate::machine::Machine;
 use crate::mean_step::MeanStep;
+use crate::program::Program;
+use lg_base::image::ArgImage;
+use lg_base::refusal::OutOfMemory;
 use lg_io::sink::Sink;
+use lg_meaning::laws::{starts_fit, steps_keep_the_fit};
 use lg_node::laws::accepted_nodes_are_well_shaped;
-use lg_node::{LabelAddresses, NodeList, Shape};
+use lg_node::{LabelAddresses, NodeList, Shape, Unit};
+use std::alloc::Global;
 use std::marker::Model;
 
 /// The portable machine at a step of the run of a text.
 #[derive(Drop)]
 pub struct Portable {
     machine: Machine,
-    addresses: LabelAddresses,
+    labels: Labels,
     over: Option<MeanStep>,
     steps: u64,
 }
@@ -30,7 +39,7 @@ impl Model for Portable {
 
     ghost Value = { PortableState };
 
-    ghost view = { λ p. record { machine = p.machine; addresses = p.addresses; over = p.over; steps = p.steps } };
+    ghost view = { λ p. record { machine = p.machine; labels = p.labels; over = p.over; steps = p.steps } };
 }
 
 // What is true of every list of nodes: there are fewer than 2^32, and each label has a place.
@@ -43,32 +52,65 @@ fn told_of(nodes: &NodeList)
 }
 
 impl Portable {
-    /// One step of the node that comes next. The shape is that of the nodes, the state fits it, and there is an address for each
-    /// label. `Undefined` exactly where the step is undefined by the table of undefined steps, with the line of its node; `WriteFault`
+    /// The state at the start of the run of an accepted text with its shape: the first node comes next, nothing is defined, and memory
+    /// holds the data part and the argument part. There is an address for each label; the data part has at most 16,777,216 bytes and the
+    /// argument part at most 1,048,576. It takes the memory of the whole run: the parts, room for 3,855 frames, and tables of where words
+    /// lead that are addresses of labels.
+    pub fn new(
+        alloc: Global,
+        unit: &Unit,
+        shape: &Shape,
+        labels: &LabelAddresses,
+        args: &ArgImage,
+    ) -> Result<Portable, OutOfMemory>
+        requires shape { IsShapeOf unit.now.nodes shape.now }
+        requires image { length unit.now.image ≤ 0x1000000 }
+        requires labels { length labels.now ≡ length unit.now.nodes.words }
+        requires args { length args.now ≤ most_args }
+        ensures start { IfOk result (λ p. state_of p.machine ≡ start_state unit.now.image args.now) }
+        ensures fits { IfOk result (λ p. Fits unit.now.nodes shape.now (state_of p.machine)) }
+        ensures made { IfOk result (λ p. IsTableOf unit.now.nodes shape.now p.labels) }
+        ensures addresses { IfOk result (λ p. p.labels.addresses ≡ labels.now) }
+        ensures running { IfOk result (λ p. p.over ≡ None) }
+        ensures steps { IfOk result (λ p. p.steps ≡ 0) }
+    {
+        starts_fit();
+        let machine = Machine::new(alloc, unit.image.as_slice(), args.as_slice())?;
+        let labels = Labels::of(alloc, &unit.nodes, shape, labels)?;
+        Ok(Portable {
+            machine,
+            labels,
+            over: None,
+            steps: 0,
+        })
+    }
+
+    /// One step of the node that comes next. The state is one of a run of this text: it was made by `new` for these nodes and this shape, and
+    /// fits them, as it does behind the step. `Undefined` exactly where the step is undefined by the table of undefined steps, with the line of its node; `WriteFault`
     /// only where the count of faults of `out` rose, and then a part of the step's bytes may have been written, from the first one
     /// on. After an answer other than `Went` it answers the same and changes nothing. Fewer than 2^64 - 1 steps went or ended before.
-    pub fn step<O: Sink>(&mut self, nodes: &NodeList, shape: &Shape, out: &mut O) -> MeanStep
-        requires shape { IsShapeOf nodes.now shape.now }
-        requires fits { Fits nodes.now shape.now (state_of self.old.machine) }
-        requires labels { length self.old.addresses ≡ length nodes.now.words }
+    pub fn step<O: Sink>(&mut self, unit: &Unit, shape: &Shape, out: &mut O) -> MeanStep
+        requires made { IsTableOf unit.now.nodes shape.now self.old.labels }
+        requires fits { Fits unit.now.nodes shape.now (state_of self.old.machine) }
         requires count { self.old.steps < 2 ^ 64 - 1 }
         ensures again { IfSome self.old.over (λ answer. (result ≡ answer) × (self.new ≡ self.old) × Appends (O.taken out.old) (O.taken out.new) []) }
-        ensures says { IfNone self.old.over (Steps (step nodes.now shape.now self.old.addresses (state_of self.old.machine)) (line_at nodes.now (state_of self.old.machine)) (state_of self.old.machine) result (state_of self.new.machine) (O.taken out.old) (O.taken out.new) (O.faults out.old) (O.faults out.new)) }
+        ensures says { IfNone self.old.over (Steps (step unit.now.nodes shape.now self.old.labels.addresses (state_of self.old.machine)) (line_at unit.now.nodes (state_of self.old.machine)) (state_of self.old.machine) result (state_of self.new.machine) (O.taken out.old) (O.taken out.new) (O.faults out.old) (O.faults out.new)) }
+        ensures fits { Fits unit.now.nodes shape.now (state_of self.new.machine) }
         ensures over { IfNone self.old.over (self.new.over ≡ over_of result) }
         ensures steps { IfNone self.old.over (self.new.steps ≡ self.old.steps + counts result) }
-        ensures addresses { self.new.addresses ≡ self.old.addresses }
+        ensures labels { self.new.labels ≡ self.old.labels }
         ensures later { O.faults out.old ≤ O.faults out.new }
     {
         if let Some(answer) = self.over {
             return answer;
         }
         accepted_nodes_are_well_shaped();
-        told_of(nodes);
+        steps_keep_the_fit();
+        told_of(&unit.nodes);
         let _ = self.machine.pushed();
-        let node = nodes.node(self.machine.place());
-        let answer = self
-            .machine
-            .step_node(&node, nodes, shape, self.addresses.as_slice(), out);
+        let node = unit.nodes.node(self.machine.place());
+        let program = Program::new(&unit.nodes, shape, &self.labels);
+        let answer = self.machine.step_node(&node, &program, out);
         self.over = over_of(answer);
         self.steps += counts(answer);
         answer

@@ -6,16 +6,17 @@ ghost use Rattle.lg_op.specs.declared.op.ControlOp.TheVariants as control;
 ghost use Rattle.lg_meaning.specs.States.{value};
 ghost use Rattle.lg_meaning.specs.Steps.{need, quiet, on, enter, prolog_step, leave, ret_step, function_here, call_node, call_operand, call_named, call_word, call_step, entry_target, operand_at, plain_step, node_step, node_of_label, begun};
 ghost use Rattle.lg_mean.specs.Machines.{state_of};
-ghost use Rattle.lg_meaning.specs.Texts.{text};
+ghost use Rattle.lg_mean.specs.Programs.{text_of};
 ghost use Rattle.lg_mean.specs.Says.{AreKnown, IsKnown, Does, Quiet, Steps, HasBegun, CanBegin, Suits, stays, answer_of};
 
 use crate::calls::frame_size;
+use crate::functions::function_here;
 use crate::machine::{Machine, node_of_label, operand};
 use crate::mean_step::MeanStep;
-use crate::targets::{entry_target, function_here};
+use crate::program::Program;
 use lg_base::host_name::HostName;
 use lg_io::sink::Sink;
-use lg_node::{ControlOp, Function, LastOperand, Node, NodeList, Op, Operand, PlainOp, Shape};
+use lg_node::{ControlOp, Function, LastOperand, Node, Op, Operand, PlainOp};
 
 // The answer of a step that neither ends the run nor writes.
 fn answer(went: bool, line: u32) -> MeanStep
@@ -41,12 +42,12 @@ fn stays(op: Op) -> bool
 
 impl Machine {
     // A function begins.
-    fn prolog(&mut self, nodes: &NodeList, shape: &Shape, labels: &[u64]) -> bool
+    fn prolog(&mut self, program: &Program) -> bool
         requires room { self.old.at < 2 ^ 32 - 1 }
-        requires can { CanBegin shape.now.functions (state_of self.old) }
-        ensures { Does (prolog_step (text nodes.now shape.now labels.now) (state_of self.old)) (state_of self.old) result (state_of self.new) }
+        requires can { CanBegin program.now.shape.functions (state_of self.old) }
+        ensures { Does (prolog_step (text_of program.now) (state_of self.old)) (state_of self.old) result (state_of self.new) }
     {
-        match function_here(shape, self.at) {
+        match function_here(program.shape(), self.at) {
             Some(function) => {
                 self.begin(function, frame_size(function));
                 self.go_on();
@@ -73,39 +74,24 @@ impl Machine {
     }
 
     // Calls the function that begins at a node.
-    fn call_node(
-        &mut self,
-        count: u32,
-        node: u32,
-        nodes: &NodeList,
-        shape: &Shape,
-        labels: &[u64],
-    ) -> bool
+    fn call_node(&mut self, count: u32, node: u32, program: &Program) -> bool
         requires room { self.old.at < 2 ^ 32 - 1 }
         requires begun { HasBegun (state_of self.old) }
-        ensures { Does (call_node (text nodes.now shape.now labels.now) (state_of self.old) (take count self.old.staged) node) (state_of self.old) result (state_of self.new) }
+        ensures { Does (call_node (text_of program.now) (state_of self.old) (take count self.old.staged) node) (state_of self.old) result (state_of self.new) }
     {
-        match function_here(shape, node) {
+        match function_here(program.shape(), node) {
             Some(function) => self.enter(count, function),
             None => false,
         }
     }
 
     // The answer of a call of the function that begins at a node.
-    fn call_at(
-        &mut self,
-        count: u32,
-        target: u32,
-        node: &Node,
-        nodes: &NodeList,
-        shape: &Shape,
-        labels: &[u64],
-    ) -> MeanStep
+    fn call_at(&mut self, count: u32, target: u32, node: &Node, program: &Program) -> MeanStep
         requires room { self.old.at < 2 ^ 32 - 1 }
         requires begun { HasBegun (state_of self.old) }
-        ensures { Quiet (call_node (text nodes.now shape.now labels.now) (state_of self.old) (take count self.old.staged) target) node.now.line (state_of self.old) result (state_of self.new) }
+        ensures { Quiet (call_node (text_of program.now) (state_of self.old) (take count self.old.staged) target) node.now.line (state_of self.old) result (state_of self.new) }
     {
-        let went = self.call_node(count, target, nodes, shape, labels);
+        let went = self.call_node(count, target, program);
         answer(went, node.line)
     }
 
@@ -114,45 +100,33 @@ impl Machine {
         &mut self,
         count: u32,
         node: &Node,
-        nodes: &NodeList,
-        shape: &Shape,
-        labels: &[u64],
+        program: &Program,
         out: &mut O,
     ) -> MeanStep
         requires room { self.old.at < 2 ^ 32 - 1 }
         requires few { count ≤ 16 }
         requires begun { HasBegun (state_of self.old) }
-        requires known { AreKnown (length labels.now) node.now }
-        requires same { length labels.now ≡ length nodes.now.words }
-        ensures says { Steps (call_operand (text nodes.now shape.now labels.now) (state_of self.old) (take count self.old.staged) (operand_at node.now 0)) node.now.line (state_of self.old) result (state_of self.new) (O.taken out.old) (O.taken out.new) (O.faults out.old) (O.faults out.new) }
+        requires known { AreKnown (length program.now.labels.addresses) node.now }
+        ensures says { Steps (call_operand (text_of program.now) (state_of self.old) (take count self.old.staged) (operand_at node.now 0)) node.now.line (state_of self.old) result (state_of self.new) (O.taken out.old) (O.taken out.new) (O.faults out.old) (O.faults out.new) }
         ensures later { O.faults out.old ≤ O.faults out.new }
     {
         match operand(node, 0) {
             Operand::Host(name) => self.host(name, count, node.line, out),
             other => {
-                let target = node_of_label(nodes, other);
-                self.call_at(count, target, node, nodes, shape, labels)
+                let target = node_of_label(program.nodes(), other);
+                self.call_at(count, target, node, program)
             }
         }
     }
 
     // Calls a function of the text by a word that is the address of its label.
-    fn call_address(
-        &mut self,
-        count: u32,
-        word: u64,
-        node: &Node,
-        nodes: &NodeList,
-        shape: &Shape,
-        labels: &[u64],
-    ) -> MeanStep
+    fn call_address(&mut self, count: u32, word: u64, node: &Node, program: &Program) -> MeanStep
         requires room { self.old.at < 2 ^ 32 - 1 }
         requires begun { HasBegun (state_of self.old) }
-        requires same { length labels.now ≡ length nodes.now.words }
-        ensures { Quiet (need (entry_target (text nodes.now shape.now labels.now) word) (call_node (text nodes.now shape.now labels.now) (state_of self.old) (take count self.old.staged))) node.now.line (state_of self.old) result (state_of self.new) }
+        ensures { Quiet (need (entry_target (text_of program.now) word) (call_node (text_of program.now) (state_of self.old) (take count self.old.staged))) node.now.line (state_of self.old) result (state_of self.new) }
     {
-        match entry_target(nodes, shape, labels, word) {
-            Some(target) => self.call_at(count, target, node, nodes, shape, labels),
+        match program.entry_target(word) {
+            Some(target) => self.call_at(count, target, node, program),
             None => MeanStep::Undefined { line: node.line },
         }
     }
@@ -163,21 +137,18 @@ impl Machine {
         count: u32,
         word: u64,
         node: &Node,
-        nodes: &NodeList,
-        shape: &Shape,
-        labels: &[u64],
+        program: &Program,
         out: &mut O,
     ) -> MeanStep
         requires room { self.old.at < 2 ^ 32 - 1 }
         requires few { count ≤ 16 }
         requires begun { HasBegun (state_of self.old) }
-        requires same { length labels.now ≡ length nodes.now.words }
-        ensures says { Steps (call_word (text nodes.now shape.now labels.now) (state_of self.old) (take count self.old.staged) word) node.now.line (state_of self.old) result (state_of self.new) (O.taken out.old) (O.taken out.new) (O.faults out.old) (O.faults out.new) }
+        ensures says { Steps (call_word (text_of program.now) (state_of self.old) (take count self.old.staged) word) node.now.line (state_of self.old) result (state_of self.new) (O.taken out.old) (O.taken out.new) (O.faults out.old) (O.faults out.new) }
         ensures later { O.faults out.old ≤ O.faults out.new }
     {
         match HostName::from_address(word) {
             Some(name) => self.host(name, count, node.line, out),
-            None => self.call_address(count, word, node, nodes, shape, labels),
+            None => self.call_address(count, word, node, program),
         }
     }
 
@@ -187,23 +158,20 @@ impl Machine {
         last: LastOperand,
         count: u32,
         node: &Node,
-        nodes: &NodeList,
-        shape: &Shape,
-        labels: &[u64],
+        program: &Program,
         out: &mut O,
     ) -> MeanStep
         requires room { self.old.at < 2 ^ 32 - 1 }
         requires few { count ≤ 16 }
         requires begun { HasBegun (state_of self.old) }
-        requires known { AreKnown (length labels.now) node.now }
-        requires same { length labels.now ≡ length nodes.now.words }
-        ensures says { Steps (call_step (text nodes.now shape.now labels.now) node.now last (take count self.old.staged) (state_of self.old)) node.now.line (state_of self.old) result (state_of self.new) (O.taken out.old) (O.taken out.new) (O.faults out.old) (O.faults out.new) }
+        requires known { AreKnown (length program.now.labels.addresses) node.now }
+        ensures says { Steps (call_step (text_of program.now) node.now last (take count self.old.staged) (state_of self.old)) node.now.line (state_of self.old) result (state_of self.new) (O.taken out.old) (O.taken out.new) (O.faults out.old) (O.faults out.new) }
         ensures later { O.faults out.old ≤ O.faults out.new }
     {
         match last {
-            LastOperand::Immediate => self.call_operand(count, node, nodes, shape, labels, out),
-            LastOperand::Register => match self.value(labels, operand(node, 0)) {
-                Some(word) => self.call_word(count, word, node, nodes, shape, labels, out),
+            LastOperand::Immediate => self.call_operand(count, node, program, out),
+            LastOperand::Register => match self.value(program.addresses(), operand(node, 0)) {
+                Some(word) => self.call_word(count, word, node, program, out),
                 None => MeanStep::Undefined { line: node.line },
             },
         }
@@ -233,22 +201,14 @@ impl Machine {
     }
 
     // A jump.
-    fn jump_node(
-        &mut self,
-        last: LastOperand,
-        node: &Node,
-        nodes: &NodeList,
-        shape: &Shape,
-        labels: &[u64],
-    ) -> bool
+    fn jump_node(&mut self, last: LastOperand, node: &Node, program: &Program) -> bool
         requires room { self.old.at < 2 ^ 32 - 1 }
-        requires known { AreKnown (length labels.now) node.now }
-        requires same { length labels.now ≡ length nodes.now.words }
-        ensures { Does (node_step (text nodes.now shape.now labels.now) node.now (op_of.Control control.Jmp last) (state_of self.old)) (state_of self.old) result (state_of self.new) }
+        requires known { AreKnown (length program.now.labels.addresses) node.now }
+        ensures { Does (node_step (text_of program.now) node.now (op_of.Control control.Jmp last) (state_of self.old)) (state_of self.old) result (state_of self.new) }
     {
         match last {
-            LastOperand::Register => self.jump(node, nodes, shape, labels),
-            LastOperand::Immediate => self.branch(true, nodes, operand(node, 0)),
+            LastOperand::Register => self.jump(node, program),
+            LastOperand::Immediate => self.branch(true, program.nodes(), operand(node, 0)),
         }
     }
 
@@ -262,22 +222,15 @@ impl Machine {
     }
 
     // A node that comes in one form and is no return.
-    fn plain(
-        &mut self,
-        form: PlainOp,
-        node: &Node,
-        nodes: &NodeList,
-        shape: &Shape,
-        labels: &[u64],
-    ) -> bool
+    fn plain(&mut self, form: PlainOp, node: &Node, program: &Program) -> bool
         requires room { self.old.at < 2 ^ 32 - 1 }
         requires stays { IsTrue (stays (op_of.Plain form)) }
-        requires suits { Suits shape.now.functions (op_of.Plain form) (state_of self.old) self.old.count }
-        requires known { AreKnown (length labels.now) node.now }
-        ensures { Does (plain_step (text nodes.now shape.now labels.now) node.now form (state_of self.old)) (state_of self.old) result (state_of self.new) }
+        requires suits { Suits program.now.shape.functions (op_of.Plain form) (state_of self.old) self.old.count }
+        requires known { AreKnown (length program.now.labels.addresses) node.now }
+        ensures { Does (plain_step (text_of program.now) node.now form (state_of self.old)) (state_of self.old) result (state_of self.new) }
     {
         match form {
-            PlainOp::Movi => self.movi(node, labels),
+            PlainOp::Movi => self.movi(node, program.addresses()),
             PlainOp::Prepare => {
                 self.prepare();
                 true
@@ -286,33 +239,42 @@ impl Machine {
                 self.ellipsis();
                 true
             }
-            PlainOp::Prolog => self.prolog(nodes, shape, labels),
+            PlainOp::Prolog => self.prolog(program),
             PlainOp::Arg | PlainOp::Allocai | PlainOp::Align => self.pass(),
             PlainOp::Epilog | PlainOp::Ret => false,
         }
     }
 
     // A node that neither calls nor returns.
-    fn stay(&mut self, node: &Node, nodes: &NodeList, shape: &Shape, labels: &[u64]) -> bool
+    fn stay(&mut self, node: &Node, program: &Program) -> bool
         requires room { self.old.at < 2 ^ 32 - 1 }
         requires stays { IsTrue (stays node.now.op) }
-        requires suits { Suits shape.now.functions node.now.op (state_of self.old) self.old.count }
-        requires known { AreKnown (length labels.now) node.now }
-        requires same { length labels.now ≡ length nodes.now.words }
-        ensures { Does (node_step (text nodes.now shape.now labels.now) node.now node.now.op (state_of self.old)) (state_of self.old) result (state_of self.new) }
+        requires suits { Suits program.now.shape.functions node.now.op (state_of self.old) self.old.count }
+        requires known { AreKnown (length program.now.labels.addresses) node.now }
+        ensures { Does (node_step (text_of program.now) node.now node.now.op (state_of self.old)) (state_of self.old) result (state_of self.new) }
     {
         match node.op {
-            Op::Binary(op, _) => self.binary_node(op, node, labels),
-            Op::Wide(op, _) => self.wide(op, node, labels),
-            Op::Branch(condition, _) => self.branch_where(condition, node, nodes, shape, labels),
-            Op::BranchSum(op, _) => self.branch_sum(op, node, nodes, shape, labels),
-            Op::Control(ControlOp::Jmp, last) => self.jump_node(last, node, nodes, shape, labels),
-            Op::Control(ControlOp::Pusharg, _) => self.push(node, labels),
+            Op::Binary(op, _) => self.binary_node(op, node, program.addresses()),
+            Op::Wide(op, _) => self.wide(op, node, program.addresses()),
+            Op::Branch(condition, _) => self.branch_where(condition, node, program),
+            Op::BranchSum(op, _) => self.branch_sum(op, node, program),
+            Op::Control(ControlOp::Jmp, last) => self.jump_node(last, node, program),
+            Op::Control(ControlOp::Pusharg, _) => self.push(node, program.addresses()),
             Op::Control(_, _) => false,
-            Op::Unary(op) => self.unary(op, node, labels),
-            Op::Plain(form) => self.plain(form, node, nodes, shape, labels),
-            Op::Load(value_type, addressing) => self.load(value_type, addressing, node, labels),
-            Op::Store(store_type, addressing) => self.store(store_type, addressing, node, labels),
+            Op::Unary(op) => self.unary(op, node, program.addresses()),
+            Op::Plain(form) => self.plain(form, node, program),
+            Op::Load(value_type, addressing) => self.load(
+                value_type,
+                addressing,
+                node,
+                program.addresses(),
+            ),
+            Op::Store(store_type, addressing) => self.store(
+                store_type,
+                addressing,
+                node,
+                program.addresses(),
+            ),
             Op::Retval(value_type) => self.retval(node, value_type),
             Op::Getarg(value_type) => self.getarg(node, value_type),
         }
@@ -323,47 +285,32 @@ impl Machine {
         &mut self,
         last: LastOperand,
         node: &Node,
-        nodes: &NodeList,
-        shape: &Shape,
-        labels: &[u64],
+        program: &Program,
         out: &mut O,
     ) -> MeanStep
         requires room { self.old.at < 2 ^ 32 - 1 }
         requires begun { HasBegun (state_of self.old) }
-        requires known { AreKnown (length labels.now) node.now }
-        requires same { length labels.now ≡ length nodes.now.words }
-        ensures says { Steps (call_step (text nodes.now shape.now labels.now) node.now last (state_of self.old).pushed (state_of self.old)) node.now.line (state_of self.old) result (state_of self.new) (O.taken out.old) (O.taken out.new) (O.faults out.old) (O.faults out.new) }
+        requires known { AreKnown (length program.now.labels.addresses) node.now }
+        ensures says { Steps (call_step (text_of program.now) node.now last (state_of self.old).pushed (state_of self.old)) node.now.line (state_of self.old) result (state_of self.new) (O.taken out.old) (O.taken out.new) (O.faults out.old) (O.faults out.new) }
         ensures later { O.faults out.old ≤ O.faults out.new }
     {
         let count = self.count;
-        self.call(last, count, node, nodes, shape, labels, out)
+        self.call(last, count, node, program, out)
     }
 
     // A node that calls or returns.
-    fn move_on<O: Sink>(
-        &mut self,
-        node: &Node,
-        nodes: &NodeList,
-        shape: &Shape,
-        labels: &[u64],
-        out: &mut O,
-    ) -> MeanStep
+    fn move_on<O: Sink>(&mut self, node: &Node, program: &Program, out: &mut O) -> MeanStep
         requires room { self.old.at < 2 ^ 32 - 1 }
         requires moves { stays node.now.op ≡ false }
-        requires suits { Suits shape.now.functions node.now.op (state_of self.old) self.old.count }
-        requires known { AreKnown (length labels.now) node.now }
-        requires same { length labels.now ≡ length nodes.now.words }
-        ensures says { Steps (node_step (text nodes.now shape.now labels.now) node.now node.now.op (state_of self.old)) node.now.line (state_of self.old) result (state_of self.new) (O.taken out.old) (O.taken out.new) (O.faults out.old) (O.faults out.new) }
+        requires suits { Suits program.now.shape.functions node.now.op (state_of self.old) self.old.count }
+        requires known { AreKnown (length program.now.labels.addresses) node.now }
+        ensures says { Steps (node_step (text_of program.now) node.now node.now.op (state_of self.old)) node.now.line (state_of self.old) result (state_of self.new) (O.taken out.old) (O.taken out.new) (O.faults out.old) (O.faults out.new) }
         ensures later { O.faults out.old ≤ O.faults out.new }
     {
         match node.op {
-            Op::Control(ControlOp::Call, last) => self.call(
-                last, 0, node, nodes, shape, labels, out,
-            ),
-            Op::Control(ControlOp::Finish, last) => self.finish(
-                last, node, nodes, shape, labels, out,
-            ),
-            Op::Control(ControlOp::Ret, _) => self.go_back_with(node, labels),
+            Op::Control(ControlOp::Call, last) => self.call(last, 0, node, program, out),
+            Op::Control(ControlOp::Finish, last) => self.finish(last, node, program, out),
+            Op::Control(ControlOp::Ret, _) => self.go_back_with(node, program.addresses()),
             Op::Plain(PlainOp::Epilog) => self.go_back(None),
             Op::Plain(PlainOp::Ret) => self.go_back(None),
             _ => MeanStep::Undefined { line: node.line },
@@ -374,22 +321,19 @@ impl Machine {
     pub(crate) fn step_node<O: Sink>(
         &mut self,
         node: &Node,
-        nodes: &NodeList,
-        shape: &Shape,
-        labels: &[u64],
+        program: &Program,
         out: &mut O,
     ) -> MeanStep
         requires room { self.old.at < 2 ^ 32 - 1 }
-        requires suits { Suits shape.now.functions node.now.op (state_of self.old) self.old.count }
-        requires known { AreKnown (length labels.now) node.now }
-        requires same { length labels.now ≡ length nodes.now.words }
-        ensures says { Steps (node_step (text nodes.now shape.now labels.now) node.now node.now.op (state_of self.old)) node.now.line (state_of self.old) result (state_of self.new) (O.taken out.old) (O.taken out.new) (O.faults out.old) (O.faults out.new) }
+        requires suits { Suits program.now.shape.functions node.now.op (state_of self.old) self.old.count }
+        requires known { AreKnown (length program.now.labels.addresses) node.now }
+        ensures says { Steps (node_step (text_of program.now) node.now node.now.op (state_of self.old)) node.now.line (state_of self.old) result (state_of self.new) (O.taken out.old) (O.taken out.new) (O.faults out.old) (O.faults out.new) }
         ensures later { O.faults out.old ≤ O.faults out.new }
     {
         if stays(node.op) {
-            let went = self.stay(node, nodes, shape, labels);
+            let went = self.stay(node, program);
             return answer(went, node.line);
         }
-        self.move_on(node, nodes, shape, labels, out)
+        self.move_on(node, program, out)
     }
 }

@@ -1,5 +1,5 @@
 -- The plain addresses are addresses of the labels.
-use Rattle.std.proofs.Common.{◌≡◌, ℕ, suc, zero, ◌+◌, ◌*◌, List, [], ◌∷◌, Option, Some, refl, ap, length, arith}
+use Rattle.std.proofs.Common.{◌≡◌, ℕ, suc, zero, ◌+◌, ◌*◌, ◌≤◌, List, [], ◌∷◌, Option, Some, refl, ap, length, arith}
 use Rattle.std.specs.Prelude.{map, slice_get, slice_index}
 use Rattle.lg_base.specs.Layout.{code_base}
 use Rattle.lg_node.specs.declared.place.Place.{Place}
@@ -20,8 +20,8 @@ module _ (l : LabelledNodes) where
   at_node : (x i : ℕ) → IsBound l x (place.Node i) → slice_index (plain_addresses l) x ≡ code_base + 256 * i
   at_node x i e = plain_at l.places x (Some (place.Node i)) e
 
-  pub plain_are : AreWithin l → AreAddresses l (256 * length l.nodes) (plain_addresses l)
-  plain_are within = record {
+  pub plain_are : (size : ℕ) → AreWithin l → 256 * length l.nodes ≤ size → AreAddresses l size (plain_addresses l)
+  plain_are size within long = record {
     count = plain_count l.places;
     images = λ x k e. plain_at l.places x (Some (place.Image k)) e;
     within = λ x i e. (omega (arith, at_node x i e), omega (arith, at_node x i e, within x i e));

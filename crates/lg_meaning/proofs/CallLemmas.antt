@@ -67,10 +67,9 @@ call_goes_on : (o : Op) → is_call o ≡ true → is_epilog o ≡ false
 call_goes_on (op.Plain plain.Epilog) e = cc
 call_goes_on o e = refl
 
--- ---- a host function
-module _ (s : State) where
-  at_host : Mem
-  at_host = memory s.mem (is_open s) s.mark
+-- the memory of a state as host functions have it
+abbrev at_host : State → Mem
+at_host s = memory s.mem (is_open s) s.mark
 
 module _ (l : LabelledNodes) (shape : TextShape) (s : State) (n : Node) (x : AtNode l shape s n) where
   -- behind a call node nothing is prepared
@@ -196,7 +195,6 @@ module _ (l : LabelledNodes) (shape : TextShape) (s : State) (n : Node) (x : AtN
 
     -- the memory behind a host function
     host_memory : (changes : Changes) (mark v : ℕ) (bytes : List ℕ) → Writes (at_host s) v changes mark bytes → (a b : ℕ) → over changes s.mem a ≡ Some b → is_part s.data_size s.args_size mark (s.frame ∷ s.callers) a ≡ true
-    unfolding at_host
     host_memory changes mark v bytes w a b e = by (changes a) refl e
       where
         by : (o : Option ℕ) → changes a ≡ o → (if is_some o then o else s.mem a) ≡ Some b → is_part s.data_size s.args_size mark (s.frame ∷ s.callers) a ≡ true
@@ -207,7 +205,6 @@ module _ (l : LabelledNodes) (shape : TextShape) (s : State) (n : Node) (x : AtN
             (w.where_may a c is)
 
     ends_fit : (h : Host) → OnGives h (Writes (at_host s)) → OnGoes (FitsWell l shape) (host_end s h)
-    unfolding at_host
     ends_fit (Exits status) w = tt
     ends_fit Undefined w = tt
     ends_fit (Gives v changes mark bytes) w = next_fits l shape s n x (answered s v (over changes s.mem) mark) out pro epi record {
@@ -221,7 +218,6 @@ module _ (l : LabelledNodes) (shape : TextShape) (s : State) (n : Node) (x : AtN
     }
 
     host_fits : (name : HostName) → OnGoes (FitsWell l shape) (call_host s args name)
-    unfolding at_host
     host_fits name = ends_fit (host_of name args s.variadic (at_host s)) (host_writes (at_host s) name args s.variadic)
 
     -- a call of a label or of a host function

@@ -2,13 +2,17 @@ pub mod AddressLemmas
 pub mod ArriveLemmas
 pub mod CallLemmas
 pub mod FallLemmas
+pub mod FrameLemmas
 pub mod FunctionFacts
+pub mod GrowLemmas
 pub mod HostFacts
 pub mod KeepLemmas
 pub mod MeanLemmas
 pub mod NodeFacts
 pub mod OpenFacts
 pub mod Outcomes
+pub mod PartLemmas
 pub mod PushLemmas
+pub mod StackLemmas
 pub mod StartLemmas
 pub mod StayLemmas

@@ -1,6 +1,10 @@
 -- Runs of the portable meaning are those of a machine, go step by step, and keep the fit.
 use Rattle.std.proofs.Common.{◌≡◌, ◌≢◌, ℕ, zero, suc, List, [], refl, sym, ap, ◌∙◌, subst, append-nil, add-one, arith}
+use Rattle.std.specs.List.{All}
+use Rattle.std.proofs.lemmas.List.Elements.{All-get_or}
+use Rattle.std.proofs.lemmas.Option.{slice_get_within, get_or_from_slice_get}
 use Rattle.lg_base.specs.Runs.{Status, Running, Ended, Bad, IsPrefixOf, iter}
+use Rattle.lg_op.specs.Nodes.{InForm}
 use Rattle.lg_node.specs.Nodes.{LabelledNodes}
 use Rattle.lg_node.specs.Shapes.{TextShape, IsShapeOf}
 use Rattle.lg_node.specs.ShapeLaws.{IsWellShaped, HasFunctions}
@@ -8,7 +12,8 @@ use Rattle.lg_meaning.specs.States.{State}
 use Rattle.lg_meaning.specs.Steps.{Outcome, Goes, Ends, Undefined}
 use Rattle.lg_meaning.specs.Texts.{step}
 use Rattle.lg_meaning.specs.Fits.{FitsWell}
-use Rattle.lg_meaning.specs.Means.{Run, behind, going_on, run_step, mean}
+use Rattle.lg_meaning.specs.Starts.{start_state}
+use Rattle.lg_meaning.specs.Means.{Run, behind, going_on, run_step, mean_from, mean}
 use Rattle.lg_meaning.specs.Laws.{IsFormedAt, MeansAreMachines, StepsAreMeans}
 use Rattle.lg_meaning.proofs.KeepLemmas.{steps_fit}
 use Rattle.lg_meaning.proofs.StartLemmas.{start_fits}
@@ -57,19 +62,30 @@ pub steps_are_means : StepsAreMeans
 unfolding iter
 steps_are_means l shape A start s out k e = rw add-one (ap (run_step (step l shape A)) e)
 
--- ---- the fit
-module _ (l : LabelledNodes) (shape : TextShape) (A : List ℕ) (is : IsShapeOf l shape) (w : IsWellShaped l) (has : HasFunctions l) (formed : (i : ℕ) → IsFormedAt l i) where
-  outcome_fits : (r : Run) (o : Outcome) → step l shape A r.state ≡ o → FitsWell l shape r.state → FitsWell l shape (behind r o).state
-  outcome_fits r (Goes t bytes) e well = steps_fit l shape A r.state t bytes is w has (formed r.state.at) well e
-  outcome_fits r (Ends status) e well = well
-  outcome_fits r Undefined e well = well
+-- ---- what each step keeps
+module _ (l : LabelledNodes) (shape : TextShape) (A : List ℕ) (P : State → Type 0) (keeps : (s t : State) (bytes : List ℕ) → P s → step l shape A s ≡ Goes t bytes → P t) where
+  by_outcome : (r : Run) (o : Outcome) → step l shape A r.state ≡ o → P r.state → P (behind r o).state
+  by_outcome r (Goes t bytes) e h = keeps r.state t bytes h e
+  by_outcome r (Ends status) e h = h
+  by_outcome r Undefined e h = h
 
-  run_fits : (r : Run) (status : Status) → r.status ≡ status → FitsWell l shape r.state → FitsWell l shape (run_step (step l shape A) r).state
-  run_fits r Running e well = subst (λ (t : Run). FitsWell l shape t.state) (sym (goes (step l shape A) r e)) (outcome_fits r (step l shape A r.state) refl well)
-  run_fits r (Ended status) e well = subst (λ (t : Run). FitsWell l shape t.state) (sym (stays (step l shape A) r (Ended status) e (λ h. cc))) well
-  run_fits r Bad e well = subst (λ (t : Run). FitsWell l shape t.state) (sym (stays (step l shape A) r Bad e (λ h. cc))) well
+  by_status : (r : Run) (status : Status) → r.status ≡ status → P r.state → P (run_step (step l shape A) r).state
+  by_status r Running e h = subst (λ (t : Run). P t.state) (sym (goes (step l shape A) r e)) (by_outcome r (step l shape A r.state) refl h)
+  by_status r (Ended status) e h = subst (λ (t : Run). P t.state) (sym (stays (step l shape A) r (Ended status) e (λ g. cc))) h
+  by_status r Bad e h = subst (λ (t : Run). P t.state) (sym (stays (step l shape A) r Bad e (λ g. cc))) h
+
+  pub always : (start : State) → P start → (k : ℕ) → P (mean_from l shape A start k).state
+  unfolding iter
+  always start h zero = h
+  always start h (suc k) = by_status (mean_from l shape A start k) (mean_from l shape A start k).status refl (always start h k)
+
+-- ---- the fit
+module _ (l : LabelledNodes) (shape : TextShape) (A : List ℕ) (is : IsShapeOf l shape) (w : IsWellShaped l) (has : HasFunctions l) (formed : All InForm l.nodes) where
+  pub formed_at : (i : ℕ) → IsFormedAt l i
+  formed_at i n e = subst InForm (get_or_from_slice_get l.nodes i n n e) (All-get_or InForm l.nodes i n (slice_get_within l.nodes i n e) formed)
+
+  pub start_fits_well : (image args : List ℕ) → FitsWell l shape (start_state image args)
+  start_fits_well image args = record { fits = start_fits l shape is has image args; heap = record { low = omega arith; high = omega arith } }
 
   pub mean_fits : (image args : List ℕ) (k : ℕ) → FitsWell l shape (mean l shape A image args k).state
-  unfolding iter
-  mean_fits image args zero = record { fits = start_fits l shape is has image args; heap = record { low = omega arith; high = omega arith } }
-  mean_fits image args (suc k) = run_fits (mean l shape A image args k) (mean l shape A image args k).status refl (mean_fits image args k)
+  mean_fits image args k = always l shape A (FitsWell l shape) (λ s t bytes well e. steps_fit l shape A s t bytes is w has (formed_at s.at) well e) (start_state image args) (start_fits_well image args) k

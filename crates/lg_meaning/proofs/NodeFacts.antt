@@ -1,6 +1,6 @@
 -- What is known at a node of an accepted text, in a state that fits.
 use Rattle.std.proofs.Common.{◌≡◌, ◌≢◌, ℕ, zero, suc, ◌+◌, Bool, true, false, not, List, [], ◌∷◌, Option, Some, None, refl, sym, ap, ◌∙◌, length, subst}
-use Rattle.std.specs.Prelude.{◌&&◌, ◌||◌, slice_get, is_none}
+use Rattle.std.specs.Prelude.{◌&&◌, slice_get, is_none}
 use Rattle.std.specs.Option.{option_and_then}
 use Rattle.std.specs.List.{list_any}
 use Rattle.std.proofs.lemmas.Bool.{eq-eqb}
@@ -34,6 +34,7 @@ use Rattle.lg_node.proofs.WalkLemmas.{prepared_on}
 use Rattle.lg_meaning.specs.States.{State}
 use Rattle.lg_meaning.specs.Steps.{function_here}
 use Rattle.lg_meaning.specs.Fits.{RunsIn, IsTopOf, FitsWell}
+use Rattle.lg_meaning.proofs.OpenFacts.{or_right}
 use Rattle.lg_meaning.proofs.FunctionFacts.{IsAt, function_at_home}
 
 -- the node at a state's place, in an accepted text whose shape the state fits
@@ -76,10 +77,6 @@ target_first fs (operand.Host name ∷ ys) e = cc
 target_first fs (operand.Slot k ∷ ys) e = cc
 
 -- ---- labels
-or_right : (x y : Bool) → y ≡ true → (x || y) ≡ true
-or_right true y e = refl
-or_right false y e = e
-
 -- a label is bound at the node that is its place
 any_at : (test : Option Place → Bool) (places : List (Option Place)) (x : ℕ) (o : Option Place) → slice_get places x ≡ Some o → test o ≡ true → list_any test places ≡ true
 any_at test [] x o e t = cc
@@ -116,7 +113,7 @@ pub record Running (l : LabelledNodes) (shape : TextShape) (s : State) (p : ℕ)
   pub size : s.frame.size ≡ frame_of function
   pub locals : s.frame.locals ≡ function.locals
 
-differ : {A : Type 0} → false ≡ true → A
+pub differ : {A : Type 0} → false ≡ true → A
 differ e = cc
 
 module _ (l : LabelledNodes) (shape : TextShape) (s : State) (n : Node) (x : AtNode l shape s n) where

@@ -21,7 +21,7 @@ third_more false false true w u h e = rw (h refl) refl
 third_more false false false true u h e = refl
 third_more false false false false u h e = e
 
-or_right : (x y : Bool) → y ≡ true → (x || y) ≡ true
+pub or_right : (x y : Bool) → y ≡ true → (x || y) ≡ true
 or_right true y e = refl
 or_right false y e = e
 

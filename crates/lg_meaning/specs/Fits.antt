@@ -88,3 +88,20 @@ pub record IsHeapMark (mark : ℕ) : Type 0 where
 pub record FitsWell (l : LabelledNodes) (shape : TextShape) (s : State) : Type 0 where
   pub fits : Fits l shape s
   pub heap : IsHeapMark s.mark
+
+-- the running frame is one of a function that has begun at the state's node
+pub record IsRunning (functions : List Function) (s : State) : Type 0 where
+  pub function : Function
+  pub here : function_here functions s.at ≡ Some function
+  pub behind : function.entry < s.at
+  pub size : s.frame.size ≡ frame_of function
+  pub locals : s.frame.locals ≡ function.locals
+
+-- the running frame is one of a function that begins at the state's node, and there is room for it
+pub record IsBeginning (functions : List Function) (s : State) : Type 0 where
+  pub function : Function
+  pub here : function_here functions s.at ≡ Some function
+  pub entry : function.entry ≡ s.at
+  pub size : s.frame.size ≡ 0
+  pub locals : s.frame.locals ≡ 0
+  pub room : 0x3FF00010 + frame_of function ≤ s.frame.sp

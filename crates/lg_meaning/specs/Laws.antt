@@ -1,17 +1,22 @@
 -- What holds of the portable meaning: laws for the crates that hold its state and follow its runs.
-use Rattle.std.specs.Prelude.{◌≡◌, ℕ, ◌+◌, ◌*◌, List, Some, length, slice_get}
+use Rattle.std.specs.Prelude.{◌≡◌, ℕ, ◌+◌, ◌*◌, ◌≤◌, true, false, List, Some, length, slice_get}
+use Rattle.std.specs.List.{All}
+use Rattle.lg_base.specs.Arguments.{most_args}
 use Rattle.lg_base.specs.Runs.{IsMachine, EndsSilently}
 use Rattle.lg_op.specs.declared.node.Node.{Node}
 use Rattle.lg_op.specs.Nodes.{InForm}
 use Rattle.lg_node.specs.Nodes.{LabelledNodes}
+use Rattle.lg_node.specs.Functions.{home, is_prolog_at}
 use Rattle.lg_node.specs.Shapes.{TextShape, IsShapeOf}
 use Rattle.lg_meaning.specs.States.{State}
 use Rattle.lg_meaning.specs.Steps.{Goes}
 use Rattle.lg_meaning.specs.Texts.{step}
 use Rattle.lg_meaning.specs.Addresses.{AreAddresses, AreWithin, plain_addresses}
-use Rattle.lg_meaning.specs.Fits.{Fits, FitsWell}
+use Rattle.lg_meaning.specs.Fits.{Fits, FitsWell, IsRunning, IsBeginning}
+use Rattle.lg_meaning.specs.Parts.{Grows, HoldsParts}
+use Rattle.lg_meaning.specs.Stacks.{HasSmallParts, OpensLocalsAlone}
 use Rattle.lg_meaning.specs.Starts.{start_state}
-use Rattle.lg_meaning.specs.Means.{running, behind, machine, mean_from, mean}
+use Rattle.lg_meaning.specs.Means.{run_at, behind, machine, mean_from, mean}
 
 -- ---- the fit
 -- the state at the start fits the shape of each accepted text
@@ -27,10 +32,29 @@ abbrev pub StepsKeepFit : Type 0
 StepsKeepFit = (l : LabelledNodes) (shape : TextShape) (addresses : List ℕ) (s t : State) (bytes : List ℕ)
     → IsShapeOf l shape → IsFormedAt l s.at → FitsWell l shape s → step l shape addresses s ≡ Goes t bytes → FitsWell l shape t
 
--- so each state of the portable meaning fits
+-- so each state of the portable meaning of nodes that have the operands of their operations fits
 abbrev pub MeansFit : Type 0
 MeansFit = (l : LabelledNodes) (shape : TextShape) (addresses image args : List ℕ) (k : ℕ)
-    → IsShapeOf l shape → ((i : ℕ) → IsFormedAt l i) → FitsWell l shape (mean l shape addresses image args k).state
+    → IsShapeOf l shape → All InForm l.nodes → FitsWell l shape (mean l shape addresses image args k).state
+
+-- where a state fits at a node of a function, the running frame has that function's size and locals behind the `prolog`, and neither at it
+abbrev pub FramesAreOfFunctions : Type 0
+FramesAreOfFunctions = (l : LabelledNodes) (shape : TextShape) (s : State) (p : ℕ) → IsShapeOf l shape → Fits l shape s → home l.nodes s.at ≡ Some p
+    → (is_prolog_at (slice_get l.nodes s.at) ≡ false → IsRunning shape.functions s) × (is_prolog_at (slice_get l.nodes s.at) ≡ true → IsBeginning shape.functions s)
+
+-- a step takes no byte out of the data, the arguments and the heap, and the heap mark never falls
+abbrev pub StepsGrow : Type 0
+StepsGrow = (l : LabelledNodes) (shape : TextShape) (addresses : List ℕ) (s t : State) (bytes : List ℕ)
+    → IsShapeOf l shape → FitsWell l shape s → step l shape addresses s ≡ Goes t bytes → Grows s t
+
+-- so memory holds the data part and the argument part throughout, and nothing else in their ranges
+abbrev pub MeansHoldParts : Type 0
+MeansHoldParts = (l : LabelledNodes) (shape : TextShape) (addresses image args : List ℕ) (k : ℕ)
+    → IsShapeOf l shape → All InForm l.nodes → length image ≤ 0x1000000 → length args ≤ most_args → HoldsParts image args (mean l shape addresses image args k).state
+
+-- where a state fits, only the locals of the frames are open in the stack
+abbrev pub FitsOpensLocals : Type 0
+FitsOpensLocals = (l : LabelledNodes) (shape : TextShape) (s : State) → FitsWell l shape s → HasSmallParts s → OpensLocalsAlone s
 
 -- ---- runs
 -- a run that is over stays, what was written stays written, and a step that ends a run or is undefined writes nothing
@@ -40,9 +64,9 @@ MeansAreMachines = (l : LabelledNodes) (shape : TextShape) (addresses : List ℕ
 -- where a run that goes on stands after k steps, its next step leads to where it stands after k + 1
 abbrev pub StepsAreMeans : Type 0
 StepsAreMeans = (l : LabelledNodes) (shape : TextShape) (addresses : List ℕ) (start s : State) (out : List ℕ) (k : ℕ)
-    → mean_from l shape addresses start k ≡ running s out → mean_from l shape addresses start (k + 1) ≡ behind (running s out) (step l shape addresses s)
+    → mean_from l shape addresses start k ≡ run_at s out → mean_from l shape addresses start (k + 1) ≡ behind (run_at s out) (step l shape addresses s)
 
 -- ---- addresses
--- the plain addresses are addresses of the labels, over code of 256 bytes for each node
+-- the plain addresses are addresses of the labels, over code of at least 256 bytes for each node
 abbrev pub PlainAddressesAre : Type 0
-PlainAddressesAre = (l : LabelledNodes) → AreWithin l → AreAddresses l (256 * length l.nodes) (plain_addresses l)
+PlainAddressesAre = (l : LabelledNodes) (size : ℕ) → AreWithin l → 256 * length l.nodes ≤ size → AreAddresses l size (plain_addresses l)

@@ -2,6 +2,8 @@ pub mod Addresses
 pub mod Fits
 pub mod Laws
 pub mod Means
+pub mod Parts
+pub mod Stacks
 pub mod Starts
 pub mod States
 pub mod Steps

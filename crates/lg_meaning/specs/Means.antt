@@ -14,13 +14,13 @@ pub record Run : Type 0 where
   pub state : State
   pub out : List ℕ
 
--- one that goes on
-abbrev pub running : State → List ℕ → Run
-running s out = record { status = Running; state = s; out = out }
+-- one that goes on, at a state
+abbrev pub run_at : State → List ℕ → Run
+run_at s out = record { status = Running; state = s; out = out }
 
 -- behind a step with this outcome
 abbrev pub behind : Run → Outcome → Run
-behind r (Goes t bytes) = running t (r.out ++ bytes)
+behind r (Goes t bytes) = run_at t (r.out ++ bytes)
 behind r (Ends status) = record r { status = Ended status }
 behind r Undefined = record r { status = Bad }
 
@@ -39,7 +39,7 @@ machine l shape addresses = record { step = run_step (step l shape addresses); s
 
 -- the run of a text after k steps from a state
 abbrev pub mean_from : LabelledNodes → TextShape → List ℕ → State → ℕ → Run
-mean_from l shape addresses start k = iter (run_step (step l shape addresses)) k (running start [])
+mean_from l shape addresses start k = iter (run_step (step l shape addresses)) k (run_at start [])
 
 -- the portable meaning after k steps, over the bytes of the data part and of the argument part
 abbrev pub mean : LabelledNodes → TextShape → List ℕ → (image args : List ℕ) → ℕ → Run

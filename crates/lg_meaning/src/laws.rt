@@ -1,7 +1,7 @@
 // What holds of the portable meaning, for the crates that hold its state and follow its runs. The functions do nothing: their
 // contracts are the laws.
 
-ghost use Rattle.lg_meaning.specs.Laws.{StartsFit, StepsKeepFit, MeansFit, MeansAreMachines, StepsAreMeans, PlainAddressesAre};
+ghost use Rattle.lg_meaning.specs.Laws.{StartsFit, StepsKeepFit, MeansFit, FramesAreOfFunctions, StepsGrow, MeansHoldParts, FitsOpensLocals, MeansAreMachines, StepsAreMeans, PlainAddressesAre};
 
 use lg_node::laws::{accepted_nodes_are_well_shaped, accepted_nodes_have_functions};
 
@@ -21,13 +21,46 @@ pub fn steps_keep_the_fit()
     accepted_nodes_have_functions();
 }
 
-/// Each state of the portable meaning of an accepted text fits the text's shape.
+/// Each state of the portable meaning of an accepted text, whose nodes have the operands of their operations, fits the text's shape,
+/// and its heap mark stands in the heap.
 pub fn states_of_the_meaning_fit()
     ensures { MeansFit }
 {
     accepted_nodes_are_well_shaped();
     accepted_nodes_have_functions();
 }
+
+/// In a state that fits, the running frame is one of the function of the state's node: it has that function's size and locals behind the
+/// `prolog`, and at the `prolog` room for them.
+pub fn running_frames_are_of_their_functions()
+    ensures { FramesAreOfFunctions }
+{
+    accepted_nodes_are_well_shaped();
+    accepted_nodes_have_functions();
+}
+
+/// A step takes no byte out of the data, the arguments and the heap, their sizes stay, and the heap mark never falls.
+pub fn steps_take_nothing_out()
+    ensures { StepsGrow }
+{
+    accepted_nodes_are_well_shaped();
+}
+
+/// The memory of each state of the portable meaning has bytes at exactly the addresses of the data part and of the argument part, as
+/// far as the ranges of these parts go. The data part has at most 16,777,216 bytes, the argument part at most 1,048,576.
+pub fn parts_are_held()
+    ensures { MeansHoldParts }
+{
+    accepted_nodes_are_well_shaped();
+    accepted_nodes_have_functions();
+}
+
+/// In a state that fits, only the locals of the frames are memory in the stack: no return address, saved register, home, spill slot or
+/// word for an argument can be read or written by a text. Its data part has at most 16,777,216 bytes, its argument part at most
+/// 1,048,576.
+pub fn only_locals_are_open_in_the_stack()
+    ensures { FitsOpensLocals }
+{}
 
 /// Runs of the portable meaning are those of a machine: one that ended or became undefined stays, what is written stays written, and
 /// a step that ends the run or is undefined writes nothing.
@@ -41,7 +74,7 @@ pub fn steps_are_those_of_the_meaning()
 {}
 
 /// 0x10000000 + 256 i for a label at node i and the byte's address for a data label are addresses of the labels of a text, over
-/// code of 256 bytes for each node.
+/// code of at least 256 bytes for each node.
 pub fn plain_addresses_are_addresses()
     ensures { PlainAddressesAre }
 {}

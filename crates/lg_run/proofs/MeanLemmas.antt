@@ -292,18 +292,18 @@ module _ (l : LabelledNodes) (shape : TextShape) (A : List ℕ) (accepted : IsAc
           let after = mean.behind r (texts.step l shape A r.state) in
           together_as (meaning.step forms p) p (mean.run_step (texts.step l shape A) r) r (ap (λ x. meaning.on_running x next p) i) (ap (λ x. mean.going_on x after r) (g.status ∙ i)) g
 
-  start_together : (image args : List ℕ) → Together meaning.start (mean.running (start_state image args) [])
+  start_together : (image args : List ℕ) → Together meaning.start (mean.run_at (start_state image args) [])
   start_together image args = record { status = refl; out = refl; near = λ _. record { at = refl; regs = refl; pushed = refl; alone = refl } }
 
-  together : (forms : List FormNode) (image args : List ℕ) (k : ℕ) → AreForms l.nodes forms → Together (iter (meaning.step forms) k meaning.start) (iter (mean.run_step (texts.step l shape A)) k (mean.running (start_state image args) []))
+  together : (forms : List FormNode) (image args : List ℕ) (k : ℕ) → AreForms l.nodes forms → Together (iter (meaning.step forms) k meaning.start) (iter (mean.run_step (texts.step l shape A)) k (mean.run_at (start_state image args) []))
   unfolding iter
   together forms image args zero are = start_together image args
   together forms image args (suc k) are =
-      step_together forms (iter (meaning.step forms) k meaning.start) (iter (mean.run_step (texts.step l shape A)) k (mean.running (start_state image args) [])) are (together forms image args k are)
+      step_together forms (iter (meaning.step forms) k meaning.start) (iter (mean.run_step (texts.step l shape A)) k (mean.run_at (start_state image args) [])) are (together forms image args k are)
 
   -- what agrees with the meaning of the nodes agrees with that of the unit
   pub agrees_with_unit : {Q : Type 0} (forms : List FormNode) (image args : List ℕ) (processor : Machine Q) (q : Q) (n : ℕ) → AreForms l.nodes forms → AgreesAt (meaning.portable forms) processor (length forms) meaning.start q n
-      → AgreesAt (mean.machine l shape A) processor (length l.nodes) (mean.running (start_state image args) []) q n
+      → AgreesAt (mean.machine l shape A) processor (length l.nodes) (mean.run_at (start_state image args) []) q n
   agrees_with_unit forms image args processor q n are a =
       let g = together forms image args a.0 are in
       let same = length_forms l.nodes forms are in (

@@ -21,7 +21,7 @@ meaning_of unit addresses = mean.machine unit.nodes (shape_of_unit unit) address
 
 -- before the first step, with the data part of the unit and these words as the arguments
 abbrev pub start_of : TextUnit → List (List ℕ) → mean.Run
-start_of unit words = mean.running (start_state unit.image (args_of words)) []
+start_of unit words = mean.run_at (start_state unit.image (args_of words)) []
 
 -- the bytes agree with the meaning for every argument part, every trash word and every number of instructions; the addresses are those of
 -- the labels over these bytes

@@ -191,8 +191,9 @@ fn answer<T: Texts, O: Sink, E: Sink>(
 }
 
 /// Reads the words of the command, `lightning --target riscv64 FILE`, and the text of that name; makes RV64 code of
-/// it, and runs the code on a model of the processor. What the run writes goes to `out`, and the line of every answer
-/// but a run's end to `err`. All memory is taken before the first step.
+/// its unit, and runs the code on a model of the processor. A text that is too long, is no unit, is refused by the
+/// checks of units, or is not of the first form is refused with its kind and line. What the run writes goes to `out`,
+/// and the line of every answer but a run's end to `err`. All memory is taken before the first step.
 pub fn lightning<T: Texts, O: Sink, E: Sink>(
     alloc: Global,
     words: &Vec<String>,

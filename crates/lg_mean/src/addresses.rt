@@ -1,0 +1,40 @@
+// Addresses of labels for a text of which no code is made.
+
+ghost use Rattle.std.specs.Prelude.{◌≡◌, ◌*◌, ◌<◌, ◌^◌, length, IfOk};
+ghost use Rattle.lg_node.specs.Nodes.{MayStand};
+ghost use Rattle.lg_meaning.specs.Addresses.{AreAddresses, plain_address, plain_addresses};
+
+use lg_base::refusal::OutOfMemory;
+use lg_meaning::laws::plain_addresses_are_addresses;
+use lg_node::{Label, LabelAddresses, NodeList, Place};
+use std::alloc::Global;
+
+// The first addresses of the code part and the data part.
+const CODE: u64 = 0x1000_0000;
+
+const DATA: u64 = 0x2000_0000;
+
+// The plain address of a label that is bound at a place.
+fn plain_address(place: Option<Place>) -> u64
+    ensures { result ≡ plain_address place }
+{
+    match place {
+        Some(Place::Node(node)) => CODE + 256 * node as u64,
+        Some(Place::Image(at)) => DATA + at as u64,
+        None => 0,
+    }
+}
+
+/// The plain addresses of a text's labels: 0x10000000 + 256 i for a label that is bound at node i, 0x20000000 + k for one that is bound
+/// at byte k of the data part, and 0 for one that is not bound. They are addresses of the labels over code of 256 bytes for each node.
+pub fn plain_addresses(alloc: Global, nodes: &NodeList) -> Result<LabelAddresses, OutOfMemory>
+    ensures value { IfOk result (λ addresses. addresses ≡ plain_addresses nodes.now) }
+    ensures addresses { IfOk result (λ addresses. AreAddresses nodes.now (256 * length nodes.now.nodes) addresses) }
+{
+    plain_addresses_are_addresses();
+    let mut addresses = Vec::new(alloc);
+    for label in 0..nodes.labels() {
+        addresses.push(plain_address(nodes.place(Label(label))))?;
+    }
+    Ok(LabelAddresses::from_vec(addresses))
+}

@@ -1,0 +1,64 @@
+// The portable state at the start of a run.
+
+ghost use Rattle.std.specs.Prelude.{◌≡◌, ◌≤◌, length, IfOk};
+ghost use Rattle.lg_base.specs.Arguments.{argument_count, most_args};
+ghost use Rattle.lg_meaning.specs.Starts.{start_state, start_frame};
+ghost use Rattle.lg_mean.specs.Machines.{state_of, frame_in};
+
+use crate::frame::KeptFrame;
+use crate::machine::Machine;
+use lg_base::args::argument_count;
+use lg_base::refusal::OutOfMemory;
+use lg_cells::CellMemory;
+use lg_host::heap_mark::HeapMark;
+use lg_operators::carry::Carry;
+use std::alloc::Global;
+
+// The most frames of a run: each but the entry's has at least 272 bytes of the 1,048,560 below the stack's end.
+const MOST_FRAMES: usize = 3855;
+
+// The first address of the argument part.
+const ARGS: u64 = 0x2800_0000;
+
+// The end of the stack.
+const STACK_END: u64 = 0x4000_0000;
+
+// The frame of the entry, whose arguments are the number of strings of the argument part and the address of their pointers.
+fn entry_frame(count: u64) -> KeptFrame
+    ensures { frame_in result ≡ start_frame count }
+{
+    KeptFrame {
+        sp: STACK_END,
+        back: 0,
+        args: [count, ARGS, 0, 0, 0, 0, 0, 0, 0, 0, 0, 0, 0, 0, 0, 0],
+        count: 2,
+        saved: [None; 7],
+        size: 0,
+        locals: 0,
+    }
+}
+
+impl Machine {
+    // The state at the start, with these bytes of the data part and the argument part. It takes room for all frames.
+    pub(crate) fn new(alloc: Global, image: &[u8], args: &[u8]) -> Result<Machine, OutOfMemory>
+        requires image { length image.now ≤ 0x1000000 }
+        requires args { length args.now ≤ most_args }
+        ensures { IfOk result (λ m. state_of m ≡ start_state image.now args.now) }
+    {
+        Ok(Machine {
+            at: 0,
+            registers: [None; 7],
+            carry: Carry::Undefined,
+            answer: None,
+            staged: [0; 16],
+            count: 0,
+            variadic: false,
+            top: entry_frame(argument_count(args)),
+            below: Vec::with_capacity(alloc, MOST_FRAMES)?,
+            memory: CellMemory::new(alloc, image, args)?,
+            heap: HeapMark::new(),
+            data_size: image.len() as u64,
+            args_size: args.len() as u64,
+        })
+    }
+}
