@@ -1,13 +1,10 @@
-//! Tests of the whole: rows of the program, each a text with what its call writes and answers, and values computed
-//! elsewhere.
+//! Tests of the crates below the top call: texts with what they are read as or refused for, and values computed elsewhere.
 #![tactic(auto)]
 
 #[cfg(test)]
 mod arguments;
 #[cfg(test)]
 mod check_rows;
-#[cfg(test)]
-mod first_path;
 #[cfg(test)]
 mod lists;
 #[cfg(test)]
@@ -16,6 +13,5 @@ mod memory;
 mod parse_rows;
 #[cfg(test)]
 mod readings;
-pub mod texts;
 #[cfg(test)]
 mod wide;

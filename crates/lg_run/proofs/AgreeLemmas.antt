@@ -1,38 +1,29 @@
 -- The code of a text of the first form agrees with its meaning.
-use Rattle.std.proofs.Common.{◌≡◌, ◌≢◌, ℕ, zero, suc, ◌+◌, ◌-◌, ◌*◌, ◌%◌, ◌^◌, ◌<◌, ◌≤◌, ◌⊎◌, inl, inr, List, [], ◌∷◌, ◌++◌, length, Option, Some, None, Bool, true, false, refl, sym, ap, ap₂, ◌∙◌, subst, arith, append_assoc, append-nil, length-append, lit<, ℤ, pos, negsuc, ◌≤ℤ◌}
-use Rattle.std.specs.Prelude.{◌==◌, nat_lt, slice_get, if◌then◌else◌}
+use Rattle.std.proofs.Common.{◌≡◌, ◌≢◌, ℕ, ◌+◌, ◌*◌, ◌^◌, ◌<◌, ◌≤◌, ◌⊎◌, inl, inr, List, [], ◌∷◌, ◌++◌, length, Option, Some, None, true, refl, sym, ap, ◌∙◌, subst, arith, lit<}
+use Rattle.std.specs.Prelude.{◌==◌, slice_get, if◌then◌else◌}
 use Rattle.std.proofs.lemmas.Int.{ints}
-use Rattle.std.proofs.lemmas.Bool.{cases_eq, cases_lt, eq-eqb, ne_eqb}
-use Rattle.lg_base.specs.Fields.{word_of}
-use Rattle.lg_base.specs.Words.{add_words}
+use Rattle.std.proofs.lemmas.Bool.{cases_eq, eq-eqb, ne_eqb}
 use Rattle.lg_base.specs.Spaces.{mapped}
 use Rattle.lg_base.specs.Conventions.{portable_register}
 use Rattle.lg_base.specs.declared.target.Target.TheVariants as target
 use Rattle.lg_base.specs.Layout.{code_base, stop_address, stack_end}
-use Rattle.lg_base.specs.Runs.{Status, Running, Ended, Bad, iter}
-use Rattle.lg_rv.specs.declared.instruction.Instr.{Instr}
-use Rattle.lg_temp.specs.Agrees.{AgreesAt}
-use Rattle.lg_temp.specs.Carries.{Standing, Lands, Carries}
-use Rattle.lg_temp.proofs.Induction.{agrees}
+use Rattle.lg_base.specs.Runs.{Running}
 use Rattle.lg_run.specs.Emission.{bytes_of, code_of, node_code, enter_code, return_code}
-use Rattle.lg_run.specs.Forms.{hardware, index_of, host_of}
-use Rattle.lg_run.specs.Moves.{moved, written_by, ending}
-use Rattle.lg_run.specs.Nodes.{Node, Prolog, Movi, Addi, Addr, Prepare, Pushargr, Finishi, Ret, Epilog}
-use Rattle.lg_run.specs.Portable as meaning
+use Rattle.lg_run.specs.FirstForm.{InRange}
+use Rattle.lg_run.specs.Forms.{hardware, index_of}
+use Rattle.lg_run.specs.declared.form.FormNode.{FormNode}
+use Rattle.lg_run.specs.declared.form.FormNode.TheVariants.{Prolog, Movi, Addi, Addr, Prepare, Pushargr, Finishi, Ret, Epilog}
+use Rattle.lg_run.proofs.FormMeaning as meaning
 use Rattle.lg_run.specs.Processor as machine
 use Rattle.lg_run.specs.declared.form.Register.{Register}
 use Rattle.lg_run.specs.declared.form.Register.TheVariants.{R0, R1, R2, V0, V1, V2}
 use Rattle.lg_run.specs.declared.form.Callee.{Callee}
 use Rattle.lg_run.specs.declared.form.Callee.TheVariants.{Putchar, Exit}
 use Rattle.lg_run.proofs.CodeLemmas.{HasCode, AllInstr, has_code, code_of-append}
-use Rattle.lg_run.proofs.MachineLemmas.{portable_is, portable_ends, processor_is}
-use Rattle.lg_run.proofs.NodeLemmas.{Runs, InFrame, GoesOn, EndsRun, Entered, movi_goes, addi_goes, addr_goes, pushargr_goes, prepare_goes, return_ends, putchar_goes, exit_ends, prolog_goes, word_small}
-
-abbrev pub InRange : ℤ → Type 0
-InRange n = (negsuc 2047 ≤ℤ n) × (n ≤ℤ pos 2047)
+use Rattle.lg_run.proofs.NodeLemmas.{InFrame}
 
 -- nodes behind the `prolog`, with so many arguments pushed before them
-abbrev pub Fits : ℕ → List Node → Type 0
+abbrev pub Fits : ℕ → List FormNode → Type 0
 Fits k [] = Unit {0}
 Fits k (Prolog ∷ nodes) = ⊥
 Fits k (Movi to n ∷ nodes) = InRange n × Fits k nodes
@@ -125,18 +116,18 @@ pub holds_none : (R : ℕ → ℕ) → Holds meaning.undefined R
 holds_none R = record { word = λ r v e. absurd (none_some e) }
 
 -- ---- nodes
-pub slice_get-seam : (xs ys : List Node) (y : Node) → slice_get (xs ++ y ∷ ys) (length xs) ≡ Some y
+pub slice_get-seam : (xs ys : List FormNode) (y : FormNode) → slice_get (xs ++ y ∷ ys) (length xs) ≡ Some y
 slice_get-seam [] ys y = refl
 slice_get-seam (x ∷ xs) ys y = slice_get-seam xs ys y
 
-pub slice_get-end : (xs : List Node) → slice_get (xs ++ []) (length xs) ≡ None
+pub slice_get-end : (xs : List FormNode) → slice_get (xs ++ []) (length xs) ≡ None
 slice_get-end [] = refl
 slice_get-end (x ∷ xs) = slice_get-end xs
 
 -- the states behind the `prolog`
-pub record Inside (nodes : List Node) (p : meaning.Portable) (q : machine.Processor) (rank : ℕ) : Type 0 where
-  pub done : List Node
-  pub rest : List Node
+pub record Inside (nodes : List FormNode) (p : meaning.Portable) (q : machine.Processor) (rank : ℕ) : Type 0 where
+  pub done : List FormNode
+  pub rest : List FormNode
   pub registers : ℕ → Option ℕ
   pub pushed : List ℕ
   pub R : ℕ → ℕ
@@ -152,7 +143,7 @@ pub record Inside (nodes : List Node) (p : meaning.Portable) (q : machine.Proces
   pub argument : (c : ℕ) → pushed ≡ c ∷ [] → R 10 ≡ c
 
 -- the states before the first step
-pub record AtStart (nodes : List Node) (p : meaning.Portable) (q : machine.Processor) (rank : ℕ) : Type 0 where
+pub record AtStart (nodes : List FormNode) (p : meaning.Portable) (q : machine.Processor) (rank : ℕ) : Type 0 where
   pub R : ℕ → ℕ
   pub B : ℕ → Option ℕ
   pub portable : p ≡ meaning.start
@@ -162,7 +153,7 @@ pub record AtStart (nodes : List Node) (p : meaning.Portable) (q : machine.Proce
   pub sp : R 2 ≡ stack_end
   pub room : mapped B 0x3FFFFFF8 8 ≡ true
 
-abbrev pub Stands : List Node → meaning.Portable → machine.Processor → ℕ → Type 0
+abbrev pub Stands : List FormNode → meaning.Portable → machine.Processor → ℕ → Type 0
 Stands nodes p q rank = AtStart nodes p q rank ⊎ Inside nodes p q rank
 
 -- ---- the code of each node is spelled
@@ -184,7 +175,7 @@ call_instr : (callee : Callee) → AllInstr (node_code (Finishi callee))
 call_instr Putchar = ((lit< tt, lit< tt), ((lit< tt, lit< tt, omega (arith, ints), omega (arith, ints)), tt))
 call_instr Exit = ((lit< tt, lit< tt), ((lit< tt, lit< tt, omega (arith, ints), omega (arith, ints)), tt))
 
-pub node_instr : (k : ℕ) (node : Node) (nodes : List Node) → Fits k (node ∷ nodes) → AllInstr (node_code node)
+pub node_instr : (k : ℕ) (node : FormNode) (nodes : List FormNode) → Fits k (node ∷ nodes) → AllInstr (node_code node)
 node_instr k Prolog nodes f = absurd f
 node_instr k (Movi to n) nodes f = ((hw_small to, lit< tt, f.0.0, f.0.1), tt)
 node_instr k (Addi to from n) nodes f = ((hw_small to, hw_small from, f.0.0, f.0.1), tt)
@@ -196,10 +187,10 @@ node_instr k Ret nodes f = return_instr
 node_instr k Epilog nodes f = return_instr
 
 -- the code of the node that comes next
-pub next_code : (bytes : List ℕ) (done rest : List Node) (node : Node) (k : ℕ) → bytes ≡ bytes_of (code_of (done ++ node ∷ rest)) → length bytes ≤ 0x100000 → Fits k (node ∷ rest)
+pub next_code : (bytes : List ℕ) (done rest : List FormNode) (node : FormNode) (k : ℕ) → bytes ≡ bytes_of (code_of (done ++ node ∷ rest)) → length bytes ≤ 0x100000 → Fits k (node ∷ rest)
     → HasCode bytes (code_base + 4 * length (code_of done)) (node_code node)
 next_code bytes done rest node k is few fits =
     has_code (code_of done) (node_code node) (code_of rest) bytes (code_base + 4 * length (code_of done)) (node_instr k node rest fits) (is ∙ ap bytes_of (code_of-append done (node ∷ rest))) few refl
 
-pub enter_has : (bytes : List ℕ) (body : List Node) → bytes ≡ bytes_of (code_of (Prolog ∷ body)) → length bytes ≤ 0x100000 → HasCode bytes code_base enter_code
+pub enter_has : (bytes : List ℕ) (body : List FormNode) → bytes ≡ bytes_of (code_of (Prolog ∷ body)) → length bytes ≤ 0x100000 → HasCode bytes code_base enter_code
 enter_has bytes body is few = has_code [] enter_code (code_of body) bytes code_base enter_instr is few refl

@@ -1,44 +1,45 @@
 -- The code of each node carries its portable step, so the runs agree.
-use Rattle.std.proofs.Common.{◌≡◌, ◌≢◌, ℕ, zero, suc, ◌+◌, ◌-◌, ◌*◌, ◌%◌, ◌^◌, ◌<◌, ◌≤◌, ◌⊎◌, inl, inr, List, [], ◌∷◌, ◌++◌, length, Option, Some, None, refl, sym, ap, ap₂, ◌∙◌, subst, arith, append_assoc, append-nil, length-append, ℤ}
+use Rattle.std.proofs.Common.{◌≡◌, ℕ, suc, ◌+◌, ◌*◌, ◌%◌, ◌^◌, ◌<◌, ◌≤◌, inl, inr, List, [], ◌∷◌, ◌++◌, length, Option, Some, None, refl, sym, ap, ap₂, ◌∙◌, subst, arith, append_assoc, append-nil, length-append, ℤ}
 use Rattle.std.specs.Prelude.{slice_get}
 use Rattle.lg_base.specs.Fields.{word_of}
 use Rattle.lg_base.specs.Words.{add_words}
 use Rattle.lg_base.specs.Layout.{code_base}
-use Rattle.lg_base.specs.Runs.{Status, Running, Ended, Bad, iter}
+use Rattle.lg_base.specs.Runs.{Running, Ended}
 use Rattle.lg_temp.specs.Carries.{Standing, Lands, Carries}
 use Rattle.lg_run.specs.Emission.{bytes_of, code_of, node_code}
 use Rattle.lg_run.specs.Forms.{hardware, index_of}
 use Rattle.lg_run.specs.Moves.{moved, written_by, ending}
-use Rattle.lg_run.specs.Nodes.{Node, Prolog, Movi, Addi, Addr, Prepare, Pushargr, Finishi, Ret, Epilog}
-use Rattle.lg_run.specs.Portable as meaning
+use Rattle.lg_run.specs.declared.form.FormNode.{FormNode}
+use Rattle.lg_run.specs.declared.form.FormNode.TheVariants.{Prolog, Movi, Addi, Addr, Prepare, Pushargr, Finishi, Ret, Epilog}
+use Rattle.lg_run.proofs.FormMeaning as meaning
 use Rattle.lg_run.specs.Processor as machine
 use Rattle.lg_run.specs.declared.form.Register.{Register}
 use Rattle.lg_run.specs.declared.form.Callee.{Callee}
 use Rattle.lg_run.specs.declared.form.Callee.TheVariants.{Putchar, Exit}
 use Rattle.lg_run.proofs.CodeLemmas.{code_of-append}
-use Rattle.lg_run.proofs.NodeLemmas.{Runs, InFrame, GoesOn, EndsRun, Entered, movi_goes, addi_goes, addr_goes, pushargr_goes, prepare_goes, return_ends, putchar_goes, exit_ends, prolog_goes, word_small}
-use Rattle.lg_run.proofs.AgreeLemmas.{InRange, Fits, Holds, holds_put, holds_argument, holds_call, holds_none, ten_stays, some_same, slice_get-seam, slice_get-end, Inside, AtStart, Stands, next_code, enter_has}
+use Rattle.lg_run.proofs.NodeLemmas.{InFrame, GoesOn, EndsRun, Entered, movi_goes, addi_goes, addr_goes, pushargr_goes, prepare_goes, return_ends, putchar_goes, exit_ends, prolog_goes, word_small}
+use Rattle.lg_run.proofs.AgreeLemmas.{Fits, Holds, holds_put, holds_argument, holds_call, holds_none, ten_stays, some_same, slice_get-seam, slice_get-end, Inside, AtStart, Stands, next_code, enter_has}
 
 -- a state before a node of the list
-abbrev here : List Node → (ℕ → Option ℕ) → List ℕ → meaning.Place
+abbrev here : List FormNode → (ℕ → Option ℕ) → List ℕ → meaning.Place
 here done registers pushed = record { node = length done; registers = registers; pushed = pushed }
 
-abbrev at : List Node → (ℕ → Option ℕ) → List ℕ → List ℕ → meaning.Portable
+abbrev at : List FormNode → (ℕ → Option ℕ) → List ℕ → List ℕ → meaning.Portable
 at done registers pushed o = record { place = here done registers pushed; status = Running; out = o }
 
-abbrev pub place_of : List Node → ℕ
+abbrev pub place_of : List FormNode → ℕ
 place_of done = code_base + 4 * length (code_of done)
 
-pub place_next : (done : List Node) (node : Node) → place_of done + 4 * length (node_code node) ≡ place_of (done ++ node ∷ [])
+pub place_next : (done : List FormNode) (node : FormNode) → place_of done + 4 * length (node_code node) ≡ place_of (done ++ node ∷ [])
 place_next done node = omega (arith, ap length (code_of-append done (node ∷ [])), length-append (code_of done) (node_code node ++ []), ap length (append-nil (node_code node)))
 
-step_at : (nodes done rest : List Node) (node : Node) (registers : ℕ → Option ℕ) (pushed o : List ℕ) → nodes ≡ done ++ node ∷ rest
+step_at : (nodes done rest : List FormNode) (node : FormNode) (registers : ℕ → Option ℕ) (pushed o : List ℕ) → nodes ≡ done ++ node ∷ rest
     → meaning.step nodes (at done registers pushed o) ≡ meaning.after (at done registers pushed o) (meaning.effect node (here done registers pushed))
 step_at nodes done rest node registers pushed o split =
     ap (λ e. meaning.after (at done registers pushed o) (meaning.effect_at e (here done registers pushed))) (ap (λ ns. slice_get ns (length done)) split ∙ slice_get-seam done rest node)
 
 -- ---- a node behind which the run goes on, and one with which it ends
-record Next (nodes done rest : List Node) (node : Node) (bytes : List ℕ) (trash : ℕ) (registers registers' : ℕ → Option ℕ) (pushed pushed' written o : List ℕ) (R : ℕ → ℕ) (B : ℕ → Option ℕ) : Type 0 where
+record Next (nodes done rest : List FormNode) (node : FormNode) (bytes : List ℕ) (trash : ℕ) (registers registers' : ℕ → Option ℕ) (pushed pushed' written o : List ℕ) (R : ℕ → ℕ) (B : ℕ → Option ℕ) : Type 0 where
   split : nodes ≡ done ++ node ∷ rest
   step : meaning.step nodes (at done registers pushed o) ≡ record { place = record { node = length done + 1; registers = registers'; pushed = pushed' }; status = Running; out = o ++ written }
   code : GoesOn bytes trash node (place_of done) R B o
@@ -47,7 +48,7 @@ record Next (nodes done rest : List Node) (node : Node) (bytes : List ℕ) (tras
   fits : Fits (length pushed') rest
   argument : (c : ℕ) → pushed' ≡ c ∷ [] → moved node trash (place_of done) R 10 ≡ c
 
-goes_lands : (nodes done rest : List Node) (node : Node) (bytes : List ℕ) (trash : ℕ) (registers registers' : ℕ → Option ℕ) (pushed pushed' written o : List ℕ) (R : ℕ → ℕ) (B : ℕ → Option ℕ)
+goes_lands : (nodes done rest : List FormNode) (node : FormNode) (bytes : List ℕ) (trash : ℕ) (registers registers' : ℕ → Option ℕ) (pushed pushed' written o : List ℕ) (R : ℕ → ℕ) (B : ℕ → Option ℕ)
     → Next nodes done rest node bytes trash registers registers' pushed pushed' written o R B
     → Lands (meaning.portable nodes) (machine.processor bytes trash) (Stands nodes) (at done registers pushed o) (machine.going (place_of done) R B o) (suc (length rest))
 goes_lands nodes done rest node bytes trash registers registers' pushed pushed' written o R B n =
@@ -79,7 +80,7 @@ goes_lands nodes done rest node bytes trash registers registers' pushed pushed' 
       );
     }
 
-ends_lands : (nodes done : List Node) (node : Node) (bytes : List ℕ) (trash rank s : ℕ) (registers : ℕ → Option ℕ) (pushed o : List ℕ) (R : ℕ → ℕ) (B : ℕ → Option ℕ)
+ends_lands : (nodes done : List FormNode) (node : FormNode) (bytes : List ℕ) (trash rank s : ℕ) (registers : ℕ → Option ℕ) (pushed o : List ℕ) (R : ℕ → ℕ) (B : ℕ → Option ℕ)
     → meaning.step nodes (at done registers pushed o) ≡ record { place = here done registers pushed; status = Ended s; out = o ++ [] }
     → EndsRun bytes trash node (place_of done) R B o → ending node R ≡ Some s
     → Lands (meaning.portable nodes) (machine.processor bytes trash) (Stands nodes) (at done registers pushed o) (machine.going (place_of done) R B o) rank
@@ -103,7 +104,7 @@ head_same : {v c : ℕ} → v ∷ [] ≡ c ∷ [] → v ≡ c
 head_same e = cc
 
 -- what stands before a node, and that its code stands there
-record Before (nodes done rest : List Node) (node : Node) (bytes : List ℕ) (registers : ℕ → Option ℕ) (pushed : List ℕ) (R : ℕ → ℕ) (B : ℕ → Option ℕ) : Type 0 where
+record Before (nodes done rest : List FormNode) (node : FormNode) (bytes : List ℕ) (registers : ℕ → Option ℕ) (pushed : List ℕ) (R : ℕ → ℕ) (B : ℕ → Option ℕ) : Type 0 where
   split : nodes ≡ done ++ node ∷ rest
   is : bytes ≡ bytes_of (code_of nodes)
   few : length bytes ≤ 0x100000
@@ -112,11 +113,11 @@ record Before (nodes done rest : List Node) (node : Node) (bytes : List ℕ) (re
   fits : Fits (length pushed) (node ∷ rest)
   argument : (c : ℕ) → pushed ≡ c ∷ [] → R 10 ≡ c
 
-abbrev CarriesAt : List Node → List Node → List Node → List ℕ → ℕ → (ℕ → Option ℕ) → List ℕ → List ℕ → (ℕ → ℕ) → (ℕ → Option ℕ) → Type 0
+abbrev CarriesAt : List FormNode → List FormNode → List FormNode → List ℕ → ℕ → (ℕ → Option ℕ) → List ℕ → List ℕ → (ℕ → ℕ) → (ℕ → Option ℕ) → Type 0
 CarriesAt nodes done rest bytes trash registers pushed o R B =
     Carries (meaning.portable nodes) (machine.processor bytes trash) (Stands nodes) (at done registers pushed o) (machine.going (place_of done) R B o) (suc (length rest))
 
-carry_movi : (nodes done rest : List Node) (to : Register) (n : ℤ) (bytes : List ℕ) (trash : ℕ) (registers : ℕ → Option ℕ) (pushed o : List ℕ) (R : ℕ → ℕ) (B : ℕ → Option ℕ)
+carry_movi : (nodes done rest : List FormNode) (to : Register) (n : ℤ) (bytes : List ℕ) (trash : ℕ) (registers : ℕ → Option ℕ) (pushed o : List ℕ) (R : ℕ → ℕ) (B : ℕ → Option ℕ)
     → Before nodes done rest (Movi to n) bytes registers pushed R B → CarriesAt nodes done rest bytes trash registers pushed o R B
 carry_movi nodes done rest to n bytes trash registers pushed o R B b =
     let code = next_code bytes done rest (Movi to n) (length pushed) (b.is ∙ ap (λ ns. bytes_of (code_of ns)) b.split) b.few b.fits in
@@ -130,7 +131,7 @@ carry_movi nodes done rest to n bytes trash registers pushed o R B b =
       argument = λ c e. ten_stays to (word_of n) R ∙ b.argument c e;
     })
 
-carry_addi : (nodes done rest : List Node) (to from : Register) (n : ℤ) (bytes : List ℕ) (trash : ℕ) (registers : ℕ → Option ℕ) (pushed o : List ℕ) (R : ℕ → ℕ) (B : ℕ → Option ℕ)
+carry_addi : (nodes done rest : List FormNode) (to from : Register) (n : ℤ) (bytes : List ℕ) (trash : ℕ) (registers : ℕ → Option ℕ) (pushed o : List ℕ) (R : ℕ → ℕ) (B : ℕ → Option ℕ)
     → Before nodes done rest (Addi to from n) bytes registers pushed R B → (v : Option ℕ) → registers (index_of from) ≡ v → CarriesAt nodes done rest bytes trash registers pushed o R B
 carry_addi nodes done rest to from n bytes trash registers pushed o R B b None e =
     inl (ap (λ p. p.status) (step_at nodes done rest (Addi to from n) registers pushed o b.split)
@@ -149,7 +150,7 @@ carry_addi nodes done rest to from n bytes trash registers pushed o R B b (Some 
       argument = λ c h. ten_stays to (add_words (R (hardware from)) (word_of n)) R ∙ b.argument c h;
     })
 
-carry_addr : (nodes done rest : List Node) (to left right : Register) (bytes : List ℕ) (trash : ℕ) (registers : ℕ → Option ℕ) (pushed o : List ℕ) (R : ℕ → ℕ) (B : ℕ → Option ℕ)
+carry_addr : (nodes done rest : List FormNode) (to left right : Register) (bytes : List ℕ) (trash : ℕ) (registers : ℕ → Option ℕ) (pushed o : List ℕ) (R : ℕ → ℕ) (B : ℕ → Option ℕ)
     → Before nodes done rest (Addr to left right) bytes registers pushed R B → (v w : Option ℕ) → registers (index_of left) ≡ v → registers (index_of right) ≡ w → CarriesAt nodes done rest bytes trash registers pushed o R B
 carry_addr nodes done rest to left right bytes trash registers pushed o R B b None w e f =
     inl (ap (λ p. p.status) (step_at nodes done rest (Addr to left right) registers pushed o b.split)
@@ -171,7 +172,7 @@ carry_addr nodes done rest to left right bytes trash registers pushed o R B b (S
       argument = λ c h. ten_stays to (add_words (R (hardware left)) (R (hardware right))) R ∙ b.argument c h;
     })
 
-carry_prepare : (nodes done rest : List Node) (bytes : List ℕ) (trash : ℕ) (registers : ℕ → Option ℕ) (pushed o : List ℕ) (R : ℕ → ℕ) (B : ℕ → Option ℕ)
+carry_prepare : (nodes done rest : List FormNode) (bytes : List ℕ) (trash : ℕ) (registers : ℕ → Option ℕ) (pushed o : List ℕ) (R : ℕ → ℕ) (B : ℕ → Option ℕ)
     → Before nodes done rest Prepare bytes registers pushed R B → CarriesAt nodes done rest bytes trash registers pushed o R B
 carry_prepare nodes done rest bytes trash registers pushed o R B b =
     inr (goes_lands nodes done rest Prepare bytes trash registers registers pushed [] [] o R B record {
@@ -184,7 +185,7 @@ carry_prepare nodes done rest bytes trash registers pushed o R B b =
       argument = λ c e. absurd (no_cons e);
     })
 
-carry_pushargr : (nodes done rest : List Node) (argument : Register) (bytes : List ℕ) (trash : ℕ) (registers : ℕ → Option ℕ) (pushed o : List ℕ) (R : ℕ → ℕ) (B : ℕ → Option ℕ)
+carry_pushargr : (nodes done rest : List FormNode) (argument : Register) (bytes : List ℕ) (trash : ℕ) (registers : ℕ → Option ℕ) (pushed o : List ℕ) (R : ℕ → ℕ) (B : ℕ → Option ℕ)
     → Before nodes done rest (Pushargr argument) bytes registers pushed R B → (v : Option ℕ) → registers (index_of argument) ≡ v → CarriesAt nodes done rest bytes trash registers pushed o R B
 carry_pushargr nodes done rest argument bytes trash registers (x ∷ pushed) o R B b v e = absurd (omega (arith, b.fits.0))
 carry_pushargr nodes done rest argument bytes trash registers [] o R B b None e =
@@ -206,7 +207,7 @@ carry_pushargr nodes done rest argument bytes trash registers [] o R B b (Some v
       argument = λ c h. ap (λ x. add_words x 0) word.0 ∙ same ∙ head_same h;
     })
 
-carry_finishi : (nodes done rest : List Node) (callee : Callee) (bytes : List ℕ) (trash : ℕ) (registers : ℕ → Option ℕ) (pushed o : List ℕ) (R : ℕ → ℕ) (B : ℕ → Option ℕ)
+carry_finishi : (nodes done rest : List FormNode) (callee : Callee) (bytes : List ℕ) (trash : ℕ) (registers : ℕ → Option ℕ) (pushed o : List ℕ) (R : ℕ → ℕ) (B : ℕ → Option ℕ)
     → Before nodes done rest (Finishi callee) bytes registers pushed R B → CarriesAt nodes done rest bytes trash registers pushed o R B
 carry_finishi nodes done rest callee bytes trash registers [] o R B b = absurd (omega (arith, b.fits.0))
 carry_finishi nodes done rest callee bytes trash registers (c ∷ d ∷ pushed) o R B b = absurd (omega (arith, b.fits.0))
@@ -228,21 +229,21 @@ carry_finishi nodes done rest Exit bytes trash registers (c ∷ []) o R B b =
     (exit_ends bytes trash (place_of done) R B o code b.frame)
     (ap (λ x. Some (x % 256)) (b.argument c refl)))
 
-carry_ret : (nodes done rest : List Node) (bytes : List ℕ) (trash : ℕ) (registers : ℕ → Option ℕ) (pushed o : List ℕ) (R : ℕ → ℕ) (B : ℕ → Option ℕ)
+carry_ret : (nodes done rest : List FormNode) (bytes : List ℕ) (trash : ℕ) (registers : ℕ → Option ℕ) (pushed o : List ℕ) (R : ℕ → ℕ) (B : ℕ → Option ℕ)
     → Before nodes done rest Ret bytes registers pushed R B → CarriesAt nodes done rest bytes trash registers pushed o R B
 carry_ret nodes done rest bytes trash registers pushed o R B b =
     let code = next_code bytes done rest Ret (length pushed) (b.is ∙ ap (λ ns. bytes_of (code_of ns)) b.split) b.few b.fits in
     inr (ends_lands nodes done Ret bytes trash (suc (length rest)) 0 registers pushed o R B
     (step_at nodes done rest Ret registers pushed o b.split) (return_ends bytes trash (place_of done) R B o Ret refl code b.frame) refl)
 
-carry_epilog : (nodes done rest : List Node) (bytes : List ℕ) (trash : ℕ) (registers : ℕ → Option ℕ) (pushed o : List ℕ) (R : ℕ → ℕ) (B : ℕ → Option ℕ)
+carry_epilog : (nodes done rest : List FormNode) (bytes : List ℕ) (trash : ℕ) (registers : ℕ → Option ℕ) (pushed o : List ℕ) (R : ℕ → ℕ) (B : ℕ → Option ℕ)
     → Before nodes done rest Epilog bytes registers pushed R B → CarriesAt nodes done rest bytes trash registers pushed o R B
 carry_epilog nodes done rest bytes trash registers pushed o R B b =
     let code = next_code bytes done rest Epilog (length pushed) (b.is ∙ ap (λ ns. bytes_of (code_of ns)) b.split) b.few b.fits in
     inr (ends_lands nodes done Epilog bytes trash (suc (length rest)) 0 registers pushed o R B
     (step_at nodes done rest Epilog registers pushed o b.split) (return_ends bytes trash (place_of done) R B o Epilog refl code b.frame) refl)
 
-carry_node : (nodes done rest : List Node) (node : Node) (bytes : List ℕ) (trash : ℕ) (registers : ℕ → Option ℕ) (pushed o : List ℕ) (R : ℕ → ℕ) (B : ℕ → Option ℕ)
+carry_node : (nodes done rest : List FormNode) (node : FormNode) (bytes : List ℕ) (trash : ℕ) (registers : ℕ → Option ℕ) (pushed o : List ℕ) (R : ℕ → ℕ) (B : ℕ → Option ℕ)
     → Before nodes done rest node bytes registers pushed R B → CarriesAt nodes done rest bytes trash registers pushed o R B
 carry_node nodes done rest Prolog bytes trash registers pushed o R B b = absurd b.fits
 carry_node nodes done rest (Movi to n) bytes trash registers pushed o R B b = carry_movi nodes done rest to n bytes trash registers pushed o R B b
@@ -255,7 +256,7 @@ carry_node nodes done rest Ret bytes trash registers pushed o R B b = carry_ret 
 carry_node nodes done rest Epilog bytes trash registers pushed o R B b = carry_epilog nodes done rest bytes trash registers pushed o R B b
 
 -- ---- whole states
-carry_at : (nodes done rest : List Node) (bytes : List ℕ) (trash : ℕ) (registers : ℕ → Option ℕ) (pushed o : List ℕ) (R : ℕ → ℕ) (B : ℕ → Option ℕ) → nodes ≡ done ++ rest → bytes ≡ bytes_of (code_of nodes) → length bytes ≤ 0x100000
+carry_at : (nodes done rest : List FormNode) (bytes : List ℕ) (trash : ℕ) (registers : ℕ → Option ℕ) (pushed o : List ℕ) (R : ℕ → ℕ) (B : ℕ → Option ℕ) → nodes ≡ done ++ rest → bytes ≡ bytes_of (code_of nodes) → length bytes ≤ 0x100000
     → Holds registers R → InFrame R B → Fits (length pushed) rest → ((c : ℕ) → pushed ≡ c ∷ [] → R 10 ≡ c)
     → Carries (meaning.portable nodes) (machine.processor bytes trash) (Stands nodes) (at done registers pushed o) (machine.going (place_of done) R B o) (length rest)
 carry_at nodes done [] bytes trash registers pushed o R B split is few holds frame fits argument =
@@ -263,7 +264,7 @@ carry_at nodes done [] bytes trash registers pushed o R B split is few holds fra
 carry_at nodes done (node ∷ rest) bytes trash registers pushed o R B split is few holds frame fits argument =
     carry_node nodes done rest node bytes trash registers pushed o R B record { split = split; is = is; few = few; holds = holds; frame = frame; fits = fits; argument = argument }
 
-carry_inside : (nodes : List Node) (bytes : List ℕ) (trash : ℕ) (p : meaning.Portable) (q : machine.Processor) (rank : ℕ) → bytes ≡ bytes_of (code_of nodes) → length bytes ≤ 0x100000 → Inside nodes p q rank
+carry_inside : (nodes : List FormNode) (bytes : List ℕ) (trash : ℕ) (p : meaning.Portable) (q : machine.Processor) (rank : ℕ) → bytes ≡ bytes_of (code_of nodes) → length bytes ≤ 0x100000 → Inside nodes p q rank
     → Carries (meaning.portable nodes) (machine.processor bytes trash) (Stands nodes) p q rank
 carry_inside nodes bytes trash p q rank is few st =
     subst (λ x. Carries (meaning.portable nodes) (machine.processor bytes trash) (Stands nodes) x q rank) (sym st.portable)
@@ -271,7 +272,7 @@ carry_inside nodes bytes trash p q rank is few st =
     (subst (λ x. Carries (meaning.portable nodes) (machine.processor bytes trash) (Stands nodes) (at st.done st.registers st.pushed st.o) (machine.going (place_of st.done) st.R st.B st.o) x) (sym st.ranked)
     (carry_at nodes st.done st.rest bytes trash st.registers st.pushed st.o st.R st.B st.split is few st.holds st.frame st.fits st.argument)))
 
-start_lands : (body : List Node) (bytes : List ℕ) (trash rank : ℕ) (R : ℕ → ℕ) (B : ℕ → Option ℕ) → Fits 0 body → Entered bytes trash code_base R B []
+start_lands : (body : List FormNode) (bytes : List ℕ) (trash rank : ℕ) (R : ℕ → ℕ) (B : ℕ → Option ℕ) → Fits 0 body → Entered bytes trash code_base R B []
     → Lands (meaning.portable (Prolog ∷ body)) (machine.processor bytes trash) (Stands (Prolog ∷ body)) meaning.start (machine.going code_base R B []) rank
 start_lands body bytes trash rank R B fits e = record {
   steps = 2;
@@ -300,7 +301,7 @@ start_lands body bytes trash rank R B fits e = record {
   );
 }
 
-carry_start : (body : List Node) (bytes : List ℕ) (trash : ℕ) (p : meaning.Portable) (q : machine.Processor) (rank : ℕ) → Fits 0 body → bytes ≡ bytes_of (code_of (Prolog ∷ body)) → length bytes ≤ 0x100000 → AtStart (Prolog ∷ body) p q rank
+carry_start : (body : List FormNode) (bytes : List ℕ) (trash : ℕ) (p : meaning.Portable) (q : machine.Processor) (rank : ℕ) → Fits 0 body → bytes ≡ bytes_of (code_of (Prolog ∷ body)) → length bytes ≤ 0x100000 → AtStart (Prolog ∷ body) p q rank
     → Carries (meaning.portable (Prolog ∷ body)) (machine.processor bytes trash) (Stands (Prolog ∷ body)) p q rank
 carry_start body bytes trash p q rank fits is few st =
     subst (λ x. Carries (meaning.portable (Prolog ∷ body)) (machine.processor bytes trash) (Stands (Prolog ∷ body)) x q rank) (sym st.portable)
@@ -308,14 +309,14 @@ carry_start body bytes trash p q rank fits is few st =
     (inr (start_lands body bytes trash rank st.R st.B fits (prolog_goes bytes trash code_base st.R st.B [] (enter_has bytes body is few) st.link st.sp st.room))))
 
 -- each portable step from a state that stands is carried
-pub carries : (body : List Node) (bytes : List ℕ) (trash : ℕ) → Fits 0 body → bytes ≡ bytes_of (code_of (Prolog ∷ body)) → length bytes ≤ 0x100000
+pub carries : (body : List FormNode) (bytes : List ℕ) (trash : ℕ) → Fits 0 body → bytes ≡ bytes_of (code_of (Prolog ∷ body)) → length bytes ≤ 0x100000
     → (p : meaning.Portable) (q : machine.Processor) (rank : ℕ) → Stands (Prolog ∷ body) p q rank
     → Carries (meaning.portable (Prolog ∷ body)) (machine.processor bytes trash) (Stands (Prolog ∷ body)) p q rank
 carries body bytes trash fits is few p q rank (inl st) = carry_start body bytes trash p q rank fits is few st
 carries body bytes trash fits is few p q rank (inr st) = carry_inside (Prolog ∷ body) bytes trash p q rank is few st
 
 -- two states that stand both run
-pub standing : (nodes : List Node) (bytes : List ℕ) (trash : ℕ) (p : meaning.Portable) (q : machine.Processor) (rank : ℕ) → Stands nodes p q rank
+pub standing : (nodes : List FormNode) (bytes : List ℕ) (trash : ℕ) (p : meaning.Portable) (q : machine.Processor) (rank : ℕ) → Stands nodes p q rank
     → Standing (meaning.portable nodes) (machine.processor bytes trash) (length nodes) p q rank
 standing nodes bytes trash p q rank (inl st) =
     let same = st.ranked in

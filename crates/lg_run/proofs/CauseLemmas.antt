@@ -1,23 +1,23 @@
 -- The causes of answers, and completeness, from what a call says.
-use Rattle.std.proofs.Common.{◌≡◌, ◌≢◌, ℕ, ◌+◌, ◌*◌, ◌<◌, ◌≤◌, ◌⊎◌, inl, inr, List, [], ◌∷◌, length, Option, Some, None, IfSome, IsSome, refl, sym, ap, ◌∙◌, subst, arith}
+use Rattle.std.proofs.Common.{◌≡◌, ◌≢◌, ℕ, ◌⊎◌, inl, inr, List, Option, Some, None, IfSome, refl, sym, ap, ◌∙◌, subst}
 use Rattle.lg_base.specs.declared.fault.FaultKind.{FaultKind}
 use Rattle.lg_base.specs.declared.refusal.Refusal.{Refusal}
 use Rattle.lg_io.specs.Counts.{Rose}
 use Rattle.lg_io.specs.NamedTexts.{NamedTexts}
-use Rattle.lg_run.specs.Causes.{IsRefused, CutShort}
-use Rattle.lg_run.specs.Reading.{unit_of}
-use Rattle.lg_run.specs.Says.{AnswerSays, Change, CodeSays, ErrChange, IsCodeOf, IsNotYet, IsUntouched, NotStuck, ReportSays, Runs, Says, text_of, text_too_long, not_yet, most_text}
+use Rattle.lg_run.specs.Causes.{IsRefusedCall, CutShort}
+use Rattle.lg_run.specs.Refused.{IsRefusedText}
+use Rattle.lg_run.specs.Says.{AnswerSays, Change, CodeSays, ErrChange, IsCodeOf, IsUntouched, NotStuck, ReportSays, Runs, Says, text_of}
 use Rattle.lg_run.specs.declared.answer.Code.{Code}
 use Rattle.lg_run.specs.declared.answer.Answer.{Answer}
 use Rattle.lg_run.specs.declared.answer.Answer.TheVariants.{Ended, Listed, Undefined, Refused, Usage, ReadFault, WriteFault, StepsOut, Fault, OutOfMemory}
-use Rattle.lg_run.specs.declared.form.Item.{Item}
+use Rattle.lg_run.proofs.RefusedLemmas.{form_accepted, text_once}
 
 -- ---- causes of single answers
 -- Usage comes only where the words are of no form
 pub usage_none : (words : Option (List ℕ)) (held : Option NamedTexts) (code : Option Code) (steps : ℕ) (c : Change) (e : ErrChange) (outer : Answer) → Says words held code steps c e outer → outer ≡ Usage → words ≡ None
 usage_none None held code steps c e outer says is = refl
-usage_none (Some file) held code steps c e outer says is = elim says.3 [
-  | inl h ↦ absurd (subst (AnswerSays file (text_of held file) code steps c) (sym h.0 ∙ is) says.1)
+usage_none (Some file) held code steps c e outer says is = elim says.2 [
+  | inl h ↦ absurd (subst (AnswerSays file says.1.text code steps c) (sym h.0 ∙ is) says.1.says)
   | inr h ↦ absurd (write_usage (sym h.0 ∙ is))
 ]
   where
@@ -46,8 +46,8 @@ read_cause None held code steps c e outer says is = elim says.1 [
 
     write_read : WriteFault ≡ ReadFault → ⊥
     write_read e = cc
-read_cause (Some file) held code steps c e outer says is = elim says.3 [
-  | inl h ↦ (subst (AnswerSays file (text_of held file) code steps c) (sym h.0 ∙ is) says.1).1
+read_cause (Some file) held code steps c e outer says is = elim says.2 [
+  | inl h ↦ (subst (AnswerSays file says.1.text code steps c) (sym h.0 ∙ is) says.1.says).1
   | inr h ↦ absurd (write_read (sym h.0 ∙ is))
 ]
   where
@@ -62,23 +62,23 @@ write_cause None held code steps c e outer says is = elim says.1 [
   where
     usage_write : Usage ≡ WriteFault → ⊥
     usage_write e = cc
-write_cause (Some file) held code steps c e outer says is = elim says.3 [
-  | inl h ↦ inl (subst (AnswerSays file (text_of held file) code steps c) (sym h.0 ∙ is) says.1).0
+write_cause (Some file) held code steps c e outer says is = elim says.2 [
+  | inl h ↦ inl (subst (AnswerSays file says.1.text code steps c) (sym h.0 ∙ is) says.1.says).0
   | inr h ↦ inr h.1
 ]
 
 -- want of memory leaves all as it was
 pub memory_cause : (words : Option (List ℕ)) (held : Option NamedTexts) (code : Option Code) (steps : ℕ) (c : Change) (e : ErrChange) (outer : Answer) → Says words held code steps c e outer → outer ≡ OutOfMemory → IsUntouched code steps c
 memory_cause None held code steps c e outer says is = says.0
-memory_cause (Some file) held code steps c e outer says is = elim says.3 [
-  | inl h ↦ subst (AnswerSays file (text_of held file) code steps c) (sym h.0 ∙ is) says.1
+memory_cause (Some file) held code steps c e outer says is = elim says.2 [
+  | inl h ↦ subst (AnswerSays file says.1.text code steps c) (sym h.0 ∙ is) says.1.says
   | inr h ↦ absurd (write_memory (sym h.0 ∙ is))
 ]
   where
     write_memory : WriteFault ≡ OutOfMemory → ⊥
     write_memory e = cc
 
-pub refusal_cause : (words : Option (List ℕ)) (held : Option NamedTexts) (code : Option Code) (steps : ℕ) (c : Change) (e : ErrChange) (outer : Answer) (refusal : Refusal) → Says words held code steps c e outer → outer ≡ Refused refusal → IsRefused words held refusal
+pub refusal_cause : (words : Option (List ℕ)) (held : Option NamedTexts) (code : Option Code) (steps : ℕ) (c : Change) (e : ErrChange) (outer : Answer) (refusal : Refusal) → Says words held code steps c e outer → outer ≡ Refused refusal → IsRefusedCall words held refusal
 refusal_cause None held code steps c e outer refusal says is = elim says.1 [
   | inl h ↦ absurd (usage_refused (sym h.0 ∙ is))
   | inr h ↦ absurd (write_refused (sym h.0 ∙ is))
@@ -89,8 +89,8 @@ refusal_cause None held code steps c e outer refusal says is = elim says.1 [
 
     write_refused : WriteFault ≡ Refused refusal → ⊥
     write_refused e = cc
-refusal_cause (Some file) held code steps c e outer refusal says is = elim says.3 [
-  | inl h ↦ (subst (AnswerSays file (text_of held file) code steps c) (sym h.0 ∙ is) says.1).1
+refusal_cause (Some file) held code steps c e outer refusal says is = elim says.2 [
+  | inl h ↦ (says.1.text, says.1.is, (subst (AnswerSays file says.1.text code steps c) (sym h.0 ∙ is) says.1.says).1)
   | inr h ↦ absurd (write_refused (sym h.0 ∙ is))
 ]
   where
@@ -99,69 +99,45 @@ refusal_cause (Some file) held code steps c e outer refusal says is = elim says.
 
 -- ---- texts that are refused
 
--- code is there only for a text of the first form
-form_of : (file text : List ℕ) (code : Option Code) (steps : ℕ) (c : Change) (answer : Answer) → Runs file code steps c answer → CodeSays (Some text) code → (length text ≤ most_text) × (items : List Item) × (unit_of text ≡ Some items)
-form_of file text code steps c answer runs says =
-    let made : IsCodeOf (Some text) runs.ran = subst (CodeSays (Some text)) runs.is says in
-    (made.reads.0, made.items, made.reads.1)
+-- code is there only for a text that is not refused
+coded : (file text : List ℕ) (code : Option Code) (steps : ℕ) (c : Change) (answer : Answer) (refusal : Refusal) → Runs file text code steps c answer → CodeSays text code → IsRefusedText text refusal → ⊥
+coded file text code steps c answer refusal runs says why =
+    let made : IsCodeOf text runs.ran = subst (CodeSays text) runs.is says in
+    form_accepted text made.unit made.nodes refusal made.reads.0 made.reads.1 made.accepted made.form why
 
--- a call on a text that is not of the first form, or too long, refuses it, says so, or is cut short
-refuses : (file text : List ℕ) (code : Option Code) (steps : ℕ) (c : Change) (e : ErrChange) (inner outer : Answer) (P : Refusal → Type 0) → AnswerSays file (Some text) code steps c inner → CodeSays (Some text) code → ReportSays file steps e inner outer
-    → ((length text ≤ most_text) → (items : List Item) → unit_of text ≡ Some items → ⊥)
-    → ((refusal : Refusal) → ((refusal ≡ text_too_long) × (most_text < length text)) ⊎ ((refusal ≡ not_yet) × IsNotYet text) → P refusal)
-    → ((refusal : Refusal) × P refusal × (outer ≡ Refused refusal)) ⊎ CutShort c e outer
-refuses file text code steps c e (Ended status) outer P says made report not why = let f = form_of file text code steps c (Ended status) says made in absurd (not f.0 f.1 f.2)
-refuses file text code steps c e StepsOut outer P says made report not why = let f = form_of file text code steps c StepsOut says made in absurd (not f.0 f.1 f.2)
-refuses file text code steps c e (Fault kind pc) outer P says made report not why = let f = form_of file text code steps c (Fault kind pc) says made in absurd (not f.0 f.1 f.2)
-refuses file text code steps c e WriteFault outer P says made report not why = let f = form_of file text code steps c WriteFault says.1 made in absurd (not f.0 f.1 f.2)
-refuses file text code steps c e ReadFault outer P says made report not why = inr (inr (inl says.1))
-refuses file text code steps c e Usage outer P says made report not why = absurd says
-refuses file text code steps c e Listed outer P says made report not why = absurd says
-refuses file text code steps c e (Undefined line) outer P says made report not why = absurd says
-refuses file text code steps c e OutOfMemory outer P says made report not why = elim report [
+-- a call on a text that is refused refuses it so, or is cut short
+refuses_inner : (file text : List ℕ) (code : Option Code) (steps : ℕ) (c : Change) (e : ErrChange) (inner outer : Answer) (refusal : Refusal) → AnswerSays file text code steps c inner → CodeSays text code → ReportSays file steps e inner outer
+    → IsRefusedText text refusal → (outer ≡ Refused refusal) ⊎ CutShort c e outer
+refuses_inner file text code steps c e (Ended status) outer refusal says made report why = absurd (coded file text code steps c (Ended status) refusal says made why)
+refuses_inner file text code steps c e StepsOut outer refusal says made report why = absurd (coded file text code steps c StepsOut refusal says made why)
+refuses_inner file text code steps c e (Fault kind pc) outer refusal says made report why = absurd (coded file text code steps c (Fault kind pc) refusal says made why)
+refuses_inner file text code steps c e WriteFault outer refusal says made report why = absurd (coded file text code steps c WriteFault refusal says.1 made why)
+refuses_inner file text code steps c e ReadFault outer refusal says made report why = inr (inr (inl says.1))
+refuses_inner file text code steps c e Usage outer refusal says made report why = absurd says
+refuses_inner file text code steps c e Listed outer refusal says made report why = absurd says
+refuses_inner file text code steps c e (Undefined line) outer refusal says made report why = absurd says
+refuses_inner file text code steps c e OutOfMemory outer refusal says made report why = elim report [
   | inl h ↦ inr (inl h.0)
   | inr h ↦ inr (inr (inr h.1))
 ]
-refuses file text code steps c e (Refused refusal) outer P says made report not why = elim report [
-  | inl h ↦ inl (refusal, why refusal says.1, h.0)
+refuses_inner file text code steps c e (Refused other) outer refusal says made report why = elim report [
+  | inl h ↦ inl (h.0 ∙ ap Refused (text_once text other refusal says.1 why))
   | inr h ↦ inr (inr (inr h.1))
 ]
 
 -- what holds of the words that name a file
 pub with_file : (words : Option (List ℕ)) (file text : List ℕ) (held : Option NamedTexts) (code : Option Code) (steps : ℕ) (c : Change) (e : ErrChange) (outer : Answer) (P : Type 0) → Says words held code steps c e outer → words ≡ Some file → text_of held file ≡ Some text
-    → ((inner : Answer) → AnswerSays file (Some text) code steps c inner → CodeSays (Some text) code → ReportSays file steps e inner outer → P) → P
+    → ((inner : Answer) → AnswerSays file text code steps c inner → CodeSays text code → ReportSays file steps e inner outer → P) → P
 with_file words file text held code steps c e outer P says is holds go =
     let s = subst (λ w. Says w held code steps c e outer) is says in
-    go s.0 (subst (λ t. AnswerSays file t code steps c s.0) holds s.1) (subst (λ t. CodeSays t code) holds s.2) s.3
+    let same : s.1.text ≡ text = sym (subst (λ o. IfSome o (λ t. t ≡ s.1.text)) holds s.1.is) in
+    go s.0 (subst (λ t. AnswerSays file t code steps c s.0) same s.1.says) (subst (λ t. CodeSays t code) same s.1.made) s.2
 
--- a text that is too long is refused with kind 16
-pub too_long : (words : Option (List ℕ)) (file text : List ℕ) (held : Option NamedTexts) (code : Option Code) (steps : ℕ) (c : Change) (e : ErrChange) (outer : Answer) → Says words held code steps c e outer → words ≡ Some file → text_of held file ≡ Some text → most_text < length text
-    → (outer ≡ Refused text_too_long) ⊎ CutShort c e outer
-too_long words file text held code steps c e outer says is holds long =
-    with_file words file text held code steps c e outer _ says is holds (λ inner answer made report.
-    elim (refuses file text code steps c e inner outer (λ refusal. refusal ≡ text_too_long) answer made report (λ short items read. absurd (omega (arith, long, short))) (λ refusal why. elim why [
-      | inl h ↦ h.0
-      | inr h ↦ let short = h.1.0 in absurd (omega (arith, long, short))
-    ])) [
-      | inl h ↦ inl (h.2 ∙ ap Refused h.1)
-      | inr h ↦ inr h
-    ])
-
-none_some : {A : Type 0} {x : A} → None ≡ Some x → ⊥
-none_some e = cc
-
--- a text of the allowed length that is not of the first form is refused with kind 0
-pub not_first_form : (words : Option (List ℕ)) (file text : List ℕ) (held : Option NamedTexts) (code : Option Code) (steps : ℕ) (c : Change) (e : ErrChange) (outer : Answer) → Says words held code steps c e outer → words ≡ Some file → text_of held file ≡ Some text → length text ≤ most_text → unit_of text ≡ None
-    → (outer ≡ Refused not_yet) ⊎ CutShort c e outer
-not_first_form words file text held code steps c e outer says is holds short form =
-    with_file words file text held code steps c e outer _ says is holds (λ inner answer made report.
-    elim (refuses file text code steps c e inner outer (λ refusal. refusal ≡ not_yet) answer made report (λ le items read. absurd (none_some (sym form ∙ read))) (λ refusal why. elim why [
-      | inl h ↦ let long = h.1 in absurd (omega (arith, long, short))
-      | inr h ↦ h.0
-    ])) [
-      | inl h ↦ inl (h.2 ∙ ap Refused h.1)
-      | inr h ↦ inr h
-    ])
+-- a text that is refused is refused so
+pub refuses : (words : Option (List ℕ)) (file text : List ℕ) (held : Option NamedTexts) (code : Option Code) (steps : ℕ) (c : Change) (e : ErrChange) (outer : Answer) (refusal : Refusal) → Says words held code steps c e outer → words ≡ Some file → text_of held file ≡ Some text → IsRefusedText text refusal
+    → (outer ≡ Refused refusal) ⊎ CutShort c e outer
+refuses words file text held code steps c e outer refusal says is holds why =
+    with_file words file text held code steps c e outer _ says is holds (λ inner answer made report. refuses_inner file text code steps c e inner outer refusal answer made report why)
 
 -- ---- a run neither goes on nor faults
 pub never_out : (outer : Answer) → NotStuck outer → outer ≢ StepsOut

@@ -1,22 +1,20 @@
 -- Instructions stand where their bytes stand.
-use Rattle.std.proofs.Common.{◌≡◌, ◌≢◌, ℕ, zero, suc, ◌+◌, ◌-◌, ◌*◌, ◌%◌, ◌^◌, ◌<◌, ◌≤◌, List, [], ◌∷◌, ◌++◌, length, drop, Option, Some, None, Bool, true, false, refl, sym, ap, ap₂, ◌∙◌, subst, arith, append_assoc, append-nil, length-append}
-use Rattle.std.specs.Prelude.{nat_le, nat_lt, ◌&&◌, ◌==◌, if◌then◌else◌}
+use Rattle.std.proofs.Common.{◌≡◌, ◌≢◌, ℕ, ◌+◌, ◌-◌, ◌*◌, ◌%◌, ◌<◌, ◌≤◌, List, [], ◌∷◌, ◌++◌, length, drop, Option, Some, None, true, refl, sym, ap, ap₂, ◌∙◌, arith, append_assoc, append-nil, length-append}
+use Rattle.std.specs.Prelude.{◌==◌, if◌then◌else◌}
 use Rattle.std.proofs.Math.Seq.{drop-append_seam}
 use Rattle.std.proofs.lemmas.Bool.{eq-eqb, ne_eqb}
-use Rattle.lg_base.specs.HostNames.{host_by_address, host_address}
+use Rattle.lg_base.specs.HostNames.{host_by_address}
 use Rattle.lg_base.specs.Layout.{code_base, stop_address}
 use Rattle.lg_base.specs.Words.{add_words}
-use Rattle.lg_base.specs.WordFronts.{word_front}
 use Rattle.lg_base.proofs.WordFrontLemmas.{word_again}
-use Rattle.lg_base.specs.declared.host_name.HostName.{HostName}
 use Rattle.lg_base.specs.declared.fault.FaultKind.TheVariants.{Fetch, Align}
 use Rattle.lg_rv.specs.Reading.{instr_of, front_of}
 use Rattle.lg_rv.specs.Spelling.{IsInstr, spelling, word_of}
 use Rattle.lg_rv.specs.declared.instruction.Instr.{Instr}
 use Rattle.lg_rv.proofs.AgainLemmas.{read_again, word_fits}
 use Rattle.lg_run.specs.Emission.{bytes_of, code_of, node_code}
-use Rattle.lg_run.specs.Nodes.{Node}
-use Rattle.lg_run.specs.Processor.{Core, Processor, Effect, Stands, Goes, EndedWith, faults, effect, effect_at, fetch, decoded, in_code, act, after, step, going, goes, arrived}
+use Rattle.lg_run.specs.declared.form.FormNode.{FormNode}
+use Rattle.lg_run.specs.Processor.{Core, Processor, Effect, Goes, EndedWith, faults, effect, effect_at, decoded, in_code, act, after, step, going, goes, arrived}
 
 pub bytes_of-append : (xs ys : List Instr) → bytes_of (xs ++ ys) ≡ bytes_of xs ++ bytes_of ys
 bytes_of-append [] ys = refl
@@ -26,7 +24,7 @@ pub length-bytes_of : (is : List Instr) → length (bytes_of is) ≡ 4 * length 
 length-bytes_of [] = refl
 length-bytes_of (i ∷ is) = let rest = length-bytes_of is in omega (arith, length-append (spelling i) (bytes_of is), rest)
 
-pub code_of-append : (xs ys : List Node) → code_of (xs ++ ys) ≡ code_of xs ++ code_of ys
+pub code_of-append : (xs ys : List FormNode) → code_of (xs ++ ys) ≡ code_of xs ++ code_of ys
 code_of-append [] ys = refl
 code_of-append (n ∷ xs) ys = ap (λ b. node_code n ++ b) (code_of-append xs ys) ∙ sym (append_assoc (node_code n) (code_of xs) (code_of ys))
 

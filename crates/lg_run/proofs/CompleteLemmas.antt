@@ -1,31 +1,32 @@
 -- Where no count rose, the answer on a text of the first form is the end of its meaning.
-use Rattle.std.proofs.Common.{◌≡◌, ◌≢◌, ℕ, ◌+◌, ◌*◌, ◌^◌, ◌<◌, ◌≤◌, ◌⊎◌, inl, inr, List, [], ◌∷◌, length, Option, Some, None, Bool, true, false, refl, sym, ap, ◌∙◌, subst, arith, lit<}
-use Rattle.std.specs.Prelude.{◌&&◌, ◌==◌, nat_le, not, IsSome, if◌then◌else◌}
+use Rattle.std.proofs.Common.{◌≡◌, ℕ, ◌*◌, ◌≤◌, inl, inr, List, [], ◌∷◌, length, Option, Some, None, Bool, true, false, refl, sym, ap, ◌∙◌, subst, arith, lit<}
+use Rattle.std.specs.Prelude.{◌&&◌, ◌==◌, nat_le, not, IsSome, Result, Ok, if◌then◌else◌}
 use Rattle.std.specs.Str.{bytes_eq}
 use Rattle.std.specs.Prelude.{codes}
 use Rattle.lg_base.specs.Arguments.{args_of, most_args}
 use Rattle.lg_base.specs.Runs.{Running, iter}
 use Rattle.lg_base.specs.Runs as runs
 use Rattle.lg_base.proofs.ArgumentLemmas.{length-args_of}
-use Rattle.lg_base.specs.declared.fault.FaultKind.{FaultKind}
-use Rattle.lg_io.specs.NamedTexts.{NamedTexts}
-use Rattle.lg_temp.specs.Agrees.{AgreesAt}
+use Rattle.lg_node.specs.Checks.{IsAccepted}
+use Rattle.lg_node.specs.declared.unit.Unit.{Unit as TextUnit}
+use Rattle.lg_tst.specs.Units.{unit_of}
+use Rattle.lg_base.specs.declared.refusal.Refusal.{Refusal}
 use Rattle.lg_temp.proofs.Answers.{ends_in_time}
-use Rattle.lg_run.specs.Agreement.{Agrees}
+use Rattle.lg_meaning.proofs.MeanLemmas.{means_are_machines}
+use Rattle.lg_run.specs.Agreement.{Agrees, shape_of_unit, meaning_of, start_of}
 use Rattle.lg_run.specs.Command.{command_of, is_file}
 use Rattle.lg_run.specs.Complete.{Completeness, IsComplete, NoneRose, meaning}
-use Rattle.lg_run.specs.Nodes.{nodes_of}
-use Rattle.lg_run.specs.Portable as portable
+use Rattle.lg_run.specs.FirstForm.{IsFirstForm}
 use Rattle.lg_run.specs.Processor as machine
-use Rattle.lg_run.specs.Reading.{unit_of}
-use Rattle.lg_run.specs.Says.{AnswerSays, Change, CodeSays, ErrChange, IsCodeOf, NotStuck, ReportSays, Runs, Says, text_of, most_steps, most_text, trash_word}
+use Rattle.lg_run.specs.Refused.{most_text}
+use Rattle.lg_run.specs.Says.{AnswerSays, Change, CodeSays, ErrChange, IsCodeOf, NotStuck, Runs, most_steps, trash_word}
 use Rattle.lg_run.specs.declared.answer.Answer.{Answer}
 use Rattle.lg_run.specs.declared.answer.Code.{Code}
 use Rattle.lg_run.specs.declared.answer.Answer.TheVariants.{Ended, Listed, Undefined, Refused, Usage, ReadFault, WriteFault, StepsOut, Fault, OutOfMemory}
-use Rattle.lg_run.specs.declared.form.Item.{Item}
+use Rattle.lg_run.specs.declared.form.FormNode.{FormNode}
 use Rattle.lg_run.proofs.CauseLemmas.{with_file}
 use Rattle.lg_run.proofs.EndLemmas.{ends_says, over_at}
-use Rattle.lg_run.proofs.MachineLemmas.{portable_is}
+use Rattle.lg_run.proofs.RefusedLemmas.{form_accepted}
 
 -- ---- the words name a file of at most 4,096 bytes
 file_of_if : (b : Bool) (f file : List ℕ) → (b ≡ true → is_file f ≡ true) → (if b then Some f else None) ≡ Some file → is_file file ≡ true
@@ -93,56 +94,68 @@ end_same : {s t : ℕ} → runs.Ended s ≡ runs.Ended t → s ≡ t
 end_same e = cc
 
 -- a run that has ended has the meaning's end
-ended_is : (file : List ℕ) (bytes : List ℕ) (items : List Item) (steps status m status' : ℕ) → is_file file ≡ true → Agrees bytes items → steps ≤ most_steps → (iter (machine.step bytes trash_word) steps (machine.start (file ∷ []) trash_word)).stands ≡ machine.EndedWith status
-    → 64 * m ≤ most_steps → (meaning items m).status ≡ runs.Ended status' → status ≡ status'
-ended_is file bytes items steps status m status' is agrees le end time ended =
-    let nodes = nodes_of items in
-    let at = agrees (file ∷ []) trash_word most_steps (omega arith) (args_short file is) (lit< tt) in
-    let there = ends_in_time (portable.portable nodes) (machine.processor bytes trash_word) (length nodes) most_steps m status' portable.start (machine.start (file ∷ []) trash_word) (portable_is nodes) at ended time in
-    end_same (sym (ap machine.status_of (over_at bytes trash_word (machine.start (file ∷ []) trash_word) steps most_steps status le end)) ∙ there)
+ended_is : (file : List ℕ) (unit : TextUnit) (bytes addresses : List ℕ) (steps status m status' : ℕ) → is_file file ≡ true → Agrees bytes addresses unit → steps ≤ most_steps
+    → (iter (machine.step bytes trash_word) steps (machine.start unit.image (file ∷ []) trash_word)).stands ≡ machine.EndedWith status
+    → 64 * m ≤ most_steps → (meaning unit addresses file m).status ≡ runs.Ended status' → status ≡ status'
+ended_is file unit bytes addresses steps status m status' is agrees le end time ended =
+    let at = agrees.runs (file ∷ []) trash_word most_steps (omega arith) (args_short file is) (lit< tt) in
+    let q = machine.start unit.image (file ∷ []) trash_word in
+    let there = ends_in_time (meaning_of unit addresses) (machine.processor bytes trash_word) (length unit.nodes.nodes) most_steps m status' (start_of unit (file ∷ [])) q (means_are_machines unit.nodes (shape_of_unit unit) addresses).0 at ended time in
+    end_same (sym (ap machine.status_of (over_at bytes trash_word q steps most_steps status le end)) ∙ there)
 
-complete_end : (file text : List ℕ) (items : List Item) (code : Option Code) (steps : ℕ) (c : Change) (status : ℕ) → is_file file ≡ true → unit_of text ≡ Some items → AnswerSays file (Some text) code steps c (Ended status) → CodeSays (Some text) code → IsComplete items code (Ended status)
-complete_end file text items code steps c status is form says made =
-    let made' : IsCodeOf (Some text) says.ran = subst (CodeSays (Some text)) says.is made in
-    let same : made'.items ≡ items = cc (made'.reads.1, form) in
-    let agrees = subst (Agrees says.ran.bytes.items) same made'.agrees in
+ok_same : {u v : TextUnit} → ◌≡◌ {A = Result TextUnit Refusal} (Ok u) (Ok v) → u ≡ v
+ok_same e = cc
+
+some_same : {x y : Code} → Some x ≡ Some y → x ≡ y
+some_same e = cc
+
+complete_end : (file text : List ℕ) (unit : TextUnit) (code : Option Code) (steps : ℕ) (c : Change) (status : ℕ) → is_file file ≡ true → unit_of text ≡ Ok unit → AnswerSays file text code steps c (Ended status) → CodeSays text code
+    → IsComplete unit file code (Ended status)
+complete_end file text unit code steps c status is read says made =
     record {
       made = inl (subst IsSome (sym says.is) refl);
-      ends = λ m status' time ended. inl (ap Ended (ended_is file says.ran.bytes.items items steps status m status' is agrees says.says.0 says.says.1 time ended));
-      sound = λ sound kind pc e. cc (e);
+      ends = λ ran m status' there time ended. inl (ap Ended (at ran m status' there time ended));
+      sound = λ ran there sound kind pc e. cc (e);
     }
-
-complete_stuck : (file text : List ℕ) (items : List Item) (code : Option Code) (steps : ℕ) (c : Change) (answer : Answer) → Runs file code steps c answer → AnswerSays file (Some text) code steps c answer → CodeSays (Some text) code → NotStuck answer
-complete_stuck file text items code steps c answer runs says made =
-    let made' : IsCodeOf (Some text) runs.ran = subst (CodeSays (Some text)) runs.is made in
-    ends_says file (Some text) runs.ran steps c answer made'.ends (subst (λ x. AnswerSays file (Some text) x steps c answer) runs.is says)
-
-complete_inner : (file text : List ℕ) (items : List Item) (code : Option Code) (steps : ℕ) (c : Change) (e : ErrChange) (inner : Answer) → is_file file ≡ true → length text ≤ most_text → unit_of text ≡ Some items → NoneRose c e
-    → AnswerSays file (Some text) code steps c inner → CodeSays (Some text) code → IsComplete items code inner
-complete_inner file text items code steps c e (Ended status) is short form rose says made = complete_end file text items code steps c status is form says made
-complete_inner file text items code steps c e StepsOut is short form rose says made = absurd (complete_stuck file text items code steps c StepsOut says says made)
-complete_inner file text items code steps c e (Fault kind pc) is short form rose says made = absurd (complete_stuck file text items code steps c (Fault kind pc) says says made)
-complete_inner file text items code steps c e WriteFault is short form rose says made = absurd (rose.writes says.0)
-complete_inner file text items code steps c e ReadFault is short form rose says made = absurd (rose.reads says.1)
-complete_inner file text items code steps c e Usage is short form rose says made = absurd says
-complete_inner file text items code steps c e Listed is short form rose says made = absurd says
-complete_inner file text items code steps c e (Undefined line) is short form rose says made = absurd says
-complete_inner file text items code steps c e (Refused refusal) is short form rose says made = elim says.1 [
-  | inl h ↦ let long = h.1 in absurd (omega (arith, long, short))
-  | inr h ↦ absurd (none_some (sym h.1.1 ∙ form))
-]
   where
-    none_some : None ≡ Some items → ⊥
-    none_some e = cc
-complete_inner file text items code steps c e OutOfMemory is short form rose says made = record {
+    at : (ran : Code) (m status' : ℕ) → code ≡ Some ran → 64 * m ≤ most_steps → (meaning unit ran.labels file m).status ≡ runs.Ended status' → status ≡ status'
+    at ran m status' there time ended =
+        let made' : IsCodeOf text ran = subst (CodeSays text) there made in
+        let same : made'.unit ≡ unit = ok_same (sym made'.reads.1 ∙ read) in
+        let agrees : Agrees ran.bytes.items ran.labels unit = subst (Agrees ran.bytes.items ran.labels) same made'.agrees in
+        let code_same : says.ran ≡ ran = some_same (sym says.is ∙ there) in
+        let unit_same : says.unit ≡ unit = ok_same (sym says.reads.1 ∙ read) in
+        let end : (iter (machine.step ran.bytes.items trash_word) steps (machine.start unit.image (file ∷ []) trash_word)).stands ≡ machine.EndedWith status =
+        subst (λ x. (iter (machine.step x.bytes.items trash_word) steps (machine.start unit.image (file ∷ []) trash_word)).stands ≡ machine.EndedWith status) code_same
+        (subst (λ u. (iter (machine.step says.ran.bytes.items trash_word) steps (machine.start u.image (file ∷ []) trash_word)).stands ≡ machine.EndedWith status) unit_same says.says.1) in
+        ended_is file unit ran.bytes.items ran.labels steps status m status' is agrees says.says.0 end time ended
+
+complete_stuck : (file text : List ℕ) (code : Option Code) (steps : ℕ) (c : Change) (answer : Answer) → Runs file text code steps c answer → AnswerSays file text code steps c answer → CodeSays text code → NotStuck answer
+complete_stuck file text code steps c answer runs says made =
+    let made' : IsCodeOf text runs.ran = subst (CodeSays text) runs.is made in
+    ends_says file text runs.ran steps c answer made'.ends (subst (λ x. AnswerSays file text x steps c answer) runs.is says)
+
+complete_inner : (file text : List ℕ) (unit : TextUnit) (nodes : List FormNode) (code : Option Code) (steps : ℕ) (c : Change) (e : ErrChange) (inner : Answer) → is_file file ≡ true → length text ≤ most_text → unit_of text ≡ Ok unit → IsAccepted unit.nodes → IsFirstForm unit.nodes nodes → NoneRose c e
+    → AnswerSays file text code steps c inner → CodeSays text code → IsComplete unit file code inner
+complete_inner file text unit nodes code steps c e (Ended status) is short read accepted form rose says made = complete_end file text unit code steps c status is read says made
+complete_inner file text unit nodes code steps c e StepsOut is short read accepted form rose says made = absurd (complete_stuck file text code steps c StepsOut says says made)
+complete_inner file text unit nodes code steps c e (Fault kind pc) is short read accepted form rose says made = absurd (complete_stuck file text code steps c (Fault kind pc) says says made)
+complete_inner file text unit nodes code steps c e WriteFault is short read accepted form rose says made = absurd (rose.writes says.0)
+complete_inner file text unit nodes code steps c e ReadFault is short read accepted form rose says made = absurd (rose.reads says.1)
+complete_inner file text unit nodes code steps c e Usage is short read accepted form rose says made = absurd says
+complete_inner file text unit nodes code steps c e Listed is short read accepted form rose says made = absurd says
+complete_inner file text unit nodes code steps c e (Undefined line) is short read accepted form rose says made = absurd says
+complete_inner file text unit nodes code steps c e (Refused refusal) is short read accepted form rose says made =
+    absurd (form_accepted text unit nodes refusal short read accepted form says.1)
+complete_inner file text unit nodes code steps c e OutOfMemory is short read accepted form rose says made = record {
   made = inr refl;
-  ends = λ m status time ended. inr refl;
-  sound = λ sound kind pc h. cc (h);
+  ends = λ ran m status there time ended. inr refl;
+  sound = λ ran there sound kind pc h. cc (h);
 }
 
 pub complete : Completeness
-complete words file held code steps c e outer text items says rose is holds short form =
+complete words file held code steps c e outer text unit nodes says rose is holds read accepted form =
     with_file (command_of words) file text held code steps c e outer _ says is holds (λ inner answer made report. elim report [
-      | inl h ↦ subst (IsComplete items code) (sym h.0) (complete_inner file text items code steps c e inner (command_file words file is) short form rose answer made)
+      | inl h ↦ subst (IsComplete unit file code) (sym h.0) (complete_inner file text unit nodes code steps c e inner (command_file words file is) read.0 read.1 accepted form rose answer made)
       | inr h ↦ absurd (rose.errs h.1)
     ])

@@ -1,23 +1,24 @@
 -- The portable meaning and the processor are machines: a run that is over stays, and what is written stays written.
 use Rattle.std.proofs.Common.{◌≡◌, ◌≢◌, ℕ, List, [], ◌∷◌, ◌++◌, Option, Some, None, refl, sym, ap, ◌∙◌, append-nil}
 use Rattle.std.specs.Prelude.{slice_get}
-use Rattle.lg_base.specs.Runs.{Status, Running, Ended, Bad, Machine, IsPrefixOf, IsMachine, EndsSilently}
-use Rattle.lg_run.specs.Nodes.{Node, Prolog, Movi, Addi, Addr, Prepare, Pushargr, Finishi, Ret, Epilog}
+use Rattle.lg_base.specs.Runs.{Status, Running, Ended, Bad, IsPrefixOf, IsMachine, EndsSilently}
+use Rattle.lg_run.specs.declared.form.FormNode.{FormNode}
+use Rattle.lg_run.specs.declared.form.FormNode.TheVariants.{Prolog, Movi, Addi, Addr, Prepare, Pushargr, Finishi, Ret, Epilog}
 use Rattle.lg_run.specs.Forms.{index_of}
 use Rattle.lg_base.specs.Fields.{word_of}
-use Rattle.lg_run.specs.Portable as meaning
+use Rattle.lg_run.proofs.FormMeaning as meaning
 use Rattle.lg_run.specs.Processor as machine
 use Rattle.lg_run.specs.declared.form.Register.{Register}
 use Rattle.lg_run.specs.declared.form.Callee.{Callee}
 use Rattle.lg_run.specs.declared.form.Callee.TheVariants.{Putchar, Exit}
 
 -- ---- the portable meaning
-portable_stays : (nodes : List Node) (s : meaning.Portable) (status : Status) → s.status ≡ status → status ≢ Running → meaning.step nodes s ≡ s
+portable_stays : (nodes : List FormNode) (s : meaning.Portable) (status : Status) → s.status ≡ status → status ≢ Running → meaning.step nodes s ≡ s
 portable_stays nodes s Running e h = absurd (h refl)
 portable_stays nodes s (Ended status) e h = ap (λ st. meaning.on_running st (meaning.after s (meaning.effect_at (slice_get nodes s.place.node) s.place)) s) e
 portable_stays nodes s Bad e h = ap (λ st. meaning.on_running st (meaning.after s (meaning.effect_at (slice_get nodes s.place.node) s.place)) s) e
 
-portable_writes : (nodes : List Node) (s : meaning.Portable) (status : Status) → s.status ≡ status → IsPrefixOf s.out (meaning.step nodes s).out
+portable_writes : (nodes : List FormNode) (s : meaning.Portable) (status : Status) → s.status ≡ status → IsPrefixOf s.out (meaning.step nodes s).out
 portable_writes nodes s Running e =
     let effect = meaning.effect_at (slice_get nodes s.place.node) s.place in
     (effect.written, sym (ap (λ st. (meaning.on_running st (meaning.after s effect) s).out) e))
@@ -37,7 +38,7 @@ quiet_calls p callee [] h = refl
 quiet_calls p Putchar (c ∷ more) h = absurd (h refl)
 quiet_calls p Exit (n ∷ more) h = refl
 
-quiet_end : (node : Node) (p : meaning.Place) → (meaning.effect node p).status ≢ Running → (meaning.effect node p).written ≡ []
+quiet_end : (node : FormNode) (p : meaning.Place) → (meaning.effect node p).status ≢ Running → (meaning.effect node p).written ≡ []
 quiet_end Prolog p h = refl
 quiet_end (Movi to number) p h = refl
 quiet_end (Addi to from number) p h = quiet_writes p to (meaning.sum_of (p.registers (index_of from)) (Some (word_of number)))
@@ -48,11 +49,11 @@ quiet_end (Finishi callee) p h = quiet_calls p callee p.pushed h
 quiet_end Ret p h = refl
 quiet_end Epilog p h = refl
 
-quiet_at : (o : Option Node) (p : meaning.Place) → (meaning.effect_at o p).status ≢ Running → (meaning.effect_at o p).written ≡ []
+quiet_at : (o : Option FormNode) (p : meaning.Place) → (meaning.effect_at o p).status ≢ Running → (meaning.effect_at o p).written ≡ []
 quiet_at None p h = refl
 quiet_at (Some node) p h = quiet_end node p h
 
-portable_silent : (nodes : List Node) (s : meaning.Portable) (status : Status) → s.status ≡ status → (meaning.step nodes s).status ≢ Running → (meaning.step nodes s).out ≡ s.out
+portable_silent : (nodes : List FormNode) (s : meaning.Portable) (status : Status) → s.status ≡ status → (meaning.step nodes s).status ≢ Running → (meaning.step nodes s).out ≡ s.out
 portable_silent nodes s Running e h =
     let effect = meaning.effect_at (slice_get nodes s.place.node) s.place in
     let same = ap (λ st. meaning.on_running st (meaning.after s effect) s) e in
@@ -60,13 +61,13 @@ portable_silent nodes s Running e h =
 portable_silent nodes s (Ended status) e h = ap (λ t. t.out) (portable_stays nodes s (Ended status) e (λ r. cc))
 portable_silent nodes s Bad e h = ap (λ t. t.out) (portable_stays nodes s Bad e (λ r. cc))
 
-pub portable_is : (nodes : List Node) → IsMachine (meaning.portable nodes)
+pub portable_is : (nodes : List FormNode) → IsMachine (meaning.portable nodes)
 portable_is nodes = record {
   stays = λ s h. portable_stays nodes s s.status refl h;
   writes = λ s. portable_writes nodes s s.status refl;
 }
 
-pub portable_ends : (nodes : List Node) → EndsSilently (meaning.portable nodes)
+pub portable_ends : (nodes : List FormNode) → EndsSilently (meaning.portable nodes)
 portable_ends nodes = record { silent_end = λ s h. portable_silent nodes s s.status refl h }
 
 -- ---- the processor

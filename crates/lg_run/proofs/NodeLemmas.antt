@@ -1,32 +1,33 @@
 -- What the code of each node does on the processor.
-use Rattle.std.proofs.Common.{◌≡◌, ◌≢◌, ℕ, zero, suc, ◌+◌, ◌-◌, ◌*◌, ◌%◌, ◌^◌, ◌<◌, ◌≤◌, ◌⊎◌, inl, inr, List, [], ◌∷◌, ◌++◌, length, Option, Some, None, Bool, true, false, refl, sym, ap, ap₂, ◌∙◌, subst, arith, append-nil, lit<, ℤ, pos, negsuc, ◌≤ℤ◌}
+use Rattle.std.proofs.Common.{◌≡◌, ℕ, suc, ◌+◌, ◌-◌, ◌*◌, ◌%◌, ◌^◌, ◌<◌, ◌≤◌, ◌⊎◌, inl, inr, List, [], ◌∷◌, ◌++◌, length, Option, Some, None, true, refl, sym, ap, ap₂, ◌∙◌, subst, arith, append-nil, lit<, ℤ, pos, negsuc, ◌≤ℤ◌}
 use Rattle.std.specs.Prelude.{◌==◌, if◌then◌else◌}
 use Rattle.std.proofs.lemmas.Int.{ints}
 use Rattle.std.proofs.lemmas.Bool.{cases_lt}
 use Rattle.lg_base.specs.Fields.{word_of}
 use Rattle.lg_base.specs.Words.{add_words}
 use Rattle.lg_base.specs.Spaces.{mapped, loaded, stored}
-use Rattle.lg_base.specs.Layout.{code_base, stop_address, stack_end}
+use Rattle.lg_base.specs.Layout.{stop_address, stack_end}
 use Rattle.lg_base.specs.Runs.{iter}
 use Rattle.lg_base.proofs.SpaceLemmas.{loaded-stored}
 use Rattle.lg_base.specs.HostNames.{host_address, host_index}
 use Rattle.lg_base.specs.declared.host_name.HostName.TheVariants as host
 use Rattle.lg_rv.specs.declared.instruction.Instr.{Instr}
-use Rattle.lg_rv.specs.declared.instruction.Instr.TheVariants.{Upper, Imm, Store, Reg}
+use Rattle.lg_rv.specs.declared.instruction.Instr.TheVariants.{Imm, Store}
 use Rattle.lg_rv.specs.declared.instruction.ImmOp.TheVariants as imm
 use Rattle.lg_rv.specs.declared.instruction.StoreOp.TheVariants.{Sd}
 use Rattle.lg_temp.proofs.Steps.{iter-zero, iter-suc}
 use Rattle.lg_run.specs.Emission.{node_code, enter_code, return_code}
 use Rattle.lg_run.specs.Forms.{hardware, host_of}
 use Rattle.lg_run.specs.Moves.{moved, written_by, ending}
-use Rattle.lg_run.specs.Nodes.{Node, Prolog, Movi, Addi, Addr, Prepare, Pushargr, Finishi, Ret, Epilog}
-use Rattle.lg_run.specs.Processor.{Core, Processor, Effect, Stands, Goes, EndedWith, going, goes, faults, read, put, step, after, act, arrived, load_at, loads, jump_to, host_effect, behind_call}
+use Rattle.lg_run.specs.declared.form.FormNode.{FormNode}
+use Rattle.lg_run.specs.declared.form.FormNode.TheVariants.{Movi, Addi, Addr, Prepare, Pushargr, Finishi}
+use Rattle.lg_run.specs.Processor.{Core, Processor, Goes, EndedWith, going, goes, faults, read, put, step, after, act, arrived, load_at, loads, jump_to, host_effect, behind_call}
 use Rattle.lg_run.specs.declared.form.Register.{Register}
 use Rattle.lg_run.specs.declared.form.Register.TheVariants.{R0, R1, R2, V0, V1, V2}
 use Rattle.lg_run.specs.declared.form.Callee.{Callee}
 use Rattle.lg_run.specs.declared.form.Callee.TheVariants.{Putchar, Exit}
 use Rattle.lg_base.specs.declared.fault.FaultKind.TheVariants.{Memory, Host}
-use Rattle.lg_run.proofs.CodeLemmas.{Fetches, HasCode, effect_is, stepped, step_next, not_stop}
+use Rattle.lg_run.proofs.CodeLemmas.{Fetches, HasCode, stepped, step_next, not_stop}
 
 -- ---- steps in a row, of which all but the last write nothing
 pub record Runs (bytes : List ℕ) (trash k : ℕ) (s t : Processor) : Type 0 where
@@ -80,7 +81,7 @@ pub zero_plus : (n : ℤ) → (negsuc 2047 ≤ℤ n) × (n ≤ℤ pos 2047) → 
 zero_plus n h = let lt = word_small n h in omega (arith, lt)
 
 -- what the code of a node comes to: it goes on behind the node's code, or the run ends
-pub record GoesOn (bytes : List ℕ) (trash : ℕ) (node : Node) (pc : ℕ) (R : ℕ → ℕ) (B : ℕ → Option ℕ) (o : List ℕ) : Type 0 where
+pub record GoesOn (bytes : List ℕ) (trash : ℕ) (node : FormNode) (pc : ℕ) (R : ℕ → ℕ) (B : ℕ → Option ℕ) (o : List ℕ) : Type 0 where
   pub steps : ℕ
   pub few : steps ≤ 3
   pub some : (node ≡ Prepare) ⊎ (1 ≤ steps)
@@ -88,7 +89,7 @@ pub record GoesOn (bytes : List ℕ) (trash : ℕ) (node : Node) (pc : ℕ) (R :
   pub runs : Runs bytes trash steps (going pc R B o) (going (pc + 4 * length (node_code node)) (moved node trash pc R) B (o ++ written_by node R))
   pub frame : InFrame (moved node trash pc R) B
 
-pub record EndsRun (bytes : List ℕ) (trash : ℕ) (node : Node) (pc : ℕ) (R : ℕ → ℕ) (B : ℕ → Option ℕ) (o : List ℕ) : Type 0 where
+pub record EndsRun (bytes : List ℕ) (trash : ℕ) (node : FormNode) (pc : ℕ) (R : ℕ → ℕ) (B : ℕ → Option ℕ) (o : List ℕ) : Type 0 where
   pub steps : ℕ
   pub few : steps ≤ 3
   pub some : 1 ≤ steps
@@ -162,7 +163,7 @@ prepare_goes bytes trash pc R B o frame = record {
 }
 
 -- ---- the return
-pub return_ends : (bytes : List ℕ) (trash pc : ℕ) (R : ℕ → ℕ) (B : ℕ → Option ℕ) (o : List ℕ) (node : Node) → ending node R ≡ Some 0 → HasCode bytes pc return_code → InFrame R B → EndsRun bytes trash node pc R B o
+pub return_ends : (bytes : List ℕ) (trash pc : ℕ) (R : ℕ → ℕ) (B : ℕ → Option ℕ) (o : List ℕ) (node : FormNode) → ending node R ≡ Some 0 → HasCode bytes pc return_code → InFrame R B → EndsRun bytes trash node pc R B o
 return_ends bytes trash pc R B o node end code frame =
     let R1 = put R 1 stop_address in
     let R2 = put R1 2 (add_words (R1 2) 272) in

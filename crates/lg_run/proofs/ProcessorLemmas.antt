@@ -1,12 +1,11 @@
 -- The registers and the memory of the processor.
-use Rattle.std.proofs.Common.{◌≡◌, ◌≢◌, ℕ, suc, ◌+◌, ◌-◌, ◌%◌, ◌<◌, ◌≤◌, List, [], length, replicate, Option, Some, None, Bool, true, false, refl, sym, ap, ◌∙◌, arith, ⊎_elim}
-use Rattle.std.specs.Prelude.{slice_index, slice_set, nat_lt, nat_le, ◌&&◌, ◌==◌, not, if◌then◌else◌}
+use Rattle.std.proofs.Common.{◌≡◌, ◌≢◌, ℕ, ◌+◌, ◌-◌, ◌%◌, ◌<◌, List, length, replicate, Option, Some, None, Bool, true, false, refl, sym, ap, ◌∙◌, arith, ⊎_elim}
+use Rattle.std.specs.Prelude.{slice_index, slice_set, nat_lt, nat_le, ◌&&◌, not, if◌then◌else◌}
 use Rattle.std.proofs.lemmas.List.{get_or-replicate, get_or_past}
 use Rattle.std.proofs.lemmas.Bool.{cases_eq, cases_lt, eq-eqb}
 use mathlib.Core.Path.{fun_ext}
 use Rattle.lg_base.specs.declared.target.Target.TheVariants as target
 use Rattle.lg_base.specs.Conventions.{is_kept}
-use Rattle.lg_base.specs.Spaces.{with_byte}
 use Rattle.lg_base.specs.Parts.{Parts, IsZeroed, byte_at, in_part, has, data_base, args_base, heap_base, stack_base}
 use Rattle.lg_base.proofs.SpaceLemmas.{slice_index-set, with_byte_same, with_byte_other}
 use Rattle.std.specs.Io.KnownBytes.{Appends}
@@ -56,22 +55,18 @@ lost_more n registers behind trash lt k e = slice_index-set behind n trash lt �
     (cases_eq r n))
 
 -- ---- the memory at the start
-pub start_is : (p : Parts) (args : List ℕ) → IsZeroed p → p.data_part ≡ [] → p.args_part ≡ args → byte_at p ≡ start_bytes args
-start_is p args z none same = fun_ext (λ a.
-    let no_data : has data_base p.data_part a ≡ false = ap (λ xs. has data_base xs a) none ∙ empty a in
+pub start_is : (p : Parts) (image args : List ℕ) → IsZeroed p → p.data_part ≡ image → p.args_part ≡ args → byte_at p ≡ start_bytes image args
+start_is p image args z is same = fun_ext (λ a.
     let heap_is : has heap_base p.heap_part a ≡ (nat_le heap_base a && nat_lt a (heap_base + 0x400000)) = ap (λ n. nat_le heap_base a && nat_lt a (heap_base + n)) z.heap_len in
     let stack_is : has stack_base p.stack_part a ≡ (nat_le stack_base a && nat_lt a (stack_base + 0x100000)) = ap (λ n. nat_le stack_base a && nat_lt a (stack_base + n)) z.stack_len in
     let heap_zero : slice_index p.heap_part (a - heap_base) ≡ 0 = ap (λ f. f (a - heap_base)) z.heap in
     let stack_zero : slice_index p.stack_part (a - stack_base) ≡ 0 = ap (λ f. f (a - stack_base)) z.stack in
-    ap (λ b. if b then Some (slice_index p.data_part (a - data_base)) else in_part args_base p.args_part a (in_part heap_base p.heap_part a (in_part stack_base p.stack_part a None))) no_data
-    ∙ ap (λ xs. in_part args_base xs a (in_part heap_base p.heap_part a (in_part stack_base p.stack_part a None))) same
-    ∙ ap (λ b. in_part args_base args a (if b then Some (slice_index p.heap_part (a - heap_base)) else in_part stack_base p.stack_part a None)) heap_is
-    ∙ ap (λ n. in_part args_base args a (if (nat_le heap_base a && nat_lt a (heap_base + 0x400000)) then Some n else in_part stack_base p.stack_part a None)) heap_zero
-    ∙ ap (λ b. in_part args_base args a (if (nat_le heap_base a && nat_lt a (heap_base + 0x400000)) then Some 0 else (if b then Some (slice_index p.stack_part (a - stack_base)) else None))) stack_is
-    ∙ ap (λ n. in_part args_base args a (if (nat_le heap_base a && nat_lt a (heap_base + 0x400000)) then Some 0 else (if (nat_le stack_base a && nat_lt a (stack_base + 0x100000)) then Some n else None))) stack_zero)
-  where
-    empty : (a : ℕ) → has data_base [] a ≡ false
-    empty a = grind arith
+    ap (λ xs. in_part data_base xs a (in_part args_base p.args_part a (in_part heap_base p.heap_part a (in_part stack_base p.stack_part a None)))) is
+    ∙ ap (λ xs. in_part data_base image a (in_part args_base xs a (in_part heap_base p.heap_part a (in_part stack_base p.stack_part a None)))) same
+    ∙ ap (λ b. in_part data_base image a (in_part args_base args a (if b then Some (slice_index p.heap_part (a - heap_base)) else in_part stack_base p.stack_part a None))) heap_is
+    ∙ ap (λ n. in_part data_base image a (in_part args_base args a (if (nat_le heap_base a && nat_lt a (heap_base + 0x400000)) then Some n else in_part stack_base p.stack_part a None))) heap_zero
+    ∙ ap (λ b. in_part data_base image a (in_part args_base args a (if (nat_le heap_base a && nat_lt a (heap_base + 0x400000)) then Some 0 else (if b then Some (slice_index p.stack_part (a - stack_base)) else None)))) stack_is
+    ∙ ap (λ n. in_part data_base image a (in_part args_base args a (if (nat_le heap_base a && nat_lt a (heap_base + 0x400000)) then Some 0 else (if (nat_le stack_base a && nat_lt a (stack_base + 0x100000)) then Some n else None)))) stack_zero)
 
 -- ---- what a step says
 pub says_from : (e : Effect) (old new : Cpu) (taken taken' : Option (List ℕ)) (count count' : ℕ) (answer : CpuStep) (stands : Stands) → e.stands ≡ stands → answer ≡ answer_of e.stands → core_of new ≡ e.to → new.trash ≡ old.trash → Appends taken taken' e.written

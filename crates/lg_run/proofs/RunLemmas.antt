@@ -1,10 +1,10 @@
 -- One more step of a run.
-use Rattle.std.proofs.Common.{◌≡◌, ℕ, zero, suc, ◌+◌, ◌≤◌, List, [], ◌++◌, Option, refl, sym, ap, ◌∙◌, subst, arith, add-one, ⊎_elim}
+use Rattle.std.proofs.Common.{◌≡◌, ℕ, suc, ◌+◌, ◌≤◌, List, [], Option, sym, ap, ◌∙◌, subst, arith, ⊎_elim}
 use Rattle.std.specs.Io.KnownBytes.{Appends}
 use Rattle.std.proofs.KnownBytes.{Appends-trans}
 use Rattle.std.proofs.lemmas.Bool.{cases_lt}
 use Rattle.lg_temp.proofs.Steps.{iter-zero, iter-suc}
-use Rattle.lg_run.specs.Processor.{Core, Effect, Processor, Stands, Goes, effect, step, after, on_going}
+use Rattle.lg_run.specs.Processor.{Core, Goes, effect, step, after, on_going}
 use Rattle.lg_run.specs.Says.{run}
 
 pub run-zero : (code : List ℕ) (trash : ℕ) (core : Core) → run code trash core 0 ≡ record { core = core; stands = Goes; out = [] }

@@ -1,10 +1,10 @@
 -- The processor that the code of the first form runs on: RV64I (RISC-V unprivileged ISA), of which it knows the rows lui,
 -- addi, add, ld, sd and jalr, and the host functions putchar and exit.
-use Rattle.std.specs.Prelude.{◌≡◌, ℕ, ◌+◌, ◌-◌, ◌*◌, ◌/◌, ◌%◌, ◌^◌, ◌==◌, ◌&&◌, not, Bool, true, nat_le, nat_lt, ℤ, List, [], ◌∷◌, ◌++◌, length, drop, slice_index, Option, Some, None, if◌then◌else◌}
+use Rattle.std.specs.Prelude.{ℕ, ◌+◌, ◌-◌, ◌*◌, ◌/◌, ◌%◌, ◌==◌, ◌&&◌, not, Bool, nat_le, nat_lt, ℤ, List, [], ◌∷◌, ◌++◌, length, drop, slice_index, Option, Some, None, if◌then◌else◌}
 use Rattle.lg_base.specs.Fields.{word_of}
 use Rattle.lg_base.specs.Words.{add_words, sign_32}
 use Rattle.lg_base.specs.Spaces.{mapped, loaded, stored}
-use Rattle.lg_base.specs.Parts.{args_base, heap_base, stack_base}
+use Rattle.lg_base.specs.Parts.{data_base, args_base, heap_base, stack_base}
 use Rattle.lg_base.specs.Layout.{stop_address, code_base, stack_end}
 use Rattle.lg_base.specs.Arguments.{args_of}
 use Rattle.lg_base.specs.HostNames.{host_by_address}
@@ -176,10 +176,11 @@ processor code trash = record { step = step code trash; status = λ s. status_of
 
 -- ---- the start
 
--- the argument part, and zeros in heap and stack
-abbrev pub start_bytes : List ℕ → ℕ → Option ℕ
-start_bytes args a =
-    if nat_le args_base a && nat_lt a (args_base + length args) then Some (slice_index args (a - args_base))
+-- the data part, the argument part, and zeros in heap and stack
+abbrev pub start_bytes : List ℕ → List ℕ → ℕ → Option ℕ
+start_bytes image args a =
+    if nat_le data_base a && nat_lt a (data_base + length image) then Some (slice_index image (a - data_base))
+    else if nat_le args_base a && nat_lt a (args_base + length args) then Some (slice_index args (a - args_base))
     else if nat_le heap_base a && nat_lt a (heap_base + 0x400000) then Some 0
     else if nat_le stack_base a && nat_lt a (stack_base + 0x100000) then Some 0
     else None
@@ -194,7 +195,7 @@ start_registers count trash r =
     else if nat_lt r 32 then trash
     else 0
 
--- the run of the code with these words as the arguments
-abbrev pub start : List (List ℕ) → ℕ → Processor
-start words trash =
-    going code_base (start_registers (length words) trash) (start_bytes (args_of words)) []
+-- the run of the code with this data part and these words as the arguments
+abbrev pub start : List ℕ → List (List ℕ) → ℕ → Processor
+start image words trash =
+    going code_base (start_registers (length words) trash) (start_bytes image (args_of words)) []

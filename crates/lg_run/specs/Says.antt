@@ -1,28 +1,26 @@
 -- What the top call says.
-use Rattle.std.specs.Prelude.{◌≡◌, ◌⊎◌, ℕ, ◌+◌, ◌<◌, ◌≤◌, List, [], ◌∷◌, ◌++◌, length, take, Option, Some, None, IfSome, option_and_then, option_map}
+use Rattle.std.specs.Prelude.{◌≡◌, ◌⊎◌, ℕ, ◌+◌, ◌<◌, ◌≤◌, List, [], ◌∷◌, ◌++◌, length, take, Option, Some, None, IfSome, option_and_then}
 use Rattle.std.specs.Io.KnownBytes.{Appends}
 use Rattle.lg_base.specs.Runs.{iter}
 use Rattle.lg_base.specs.declared.target.Target.TheVariants.{Riscv64}
-use Rattle.lg_base.specs.declared.refusal.Refusal.{Refusal}
-use Rattle.lg_base.specs.declared.refusal.RefusalKind.TheVariants.{NotYet, TextTooLong}
 use Rattle.lg_io.specs.Counts.{Rose}
 use Rattle.lg_io.specs.Wrote.{AppendsPrefix}
 use Rattle.lg_io.specs.NamedTexts.{NamedTexts, text_under}
-use Rattle.lg_run.specs.Reading.{unit_of}
-use Rattle.lg_run.specs.Processor.{Core, Processor, Stands, Goes, EndedWith, Faulted, step, effect, start}
+use Rattle.lg_node.specs.Checks.{IsAccepted}
+use Rattle.lg_node.specs.declared.unit.Unit.{Unit as TextUnit}
+use Rattle.lg_run.specs.FirstForm.{IsFirstForm}
+use Rattle.lg_run.specs.Refused.{IsRefusedText, IsUnitOf}
+use Rattle.lg_run.specs.Processor.{Core, Processor, Goes, EndedWith, Faulted, step, effect, start}
 use Rattle.lg_run.specs.Agreement.{Agrees, EndsWithin, most_run}
 use Rattle.lg_run.specs.Lines.{line_of}
-use Rattle.lg_run.specs.declared.form.Item.{Item}
+use Rattle.lg_run.specs.declared.form.FormNode.{FormNode}
 use Rattle.lg_run.specs.declared.answer.Code.{Code}
 use Rattle.lg_run.specs.declared.answer.Answer.{Answer}
 use Rattle.lg_run.specs.declared.answer.Answer.TheVariants.{Ended, Listed, Undefined, Refused, Usage, ReadFault, WriteFault, StepsOut, Fault, OutOfMemory}
 
 -- ---- limits
 
--- the most bytes of a text and of its code, and the most steps of a run
-abbrev pub most_text : ℕ
-most_text = 16777216
-
+-- the most bytes of code, and the most steps of a run
 abbrev pub most_code : ℕ
 most_code = 1048576
 
@@ -32,18 +30,6 @@ most_steps = 1000000000
 -- what registers hold at first, and behind a call of a host function
 abbrev pub trash_word : ℕ
 trash_word = 0x5A5A5A5A5A5A5A5A
-
--- ---- refusals
-
-abbrev pub text_too_long : Refusal
-text_too_long = record { kind = TextTooLong; line = 0 }
-
-abbrev pub not_yet : Refusal
-not_yet = record { kind = NotYet; line = 0 }
-
--- a text of the allowed length that is not of the first form
-abbrev pub IsNotYet : List ℕ → Type 0
-IsNotYet text = (length text ≤ most_text) × (unit_of text ≡ None)
 
 -- ---- runs
 
@@ -78,6 +64,10 @@ NotStuck other = Unit {0}
 abbrev pub text_of : Option NamedTexts → List ℕ → Option (List ℕ)
 text_of held name = option_and_then (λ texts. text_under texts name) held
 
+-- a text is the one of a name; where the texts are not told, it may be any one
+abbrev pub IsTextUnder : Option NamedTexts → List ℕ → List ℕ → Type 0
+IsTextUnder held name text = IfSome (text_of held name) (λ t. t ≡ text)
+
 -- what a call changes: the bytes that out has taken and the counts of texts and out, before and after
 pub record Change : Type 0 where
   pub taken : Option (List ℕ)
@@ -100,39 +90,49 @@ pub record IsUntouched (code : Option Code) (steps : ℕ) (c : Change) : Type 0 
   pub still : steps ≡ 0
   pub out : c.taken' ≡ c.taken
 
--- this code ran with the file as its one argument word
-pub record Runs (file : List ℕ) (code : Option Code) (steps : ℕ) (c : Change) (answer : Answer) : Type 0 where
+-- this code ran with the data part of the text's unit, and the file as its one argument word
+pub record Runs (file text : List ℕ) (code : Option Code) (steps : ℕ) (c : Change) (answer : Answer) : Type 0 where
   pub ran : Code
   pub is : code ≡ Some ran
-  pub says : RunSays ran.bytes.items trash_word (start (file ∷ []) trash_word).core most_steps steps c.taken c.taken' c.writes c.writes' answer
+  pub unit : TextUnit
+  pub reads : IsUnitOf text unit
+  pub says : RunSays ran.bytes.items trash_word (start unit.image (file ∷ []) trash_word).core most_steps steps c.taken c.taken' c.writes c.writes' answer
 
 -- what each answer says of the text, the code, the steps and what was changed
-abbrev pub AnswerSays : List ℕ → Option (List ℕ) → Option Code → ℕ → Change → Answer → Type 0
-AnswerSays file text code steps c (Ended status) = Runs file code steps c (Ended status)
-AnswerSays file text code steps c StepsOut = Runs file code steps c StepsOut
-AnswerSays file text code steps c (Fault kind pc) = Runs file code steps c (Fault kind pc)
-AnswerSays file text code steps c WriteFault = Rose c.writes c.writes' × Runs file code steps c WriteFault
-AnswerSays file text code steps c (Refused refusal) =
-    IsUntouched code steps c
-    × (((refusal ≡ text_too_long) × IfSome text (λ t. most_text < length t)) ⊎ ((refusal ≡ not_yet) × IfSome text IsNotYet))
+abbrev pub AnswerSays : List ℕ → List ℕ → Option Code → ℕ → Change → Answer → Type 0
+AnswerSays file text code steps c (Ended status) = Runs file text code steps c (Ended status)
+AnswerSays file text code steps c StepsOut = Runs file text code steps c StepsOut
+AnswerSays file text code steps c (Fault kind pc) = Runs file text code steps c (Fault kind pc)
+AnswerSays file text code steps c WriteFault = Rose c.writes c.writes' × Runs file text code steps c WriteFault
+AnswerSays file text code steps c (Refused refusal) = IsUntouched code steps c × IsRefusedText text refusal
 AnswerSays file text code steps c ReadFault = IsUntouched code steps c × Rose c.reads c.reads'
 AnswerSays file text code steps c OutOfMemory = IsUntouched code steps c
 AnswerSays file text code steps c Usage = ⊥
 AnswerSays file text code steps c Listed = ⊥
 AnswerSays file text code steps c (Undefined line) = ⊥
 
--- the code is that of a text of the first form: it is made for RV64, fits the size, agrees with the text's meaning, and
--- each run of it ends
-pub record IsCodeOf (text : Option (List ℕ)) (code : Code) : Type 0 where
-  pub items : List Item
-  pub reads : IfSome text (λ t. (length t ≤ most_text) × (unit_of t ≡ Some items))
+-- the code is that of a text whose unit is accepted and of the first form: it is made for RV64, fits the size, agrees with the unit's
+-- meaning over the addresses of its labels, and each run of it ends
+pub record IsCodeOf (text : List ℕ) (code : Code) : Type 0 where
+  pub unit : TextUnit
+  pub reads : IsUnitOf text unit
+  pub accepted : IsAccepted unit.nodes
+  pub nodes : List FormNode
+  pub form : IsFirstForm unit.nodes nodes
   pub target : code.target ≡ Riscv64
   pub size : length code.bytes.items ≤ most_code
-  pub agrees : Agrees code.bytes.items items
+  pub agrees : Agrees code.bytes.items code.labels unit
   pub ends : EndsWithin most_run code.bytes.items
 
-abbrev pub CodeSays : Option (List ℕ) → Option Code → Type 0
+abbrev pub CodeSays : List ℕ → Option Code → Type 0
 CodeSays text code = IfSome code (IsCodeOf text)
+
+-- what is said of the text that the file holds, or of some text where that is not told
+pub record WorkSays (file : List ℕ) (held : Option NamedTexts) (code : Option Code) (steps : ℕ) (c : Change) (answer : Answer) : Type 0 where
+  pub text : List ℕ
+  pub is : IsTextUnder held file text
+  pub says : AnswerSays file text code steps c answer
+  pub made : CodeSays text code
 
 -- the line of the inner answer stands on err and that is the answer, or a part of it stands there and the answer is a write fault
 abbrev pub ReportSays : List ℕ → ℕ → ErrChange → Answer → Answer → Type 0
@@ -144,4 +144,4 @@ ReportSays file steps e inner outer =
 abbrev pub Says : Option (List ℕ) → Option NamedTexts → Option Code → ℕ → Change → ErrChange → Answer → Type 0
 Says None held code steps c e outer = IsUntouched code steps c × ReportSays [] steps e Usage outer
 Says (Some file) held code steps c e outer =
-    (inner : Answer) × AnswerSays file (text_of held file) code steps c inner × CodeSays (text_of held file) code × ReportSays file steps e inner outer
+    (inner : Answer) × WorkSays file held code steps c inner × ReportSays file steps e inner outer

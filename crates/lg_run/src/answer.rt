@@ -7,6 +7,7 @@ use lg_base::code::CodeBytes;
 use lg_base::fault::FaultKind;
 use lg_base::refusal::Refusal;
 use lg_base::target::Target;
+use lg_node::LabelAddresses;
 
 /// What the top call comes to.
 #[derive(Clone, Copy, Debug, PartialEq, Eq)]
@@ -46,17 +47,20 @@ pub enum Answer {
 pub struct Code {
     target: Target,
     bytes: CodeBytes,
+    labels: LabelAddresses,
 }
 
 impl Code {
-    // The code for RV64 that has these bytes.
-    pub(crate) fn of_bytes(bytes: CodeBytes) -> Code
+    // The code for RV64 that has these bytes, of a text whose labels have these addresses.
+    pub(crate) fn of_bytes(bytes: CodeBytes, labels: LabelAddresses) -> Code
         ensures target { result.target ≡ Target.Riscv64 }
         ensures bytes { result.bytes ≡ bytes }
+        ensures labels { result.labels ≡ labels }
     {
         Code {
             target: Target::Riscv64,
             bytes,
+            labels,
         }
     }
 
@@ -72,6 +76,13 @@ impl Code {
         ensures { result.now ≡ self.now.bytes }
     {
         &self.bytes
+    }
+
+    /// The address of each label of the text, in the order of the labels.
+    pub fn labels(&self) -> &LabelAddresses
+        ensures { result.now ≡ self.now.labels }
+    {
+        &self.labels
     }
 }
 

@@ -1,12 +1,11 @@
-// Code for the items of a text.
+// Code for the nodes of a text.
 
-ghost use Rattle.std.specs.Prelude.{◌≡◌, ◌++◌, ◌∷◌, [], ℕ, pos, ◌≤ℤ◌, negsuc, length, OnOk, IfOk};
+ghost use Rattle.std.specs.Prelude.{◌≡◌, ◌++◌, ◌∷◌, [], ℕ, pos, ◌≤ℤ◌, negsuc, OnOk, IfOk};
 ghost use Rattle.lg_rv.specs.Spelling.{IsInstr, spelling};
-ghost use Rattle.lg_run.specs.Emission.{bytes_of, code_of, enter_code, return_code};
-ghost use Rattle.lg_run.specs.Nodes.{nodes_of_item, nodes_of, body_nodes};
-ghost use Rattle.lg_run.specs.Ranges.{IsItem, AreItems};
+ghost use Rattle.lg_run.specs.Emission.{bytes_of, code_of, node_code, enter_code, return_code};
+ghost use Rattle.lg_run.specs.FirstForm.{IsRanged, AreRanged};
 
-use crate::form::{Callee, Item, Register};
+use crate::form::{Callee, FormNode, Register};
 use lg_base::refusal::OutOfMemory;
 use lg_rv::{ImmOp, Instr, RegOp, StoreOp, UpperOp, encode};
 use std::alloc::Global;
@@ -47,7 +46,7 @@ fn push_add(
     left: Register,
     right: Register,
 ) -> Result<(), OutOfMemory>
-    ensures { OnOk result (bytes.new.items ≡ bytes.old.items ++ bytes_of (code_of (nodes_of_item (Item.Addr to left right)))) }
+    ensures { OnOk result (bytes.new.items ≡ bytes.old.items ++ bytes_of (node_code (FormNode.Addr to left right))) }
 {
     push(
         bytes,
@@ -60,11 +59,10 @@ fn push_add(
     )
 }
 
-// Appends the call of a host function on a register.
-fn push_call(bytes: &mut Vec<u8>, argument: Register, callee: Callee) -> Result<(), OutOfMemory>
-    ensures { OnOk result (bytes.new.items ≡ bytes.old.items ++ bytes_of (code_of (nodes_of_item (Item.Call argument callee)))) }
+// Appends the call of a host function.
+fn push_call(bytes: &mut Vec<u8>, callee: Callee) -> Result<(), OutOfMemory>
+    ensures { OnOk result (bytes.new.items ≡ bytes.old.items ++ bytes_of (node_code (FormNode.Finishi callee))) }
 {
-    push_imm(bytes, ImmOp::Addi, ARGUMENT, argument.hardware(), 0)?;
     push(
         bytes,
         Instr::Upper {
@@ -101,32 +99,36 @@ fn push_return(bytes: &mut Vec<u8>) -> Result<(), OutOfMemory>
     push_imm(bytes, ImmOp::Jalr, ZERO, LINK, 0)
 }
 
-// Appends the code of an item.
-fn push_item(bytes: &mut Vec<u8>, item: Item) -> Result<(), OutOfMemory>
-    requires { IsItem item }
-    ensures { OnOk result (bytes.new.items ≡ bytes.old.items ++ bytes_of (code_of (nodes_of_item item))) }
+// Appends the code of a node.
+fn push_node(bytes: &mut Vec<u8>, node: FormNode) -> Result<(), OutOfMemory>
+    requires { IsRanged node }
+    ensures { OnOk result (bytes.new.items ≡ bytes.old.items ++ bytes_of (node_code node)) }
 {
-    match item {
-        Item::Movi { to, number } => push_imm(bytes, ImmOp::Addi, to.hardware(), ZERO, number),
-        Item::Addi { to, from, number } => {
+    match node {
+        FormNode::Prolog => push_enter(bytes),
+        FormNode::Movi { to, number } => push_imm(bytes, ImmOp::Addi, to.hardware(), ZERO, number),
+        FormNode::Addi { to, from, number } => {
             push_imm(bytes, ImmOp::Addi, to.hardware(), from.hardware(), number)
         }
-        Item::Addr { to, left, right } => push_add(bytes, to, left, right),
-        Item::Call { argument, callee } => push_call(bytes, argument, callee),
+        FormNode::Addr { to, left, right } => push_add(bytes, to, left, right),
+        FormNode::Prepare => Ok(()),
+        FormNode::Pushargr { argument } => {
+            push_imm(bytes, ImmOp::Addi, ARGUMENT, argument.hardware(), 0)
+        }
+        FormNode::Finishi { callee } => push_call(bytes, callee),
+        FormNode::Ret => push_return(bytes),
+        FormNode::Epilog => push_return(bytes),
     }
 }
 
-/// The code of a text's items: the code of `prolog`, of each item, of `ret` and of `epilog`.
-pub fn code(alloc: Global, items: &[Item]) -> Result<Vec<u8>, OutOfMemory>
-    requires { AreItems items.now }
-    ensures { IfOk result (λ code. code.items ≡ bytes_of (code_of (nodes_of items.now))) }
+/// The code of nodes in a row.
+pub fn code(alloc: Global, nodes: &[FormNode]) -> Result<Vec<u8>, OutOfMemory>
+    requires { AreRanged nodes.now }
+    ensures { IfOk result (λ code. code.items ≡ bytes_of (code_of nodes.now)) }
 {
     let mut bytes = Vec::new(alloc);
-    push_enter(&mut bytes)?;
-    for item in items {
-        push_item(&mut bytes, *item)?;
+    for node in nodes {
+        push_node(&mut bytes, *node)?;
     }
-    push_return(&mut bytes)?;
-    push_return(&mut bytes)?;
     Ok(bytes)
 }

@@ -1,9 +1,11 @@
 // What a text of the first form is made of.
 
 ghost use Rattle.std.specs.Prelude.{◌≡◌, ◌<◌, ◌*◌, pos};
-ghost use Rattle.lg_run.specs.Forms.{register_word, register_by_word, callee_word, callee_by_word, hardware, host_of};
-ghost use Rattle.lg_run.specs.Reading.{nodes_in};
 ghost use Rattle.lg_base.specs.HostNames.{host_index};
+ghost use Rattle.lg_run.specs.Forms.{hardware, host_of, register_of, register_in, small, number_in, callee_of, callee_in, movi_form, addi_form, addr_form, pushargr_form, finishi_form, plain_form, form_at};
+
+use lg_base::host_name::HostName;
+use lg_node::{BinaryOp, ControlOp, LastOperand, Node, Op, Operand, PlainOp, Reg};
 
 /// A register that an operand names.
 #[derive(Clone, Copy, Debug, PartialEq, Eq)]
@@ -23,9 +25,10 @@ pub enum Callee {
     Exit,
 }
 
-/// An item of a text of the first form. Numbers are from -2,048 to 2,047.
+/// A node of a text of the first form. Numbers are from -2,048 to 2,047.
 #[derive(Clone, Copy, Debug, PartialEq, Eq)]
-pub enum Item {
+pub enum FormNode {
+    Prolog,
     Movi {
         to: Register,
         number: i32,
@@ -40,65 +43,31 @@ pub enum Item {
         left: Register,
         right: Register,
     },
-    Call {
+    Prepare,
+    Pushargr {
         argument: Register,
+    },
+    Finishi {
         callee: Callee,
     },
-}
-
-/// What stands at a statement's place: an item, or the end of the function.
-#[derive(Clone, Copy, Debug, PartialEq, Eq)]
-pub enum Statement {
-    Item(Item),
     Ret,
+    Epilog,
 }
-
-impl Item {
-    /// How many nodes the item is.
-    pub fn nodes(self) -> u32
-        ensures { result ≡ nodes_in self }
-    {
-        match self {
-            Item::Call { .. } => 3,
-            _ => 1,
-        }
-    }
-}
-
-static REGISTERS: [Register; 6] = [
-    Register::R0,
-    Register::R1,
-    Register::R2,
-    Register::V0,
-    Register::V1,
-    Register::V2,
-];
-
-static CALLEES: [Callee; 2] = [Callee::Putchar, Callee::Exit];
 
 impl Register {
-    /// The word of an operand that names the register.
-    pub fn word(self) -> &'static [u8]
-        ensures { result.now ≡ register_word self }
+    // The register that stands for one of the portable machine; there is none for the frame pointer.
+    fn of(reg: Reg) -> Option<Register>
+        ensures { result ≡ register_of reg }
     {
-        match self {
-            Register::R0 => b"%r0",
-            Register::R1 => b"%r1",
-            Register::R2 => b"%r2",
-            Register::V0 => b"%v0",
-            Register::V1 => b"%v1",
-            Register::V2 => b"%v2",
+        match reg {
+            Reg::R0 => Some(Register::R0),
+            Reg::R1 => Some(Register::R1),
+            Reg::R2 => Some(Register::R2),
+            Reg::V0 => Some(Register::V0),
+            Reg::V1 => Some(Register::V1),
+            Reg::V2 => Some(Register::V2),
+            Reg::Fp => None,
         }
-    }
-
-    /// The register that a word names.
-    pub fn by_word(word: &[u8]) -> Option<Register>
-        ensures { result ≡ register_by_word word.now }
-    {
-        REGISTERS
-            .iter()
-            .copied()
-            .find(|register| word == register.word())
     }
 
     /// The number of the register of RV64 that stands for it.
@@ -118,21 +87,15 @@ impl Register {
 }
 
 impl Callee {
-    /// The word of an operand that names the function.
-    pub fn word(self) -> &'static [u8]
-        ensures { result.now ≡ callee_word self }
+    // The callee that a host function is.
+    fn of(name: HostName) -> Option<Callee>
+        ensures { result ≡ callee_of name }
     {
-        match self {
-            Callee::Putchar => b"@putchar",
-            Callee::Exit => b"@exit",
+        match name {
+            HostName::Putchar => Some(Callee::Putchar),
+            HostName::Exit => Some(Callee::Exit),
+            _ => None,
         }
-    }
-
-    /// The function that a word names.
-    pub fn by_word(word: &[u8]) -> Option<Callee>
-        ensures { result ≡ callee_by_word word.now }
-    {
-        CALLEES.iter().copied().find(|callee| word == callee.word())
     }
 
     /// How far behind the first host entry the function's entry stands.
@@ -143,5 +106,141 @@ impl Callee {
             Callee::Putchar => 32,
             Callee::Exit => 48,
         }
+    }
+}
+
+// The register that an operand names.
+fn register_in(operand: Operand) -> Option<Register>
+    ensures { result ≡ register_in operand }
+{
+    match operand {
+        Operand::Reg(reg) => Register::of(reg),
+        _ => None,
+    }
+}
+
+// The signed view of a word, where it is from -2,048 to 2,047.
+fn small(word: u64) -> Option<i32>
+    ensures { result ≡ small word }
+{
+    if word <= 2047 {
+        return Some(word as i32);
+    }
+    if word >= 0xffff_ffff_ffff_f800 {
+        return Some(-1 - ((u64::MAX - word) as i32));
+    }
+    None
+}
+
+// The number that an operand is, where it is from -2,048 to 2,047.
+fn number_in(operand: Operand) -> Option<i32>
+    ensures { result ≡ number_in operand }
+{
+    match operand {
+        Operand::Number(word) => small(word),
+        _ => None,
+    }
+}
+
+// The host function that an operand names.
+fn callee_in(operand: Operand) -> Option<Callee>
+    ensures { result ≡ callee_in operand }
+{
+    match operand {
+        Operand::Host(name) => Callee::of(name),
+        _ => None,
+    }
+}
+
+fn movi_form(operands: &[Operand]) -> Option<FormNode>
+    ensures { result ≡ movi_form operands.now }
+{
+    match operands {
+        [a, b] => {
+            let to = register_in(*a)?;
+            let number = number_in(*b)?;
+            Some(FormNode::Movi { to, number })
+        }
+        _ => None,
+    }
+}
+
+fn addi_form(operands: &[Operand]) -> Option<FormNode>
+    ensures { result ≡ addi_form operands.now }
+{
+    match operands {
+        [a, b, c] => {
+            let to = register_in(*a)?;
+            let from = register_in(*b)?;
+            let number = number_in(*c)?;
+            Some(FormNode::Addi { to, from, number })
+        }
+        _ => None,
+    }
+}
+
+fn addr_form(operands: &[Operand]) -> Option<FormNode>
+    ensures { result ≡ addr_form operands.now }
+{
+    match operands {
+        [a, b, c] => {
+            let to = register_in(*a)?;
+            let left = register_in(*b)?;
+            let right = register_in(*c)?;
+            Some(FormNode::Addr { to, left, right })
+        }
+        _ => None,
+    }
+}
+
+fn pushargr_form(operands: &[Operand]) -> Option<FormNode>
+    ensures { result ≡ pushargr_form operands.now }
+{
+    match operands {
+        [a] => {
+            let argument = register_in(*a)?;
+            Some(FormNode::Pushargr { argument })
+        }
+        _ => None,
+    }
+}
+
+fn finishi_form(operands: &[Operand]) -> Option<FormNode>
+    ensures { result ≡ finishi_form operands.now }
+{
+    match operands {
+        [a] => {
+            let callee = callee_in(*a)?;
+            Some(FormNode::Finishi { callee })
+        }
+        _ => None,
+    }
+}
+
+fn plain_form(op: PlainOp, operands: &[Operand]) -> Option<FormNode>
+    ensures { result ≡ plain_form op operands.now }
+{
+    match op {
+        PlainOp::Prolog => Some(FormNode::Prolog),
+        PlainOp::Movi => movi_form(operands),
+        PlainOp::Prepare => Some(FormNode::Prepare),
+        PlainOp::Ret => Some(FormNode::Ret),
+        PlainOp::Epilog => Some(FormNode::Epilog),
+        _ => None,
+    }
+}
+
+/// The node of the first form that a node of a unit is, and None for every other node.
+pub fn form_at(node: &Node) -> Option<FormNode>
+    ensures { result ≡ form_at node.now }
+{
+    let operands = node.operands.as_slice();
+    match node.op {
+        Op::Plain(op) => plain_form(op, operands),
+        Op::Binary(BinaryOp::Add, LastOperand::Immediate) => addi_form(operands),
+        Op::Binary(BinaryOp::Add, LastOperand::Register) => addr_form(operands),
+        Op::Control(ControlOp::Pusharg, LastOperand::Register) => pushargr_form(operands),
+        Op::Control(ControlOp::Finish, LastOperand::Immediate) => finishi_form(operands),
+        _ => None,
     }
 }

@@ -2,16 +2,16 @@
 //! model of the processor.
 #![tactic(auto)]
 
+mod addresses;
 pub mod answer;
 mod emit;
+mod first_form;
 mod form;
 pub mod laws;
 mod lines;
-mod numbers;
-mod parse;
 mod processor;
+mod reading;
 mod run;
 mod source;
-mod tokens;
 pub mod top;
 mod words;

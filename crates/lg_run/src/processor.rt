@@ -9,7 +9,7 @@ ghost use Rattle.lg_run.specs.Processor.{read, behind_call, start_registers, sta
 
 use lg_base::fault::FaultKind;
 use lg_base::host_name::HostName;
-use lg_base::image::ArgImage;
+use lg_base::image::{ArgImage, DataImage};
 use lg_base::memory::Memory;
 use lg_base::number::sign_extended;
 use lg_base::refusal::OutOfMemory;
@@ -97,16 +97,23 @@ impl Cpu {
     ghost use Rattle.lg_base.specs.Parts.{byte_at};
     ghost use Rattle.lg_run.specs.Machines.{core_of, Does, StepSays};
 
-    /// A processor before its first step: at the first address of code, with the argument part and the number of
+    /// A processor before its first step: at the first address of code, with the data part, the argument part and the number of
     /// arguments.
-    pub fn new(alloc: Global, args: &ArgImage, count: u64, trash: u64) -> Result<Cpu, OutOfMemory>
-        requires { length args.now ≤ 0x100000 }
-        ensures core { IfOk result (λ c. core_of c ≡ record { pc = code_base; registers = start_registers count trash; bytes = start_bytes args.now }) }
+    pub fn new(
+        alloc: Global,
+        image: &DataImage,
+        args: &ArgImage,
+        count: u64,
+        trash: u64,
+    ) -> Result<Cpu, OutOfMemory>
+        requires image { length image.now ≤ 0x1000000 }
+        requires args { length args.now ≤ 0x100000 }
+        ensures core { IfOk result (λ c. core_of c ≡ record { pc = code_base; registers = start_registers count trash; bytes = start_bytes image.now args.now }) }
         ensures trash { IfOk result (λ c. c.trash ≡ trash) }
     {
         Ok(Cpu {
             registers: registers_at_start(count, trash),
-            memory: Memory::with_parts(alloc, &[], args.as_slice())?,
+            memory: Memory::with_parts(alloc, image.as_slice(), args.as_slice())?,
             pc: CODE,
             trash,
         })

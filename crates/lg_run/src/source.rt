@@ -3,7 +3,8 @@
 ghost use Rattle.std.specs.Prelude.{◌≡◌, ◌≤◌, ◌<◌, length, IfOk, IfSome, Err};
 ghost use Rattle.std.specs.Io.KnownBytes.{Consumes, IsAtEnd};
 ghost use Rattle.lg_io.specs.Counts.{Rose};
-ghost use Rattle.lg_run.specs.Says.{text_of, most_text};
+ghost use Rattle.lg_run.specs.Refused.{most_text};
+ghost use Rattle.lg_run.specs.Says.{text_of};
 
 use lg_base::refusal::OutOfMemory;
 use lg_io::texts::Texts;

@@ -5,27 +5,28 @@ ghost use Rattle.lg_base.specs.Arguments.{texts_of, args_of, most_args};
 ghost use Rattle.lg_base.specs.declared.fault.FaultKind.{FaultKind};
 ghost use Rattle.lg_base.specs.declared.target.Target.{Target};
 ghost use Rattle.lg_io.specs.Counts.{Rose};
+ghost use Rattle.lg_node.specs.Checks.{IsAccepted};
 ghost use Rattle.lg_run.specs.Agreement.{Agrees, EndsWithin, most_run};
-ghost use Rattle.lg_run.specs.Causes.{CutShort, IsRefused};
+ghost use Rattle.lg_run.specs.Causes.{CutShort, IsRefusedCall};
 ghost use Rattle.lg_run.specs.Command.{command_of, is_file};
 ghost use Rattle.lg_run.specs.Machines.{core_of};
-ghost use Rattle.lg_run.specs.Ranges.{AreItems};
 ghost use Rattle.lg_run.specs.Processor.{start};
-ghost use Rattle.lg_run.specs.Reading.{unit_of, node_count, most_nodes};
-ghost use Rattle.lg_run.specs.Says.{AnswerSays, CodeSays, IsCodeOf, IsUntouched, NotStuck, ReportSays, RunSays, Says, most_code, most_text, not_yet, text_of, text_too_long, trash_word};
+ghost use Rattle.lg_run.specs.FirstForm.{IsFirstForm};
+ghost use Rattle.lg_run.specs.Refused.{IsRefusedText, IsUnitOf, most_text, text_too_long};
+ghost use Rattle.lg_run.specs.Says.{AnswerSays, CodeSays, IsCodeOf, IsUntouched, NotStuck, ReportSays, RunSays, Says, WorkSays, most_code, text_of, trash_word};
 
+use crate::addresses::label_addresses;
 use crate::answer::{Answer, Code, Done};
 use crate::emit::code;
-use crate::form::Item;
 use crate::lines::write_line;
-use crate::parse::read_form;
 use crate::processor::Cpu;
+use crate::reading::{Accepted, read_unit};
 use crate::run::run;
 use crate::source::{ReadStop, read_text};
 use crate::words::read_words;
 use lg_base::args::args_image;
 use lg_base::code::CodeBytes;
-use lg_base::image::ArgImage;
+use lg_base::image::{ArgImage, DataImage};
 use lg_base::refusal::{OutOfMemory, Refusal, RefusalKind, Stop};
 use lg_io::sink::Sink;
 use lg_io::texts::Texts;
@@ -45,24 +46,28 @@ fn without_code(answer: Answer) -> Done
     }
 }
 
-// A refusal for which no line is to blame.
-fn refused(kind: RefusalKind) -> Answer
-    ensures { result ≡ Answer.Refused record { kind = kind; line = 0 } }
+// The refusal of a text that is too long.
+fn too_long() -> Answer
+    ensures { result ≡ Answer.Refused text_too_long }
 {
-    Answer::Refused(Refusal { kind, line: 0 })
+    Answer::Refused(Refusal {
+        kind: RefusalKind::TextTooLong,
+        line: 0,
+    })
 }
 
-// The code of a text's items.
-fn assemble(alloc: Global, items: &[Item]) -> Result<Code, OutOfMemory>
-    requires ranges { AreItems items.now }
-    requires few { node_count items.now ≤ most_nodes }
+// The code of a unit of the first form.
+fn assemble(alloc: Global, text: &Accepted) -> Result<Code, OutOfMemory>
+    requires accepted { IsAccepted text.now.unit.nodes }
+    requires form { IsFirstForm text.now.unit.nodes text.now.nodes.items }
     ensures target { IfOk result (λ c. c.target ≡ Target.Riscv64) }
     ensures size { IfOk result (λ c. length c.bytes.items ≤ most_code) }
-    ensures agrees { IfOk result (λ c. Agrees c.bytes.items items.now) }
+    ensures agrees { IfOk result (λ c. Agrees c.bytes.items c.labels text.now.unit) }
     ensures ends { IfOk result (λ c. EndsWithin most_run c.bytes.items) }
 {
-    let bytes = code(alloc, items)?;
-    Ok(Code::of_bytes(CodeBytes::from_vec(bytes)))
+    let labels = label_addresses(alloc, &text.unit.nodes)?;
+    let bytes = code(alloc, &text.nodes)?;
+    Ok(Code::of_bytes(CodeBytes::from_vec(bytes), labels))
 }
 
 // The argument part whose one word is the file.
@@ -80,30 +85,32 @@ fn file_args(alloc: Global, file: &str) -> Result<ArgImage, OutOfMemory>
     }
 }
 
-// A processor before its first step, with the file as its one argument word.
-fn start_cpu(alloc: Global, file: &str) -> Result<Cpu, OutOfMemory>
-    requires { is_file file.now ≡ true }
-    ensures core { IfOk result (λ c. core_of c ≡ (start (file.now ∷ []) trash_word).core) }
+// A processor before its first step, with a data part and the file as its one argument word.
+fn start_cpu(alloc: Global, image: &DataImage, file: &str) -> Result<Cpu, OutOfMemory>
+    requires file { is_file file.now ≡ true }
+    requires image { length image.now ≤ 16777216 }
+    ensures core { IfOk result (λ c. core_of c ≡ (start image.now (file.now ∷ []) trash_word).core) }
     ensures trash { IfOk result (λ c. c.trash ≡ trash_word) }
 {
     let args = file_args(alloc, file)?;
-    Cpu::new(alloc, &args, 1, TRASH)
+    Cpu::new(alloc, image, &args, 1, TRASH)
 }
 
-// Makes code of a text's items, and runs it.
-fn run_items<O: Sink>(alloc: Global, file: &str, items: &[Item], out: &mut O) -> Done
+// Makes code of a unit of the first form, and runs it.
+fn run_unit<O: Sink>(alloc: Global, file: &str, text: &Accepted, out: &mut O) -> Done
     requires file { is_file file.now ≡ true }
-    requires ranges { AreItems items.now }
-    requires few { node_count items.now ≤ most_nodes }
-    ensures says { (text : Option (List ℕ)) (reads reads' : ℕ) → AnswerSays file.now text result.code result.steps record { taken = O.taken out.old; taken' = O.taken out.new; reads = reads; reads' = reads'; writes = O.faults out.old; writes' = O.faults out.new } result.answer }
-    ensures code { (text : Option (List ℕ)) → IfSome text (λ t. (length t ≤ most_text) × (unit_of t ≡ Some items.now)) → CodeSays text result.code }
+    requires image { length text.now.unit.image ≤ 16777216 }
+    requires accepted { IsAccepted text.now.unit.nodes }
+    requires form { IsFirstForm text.now.unit.nodes text.now.nodes.items }
+    ensures says { (bytes : List ℕ) (reads reads' : ℕ) → IsUnitOf bytes text.now.unit → AnswerSays file.now bytes result.code result.steps record { taken = O.taken out.old; taken' = O.taken out.new; reads = reads; reads' = reads'; writes = O.faults out.old; writes' = O.faults out.new } result.answer }
+    ensures code { (bytes : List ℕ) → IsUnitOf bytes text.now.unit → CodeSays bytes result.code }
     ensures not_stuck { NotStuck result.answer }
 {
-    let mut cpu = match start_cpu(alloc, file) {
+    let mut cpu = match start_cpu(alloc, &text.unit.image, file) {
         Ok(cpu) => cpu,
         Err(OutOfMemory) => return without_code(Answer::OutOfMemory),
     };
-    match assemble(alloc, items) {
+    match assemble(alloc, text) {
         Ok(code) => {
             let ran = run(code.bytes().as_slice(), &mut cpu, out);
             Done {
@@ -116,23 +123,32 @@ fn run_items<O: Sink>(alloc: Global, file: &str, items: &[Item], out: &mut O) ->
     }
 }
 
-// Reads the text of a file, and runs it where it is of the first form.
-fn work<T: Texts, O: Sink>(alloc: Global, file: &str, texts: &mut T, out: &mut O) -> Done
-    requires { is_file file.now ≡ true }
-    ensures says { AnswerSays file.now (text_of (T.held texts.old) file.now) result.code result.steps record { taken = O.taken out.old; taken' = O.taken out.new; reads = T.faults texts.old; reads' = T.faults texts.new; writes = O.faults out.old; writes' = O.faults out.new } result.answer }
-    ensures code { CodeSays (text_of (T.held texts.old) file.now) result.code }
+// Reads a text, and runs it where its unit is accepted and of the first form.
+fn run_text<O: Sink>(alloc: Global, file: &str, text: &[u8], out: &mut O) -> Done
+    requires file { is_file file.now ≡ true }
+    requires short { length text.now ≤ most_text }
+    ensures says { (reads reads' : ℕ) → AnswerSays file.now text.now result.code result.steps record { taken = O.taken out.old; taken' = O.taken out.new; reads = reads; reads' = reads'; writes = O.faults out.old; writes' = O.faults out.new } result.answer }
+    ensures code { CodeSays text.now result.code }
     ensures not_stuck { NotStuck result.answer }
 {
-    let text = match read_text(alloc, file, texts) {
-        Ok(text) => text,
-        Err(ReadStop::ReadFault) => return without_code(Answer::ReadFault),
-        Err(ReadStop::TooLong) => return without_code(refused(RefusalKind::TextTooLong)),
-        Err(ReadStop::OutOfMemory) => return without_code(Answer::OutOfMemory),
-    };
-    match read_form(alloc, &text) {
-        Ok(Some(items)) => run_items(alloc, file, &items, out),
-        Ok(None) => without_code(refused(RefusalKind::NotYet)),
-        Err(OutOfMemory) => without_code(Answer::OutOfMemory),
+    match read_unit(alloc, text) {
+        Ok(text) => run_unit(alloc, file, &text, out),
+        Err(Stop::Refused(refusal)) => without_code(Answer::Refused(refusal)),
+        Err(Stop::OutOfMemory) => without_code(Answer::OutOfMemory),
+    }
+}
+
+// Reads the text of a file, and runs it.
+fn work<T: Texts, O: Sink>(alloc: Global, file: &str, texts: &mut T, out: &mut O) -> Done
+    requires { is_file file.now ≡ true }
+    ensures says { WorkSays file.now (T.held texts.old) result.code result.steps record { taken = O.taken out.old; taken' = O.taken out.new; reads = T.faults texts.old; reads' = T.faults texts.new; writes = O.faults out.old; writes' = O.faults out.new } result.answer }
+    ensures not_stuck { NotStuck result.answer }
+{
+    match read_text(alloc, file, texts) {
+        Ok(text) => run_text(alloc, file, &text, out),
+        Err(ReadStop::ReadFault) => without_code(Answer::ReadFault),
+        Err(ReadStop::TooLong) => without_code(too_long()),
+        Err(ReadStop::OutOfMemory) => without_code(Answer::OutOfMemory),
     }
 }
 
@@ -175,8 +191,9 @@ fn answer<T: Texts, O: Sink, E: Sink>(
 }
 
 /// Reads the words of the command, `lightning --target riscv64 FILE`, and the text of that name; makes RV64 code of
-/// it, and runs the code on a model of the processor. What the run writes goes to `out`, and the line of every answer
-/// but a run's end to `err`. All memory is taken before the first step.
+/// its unit, and runs the code on a model of the processor. A text that is too long, is no unit, is refused by the
+/// checks of units, or is not of the first form is refused with its kind and line. What the run writes goes to `out`,
+/// and the line of every answer but a run's end to `err`. All memory is taken before the first step.
 pub fn lightning<T: Texts, O: Sink, E: Sink>(
     alloc: Global,
     words: &Vec<String>,
@@ -191,11 +208,10 @@ pub fn lightning<T: Texts, O: Sink, E: Sink>(
     // a fault of the outside comes only where a count rose
     ensures read_fault { result.answer ≡ Answer.ReadFault → Rose (T.faults texts.old) (T.faults texts.new) }
     ensures write_fault { result.answer ≡ Answer.WriteFault → Rose (O.faults out.old) (O.faults out.new) ⊎ Rose (E.faults err.old) (E.faults err.new) }
-    // a refusal has kind 16 exactly where the text is too long, and kind 0 exactly where it is of the allowed length and
-    // not of the first form, but where the call is cut short; no other kind comes
-    ensures refused { (refusal : Refusal) → result.answer ≡ Answer.Refused refusal → IsRefused (command_of (texts_of words.now.items)) (T.held texts.old) refusal }
-    ensures too_long { (file text : List ℕ) → command_of (texts_of words.now.items) ≡ Some file → text_of (T.held texts.old) file ≡ Some text → most_text < length text → (result.answer ≡ Answer.Refused text_too_long) ⊎ CutShort record { taken = O.taken out.old; taken' = O.taken out.new; reads = T.faults texts.old; reads' = T.faults texts.new; writes = O.faults out.old; writes' = O.faults out.new } record { taken = E.taken err.old; taken' = E.taken err.new; faults = E.faults err.old; faults' = E.faults err.new } result.answer }
-    ensures not_first_form { (file text : List ℕ) → command_of (texts_of words.now.items) ≡ Some file → text_of (T.held texts.old) file ≡ Some text → length text ≤ most_text → unit_of text ≡ None → (result.answer ≡ Answer.Refused not_yet) ⊎ CutShort record { taken = O.taken out.old; taken' = O.taken out.new; reads = T.faults texts.old; reads' = T.faults texts.new; writes = O.faults out.old; writes' = O.faults out.new } record { taken = E.taken err.old; taken' = E.taken err.new; faults = E.faults err.old; faults' = E.faults err.new } result.answer }
+    // a refusal comes exactly by its cause, with its kind and line, but where the call is cut short: the text is too long; or its first
+    // fault in being read; or its unit's first fault by the checks; or, with kind 0, where the unit first departs from the first form
+    ensures refused { (refusal : Refusal) → result.answer ≡ Answer.Refused refusal → IsRefusedCall (command_of (texts_of words.now.items)) (T.held texts.old) refusal }
+    ensures refuses { (file text : List ℕ) (refusal : Refusal) → command_of (texts_of words.now.items) ≡ Some file → text_of (T.held texts.old) file ≡ Some text → IsRefusedText text refusal → (result.answer ≡ Answer.Refused refusal) ⊎ CutShort record { taken = O.taken out.old; taken' = O.taken out.new; reads = T.faults texts.old; reads' = T.faults texts.new; writes = O.faults out.old; writes' = O.faults out.new } record { taken = E.taken err.old; taken' = E.taken err.new; faults = E.faults err.old; faults' = E.faults err.new } result.answer }
     // the steps never run out, and the processor never faults
     ensures steps_out { result.answer ≢ Answer.StepsOut }
     ensures fault { (kind : FaultKind) (pc : ℕ) → result.answer ≢ Answer.Fault kind pc }

@@ -1,6 +1,6 @@
-use Rattle.std.proofs.Common.{◌≡◌, ◌-◌, ◌+◌, ◌<◌, ◌≤◌, length, vec_len}
+use Rattle.std.proofs.Common.{◌-◌, ◌+◌, ◌<◌, ◌≤◌, length, vec_len}
 use Rattle.std.specs.Io.KnownBytes.{Consumes}
-use Rattle.lg_run.specs.Says.{most_text}
+use Rattle.lg_run.specs.Refused.{most_text}
 use Rattle.lg_run.proofs.source.read_rest.Given as goal
 
 abbrev pub invariant-loop-texts : goal.invariant-loop-texts

@@ -1,4 +1,4 @@
-use Rattle.lg_run.proofs.CauseLemmas.{usage_none, usage_back, read_cause, write_cause, memory_cause, refusal_cause, too_long, not_first_form, never_out, never_faults}
+use Rattle.lg_run.proofs.CauseLemmas.{usage_none, usage_back, read_cause, write_cause, memory_cause, refusal_cause, refuses, never_out, never_faults}
 use Rattle.lg_run.proofs.top.lightning.Goals as goal
 
 pub returns-clause-usage : goal.returns-clause-usage
@@ -16,11 +16,8 @@ returns-clause-write_fault g c is = write_cause _ _ _ _ _ _ _ c.answer.ensures.s
 pub returns-clause-refused : goal.returns-clause-refused
 returns-clause-refused g c refusal is = refusal_cause _ _ _ _ _ _ _ refusal c.answer.ensures.says is
 
-pub returns-clause-too_long : goal.returns-clause-too_long
-returns-clause-too_long g c file text is holds long = too_long _ file text _ _ _ _ _ _ c.answer.ensures.says is holds long
-
-pub returns-clause-not_first_form : goal.returns-clause-not_first_form
-returns-clause-not_first_form g c file text is holds short form = not_first_form _ file text _ _ _ _ _ _ c.answer.ensures.says is holds short form
+pub returns-clause-refuses : goal.returns-clause-refuses
+returns-clause-refuses g c file text refusal is holds why = refuses _ file text _ _ _ _ _ _ refusal c.answer.ensures.says is holds why
 
 pub returns-clause-steps_out : goal.returns-clause-steps_out
 returns-clause-steps_out g c is = never_out _ c.answer.ensures.not_stuck is

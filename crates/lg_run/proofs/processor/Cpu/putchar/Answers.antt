@@ -1,8 +1,7 @@
-use Rattle.std.proofs.Common.{◌≡◌, ◌%◌, ◌∷◌, [], ap, sym, ◌∙◌, refl, arith}
+use Rattle.std.proofs.Common.{◌≡◌, ◌%◌, ap, ◌∙◌, refl}
 use Rattle.std.specs.Prelude.{slice_index}
-use Rattle.lg_base.specs.Parts.{byte_at}
 use Rattle.lg_base.specs.declared.host_name.HostName.TheVariants as host
-use Rattle.lg_run.specs.Processor.{Core, host_effect, behind_call, arrived}
+use Rattle.lg_run.specs.Processor.{host_effect, behind_call}
 use Rattle.lg_run.specs.Machines.{core_of}
 use Rattle.lg_run.proofs.ProcessorLemmas.{says_from}
 use Rattle.lg_run.proofs.processor.Cpu.putchar.Goals as goal
