@@ -2,4 +2,5 @@ pub mod Follows
 pub mod Machines
 pub mod Portables
 pub mod Programs
+pub mod Runs
 pub mod Says

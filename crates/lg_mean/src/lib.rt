@@ -14,5 +14,6 @@ mod machine;
 pub mod mean_step;
 pub mod portable;
 mod program;
+pub mod run;
 mod start;
 mod step;

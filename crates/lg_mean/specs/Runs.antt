@@ -1,0 +1,52 @@
+-- Where a run of the portable machine has come to, in the words of the portable meaning.
+use Rattle.std.specs.Prelude.{◌≡◌, ◌<◌, ◌≤◌, ℕ, ◌+◌, List, ◌++◌, length, take, Option, Some, None}
+use Rattle.std.specs.Io.KnownBytes.{Appends}
+use Rattle.lg_base.specs.Runs.{Ended, Bad}
+use Rattle.lg_io.specs.Counts.{Rose}
+use Rattle.lg_meaning.specs.States.{State}
+use Rattle.lg_meaning.specs.Means.{Run, run_at}
+use Rattle.lg_mean.specs.declared.mean_step.MeanStep.{MeanStep}
+use Rattle.lg_mean.specs.declared.mean_step.MeanStep.TheVariants as mean
+use Rattle.lg_mean.specs.declared.run.RunEnd.{RunEnd}
+use Rattle.lg_mean.specs.declared.run.RunEnd.TheVariants as runs_end
+
+-- after n steps the meaning goes on at a state, and out grew by exactly the bytes that it has written
+pub record GoesOn (meaning : ℕ → Run) (n : ℕ) (s : State) (out out' : Option (List ℕ)) : Type 0 where
+  pub bytes : List ℕ
+  pub stands : meaning n ≡ run_at s bytes
+  pub written : Appends out out' bytes
+
+-- after n steps the meaning goes on at a state, and out grew by the bytes that it has written, and then by a part of those of the next
+-- step, from the first one on, in which a write failed
+pub record FailsToWrite (meaning : ℕ → Run) (n : ℕ) (s : State) (out out' : Option (List ℕ)) (faults faults' : ℕ) : Type 0 where
+  pub bytes : List ℕ
+  pub stands : meaning n ≡ run_at s bytes
+  pub next : State
+  pub more : List ℕ
+  pub goes : meaning (n + 1) ≡ run_at next (bytes ++ more)
+  pub part : ℕ
+  pub short : part ≤ length more
+  pub written : Appends out out' (bytes ++ take part more)
+  pub rose : Rose faults faults'
+
+-- the step behind the first n ends the meaning with a status; it writes nothing, and the state stays
+abbrev pub EndsBehind : (ℕ → Run) → ℕ → ℕ → Type 0
+EndsBehind meaning n status = meaning (n + 1) ≡ record (meaning n) { status = Ended status }
+
+-- the step behind the first n is undefined
+abbrev pub IsUndefinedBehind : (ℕ → Run) → ℕ → Type 0
+IsUndefinedBehind meaning n = meaning (n + 1) ≡ record (meaning n) { status = Bad }
+
+-- where a run of at most so many steps has come to after n steps, at a state whose node has a line
+abbrev pub ComesTo : (ℕ → Run) → RunEnd → (n most : ℕ) → State → (line : ℕ) → (out out' : Option (List ℕ)) → (faults faults' : ℕ) → Type 0
+ComesTo meaning (runs_end.Ended status) n most s line out out' faults faults' = (n ≤ most) × ((k : ℕ) × (n ≡ k + 1) × GoesOn meaning k s out out' × EndsBehind meaning k status)
+ComesTo meaning (runs_end.Undefined at) n most s line out out' faults faults' = (n < most) × GoesOn meaning n s out out' × IsUndefinedBehind meaning n × (at ≡ line)
+ComesTo meaning runs_end.StepsOut n most s line out out' faults faults' = (n ≡ most) × GoesOn meaning n s out out'
+ComesTo meaning runs_end.WriteFault n most s line out out' faults faults' = (n < most) × FailsToWrite meaning n s out out' faults faults'
+
+-- the answer that steps behind a run repeat
+abbrev pub over_behind : RunEnd → Option MeanStep
+over_behind (runs_end.Ended status) = Some (mean.Ended status)
+over_behind (runs_end.Undefined line) = Some (mean.Undefined line)
+over_behind runs_end.StepsOut = None
+over_behind runs_end.WriteFault = Some mean.WriteFault

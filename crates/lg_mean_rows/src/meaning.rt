@@ -1,0 +1,87 @@
+// The portable meaning of a text from its bytes.
+
+ghost use Rattle.std.specs.Prelude.{◌<◌, ◌≤◌, length};
+
+use crate::end::MeaningEnd;
+use lg_base::args::args_image;
+use lg_base::image::ArgImage;
+use lg_base::refusal::{OutOfMemory, Refusal, RefusalKind, Stop};
+use lg_io::sink::Sink;
+use lg_mean::addresses::plain_addresses;
+use lg_mean::portable::Portable;
+use lg_mean::run::RunEnd;
+use lg_node::{Unit, check};
+use lg_tst::parse;
+use std::alloc::Global;
+
+// The most bytes of a text.
+const MOST_TEXT: usize = 16_777_216;
+
+// Runs a text that has been read and its argument part.
+fn run<O: Sink>(
+    alloc: Global,
+    unit: &Unit,
+    args: &ArgImage,
+    most: u64,
+    out: &mut O,
+) -> Result<MeaningEnd, Stop>
+    requires image { length unit.now.image ≤ 16777216 }
+    requires args { length args.now ≤ 0x100000 }
+{
+    let shape = check(alloc, unit)?;
+    let Ok(labels) = plain_addresses(alloc, &unit.nodes) else {
+        return Err(Stop::OutOfMemory);
+    };
+    let _ = unit.nodes.labels();
+    let Ok(mut portable) = Portable::new(alloc, unit, &shape, &labels, args) else {
+        return Err(Stop::OutOfMemory);
+    };
+    let end = portable.run(unit, &shape, most, out);
+    let steps = portable.steps();
+    Ok(match end {
+        RunEnd::Ended(status) => MeaningEnd::Ended { status, steps },
+        RunEnd::Undefined { line } => MeaningEnd::Undefined { line, steps },
+        RunEnd::StepsOut => MeaningEnd::StepsOut { steps },
+        RunEnd::WriteFault => MeaningEnd::WriteFault { steps },
+    })
+}
+
+// Reads and runs a text that is not too long.
+fn read_and_run<O: Sink>(
+    alloc: Global,
+    text: &[u8],
+    words: &Vec<String>,
+    most: u64,
+    out: &mut O,
+) -> Result<MeaningEnd, Stop>
+    requires text { length text.now ≤ 16777216 }
+    requires words { 0 < length words.now.items }
+{
+    let args = args_image(alloc, words)?;
+    let unit = parse(alloc, text)?;
+    run(alloc, &unit, &args, most, out)
+}
+
+/// Follows the portable meaning of a text for at most so many steps, with the words as its argument part, of which there is at least
+/// one. The addresses of its labels are the plain ones: 0x10000000 + 256 i for a label at node i. What it writes goes to `out`.
+pub fn meaning<O: Sink>(
+    alloc: Global,
+    text: &[u8],
+    words: &Vec<String>,
+    most: u64,
+    out: &mut O,
+) -> Result<MeaningEnd, OutOfMemory>
+    requires { 0 < length words.now.items }
+{
+    if text.len() > MOST_TEXT {
+        return Ok(MeaningEnd::Refused(Refusal {
+            kind: RefusalKind::TextTooLong,
+            line: 0,
+        }));
+    }
+    match read_and_run(alloc, text, words, most, out) {
+        Ok(end) => Ok(end),
+        Err(Stop::Refused(refusal)) => Ok(MeaningEnd::Refused(refusal)),
+        Err(Stop::OutOfMemory) => Err(OutOfMemory),
+    }
+}
