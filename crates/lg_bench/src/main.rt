@@ -1,13 +1,15 @@
 // Work that is timed from outside. `names N` looks up each name of the instruction table N times; `text N` reads and checks a text of N
-// instructions, at most 65,000; `cpu N` runs N instructions of a loop on the modelled RV64IM processor. Without words it does a little of
-// each.
+// instructions, at most 65,000; `cpu N` runs N instructions of a loop on the modelled RV64IM processor; `steps N` follows the portable
+// meaning of a loop for N steps. Without words it does a little of each.
 #![tactic(auto)]
 
+mod meaning;
 mod names;
 mod processor;
 mod texts;
 
 use lg_base::refusal::{OutOfMemory, Stop};
+use lg_mean_rows::end::MeaningEnd;
 use names::found;
 use std::{env, io, str};
 use texts::{Counts, read_and_check};
@@ -38,6 +40,15 @@ fn run(rt: &HostRuntime, instructions: u32) -> io::Result<()> {
     }
 }
 
+// Follows the portable meaning of a loop for so many steps.
+fn follow(rt: &HostRuntime, steps: u32) -> io::Result<()> {
+    match meaning::follow(rt.alloc(), steps) {
+        Ok(MeaningEnd::StepsOut { steps }) => println!(rt; "{steps} steps"),
+        Ok(_) => println!(rt; "the loop did not go on"),
+        Err(OutOfMemory) => println!(rt; "out of memory"),
+    }
+}
+
 fn main(rt: HostRuntime) -> io::Result<()> {
     let mut words = env::args(&rt)?;
     let _ = words.next();
@@ -48,13 +59,15 @@ fn main(rt: HostRuntime) -> io::Result<()> {
                 "names" => look_up(&rt, times),
                 "text" => read(&rt, times),
                 "cpu" => run(&rt, times),
+                "steps" => follow(&rt, times),
                 _ => println!(rt; "no such work"),
             }
         }
         _ => {
             look_up(&rt, 1)?;
             read(&rt, 64)?;
-            run(&rt, 1000)
+            run(&rt, 1000)?;
+            follow(&rt, 1000)
         }
     }
 }
