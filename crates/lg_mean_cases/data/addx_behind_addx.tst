@@ -1,0 +1,1 @@
+.code prolog movi %r0 1 addci %r0 %r0 1 addxi %r0 %r0 1 addxi %r0 %r0 1 ret epilog

@@ -1,0 +1,1 @@
+.code prolog prepare pushargi 1 finishi f ret epilog f: prolog arg $x getarg %r0 $x ret epilog

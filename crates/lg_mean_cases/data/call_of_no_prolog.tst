@@ -1,0 +1,1 @@
+.code prolog movi %r0 a callr %r0 a: ret epilog

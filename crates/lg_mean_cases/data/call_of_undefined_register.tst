@@ -1,0 +1,1 @@
+.code prolog callr %r0 ret epilog

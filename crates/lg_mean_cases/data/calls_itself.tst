@@ -1,0 +1,1 @@
+.code f: prolog prepare finishi f ret epilog

@@ -1,0 +1,1 @@
+.code prolog beqi a %r0 1 a: ret epilog

@@ -1,0 +1,1 @@
+.code prolog a: jmpi b b: jmpi a epilog

@@ -1,0 +1,1 @@
+.code prolog prepare pushargi 'a' finishi @putchar prepare pushargi 300 finishi @exit ret epilog

@@ -1,0 +1,1 @@
+.code prolog movr %r0 %fp ret epilog

@@ -1,0 +1,1 @@
+.code prolog movi %r0 0x10000300 jmpr %r0 a: ret epilog

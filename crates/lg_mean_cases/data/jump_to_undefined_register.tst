@@ -1,0 +1,1 @@
+.code prolog jmpr %r0 ret epilog

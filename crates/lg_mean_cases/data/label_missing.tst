@@ -1,0 +1,4 @@
+.code prolog
+jmpi x
+ret
+epilog

@@ -1,0 +1,6 @@
+.code
+prolog
+
+movr %r0
+%r1
+ret epilog

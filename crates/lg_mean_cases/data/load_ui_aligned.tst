@@ -1,0 +1,1 @@
+.data 16 d: .code prolog movi %r0 d ldxi_ui %r1 %r0 4 ret epilog

@@ -1,0 +1,1 @@
+.data 16 fmt: .c "%4095d" .code prolog prepare pushargi fmt ellipsis pushargi 7 finishi @printf ret epilog

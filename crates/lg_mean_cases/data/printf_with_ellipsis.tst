@@ -1,0 +1,1 @@
+.data 16 fmt: .c "a" .code prolog prepare pushargi fmt ellipsis  finishi @printf ret epilog

@@ -1,0 +1,1 @@
+.code prolog prepare pushargr %r0 finishi @free ret epilog

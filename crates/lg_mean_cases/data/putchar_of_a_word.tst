@@ -1,0 +1,1 @@
+.code prolog prepare pushargi 0x141 finishi @putchar ret epilog

@@ -1,0 +1,1 @@
+.code prolog prepare pushargi 0 finishi @puts ret epilog

@@ -1,0 +1,1 @@
+.code prolog movi %r2 7 qdivi_u %r0 %r1 %r2 0 ret epilog

@@ -1,0 +1,1 @@
+.code prolog movi %r0 7 remi_u %r1 %r0 0 ret epilog

@@ -1,0 +1,1 @@
+.code prolog calli f retval %r0 ret epilog f: prolog ret epilog

@@ -1,0 +1,1 @@
+.code prolog ldxi %r0 %fp 8 ret epilog

@@ -1,0 +1,1 @@
+.code prolog retr %r0 epilog

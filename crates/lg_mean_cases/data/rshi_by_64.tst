@@ -1,0 +1,1 @@
+.code prolog movi %r0 1 rshi %r1 %r0 64 ret epilog

@@ -1,0 +1,1 @@
+.code prolog arg $a arg $b getarg %r0 $b ret epilog

@@ -1,0 +1,1 @@
+.code prolog divi %r0 %r0 0 epilog

@@ -1,0 +1,1 @@
+.data 8 d: .code prolog sti d %r0 ret epilog

@@ -1,0 +1,1 @@
+.code prolog addi %r0 %r1 1 ret epilog

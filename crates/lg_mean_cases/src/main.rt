@@ -1,0 +1,23 @@
+// Compares the portable meaning with cases that were worked out elsewhere, the files of `data`. `cases.tsv` has a line a case, with tabs
+// between: its name, the most steps, and the words behind the file's with blanks between them. NAME.tst is the text, NAME.out the bytes
+// that it writes, and NAME.end says in one line how it ends. Prints how many agree, and first, for each of up to twenty that differ, how
+// it should end and how it does.
+#![tactic(auto)]
+
+mod case;
+mod counts;
+mod outcome;
+
+use case::case_outcome;
+use counts::Counts;
+use std::{fs, io};
+
+fn main(rt: HostRuntime) -> io::Result<()> {
+    let list = fs::read_to_string(&rt, "cases.tsv")?;
+    let mut counts = Counts::new();
+    for line in list.as_str().lines() {
+        let outcome = case_outcome(&rt, line)?;
+        counts.take(&rt, line, &outcome)?;
+    }
+    counts.print(&rt)
+}
