@@ -36,14 +36,14 @@ impl Counts {
         }
     }
 
-    /// Counts a case, and prints it where it is one of the first that differ.
-    pub fn take(&mut self, rt: &impl Print, line: &str, outcome: &Outcome) -> io::Result<()>
+    /// Counts a case by its name, and prints it where it is one of the first that differ.
+    pub fn take(&mut self, rt: &impl Print, name: &str, outcome: &Outcome) -> io::Result<()>
         ensures { self.new ≡ counted self.old outcome.now }
     {
         self.add(outcome);
         match outcome {
             Outcome::Differs(found) if self.differ <= SHOWN => {
-                println!(rt; "{line} differs: wanted {found}")
+                println!(rt; "{name} differs: wanted {found}")
             }
             _ => Ok(()),
         }

@@ -17,7 +17,8 @@ fn main(rt: HostRuntime) -> io::Result<()> {
     let mut counts = Counts::new();
     for line in list.as_str().lines() {
         let outcome = case_outcome(&rt, line)?;
-        counts.take(&rt, line, &outcome)?;
+        let (name, _) = line.split_once('\t').unwrap_or((line, ""));
+        counts.take(&rt, name, &outcome)?;
     }
     counts.print(&rt)
 }
