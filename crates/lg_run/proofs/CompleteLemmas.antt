@@ -1,93 +1,32 @@
 -- Where no count rose, the answer on a text of the first form is the end of its meaning.
 use Rattle.std.proofs.Common.{◌≡◌, ℕ, ◌*◌, ◌≤◌, inl, inr, List, [], ◌∷◌, length, Option, Some, None, Bool, true, false, refl, sym, ap, ◌∙◌, subst, arith, lit<}
-use Rattle.std.specs.Prelude.{◌&&◌, ◌==◌, nat_le, not, IsSome, Result, Ok, if◌then◌else◌}
-use Rattle.std.specs.Str.{bytes_eq}
-use Rattle.std.specs.Prelude.{codes}
-use Rattle.lg_base.specs.Arguments.{args_of, most_args}
+use Rattle.std.specs.Prelude.{IsSome, Result, Ok}
 use Rattle.lg_base.specs.Runs.{Running, iter}
 use Rattle.lg_base.specs.Runs as runs
-use Rattle.lg_base.proofs.ArgumentLemmas.{length-args_of}
 use Rattle.lg_node.specs.Checks.{IsAccepted}
 use Rattle.lg_node.specs.declared.unit.Unit.{Unit as TextUnit}
 use Rattle.lg_tst.specs.Units.{unit_of}
 use Rattle.lg_base.specs.declared.refusal.Refusal.{Refusal}
 use Rattle.lg_temp.proofs.Answers.{ends_in_time}
 use Rattle.lg_meaning.proofs.MeanLemmas.{means_are_machines}
-use Rattle.lg_run.specs.Agreement.{Agrees, shape_of_unit, meaning_of, start_of}
-use Rattle.lg_run.specs.Command.{command_of, is_file}
-use Rattle.lg_run.specs.Complete.{Completeness, IsComplete, NoneRose, meaning}
+use Rattle.lg_run.specs.Agreement.{Agrees, shape_of_unit, meaning, meaning_of, start_of}
+use Rattle.lg_run.specs.Command.{Command, command_of, is_file}
+use Rattle.lg_run.specs.Complete.{Completeness, IsComplete, IsCompleteIn, NoneRose}
 use Rattle.lg_run.specs.FirstForm.{IsFirstForm}
 use Rattle.lg_run.specs.Processor as machine
 use Rattle.lg_run.specs.Refused.{most_text}
 use Rattle.lg_run.specs.Says.{AnswerSays, Change, CodeSays, ErrChange, IsCodeOf, NotStuck, Runs, most_steps, trash_word}
+use Rattle.lg_run.specs.declared.words.Mode.{Mode}
+use Rattle.lg_run.specs.declared.words.Mode.TheVariants as mode
 use Rattle.lg_run.specs.declared.answer.Answer.{Answer}
 use Rattle.lg_run.specs.declared.answer.Code.{Code}
 use Rattle.lg_run.specs.declared.answer.Answer.TheVariants.{Ended, Listed, Undefined, Refused, Usage, ReadFault, WriteFault, StepsOut, Fault, OutOfMemory}
 use Rattle.lg_run.specs.declared.form.FormNode.{FormNode}
 use Rattle.lg_run.proofs.CauseLemmas.{with_file}
+use Rattle.lg_run.proofs.CommandLemmas.{args_short, command_file}
 use Rattle.lg_run.proofs.EndLemmas.{ends_says, over_at}
+use Rattle.lg_run.proofs.MeanAnswers.{complete_mean}
 use Rattle.lg_run.proofs.RefusedLemmas.{form_accepted}
-
--- ---- the words name a file of at most 4,096 bytes
-file_of_if : (b : Bool) (f file : List ℕ) → (b ≡ true → is_file f ≡ true) → (if b then Some f else None) ≡ Some file → is_file file ≡ true
-file_of_if false f file h e = absurd (none_some e)
-  where
-    none_some : None ≡ Some file → ⊥
-    none_some e = cc
-file_of_if true f file h e = let same : f ≡ file = cc in subst (λ x. is_file x ≡ true) same (h refl)
-
-pub command_file : (words : List (List ℕ)) (file : List ℕ) → command_of words ≡ Some file → is_file file ≡ true
-command_file [] file e = absurd (none_some e)
-  where
-    none_some : None ≡ Some file → ⊥
-    none_some e = cc
-command_file (a ∷ []) file e = absurd (none_some e)
-  where
-    none_some : None ≡ Some file → ⊥
-    none_some e = cc
-command_file (a ∷ b ∷ []) file e = absurd (none_some e)
-  where
-    none_some : None ≡ Some file → ⊥
-    none_some e = cc
-command_file (a ∷ b ∷ t ∷ []) file e = absurd (none_some e)
-  where
-    none_some : None ≡ Some file → ⊥
-    none_some e = cc
-command_file (a ∷ option ∷ target ∷ f ∷ []) file e =
-    file_of_if (bytes_eq option (codes "--target") && (bytes_eq target (codes "riscv64") && is_file f)) f file (λ all. last (bytes_eq option (codes "--target")) (bytes_eq target (codes "riscv64")) (is_file f) all) e
-  where
-    last : (x y z : Bool) → (x && (y && z)) ≡ true → z ≡ true
-    last true true z h = h
-    last true false z h = absurd (false_true h)
-      where
-        false_true : false ≡ true → ⊥
-        false_true e = cc
-    last false y z h = absurd (false_true h)
-      where
-        false_true : false ≡ true → ⊥
-        false_true e = cc
-command_file (a ∷ b ∷ t ∷ f ∷ g ∷ more) file e = absurd (none_some e)
-  where
-    none_some : None ≡ Some file → ⊥
-    none_some e = cc
-
-file_short : (file : List ℕ) → is_file file ≡ true → length file ≤ 4096
-file_short [] e = omega arith
-file_short (c ∷ cs) e = at (not (c == 45)) (nat_le (length (c ∷ cs)) 4096) e refl
-  where
-    at : (x y : Bool) → (x && y) ≡ true → nat_le (length (c ∷ cs)) 4096 ≡ y → length (c ∷ cs) ≤ 4096
-    at true true h same = grind (arith, same)
-    at true false h same = absurd (false_true h)
-      where
-        false_true : false ≡ true → ⊥
-        false_true e = cc
-    at false y h same = absurd (false_true h)
-      where
-        false_true : false ≡ true → ⊥
-        false_true e = cc
-
-args_short : (file : List ℕ) → is_file file ≡ true → length (args_of (file ∷ [])) ≤ most_args
-args_short file e = omega (arith, length-args_of (file ∷ []), file_short file e)
 
 -- ---- the answer of a run
 end_same : {s t : ℕ} → runs.Ended s ≡ runs.Ended t → s ≡ t
@@ -109,7 +48,7 @@ ok_same e = cc
 some_same : {x y : Code} → Some x ≡ Some y → x ≡ y
 some_same e = cc
 
-complete_end : (file text : List ℕ) (unit : TextUnit) (code : Option Code) (steps : ℕ) (c : Change) (status : ℕ) → is_file file ≡ true → unit_of text ≡ Ok unit → AnswerSays file text code steps c (Ended status) → CodeSays text code
+complete_end : (file text : List ℕ) (unit : TextUnit) (code : Option Code) (steps : ℕ) (c : Change) (status : ℕ) → is_file file ≡ true → unit_of text ≡ Ok unit → AnswerSays mode.Run file text code steps c (Ended status) → CodeSays text code
     → IsComplete unit file code (Ended status)
 complete_end file text unit code steps c status is read says made =
     record {
@@ -130,13 +69,13 @@ complete_end file text unit code steps c status is read says made =
         (subst (λ u. (iter (machine.step says.ran.bytes.items trash_word) steps (machine.start u.image (file ∷ []) trash_word)).stands ≡ machine.EndedWith status) unit_same says.says.1) in
         ended_is file unit ran.bytes.items ran.labels steps status m status' is agrees says.says.0 end time ended
 
-complete_stuck : (file text : List ℕ) (code : Option Code) (steps : ℕ) (c : Change) (answer : Answer) → Runs file text code steps c answer → AnswerSays file text code steps c answer → CodeSays text code → NotStuck answer
+complete_stuck : (file text : List ℕ) (code : Option Code) (steps : ℕ) (c : Change) (answer : Answer) → Runs mode.Run file text code steps c answer → AnswerSays mode.Run file text code steps c answer → CodeSays text code → NotStuck answer
 complete_stuck file text code steps c answer runs says made =
     let made' : IsCodeOf text runs.ran = subst (CodeSays text) runs.is made in
-    ends_says file text runs.ran steps c answer made'.ends (subst (λ x. AnswerSays file text x steps c answer) runs.is says)
+    ends_says file text runs.ran steps c answer made'.ends (subst (λ x. AnswerSays mode.Run file text x steps c answer) runs.is says)
 
 complete_inner : (file text : List ℕ) (unit : TextUnit) (nodes : List FormNode) (code : Option Code) (steps : ℕ) (c : Change) (e : ErrChange) (inner : Answer) → is_file file ≡ true → length text ≤ most_text → unit_of text ≡ Ok unit → IsAccepted unit.nodes → IsFirstForm unit.nodes nodes → NoneRose c e
-    → AnswerSays file text code steps c inner → CodeSays text code → IsComplete unit file code inner
+    → AnswerSays mode.Run file text code steps c inner → CodeSays text code → IsComplete unit file code inner
 complete_inner file text unit nodes code steps c e (Ended status) is short read accepted form rose says made = complete_end file text unit code steps c status is read says made
 complete_inner file text unit nodes code steps c e StepsOut is short read accepted form rose says made = absurd (complete_stuck file text code steps c StepsOut says says made)
 complete_inner file text unit nodes code steps c e (Fault kind pc) is short read accepted form rose says made = absurd (complete_stuck file text code steps c (Fault kind pc) says says made)
@@ -144,7 +83,7 @@ complete_inner file text unit nodes code steps c e WriteFault is short read acce
 complete_inner file text unit nodes code steps c e ReadFault is short read accepted form rose says made = absurd (rose.reads says.1)
 complete_inner file text unit nodes code steps c e Usage is short read accepted form rose says made = absurd says
 complete_inner file text unit nodes code steps c e Listed is short read accepted form rose says made = absurd says
-complete_inner file text unit nodes code steps c e (Undefined line) is short read accepted form rose says made = absurd says
+complete_inner file text unit nodes code steps c e (Undefined line) is short read accepted form rose says made = absurd says.says
 complete_inner file text unit nodes code steps c e (Refused refusal) is short read accepted form rose says made =
     absurd (form_accepted text unit nodes refusal short read accepted form says.1)
 complete_inner file text unit nodes code steps c e OutOfMemory is short read accepted form rose says made = record {
@@ -153,9 +92,14 @@ complete_inner file text unit nodes code steps c e OutOfMemory is short read acc
   sound = λ ran there sound kind pc h. cc (h);
 }
 
+complete_in : (m : Mode) (file text : List ℕ) (unit : TextUnit) (nodes : List FormNode) (code : Option Code) (steps : ℕ) (c : Change) (e : ErrChange) (inner : Answer) → is_file file ≡ true → length text ≤ most_text → unit_of text ≡ Ok unit → IsAccepted unit.nodes → IsFirstForm unit.nodes nodes → NoneRose c e
+    → AnswerSays m file text code steps c inner → CodeSays text code → IsCompleteIn m unit file code inner
+complete_in mode.Run file text unit nodes code steps c e inner is short read accepted form rose says made = complete_inner file text unit nodes code steps c e inner is short read accepted form rose says made
+complete_in mode.Mean file text unit nodes code steps c e inner is short read accepted form rose says made = complete_mean file text unit nodes code steps c e inner is short read accepted form rose says made
+
 pub complete : Completeness
-complete words file held code steps c e outer text unit nodes says rose is holds read accepted form =
-    with_file (command_of words) file text held code steps c e outer _ says is holds (λ inner answer made report. elim report [
-      | inl h ↦ subst (IsComplete unit file code) (sym h.0) (complete_inner file text unit nodes code steps c e inner (command_file words file is) read.0 read.1 accepted form rose answer made)
+complete words command held code steps c e outer text unit nodes says rose is holds read accepted form =
+    with_file (command_of words) command text held code steps c e outer _ says is holds (λ inner answer made report. elim report [
+      | inl h ↦ subst (IsCompleteIn command.mode unit command.file code) (sym h.0) (complete_in command.mode command.file text unit nodes code steps c e inner (command_file words command is) read.0 read.1 accepted form rose answer made)
       | inr h ↦ absurd (rose.errs h.1)
     ])

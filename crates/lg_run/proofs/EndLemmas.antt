@@ -14,6 +14,7 @@ use Rattle.lg_run.specs.declared.form.FormNode.{FormNode}
 use Rattle.lg_run.specs.declared.form.FormNode.TheVariants.{Prolog, Movi, Addi, Addr, Prepare, Pushargr, Finishi, Ret, Epilog}
 use Rattle.lg_run.specs.Processor as machine
 use Rattle.lg_run.specs.Says.{AnswerSays, Change, NotStuck, RunSays, most_steps, trash_word}
+use Rattle.lg_run.specs.declared.words.Mode.TheVariants as mode
 use Rattle.lg_run.specs.declared.answer.Answer.{Answer}
 use Rattle.lg_run.specs.declared.answer.Code.{Code}
 use Rattle.lg_run.specs.declared.answer.Answer.TheVariants.{Ended, Listed, Undefined, Refused, Usage, ReadFault, WriteFault, StepsOut, Fault, OutOfMemory}
@@ -166,7 +167,7 @@ not_stuck bytes trash image words steps taken taken' count count' Usage ends say
 not_stuck bytes trash image words steps taken taken' count count' ReadFault ends says = tt
 not_stuck bytes trash image words steps taken taken' count count' OutOfMemory ends says = tt
 
-pub ends_says : (file : List ℕ) (text : List ℕ) (code : Code) (steps : ℕ) (c : Change) (answer : Answer) → EndsWithin most_run code.bytes.items → AnswerSays file text (Some code) steps c answer → NotStuck answer
+pub ends_says : (file : List ℕ) (text : List ℕ) (code : Code) (steps : ℕ) (c : Change) (answer : Answer) → EndsWithin most_run code.bytes.items → AnswerSays mode.Run file text (Some code) steps c answer → NotStuck answer
 ends_says file text code steps c StepsOut ends says =
     let same : says.ran ≡ code = cc (says.is) in
     let other : EndsWithin most_run says.ran.bytes.items = subst (λ x. EndsWithin most_run x.bytes.items) (sym same) ends in

@@ -3,6 +3,7 @@ pub mod AssembleLemmas
 pub mod CarryLemmas
 pub mod CauseLemmas
 pub mod CodeLemmas
+pub mod CommandLemmas
 pub mod CompleteLemmas
 pub mod DueLemmas
 pub mod EndLemmas
@@ -10,7 +11,9 @@ pub mod FormLemmas
 pub mod FormMeaning
 pub mod HeldLemmas
 pub mod MachineLemmas
+pub mod MeanAnswers
 pub mod MeanLemmas
+pub mod MeanRuns
 pub mod NodeLemmas
 pub mod ProcessorLemmas
 pub mod RefusedLemmas

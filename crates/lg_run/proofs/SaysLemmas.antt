@@ -5,7 +5,9 @@ use Rattle.lg_node.specs.declared.unit.Unit.{Unit as TextUnit}
 use Rattle.lg_run.specs.Processor.{Core, start}
 use Rattle.lg_run.specs.Refused.{IsUnitOf, IsRefusedText, most_text, text_too_long}
 use Rattle.lg_run.specs.Says.{RunSays, AnswerSays, CodeSays, WorkSays, IsUntouched, IsTextUnder, Change, Runs, text_of, most_steps, trash_word}
+use Rattle.lg_run.specs.Command.{Command}
 use Rattle.lg_run.specs.declared.answer.Code.{Code}
+use Rattle.lg_run.specs.declared.words.Mode.TheVariants as mode
 use Rattle.lg_run.specs.declared.answer.Answer.{Answer}
 use Rattle.lg_run.specs.declared.answer.Answer.TheVariants.{Ended, Listed, Undefined, Refused, Usage, ReadFault, WriteFault, StepsOut, Fault, OutOfMemory}
 
@@ -18,7 +20,7 @@ from_start file unit code steps c bytes trash core answer b t q says =
     (subst (λ x. RunSays x trash core most_steps steps c.taken c.taken' c.writes c.writes' answer) b says))
 
 at_start : (file : List ℕ) (text : List ℕ) (unit : TextUnit) (code : Code) (steps : ℕ) (c : Change) (bytes : List ℕ) (trash : ℕ) (core : Core) (answer : Answer) → IsUnitOf text unit → bytes ≡ code.bytes.items → trash ≡ trash_word → core ≡ (start unit.image (file ∷ []) trash_word).core
-    → RunSays bytes trash core most_steps steps c.taken c.taken' c.writes c.writes' answer → Runs file text (Some code) steps c answer
+    → RunSays bytes trash core most_steps steps c.taken c.taken' c.writes c.writes' answer → Runs mode.Run file text (Some code) steps c answer
 at_start file text unit code steps c bytes trash core answer u b t q says = record {
   ran = code;
   is = refl;
@@ -28,7 +30,7 @@ at_start file text unit code steps c bytes trash core answer u b t q says = reco
 }
 
 pub run_says : (file : List ℕ) (text : List ℕ) (unit : TextUnit) (code : Code) (steps : ℕ) (c : Change) (bytes : List ℕ) (trash : ℕ) (core : Core) (answer : Answer) → IsUnitOf text unit → bytes ≡ code.bytes.items → trash ≡ trash_word → core ≡ (start unit.image (file ∷ []) trash_word).core
-    → RunSays bytes trash core most_steps steps c.taken c.taken' c.writes c.writes' answer → AnswerSays file text (Some code) steps c answer
+    → RunSays bytes trash core most_steps steps c.taken c.taken' c.writes c.writes' answer → AnswerSays mode.Run file text (Some code) steps c answer
 run_says file text unit code steps c bytes trash core (Ended status) u b t q says = at_start file text unit code steps c bytes trash core (Ended status) u b t q says
 run_says file text unit code steps c bytes trash core StepsOut u b t q says = at_start file text unit code steps c bytes trash core StepsOut u b t q says
 run_says file text unit code steps c bytes trash core (Fault kind pc) u b t q says = at_start file text unit code steps c bytes trash core (Fault kind pc) u b t q says
@@ -41,12 +43,12 @@ run_says file text unit code steps c bytes trash core ReadFault u b t q says = a
 run_says file text unit code steps c bytes trash core OutOfMemory u b t q says = absurd says
 
 -- nothing was done
-pub undone : (file text : List ℕ) (held : Option NamedTexts) (code : Option Code) (steps : ℕ) (c : Change) (answer other : Answer) → IsTextUnder held file text → answer ≡ other → code ≡ None → steps ≡ 0 → c.taken' ≡ c.taken → (IsUntouched code steps c → AnswerSays file text code steps c other)
-    → WorkSays file held code steps c answer
-undone file text held code steps c answer other under is none still out says = record {
+pub undone : (command : Command) (text : List ℕ) (held : Option NamedTexts) (code : Option Code) (steps : ℕ) (c : Change) (answer other : Answer) → IsTextUnder held command.file text → answer ≡ other → code ≡ None → steps ≡ 0 → c.taken' ≡ c.taken → (IsUntouched code steps c → AnswerSays command.mode command.file text code steps c other)
+    → WorkSays command held code steps c answer
+undone command text held code steps c answer other under is none still out says = record {
   text = text;
   is = under;
-  says = subst (AnswerSays file text code steps c) (sym is) (says record { none = none; still = still; out = out });
+  says = subst (AnswerSays command.mode command.file text code steps c) (sym is) (says record { none = none; still = still; out = out });
   made = subst (CodeSays text) (sym none) tt;
 }
 

@@ -1,5 +1,5 @@
 -- When code agrees with the portable meaning of a unit.
-use Rattle.std.specs.Prelude.{◌≡◌, ℕ, ◌<◌, ◌≤◌, ◌^◌, List, [], length}
+use Rattle.std.specs.Prelude.{◌≡◌, ℕ, ◌<◌, ◌≤◌, ◌^◌, List, [], ◌∷◌, length}
 use Rattle.lg_base.specs.Arguments.{args_of, most_args}
 use Rattle.lg_base.specs.Runs.{Machine, iter}
 use Rattle.lg_node.specs.Labels.{taken_labels}
@@ -22,6 +22,10 @@ meaning_of unit addresses = mean.machine unit.nodes (shape_of_unit unit) address
 -- before the first step, with the data part of the unit and these words as the arguments
 abbrev pub start_of : TextUnit → List (List ℕ) → mean.Run
 start_of unit words = mean.run_at (start_state unit.image (args_of words)) []
+
+-- the portable meaning of a unit after k steps, over these addresses of its labels, with the file as its one argument word
+abbrev pub meaning : TextUnit → List ℕ → List ℕ → ℕ → mean.Run
+meaning unit addresses file k = mean.mean unit.nodes (shape_of_unit unit) addresses unit.image (args_of (file ∷ [])) k
 
 -- the bytes agree with the meaning for every argument part, every trash word and every number of instructions; the addresses are those of
 -- the labels over these bytes

@@ -9,6 +9,7 @@ pub mod FirstForm
 pub mod Forms
 pub mod Lines
 pub mod Machines
+pub mod Means
 pub mod Moves
 pub mod Processor
 pub mod Refused

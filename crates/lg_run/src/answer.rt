@@ -92,9 +92,9 @@ impl Code {
 pub struct Done {
     /// What the call came to.
     pub answer: Answer,
-    /// The code that was run.
+    /// The code of the text.
     pub code: Option<Code>,
-    /// How many steps the run took.
+    /// How many steps the run took, of the processor or of the portable meaning.
     pub steps: u64,
 }
 

@@ -1,5 +1,5 @@
 //! The top call: it reads the words of the command and a text, makes code of the text, and runs the code on a
-//! model of the processor.
+//! model of the processor, or the text's portable meaning.
 #![tactic(auto)]
 
 mod addresses;
@@ -9,6 +9,7 @@ mod first_form;
 mod form;
 pub mod laws;
 mod lines;
+mod mean;
 mod processor;
 mod reading;
 mod run;

@@ -6,9 +6,16 @@ ghost use Rattle.lg_base.specs.declared.fault.FaultKind.{FaultKind};
 ghost use Rattle.lg_base.specs.declared.target.Target.{Target};
 ghost use Rattle.lg_io.specs.Counts.{Rose};
 ghost use Rattle.lg_node.specs.Checks.{IsAccepted};
+ghost use Rattle.lg_node.specs.Labels.{taken_labels};
+ghost use Rattle.lg_node.specs.Shapes.{IsShapeOf};
+ghost use Rattle.lg_meaning.specs.Fits.{Fits};
+ghost use Rattle.lg_meaning.specs.Starts.{start_state};
+ghost use Rattle.lg_mean.specs.Machines.{state_of};
+ghost use Rattle.lg_mean.specs.Programs.{IsTableOf};
 ghost use Rattle.lg_run.specs.Agreement.{Agrees, EndsWithin, most_run};
 ghost use Rattle.lg_run.specs.Causes.{CutShort, IsRefusedCall};
-ghost use Rattle.lg_run.specs.Command.{command_of, is_file};
+ghost use Rattle.lg_run.specs.Command.{Command as Asked, command_of, is_file};
+ghost use Rattle.lg_run.specs.declared.words.Mode.TheVariants as modes;
 ghost use Rattle.lg_run.specs.Machines.{core_of};
 ghost use Rattle.lg_run.specs.Processor.{start};
 ghost use Rattle.lg_run.specs.FirstForm.{IsFirstForm};
@@ -19,17 +26,19 @@ use crate::addresses::label_addresses;
 use crate::answer::{Answer, Code, Done};
 use crate::emit::code;
 use crate::lines::write_line;
+use crate::mean::run_meaning;
 use crate::processor::Cpu;
 use crate::reading::{Accepted, read_unit};
 use crate::run::run;
 use crate::source::{ReadStop, read_text};
-use crate::words::read_words;
+use crate::words::{Mode, read_words};
 use lg_base::args::args_image;
 use lg_base::code::CodeBytes;
 use lg_base::image::{ArgImage, DataImage};
 use lg_base::refusal::{OutOfMemory, Refusal, RefusalKind, Stop};
 use lg_io::sink::Sink;
 use lg_io::texts::Texts;
+use lg_mean::portable::Portable;
 use std::alloc::Global;
 
 // What registers hold at first, and behind a call of a host function.
@@ -102,7 +111,7 @@ fn run_unit<O: Sink>(alloc: Global, file: &str, text: &Accepted, out: &mut O) ->
     requires image { length text.now.unit.image ≤ 16777216 }
     requires accepted { IsAccepted text.now.unit.nodes }
     requires form { IsFirstForm text.now.unit.nodes text.now.nodes.items }
-    ensures says { (bytes : List ℕ) (reads reads' : ℕ) → IsUnitOf bytes text.now.unit → AnswerSays file.now bytes result.code result.steps record { taken = O.taken out.old; taken' = O.taken out.new; reads = reads; reads' = reads'; writes = O.faults out.old; writes' = O.faults out.new } result.answer }
+    ensures says { (bytes : List ℕ) (reads reads' : ℕ) → IsUnitOf bytes text.now.unit → AnswerSays modes.Run file.now bytes result.code result.steps record { taken = O.taken out.old; taken' = O.taken out.new; reads = reads; reads' = reads'; writes = O.faults out.old; writes' = O.faults out.new } result.answer }
     ensures code { (bytes : List ℕ) → IsUnitOf bytes text.now.unit → CodeSays bytes result.code }
     ensures not_stuck { NotStuck result.answer }
 {
@@ -123,29 +132,103 @@ fn run_unit<O: Sink>(alloc: Global, file: &str, text: &Accepted, out: &mut O) ->
     }
 }
 
-// Reads a text, and runs it where its unit is accepted and of the first form.
-fn run_text<O: Sink>(alloc: Global, file: &str, text: &[u8], out: &mut O) -> Done
+// The state before the first step of the portable meaning of a unit, over addresses of its labels and with the file as its one
+// argument word.
+fn start_meaning(
+    alloc: Global,
+    file: &str,
+    text: &Accepted,
+    code: &Code,
+) -> Result<Portable, OutOfMemory>
+    requires file { is_file file.now ≡ true }
+    requires image { length text.now.unit.image ≤ 16777216 }
+    requires shape { IsShapeOf text.now.unit.nodes text.now.shape }
+    requires agrees { Agrees code.now.bytes.items code.now.labels text.now.unit }
+    ensures start { IfOk result (λ p. state_of p.machine ≡ start_state text.now.unit.image (args_of (file.now ∷ []))) }
+    ensures fits { IfOk result (λ p. Fits text.now.unit.nodes text.now.shape (state_of p.machine)) }
+    ensures made { IfOk result (λ p. IsTableOf text.now.unit.nodes text.now.shape p.labels) }
+    ensures addresses { IfOk result (λ p. p.labels.addresses ≡ code.now.labels) }
+    ensures running { IfOk result (λ p. p.over ≡ None) }
+    ensures steps { IfOk result (λ p. p.steps ≡ 0) }
+{
+    let args = file_args(alloc, file)?;
+    let _ = text.unit.nodes.labels();
+    Portable::new(alloc, &text.unit, &text.shape, code.labels(), &args)
+}
+
+// Makes code of a unit of the first form, and runs the unit's portable meaning over the addresses of the code's labels.
+fn mean_unit<O: Sink>(alloc: Global, file: &str, text: &Accepted, out: &mut O) -> Done
+    requires file { is_file file.now ≡ true }
+    requires image { length text.now.unit.image ≤ 16777216 }
+    requires shape { IsShapeOf text.now.unit.nodes text.now.shape }
+    requires taken { text.now.shape.taken ≡ taken_labels text.now.unit.nodes }
+    requires form { IsFirstForm text.now.unit.nodes text.now.nodes.items }
+    ensures says { (bytes : List ℕ) (reads reads' : ℕ) → IsUnitOf bytes text.now.unit → AnswerSays modes.Mean file.now bytes result.code result.steps record { taken = O.taken out.old; taken' = O.taken out.new; reads = reads; reads' = reads'; writes = O.faults out.old; writes' = O.faults out.new } result.answer }
+    ensures code { (bytes : List ℕ) → IsUnitOf bytes text.now.unit → CodeSays bytes result.code }
+    ensures not_stuck { NotStuck result.answer }
+{
+    let code = match assemble(alloc, text) {
+        Ok(code) => code,
+        Err(OutOfMemory) => return without_code(Answer::OutOfMemory),
+    };
+    let mut machine = match start_meaning(alloc, file, text, &code) {
+        Ok(machine) => machine,
+        Err(OutOfMemory) => return without_code(Answer::OutOfMemory),
+    };
+    let ran = run_meaning(&mut machine, &text.unit, &text.shape, out);
+    Done {
+        answer: ran.answer,
+        code: Some(code),
+        steps: ran.steps,
+    }
+}
+
+// What is done in a mode with a unit of the first form.
+fn do_unit<O: Sink>(alloc: Global, mode: Mode, file: &str, text: &Accepted, out: &mut O) -> Done
+    requires file { is_file file.now ≡ true }
+    requires image { length text.now.unit.image ≤ 16777216 }
+    requires shape { IsShapeOf text.now.unit.nodes text.now.shape }
+    requires taken { text.now.shape.taken ≡ taken_labels text.now.unit.nodes }
+    requires form { IsFirstForm text.now.unit.nodes text.now.nodes.items }
+    ensures says { (bytes : List ℕ) (reads reads' : ℕ) → IsUnitOf bytes text.now.unit → AnswerSays mode file.now bytes result.code result.steps record { taken = O.taken out.old; taken' = O.taken out.new; reads = reads; reads' = reads'; writes = O.faults out.old; writes' = O.faults out.new } result.answer }
+    ensures code { (bytes : List ℕ) → IsUnitOf bytes text.now.unit → CodeSays bytes result.code }
+    ensures not_stuck { NotStuck result.answer }
+{
+    match mode {
+        Mode::Run => run_unit(alloc, file, text, out),
+        Mode::Mean => mean_unit(alloc, file, text, out),
+    }
+}
+
+// Reads a text, and does what is asked for where its unit is accepted and of the first form.
+fn do_text<O: Sink>(alloc: Global, mode: Mode, file: &str, text: &[u8], out: &mut O) -> Done
     requires file { is_file file.now ≡ true }
     requires short { length text.now ≤ most_text }
-    ensures says { (reads reads' : ℕ) → AnswerSays file.now text.now result.code result.steps record { taken = O.taken out.old; taken' = O.taken out.new; reads = reads; reads' = reads'; writes = O.faults out.old; writes' = O.faults out.new } result.answer }
+    ensures says { (reads reads' : ℕ) → AnswerSays mode file.now text.now result.code result.steps record { taken = O.taken out.old; taken' = O.taken out.new; reads = reads; reads' = reads'; writes = O.faults out.old; writes' = O.faults out.new } result.answer }
     ensures code { CodeSays text.now result.code }
     ensures not_stuck { NotStuck result.answer }
 {
     match read_unit(alloc, text) {
-        Ok(text) => run_unit(alloc, file, &text, out),
+        Ok(text) => do_unit(alloc, mode, file, &text, out),
         Err(Stop::Refused(refusal)) => without_code(Answer::Refused(refusal)),
         Err(Stop::OutOfMemory) => without_code(Answer::OutOfMemory),
     }
 }
 
-// Reads the text of a file, and runs it.
-fn work<T: Texts, O: Sink>(alloc: Global, file: &str, texts: &mut T, out: &mut O) -> Done
+// Reads the text of a file, and does what is asked for.
+fn work<T: Texts, O: Sink>(
+    alloc: Global,
+    mode: Mode,
+    file: &str,
+    texts: &mut T,
+    out: &mut O,
+) -> Done
     requires { is_file file.now ≡ true }
-    ensures says { WorkSays file.now (T.held texts.old) result.code result.steps record { taken = O.taken out.old; taken' = O.taken out.new; reads = T.faults texts.old; reads' = T.faults texts.new; writes = O.faults out.old; writes' = O.faults out.new } result.answer }
+    ensures says { WorkSays record { mode = mode; file = file.now } (T.held texts.old) result.code result.steps record { taken = O.taken out.old; taken' = O.taken out.new; reads = T.faults texts.old; reads' = T.faults texts.new; writes = O.faults out.old; writes' = O.faults out.new } result.answer }
     ensures not_stuck { NotStuck result.answer }
 {
     match read_text(alloc, file, texts) {
-        Ok(text) => run_text(alloc, file, &text, out),
+        Ok(text) => do_text(alloc, mode, file, &text, out),
         Err(ReadStop::ReadFault) => without_code(Answer::ReadFault),
         Err(ReadStop::TooLong) => without_code(too_long()),
         Err(ReadStop::OutOfMemory) => without_code(Answer::OutOfMemory),
@@ -178,9 +261,9 @@ fn answer<T: Texts, O: Sink, E: Sink>(
             let answer = report("", Answer::Usage, 0, err);
             without_code(answer)
         }
-        Some(file) => {
-            let done = work(alloc, file, texts, out);
-            let answer = report(file, done.answer, done.steps, err);
+        Some(command) => {
+            let done = work(alloc, command.mode, command.file, texts, out);
+            let answer = report(command.file, done.answer, done.steps, err);
             Done {
                 answer,
                 code: done.code,
@@ -190,8 +273,9 @@ fn answer<T: Texts, O: Sink, E: Sink>(
     }
 }
 
-/// Reads the words of the command, `lightning --target riscv64 FILE`, and the text of that name; makes RV64 code of
-/// its unit, and runs the code on a model of the processor. A text that is too long, is no unit, is refused by the
+/// Reads the words of the command, `lightning [--mode mean] --target riscv64 FILE`, and the text of that name; makes RV64
+/// code of its unit, and runs the code on a model of the processor, or, with `--mode mean`, the unit's portable meaning
+/// over the addresses of the code's labels, for at most 1,000,000,000 steps. A text that is too long, is no unit, is refused by the
 /// checks of units, or is not of the first form is refused with its kind and line. What the run writes goes to `out`,
 /// and the line of every answer but a run's end to `err`. All memory is taken before the first step.
 pub fn lightning<T: Texts, O: Sink, E: Sink>(
@@ -211,7 +295,7 @@ pub fn lightning<T: Texts, O: Sink, E: Sink>(
     // a refusal comes exactly by its cause, with its kind and line, but where the call is cut short: the text is too long; or its first
     // fault in being read; or its unit's first fault by the checks; or, with kind 0, where the unit first departs from the first form
     ensures refused { (refusal : Refusal) → result.answer ≡ Answer.Refused refusal → IsRefusedCall (command_of (texts_of words.now.items)) (T.held texts.old) refusal }
-    ensures refuses { (file text : List ℕ) (refusal : Refusal) → command_of (texts_of words.now.items) ≡ Some file → text_of (T.held texts.old) file ≡ Some text → IsRefusedText text refusal → (result.answer ≡ Answer.Refused refusal) ⊎ CutShort record { taken = O.taken out.old; taken' = O.taken out.new; reads = T.faults texts.old; reads' = T.faults texts.new; writes = O.faults out.old; writes' = O.faults out.new } record { taken = E.taken err.old; taken' = E.taken err.new; faults = E.faults err.old; faults' = E.faults err.new } result.answer }
+    ensures refuses { (command : Asked) (text : List ℕ) (refusal : Refusal) → command_of (texts_of words.now.items) ≡ Some command → text_of (T.held texts.old) command.file ≡ Some text → IsRefusedText text refusal → (result.answer ≡ Answer.Refused refusal) ⊎ CutShort record { taken = O.taken out.old; taken' = O.taken out.new; reads = T.faults texts.old; reads' = T.faults texts.new; writes = O.faults out.old; writes' = O.faults out.new } record { taken = E.taken err.old; taken' = E.taken err.new; faults = E.faults err.old; faults' = E.faults err.new } result.answer }
     // the steps never run out, and the processor never faults
     ensures steps_out { result.answer ≢ Answer.StepsOut }
     ensures fault { (kind : FaultKind) (pc : ℕ) → result.answer ≢ Answer.Fault kind pc }

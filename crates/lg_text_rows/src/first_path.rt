@@ -8,7 +8,7 @@ use lg_run::top::{lightning, report};
 use std::process::Abort;
 use std::test::Fail;
 
-const USAGE: &[u8] = b"lightning: usage: lightning --target riscv64 FILE\n";
+const USAGE: &[u8] = b"lightning: usage: lightning [--mode mean] --target riscv64 FILE\n";
 
 // A call, the numbers of the calls on texts, out and err that fail, and what it comes to.
 #[derive(Clone, Copy)]
@@ -34,6 +34,21 @@ fn plain<'a>(text: &'a [u8], out: &'a [u8], err: &'a [u8], status: u8) -> Row<'a
         out,
         err,
         status,
+    }
+}
+
+// The same in the mode `mean`.
+fn meant<'a>(text: &'a [u8], out: &'a [u8], err: &'a [u8], status: u8) -> Row<'a> {
+    Row {
+        words: &[
+            "lightning",
+            "--mode",
+            "mean",
+            "--target",
+            "riscv64",
+            "t.tst",
+        ],
+        ..plain(text, out, err, status)
     }
 }
 
@@ -68,6 +83,28 @@ fn runs_texts(rt: HostRuntime) -> Result<(), Fail> {
             0,
         ),
     )
+}
+
+#[test]
+fn runs_meanings(rt: HostRuntime) -> Result<(), Fail> {
+    check(&rt, &meant(first_letter(), b"A", b"", 3))?;
+    check(&rt, &meant(kept_registers(), b"Hi!\n", b"", 0))?;
+    check(&rt, &meant(wrapped_sum(), b"", b"", 42))?;
+    let register = b".code prolog addi %r0 %r1 1 ret epilog";
+    let undefined = b"lightning: undefined at line 1 after 1\n";
+    check(&rt, &meant(register, b"", undefined, 120))?;
+    // a call leaves R0 undefined
+    let behind = b".code prolog\nmovi %r0 65\nprepare pushargr %r0 finishi @putchar\naddi %r0 %r0 1\nret epilog";
+    let undefined = b"lightning: undefined at line 4 after 5\n";
+    check(&rt, &meant(behind, b"A", undefined, 120))?;
+    let refused = b"lightning: t.tst:1: refused 2 UnknownName\n";
+    let unknown = b".code prolog movi %r0 65 nop ret epilog";
+    check(&rt, &meant(unknown, b"", refused, 121))?;
+    let failing = Row {
+        failing_writes: &[2],
+        ..meant(kept_registers(), b"H", b"lightning: write fault\n", 124)
+    };
+    check(&rt, &failing)
 }
 
 #[test]
@@ -168,7 +205,7 @@ fn gives_the_addresses_of_labels(rt: HostRuntime) -> Result<(), Fail> {
 
 #[test]
 fn refuses_other_words(rt: HostRuntime) -> Result<(), Fail> {
-    let others: [&[&str]; 8] = [
+    let others: [&[&str]; 12] = [
         &[],
         &["lightning"],
         &["lightning", "t.tst"],
@@ -177,6 +214,10 @@ fn refuses_other_words(rt: HostRuntime) -> Result<(), Fail> {
         &["lightning", "--mode", "riscv64", "t.tst"],
         &["lightning", "--target", "riscv64", "-"],
         &["lightning", "--target", "riscv64", "t.tst", "more"],
+        &["lightning", "--mode", "fly", "t.tst"],
+        &["lightning", "--mode", "fly", "--target", "riscv64", "t.tst"],
+        &["lightning", "--mode", "mean", "--target", "aarch64", "t.tst"],
+        &["lightning", "--target", "riscv64", "--mode", "mean", "t.tst"],
     ];
     for words in others {
         let called = Row {

@@ -3,7 +3,7 @@
 ghost use Rattle.std.specs.Prelude.{◌≡◌, ◌∷◌, [], codes, Ok};
 ghost use Rattle.lg_base.specs.Runs.{Ended};
 ghost use Rattle.lg_node.specs.declared.unit.Unit.{Unit as TextUnit};
-ghost use Rattle.lg_run.specs.Complete.{meaning};
+ghost use Rattle.lg_run.specs.Agreement.{meaning};
 ghost use Rattle.lg_tst.specs.Units.{unit_of};
 
 /// Writes `A`, which is 60 + 5, and ends with status 3 at its tenth node.

@@ -1,0 +1,47 @@
+// Running the portable meaning.
+
+ghost use Rattle.std.specs.Prelude.{◌≡◌, ◌≤◌, None, length};
+ghost use Rattle.lg_meaning.specs.Fits.{Fits};
+ghost use Rattle.lg_meaning.specs.Means.{mean_from};
+ghost use Rattle.lg_mean.specs.Machines.{state_of};
+ghost use Rattle.lg_mean.specs.Programs.{IsTableOf};
+ghost use Rattle.lg_run.specs.Means.{answer_of};
+ghost use Rattle.lg_run.specs.Says.{MeanSays, most_steps};
+
+use crate::answer::Answer;
+use crate::run::Ran;
+use lg_io::sink::Sink;
+use lg_mean::portable::Portable;
+use lg_mean::run::RunEnd;
+use lg_node::{Shape, Unit};
+
+// The most steps of a run.
+const MOST_STEPS: u64 = 1_000_000_000;
+
+// The answer of a run of the portable machine.
+fn answer_of(end: RunEnd) -> Answer
+    ensures { result ≡ answer_of end }
+{
+    match end {
+        RunEnd::Ended(status) => Answer::Ended(status),
+        RunEnd::Undefined { line } => Answer::Undefined { line },
+        RunEnd::StepsOut => Answer::StepsOut,
+        RunEnd::WriteFault => Answer::WriteFault,
+    }
+}
+
+/// Runs the portable meaning of a text from the state before its first step, until it ends, a step is undefined, a write fails, or the
+/// most steps were taken.
+pub fn run_meaning<O: Sink>(machine: &mut Portable, unit: &Unit, shape: &Shape, out: &mut O) -> Ran
+    requires made { IsTableOf unit.now.nodes shape.now machine.old.labels }
+    requires fits { Fits unit.now.nodes shape.now (state_of machine.old.machine) }
+    requires running { machine.old.over ≡ None }
+    requires steps { machine.old.steps ≡ 0 }
+    ensures says { MeanSays unit.now.nodes (mean_from unit.now.nodes shape.now machine.old.labels.addresses (state_of machine.old.machine)) most_steps result.steps (O.taken out.old) (O.taken out.new) (O.faults out.old) (O.faults out.new) result.answer }
+{
+    let end = machine.run(unit, shape, MOST_STEPS, out);
+    Ran {
+        answer: answer_of(end),
+        steps: machine.steps(),
+    }
+}
