@@ -94,7 +94,8 @@ fn runs_meanings(rt: HostRuntime) -> Result<(), Fail> {
     let undefined = b"lightning: undefined at line 1 after 1\n";
     check(&rt, &meant(register, b"", undefined, 120))?;
     // a call leaves R0 undefined
-    let behind = b".code prolog\nmovi %r0 65\nprepare pushargr %r0 finishi @putchar\naddi %r0 %r0 1\nret epilog";
+    let behind =
+        b".code prolog\nmovi %r0 65\nprepare pushargr %r0 finishi @putchar\naddi %r0 %r0 1\nret epilog";
     let undefined = b"lightning: undefined at line 4 after 5\n";
     check(&rt, &meant(behind, b"A", undefined, 120))?;
     let refused = b"lightning: t.tst:1: refused 2 UnknownName\n";
@@ -216,8 +217,22 @@ fn refuses_other_words(rt: HostRuntime) -> Result<(), Fail> {
         &["lightning", "--target", "riscv64", "t.tst", "more"],
         &["lightning", "--mode", "fly", "t.tst"],
         &["lightning", "--mode", "fly", "--target", "riscv64", "t.tst"],
-        &["lightning", "--mode", "mean", "--target", "aarch64", "t.tst"],
-        &["lightning", "--target", "riscv64", "--mode", "mean", "t.tst"],
+        &[
+            "lightning",
+            "--mode",
+            "mean",
+            "--target",
+            "aarch64",
+            "t.tst",
+        ],
+        &[
+            "lightning",
+            "--target",
+            "riscv64",
+            "--mode",
+            "mean",
+            "t.tst",
+        ],
     ];
     for words in others {
         let called = Row {
