@@ -99,7 +99,7 @@ frame-apart f sp h = (omega (arith, h), omega (arith, h))
 some-same : {A : Type 0} (x y : A) → Some x ≡ Some y → x ≡ y
 some-same x y e = cc
 
-frame-room : (l : LabelledNodes) (shape : TextShape) (s : State) (f : Function) (o : Option ℕ) → o ≡ Some s.at → function_here shape.functions s.at ≡ Some f → IsTopOf l shape s o → least_frame + frame_of f ≤ s.frame.sp
+pub frame-room : (l : LabelledNodes) (shape : TextShape) (s : State) (f : Function) (o : Option ℕ) → o ≡ Some s.at → function_here shape.functions s.at ≡ Some f → IsTopOf l shape s o → least_frame + frame_of f ≤ s.frame.sp
 frame-room l shape s f None e h t = cc
 frame-room l shape s f (Some p) e h t =
     let here : t.function ≡ f = some-same t.function f (sym t.here ∙ h) in

@@ -59,7 +59,7 @@ module _ {Q I : Type 0} (R : Rows Q I) where
       quiet (suc j) le = ap R.processor.machine.out (there j) ∙ rest.silent j (omega (arith, le)) ∙ silent
 
   -- behind an instruction the others stand
-  behind : (at n : ℕ) (xs ys : List ℕ) → drop at R.code ≡ xs ++ ys → n ≡ at + length xs → drop n R.code ≡ ys
+  pub behind : (at n : ℕ) (xs ys : List ℕ) → drop at R.code ≡ xs ++ ys → n ≡ at + length xs → drop n R.code ≡ ys
   behind at n xs ys e z = ap (λ k. drop k R.code) z ∙ sym (drop-drop (length xs) at R.code) ∙ ap (drop (length xs)) e ∙ drop-append_seam xs ys
 
 module _ {Q I : Type 0} (R : Rows Q I) (fits : I → Type 0) (ok : AreRows R fits) where

@@ -5,8 +5,10 @@ pub mod BlockLemmas
 pub mod FallLemmas
 pub mod KeptLemmas
 pub mod MeaningLemmas
+pub mod MoveLemmas
 pub mod NodeBlockLemmas
 pub mod NodeCodeLemmas
+pub mod PassageLemmas
 pub mod RankLemmas
 pub mod ShapedLemmas
 pub mod SpillChoiceLemmas

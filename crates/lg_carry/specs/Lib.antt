@@ -7,8 +7,10 @@ pub mod Codes
 pub mod Frames
 pub mod Laws
 pub mod Meanings
+pub mod Moves
 pub mod NodeBlocks
 pub mod NodeCode
+pub mod Passages
 pub mod Places
 pub mod Processors
 pub mod Ranks

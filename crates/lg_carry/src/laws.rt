@@ -9,8 +9,10 @@ ghost use Rattle.lg_base.specs.Runs.{Machine};
 ghost use Rattle.lg_meaning.specs.States.{State};
 ghost use Rattle.lg_carry.specs.Codes.{Code};
 ghost use Rattle.lg_carry.specs.Meanings.{StartsAre, CodeAgrees};
+ghost use Rattle.lg_carry.specs.Moves.{AgreesBehindMove};
 ghost use Rattle.lg_carry.specs.NodeBlocks.{NodeBlocksLead};
 ghost use Rattle.lg_carry.specs.NodeCode.{NodeCodeCarries};
+ghost use Rattle.lg_carry.specs.Passages.{PartsPass, PassagesJoin, PassagesLead, HostStepsLead};
 ghost use Rattle.lg_carry.specs.Processors.{Processor};
 ghost use Rattle.lg_carry.specs.Ranks.{NodesFall, IsCarried, CarriedRunsAgree};
 ghost use Rattle.lg_carry.specs.Rows.{Rows, AreRows};
@@ -77,6 +79,12 @@ pub fn blocks_run<P: Instructions>()
 /// Where the instructions of a node go through and lead to a state that meets the outcome of its step, the code of the node leads there.
 pub fn node_blocks_lead<P: Instructions>()
     ensures { NodeBlocksLead P.rows P.fits }
+{}
+
+/// Where a part of the instructions of a node stands at the program counter, as many steps as it has do what it does. Each begins in the bytes of
+/// the node.
+pub fn parts_pass<P: Instructions>()
+    ensures { PartsPass P.rows P.fits }
 {}
 
 /// A processor whose instructions save registers in the spill slots of the frame and restore them.
@@ -201,6 +209,26 @@ pub trait Runs {
     /// The processor.
     ghost processor: { Processor Self.State };
 }
+
+/// One run of instructions of a node and then another are one.
+pub fn passages_join<R: Runs>()
+    ensures { PassagesJoin R.processor }
+{}
+
+/// Where at most 64 steps in the bytes of a node lead to a state that meets the outcome of its step, the code of the node leads there.
+pub fn passages_lead<R: Runs>()
+    ensures { PassagesLead R.processor }
+{}
+
+/// So does the code of a call node whose steps lead to the entry of a host function, with the step of that function.
+pub fn host_steps_lead<R: Runs>()
+    ensures { HostStepsLead R.processor }
+{}
+
+/// Behind a node that only moves on to another node, states agree again, before the first `prolog` too.
+pub fn states_agree_behind_moves()
+    ensures { AgreesBehindMove }
+{}
 
 /// Where the code of a node carries it for the registers that are live behind it, it carries it.
 pub fn node_code_carries<R: Runs>()

@@ -1,8 +1,9 @@
 pub mod ActLemmas
-pub mod BodyLemmas
-pub mod NodeLemmas
-pub mod NumberLemmas
-pub mod NumberUseLemmas
+pub mod ComputationLemmas
+pub mod ComputingNodeLemmas
+pub mod NumberCodeLemmas
+pub mod PlaceLemmas
+pub mod RegisterLemmas
 pub mod RowLemmas
 pub mod SlotLemmas
-pub mod UseLemmas
+pub mod TemporaryLemmas

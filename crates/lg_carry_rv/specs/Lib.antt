@@ -1,3 +1,5 @@
-pub mod NumberNodes
-pub mod RegisterNodes
+pub mod Computations
+pub mod ComputingNodes
+pub mod Numbers
+pub mod Places
 pub mod RvRows

@@ -1,0 +1,57 @@
+-- Code that loads a number into a register.
+use Rattle.std.specs.Prelude.{◌≡◌, ◌≢◌, ℕ, ◌+◌, ◌-◌, ◌/◌, ◌%◌, ◌^◌, ◌<◌, ◌≤◌, nat_lt, Bool, true, if◌then◌else◌, ℤ, pos, negsuc, List, [], ◌∷◌, length}
+use Rattle.std.specs.List.{All}
+use Rattle.lg_rv.specs.Spelling.{IsInstr}
+use Rattle.lg_rv.specs.declared.instruction.Instr.{Instr}
+use Rattle.lg_rv.specs.declared.instruction.Instr.TheVariants.{Upper, Imm, Shift}
+use Rattle.lg_rv.specs.declared.instruction.UpperOp.TheVariants.{Lui}
+use Rattle.lg_rv.specs.declared.instruction.ImmOp.TheVariants.{Addi, Addiw}
+use Rattle.lg_rv.specs.declared.instruction.ShiftOp.TheVariants.{Slli}
+use Rattle.lg_cpu.specs.HostSteps.{put}
+use Rattle.lg_carry_rv.specs.RvRows.{is_straight}
+use Rattle.lg_carry_rv.specs.Computations.{all_compute, computed}
+
+-- the signed view is from -2,048 to 2,047
+abbrev pub is_short : ℕ → Bool
+is_short v = nat_lt ((v + 2048) % 2 ^ 64) 4096
+
+-- the signed view is from -2 ^ 31 to 2 ^ 31 - 1
+abbrev pub is_half : ℕ → Bool
+is_half v = nat_lt ((v + 2 ^ 31) % 2 ^ 64) (2 ^ 32)
+
+-- the low 32 bits, as a number for `lui` and one for `addiw`
+abbrev pub high_part : ℕ → ℕ
+high_part v = (v + 2048) / 4096 % 2 ^ 20
+
+-- the low 12 bits, with their sign
+abbrev pub low_part : ℕ → ℤ
+low_part v = if nat_lt (v % 4096) 2048 then pos (v % 4096) else negsuc (4095 - v % 4096)
+
+abbrev pub short_code : ℕ → ℕ → List Instr
+short_code rd v = Imm Addi rd 0 (low_part v) ∷ []
+
+abbrev pub half_code : ℕ → ℕ → List Instr
+half_code rd v = Upper Lui rd (high_part v) ∷ Imm Addiw rd rd (low_part v) ∷ []
+
+-- the high 32 bits, then the others from the top down, as many as fit an addend that is not negative
+abbrev pub long_code : ℕ → ℕ → List Instr
+long_code rd v =
+    Upper Lui rd (high_part (v / 2 ^ 32)) ∷ Imm Addiw rd rd (low_part (v / 2 ^ 32))
+    ∷ Shift Slli rd rd 11 ∷ Imm Addi rd rd (pos (v / 2 ^ 21 % 2 ^ 11))
+    ∷ Shift Slli rd rd 11 ∷ Imm Addi rd rd (pos (v / 2 ^ 10 % 2 ^ 11))
+    ∷ Shift Slli rd rd 10 ∷ Imm Addi rd rd (pos (v % 2 ^ 10)) ∷ []
+
+abbrev pub number_code : ℕ → ℕ → List Instr
+number_code rd v = if is_short v then short_code rd v else if is_half v then half_code rd v else long_code rd v
+
+-- the code puts the number into the register and changes no other; it has at most 8 instructions
+pub record LoadsNumber (rd v : ℕ) : Type 0 where
+  pub computes : all_compute (number_code rd v) ≡ true
+  pub value : (w : ℕ → ℕ) (r : ℕ) → computed (number_code rd v) w r ≡ put w rd v r
+  pub some : 0 < length (number_code rd v)
+  pub few : length (number_code rd v) ≤ 8
+  pub fits : All IsInstr (number_code rd v)
+  pub straight : All (λ i. is_straight i ≡ true) (number_code rd v)
+
+abbrev pub NumbersAreLoaded : Type 0
+NumbersAreLoaded = (rd v : ℕ) → rd ≢ 0 → rd < 32 → v < 2 ^ 64 → LoadsNumber rd v
