@@ -123,6 +123,14 @@ impl CodeBuf {
         self.labels[label.0 as usize] = Some(here);
     }
 
+    /// The place of a label, or None where it isn't bound. It is one of the buffer's labels.
+    pub fn bound(&self, label: Label32) -> Option<u32>
+        requires { label.0 < length self.now.labels }
+        ensures { result ≡ place_of self.now.labels label.0 }
+    {
+        self.labels[label.0 as usize]
+    }
+
     /// Makes a fix: at the end its field is to lead to the place of the label, which is one of the buffer's. The fix's
     /// bytes were appended, none of them belongs to another fix, and fewer fixes than `new` was asked for were made.
     pub fn fix(&mut self, place: u32, kind: FixKind, label: Label32)
@@ -150,6 +158,13 @@ impl CodeBuf {
         ensures others { self.new ≡ record self.old { bytes = self.new.bytes } }
     {
         patches::patch(&mut self.store, place, kind, target)
+    }
+
+    /// Whether the label of each fix is bound, and each fix can lead to its place: whether the buffer can be finished.
+    pub fn is_ready(&self) -> bool
+        ensures { IsTrue result ↔ All (IsReady self.now.labels) self.now.fixes }
+    {
+        patches::are_ready(self.labels.as_slice(), self.fixes.as_slice())
     }
 
     /// Patches each fix with the place of its label, and hands out the bytes and the places of the labels. The label

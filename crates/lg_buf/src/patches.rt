@@ -179,3 +179,25 @@ pub(crate) fn patch_all(store: &mut Store, labels: &[Option<u32>], fixes: &[Fix]
         patch_fitting(store, fix.place, fix.kind, target);
     }
 }
+
+// Whether the label of a fix is bound, and the fix can lead to its place.
+fn is_ready(labels: &[Option<u32>], fix: &Fix) -> bool
+    ensures { IsTrue result ↔ IsReady labels.now fix.now }
+{
+    match labels.get(fix.label.0 as usize) {
+        Some(Some(target)) => fix.kind.fits(fix.place, *target),
+        _ => false,
+    }
+}
+
+/// Whether the label of each fix is bound, and each fix can lead to its place.
+pub(crate) fn are_ready(labels: &[Option<u32>], fixes: &[Fix]) -> bool
+    ensures { IsTrue result ↔ All (IsReady labels.now) fixes.now }
+{
+    'fixes: for fix in fixes {
+        if !is_ready(labels, fix) {
+            return false;
+        }
+    }
+    true
+}
