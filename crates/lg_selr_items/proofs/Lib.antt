@@ -1,0 +1,4 @@
+pub mod ItemLemmas
+pub mod NodeLemmas
+pub mod PatchLemmas
+pub mod WordLemmas

@@ -1,0 +1,58 @@
+-- The items of a node as a block of instructions.
+use Rattle.std.proofs.Common.{◌≡◌, ℕ, ◌+◌, ◌-◌, ◌*◌, ◌<◌, ◌≤◌, Bool, true, List, [], ◌∷◌, ◌++◌, length, drop, refl, sym, ap, subst, ◌∙◌, arith, length-append}
+use Rattle.std.specs.Prelude.{slice_get, slice_index}
+use Rattle.std.specs.List.{All}
+use Rattle.std.proofs.lemmas.Bool.Decides.{nat_tests}
+use Rattle.lg_base.specs.Layout.{code_base}
+use Rattle.lg_carry.specs.Blocks.{spellings, IsBlock}
+use Rattle.lg_carry.specs.Carries.{leaps_at}
+use Rattle.lg_carry.specs.Codes.{Code}
+use Rattle.lg_carry.specs.Passages.{IsNodeCode}
+use Rattle.lg_carry_rv.specs.Places.{IsInCode}
+use Rattle.lg_carry_rv.specs.RvRows.{rv_rows, is_straight}
+use Rattle.lg_rv.specs.Spelling.{spelling, IsInstr}
+use Rattle.lg_selr_items.specs.declared.items.Item.{Item}
+use Rattle.lg_selr_items.specs.declared.items.Item.TheVariants.{One, Jump, Address}
+use Rattle.lg_selr_items.specs.Items.{words_of, words_in, bytes_in, settled}
+use Rattle.lg_selr_items.specs.OfNodes.{AreOfNode}
+
+-- as many instructions as there are words
+pub settled-length : (to : ℕ → ℕ) (p : ℕ) (xs : List Item) → length (settled to p xs) ≡ words_in xs
+settled-length to p [] = refl
+settled-length to p (One i ∷ xs) = let h = settled-length to (p + 4) xs in omega (arith, h)
+settled-length to p (Jump rd label ∷ xs) = let h = settled-length to (p + 4) xs in omega (arith, h)
+settled-length to p (Address rd label ∷ xs) = let h = settled-length to (p + 8) xs in omega (arith, h)
+
+-- and four bytes for each
+pub settled-bytes : (to : ℕ → ℕ) (p : ℕ) (xs : List Item) → length (spellings spelling (settled to p xs)) ≡ bytes_in xs
+settled-bytes to p [] = refl
+settled-bytes to p (One i ∷ xs) = let h = settled-bytes to (p + 4) xs in omega (arith, h)
+settled-bytes to p (Jump rd label ∷ xs) = let h = settled-bytes to (p + 4) xs in omega (arith, h)
+settled-bytes to p (Address rd label ∷ xs) = let h = settled-bytes to (p + 8) xs in omega (arith, h)
+
+pub items-are-node-code : (code : List ℕ) (trash : ℕ) (c : Code) (i : ℕ) (items : List Item) → AreOfNode code trash c i items → (leaps_at (slice_get c.nodes.nodes i) ≡ true → 0 < words_in items)
+    → IsNodeCode (rv_rows code trash) IsInstr c i (settled (slice_index c.addresses) (c.place i) items)
+items-are-node-code code trash c i items a some =
+    let to : ℕ → ℕ = slice_index c.addresses in
+    let e : code_base + (c.place i - code_base) ≡ c.place i = let l = a.low in omega (arith, l) in
+    let long = settled-length to (c.place i) items in
+    let size = settled-bytes to (c.place i) items in record {
+      low = a.low;
+      place = let w = a.whole in grind (arith, nat_tests);
+      more = a.settled.rest;
+      stands = a.settled.bytes ∙ ap (λ p. spellings spelling (settled to p items) ++ a.settled.rest) e;
+      next = a.next ∙ ap (λ n. c.place i + n) (sym size);
+      few = let f = a.few in omega (arith, f, long);
+      some = λ l. let s = some l in omega (arith, s, long);
+      fit = subst (λ p. All IsInstr (settled to p items)) e a.settled.fit;
+    }
+
+pub items-are-in-code : (code : List ℕ) (trash : ℕ) (c : Code) (i : ℕ) (items : List Item) → AreOfNode code trash c i items → (leaps_at (slice_get c.nodes.nodes i) ≡ true → 0 < words_in items)
+    → IsBlock is_straight (settled (slice_index c.addresses) (c.place i) items) → IsInCode code trash c i (settled (slice_index c.addresses) (c.place i) items)
+items-are-in-code code trash c i items a some block =
+    let n = items-are-node-code code trash c i items a some in record {
+      small = a.small;
+      bytes = a.bytes;
+      word = a.word;
+      block = record { low = n.low; place = n.place; more = n.more; stands = n.stands; next = n.next; few = n.few; some = n.some; fit = n.fit; block = block };
+    }

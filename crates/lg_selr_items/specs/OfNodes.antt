@@ -1,0 +1,37 @@
+-- Code of which some items are those of a node.
+use Rattle.std.specs.Prelude.{◌≡◌, ℕ, ◌+◌, ◌-◌, ◌%◌, ◌^◌, ◌<◌, ◌≤◌, Bool, true, List, length, slice_get, slice_index}
+use Rattle.lg_base.specs.Layout.{code_base, most_code}
+use Rattle.lg_carry.specs.Blocks.{IsBlock}
+use Rattle.lg_carry.specs.Carries.{leaps_at}
+use Rattle.lg_carry.specs.Codes.{Code}
+use Rattle.lg_carry_rv.specs.Places.{IsInCode}
+use Rattle.lg_carry_rv.specs.RvRows.{rv_rows, is_straight}
+use Rattle.lg_carry.specs.Passages.{IsNodeCode}
+use Rattle.lg_rv.specs.Spelling.{IsInstr}
+use Rattle.lg_cpu.specs.Laws.{AreBytes}
+use Rattle.lg_selr_items.specs.declared.items.Item.{Item}
+use Rattle.lg_selr_items.specs.Items.{words_in, bytes_in, settled}
+use Rattle.lg_selr_items.specs.Patched.{AreSettledAt}
+
+-- the code that the processor runs, in which the instructions of these items, with the addresses of the labels, are those of node i
+pub record AreOfNode (code : List ℕ) (trash : ℕ) (c : Code) (i : ℕ) (items : List Item) : Type 0 where
+  pub small : length code ≤ most_code
+  pub bytes : AreBytes code
+  pub word : trash < 2 ^ 64
+  pub low : code_base ≤ c.place i
+  pub whole : c.place i % 4 ≡ 0
+  pub settled : AreSettledAt (slice_index c.addresses) code (c.place i - code_base) items
+  pub next : c.place (i + 1) ≡ c.place i + bytes_in items
+  pub few : words_in items ≤ 64
+
+-- they are the code of the node, of which a branch, jump, call or return has some
+abbrev pub ItemsAreNodeCode : Type 0
+ItemsAreNodeCode =
+    (code : List ℕ) (trash : ℕ) (c : Code) (i : ℕ) (items : List Item) → AreOfNode code trash c i items → (leaps_at (slice_get c.nodes.nodes i) ≡ true → 0 < words_in items)
+    → IsNodeCode (rv_rows code trash) IsInstr c i (settled (slice_index c.addresses) (c.place i) items)
+
+-- and where they follow one another, a block of it
+abbrev pub ItemsAreInCode : Type 0
+ItemsAreInCode =
+    (code : List ℕ) (trash : ℕ) (c : Code) (i : ℕ) (items : List Item) → AreOfNode code trash c i items → (leaps_at (slice_get c.nodes.nodes i) ≡ true → 0 < words_in items)
+    → IsBlock is_straight (settled (slice_index c.addresses) (c.place i) items) → IsInCode code trash c i (settled (slice_index c.addresses) (c.place i) items)

@@ -1,0 +1,225 @@
+// Items, and lists of them.
+
+ghost use Rattle.std.specs.Prelude.{◌≡◌, ◌+◌, ◌<◌, ◌≤◌, [], ◌∷◌, ◌++◌, length};
+ghost use Rattle.lg_carry_rv.specs.Numbers.{is_short, is_half, low_part, high_part, half_code, long_code, number_code};
+ghost use Rattle.lg_selr_items.specs.Items.{words_in, ones};
+
+use lg_rv::{ImmOp, Instr, ShiftOp, UpperOp};
+use smallvec::SmallVec;
+use std::alloc::Global;
+use std::default::Default;
+use std::marker::Model;
+
+/// What the code of a node is made of. Registers are 0 to 31, and labels those of the buffer, by their numbers.
+#[derive(Clone, Copy, Debug)]
+pub enum Item {
+    /// An instruction.
+    One(Instr),
+    /// `jal`: a jump to the label, which leaves the address behind it in `rd`.
+    Jump { rd: u8, label: u32 },
+    /// `lui` and `addi`: the address of the label, into `rd`.
+    Address { rd: u8, label: u32 },
+}
+
+impl Default for Item {
+    /// What stands in the places that are not used: the no-op.
+    fn default() -> Item {
+        Item::One(Instr::Imm {
+            op: ImmOp::Addi,
+            rd: 0,
+            rs1: 0,
+            imm: 0,
+        })
+    }
+}
+
+/// The code of a node: a list of items, of at most 64 instructions, held inline. It takes no memory.
+///
+/// In a contract it is the list. `words_in` of a list is the number of its instructions, of which an `Address` has two.
+#[derive(Drop)]
+pub struct Items {
+    list: SmallVec<Item, 64>,
+}
+
+impl Model for Items {
+    ghost use Rattle.std.specs.Prelude.{◌≡◌, ◌≤◌, List};
+    ghost use Rattle.lg_selr_items.specs.declared.items.Item.{Item};
+    ghost use Rattle.lg_selr_items.specs.Items.{words_in};
+
+    ghost Value = { List Item };
+
+    ghost view = { λ i. i.list.items };
+
+    ghost invariant = { λ i. (i.list.capacity ≡ 64) × (words_in i.list.items ≤ 64) };
+}
+
+impl Items {
+    /// No items. The allocator is that of the buffer; nothing is taken from it.
+    pub fn new(alloc: Global) -> Items
+        ensures { result ≡ [] }
+    {
+        Items {
+            list: SmallVec::new(alloc),
+        }
+    }
+
+    /// Appends an item. There is room for its instructions.
+    pub fn push(&mut self, item: Item)
+        requires { words_in (self.old ++ item ∷ []) ≤ 64 }
+        ensures { self.new ≡ self.old ++ item ∷ [] }
+    {
+        self.list.push_reserved(item);
+    }
+
+    /// Appends an instruction. There is room for it.
+    #[tactic(auto, using(crate::proofs::ItemLemmas::words_append))]
+    pub fn one(&mut self, instr: Instr)
+        requires { words_in self.old < 64 }
+        ensures { self.new ≡ self.old ++ Item.One instr ∷ [] }
+    {
+        self.push(Item::One(instr));
+    }
+
+    /// Appends a jump to a label, which leaves the address behind it in a register. There is room for it.
+    #[tactic(auto, using(crate::proofs::ItemLemmas::words_append))]
+    pub fn jump(&mut self, rd: u8, label: u32)
+        requires { words_in self.old < 64 }
+        ensures { self.new ≡ self.old ++ Item.Jump rd label ∷ [] }
+    {
+        self.push(Item::Jump { rd, label });
+    }
+
+    /// Appends the address of a label, into a register. There is room for two instructions.
+    #[tactic(auto, using(crate::proofs::ItemLemmas::words_append))]
+    pub fn address(&mut self, rd: u8, label: u32)
+        requires { words_in self.old < 63 }
+        ensures { self.new ≡ self.old ++ Item.Address rd label ∷ [] }
+    {
+        self.push(Item::Address { rd, label });
+    }
+
+    /// Appends instructions. There is room for them.
+    #[tactic(auto, using(crate::proofs::ItemLemmas::words_append))]
+    pub fn all(&mut self, instrs: &[Instr])
+        requires { words_in self.old + length instrs.now ≤ 64 }
+        ensures { self.new ≡ self.old ++ ones instrs.now }
+    {
+        match instrs {
+            [] => {}
+            [instr, rest @ ..] => {
+                self.one(*instr);
+                self.all(rest);
+            }
+        }
+    }
+
+    /// Appends the code that loads a number, a word of 64 bits, into a register: 1, 2 or 8 instructions. There is room for them.
+    pub fn number(&mut self, rd: u8, value: u64)
+        requires { words_in self.old + length (number_code rd value) ≤ 64 }
+        ensures { self.new ≡ self.old ++ ones (number_code rd value) }
+    {
+        if is_short(value) {
+            self.all(&[add(rd, 0, low_part(value))]);
+        } else if is_half(value) {
+            self.all(&half_code(rd, value));
+        } else {
+            self.all(&long_code(rd, value));
+        }
+    }
+
+    /// The items.
+    pub fn as_slice(&self) -> &[Item]
+        ensures value { result.now ≡ self.now }
+        ensures few { words_in result.now ≤ 64 }
+    {
+        self.list.as_slice()
+    }
+}
+
+// `addi`.
+fn add(rd: u8, rs1: u8, imm: i32) -> Instr
+    ensures { result ≡ Instr.Imm (ImmOp.Addi) rd rs1 imm }
+{
+    Instr::Imm {
+        op: ImmOp::Addi,
+        rd,
+        rs1,
+        imm,
+    }
+}
+
+// `slli` of a register by itself.
+fn shift(rd: u8, amount: u8) -> Instr
+    ensures { result ≡ Instr.Shift (ShiftOp.Slli) rd rd amount }
+{
+    Instr::Shift {
+        op: ShiftOp::Slli,
+        rd,
+        rs1: rd,
+        amount,
+    }
+}
+
+/// Whether the signed view of a word is from -2,048 to 2,047, as the numbers of 12 bits are.
+pub fn is_short(value: u64) -> bool
+    ensures { result ≡ is_short value }
+{
+    value.wrapping_add(2048) < 4096
+}
+
+// Whether the signed view of a number has 32 bits.
+fn is_half(value: u64) -> bool
+    ensures { result ≡ is_half value }
+{
+    value.wrapping_add(1 << 31) < 1 << 32
+}
+
+/// The low 12 bits of a word, with their sign: from -2,048 to 2,047.
+pub fn low_part(value: u64) -> i32
+    ensures { result ≡ low_part value }
+{
+    let low = (value % 4096) as i32;
+    if low < 2048 { low } else { low - 4096 }
+}
+
+/// The 20 bits above them, for `lui`, which make up for the sign: from 0 to 1,048,575.
+pub fn high_part(value: u64) -> u32
+    ensures { result ≡ high_part value }
+{
+    ((value % 0x1_0000_0000 + 2048) / 4096 % 0x10_0000) as u32
+}
+
+// Loads a number whose signed view has 32 bits.
+fn half_code(rd: u8, value: u64) -> [Instr; 2]
+    ensures { result ≡ half_code rd value }
+{
+    let lui = Instr::Upper {
+        op: UpperOp::Lui,
+        rd,
+        imm: high_part(value),
+    };
+    let addiw = Instr::Imm {
+        op: ImmOp::Addiw,
+        rd,
+        rs1: rd,
+        imm: low_part(value),
+    };
+    [lui, addiw]
+}
+
+// Loads any number.
+fn long_code(rd: u8, value: u64) -> [Instr; 8]
+    ensures { result ≡ long_code rd value }
+{
+    let [lui, addiw] = half_code(rd, value / 0x1_0000_0000);
+    [
+        lui,
+        addiw,
+        shift(rd, 11),
+        add(rd, rd, (value / 0x20_0000 % 0x800) as i32),
+        shift(rd, 11),
+        add(rd, rd, (value / 0x400 % 0x800) as i32),
+        shift(rd, 10),
+        add(rd, rd, (value % 0x400) as i32),
+    ]
+}

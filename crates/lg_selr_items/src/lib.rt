@@ -1,0 +1,10 @@
+//! The items that the code of a node is made of on RV64: instructions, and instructions that lead to labels, whose places are put in
+//! when the code is finished.
+#![tactic(auto)]
+
+mod emission;
+mod items;
+pub mod laws;
+
+pub use emission::append;
+pub use items::{Item, Items, high_part, is_short, low_part};
