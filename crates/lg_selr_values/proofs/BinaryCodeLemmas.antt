@@ -1,0 +1,228 @@
+-- The code of the operations on two words computes them.
+use Rattle.std.proofs.Common.{◌≡◌, ◌≢◌, ℕ, ◌%◌, ◌^◌, ◌<◌, Bool, true, false, List, [], ◌∷◌, ◌++◌, Some, refl, ap, ◌∙◌, arith, length}
+use Rattle.std.specs.Prelude.{◌==◌, ◌||◌, not, nat_lt, if◌then◌else◌, bit_xor}
+use Rattle.lg_base.specs.Fields.{word_of}
+use Rattle.lg_base.specs.Words.{add_words, sub_words, negated, shifted_left, shifted_right, shifted_right_signed, is_less, is_less_signed, word_of_test}
+use Rattle.lg_op.specs.declared.op.BinaryOp.{BinaryOp}
+use Rattle.lg_op.specs.declared.op.BinaryOp.TheVariants as binary
+use Rattle.lg_operators.specs.Operators.{word_where, is_least_by_minus_one, binary_value, is_carried}
+use Rattle.lg_rv.specs.declared.instruction.Instr.{Instr}
+use Rattle.lg_rv.specs.declared.instruction.Instr.TheVariants.{Imm, Reg}
+use Rattle.lg_rv.specs.declared.instruction.ImmOp.TheVariants.{Addi}
+use Rattle.lg_rv.specs.declared.instruction.RegOp.TheVariants as row
+use Rattle.lg_cpu.specs.HostSteps.{put}
+use Rattle.lg_cpu.specs.RvStep.{read}
+use Rattle.lg_carry_rv.specs.Computations.{all_compute, computed}
+use Rattle.lg_carry_rv.specs.Numbers.{is_short, low_part, number_code}
+use Rattle.lg_carry_rv.proofs.ComputationLemmas.{read-put, read-other, put-other, computed-append, all-compute-append}
+use Rattle.lg_carry_rv.proofs.NumberCodeLemmas.{short-word}
+use Rattle.lg_selr_values.proofs.LoadCodeLemmas.{read-small, puts, puts-again, some-same, LoadsWord, put-small, loads-number, longer}
+use Rattle.lg_selr_values.specs.BinaryCode.{register_code, is_addend, loaded_code, number_form_code}
+
+-- ---- words
+turned : (b : Bool) → bit_xor (word_of_test b) 1 ≡ word_of_test (not b)
+turned true = refl
+turned false = refl
+
+difference-none : (a b : ℕ) → a < 2 ^ 64 → b < 2 ^ 64 → word_of_test (is_less (sub_words a b) 1) ≡ word_of_test (a == b)
+difference-none a b h k = grind (arith, h, k)
+
+difference-some : (a b : ℕ) → a < 2 ^ 64 → b < 2 ^ 64 → word_of_test (is_less 0 (sub_words a b)) ≡ word_of_test (not (a == b))
+difference-some a b h k = grind (arith, h, k)
+
+add-negated : (a v : ℕ) → a < 2 ^ 64 → v < 2 ^ 64 → add_words a (negated v) ≡ sub_words a v
+add-negated a v h k = omega (arith, h, k)
+
+negated-add : (a v : ℕ) → a < 2 ^ 64 → v < 2 ^ 64 → add_words (sub_words 0 a) v ≡ sub_words v a
+negated-add a v h k = omega (arith, h, k)
+
+below-64 : (b : ℕ) → nat_lt b 64 ≡ true → b % 64 ≡ b
+below-64 b h = grind (arith, h)
+
+twice-64 : (b : ℕ) → nat_lt b 64 ≡ true → b % 64 % 64 ≡ b
+twice-64 b h = grind (arith, h)
+
+-- a word that is given only where a test holds
+given-where : (b : Bool) (x z : ℕ) → word_where b x ≡ Some z → (b ≡ true) × (x ≡ z)
+given-where true x z e = (refl, some-same x z e)
+given-where false x z e = cc
+
+no-zero : (b c : Bool) → not (b || c) ≡ true → b ≡ false
+no-zero true c e = cc
+no-zero false c e = refl
+
+not-true : (b : Bool) → not b ≡ true → b ≡ false
+not-true true e = cc
+not-true false e = refl
+
+otherwise : (b : Bool) (x y z : ℕ) → b ≡ false → y ≡ z → (if b then x else y) ≡ z
+otherwise b x y z e h = ap (λ c. if c then x else y) e ∙ h
+
+-- ---- from two registers
+module _ (d a b : ℕ) (some : d ≢ 0) (w : ℕ → ℕ) (words : (r : ℕ) → w r < 2 ^ 64) (z : ℕ) where
+  abbrev x : ℕ
+  x = read w a
+
+  abbrev y : ℕ
+  y = read w b
+
+  pub register-value : (o : BinaryOp) → is_carried o ≡ false → binary_value o x y ≡ Some z → computed (register_code o d a b) w d ≡ z
+  register-value binary.Add h e = puts w d _ z (some-same _ z e)
+  register-value binary.Sub h e = puts w d _ z (some-same _ z e)
+  register-value binary.Rsb h e = puts w d _ z (some-same _ z e)
+  register-value binary.Mul h e = puts w d _ z (some-same _ z e)
+  register-value binary.And h e = puts w d _ z (some-same _ z e)
+  register-value binary.Or h e = puts w d _ z (some-same _ z e)
+  register-value binary.Xor h e = puts w d _ z (some-same _ z e)
+  register-value binary.Lsh h e = let g = given-where _ _ z e in puts w d _ z (ap (shifted_left x) (below-64 y g.0) ∙ g.1)
+  register-value binary.Rsh h e = let g = given-where _ _ z e in puts w d _ z (ap (shifted_right_signed x) (below-64 y g.0) ∙ g.1)
+  register-value binary.RshU h e = let g = given-where _ _ z e in puts w d _ z (ap (shifted_right x) (below-64 y g.0) ∙ g.1)
+  register-value binary.Div h e = let g = given-where _ _ z e in puts w d _ z (otherwise (y == 0) _ _ z (no-zero (y == 0) (is_least_by_minus_one x y) g.0) g.1)
+  register-value binary.DivU h e = let g = given-where _ _ z e in puts w d _ z (otherwise (y == 0) _ _ z (not-true (y == 0) g.0) g.1)
+  register-value binary.Rem h e = let g = given-where _ _ z e in puts w d _ z (otherwise (y == 0) _ _ z (no-zero (y == 0) (is_least_by_minus_one x y) g.0) g.1)
+  register-value binary.RemU h e = let g = given-where _ _ z e in puts w d _ z (otherwise (y == 0) _ _ z (not-true (y == 0) g.0) g.1)
+  register-value binary.Lt h e = puts w d _ z (some-same _ z e)
+  register-value binary.LtU h e = puts w d _ z (some-same _ z e)
+  register-value binary.Gt h e = puts w d _ z (some-same _ z e)
+  register-value binary.GtU h e = puts w d _ z (some-same _ z e)
+  register-value binary.Le h e = puts-again w d (word_of_test (is_less_signed y x)) (λ t. bit_xor t 1) z some (turned (is_less_signed y x) ∙ some-same _ z e)
+  register-value binary.LeU h e = puts-again w d (word_of_test (is_less y x)) (λ t. bit_xor t 1) z some (turned (is_less y x) ∙ some-same _ z e)
+  register-value binary.Ge h e = puts-again w d (word_of_test (is_less_signed x y)) (λ t. bit_xor t 1) z some (turned (is_less_signed x y) ∙ some-same _ z e)
+  register-value binary.GeU h e = puts-again w d (word_of_test (is_less x y)) (λ t. bit_xor t 1) z some (turned (is_less x y) ∙ some-same _ z e)
+  register-value binary.Eq h e = puts-again w d (sub_words x y) (λ t. word_of_test (is_less t 1)) z some (difference-none x y (read-small w a words) (read-small w b words) ∙ some-same _ z e)
+  register-value binary.Ne h e = puts-again w d (sub_words x y) (λ t. word_of_test (is_less 0 t)) z some (difference-some x y (read-small w a words) (read-small w b words) ∙ some-same _ z e)
+  register-value o h e = cc
+
+pub register-keeps : (o : BinaryOp) (d a b : ℕ) (w : ℕ → ℕ) (r : ℕ) → r ≢ d → computed (register_code o d a b) w r ≡ w r
+register-keeps binary.Le d a b w r ne = put-other (put w d _) d _ r ne ∙ put-other w d _ r ne
+register-keeps binary.LeU d a b w r ne = put-other (put w d _) d _ r ne ∙ put-other w d _ r ne
+register-keeps binary.Ge d a b w r ne = put-other (put w d _) d _ r ne ∙ put-other w d _ r ne
+register-keeps binary.GeU d a b w r ne = put-other (put w d _) d _ r ne ∙ put-other w d _ r ne
+register-keeps binary.Eq d a b w r ne = put-other (put w d _) d _ r ne ∙ put-other w d _ r ne
+register-keeps binary.Ne d a b w r ne = put-other (put w d _) d _ r ne ∙ put-other w d _ r ne
+register-keeps binary.Addc d a b w r ne = refl
+register-keeps binary.Subc d a b w r ne = refl
+register-keeps binary.Addx d a b w r ne = refl
+register-keeps binary.Subx d a b w r ne = refl
+register-keeps o d a b w r ne = put-other w d _ r ne
+
+pub register-computes : (o : BinaryOp) (d a b : ℕ) → all_compute (register_code o d a b) ≡ true
+register-computes binary.Add d a b = refl
+register-computes o d a b = refl
+
+pub register-some : (o : BinaryOp) (d a b : ℕ) → is_carried o ≡ false → 0 < length (register_code o d a b)
+register-some binary.Addc d a b h = cc
+register-some binary.Subc d a b h = cc
+register-some binary.Addx d a b h = cc
+register-some binary.Subx d a b h = cc
+register-some o d a b h = omega arith
+
+-- ---- from a register and a word that is loaded into the link
+module _ (load : List Instr) (v : ℕ) (l : LoadsWord load 1 v) (d a : ℕ) (w : ℕ → ℕ) (o : BinaryOp) where
+  before : computed (load ++ register_code o d a 1) w ≡ computed (register_code o d a 1) (put w 1 v)
+  before = computed-append load (register_code o d a 1) w ∙ ap (computed (register_code o d a 1)) (l.value w)
+
+  pub loaded-value : d ≢ 0 → a ≢ 1 → ((r : ℕ) → w r < 2 ^ 64) → (z : ℕ) → is_carried o ≡ false → binary_value o (read w a) v ≡ Some z → computed (load ++ register_code o d a 1) w d ≡ z
+  loaded-value some apart words z h e =
+      let ea : read (put w 1 v) a ≡ read w a = read-other w 1 v a apart in
+      let ev : read (put w 1 v) 1 ≡ v = read-put w 1 v (λ n. absurd (omega (arith, n))) in
+      let e' : binary_value o (read (put w 1 v) a) (read (put w 1 v) 1) ≡ Some z = let same : binary_value o (read (put w 1 v) a) (read (put w 1 v) 1) ≡ binary_value o (read w a) v = λ i. binary_value o (ea i) (ev i) in same ∙ e in
+      ap (λ u. u d) before ∙ register-value d a 1 some (put w 1 v) (put-small w 1 v l.small words) z o h e'
+
+  pub loaded-keeps : (r : ℕ) → r ≢ d → r ≢ 1 → computed (load ++ register_code o d a 1) w r ≡ w r
+  loaded-keeps r ne link = ap (λ u. u r) before ∙ register-keeps o d a 1 (put w 1 v) r ne ∙ put-other w 1 v r link
+
+-- ---- from a register and a number
+addend-short : (v : ℕ) → v < 2 ^ 64 → is_addend v ≡ true → is_short v ≡ true
+addend-short v small h = grind (arith, small, h)
+
+addend-turned : (v : ℕ) → v < 2 ^ 64 → is_addend v ≡ true → is_short (negated v) ≡ true
+addend-turned v small h = grind (arith, small, h)
+
+negated-small : (v : ℕ) → negated v < 2 ^ 64
+negated-small v = omega arith
+
+module _ (d a v : ℕ) (some : d ≢ 0) (apart : a ≢ 1) (small : v < 2 ^ 64) (w : ℕ → ℕ) (words : (r : ℕ) → w r < 2 ^ 64) where
+  loaded : (o : BinaryOp) (z : ℕ) → is_carried o ≡ false → binary_value o (read w a) v ≡ Some z → computed (loaded_code o d a v) w d ≡ z
+  loaded o z h e = loaded-value (number_code 1 v) v (loads-number 1 v (λ n. absurd (omega (arith, n))) (omega arith) small) d a w o some apart words z h e
+
+  add-value : (b : Bool) (z : ℕ) → is_addend v ≡ b → add_words (read w a) v ≡ z → computed (if b then Imm Addi d a (low_part v) ∷ [] else loaded_code binary.Add d a v) w d ≡ z
+  add-value true z near e = puts w d _ z (ap (add_words (read w a)) (short-word v small (addend-short v small near)) ∙ e)
+  add-value false z far e = loaded binary.Add z refl (ap Some e)
+
+  sub-value : (b : Bool) (z : ℕ) → is_addend v ≡ b → sub_words (read w a) v ≡ z → computed (if b then Imm Addi d a (low_part (negated v)) ∷ [] else loaded_code binary.Sub d a v) w d ≡ z
+  sub-value true z near e = puts w d _ z (ap (add_words (read w a)) (short-word (negated v) (negated-small v) (addend-turned v small near)) ∙ add-negated (read w a) v (read-small w a words) small ∙ e)
+  sub-value false z far e = loaded binary.Sub z refl (ap Some e)
+
+  rsb-value : (b : Bool) (z : ℕ) → is_addend v ≡ b → sub_words v (read w a) ≡ z → computed (if b then Reg row.Sub d 0 a ∷ Imm Addi d d (low_part v) ∷ [] else loaded_code binary.Rsb d a v) w d ≡ z
+  rsb-value true z near e = puts-again w d (sub_words 0 (read w a)) (λ t. add_words t (word_of (low_part v))) z some (ap (add_words (sub_words 0 (read w a))) (short-word v small (addend-short v small near)) ∙ negated-add (read w a) v (read-small w a words) small ∙ e)
+  rsb-value false z far e = loaded binary.Rsb z refl (ap Some e)
+
+  pub number-value : (o : BinaryOp) (z : ℕ) → is_carried o ≡ false → binary_value o (read w a) v ≡ Some z → computed (number_form_code o d a v) w d ≡ z
+  number-value binary.Add z h e = add-value (is_addend v) z refl (some-same _ z e)
+  number-value binary.Sub z h e = sub-value (is_addend v) z refl (some-same _ z e)
+  number-value binary.Rsb z h e = rsb-value (is_addend v) z refl (some-same _ z e)
+  number-value binary.Lsh z h e = let g = given-where _ _ z e in puts w d _ z (ap (shifted_left (read w a)) (twice-64 v g.0) ∙ g.1)
+  number-value binary.Rsh z h e = let g = given-where _ _ z e in puts w d _ z (ap (shifted_right_signed (read w a)) (twice-64 v g.0) ∙ g.1)
+  number-value binary.RshU z h e = let g = given-where _ _ z e in puts w d _ z (ap (shifted_right (read w a)) (twice-64 v g.0) ∙ g.1)
+  number-value binary.Addc z h e = cc
+  number-value binary.Subc z h e = cc
+  number-value binary.Addx z h e = cc
+  number-value binary.Subx z h e = cc
+  number-value o z h e = loaded o z refl e
+
+loaded-other : (o : BinaryOp) (d a v : ℕ) (small : v < 2 ^ 64) (w : ℕ → ℕ) (r : ℕ) → r ≢ d → r ≢ 1 → computed (loaded_code o d a v) w r ≡ w r
+loaded-other o d a v small w r ne link = loaded-keeps (number_code 1 v) v (loads-number 1 v (λ n. absurd (omega (arith, n))) (omega arith) small) d a w o r ne link
+
+pub number-keeps : (o : BinaryOp) (d a v : ℕ) (small : v < 2 ^ 64) (w : ℕ → ℕ) (r : ℕ) → r ≢ d → r ≢ 1 → computed (number_form_code o d a v) w r ≡ w r
+number-keeps binary.Add d a v small w r ne link = by (is_addend v)
+  where
+    by : (b : Bool) → computed (if b then Imm Addi d a (low_part v) ∷ [] else loaded_code binary.Add d a v) w r ≡ w r
+    by true = put-other w d _ r ne
+    by false = loaded-other binary.Add d a v small w r ne link
+number-keeps binary.Sub d a v small w r ne link = by (is_addend v)
+  where
+    by : (b : Bool) → computed (if b then Imm Addi d a (low_part (negated v)) ∷ [] else loaded_code binary.Sub d a v) w r ≡ w r
+    by true = put-other w d _ r ne
+    by false = loaded-other binary.Sub d a v small w r ne link
+number-keeps binary.Rsb d a v small w r ne link = by (is_addend v)
+  where
+    by : (b : Bool) → computed (if b then Reg row.Sub d 0 a ∷ Imm Addi d d (low_part v) ∷ [] else loaded_code binary.Rsb d a v) w r ≡ w r
+    by true = put-other (put w d _) d _ r ne ∙ put-other w d _ r ne
+    by false = loaded-other binary.Rsb d a v small w r ne link
+number-keeps binary.Lsh d a v small w r ne link = put-other w d _ r ne
+number-keeps binary.Rsh d a v small w r ne link = put-other w d _ r ne
+number-keeps binary.RshU d a v small w r ne link = put-other w d _ r ne
+number-keeps o d a v small w r ne link = loaded-other o d a v small w r ne link
+
+loaded-computes : (o : BinaryOp) (d a v : ℕ) → v < 2 ^ 64 → all_compute (loaded_code o d a v) ≡ true
+loaded-computes o d a v small = all-compute-append (number_code 1 v) (register_code o d a 1) (loads-number 1 v (λ n. absurd (omega (arith, n))) (omega arith) small).computes (register-computes o d a 1)
+
+either-computes : (b : Bool) (xs ys : List Instr) → all_compute xs ≡ true → all_compute ys ≡ true → all_compute (if b then xs else ys) ≡ true
+either-computes true xs ys h k = h
+either-computes false xs ys h k = k
+
+pub number-computes : (o : BinaryOp) (d a v : ℕ) → v < 2 ^ 64 → all_compute (number_form_code o d a v) ≡ true
+number-computes binary.Add d a v small = either-computes (is_addend v) _ _ refl (loaded-computes binary.Add d a v small)
+number-computes binary.Sub d a v small = either-computes (is_addend v) _ _ refl (loaded-computes binary.Sub d a v small)
+number-computes binary.Rsb d a v small = either-computes (is_addend v) _ _ refl (loaded-computes binary.Rsb d a v small)
+number-computes binary.Lsh d a v small = refl
+number-computes binary.Rsh d a v small = refl
+number-computes binary.RshU d a v small = refl
+number-computes o d a v small = loaded-computes o d a v small
+
+loaded-some : (o : BinaryOp) (d a v : ℕ) → v < 2 ^ 64 → 0 < length (loaded_code o d a v)
+loaded-some o d a v small = longer (number_code 1 v) (register_code o d a 1) (loads-number 1 v (λ n. absurd (omega (arith, n))) (omega arith) small).some
+
+either-some : (b : Bool) (xs ys : List Instr) → 0 < length xs → 0 < length ys → 0 < length (if b then xs else ys)
+either-some true xs ys h k = h
+either-some false xs ys h k = k
+
+pub number-some : (o : BinaryOp) (d a v : ℕ) → v < 2 ^ 64 → 0 < length (number_form_code o d a v)
+number-some binary.Add d a v small = either-some (is_addend v) _ _ (omega arith) (loaded-some binary.Add d a v small)
+number-some binary.Sub d a v small = either-some (is_addend v) _ _ (omega arith) (loaded-some binary.Sub d a v small)
+number-some binary.Rsb d a v small = either-some (is_addend v) _ _ (omega arith) (loaded-some binary.Rsb d a v small)
+number-some binary.Lsh d a v small = omega arith
+number-some binary.Rsh d a v small = omega arith
+number-some binary.RshU d a v small = omega arith
+number-some o d a v small = loaded-some o d a v small

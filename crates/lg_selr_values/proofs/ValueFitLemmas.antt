@@ -1,0 +1,160 @@
+-- The items of a node that are emitted.
+use Rattle.std.proofs.Common.{◌≡◌, ℕ, zero, suc, ◌<◌, ◌⊎◌, inl, inr, Bool, true, false, List, [], ◌∷◌, ◌++◌, refl, sym, subst, arith}
+use Rattle.std.specs.Prelude.{◌==◌, if◌then◌else◌, negsuc, pos, ◌≤ℤ◌}
+use Rattle.std.specs.List.{list_any}
+use Rattle.lg_base.specs.HostNames.{host_address}
+use Rattle.lg_base.specs.declared.target.Target.TheVariants.{Riscv64}
+use Rattle.lg_op.specs.declared.op.Op.{Op}
+use Rattle.lg_op.specs.declared.op.Op.TheVariants as op
+use Rattle.lg_op.specs.declared.op.BinaryOp.{BinaryOp}
+use Rattle.lg_op.specs.declared.op.BinaryOp.TheVariants as binary
+use Rattle.lg_op.specs.declared.op.WideOp.{WideOp}
+use Rattle.lg_op.specs.declared.op.PlainOp.TheVariants as plain
+use Rattle.lg_op.specs.declared.node.Node.{Node}
+use Rattle.lg_op.specs.declared.operand.Operand.{Operand}
+use Rattle.lg_op.specs.declared.operand.Operand.TheVariants as operand
+use Rattle.lg_operators.specs.Operators.{is_carried}
+use Rattle.lg_temp.specs.declared.choice.Need.TheVariants.{Any}
+use Rattle.lg_temp.specs.declared.choice.Choice.{Choice}
+use Rattle.lg_temp.specs.declared.choice.Choice.TheVariants.{Free, Own, Spill}
+use Rattle.lg_temp.specs.Abis.{register_of}
+use Rattle.lg_temp.specs.Chosen.{Around, around, order}
+use Rattle.lg_temp.specs.Choices.{AreFor}
+use Rattle.lg_carry_rv.specs.Numbers.{number_code}
+use Rattle.lg_carry_rv.specs.RvRows.{can_save, slot_offset}
+use Rattle.lg_carry_rv.proofs.TemporaryLemmas.{tried-saved}
+use Rattle.lg_selr_items.specs.declared.items.Item.{Item}
+use Rattle.lg_selr_items.specs.Items.{settled, ones, NameLabels}
+use Rattle.lg_selr_items.proofs.ItemLemmas.{items-append, names-append, names-ones}
+use Rattle.lg_selr_values.specs.BinaryCode.{register_code, number_form_code}
+use Rattle.lg_selr_values.specs.CarriedCode.{carried_code}
+use Rattle.lg_selr_values.specs.UnaryCode.{unary_code}
+use Rattle.lg_selr_values.specs.WideCode.{wide_code}
+use Rattle.lg_selr_values.specs.ValueItems.{value_needs, first_taken, load_items, binary_items, second_items, carried_items, wide_items, operation_items, operand_in, register_in, body_items, saved_items}
+use Rattle.lg_selr_values.specs.ValueFits.{AreValueItems, ValueItemsFit, NamesBelow, NameBelow, ValueItemsName}
+use Rattle.lg_selr_values.proofs.FitLemmas.{body-fits}
+use Rattle.lg_selr_values.proofs.StraightLemmas.{straight-block, body-follow, saved-follow}
+use Rattle.lg_selr_values.proofs.WordLemmas.{body_few, saved_few}
+
+-- ---- choices
+save-small : (r : ℕ) → can_save r ≡ true → r < 32
+save-small r h = grind (arith, h)
+
+first-slot : (negsuc 2047 ≤ℤ slot_offset 0) × (slot_offset 0 ≤ℤ pos 2047)
+first-slot = (grind arith, grind arith)
+
+none : (n : Node) → AreValueItems n []
+none n = record {
+  few = omega arith;
+  slots = tt;
+  fit = body-fits n.op n.operands 0 (omega arith);
+  short = let f = body_few n.op n.operands 0 in omega (arith, f);
+  block = λ to at. straight-block (settled to at (body_items n.op n.operands 0)) ((body-follow n.op n.operands 0).follow to at);
+}
+
+free : (n : Node) (r : ℕ) → r < 32 → AreValueItems n (Free r ∷ [])
+free n r small = record {
+  few = omega arith;
+  slots = tt;
+  fit = body-fits n.op n.operands r small;
+  short = let f = body_few n.op n.operands r in omega (arith, f);
+  block = λ to at. straight-block (settled to at (body_items n.op n.operands r)) ((body-follow n.op n.operands r).follow to at);
+}
+
+saved : (n : Node) (r : ℕ) → r < 32 → AreValueItems n (Spill r 0 ∷ [])
+saved n r small =
+    let body = body_items n.op n.operands r in record {
+      few = omega arith;
+      slots = (omega arith, tt);
+      fit = ((omega arith, small, first-slot.0, first-slot.1), items-append body _ (body-fits n.op n.operands r small) ((small, omega arith, first-slot.0, first-slot.1), tt));
+      short = let f = saved_few (Spill r 0 ∷ []) body 30 (body_few n.op n.operands r) in omega (arith, f);
+      block = λ to at. straight-block (settled to at (saved_items (Spill r 0 ∷ []) body)) ((saved-follow (Spill r 0 ∷ []) body (body-follow n.op n.operands r)).follow to at);
+    }
+
+needs-are : (o : Op) → (value_needs o ≡ []) ⊎ (value_needs o ≡ Any ∷ [])
+needs-are (op.Binary binary.Addx last) = inr refl
+needs-are (op.Binary binary.Subx last) = inr refl
+needs-are (op.Binary o last) = inl refl
+needs-are o = inl refl
+
+without : (n : Node) (a : Around) (choices : List Choice) → AreFor a [] [] [] choices → AreValueItems n choices
+without n a [] h = none n
+without n a (choice ∷ choices) h = absurd h
+
+one : (n : Node) (a : Around) (choices : List Choice) → a.target ≡ Riscv64 → AreFor a (Any ∷ []) [] (Any ∷ []) choices → AreValueItems n choices
+one n a [] e h = absurd h
+one n a (choice ∷ next ∷ choices) e h = absurd h.1
+one n a (Own r ∷ []) e h = absurd h.0
+one n a (Free r ∷ []) e h = free n r (save-small r (tried-saved r (subst (λ t. list_any (λ x. x == r) (order t) ≡ true) e h.0.0.tried)))
+one n a (Spill r k ∷ []) e h = subst (λ z. AreValueItems n (Spill r z ∷ [])) (sym h.0.1) (saved n r (save-small r (tried-saved r (subst (λ t. list_any (λ x. x == r) (order t) ≡ true) e h.0.0.tried))))
+
+pub value-items-fit : ValueItemsFit
+value-items-fit n live staged choices h = by (needs-are n.op)
+  where
+    by : (value_needs n.op ≡ []) ⊎ (value_needs n.op ≡ Any ∷ []) → AreValueItems n choices
+    by (inl e) = without n (around Riscv64 n live staged) choices (subst (λ needs. AreFor (around Riscv64 n live staged) needs [] needs choices) e h)
+    by (inr e) = one n (around Riscv64 n live staged) choices refl (subst (λ needs. AreFor (around Riscv64 n live staged) needs [] needs choices) e h)
+
+-- ---- labels
+load-names : (labels t : ℕ) (x : Operand) → NamesBelow labels x → NameLabels labels (load_items t x)
+load-names labels t (operand.Number v) h = names-ones labels (number_code t v)
+load-names labels t (operand.Host name) h = names-ones labels (number_code t (host_address name))
+load-names labels t (operand.Label l) h = (h, tt)
+load-names labels t (operand.Reg r) h = tt
+load-names labels t (operand.Slot k) h = tt
+
+second-names : (labels : ℕ) (x : Operand) → NamesBelow labels x → NameLabels labels (second_items x)
+second-names labels (operand.Reg r) h = (tt, tt)
+second-names labels (operand.Number v) h = load-names labels 1 (operand.Number v) h
+second-names labels (operand.Host name) h = load-names labels 1 (operand.Host name) h
+second-names labels (operand.Label l) h = load-names labels 1 (operand.Label l) h
+second-names labels (operand.Slot k) h = load-names labels 1 (operand.Slot k) h
+
+loaded-names : (labels : ℕ) (o : BinaryOp) (d a : ℕ) (x : Operand) → NamesBelow labels x → NameLabels labels (load_items 1 x ++ ones (register_code o d a 1))
+loaded-names labels o d a x h = names-append labels (load_items 1 x) (ones (register_code o d a 1)) (load-names labels 1 x h) (names-ones labels (register_code o d a 1))
+
+binary-names : (labels : ℕ) (o : BinaryOp) (d a : ℕ) (x : Operand) → NamesBelow labels x → NameLabels labels (binary_items o d a x)
+binary-names labels o d a (operand.Reg r) h = names-ones labels (register_code o d a (register_of Riscv64 r))
+binary-names labels o d a (operand.Number v) h = names-ones labels (number_form_code o d a v)
+binary-names labels o d a (operand.Host name) h = loaded-names labels o d a (operand.Host name) h
+binary-names labels o d a (operand.Label l) h = loaded-names labels o d a (operand.Label l) h
+binary-names labels o d a (operand.Slot k) h = loaded-names labels o d a (operand.Slot k) h
+
+wide-loaded-names : (labels : ℕ) (o : WideOp) (d e a : ℕ) (x : Operand) → NamesBelow labels x → NameLabels labels (load_items 31 x ++ ones (wide_code o d e a 31))
+wide-loaded-names labels o d e a x h = names-append labels (load_items 31 x) (ones (wide_code o d e a 31)) (load-names labels 31 x h) (names-ones labels (wide_code o d e a 31))
+
+wide-names : (labels : ℕ) (o : WideOp) (d e a : ℕ) (x : Operand) → NamesBelow labels x → NameLabels labels (wide_items o d e a x)
+wide-names labels o d e a (operand.Reg r) h = names-ones labels (wide_code o d e a (register_of Riscv64 r))
+wide-names labels o d e a (operand.Number v) h = wide-loaded-names labels o d e a (operand.Number v) h
+wide-names labels o d e a (operand.Host name) h = wide-loaded-names labels o d e a (operand.Host name) h
+wide-names labels o d e a (operand.Label l) h = wide-loaded-names labels o d e a (operand.Label l) h
+wide-names labels o d e a (operand.Slot k) h = wide-loaded-names labels o d e a (operand.Slot k) h
+
+operation-names : (labels : ℕ) (o : BinaryOp) (u d a : ℕ) (x : Operand) → NamesBelow labels x → NameLabels labels (operation_items o u d a x)
+operation-names labels o u d a x h = by (is_carried o)
+  where
+    by : (b : Bool) → NameLabels labels (if b then carried_items o u d a x else binary_items o d a x)
+    by true = names-append labels (second_items x) (ones (carried_code o u d a)) (second-names labels x h) (names-ones labels (carried_code o u d a))
+    by false = binary-names labels o d a x h
+
+operand-below : (labels : ℕ) (xs : List Operand) (i : ℕ) → NameBelow labels xs → NamesBelow labels (operand_in xs i)
+operand-below labels [] i h = tt
+operand-below labels (x ∷ xs) zero h = h.0
+operand-below labels (x ∷ xs) (suc i) h = operand-below labels xs i h.1
+
+body-names : (labels : ℕ) (o : Op) (xs : List Operand) (u : ℕ) → NameBelow labels xs → NameLabels labels (body_items o xs u)
+body-names labels (op.Binary o last) xs u h = operation-names labels o u (register_in xs 0) (register_in xs 1) (operand_in xs 2) (operand-below labels xs 2 h)
+body-names labels (op.Wide o last) xs u h = wide-names labels o (register_in xs 0) (register_in xs 1) (register_in xs 2) (operand_in xs 3) (operand-below labels xs 3 h)
+body-names labels (op.Unary o) xs u h = names-ones labels (unary_code o (register_in xs 0) (register_in xs 1))
+body-names labels (op.Plain plain.Movi) xs u h = load-names labels (register_in xs 0) (operand_in xs 1) (operand-below labels xs 1 h)
+body-names labels (op.Plain o) xs u h = tt
+body-names labels o xs u h = tt
+
+saved-names : (labels : ℕ) (choices : List Choice) (body : List Item) → NameLabels labels body → NameLabels labels (saved_items choices body)
+saved-names labels [] body h = h
+saved-names labels (Free r ∷ choices) body h = saved-names labels choices body h
+saved-names labels (Own r ∷ choices) body h = saved-names labels choices body h
+saved-names labels (Spill r k ∷ choices) body h = (tt, names-append labels (saved_items choices body) _ (saved-names labels choices body h) (tt, tt))
+
+pub value-items-name : ValueItemsName
+value-items-name labels n choices h = saved-names labels choices (body_items n.op n.operands (first_taken choices)) (body-names labels n.op n.operands (first_taken choices) h)

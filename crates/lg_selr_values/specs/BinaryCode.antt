@@ -1,0 +1,67 @@
+-- The code of the operations on two words, from two registers or from a register and a number.
+use Rattle.std.specs.Prelude.{ℕ, ◌+◌, ◌%◌, ◌^◌, nat_lt, Bool, if◌then◌else◌, pos, List, [], ◌∷◌, ◌++◌}
+use Rattle.lg_base.specs.Words.{negated}
+use Rattle.lg_op.specs.declared.op.BinaryOp.{BinaryOp}
+use Rattle.lg_op.specs.declared.op.BinaryOp.TheVariants as binary
+use Rattle.lg_rv.specs.declared.instruction.Instr.{Instr}
+use Rattle.lg_rv.specs.declared.instruction.Instr.TheVariants.{Imm, Shift, Reg}
+use Rattle.lg_rv.specs.declared.instruction.ImmOp.TheVariants.{Addi, Sltiu, Xori}
+use Rattle.lg_rv.specs.declared.instruction.ShiftOp.TheVariants.{Slli, Srli, Srai}
+use Rattle.lg_rv.specs.declared.instruction.RegOp.TheVariants as row
+use Rattle.lg_carry_rv.specs.Numbers.{low_part, number_code}
+
+-- d = a op b; the operations that set the carry stand in CarriedCode
+abbrev pub register_code : BinaryOp → ℕ → ℕ → ℕ → List Instr
+register_code binary.Add d a b = Reg row.Add d a b ∷ []
+register_code binary.Sub d a b = Reg row.Sub d a b ∷ []
+register_code binary.Rsb d a b = Reg row.Sub d b a ∷ []
+register_code binary.Mul d a b = Reg row.Mul d a b ∷ []
+register_code binary.And d a b = Reg row.And d a b ∷ []
+register_code binary.Or d a b = Reg row.Or d a b ∷ []
+register_code binary.Xor d a b = Reg row.Xor d a b ∷ []
+register_code binary.Lsh d a b = Reg row.Sll d a b ∷ []
+register_code binary.Rsh d a b = Reg row.Sra d a b ∷ []
+register_code binary.RshU d a b = Reg row.Srl d a b ∷ []
+register_code binary.Div d a b = Reg row.Div d a b ∷ []
+register_code binary.DivU d a b = Reg row.Divu d a b ∷ []
+register_code binary.Rem d a b = Reg row.Rem d a b ∷ []
+register_code binary.RemU d a b = Reg row.Remu d a b ∷ []
+register_code binary.Lt d a b = Reg row.Slt d a b ∷ []
+register_code binary.LtU d a b = Reg row.Sltu d a b ∷ []
+register_code binary.Gt d a b = Reg row.Slt d b a ∷ []
+register_code binary.GtU d a b = Reg row.Sltu d b a ∷ []
+register_code binary.Le d a b = Reg row.Slt d b a ∷ Imm Xori d d (pos 1) ∷ []
+register_code binary.LeU d a b = Reg row.Sltu d b a ∷ Imm Xori d d (pos 1) ∷ []
+register_code binary.Ge d a b = Reg row.Slt d a b ∷ Imm Xori d d (pos 1) ∷ []
+register_code binary.GeU d a b = Reg row.Sltu d a b ∷ Imm Xori d d (pos 1) ∷ []
+register_code binary.Eq d a b = Reg row.Sub d a b ∷ Imm Sltiu d d (pos 1) ∷ []
+register_code binary.Ne d a b = Reg row.Sub d a b ∷ Reg row.Sltu d 0 d ∷ []
+register_code o d a b = []
+
+-- the signed view is from -2,047 to 2,047
+abbrev pub is_addend : ℕ → Bool
+is_addend v = nat_lt ((v + 2047) % 2 ^ 64) 4095
+
+-- any number is put into the link, which holds nothing behind the `prolog`
+abbrev pub loaded_code : BinaryOp → ℕ → ℕ → ℕ → List Instr
+loaded_code o d a v = number_code 1 v ++ register_code o d a 1
+
+-- d = a op v, where an instruction holds the number
+abbrev pub addend_code : BinaryOp → ℕ → ℕ → ℕ → List Instr
+addend_code binary.Add d a v = Imm Addi d a (low_part v) ∷ []
+addend_code binary.Sub d a v = Imm Addi d a (low_part (negated v)) ∷ []
+addend_code binary.Rsb d a v = Reg row.Sub d 0 a ∷ Imm Addi d d (low_part v) ∷ []
+addend_code o d a v = []
+
+abbrev pub sum_code : BinaryOp → ℕ → ℕ → ℕ → List Instr
+sum_code o d a v = if is_addend v then addend_code o d a v else loaded_code o d a v
+
+-- d = a op v; a shift by 64 or more is undefined
+abbrev pub number_form_code : BinaryOp → ℕ → ℕ → ℕ → List Instr
+number_form_code binary.Add d a v = sum_code binary.Add d a v
+number_form_code binary.Sub d a v = sum_code binary.Sub d a v
+number_form_code binary.Rsb d a v = sum_code binary.Rsb d a v
+number_form_code binary.Lsh d a v = Shift Slli d a (v % 64) ∷ []
+number_form_code binary.Rsh d a v = Shift Srai d a (v % 64) ∷ []
+number_form_code binary.RshU d a v = Shift Srli d a (v % 64) ∷ []
+number_form_code o d a v = loaded_code o d a v

@@ -1,0 +1,224 @@
+// The nodes that compute values.
+
+ghost use Rattle.std.specs.Prelude.{◌≡◌, ◌+◌, ◌<◌, ◌≤◌, [], ◌∷◌, ◌++◌, length, slice_index_or};
+ghost use Rattle.lg_base.specs.declared.target.Target.TheVariants.{Riscv64};
+ghost use Rattle.lg_operators.specs.Operators.{is_carried};
+ghost use Rattle.lg_carry_rv.specs.RvRows.{slot_offset};
+ghost use Rattle.lg_temp.specs.Abis.{register_of};
+ghost use Rattle.lg_selr_items.specs.Items.{words_in};
+ghost use Rattle.lg_selr_values.specs.ValueItems.{load_items, binary_items, second_items, carried_items, wide_items, operation_items, register_for, body_items, value_items, HaveSlots};
+
+use crate::binary::{number_form_code, register_code};
+use crate::rows::imm;
+use crate::unary::unary_code;
+use crate::wide::{carried_code, wide_code};
+use lg_base::target::Target;
+use lg_op::{BinaryOp, Label, Node, Op, Operand, PlainOp, Reg, WideOp};
+use lg_rv::{ImmOp, Instr, StoreOp};
+use lg_selr_items::Items;
+use lg_temp::abi::Abi;
+use lg_temp::choice::{Choice, Choices};
+
+// The register that stands for a portable one.
+fn register_of(reg: Reg) -> u8
+    ensures { result ≡ register_of Riscv64 reg }
+{
+    let abi = Abi {
+        target: Target::Riscv64,
+    };
+    abi.portable(reg)
+}
+
+// The register of an operand that is one, and else 0.
+fn register_for(operand: Operand) -> u8
+    ensures { result ≡ register_for operand }
+{
+    match operand {
+        Operand::Reg(reg) => register_of(reg),
+        _ => 0,
+    }
+}
+
+// An operand by its place, and the number 0 where there is none.
+fn operand_in(operands: &[Operand], index: usize) -> Operand
+    ensures { result ≡ slice_index_or operands.now index (Operand.Number 0) }
+{
+    match operands.get(index) {
+        Some(operand) => *operand,
+        None => Operand::Number(0),
+    }
+}
+
+// Whether an operation sets the carry.
+fn is_carried(op: BinaryOp) -> bool
+    ensures { result ≡ is_carried op }
+{
+    match op {
+        BinaryOp::Addc | BinaryOp::Subc | BinaryOp::Addx | BinaryOp::Subx => true,
+        _ => false,
+    }
+}
+
+// Appends the code that puts the word of an immediate into a register: at most 8 instructions, for which there is room. Of a register
+// nothing is appended.
+fn load_items(rd: u8, x: Operand, items: &mut Items)
+    requires { words_in items.old + 8 ≤ 64 }
+    ensures { items.new ≡ items.old ++ load_items rd x }
+{
+    match x {
+        Operand::Number(value) => items.number(rd, value),
+        Operand::Host(name) => items.number(rd, name.address()),
+        Operand::Label(Label(label)) => items.address(rd, label),
+        Operand::Reg(_) | Operand::Slot(_) => {}
+    }
+}
+
+// Appends the code of `d = a op x`: at most 10 instructions, for which there is room.
+#[tactic(auto, using(crate::proofs::EmissionLemmas::load_words))]
+fn binary_items(op: BinaryOp, d: u8, a: u8, x: Operand, items: &mut Items)
+    requires { words_in items.old + 10 ≤ 64 }
+    ensures { items.new ≡ items.old ++ binary_items op d a x }
+{
+    match x {
+        Operand::Reg(b) => register_code(op, d, a, register_of(b), items),
+        Operand::Number(value) => number_form_code(op, d, a, value, items),
+        Operand::Host(_) | Operand::Label(_) | Operand::Slot(_) => {
+            load_items(1, x, items);
+            register_code(op, d, a, 1, items);
+        }
+    }
+}
+
+// Appends the code that puts the second word of an operation that sets the carry into the link: at most 8 instructions, for which there is
+// room.
+fn second_items(x: Operand, items: &mut Items)
+    requires { words_in items.old + 8 ≤ 64 }
+    ensures { items.new ≡ items.old ++ second_items x }
+{
+    match x {
+        Operand::Reg(b) => items.one(imm(ImmOp::Addi, 1, register_of(b), 0)),
+        Operand::Number(_) | Operand::Host(_) | Operand::Label(_) | Operand::Slot(_) => load_items(
+            1, x, items,
+        ),
+    }
+}
+
+// Appends the code of `d = a op x`, which sets the carry, where `u` is a temporary: at most 13 instructions, for which there is room.
+fn carried_items(op: BinaryOp, u: u8, d: u8, a: u8, x: Operand, items: &mut Items)
+    requires { words_in items.old + 13 ≤ 64 }
+    ensures { items.new ≡ items.old ++ carried_items op u d a x }
+{
+    second_items(x, items);
+    carried_code(op, u, d, a, items);
+}
+
+// Appends the code of `d, e = a op x`: at most 11 instructions, for which there is room.
+#[tactic(auto, using(crate::proofs::EmissionLemmas::load_words))]
+fn wide_items(op: WideOp, d: u8, e: u8, a: u8, x: Operand, items: &mut Items)
+    requires { words_in items.old + 11 ≤ 64 }
+    ensures { items.new ≡ items.old ++ wide_items op d e a x }
+{
+    match x {
+        Operand::Reg(b) => wide_code(op, d, e, a, register_of(b), items),
+        Operand::Number(_) | Operand::Host(_) | Operand::Label(_) | Operand::Slot(_) => {
+            load_items(31, x, items);
+            wide_code(op, d, e, a, 31, items);
+        }
+    }
+}
+
+// Appends the code of an operation on two words: at most 13 instructions, for which there is room.
+fn operation_items(op: BinaryOp, u: u8, d: u8, a: u8, x: Operand, items: &mut Items)
+    requires { words_in items.old + 13 ≤ 64 }
+    ensures { items.new ≡ items.old ++ operation_items op u d a x }
+{
+    if is_carried(op) {
+        carried_items(op, u, d, a, x, items);
+    } else {
+        binary_items(op, d, a, x, items);
+    }
+}
+
+// Appends the code of an operation with its operands, where `u` is the temporary: at most 30 instructions, for which there is room.
+fn body_items(op: Op, operands: &[Operand], u: u8, items: &mut Items)
+    requires { words_in items.old + 30 ≤ 64 }
+    ensures { items.new ≡ items.old ++ body_items op operands.now u }
+{
+    let x = operand_in(operands, 0);
+    let y = operand_in(operands, 1);
+    let z = operand_in(operands, 2);
+    match op {
+        Op::Binary(o, _) => operation_items(o, u, register_for(x), register_for(y), z, items),
+        Op::Wide(o, _) => wide_items(
+            o,
+            register_for(x),
+            register_for(y),
+            register_for(z),
+            operand_in(operands, 3),
+            items,
+        ),
+        Op::Unary(o) => unary_code(o, register_for(x), register_for(y), items),
+        Op::Plain(PlainOp::Movi) => load_items(register_for(x), y, items),
+        _ => {}
+    }
+}
+
+// Where a spill slot lies from FP.
+fn slot_offset(slot: u32) -> i32
+    requires { slot < 5 }
+    ensures { result ≡ slot_offset slot }
+{
+    -96 - 8 * (slot as i32)
+}
+
+// Saves a register in a slot.
+fn save(reg: u8, slot: u32) -> Instr
+    requires { slot < 5 }
+    ensures { result ≡ Instr.Store (StoreOp.Sd) 8 reg (slot_offset slot) }
+{
+    Instr::Store {
+        op: StoreOp::Sd,
+        rs1: 8,
+        rs2: reg,
+        imm: slot_offset(slot),
+    }
+}
+
+// Restores a register from a slot.
+fn restore(reg: u8, slot: u32) -> Instr
+    requires { slot < 5 }
+    ensures { result ≡ Instr.Imm (ImmOp.Ld) reg 8 (slot_offset slot) }
+{
+    imm(ImmOp::Ld, reg, 8, slot_offset(slot))
+}
+
+// Appends the code of a node with a temporary, which is saved and restored or not: at most 32 instructions, for which there is room.
+fn chosen_items(node: &Node, choice: &Choice, items: &mut Items)
+    requires slots { HaveSlots (choice.now ∷ []) }
+    requires room { words_in items.old + 32 ≤ 64 }
+    ensures { items.new ≡ items.old ++ value_items node.now (choice.now ∷ []) }
+{
+    let operands = node.operands.as_slice();
+    match *choice {
+        Choice::Free(reg) | Choice::Own(reg) => body_items(node.op, operands, reg, items),
+        Choice::Spill { reg, slot } => {
+            items.one(save(reg, slot));
+            body_items(node.op, operands, reg, items);
+            items.one(restore(reg, slot));
+        }
+    }
+}
+
+/// Appends the code of a node that computes a value, or two: at most 32 instructions, for which there is room. Of every other node no code
+/// is appended but saves and restores. There is a choice at most.
+pub fn value_items(node: &Node, choices: &Choices, items: &mut Items)
+    requires few { length choices.now ≤ 1 }
+    requires slots { HaveSlots choices.now }
+    requires room { words_in items.old + 32 ≤ 64 }
+    ensures { items.new ≡ items.old ++ value_items node.now choices.now }
+{
+    match choices.as_slice() {
+        [] => body_items(node.op, node.operands.as_slice(), 0, items),
+        [choice, ..] => chosen_items(node, choice, items),
+    }
+}
