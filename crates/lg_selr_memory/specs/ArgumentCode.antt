@@ -1,0 +1,16 @@
+-- The code that reads an argument of the function.
+use Rattle.std.specs.Prelude.{ℕ, ◌+◌, ◌-◌, ◌*◌, nat_lt, if◌then◌else◌, ℤ, pos, negsuc, List, [], ◌∷◌}
+use Rattle.lg_op.specs.declared.node.Node.{Node}
+use Rattle.lg_op.specs.declared.op.ValueType.{ValueType}
+use Rattle.lg_rv.specs.declared.instruction.Instr.{Instr}
+use Rattle.lg_rv.specs.declared.instruction.Instr.TheVariants as instr
+use Rattle.lg_meaning.specs.Steps.{operand_at, slot}
+use Rattle.lg_selr_memory.specs.Accesses.{register, load_row}
+
+-- argument k of the function from its home, or from the caller's stack words: FP stands 16 bytes below these
+abbrev pub argument_offset : ℕ → ℤ
+argument_offset k = if nat_lt k 8 then negsuc (31 + 8 * k) else pos (16 + 8 * (k - 8))
+
+-- a function has no more than 16
+abbrev pub argument_code : ValueType → Node → List Instr
+argument_code t n = if nat_lt (slot (operand_at n 1)) 16 then instr.Imm (load_row t) (register (operand_at n 0)) 8 (argument_offset (slot (operand_at n 1))) ∷ [] else []

@@ -1,0 +1,28 @@
+-- The nodes that pass an argument of a call are carried by their code.
+use Rattle.std.specs.Prelude.{◌≡◌, ℕ, ◌+◌, ◌≤◌, Bool, List, slice_index}
+use Rattle.lg_base.specs.Layout.{code_base, most_code}
+use Rattle.lg_op.specs.declared.node.Node.{Node}
+use Rattle.lg_op.specs.declared.op.Op.TheVariants as op
+use Rattle.lg_op.specs.declared.op.ControlOp.TheVariants as control
+use Rattle.lg_op.specs.declared.op.LastOperand.{LastOperand}
+use Rattle.lg_op.specs.declared.operand.Label.{Label}
+use Rattle.lg_op.specs.declared.operand.Operand.TheVariants as operand
+use Rattle.lg_node.specs.Preparations.{pushed}
+use Rattle.lg_meaning.specs.Steps.{operand_at}
+use Rattle.lg_carry.specs.Codes.{Code}
+use Rattle.lg_carry.specs.NodeCode.{CarriesNode}
+use Rattle.lg_carry_rv.specs.RvRows.{rv_processor}
+use Rattle.lg_carry_rv.specs.Places.{IsInText, IsInCode}
+use Rattle.lg_selr_items.specs.Items.{settled}
+use Rattle.lg_selr_memory.specs.MemoryNodes.{HasWords}
+use Rattle.lg_selr_memory.specs.PushCode.{push_code}
+
+-- the labels that the node names have addresses of the code
+abbrev pub NamesCode : Code → Node → Type 0
+NamesCode c n = (k : ℕ) (l : Label) → operand_at n k ≡ operand.Label l → (code_base ≤ slice_index c.addresses l.0) × (slice_index c.addresses l.0 ≤ code_base + most_code)
+
+-- a node that passes argument j, where so many are passed before it
+abbrev pub PushesCarry : Type 0
+PushesCarry =
+    (code : List ℕ) (trash : ℕ) (c : Code) (i : ℕ) (n : Node) (last : LastOperand) (S : ℕ → Bool) → n.op ≡ op.Control control.Pusharg last → HasWords n → NamesCode c n
+    → IsInText c i n → IsInCode code trash c i (settled (slice_index c.addresses) (c.place i) (push_code (pushed c.nodes.nodes i) n)) → CarriesNode (rv_processor code trash) c i n S

@@ -1,0 +1,119 @@
+// The arguments of calls and of functions.
+
+ghost use Rattle.std.specs.Prelude.{◌≡◌, [], ◌∷◌, ◌++◌, ◌<◌, slice_index};
+ghost use Rattle.lg_base.specs.Conventions.{argument_registers};
+ghost use Rattle.lg_base.specs.declared.target.Target.TheVariants.{Riscv64};
+ghost use Rattle.lg_meaning.specs.Steps.{slot};
+ghost use Rattle.lg_selr_items.specs.declared.items.Item.TheVariants as item;
+ghost use Rattle.lg_selr_items.specs.Items.{ones};
+ghost use Rattle.lg_selr_memory.specs.ArgumentCode.{argument_offset, argument_code};
+ghost use Rattle.lg_selr_memory.specs.PushCode.{into, stack_push, onto_stack, push_code};
+
+use crate::accesses::load_row;
+use crate::operands::{operand, register, standing_for};
+use lg_op::{Node, Operand, ValueType};
+use lg_rv::{ImmOp, Instr, StoreOp};
+use lg_selr_items::Items;
+
+// The link holds nothing that is needed behind a `prolog`.
+const LINK: u8 = 1;
+
+// The word of an operand into a register.
+fn put_into(rd: u8, operand: Operand, items: &mut Items)
+    requires { items.old ≡ [] }
+    ensures { items.new ≡ into rd operand }
+{
+    match operand {
+        Operand::Reg(reg) => items.one(Instr::Imm {
+            op: ImmOp::Addi,
+            rd,
+            rs1: standing_for(reg),
+            imm: 0,
+        }),
+        Operand::Number(value) => items.number(rd, value),
+        Operand::Host(name) => items.number(rd, name.address()),
+        Operand::Label(label) => items.address(rd, label.0),
+        Operand::Slot(_) => {}
+    }
+}
+
+// The word of a register into the stack word of an argument, which is the ninth or a later one, of at most 16.
+fn stack_push(index: u32, register: u8) -> Instr
+    requires { index < 16 }
+    ensures { item.One result ≡ stack_push index register }
+{
+    Instr::Store {
+        op: StoreOp::Sd,
+        rs1: 2,
+        rs2: register,
+        imm: 8 * index.saturating_sub(8) as i32,
+    }
+}
+
+fn put_onto_stack(index: u32, operand: Operand, items: &mut Items)
+    requires few { index < 16 }
+    requires empty { items.old ≡ [] }
+    ensures { items.new ≡ onto_stack index operand }
+{
+    match operand {
+        Operand::Reg(reg) => items.one(stack_push(index, standing_for(reg))),
+        _ => {
+            put_into(LINK, operand, items);
+            items.one(stack_push(index, LINK));
+        }
+    }
+}
+
+/// Appends the code of a node that passes an argument to no items: 1 to 9 instructions. The argument's number counts from 0, and is
+/// below 16.
+pub fn put_argument(index: u32, node: &Node, items: &mut Items)
+    requires few { index < 16 }
+    requires empty { items.old ≡ [] }
+    ensures { items.new ≡ push_code index node.now }
+{
+    if index < 8 {
+        put_into(10 + index as u8, operand(node, 0), items);
+    } else {
+        put_onto_stack(index, operand(node, 0), items);
+    }
+}
+
+// How far the place of an argument is from FP: its home, or the caller's stack word. The number is below 16.
+fn argument_offset(index: u32) -> i32
+    requires { index < 16 }
+    ensures { result ≡ argument_offset index }
+{
+    let index = index as i32;
+    if index < 8 {
+        -(32 + 8 * index)
+    } else {
+        16 + 8 * (index - 8)
+    }
+}
+
+// The number of an argument that a node names.
+fn slot(operand: Operand) -> u32
+    ensures { result ≡ slot operand }
+{
+    match operand {
+        Operand::Slot(index) => index,
+        _ => 0,
+    }
+}
+
+/// Appends the code of a node that reads an argument of its function to no items: one instruction, or none where no function has so
+/// many arguments.
+pub fn put_getarg(t: ValueType, node: &Node, items: &mut Items)
+    requires { items.old ≡ [] }
+    ensures { items.new ≡ ones (argument_code t node.now) }
+{
+    let index = slot(operand(node, 1));
+    if index < 16 {
+        items.one(Instr::Imm {
+            op: load_row(t),
+            rd: register(operand(node, 0)),
+            rs1: 8,
+            imm: argument_offset(index),
+        });
+    }
+}
