@@ -1,0 +1,224 @@
+-- The nodes are carried by their items.
+use Rattle.std.proofs.Common.{◌≡◌, ℕ, ◌+◌, ◌*◌, ◌^◌, ◌<◌, Bool, true, false, List, [], ◌∷◌, ◌++◌, refl, sym, ap, ◌∙◌, subst, arith, length, append_assoc}
+use Rattle.std.specs.Prelude.{◌&&◌, pos, ◌-ℤ◌, slice_index}
+use Rattle.lg_base.specs.HostNames.{host_address}
+use Rattle.lg_base.specs.declared.host_name.HostName.{HostName}
+use Rattle.lg_base.specs.declared.target.Target.TheVariants.{Riscv64}
+use Rattle.lg_op.specs.Forms.{is_alignment, admits, admit, last_form, forms_of}
+use Rattle.lg_op.specs.declared.form.Form.TheVariants as form
+use Rattle.lg_op.specs.declared.op.BranchSumOp.{BranchSumOp}
+use Rattle.lg_op.specs.declared.op.Condition.{Condition}
+use Rattle.lg_op.specs.declared.op.ControlOp.TheVariants as control
+use Rattle.lg_op.specs.declared.op.LastOperand.{LastOperand}
+use Rattle.lg_op.specs.declared.op.LastOperand.TheVariants as last_operand
+use Rattle.lg_op.specs.declared.op.Op.{Op}
+use Rattle.lg_op.specs.declared.op.Op.TheVariants as op
+use Rattle.lg_op.specs.declared.op.PlainOp.TheVariants as plain
+use Rattle.lg_op.specs.declared.operand.Label.{Label}
+use Rattle.lg_op.specs.declared.operand.Operand.{Operand}
+use Rattle.lg_op.specs.declared.operand.Operand.TheVariants as operand
+use Rattle.lg_op.specs.declared.node.Node.{Node}
+use Rattle.lg_node.specs.Functions.{is_prolog_at}
+use Rattle.lg_rv.specs.declared.instruction.BranchOp.{BranchOp}
+use Rattle.lg_rv.specs.declared.instruction.Instr.{Instr}
+use Rattle.lg_rv.specs.declared.instruction.Instr.TheVariants as instr
+use Rattle.lg_meaning.proofs.FunctionFacts.{function_at_home}
+use Rattle.lg_temp.specs.Abis.{register_of}
+use Rattle.lg_carry.specs.Codes.{Code}
+use Rattle.lg_carry.specs.NodeCode.{CarriesNode}
+use Rattle.lg_carry_rv.specs.Numbers.{number_code}
+use Rattle.lg_carry_rv.specs.Places.{IsInText}
+use Rattle.lg_carry_rv.specs.RvRows.{rv_processor}
+use Rattle.lg_selr_items.specs.Items.{bytes_in, settled, ones}
+use Rattle.lg_selr_items.proofs.ItemLemmas.{settled-append, settled-ones, words-ones, ones-append}
+use Rattle.lg_selr_control.specs.Standing.{StandsInCode, HasPlaces}
+use Rattle.lg_selr_control.specs.Branches.{jump_unless, failing, left_of, right_of, bits_code}
+use Rattle.lg_selr_control.specs.SumBranches.{sum_code, staying}
+use Rattle.lg_selr_control.specs.Returns.{return_code}
+use Rattle.lg_selr_control.specs.Prologs.{prolog_code}
+use Rattle.lg_selr_control.specs.Alignments.{align_code}
+use Rattle.lg_selr_control.specs.ControlItems.{jump_unless_items, control_items, is_control}
+use Rattle.lg_selr_control.specs.ControlLaws.{AreWords, ends_in_label, IsFrameOf, ControlNodesCarry}
+use Rattle.lg_selr_control.proofs.AlignLemmas.{alignments-carry}
+use Rattle.lg_selr_control.proofs.BranchLemmas.{branches-carry, number-branches-carry}
+use Rattle.lg_selr_control.proofs.CallLemmas.{calls-carry, finishes-carry}
+use Rattle.lg_selr_control.proofs.HostNodeLemmas.{is-entry, host-calls-carry, host-finishes-carry}
+use Rattle.lg_selr_control.proofs.JumpLemmas.{jumps-carry}
+use Rattle.lg_selr_control.proofs.PrologLemmas.{prologs-carry}
+use Rattle.lg_selr_control.proofs.RegisterLeapLemmas.{register-jumps-carry, register-calls-carry, register-finishes-carry}
+use Rattle.lg_selr_control.proofs.ResultLemmas.{retrs-carry, retis-carry, reti-labels-carry}
+use Rattle.lg_selr_control.proofs.ReturnLemmas.{rets-carry, epilogs-carry}
+use Rattle.lg_selr_control.proofs.SilentLemmas.{silent-nodes-carry}
+use Rattle.lg_selr_control.proofs.SumBranchLemmas.{sum-branches-carry, number-sum-branches-carry}
+
+-- ---- the instructions of items
+-- a branch over a jump, behind two lists of instructions
+unless-settled : (to : ℕ → ℕ) (at : ℕ) (xs ys : List Instr) (o : BranchOp) (a b : ℕ) (l : Label) → settled to at (ones xs ++ (ones ys ++ jump_unless_items o a b l)) ≡ jump_unless to at (xs ++ ys) o a b l
+unless-settled to at xs ys o a b l =
+    let rest = jump_unless_items o a b l in
+    let front = xs ++ ys in
+    let joined : ones xs ++ (ones ys ++ rest) ≡ ones front ++ rest = sym (append_assoc (ones xs) (ones ys) rest) ∙ ap (λ z. z ++ rest) (sym (ones-append xs ys)) in
+    let size = words-ones front in
+    let place : at + bytes_in (ones front) + 4 * 1 ≡ at + (4 * length front + 4) = omega (arith, size) in
+    ap (settled to at) joined ∙ settled-append to at (ones front) rest ∙ ap (λ z. z ++ settled to (at + bytes_in (ones front)) rest) (settled-ones to at front)
+    ∙ ap (λ p. front ++ (instr.Branch o a b (pos 8) ∷ instr.Jal 0 (pos (to l.0) -ℤ pos p) ∷ [])) place
+
+-- instructions, and then others
+ones-settled : (to : ℕ → ℕ) (at : ℕ) (xs ys : List Instr) → settled to at (ones xs ++ ones ys) ≡ xs ++ ys
+ones-settled to at xs ys = ap (settled to at) (sym (ones-append xs ys)) ∙ settled-ones to at (xs ++ ys)
+
+pub differ : false ≡ true → ⊥
+differ e = cc
+
+pub differs : true ≡ false → ⊥
+differs e = cc
+
+pub never : (b : Bool) → (b && false) ≡ true → ⊥
+never true e = cc
+never false e = cc
+
+pub never-sum : (a b : Bool) → (a && (b && false)) ≡ true → ⊥
+never-sum true true e = cc
+never-sum true false e = cc
+never-sum false b e = cc
+
+pub host-small : (name : HostName) → host_address name < 2 ^ 64
+host-small name = let x = (is-entry name).small in omega (arith, x.0)
+
+-- ---- the nodes
+module _ (code : List ℕ) (trash : ℕ) (c : Code) (i frame line : ℕ) (S : ℕ → Bool) (w : HasPlaces c) (is-frame : IsFrameOf c i frame) where
+  abbrev node : Op → List Operand → Node
+  node o xs = record { op = o; operands = xs; line = line }
+
+  abbrev to : ℕ → ℕ
+  to = slice_index c.addresses
+
+  abbrev items-of : Op → List Operand → List Instr
+  items-of o xs = settled to (c.place i) (control_items o xs frame (c.place i))
+
+  -- a list of instructions in place of the items
+  as-code : (is js : List Instr) → is ≡ js → StandsInCode code trash c i is → StandsInCode code trash c i js
+  as-code is js e k = subst (λ z. StandsInCode code trash c i z) e k
+
+  formed : (o : Op) (xs : List Operand) → IsInText c i (node o xs) → admit (forms_of o) xs ≡ true
+  formed o xs t = (t.formed (node o xs) t.here).forms
+
+  branch : (o : Condition) (last : LastOperand) (xs : List Operand) → admit (forms_of (op.Branch o last)) xs ≡ true → AreWords c.addresses xs → ends_in_label xs ≡ false → IsInText c i (node (op.Branch o last) xs)
+      → StandsInCode code trash c i (items-of (op.Branch o last) xs) → CarriesNode (rv_processor code trash) c i (node (op.Branch o last) xs) S
+  branch o last_operand.Register (operand.Label l ∷ operand.Reg a ∷ operand.Reg b ∷ []) h v e t k =
+      branches-carry code trash c i o l a b line S w t (as-code _ _ (unless-settled to (c.place i) [] (bits_code o (register_of Riscv64 a) (register_of Riscv64 b)) (failing o) (left_of o (register_of Riscv64 a) (register_of Riscv64 b)) (right_of o (register_of Riscv64 a) (register_of Riscv64 b)) l) k)
+  branch o last_operand.Immediate (operand.Label l ∷ operand.Reg a ∷ operand.Number x ∷ []) h v e t k =
+      number-branches-carry code trash c i o l a (operand.Number x) x line S refl v.1.1.0 w t (as-code _ _ (unless-settled to (c.place i) (number_code 1 x) (bits_code o (register_of Riscv64 a) 1) (failing o) (left_of o (register_of Riscv64 a) 1) (right_of o (register_of Riscv64 a) 1) l) k)
+  branch o last_operand.Immediate (operand.Label l ∷ operand.Reg a ∷ operand.Host name ∷ []) h v e t k =
+      number-branches-carry code trash c i o l a (operand.Host name) (host_address name) line S refl (host-small name) w t (as-code _ _ (unless-settled to (c.place i) (number_code 1 (host_address name)) (bits_code o (register_of Riscv64 a) 1) (failing o) (left_of o (register_of Riscv64 a) 1) (right_of o (register_of Riscv64 a) 1) l) k)
+  branch o last_operand.Immediate (operand.Label l ∷ operand.Reg a ∷ operand.Label m ∷ []) h v e t k = absurd (differs e)
+  branch o last (operand.Label l ∷ operand.Reg a ∷ x ∷ y ∷ ys) h v e t k = absurd (never (admits (last_form last) x) h)
+  branch o last xs h v e t k = absurd (differ h)
+
+  sum-branch : (o : BranchSumOp) (last : LastOperand) (xs : List Operand) → admit (forms_of (op.BranchSum o last)) xs ≡ true → AreWords c.addresses xs → ends_in_label xs ≡ false → IsInText c i (node (op.BranchSum o last) xs)
+      → StandsInCode code trash c i (items-of (op.BranchSum o last) xs) → CarriesNode (rv_processor code trash) c i (node (op.BranchSum o last) xs) S
+  sum-branch o last_operand.Register (operand.Label l ∷ operand.Reg a ∷ operand.Reg b ∷ []) h v e t k =
+      sum-branches-carry code trash c i o l a b line S w t (as-code _ _ (unless-settled to (c.place i) [] (sum_code o (register_of Riscv64 a) (register_of Riscv64 b)) (staying o) 31 0 l) k)
+  sum-branch o last_operand.Immediate (operand.Label l ∷ operand.Reg a ∷ operand.Number x ∷ []) h v e t k =
+      number-sum-branches-carry code trash c i o l a (operand.Number x) x line S refl v.1.1.0 w t (as-code _ _ (unless-settled to (c.place i) (number_code 1 x) (sum_code o (register_of Riscv64 a) 1) (staying o) 31 0 l) k)
+  sum-branch o last_operand.Immediate (operand.Label l ∷ operand.Reg a ∷ operand.Host name ∷ []) h v e t k =
+      number-sum-branches-carry code trash c i o l a (operand.Host name) (host_address name) line S refl (host-small name) w t (as-code _ _ (unless-settled to (c.place i) (number_code 1 (host_address name)) (sum_code o (register_of Riscv64 a) 1) (staying o) 31 0 l) k)
+  sum-branch o last_operand.Immediate (operand.Label l ∷ operand.Reg a ∷ operand.Label m ∷ []) h v e t k = absurd (differs e)
+  sum-branch o last (operand.Label l ∷ operand.Reg a ∷ x ∷ y ∷ ys) h v e t k = absurd (never-sum (admits form.Update (operand.Reg a)) (admits (last_form last) x) h)
+  sum-branch o last (operand.Label l ∷ operand.Reg a ∷ []) h v e t k = absurd (never (admits form.Update (operand.Reg a)) h)
+  sum-branch o last_operand.Register (operand.Label l ∷ operand.Reg a ∷ operand.Number x ∷ []) h v e t k = absurd (never (admits form.Update (operand.Reg a)) h)
+  sum-branch o last_operand.Register (operand.Label l ∷ operand.Reg a ∷ operand.Label x ∷ []) h v e t k = absurd (never (admits form.Update (operand.Reg a)) h)
+  sum-branch o last_operand.Register (operand.Label l ∷ operand.Reg a ∷ operand.Host x ∷ []) h v e t k = absurd (never (admits form.Update (operand.Reg a)) h)
+  sum-branch o last_operand.Register (operand.Label l ∷ operand.Reg a ∷ operand.Slot x ∷ []) h v e t k = absurd (never (admits form.Update (operand.Reg a)) h)
+  sum-branch o last_operand.Immediate (operand.Label l ∷ operand.Reg a ∷ operand.Reg x ∷ []) h v e t k = absurd (never (admits form.Update (operand.Reg a)) h)
+  sum-branch o last_operand.Immediate (operand.Label l ∷ operand.Reg a ∷ operand.Slot x ∷ []) h v e t k = absurd (never (admits form.Update (operand.Reg a)) h)
+  sum-branch o last xs h v e t k = absurd (differ h)
+
+  jump : (xs : List Operand) → admit (forms_of (op.Control control.Jmp last_operand.Immediate)) xs ≡ true → IsInText c i (node (op.Control control.Jmp last_operand.Immediate) xs) → StandsInCode code trash c i (items-of (op.Control control.Jmp last_operand.Immediate) xs)
+      → CarriesNode (rv_processor code trash) c i (node (op.Control control.Jmp last_operand.Immediate) xs) S
+  jump (operand.Label l ∷ []) h t k = jumps-carry code trash c i l line S w t k
+  jump xs h t k = absurd (differ h)
+
+  call : (xs : List Operand) → admit (forms_of (op.Control control.Call last_operand.Immediate)) xs ≡ true → IsInText c i (node (op.Control control.Call last_operand.Immediate) xs) → StandsInCode code trash c i (items-of (op.Control control.Call last_operand.Immediate) xs)
+      → CarriesNode (rv_processor code trash) c i (node (op.Control control.Call last_operand.Immediate) xs) S
+  call (operand.Label l ∷ []) h t k = calls-carry code trash c i l line S w t k
+  call (operand.Host name ∷ []) h t k = host-calls-carry code trash c i name line S w t k
+  call xs h t k = absurd (differ h)
+
+  finish : (xs : List Operand) → admit (forms_of (op.Control control.Finish last_operand.Immediate)) xs ≡ true → IsInText c i (node (op.Control control.Finish last_operand.Immediate) xs) → StandsInCode code trash c i (items-of (op.Control control.Finish last_operand.Immediate) xs)
+      → CarriesNode (rv_processor code trash) c i (node (op.Control control.Finish last_operand.Immediate) xs) S
+  finish (operand.Label l ∷ []) h t k = finishes-carry code trash c i l line S w t k
+  finish (operand.Host name ∷ []) h t k = host-finishes-carry code trash c i name line S w t k
+  finish xs h t k = absurd (differ h)
+
+  -- jumps and calls of the word of a register
+  register-jump : (xs : List Operand) → admit (forms_of (op.Control control.Jmp last_operand.Register)) xs ≡ true → IsInText c i (node (op.Control control.Jmp last_operand.Register) xs) → StandsInCode code trash c i (items-of (op.Control control.Jmp last_operand.Register) xs)
+      → CarriesNode (rv_processor code trash) c i (node (op.Control control.Jmp last_operand.Register) xs) S
+  register-jump (operand.Reg a ∷ []) h t k = register-jumps-carry code trash c i a line S w t k
+  register-jump (x ∷ y ∷ ys) h t k = absurd (never (admits form.Read x) h)
+  register-jump xs h t k = absurd (differ h)
+
+  register-call : (xs : List Operand) → admit (forms_of (op.Control control.Call last_operand.Register)) xs ≡ true → IsInText c i (node (op.Control control.Call last_operand.Register) xs) → StandsInCode code trash c i (items-of (op.Control control.Call last_operand.Register) xs)
+      → CarriesNode (rv_processor code trash) c i (node (op.Control control.Call last_operand.Register) xs) S
+  register-call (operand.Reg a ∷ []) h t k = register-calls-carry code trash c i a line S w t k
+  register-call (x ∷ y ∷ ys) h t k = absurd (never (admits form.Read x) h)
+  register-call xs h t k = absurd (differ h)
+
+  register-finish : (xs : List Operand) → admit (forms_of (op.Control control.Finish last_operand.Register)) xs ≡ true → IsInText c i (node (op.Control control.Finish last_operand.Register) xs) → StandsInCode code trash c i (items-of (op.Control control.Finish last_operand.Register) xs)
+      → CarriesNode (rv_processor code trash) c i (node (op.Control control.Finish last_operand.Register) xs) S
+  register-finish (operand.Reg a ∷ []) h t k = register-finishes-carry code trash c i a line S w t k
+  register-finish (x ∷ y ∷ ys) h t k = absurd (never (admits form.Read x) h)
+  register-finish xs h t k = absurd (differ h)
+
+  ret : (last : LastOperand) (xs : List Operand) → admit (forms_of (op.Control control.Ret last)) xs ≡ true → AreWords c.addresses xs → IsInText c i (node (op.Control control.Ret last) xs) → StandsInCode code trash c i (items-of (op.Control control.Ret last) xs)
+      → CarriesNode (rv_processor code trash) c i (node (op.Control control.Ret last) xs) S
+  ret last_operand.Register (operand.Reg a ∷ []) h v t k = retrs-carry code trash c i a line S w t k
+  ret last_operand.Immediate (operand.Number x ∷ []) h v t k = retis-carry code trash c i (operand.Number x) x line S refl v.0 w t (as-code _ _ (ones-settled to (c.place i) (number_code 10 x) return_code) k)
+  ret last_operand.Immediate (operand.Host name ∷ []) h v t k = retis-carry code trash c i (operand.Host name) (host_address name) line S refl (host-small name) w t (as-code _ _ (ones-settled to (c.place i) (number_code 10 (host_address name)) return_code) k)
+  ret last_operand.Immediate (operand.Label l ∷ []) h v t k = reti-labels-carry code trash c i l line S v.0 w t k
+  ret last_operand.Register (x ∷ y ∷ ys) h v t k = absurd (never (admits form.Read x) h)
+  ret last_operand.Immediate (x ∷ y ∷ ys) h v t k = absurd (never (admits form.Immediate x) h)
+  ret last xs h v t k = absurd (differ h)
+
+  align : (xs : List Operand) → admit (forms_of (op.Plain plain.Align)) xs ≡ true → IsInText c i (node (op.Plain plain.Align) xs) → StandsInCode code trash c i (items-of (op.Plain plain.Align) xs) → CarriesNode (rv_processor code trash) c i (node (op.Plain plain.Align) xs) S
+  align (operand.Number n ∷ []) h t k = alignments-carry code trash c i n line S w t (as-code _ _ (settled-ones to (c.place i) (align_code (c.place i) n)) k)
+  align (operand.Number n ∷ y ∷ ys) h t k = absurd (never (is_alignment n) h)
+  align xs h t k = absurd (differ h)
+
+  prolog : IsInText c i (node (op.Plain plain.Prolog) []) → StandsInCode code trash c i (items-of (op.Plain plain.Prolog) []) → CarriesNode (rv_processor code trash) c i (node (op.Plain plain.Prolog) []) S
+  prolog t k =
+      let entry = (t.well.entries i (ap is_prolog_at t.here)).0 in
+      let f = function_at_home c.nodes c.shape t.functions t.shape.functions i i entry in
+      prologs-carry code trash c i line f.0 S w t f.1.here (as-code _ _ (settled-ones to (c.place i) (prolog_code frame) ∙ ap prolog_code (is-frame f.0 f.1.here)) k)
+
+  -- a node without operands
+  none : (xs : List Operand) → admit [] xs ≡ true → xs ≡ []
+  none [] h = refl
+  none (x ∷ xs) h = cc
+
+  with-none : (o : Op) (xs : List Operand) → xs ≡ [] → IsInText c i (node o xs) → StandsInCode code trash c i (items-of o xs) → (IsInText c i (node o []) → StandsInCode code trash c i (items-of o []) → CarriesNode (rv_processor code trash) c i (node o []) S)
+      → CarriesNode (rv_processor code trash) c i (node o xs) S
+  with-none o xs e t k f = subst (λ ys. IsInText c i (node o ys) → StandsInCode code trash c i (items-of o ys) → CarriesNode (rv_processor code trash) c i (node o ys) S) (sym e) f t k
+
+  pub by-op : (o : Op) (xs : List Operand) → is_control o ≡ true → AreWords c.addresses xs → ends_in_label xs ≡ false → IsInText c i (node o xs) → StandsInCode code trash c i (items-of o xs) → CarriesNode (rv_processor code trash) c i (node o xs) S
+  by-op (op.Branch o last) xs h v e t k = branch o last xs (formed (op.Branch o last) xs t) v e t k
+  by-op (op.BranchSum o last) xs h v e t k = sum-branch o last xs (formed (op.BranchSum o last) xs t) v e t k
+  by-op (op.Control control.Jmp last_operand.Immediate) xs h v e t k = jump xs (formed (op.Control control.Jmp last_operand.Immediate) xs t) t k
+  by-op (op.Control control.Jmp last_operand.Register) xs h v e t k = register-jump xs (formed (op.Control control.Jmp last_operand.Register) xs t) t k
+  by-op (op.Control control.Call last_operand.Register) xs h v e t k = register-call xs (formed (op.Control control.Call last_operand.Register) xs t) t k
+  by-op (op.Control control.Finish last_operand.Register) xs h v e t k = register-finish xs (formed (op.Control control.Finish last_operand.Register) xs t) t k
+  by-op (op.Control control.Call last_operand.Immediate) xs h v e t k = call xs (formed (op.Control control.Call last_operand.Immediate) xs t) t k
+  by-op (op.Control control.Finish last_operand.Immediate) xs h v e t k = finish xs (formed (op.Control control.Finish last_operand.Immediate) xs t) t k
+  by-op (op.Control control.Ret last) xs h v e t k = ret last xs (formed (op.Control control.Ret last) xs t) v t k
+  by-op (op.Plain plain.Prolog) xs h v e t k = with-none (op.Plain plain.Prolog) xs (none xs (formed (op.Plain plain.Prolog) xs t)) t k prolog
+  by-op (op.Plain plain.Epilog) xs h v e t k = with-none (op.Plain plain.Epilog) xs (none xs (formed (op.Plain plain.Epilog) xs t)) t k (λ t' k'. epilogs-carry code trash c i line S w t' k')
+  by-op (op.Plain plain.Ret) xs h v e t k = with-none (op.Plain plain.Ret) xs (none xs (formed (op.Plain plain.Ret) xs t)) t k (λ t' k'. rets-carry code trash c i line S w t' k')
+  by-op (op.Plain plain.Align) xs h v e t k = align xs (formed (op.Plain plain.Align) xs t) t k
+  by-op (op.Plain plain.Prepare) xs h v e t k = silent-nodes-carry code trash c i (node (op.Plain plain.Prepare) xs) S refl t k
+  by-op (op.Plain plain.Ellipsis) xs h v e t k = silent-nodes-carry code trash c i (node (op.Plain plain.Ellipsis) xs) S refl t k
+  by-op (op.Plain plain.Arg) xs h v e t k = silent-nodes-carry code trash c i (node (op.Plain plain.Arg) xs) S refl t k
+  by-op (op.Plain plain.Allocai) xs h v e t k = silent-nodes-carry code trash c i (node (op.Plain plain.Allocai) xs) S refl t k
+  by-op o xs h v e t k = absurd (differ h)
+
+pub control-nodes-carry : ControlNodesCarry
+control-nodes-carry code trash c i n frame S h w v e is-frame t k = by-op code trash c i frame n.line S w is-frame n.op n.operands h v e t k

@@ -1,0 +1,286 @@
+-- The items of the nodes can be appended to a buffer.
+use Rattle.std.proofs.Common.{◌≡◌, ◌≢◌, ℕ, zero, suc, ◌+◌, ◌-◌, ◌*◌, ◌^◌, ◌<◌, ◌≤◌, Bool, true, false, List, [], ◌∷◌, ◌++◌, refl, sym, ap, ◌∙◌, subst, arith, length}
+use Rattle.std.specs.Prelude.{◌&&◌, ℤ, pos, negsuc, ◌≤ℤ◌, nat_le, nat_lt, if◌then◌else◌}
+use Rattle.std.proofs.lemmas.Bool.{and_parts}
+use Rattle.lg_base.specs.HostNames.{host_address}
+use Rattle.lg_base.specs.declared.host_name.HostName.{HostName}
+use Rattle.lg_base.specs.declared.target.Target.TheVariants.{Riscv64}
+use Rattle.lg_op.specs.Forms.{is_alignment, admits, admit, last_form, forms_of}
+use Rattle.lg_op.specs.declared.form.Form.TheVariants as form
+use Rattle.lg_op.specs.declared.op.BranchSumOp.{BranchSumOp}
+use Rattle.lg_op.specs.declared.op.BranchSumOp.TheVariants as sum
+use Rattle.lg_op.specs.declared.op.Condition.{Condition}
+use Rattle.lg_op.specs.declared.op.Condition.TheVariants as condition
+use Rattle.lg_op.specs.declared.op.ControlOp.TheVariants as control
+use Rattle.lg_op.specs.declared.op.LastOperand.{LastOperand}
+use Rattle.lg_op.specs.declared.op.LastOperand.TheVariants as last_operand
+use Rattle.lg_op.specs.declared.op.Op.{Op}
+use Rattle.lg_op.specs.declared.op.Op.TheVariants as op
+use Rattle.lg_op.specs.declared.op.PlainOp.TheVariants as plain
+use Rattle.lg_op.specs.declared.operand.Label.{Label}
+use Rattle.lg_op.specs.declared.operand.Operand.{Operand}
+use Rattle.lg_op.specs.declared.operand.Operand.TheVariants as operand
+use Rattle.lg_rv.specs.declared.instruction.BranchOp.{BranchOp}
+use Rattle.lg_rv.specs.declared.instruction.Instr.{Instr}
+use Rattle.lg_rv.specs.declared.instruction.Instr.TheVariants as instr
+use Rattle.lg_rv.specs.declared.instruction.ImmOp.{ImmOp}
+use Rattle.lg_rv.specs.declared.instruction.ImmOp.TheVariants.{Addi, Addiw}
+use Rattle.lg_rv.specs.declared.instruction.RegOp.TheVariants.{Sub}
+use Rattle.lg_rv.specs.declared.instruction.UpperOp.TheVariants.{Lui}
+use Rattle.lg_temp.specs.Abis.{register_of}
+use Rattle.lg_carry.specs.Carries.{leaps}
+use Rattle.lg_carry_rv.specs.Numbers.{number_code, high_part, low_part}
+use Rattle.lg_carry_rv.proofs.NumberCodeLemmas.{low-small, numbers-are-loaded}
+use Rattle.lg_carry_rv.proofs.RegisterLemmas.{register-small}
+use Rattle.lg_selr_items.specs.declared.items.Item.{Item}
+use Rattle.lg_selr_items.specs.declared.items.Item.TheVariants.{One, Jump}
+use Rattle.lg_selr_items.specs.Items.{bytes_in, fixes_of, IsItem, AreItems, ones}
+use Rattle.lg_selr_items.proofs.ItemLemmas.{words_append, items-append, names-append, fixes-append, words-ones, items-ones, names-ones, fixes-ones, ones-append}
+use Rattle.lg_selr_control.specs.Alignments.{padding, idle, align_code}
+use Rattle.lg_selr_control.specs.Branches.{failing, left_of, right_of, bits_code}
+use Rattle.lg_selr_control.specs.ControlFits.{AreGiven, AreEmitted, ControlItemsFit}
+use Rattle.lg_selr_control.specs.ControlItems.{jump_unless_items, register_leap_items, control_items, is_control}
+use Rattle.lg_selr_control.specs.ControlLaws.{ends_in_label}
+use Rattle.lg_selr_control.specs.HostCalls.{host_code}
+use Rattle.lg_selr_control.specs.Prologs.{stored_registers, stores_below, fall_code, prolog_code}
+use Rattle.lg_selr_control.specs.RegisterLeaps.{register_leap_code}
+use Rattle.lg_selr_control.specs.Returns.{return_code}
+use Rattle.lg_selr_control.specs.SumBranches.{sum_code, staying}
+use Rattle.lg_selr_control.proofs.ControlLemmas.{differ, differs, never, never-sum, host-small}
+
+-- ---- instructions alone have no fix and name no label
+-- what is said of a list of instructions that fit
+pub plain-emitted : (labels : ℕ) (leaping : Bool) (is : List Instr) → AreItems (ones is) → (leaping ≡ true → 0 < length is) → AreEmitted labels leaping (ones is)
+plain-emitted labels leaping is fit some = record {
+  items = fit;
+  labels = names-ones labels is;
+  one_fix = λ place. let e = ap length (fixes-ones place is) in omega (arith, e);
+  some = λ e. let z = some e in omega (arith, z, words-ones is);
+}
+
+-- instructions in front of items
+pub in-front : (labels : ℕ) (leaping : Bool) (is : List Instr) (xs : List Item) → AreItems (ones is) → AreEmitted labels leaping xs → AreEmitted labels leaping (ones is ++ xs)
+in-front labels leaping is xs fit h = record {
+  items = items-append (ones is) xs fit h.items;
+  labels = names-append labels (ones is) xs (names-ones labels is) h.labels;
+  one_fix = λ place. let e = ap length (fixes-append place (ones is) xs ∙ ap (λ z. z ++ fixes_of (place + bytes_in (ones is)) xs) (fixes-ones place is)) in omega (arith, e, h.one_fix (place + bytes_in (ones is)));
+  some = λ e. let z = h.some e in omega (arith, z, words_append (ones is) xs);
+}
+
+unless-emitted : (labels : ℕ) (leaping : Bool) (o : BranchOp) (a b : ℕ) (l : Label) → a < 32 → b < 32 → l.0 < labels → AreEmitted labels leaping (jump_unless_items o a b l)
+unless-emitted labels leaping o a b l ha hb lt = record {
+  items = ((ha, hb, omega arith, omega arith, refl), (omega arith, tt));
+  labels = (tt, (lt, tt));
+  one_fix = λ place. omega arith;
+  some = λ e. omega arith;
+}
+
+-- ---- the instructions
+number-fits : (rd v : ℕ) → rd ≢ 0 → rd < 32 → v < 2 ^ 64 → AreItems (ones (number_code rd v))
+number-fits rd v some lt small = items-ones (number_code rd v) (numbers-are-loaded rd v some lt small).fits
+
+bits-fit : (o : Condition) (a b : ℕ) → a < 32 → b < 32 → AreItems (ones (bits_code o a b))
+bits-fit condition.Ms a b ha hb = ((omega arith, ha, hb), tt)
+bits-fit condition.Mc a b ha hb = ((omega arith, ha, hb), tt)
+bits-fit o a b ha hb = tt
+
+left-fits : (o : Condition) (a b : ℕ) → a < 32 → b < 32 → left_of o a b < 32
+left-fits condition.Le a b ha hb = hb
+left-fits condition.LeU a b ha hb = hb
+left-fits condition.Gt a b ha hb = hb
+left-fits condition.GtU a b ha hb = hb
+left-fits condition.Ms a b ha hb = omega arith
+left-fits condition.Mc a b ha hb = omega arith
+left-fits o a b ha hb = ha
+
+right-fits : (o : Condition) (a b : ℕ) → a < 32 → b < 32 → right_of o a b < 32
+right-fits condition.Le a b ha hb = ha
+right-fits condition.LeU a b ha hb = ha
+right-fits condition.Gt a b ha hb = ha
+right-fits condition.GtU a b ha hb = ha
+right-fits condition.Ms a b ha hb = omega arith
+right-fits condition.Mc a b ha hb = omega arith
+right-fits o a b ha hb = hb
+
+sum-fits : (o : BranchSumOp) (a b : ℕ) → a < 32 → b < 32 → AreItems (ones (sum_code o a b))
+sum-fits sum.OverflowAdd a b ha hb = ((omega arith, hb, omega arith, omega arith), ((omega arith, ha, hb), ((ha, omega arith, ha), ((omega arith, omega arith, ha), ((ha, omega arith, omega arith, omega arith), tt)))))
+sum-fits sum.FitAdd a b ha hb = ((omega arith, hb, omega arith, omega arith), ((omega arith, ha, hb), ((ha, omega arith, ha), ((omega arith, omega arith, ha), ((ha, omega arith, omega arith, omega arith), tt)))))
+sum-fits sum.OverflowAddU a b ha hb = ((omega arith, ha, hb), ((omega arith, omega arith, ha), ((ha, omega arith, omega arith, omega arith), tt)))
+sum-fits sum.FitAddU a b ha hb = ((omega arith, ha, hb), ((omega arith, omega arith, ha), ((ha, omega arith, omega arith, omega arith), tt)))
+sum-fits sum.OverflowSub a b ha hb = ((omega arith, ha, hb), ((omega arith, ha, hb), ((ha, omega arith, omega arith, omega arith), ((omega arith, omega arith, ha), ((ha, omega arith, omega arith, omega arith), tt)))))
+sum-fits sum.FitSub a b ha hb = ((omega arith, ha, hb), ((omega arith, ha, hb), ((ha, omega arith, omega arith, omega arith), ((omega arith, omega arith, ha), ((ha, omega arith, omega arith, omega arith), tt)))))
+sum-fits sum.OverflowSubU a b ha hb = ((omega arith, ha, hb), ((ha, ha, hb), tt))
+sum-fits sum.FitSubU a b ha hb = ((omega arith, ha, hb), ((ha, ha, hb), tt))
+
+small-imm : (o : ImmOp) (rd rs : ℕ) (n : ℤ) → rd < 32 → rs < 32 → negsuc 2047 ≤ℤ n → n ≤ℤ pos 2047 → IsItem (One (instr.Imm o rd rs n))
+small-imm o rd rs n h k low high = (h, k, low, high)
+
+return-fits : AreItems (ones return_code)
+return-fits = (
+  (omega arith, omega arith, omega arith, omega arith),
+  (
+    (omega arith, omega arith, omega arith, omega arith),
+    (
+      (omega arith, omega arith, omega arith, omega arith),
+      (
+        (omega arith, omega arith, omega arith, omega arith),
+        ((omega arith, omega arith, omega arith, omega arith), ((omega arith, omega arith, omega arith, omega arith), ((omega arith, omega arith, omega arith, omega arith), tt))),
+      ),
+    ),
+  ),
+)
+
+high-fits : (name : HostName) → high_part (host_address name) < 2 ^ 20
+high-fits name = omega arith
+
+host-fits : (name : HostName) → AreItems (ones (host_code name))
+host-fits name = let l = low-small (host_address name) in ((omega arith, high-fits name), ((omega arith, omega arith, l.0, l.1), tt))
+
+idle-fits : (k : ℕ) → AreItems (ones (idle k))
+idle-fits zero = tt
+idle-fits (suc k) = ((omega arith, omega arith, omega arith, omega arith), idle-fits k)
+
+store-low : (k : ℕ) → k < 13 → negsuc 2047 ≤ℤ negsuc (7 + 8 * k)
+store-low k h = grind (arith, h)
+
+all-below : List ℕ → Bool
+all-below [] = true
+all-below (r ∷ rs) = nat_lt r 32 && all-below rs
+
+below : (r : ℕ) → nat_lt r 32 ≡ true → r < 32
+below r h = grind (arith, h)
+
+stores-fit : (rs : List ℕ) (k : ℕ) → all-below rs ≡ true → k + length rs ≤ 13 → AreItems (ones (stores_below rs k))
+unfolding all-below
+stores-fit [] k h few = tt
+stores-fit (r ∷ rs) k h few =
+    let p = and_parts (nat_lt r 32) (all-below rs) h in
+    ((omega arith, below r p.0, store-low k (omega (arith, few)), grind arith), stores-fit rs (suc k) p.1 (omega (arith, few)))
+
+short-low : (size : ℕ) → size ≤ 2048 → negsuc 2047 ≤ℤ negsuc (size - 1)
+short-low size h = grind (arith, h)
+
+at-most : (size : ℕ) → nat_le size 2048 ≡ true → size ≤ 2048
+at-most size h = grind (arith, h)
+
+fall-fits : (size : ℕ) → AreItems (ones (fall_code size))
+fall-fits size = by (nat_le size 2048) refl
+  where
+    by : (b : Bool) → nat_le size 2048 ≡ b → AreItems (ones (if b then instr.Imm Addi 2 2 (negsuc (size - 1)) ∷ [] else instr.Upper Lui 1 (high_part size) ∷ instr.Imm Addiw 1 1 (low_part size) ∷ instr.Reg Sub 2 2 1 ∷ []))
+    by true e = ((omega arith, omega arith, short-low size (at-most size e), grind arith), tt)
+    by false e = let l = low-small size in ((omega arith, omega arith), ((omega arith, omega arith, l.0, l.1), ((omega arith, omega arith, omega arith), tt)))
+
+prolog-fits : (size : ℕ) → AreItems (ones (prolog_code size))
+unfolding all-below
+prolog-fits size =
+    let rest = instr.Imm Addi 8 2 (negsuc 15) ∷ fall_code size in
+    subst AreItems (sym (ones-append (stores_below stored_registers 0) rest)) (items-append (ones (stores_below stored_registers 0)) (ones rest) (stores-fit stored_registers 0 refl (omega arith)) ((omega arith, omega arith, omega arith, omega arith), fall-fits size))
+
+-- ---- the nodes
+module _ (labels frame at : ℕ) where
+  abbrev items-of : Op → List Operand → List Item
+  items-of o xs = control_items o xs frame at
+
+  branch : (o : Condition) (last : LastOperand) (xs : List Operand) → admit (forms_of (op.Branch o last)) xs ≡ true → AreGiven labels xs → ends_in_label xs ≡ false → AreEmitted labels true (items-of (op.Branch o last) xs)
+  branch o last_operand.Register (operand.Label l ∷ operand.Reg a ∷ operand.Reg b ∷ []) h v e =
+      let ha = register-small a in let hb = register-small b in
+      in-front labels true (bits_code o (register_of Riscv64 a) (register_of Riscv64 b)) _ (bits-fit o (register_of Riscv64 a) (register_of Riscv64 b) ha hb)
+      (unless-emitted labels true (failing o) (left_of o (register_of Riscv64 a) (register_of Riscv64 b)) (right_of o (register_of Riscv64 a) (register_of Riscv64 b)) l (left-fits o (register_of Riscv64 a) (register_of Riscv64 b) ha hb) (right-fits o (register_of Riscv64 a) (register_of Riscv64 b) ha hb) v.0)
+  branch o last_operand.Immediate (operand.Label l ∷ operand.Reg a ∷ operand.Number x ∷ []) h v e =
+      let ha = register-small a in
+      in-front labels true (number_code 1 x) _ (number-fits 1 x (λ z. cc) (omega arith) v.1.1.0)
+      (in-front labels true (bits_code o (register_of Riscv64 a) 1) _ (bits-fit o (register_of Riscv64 a) 1 ha (omega arith))
+      (unless-emitted labels true (failing o) (left_of o (register_of Riscv64 a) 1) (right_of o (register_of Riscv64 a) 1) l (left-fits o (register_of Riscv64 a) 1 ha (omega arith)) (right-fits o (register_of Riscv64 a) 1 ha (omega arith)) v.0))
+  branch o last_operand.Immediate (operand.Label l ∷ operand.Reg a ∷ operand.Host name ∷ []) h v e =
+      let ha = register-small a in
+      in-front labels true (number_code 1 (host_address name)) _ (number-fits 1 (host_address name) (λ z. cc) (omega arith) (host-small name))
+      (in-front labels true (bits_code o (register_of Riscv64 a) 1) _ (bits-fit o (register_of Riscv64 a) 1 ha (omega arith))
+      (unless-emitted labels true (failing o) (left_of o (register_of Riscv64 a) 1) (right_of o (register_of Riscv64 a) 1) l (left-fits o (register_of Riscv64 a) 1 ha (omega arith)) (right-fits o (register_of Riscv64 a) 1 ha (omega arith)) v.0))
+  branch o last_operand.Immediate (operand.Label l ∷ operand.Reg a ∷ operand.Label m ∷ []) h v e = absurd (differs e)
+  branch o last (operand.Label l ∷ operand.Reg a ∷ x ∷ y ∷ ys) h v e = absurd (never (admits (last_form last) x) h)
+  branch o last xs h v e = absurd (differ h)
+
+  sum-branch : (o : BranchSumOp) (last : LastOperand) (xs : List Operand) → admit (forms_of (op.BranchSum o last)) xs ≡ true → AreGiven labels xs → ends_in_label xs ≡ false → AreEmitted labels true (items-of (op.BranchSum o last) xs)
+  sum-branch o last_operand.Register (operand.Label l ∷ operand.Reg a ∷ operand.Reg b ∷ []) h v e =
+      in-front labels true (sum_code o (register_of Riscv64 a) (register_of Riscv64 b)) _ (sum-fits o (register_of Riscv64 a) (register_of Riscv64 b) (register-small a) (register-small b)) (unless-emitted labels true (staying o) 31 0 l (omega arith) (omega arith) v.0)
+  sum-branch o last_operand.Immediate (operand.Label l ∷ operand.Reg a ∷ operand.Number x ∷ []) h v e =
+      in-front labels true (number_code 1 x) _ (number-fits 1 x (λ z. cc) (omega arith) v.1.1.0)
+      (in-front labels true (sum_code o (register_of Riscv64 a) 1) _ (sum-fits o (register_of Riscv64 a) 1 (register-small a) (omega arith)) (unless-emitted labels true (staying o) 31 0 l (omega arith) (omega arith) v.0))
+  sum-branch o last_operand.Immediate (operand.Label l ∷ operand.Reg a ∷ operand.Host name ∷ []) h v e =
+      in-front labels true (number_code 1 (host_address name)) _ (number-fits 1 (host_address name) (λ z. cc) (omega arith) (host-small name))
+      (in-front labels true (sum_code o (register_of Riscv64 a) 1) _ (sum-fits o (register_of Riscv64 a) 1 (register-small a) (omega arith)) (unless-emitted labels true (staying o) 31 0 l (omega arith) (omega arith) v.0))
+  sum-branch o last_operand.Immediate (operand.Label l ∷ operand.Reg a ∷ operand.Label m ∷ []) h v e = absurd (differs e)
+  sum-branch o last (operand.Label l ∷ operand.Reg a ∷ x ∷ y ∷ ys) h v e = absurd (never-sum (admits form.Update (operand.Reg a)) (admits (last_form last) x) h)
+  sum-branch o last (operand.Label l ∷ operand.Reg a ∷ []) h v e = absurd (never (admits form.Update (operand.Reg a)) h)
+  sum-branch o last_operand.Register (operand.Label l ∷ operand.Reg a ∷ operand.Number x ∷ []) h v e = absurd (never (admits form.Update (operand.Reg a)) h)
+  sum-branch o last_operand.Register (operand.Label l ∷ operand.Reg a ∷ operand.Label x ∷ []) h v e = absurd (never (admits form.Update (operand.Reg a)) h)
+  sum-branch o last_operand.Register (operand.Label l ∷ operand.Reg a ∷ operand.Host x ∷ []) h v e = absurd (never (admits form.Update (operand.Reg a)) h)
+  sum-branch o last_operand.Register (operand.Label l ∷ operand.Reg a ∷ operand.Slot x ∷ []) h v e = absurd (never (admits form.Update (operand.Reg a)) h)
+  sum-branch o last_operand.Immediate (operand.Label l ∷ operand.Reg a ∷ operand.Reg x ∷ []) h v e = absurd (never (admits form.Update (operand.Reg a)) h)
+  sum-branch o last_operand.Immediate (operand.Label l ∷ operand.Reg a ∷ operand.Slot x ∷ []) h v e = absurd (never (admits form.Update (operand.Reg a)) h)
+  sum-branch o last xs h v e = absurd (differ h)
+
+  jump-emitted : (rd : ℕ) (l : Label) → rd < 32 → l.0 < labels → AreEmitted labels true (Jump rd l.0 ∷ [])
+  jump-emitted rd l h lt = record { items = (h, tt); labels = (lt, tt); one_fix = λ place. omega arith; some = λ e. omega arith }
+
+  jump : (xs : List Operand) → admit (forms_of (op.Control control.Jmp last_operand.Immediate)) xs ≡ true → AreGiven labels xs → AreEmitted labels true (items-of (op.Control control.Jmp last_operand.Immediate) xs)
+  jump (operand.Label l ∷ []) h v = jump-emitted 0 l (omega arith) v.0
+  jump xs h v = absurd (differ h)
+
+  call : (xs : List Operand) → admit (forms_of (op.Control control.Call last_operand.Immediate)) xs ≡ true → AreGiven labels xs → AreEmitted labels true (items-of (op.Control control.Call last_operand.Immediate) xs)
+  call (operand.Label l ∷ []) h v = jump-emitted 1 l (omega arith) v.0
+  call (operand.Host name ∷ []) h v = plain-emitted labels true (host_code name) (host-fits name) (λ e. omega arith)
+  call xs h v = absurd (differ h)
+
+  register-leap : (rd : ℕ) (xs : List Operand) → rd < 32 → admit (form.Read ∷ []) xs ≡ true → AreEmitted labels true (register_leap_items rd xs)
+  register-leap rd (operand.Reg a ∷ []) lt h = plain-emitted labels true (register_leap_code rd a) ((lt, register-small a, omega arith, omega arith), tt) (λ e. omega arith)
+  register-leap rd (x ∷ y ∷ ys) lt h = absurd (never (admits form.Read x) h)
+  register-leap rd xs lt h = absurd (differ h)
+
+  returns : AreEmitted labels true (ones return_code)
+  returns = plain-emitted labels true return_code return-fits (λ e. omega arith)
+
+  ret : (last : LastOperand) (xs : List Operand) → admit (forms_of (op.Control control.Ret last)) xs ≡ true → AreGiven labels xs → AreEmitted labels true (items-of (op.Control control.Ret last) xs)
+  ret last_operand.Register (operand.Reg a ∷ []) h v = in-front labels true (instr.Imm Addi 10 (register_of Riscv64 a) (pos 0) ∷ []) (ones return_code) ((omega arith, register-small a, omega arith, omega arith), tt) returns
+  ret last_operand.Immediate (operand.Number x ∷ []) h v = in-front labels true (number_code 10 x) (ones return_code) (number-fits 10 x (λ z. cc) (omega arith) v.0) returns
+  ret last_operand.Immediate (operand.Host name ∷ []) h v = in-front labels true (number_code 10 (host_address name)) (ones return_code) (number-fits 10 (host_address name) (λ z. cc) (omega arith) (host-small name)) returns
+  ret last_operand.Immediate (operand.Label l ∷ []) h v = record {
+    items = (omega arith, return-fits);
+    labels = (v.0, returns.labels);
+    one_fix = λ place. let e = ap length (fixes-ones (place + 4 * 2) return_code) in omega (arith, e);
+    some = λ e. omega arith;
+  }
+  ret last_operand.Register (x ∷ y ∷ ys) h v = absurd (never (admits form.Read x) h)
+  ret last_operand.Immediate (x ∷ y ∷ ys) h v = absurd (never (admits form.Immediate x) h)
+  ret last xs h v = absurd (differ h)
+
+  align : (xs : List Operand) → admit (forms_of (op.Plain plain.Align)) xs ≡ true → AreEmitted labels false (items-of (op.Plain plain.Align) xs)
+  align (operand.Number n ∷ []) h = plain-emitted labels false (align_code at n) (idle-fits (padding at n)) (λ e. absurd (differ e))
+  align (operand.Number n ∷ y ∷ ys) h = absurd (never (is_alignment n) h)
+  align xs h = absurd (differ h)
+
+  nothing : AreEmitted labels false []
+  nothing = record { items = tt; labels = tt; one_fix = λ place. omega arith; some = λ e. absurd (differ e) }
+
+  pub by-op : (o : Op) (xs : List Operand) → is_control o ≡ true → admit (forms_of o) xs ≡ true → AreGiven labels xs → ends_in_label xs ≡ false → AreEmitted labels (leaps o) (items-of o xs)
+  by-op (op.Branch o last) xs c h v e = branch o last xs h v e
+  by-op (op.BranchSum o last) xs c h v e = sum-branch o last xs h v e
+  by-op (op.Control control.Jmp last_operand.Immediate) xs c h v e = jump xs h v
+  by-op (op.Control control.Jmp last_operand.Register) xs c h v e = register-leap 0 xs (omega arith) h
+  by-op (op.Control control.Call last_operand.Register) xs c h v e = register-leap 1 xs (omega arith) h
+  by-op (op.Control control.Finish last_operand.Register) xs c h v e = register-leap 1 xs (omega arith) h
+  by-op (op.Control control.Call last_operand.Immediate) xs c h v e = call xs h v
+  by-op (op.Control control.Finish last_operand.Immediate) xs c h v e = call xs h v
+  by-op (op.Control control.Ret last) xs c h v e = ret last xs h v
+  by-op (op.Plain plain.Prolog) xs c h v e = plain-emitted labels false (prolog_code frame) (prolog-fits frame) (λ z. absurd (differ z))
+  by-op (op.Plain plain.Epilog) xs c h v e = plain-emitted labels true return_code return-fits (λ z. omega arith)
+  by-op (op.Plain plain.Ret) xs c h v e = plain-emitted labels true return_code return-fits (λ z. omega arith)
+  by-op (op.Plain plain.Align) xs c h v e = align xs h
+  by-op (op.Plain plain.Prepare) xs c h v e = nothing
+  by-op (op.Plain plain.Ellipsis) xs c h v e = nothing
+  by-op (op.Plain plain.Arg) xs c h v e = nothing
+  by-op (op.Plain plain.Allocai) xs c h v e = nothing
+  by-op o xs c h v e = absurd (differ c)
+
+pub control-items-fit : ControlItemsFit
+control-items-fit n labels frame at c h v e = by-op labels frame at n.op n.operands c h.forms v e

@@ -1,0 +1,125 @@
+-- `retval` is carried by the extension of the result.
+use Rattle.std.proofs.Common.{◌≡◌, ◌≢◌, ℕ, ◌⊎◌, inl, inr, true, false, List, [], ◌∷◌, refl, ap, ◌∙◌, ◌<◌, subst, arith}
+use Rattle.std.specs.Prelude.{◌&&◌}
+use Rattle.lg_base.specs.declared.target.Target.TheVariants.{Riscv64}
+use Rattle.lg_op.specs.Forms.{admits, admit, forms_of}
+use Rattle.lg_op.specs.declared.form.Form.TheVariants as form
+use Rattle.lg_op.specs.declared.op.ValueType.{ValueType}
+use Rattle.lg_op.specs.declared.op.ValueType.TheVariants as value
+use Rattle.lg_op.specs.declared.operand.Operand.{Operand}
+use Rattle.lg_op.specs.declared.operand.Operand.TheVariants as operand
+use Rattle.lg_op.specs.declared.operand.Reg.{Reg}
+use Rattle.lg_op.specs.declared.operand.Reg.TheVariants.{R0, R1, R2, V0, V1, V2, Fp}
+use Rattle.lg_op.specs.declared.node.Node.{Node}
+use Rattle.lg_operators.specs.Operators.{typed, unary_value}
+use Rattle.lg_live.specs.Registers.{is_same}
+use Rattle.lg_live.specs.Uses.{is_written}
+use Rattle.lg_meaning.specs.States.{State}
+use Rattle.lg_meaning.specs.Steps.{Undefined, on, with_reg}
+use Rattle.lg_meaning.specs.Texts.{step}
+use Rattle.lg_temp.specs.Abis.{register_of}
+use Rattle.lg_carry.specs.Codes.{Code}
+use Rattle.lg_carry_rv.specs.Computations.{computed}
+use Rattle.lg_carry_rv.specs.ComputingNodes.{HoldsRead, StepsTo, ComputesNode}
+use Rattle.lg_carry_rv.specs.Places.{IsInText}
+use Rattle.lg_carry_rv.proofs.ComputingNodeLemmas.{plain-nodes-carry}
+use Rattle.lg_carry_rv.proofs.RegisterLemmas.{register-nonzero, register-apart, register-small}
+use Rattle.lg_selr_values.specs.UnaryCode.{unary_code}
+use Rattle.lg_selr_values.proofs.ResultLemmas.{or-false, step-is, OneGiven, one-given, holds-one, kept-apart}
+use Rattle.lg_selr_values.proofs.UnaryCodeLemmas.{unary-computed, unary-keeps, unary-computes, unary-some}
+use Rattle.lg_selr_items.specs.Items.{AreItems, ones}
+use Rattle.lg_selr_control.specs.ControlFits.{AreEmitted}
+use Rattle.lg_selr_control.proofs.ControlLemmas.{differ, never}
+use Rattle.lg_selr_control.proofs.FitLemmas.{plain-emitted}
+use Rattle.lg_selr_control.specs.Retvals.{extension, retval_node, retval_code, retval_items, RetvalsCarry, RetvalItemsFit}
+use Rattle.lg_selr_control.proofs.ChainLemmas.{straight-block}
+use Rattle.lg_selr_control.proofs.ComputedLemmas.{all-straight}
+
+extends : (t : ValueType) (x : ℕ) → unary_value (extension t) x ≡ typed t x
+extends value.Char x = refl
+extends value.UnsignedChar x = refl
+extends value.Short x = refl
+extends value.UnsignedShort x = refl
+extends value.Int x = refl
+extends value.UnsignedInt x = refl
+extends value.Long x = refl
+
+written-named : (d : Reg) → (admits form.Write (operand.Reg d) && true) ≡ true → d ≢ Fp
+written-named R0 h = λ z. cc
+written-named R1 h = λ z. cc
+written-named R2 h = λ z. cc
+written-named V0 h = λ z. cc
+written-named V1 h = λ z. cc
+written-named V2 h = λ z. cc
+written-named Fp h = cc
+
+module _ (c : Code) (i : ℕ) (t : ValueType) (d : Reg) (line : ℕ) (named : d ≢ Fp) (x : IsInText c i (retval_node t d line)) where
+  abbrev n : Node
+  n = retval_node t d line
+
+  abbrev rd : ℕ
+  rd = register_of Riscv64 d
+
+  abbrev to : State → ℕ → State
+  to s v = on (with_reg s (operand.Reg d) (typed t v))
+
+  writes : (q : Reg) → is_written n q ≡ is_same d q
+  writes q = or-false (is_same d q)
+
+  computes-retval : ComputesNode c i n [] (retval_code t d)
+  computes-retval = record {
+    some = unary-some (extension t) rd 10;
+    computes = unary-computes (extension t) rd 10;
+    keeps = λ w r k. unary-keeps rd (register-nonzero d) (register-apart d).0 (register-apart d).1 (extension t) 10 w r (kept-apart n d named writes [] r k) k.link k.carry;
+    steps = λ s w at h. by s w h (one-given s.answer (to s) (step c.nodes c.shape c.addresses s) (step-is c i n s x at));
+  }
+    where
+      by : (s : State) (w : ℕ → ℕ) → HoldsRead n s w → (step c.nodes c.shape c.addresses s ≡ Undefined) ⊎ OneGiven s.answer (to s) (step c.nodes c.shape c.addresses s) → (step c.nodes c.shape c.addresses s ≡ Undefined) ⊎ StepsTo c n s (computed (retval_code t d) w)
+      by s w h (inl e) = inl e
+      by s w h (inr g) = inr record {
+        to = to s g.x;
+        goes = g.goes;
+        on = record { at = refl; frame = refl; callers = refl; pushed = refl; mem = refl; mark = refl; data_size = refl; args_size = refl; answer = refl };
+        holds = holds-one n d named writes s (to s g.x) (typed t g.x) (computed (retval_code t d) w) refl
+            (unary-computed rd (register-nonzero d) (register-apart d).0 (register-apart d).1 (extension t) 10 w h.words ∙ ap (unary_value (extension t)) (h.result.is g.x g.first) ∙ extends t g.x) tt;
+      }
+
+pub retvals-carry : RetvalsCarry
+retvals-carry code trash c i t d line S x k =
+    let named = written-named d (x.formed (retval_node t d line) x.here).forms in
+    plain-nodes-carry code trash c i (retval_node t d line) S (retval_code t d) refl refl x
+    record {
+      small = k.small;
+      bytes = k.bytes;
+      word = k.word;
+      block = record {
+        low = k.node.low;
+        place = k.node.place;
+        more = k.node.more;
+        stands = k.node.stands;
+        next = k.node.next;
+        few = k.node.few;
+        some = k.node.some;
+        fit = k.node.fit;
+        block = straight-block (retval_code t d) (all-straight (retval_code t d) (unary-computes (extension t) (register_of Riscv64 d) 10));
+      };
+    }
+    (computes-retval c i t d line named x)
+
+-- ---- the items
+extension-fits : (t : ValueType) (d : ℕ) → d < 32 → AreItems (ones (unary_code (extension t) d 10))
+extension-fits value.Char d lt = ((lt, omega arith, omega arith, λ e. absurd (omega (arith, e))), ((lt, lt, omega arith, λ e. absurd (omega (arith, e))), tt))
+extension-fits value.UnsignedChar d lt = ((lt, omega arith, omega arith, omega arith), tt)
+extension-fits value.Short d lt = ((lt, omega arith, omega arith, λ e. absurd (omega (arith, e))), ((lt, lt, omega arith, λ e. absurd (omega (arith, e))), tt))
+extension-fits value.UnsignedShort d lt = ((lt, omega arith, omega arith, λ e. absurd (omega (arith, e))), ((lt, lt, omega arith, λ e. absurd (omega (arith, e))), tt))
+extension-fits value.Int d lt = ((lt, omega arith, omega arith, omega arith), tt)
+extension-fits value.UnsignedInt d lt = ((lt, omega arith, omega arith, λ e. absurd (omega (arith, e))), ((lt, lt, omega arith, λ e. absurd (omega (arith, e))), tt))
+extension-fits value.Long d lt = ((lt, omega arith, omega arith, omega arith), tt)
+
+retval-emitted : (t : ValueType) (labels : ℕ) (xs : List Operand) → admit (form.Write ∷ []) xs ≡ true → AreEmitted labels false (retval_items t xs)
+retval-emitted t labels (operand.Reg d ∷ []) h = plain-emitted labels false (retval_code t d) (extension-fits t (register_of Riscv64 d) (register-small d)) (λ e. absurd (differ e))
+retval-emitted t labels (x ∷ y ∷ ys) h = absurd (never (admits form.Write x) h)
+retval-emitted t labels xs h = absurd (differ h)
+
+pub retval-items-fit : RetvalItemsFit
+retval-items-fit n t labels e h = retval-emitted t labels n.operands (subst (λ o. admit (forms_of o) n.operands ≡ true) e h.forms)

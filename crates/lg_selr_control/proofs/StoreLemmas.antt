@@ -1,0 +1,106 @@
+-- Registers that are stored one below the other, below the stack pointer.
+use Rattle.std.proofs.Common.{◌≡◌, ℕ, zero, suc, ◌+◌, ◌-◌, ◌*◌, ◌%◌, ◌^◌, ◌<◌, ◌≤◌, ◌⊎◌, inl, inr, Bool, true, false, List, [], ◌∷◌, ◌++◌, Option, refl, ap, ◌∙◌, subst, arith, length}
+use Rattle.std.specs.Prelude.{◌==◌, ◌&&◌, not, negsuc, slice_index, if◌then◌else◌, is_some}
+use Rattle.std.proofs.lemmas.Bool.{and_parts}
+use Rattle.lg_base.specs.Fields.{word_of}
+use Rattle.lg_base.specs.Parts.{stack_base}
+use Rattle.lg_base.specs.Spaces.{mapped, stored}
+use Rattle.lg_base.specs.Words.{add_words}
+use Rattle.lg_base.proofs.SpaceLemmas.{mapped-all, loaded-stored, stored-out}
+use Rattle.lg_cells.specs.Cells.{within}
+use Rattle.lg_rv.specs.declared.instruction.Instr.{Instr}
+use Rattle.lg_rv.specs.declared.instruction.Instr.TheVariants as instr
+use Rattle.lg_rv.specs.declared.instruction.StoreOp.TheVariants.{Sd}
+use Rattle.lg_cpu.specs.Steps.{Run, after}
+use Rattle.lg_cpu.specs.RvStep.{RvState, read, goes, act}
+use Rattle.lg_carry.specs.Registers.{HasWord}
+use Rattle.lg_carry.proofs.SpillLemmas.{stored-there}
+use Rattle.lg_carry.proofs.WordLemmas.{word-kept}
+use Rattle.lg_selr_control.specs.Prologs.{stores_below}
+use Rattle.lg_selr_control.proofs.ChainLemmas.{RunsAt, next-at, Chain, chain-more}
+
+-- word k below the stack pointer
+abbrev pub word_below : ℕ → ℕ → ℕ
+word_below sp k = sp - (8 + 8 * k)
+
+-- the bytes with registers stored, from word k on
+abbrev pub with_stored : (ℕ → Option ℕ) → (ℕ → ℕ) → ℕ → List ℕ → ℕ → ℕ → Option ℕ
+with_stored m w sp [] k = m
+with_stored m w sp (r ∷ rs) k = with_stored (stored m (word_below sp k) 8 (w r)) w sp rs (suc k)
+
+-- and the run behind that
+abbrev pub store_one : Run RvState → ℕ → ℕ → ℕ → Run RvState
+store_one q sp r k = after q (goes (add_words q.state.pc 4) q.state.registers (stored q.state.bytes (word_below sp k) 8 (q.state.registers r)) q.state.mark)
+
+abbrev pub run_stored : Run RvState → ℕ → List ℕ → ℕ → Run RvState
+run_stored q sp [] k = q
+run_stored q sp (r ∷ rs) k = run_stored (store_one q sp r k) sp rs (suc k)
+
+-- no register is x0
+abbrev pub are_some : List ℕ → Bool
+are_some [] = true
+are_some (r ∷ rs) = not (r == 0) && are_some rs
+
+is-some-register : (r : ℕ) → not (r == 0) ≡ true → (r == 0) ≡ false
+is-some-register r h = grind (arith, h)
+
+address-below : (sp k : ℕ) → k < 13 → 0x3FF00010 + 272 ≤ sp → sp ≤ 0x40000000 → add_words sp (word_of (negsuc (7 + 8 * k))) ≡ word_below sp k
+address-below sp k few low high = grind (arith, few, low, high)
+
+aligned-below : (sp k : ℕ) → k < 13 → 0x3FF00010 + 272 ≤ sp → sp % 16 ≡ 0 → (word_below sp k % 8 == 0) ≡ true
+aligned-below sp k few low even = grind (arith, few, low, even)
+
+in-stack : (sp k j : ℕ) → k < 13 → 0x3FF00010 + 272 ≤ sp → sp ≤ 0x40000000 → word_below sp k ≤ j → j < word_below sp k + 8 → within stack_base 0x100000 j ≡ true
+in-stack sp k j few low high le lt = grind (arith, few, low, high, le, lt)
+
+module _ (sp : ℕ) (low : 0x3FF00010 + 272 ≤ sp) (high : sp ≤ 0x40000000) (even : sp % 16 ≡ 0) where
+  store-act : (q : RvState) (r k : ℕ) → k < 13 → (r == 0) ≡ false → q.registers 2 ≡ sp → ((j : ℕ) → within stack_base 0x100000 j ≡ true → is_some (q.bytes j) ≡ true)
+      → act (instr.Store Sd 2 r (negsuc (7 + 8 * k))) q ≡ goes (add_words q.pc 4) q.registers (stored q.bytes (word_below sp k) 8 (q.registers r)) q.mark
+  store-act q r k few some at there =
+      let address : add_words (q.registers 2) (word_of (negsuc (7 + 8 * k))) ≡ word_below sp k = ap (λ x. add_words x (word_of (negsuc (7 + 8 * k)))) at ∙ address-below sp k few low high in
+      let value : read q.registers r ≡ q.registers r = ap (λ b. if b then 0 else q.registers r) some in
+      let is-there : mapped q.bytes (word_below sp k) 8 ≡ true = mapped-all q.bytes (word_below sp k) 8 (λ j le lt. there j (in-stack sp k j few low high le lt)) in
+      let aligned = aligned-below sp k few low even in
+      rw (address, value, aligned, is-there) refl
+
+  pub stored-chain : (rs : List ℕ) (k : ℕ) (rest : List Instr) (base n j : ℕ) (q u : Run RvState) → k + length rs ≤ 13 → are_some rs ≡ true → j + length rs ≤ n → RunsAt base n j q → q.state.registers 2 ≡ sp
+      → ((a : ℕ) → within stack_base 0x100000 a ≡ true → is_some (q.state.bytes a) ≡ true) → Chain rest (run_stored q sp rs k) u → Chain (stores_below rs k ++ rest) q u
+  stored-chain [] k rest base n j q u few some room at two there h = h
+  stored-chain (r ∷ rs) k rest base n j q u few some room at two there h =
+      chain-more (instr.Store Sd 2 r (negsuc (7 + 8 * k))) (stores_below rs (suc k) ++ rest) q u (goes (add_words q.state.pc 4) q.state.registers (stored q.state.bytes (word_below sp k) 8 (q.state.registers r)) q.state.mark) at.runs
+      (store-act q.state r k (omega (arith, few)) (is-some-register r (and_parts (not (r == 0)) (are_some rs) some).0) two there)
+      (stored-chain rs (suc k) rest base n (suc j) (store_one q sp r k) u (omega (arith, few)) (and_parts (not (r == 0)) (are_some rs) some).1 (omega (arith, room)) (next-at base n j q _ _ _ (omega (arith, room)) at) two
+      (λ a w. stored-there q.state.bytes (word_below sp k) 8 (q.state.registers r) a (there a w)) h)
+
+  pub stored-at : (rs : List ℕ) (k base n j : ℕ) (q : Run RvState) → j + length rs ≤ n → RunsAt base n j q → RunsAt base n (j + length rs) (run_stored q sp rs k)
+  stored-at [] k base n j q room at = subst (λ x. RunsAt base n x q) (omega arith) at
+  stored-at (r ∷ rs) k base n j q room at = subst (λ x. RunsAt base n x (run_stored (store_one q sp r k) sp rs (suc k))) (omega arith) (stored-at rs (suc k) base n (suc j) (store_one q sp r k) (omega (arith, room)) (next-at base n j q _ _ _ (omega (arith, room)) at))
+
+  pub stored-registers : (rs : List ℕ) (k : ℕ) (q : Run RvState) → (run_stored q sp rs k).state.registers ≡ q.state.registers
+  stored-registers [] k q = refl
+  stored-registers (r ∷ rs) k q = stored-registers rs (suc k) (store_one q sp r k)
+
+  pub stored-mark : (rs : List ℕ) (k : ℕ) (q : Run RvState) → (run_stored q sp rs k).state.mark ≡ q.state.mark
+  stored-mark [] k q = refl
+  stored-mark (r ∷ rs) k q = stored-mark rs (suc k) (store_one q sp r k)
+
+  pub stored-bytes : (rs : List ℕ) (k : ℕ) (q : Run RvState) → (run_stored q sp rs k).state.bytes ≡ with_stored q.state.bytes q.state.registers sp rs k
+  stored-bytes [] k q = refl
+  stored-bytes (r ∷ rs) k q = stored-bytes rs (suc k) (store_one q sp r k)
+
+  -- ---- where the words are
+  pub stored-off : (rs : List ℕ) (k : ℕ) (m : ℕ → Option ℕ) (w : ℕ → ℕ) (a : ℕ) → k + length rs ≤ 13 → (a + 8 * (k + length rs) < sp) ⊎ (sp ≤ a + 8 * k) → with_stored m w sp rs k a ≡ m a
+  stored-off [] k m w a few h = refl
+  stored-off (r ∷ rs) k m w a few (inl h) = stored-off rs (suc k) (stored m (word_below sp k) 8 (w r)) w a (omega (arith, few)) (inl (omega (arith, h))) ∙ stored-out m (word_below sp k) 8 (w r) a (inl (omega (arith, h, low, few)))
+  stored-off (r ∷ rs) k m w a few (inr h) = stored-off rs (suc k) (stored m (word_below sp k) 8 (w r)) w a (omega (arith, few)) (inr (omega (arith, h))) ∙ stored-out m (word_below sp k) 8 (w r) a (inr (omega (arith, h, low, few)))
+
+  pub stored-word : (rs : List ℕ) (k j : ℕ) (m : ℕ → Option ℕ) (w : ℕ → ℕ) → k + length rs ≤ 13 → ((r : ℕ) → w r < 2 ^ 64) → j < length rs → HasWord (with_stored m w sp rs k) (word_below sp (k + j)) (w (slice_index rs j))
+  stored-word [] k j m w few words lt = absurd (omega (arith, lt))
+  stored-word (r ∷ rs) k zero m w few words lt =
+      let z : k ≡ k + 0 = omega arith in
+      let held : HasWord (stored m (word_below sp k) 8 (w r)) (word_below sp k) (w r) = loaded-stored m (word_below sp k) 8 (w r) (words r) in
+      subst (λ x. HasWord (with_stored m w sp (r ∷ rs) k) (word_below sp x) (w r)) z
+      (word-kept (stored m (word_below sp k) 8 (w r)) (with_stored m w sp (r ∷ rs) k) (word_below sp k) (w r) (λ a le l. stored-off rs (suc k) (stored m (word_below sp k) 8 (w r)) w a (omega (arith, few)) (inr (omega (arith, le, low, few)))) held)
+  stored-word (r ∷ rs) k (suc j) m w few words lt =
+      let z : suc k + j ≡ k + suc j = omega arith in
+      subst (λ x. HasWord (with_stored m w sp (r ∷ rs) k) (word_below sp x) (w (slice_index rs j))) z (stored-word rs (suc k) j (stored m (word_below sp k) 8 (w r)) w (omega (arith, few)) words (omega (arith, lt)))

@@ -1,0 +1,55 @@
+-- Addresses of instructions, and the words of distances.
+use Rattle.std.proofs.Common.{◌≡◌, ◌≢◌, ℕ, zero, suc, ◌+◌, ◌-◌, ◌*◌, ◌%◌, ◌^◌, ◌<◌, ◌≤◌, Bool, true, false, refl, arith}
+use Rattle.lg_carry_rv.specs.Numbers.{high_part, low_part}
+use Rattle.std.specs.Prelude.{pos, negsuc, nat_lt, ◌-ℤ◌, ◌==◌, slice_index, length, if◌then◌else◌}
+use Rattle.std.proofs.lemmas.Int.{ints}
+use Rattle.lg_base.specs.Conventions.{argument_registers, portable_register}
+use Rattle.lg_base.specs.Fields.{word_of}
+use Rattle.lg_base.specs.Layout.{stop_address, code_base}
+use Rattle.lg_base.specs.Words.{add_words, sign_32}
+use Rattle.lg_base.specs.Runs.{Running}
+use Rattle.lg_base.specs.declared.target.Target.TheVariants.{Riscv64}
+use Rattle.lg_cpu.specs.Steps.{arrived, status_of}
+use Rattle.lg_cpu.specs.HostSteps.{put}
+
+-- a distance leads to its target
+pub distance-leads : (from to : ℕ) → from < 2 ^ 62 → to < 2 ^ 62 → add_words from (word_of (pos to -ℤ pos from)) ≡ to
+distance-leads from to h k = grind (arith, ints)
+
+pub runs-there : (pc : ℕ) → code_base ≤ pc → status_of (arrived pc) ≡ Running
+runs-there pc low = let n : (pc == stop_address) ≡ false = grind (arith, low) in rw n refl
+
+pub put-same : (w : ℕ → ℕ) (d v : ℕ) → put w d v d ≡ v
+put-same w d v = grind arith
+
+pub put-other : (w : ℕ → ℕ) (d v x : ℕ) → x ≢ d → put w d v x ≡ w x
+put-other w d v x ne = grind (arith, ne)
+
+-- no register of the conventions is x0
+pub portable-some : (r : ℕ) → r < 6 → portable_register Riscv64 r ≢ 0
+portable-some zero lt e = cc
+portable-some (suc zero) lt e = cc
+portable-some (suc (suc zero)) lt e = cc
+portable-some (suc (suc (suc zero))) lt e = cc
+portable-some (suc (suc (suc (suc zero)))) lt e = cc
+portable-some (suc (suc (suc (suc (suc zero))))) lt e = cc
+portable-some (suc (suc (suc (suc (suc (suc r)))))) lt e = absurd (omega (arith, lt))
+
+pub argument-some : (i : ℕ) → i < length (argument_registers Riscv64) → slice_index (argument_registers Riscv64) i ≢ 0
+argument-some zero lt e = cc
+argument-some (suc zero) lt e = cc
+argument-some (suc (suc zero)) lt e = cc
+argument-some (suc (suc (suc zero))) lt e = cc
+argument-some (suc (suc (suc (suc zero)))) lt e = cc
+argument-some (suc (suc (suc (suc (suc zero))))) lt e = cc
+argument-some (suc (suc (suc (suc (suc (suc zero)))))) lt e = cc
+argument-some (suc (suc (suc (suc (suc (suc (suc zero))))))) lt e = cc
+argument-some (suc (suc (suc (suc (suc (suc (suc (suc i)))))))) lt e = absurd (omega (arith, lt))
+
+-- `lui` and `addiw` make a word of 32 bits
+pub number-made : (v : ℕ) → v < 2 ^ 64 → (v + 2 ^ 31) % 2 ^ 64 < 2 ^ 32 → sign_32 (add_words (sign_32 (high_part v * 4096)) (word_of (low_part v))) ≡ v
+number-made v small near = by (nat_lt (v % 4096) 2048) refl
+  where
+    by : (b : Bool) → nat_lt (v % 4096) 2048 ≡ b → sign_32 (add_words (sign_32 (high_part v * 4096)) (word_of (if b then pos (v % 4096) else negsuc (4095 - v % 4096)))) ≡ v
+    by true h = grind (arith, small, near, h)
+    by false h = grind (arith, small, near, h)

@@ -1,0 +1,125 @@
+-- The items of the nodes that branch, jump, call and return, of `prolog`, of `.align`, and of those without code.
+use Rattle.std.specs.Prelude.{ℕ, Bool, true, false, pos, List, [], ◌∷◌, ◌++◌, Option, Some, None}
+use Rattle.lg_base.specs.declared.target.Target.TheVariants.{Riscv64}
+use Rattle.lg_op.specs.declared.op.BranchSumOp.{BranchSumOp}
+use Rattle.lg_op.specs.declared.op.Condition.{Condition}
+use Rattle.lg_op.specs.declared.op.ControlOp.{ControlOp}
+use Rattle.lg_op.specs.declared.op.ControlOp.TheVariants as control
+use Rattle.lg_op.specs.declared.op.LastOperand.{LastOperand}
+use Rattle.lg_op.specs.declared.op.LastOperand.TheVariants as last_operand
+use Rattle.lg_op.specs.declared.op.Op.{Op}
+use Rattle.lg_op.specs.declared.op.Op.TheVariants as op
+use Rattle.lg_op.specs.declared.op.PlainOp.{PlainOp}
+use Rattle.lg_op.specs.declared.op.PlainOp.TheVariants as plain
+use Rattle.lg_op.specs.declared.operand.Label.{Label}
+use Rattle.lg_op.specs.declared.operand.Operand.{Operand}
+use Rattle.lg_op.specs.declared.operand.Operand.TheVariants as operand
+use Rattle.lg_rv.specs.declared.instruction.BranchOp.{BranchOp}
+use Rattle.lg_rv.specs.declared.instruction.Instr.TheVariants as instr
+use Rattle.lg_rv.specs.declared.instruction.ImmOp.TheVariants.{Addi}
+use Rattle.lg_temp.specs.Abis.{register_of}
+use Rattle.lg_carry_rv.specs.Numbers.{number_code}
+use Rattle.lg_selr_items.specs.declared.items.Item.{Item}
+use Rattle.lg_selr_items.specs.declared.items.Item.TheVariants.{One, Jump, Address}
+use Rattle.lg_selr_items.specs.Items.{ones}
+use Rattle.lg_selr_control.specs.Alignments.{align_code}
+use Rattle.lg_selr_control.specs.Branches.{failing, left_of, right_of, bits_code}
+use Rattle.lg_selr_control.specs.HostCalls.{host_code}
+use Rattle.lg_selr_control.specs.Immediates.{immediate}
+use Rattle.lg_selr_control.specs.Prologs.{prolog_code}
+use Rattle.lg_selr_control.specs.RegisterLeaps.{register_leap_code}
+use Rattle.lg_selr_control.specs.Returns.{return_code}
+use Rattle.lg_selr_control.specs.SumBranches.{sum_code, staying}
+
+-- ---- operands
+-- the register in which an operand is: its own, or x1, into which its word is put
+abbrev pub second_register : Operand → ℕ
+second_register (operand.Reg b) = register_of Riscv64 b
+second_register x = 1
+
+abbrev pub word_items : ℕ → Option ℕ → List Item
+word_items t None = []
+word_items t (Some v) = ones (number_code t v)
+
+abbrev pub second_items : Operand → List Item
+second_items (operand.Reg b) = []
+second_items x = word_items 1 (immediate x)
+
+-- ---- branches
+-- a branch over a jump to a label
+abbrev pub jump_unless_items : BranchOp → ℕ → ℕ → Label → List Item
+jump_unless_items o a b l = One (instr.Branch o a b (pos 8)) ∷ Jump 0 l.0 ∷ []
+
+abbrev pub branch_items : Condition → List Operand → List Item
+branch_items o (operand.Label l ∷ operand.Reg a ∷ x ∷ []) =
+    second_items x ++ (ones (bits_code o (register_of Riscv64 a) (second_register x)) ++ jump_unless_items (failing o) (left_of o (register_of Riscv64 a) (second_register x)) (right_of o (register_of Riscv64 a) (second_register x)) l)
+branch_items o xs = []
+
+abbrev pub sum_items : BranchSumOp → List Operand → List Item
+sum_items o (operand.Label l ∷ operand.Reg a ∷ x ∷ []) = second_items x ++ (ones (sum_code o (register_of Riscv64 a) (second_register x)) ++ jump_unless_items (staying o) 31 0 l)
+sum_items o xs = []
+
+-- ---- jumps, calls and returns
+abbrev pub jump_items : List Operand → List Item
+jump_items (operand.Label l ∷ []) = Jump 0 l.0 ∷ []
+jump_items xs = []
+
+abbrev pub call_items : List Operand → List Item
+call_items (operand.Label l ∷ []) = Jump 1 l.0 ∷ []
+call_items (operand.Host name ∷ []) = ones (host_code name)
+call_items xs = []
+
+-- the word of the result, into x10
+abbrev pub result_items : Operand → List Item
+result_items (operand.Reg a) = One (instr.Imm Addi 10 (register_of Riscv64 a) (pos 0)) ∷ []
+result_items (operand.Label l) = Address 10 l.0 ∷ []
+result_items x = word_items 10 (immediate x)
+
+abbrev pub ret_items : List Operand → List Item
+ret_items (x ∷ []) = result_items x ++ ones return_code
+ret_items xs = []
+
+-- a jump to the word of a register, which puts the address behind it into another
+abbrev pub register_leap_items : ℕ → List Operand → List Item
+register_leap_items rd (operand.Reg a ∷ []) = ones (register_leap_code rd a)
+register_leap_items rd xs = []
+
+abbrev pub leap_items : ControlOp → LastOperand → List Operand → List Item
+leap_items control.Jmp last_operand.Immediate xs = jump_items xs
+leap_items control.Jmp last_operand.Register xs = register_leap_items 0 xs
+leap_items control.Call last_operand.Immediate xs = call_items xs
+leap_items control.Call last_operand.Register xs = register_leap_items 1 xs
+leap_items control.Finish last_operand.Immediate xs = call_items xs
+leap_items control.Finish last_operand.Register xs = register_leap_items 1 xs
+leap_items control.Ret last xs = ret_items xs
+leap_items o last xs = []
+
+-- ---- the others
+abbrev pub align_items : ℕ → List Operand → List Item
+align_items at (operand.Number n ∷ []) = ones (align_code at n)
+align_items at xs = []
+
+abbrev pub plain_items : PlainOp → List Operand → ℕ → ℕ → List Item
+plain_items plain.Prolog xs frame at = ones (prolog_code frame)
+plain_items plain.Epilog xs frame at = ones return_code
+plain_items plain.Ret xs frame at = ones return_code
+plain_items plain.Align xs frame at = align_items at xs
+plain_items o xs frame at = []
+
+-- ---- of a node in a function with a frame of so many bytes, whose code begins at an address
+abbrev pub control_items : Op → List Operand → ℕ → ℕ → List Item
+control_items (op.Branch o last) xs frame at = branch_items o xs
+control_items (op.BranchSum o last) xs frame at = sum_items o xs
+control_items (op.Control o last) xs frame at = leap_items o last xs
+control_items (op.Plain o) xs frame at = plain_items o xs frame at
+control_items o xs frame at = []
+
+-- the operations whose nodes have these items
+abbrev pub is_control : Op → Bool
+is_control (op.Branch o last) = true
+is_control (op.BranchSum o last) = true
+is_control (op.Control control.Pusharg last) = false
+is_control (op.Control o last) = true
+is_control (op.Plain plain.Movi) = false
+is_control (op.Plain o) = true
+is_control o = false

@@ -1,0 +1,39 @@
+-- The nodes that branch, jump, call and return, `prolog`, `.align` and those without code are carried by their items.
+use Rattle.std.specs.Prelude.{◌≡◌, ℕ, ◌^◌, ◌<◌, Bool, true, false, List, [], ◌∷◌, slice_index, Some, ⊤}
+use Rattle.lg_op.specs.declared.node.Node.{Node}
+use Rattle.lg_op.specs.declared.operand.Operand.{Operand}
+use Rattle.lg_op.specs.declared.operand.Operand.TheVariants as operand
+use Rattle.lg_node.specs.declared.function.Function.{Function}
+use Rattle.lg_node.specs.Functions.{frame_of}
+use Rattle.lg_meaning.specs.Steps.{function_here}
+use Rattle.lg_carry.specs.Codes.{Code}
+use Rattle.lg_carry.specs.NodeCode.{CarriesNode}
+use Rattle.lg_carry_rv.specs.Places.{IsInText}
+use Rattle.lg_carry_rv.specs.RvRows.{rv_processor}
+use Rattle.lg_selr_items.specs.Items.{settled}
+use Rattle.lg_selr_control.specs.Standing.{StandsInCode, HasPlaces}
+use Rattle.lg_selr_control.specs.ControlItems.{control_items, is_control}
+
+-- a number is a word, and the address of a label is below 2 ^ 30, as all of the memory is
+abbrev pub IsWord : List ℕ → Operand → Type 0
+IsWord addresses (operand.Number v) = v < 2 ^ 64
+IsWord addresses (operand.Label l) = slice_index addresses l.0 < 2 ^ 30
+IsWord addresses x = ⊤
+
+abbrev pub AreWords : List ℕ → List Operand → Type 0
+AreWords addresses [] = ⊤
+AreWords addresses (x ∷ xs) = IsWord addresses x × AreWords addresses xs
+
+-- the frame is that of the function in which the node stands, where it stands in one
+abbrev pub IsFrameOf : Code → ℕ → ℕ → Type 0
+IsFrameOf c i frame = (f : Function) → function_here c.shape.functions i ≡ Some f → frame ≡ frame_of f
+
+-- a branch compares with no label
+abbrev pub ends_in_label : List Operand → Bool
+ends_in_label (x ∷ y ∷ operand.Label l ∷ xs) = true
+ends_in_label xs = false
+
+abbrev pub ControlNodesCarry : Type 0
+ControlNodesCarry =
+    (code : List ℕ) (trash : ℕ) (c : Code) (i : ℕ) (n : Node) (frame : ℕ) (S : ℕ → Bool) → is_control n.op ≡ true → HasPlaces c → AreWords c.addresses n.operands → ends_in_label n.operands ≡ false → IsFrameOf c i frame
+    → IsInText c i n → StandsInCode code trash c i (settled (slice_index c.addresses) (c.place i) (control_items n.op n.operands frame (c.place i))) → CarriesNode (rv_processor code trash) c i n S

@@ -1,0 +1,25 @@
+-- Where the code of a node stands, and the places of nodes and labels.
+use Rattle.std.specs.Prelude.{◌≡◌, ℕ, ◌+◌, ◌%◌, ◌^◌, ◌<◌, ◌≤◌, List, length, slice_index}
+use Rattle.lg_base.specs.Layout.{code_base, most_code}
+use Rattle.lg_node.specs.declared.place.Place.TheVariants as place
+use Rattle.lg_rv.specs.Spelling.{IsInstr}
+use Rattle.lg_rv.specs.declared.instruction.Instr.{Instr}
+use Rattle.lg_cpu.specs.Laws.{AreBytes}
+use Rattle.lg_meaning.specs.Addresses.{IsBound}
+use Rattle.lg_carry.specs.Codes.{Code}
+use Rattle.lg_carry.specs.Passages.{IsNodeCode}
+use Rattle.lg_carry_rv.specs.RvRows.{rv_rows}
+
+-- the code that the processor runs, in which these instructions are those of node i
+pub record StandsInCode (code : List ℕ) (trash : ℕ) (c : Code) (i : ℕ) (is : List Instr) : Type 0 where
+  pub small : length code ≤ most_code
+  pub bytes : AreBytes code
+  pub word : trash < 2 ^ 64
+  pub node : IsNodeCode (rv_rows code trash) IsInstr c i is
+
+-- nodes stand in the code part, at multiples of four, and a label that is bound at a node has the address of its place
+pub record HasPlaces (c : Code) : Type 0 where
+  pub low : (i : ℕ) → i ≤ length c.nodes.nodes → code_base ≤ c.place i
+  pub high : (i : ℕ) → i ≤ length c.nodes.nodes → c.place i ≤ code_base + most_code
+  pub aligned : (i : ℕ) → i ≤ length c.nodes.nodes → c.place i % 4 ≡ 0
+  pub bound : (label i : ℕ) → IsBound c.nodes label (place.Node i) → slice_index c.addresses label ≡ c.place i

@@ -1,0 +1,99 @@
+// Branches on a condition.
+
+ghost use Rattle.std.specs.Prelude.{◌≡◌, ◌+◌, ◌<◌, ◌≤◌, [], ◌++◌};
+ghost use Rattle.lg_selr_control.specs.Branches.{failing, left_of, right_of, bits_code};
+ghost use Rattle.lg_selr_control.specs.ControlItems.{jump_unless_items, branch_items};
+ghost use Rattle.lg_selr_items.specs.Items.{words_in, ones};
+
+use crate::operands::{portable, put_second, second_register};
+use lg_op::{Condition, Label, Operand};
+use lg_rv::{BranchOp, Instr, RegOp};
+use lg_selr_items::Items;
+
+// The branch that is taken where a condition fails.
+fn failing(condition: Condition) -> BranchOp
+    ensures { result ≡ failing condition }
+{
+    match condition {
+        Condition::Lt | Condition::Gt => BranchOp::Bge,
+        Condition::LtU | Condition::GtU => BranchOp::Bgeu,
+        Condition::Le | Condition::Ge => BranchOp::Blt,
+        Condition::LeU | Condition::GeU => BranchOp::Bltu,
+        Condition::Eq | Condition::Mc => BranchOp::Bne,
+        Condition::Ne | Condition::Ms => BranchOp::Beq,
+    }
+}
+
+// The first register that it compares.
+fn left_of(condition: Condition, a: u8, b: u8) -> u8
+    ensures { result ≡ left_of condition a b }
+{
+    match condition {
+        Condition::Le | Condition::LeU | Condition::Gt | Condition::GtU => b,
+        Condition::Ms | Condition::Mc => 1,
+        _ => a,
+    }
+}
+
+// The second one.
+fn right_of(condition: Condition, a: u8, b: u8) -> u8
+    ensures { result ≡ right_of condition a b }
+{
+    match condition {
+        Condition::Le | Condition::LeU | Condition::Gt | Condition::GtU => a,
+        Condition::Ms | Condition::Mc => 0,
+        _ => b,
+    }
+}
+
+// Appends the conjunction of two registers, into x1, where the condition asks for it.
+#[tactic(auto, using(lg_selr_items::proofs::ItemLemmas::words_append))]
+fn put_bits(condition: Condition, a: u8, b: u8, items: &mut Items)
+    requires { words_in items.old < 60 }
+    ensures items { items.new ≡ items.old ++ ones (bits_code condition a b) }
+    ensures few { words_in items.new ≤ words_in items.old + 1 }
+{
+    match condition {
+        Condition::Ms | Condition::Mc => items.one(Instr::Reg {
+            op: RegOp::And,
+            rd: 1,
+            rs1: a,
+            rs2: b,
+        }),
+        _ => {}
+    }
+}
+
+// Appends a branch over a jump to a label.
+#[tactic(auto, using(lg_selr_items::proofs::ItemLemmas::words_append))]
+pub(crate) fn put_jump_unless(op: BranchOp, rs1: u8, rs2: u8, label: Label, items: &mut Items)
+    requires { words_in items.old ≤ 60 }
+    ensures { items.new ≡ items.old ++ jump_unless_items op rs1 rs2 label }
+{
+    items.one(Instr::Branch {
+        op,
+        rs1,
+        rs2,
+        offset: 8,
+    });
+    items.jump(0, label.0);
+}
+
+// Appends the items of a branch to none.
+pub(crate) fn put_branch(condition: Condition, operands: &[Operand], items: &mut Items)
+    requires { items.old ≡ [] }
+    ensures { items.new ≡ branch_items condition operands.now }
+{
+    match operands {
+        [Operand::Label(label), Operand::Reg(first), second] => {
+            let a = portable(*first);
+            let b = second_register(*second);
+            put_second(*second, items);
+            put_bits(condition, a, b, items);
+            let left = left_of(condition, a, b);
+            let right = right_of(condition, a, b);
+            put_jump_unless(failing(condition), left, right, *label, items);
+        }
+        _ => {}
+    }
+}

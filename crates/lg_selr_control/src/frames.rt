@@ -1,0 +1,184 @@
+// Functions that begin and return, and places at a multiple.
+
+ghost use Rattle.std.specs.Prelude.{◌≡◌, ◌+◌, ◌-◌, ◌<◌, ◌≤◌, true, negsuc, [], ◌∷◌, ◌++◌};
+ghost use Rattle.lg_carry_rv.specs.Numbers.{high_part, low_part};
+ghost use Rattle.lg_op.specs.Forms.{is_alignment};
+ghost use Rattle.lg_op.specs.declared.form.Form.TheVariants as form;
+ghost use Rattle.lg_selr_control.specs.Alignments.{padding, idle, align_code};
+ghost use Rattle.lg_selr_control.specs.ControlItems.{align_items, plain_items};
+ghost use Rattle.lg_selr_control.specs.Prologs.{stored_registers, stores_below, fall_code, prolog_code};
+ghost use Rattle.lg_selr_control.specs.Returns.{return_code};
+ghost use Rattle.lg_selr_items.specs.Items.{words_in, ones};
+ghost use Rattle.lg_op.specs.Forms.{admit, plain_forms};
+
+use crate::operands::{high_part, low_part};
+use lg_op::{Operand, PlainOp};
+use lg_rv::{ImmOp, Instr, RegOp, StoreOp, UpperOp};
+use lg_selr_items::Items;
+
+// A word of the frame is stored by the stack pointer.
+fn store(reg: u8, imm: i32) -> Instr
+    ensures { result ≡ Instr.Store (StoreOp.Sd) 2 reg imm }
+{
+    Instr::Store {
+        op: StoreOp::Sd,
+        rs1: 2,
+        rs2: reg,
+        imm,
+    }
+}
+
+// A row of a register and a number.
+fn with(op: ImmOp, rd: u8, rs1: u8, imm: i32) -> Instr
+    ensures { result ≡ Instr.Imm op rd rs1 imm }
+{
+    Instr::Imm { op, rd, rs1, imm }
+}
+
+// What a `prolog` stores: the link, FP, V0, V1, V2 and the register arguments.
+fn stores() -> [Instr; 13]
+    ensures { result ≡ stores_below stored_registers 0 }
+{
+    [
+        store(1, -8),
+        store(8, -16),
+        store(9, -24),
+        store(18, -32),
+        store(19, -40),
+        store(10, -48),
+        store(11, -56),
+        store(12, -64),
+        store(13, -72),
+        store(14, -80),
+        store(15, -88),
+        store(16, -96),
+        store(17, -104),
+    ]
+}
+
+// The stack pointer falls by up to 2,048 bytes.
+fn short_fall(size: u32) -> Instr
+    requires some { 0 < size }
+    requires short { size ≤ 2048 }
+    ensures { result ≡ Instr.Imm (ImmOp.Addi) 2 2 (negsuc (size - 1)) }
+{
+    with(ImmOp::Addi, 2, 2, -(size as i32))
+}
+
+// By more bytes.
+fn long_fall(size: u32) -> [Instr; 3]
+    requires { size < 0x4000_0000 }
+    ensures { result ≡ Instr.Upper (UpperOp.Lui) 1 (high_part size) ∷ Instr.Imm (ImmOp.Addiw) 1 1 (low_part size) ∷ Instr.Reg (RegOp.Sub) 2 2 1 ∷ [] }
+{
+    let lui = Instr::Upper {
+        op: UpperOp::Lui,
+        rd: 1,
+        imm: high_part(size),
+    };
+    let sub = Instr::Reg {
+        op: RegOp::Sub,
+        rd: 2,
+        rs1: 2,
+        rs2: 1,
+    };
+    [lui, with(ImmOp::Addiw, 1, 1, low_part(size)), sub]
+}
+
+// Appends the fall of the stack pointer.
+fn put_fall(size: u32, items: &mut Items)
+    requires some { 0 < size }
+    requires small { size < 0x4000_0000 }
+    requires room { words_in items.old ≤ 60 }
+    ensures { items.new ≡ items.old ++ ones (fall_code size) }
+{
+    if size <= 2048 {
+        items.one(short_fall(size));
+    } else {
+        items.all(&long_fall(size));
+    }
+}
+
+// Appends the code of a `prolog` to none.
+#[tactic(auto, using(lg_selr_items::proofs::ItemLemmas::words_append))]
+fn put_prolog(size: u32, items: &mut Items)
+    requires empty { items.old ≡ [] }
+    requires some { 0 < size }
+    requires small { size < 0x4000_0000 }
+    ensures { items.new ≡ ones (prolog_code size) }
+{
+    items.all(&stores());
+    items.one(with(ImmOp::Addi, 8, 2, -16));
+    put_fall(size, items);
+}
+
+// What a return does.
+fn return_code() -> [Instr; 7]
+    ensures { result ≡ return_code }
+{
+    [
+        with(ImmOp::Ld, 9, 8, -8),
+        with(ImmOp::Ld, 18, 8, -16),
+        with(ImmOp::Ld, 19, 8, -24),
+        with(ImmOp::Ld, 1, 8, 8),
+        with(ImmOp::Addi, 2, 8, 16),
+        with(ImmOp::Ld, 8, 8, 0),
+        with(ImmOp::Jalr, 0, 1, 0),
+    ]
+}
+
+// Appends a return.
+pub(crate) fn put_return(items: &mut Items)
+    requires { words_in items.old ≤ 50 }
+    ensures { items.new ≡ items.old ++ ones return_code }
+{
+    items.all(&return_code());
+}
+
+// Appends so many instructions that do nothing.
+#[tactic(auto, using(lg_selr_items::proofs::ItemLemmas::words_append))]
+fn put_idle(count: u32, items: &mut Items)
+    requires { words_in items.old + count ≤ 64 }
+    ensures { items.new ≡ items.old ++ ones (idle count) }
+{
+    if count > 0 {
+        items.one(with(ImmOp::Addi, 0, 0, 0));
+        put_idle(count - 1, items);
+    }
+}
+
+// How many of them lead from an address to a multiple of an alignment.
+fn padding(at: u32, alignment: u32) -> u32
+    requires { is_alignment alignment ≡ true }
+    ensures value { result ≡ padding at alignment }
+    ensures few { result ≤ 16 }
+{
+    (alignment - at % alignment) % alignment / 4
+}
+
+// Appends the items of `.align` to none.
+fn put_align(at: u32, operands: &[Operand], items: &mut Items)
+    requires empty { items.old ≡ [] }
+    requires formed { admit (form.Alignment ∷ []) operands.now ≡ true }
+    ensures { items.new ≡ align_items at operands.now }
+{
+    match operands {
+        [Operand::Number(alignment)] => put_idle(padding(at, *alignment as u32), items),
+        _ => {}
+    }
+}
+
+// Appends the items of an operation without a family to none.
+pub(crate) fn put_plain(op: PlainOp, operands: &[Operand], frame: u32, at: u32, items: &mut Items)
+    requires empty { items.old ≡ [] }
+    requires formed { admit (plain_forms op) operands.now ≡ true }
+    requires some { 0 < frame }
+    requires small { frame < 0x4000_0000 }
+    ensures { items.new ≡ plain_items op operands.now frame at }
+{
+    match op {
+        PlainOp::Prolog => put_prolog(frame, items),
+        PlainOp::Epilog | PlainOp::Ret => put_return(items),
+        PlainOp::Align => put_align(at, operands, items),
+        _ => {}
+    }
+}

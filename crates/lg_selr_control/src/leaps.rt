@@ -1,0 +1,120 @@
+// Jumps, calls and returns.
+
+ghost use Rattle.std.specs.Prelude.{◌≡◌, ◌+◌, ◌<◌, ◌≤◌, [], ◌++◌};
+ghost use Rattle.lg_selr_control.specs.ControlItems.{jump_items, call_items, result_items, ret_items, register_leap_items, leap_items};
+ghost use Rattle.lg_selr_control.specs.HostCalls.{host_code};
+ghost use Rattle.lg_selr_items.specs.Items.{words_in, ones};
+
+use crate::frames::put_return;
+use crate::operands::{high_part, low_part, portable, put_word};
+use lg_base::host_name::HostName;
+use lg_op::{ControlOp, LastOperand, Operand};
+use lg_rv::{ImmOp, Instr, UpperOp};
+use lg_selr_items::Items;
+
+// The call of a host function: the address of its entry goes into the link, and the jump there links.
+fn host_code(name: HostName) -> [Instr; 2]
+    ensures { result ≡ host_code name }
+{
+    let entry = name.address() as u32;
+    let lui = Instr::Upper {
+        op: UpperOp::Lui,
+        rd: 1,
+        imm: high_part(entry),
+    };
+    let jalr = Instr::Imm {
+        op: ImmOp::Jalr,
+        rd: 1,
+        rs1: 1,
+        imm: low_part(entry),
+    };
+    [lui, jalr]
+}
+
+// Appends the items of `jmpi` to none.
+fn put_jump(operands: &[Operand], items: &mut Items)
+    requires { items.old ≡ [] }
+    ensures { items.new ≡ jump_items operands.now }
+{
+    match operands {
+        [Operand::Label(label)] => items.jump(0, label.0),
+        _ => {}
+    }
+}
+
+// Appends the items of `calli` and `finishi` to none.
+fn put_call(operands: &[Operand], items: &mut Items)
+    requires { items.old ≡ [] }
+    ensures { items.new ≡ call_items operands.now }
+{
+    match operands {
+        [Operand::Label(label)] => items.jump(1, label.0),
+        [Operand::Host(name)] => items.all(&host_code(*name)),
+        _ => {}
+    }
+}
+
+// Appends the items of `jmpr`, `callr` and `finishr` to none: a jump to the word of a register, which puts the address behind it into rd.
+fn put_register_leap(rd: u8, operands: &[Operand], items: &mut Items)
+    requires { items.old ≡ [] }
+    ensures { items.new ≡ register_leap_items rd operands.now }
+{
+    match operands {
+        [Operand::Reg(reg)] => items.one(Instr::Imm {
+            op: ImmOp::Jalr,
+            rd,
+            rs1: portable(*reg),
+            imm: 0,
+        }),
+        _ => {}
+    }
+}
+
+// Puts the word of a result into x10.
+fn put_result(operand: Operand, items: &mut Items)
+    requires { items.old ≡ [] }
+    ensures items { items.new ≡ result_items operand }
+    ensures few { words_in items.new ≤ 8 }
+{
+    match operand {
+        Operand::Reg(reg) => items.one(Instr::Imm {
+            op: ImmOp::Addi,
+            rd: 10,
+            rs1: portable(reg),
+            imm: 0,
+        }),
+        Operand::Label(label) => items.address(10, label.0),
+        other => put_word(10, other, items),
+    }
+}
+
+// Appends the items of `retr` and `reti` to none.
+fn put_ret(operands: &[Operand], items: &mut Items)
+    requires { items.old ≡ [] }
+    ensures { items.new ≡ ret_items operands.now }
+{
+    match operands {
+        [operand] => {
+            put_result(*operand, items);
+            put_return(items);
+        }
+        _ => {}
+    }
+}
+
+// Appends the items of a jump, a call or a return to none.
+pub(crate) fn put_leap(op: ControlOp, last: LastOperand, operands: &[Operand], items: &mut Items)
+    requires { items.old ≡ [] }
+    ensures { items.new ≡ leap_items op last operands.now }
+{
+    match (op, last) {
+        (ControlOp::Jmp, LastOperand::Immediate) => put_jump(operands, items),
+        (ControlOp::Jmp, LastOperand::Register) => put_register_leap(0, operands, items),
+        (ControlOp::Call | ControlOp::Finish, LastOperand::Immediate) => put_call(operands, items),
+        (ControlOp::Call | ControlOp::Finish, LastOperand::Register) => {
+            put_register_leap(1, operands, items)
+        }
+        (ControlOp::Ret, _) => put_ret(operands, items),
+        _ => {}
+    }
+}

@@ -1,0 +1,15 @@
+//! The nodes that branch, jump, call and return, `prolog`, `.align` and those without code, on RV64IM: the items of their code, and that
+//! it carries them.
+#![tactic(auto)]
+
+mod branches;
+mod control;
+mod frames;
+pub mod laws;
+mod leaps;
+mod operands;
+mod results;
+mod sums;
+
+pub use control::put_control;
+pub use results::put_retval;

@@ -1,0 +1,121 @@
+// Branches that add and subtract.
+
+ghost use Rattle.std.specs.Prelude.{◌≡◌, ◌+◌, ◌<◌, ◌≤◌, pos, [], ◌++◌};
+ghost use Rattle.lg_selr_control.specs.SumBranches.{signed_sum_code, signed_difference_code, unsigned_sum_code, unsigned_difference_code, sum_code, staying};
+ghost use Rattle.lg_selr_control.specs.ControlItems.{sum_items};
+ghost use Rattle.lg_selr_items.specs.Items.{words_in, ones};
+
+use crate::branches::put_jump_unless;
+use crate::operands::{portable, put_second, second_register};
+use lg_op::{BranchSumOp, Operand};
+use lg_rv::{BranchOp, ImmOp, Instr, RegOp};
+use lg_selr_items::Items;
+
+// A row of two registers.
+fn row(op: RegOp, rd: u8, rs1: u8, rs2: u8) -> Instr
+    ensures { result ≡ Instr.Reg op rd rs1 rs2 }
+{
+    Instr::Reg { op, rd, rs1, rs2 }
+}
+
+// A row of a register and 0.
+fn with_zero(op: ImmOp, rd: u8, rs1: u8) -> Instr
+    ensures { result ≡ Instr.Imm op rd rs1 (pos 0) }
+{
+    Instr::Imm {
+        op,
+        rd,
+        rs1,
+        imm: 0,
+    }
+}
+
+// Adds, and x31 tells whether the signed sum does not fit.
+fn signed_sum(a: u8, b: u8) -> [Instr; 5]
+    ensures { result ≡ signed_sum_code a b }
+{
+    [
+        with_zero(ImmOp::Slti, 31, b),
+        row(RegOp::Add, 1, a, b),
+        row(RegOp::Slt, a, 1, a),
+        row(RegOp::Xor, 31, 31, a),
+        with_zero(ImmOp::Addi, a, 1),
+    ]
+}
+
+// Subtracts, and x31 tells whether the signed difference does not fit.
+fn signed_difference(a: u8, b: u8) -> [Instr; 5]
+    ensures { result ≡ signed_difference_code a b }
+{
+    [
+        row(RegOp::Slt, 31, a, b),
+        row(RegOp::Sub, 1, a, b),
+        with_zero(ImmOp::Slti, a, 1),
+        row(RegOp::Xor, 31, 31, a),
+        with_zero(ImmOp::Addi, a, 1),
+    ]
+}
+
+// Adds, and x31 tells whether the unsigned sum does not fit.
+fn unsigned_sum(a: u8, b: u8) -> [Instr; 3]
+    ensures { result ≡ unsigned_sum_code a b }
+{
+    [
+        row(RegOp::Add, 1, a, b),
+        row(RegOp::Sltu, 31, 1, a),
+        with_zero(ImmOp::Addi, a, 1),
+    ]
+}
+
+// Subtracts, and x31 tells whether the unsigned difference does not fit.
+fn unsigned_difference(a: u8, b: u8) -> [Instr; 2]
+    ensures { result ≡ unsigned_difference_code a b }
+{
+    [row(RegOp::Sltu, 31, a, b), row(RegOp::Sub, a, a, b)]
+}
+
+// Appends the sum or the difference of a branch.
+#[tactic(auto, using(lg_selr_items::proofs::ItemLemmas::words_append))]
+fn put_sum(op: BranchSumOp, a: u8, b: u8, items: &mut Items)
+    requires { words_in items.old < 50 }
+    ensures items { items.new ≡ items.old ++ ones (sum_code op a b) }
+    ensures few { words_in items.new ≤ words_in items.old + 5 }
+{
+    match op {
+        BranchSumOp::OverflowAdd | BranchSumOp::FitAdd => items.all(&signed_sum(a, b)),
+        BranchSumOp::OverflowAddU | BranchSumOp::FitAddU => items.all(&unsigned_sum(a, b)),
+        BranchSumOp::OverflowSub | BranchSumOp::FitSub => items.all(&signed_difference(a, b)),
+        BranchSumOp::OverflowSubU | BranchSumOp::FitSubU => items.all(&unsigned_difference(a, b)),
+    }
+}
+
+// The branch on x31 and x0 that is taken where the node does not go to its label.
+fn staying(op: BranchSumOp) -> BranchOp
+    ensures { result ≡ staying op }
+{
+    match op {
+        BranchSumOp::OverflowAdd
+        | BranchSumOp::OverflowAddU
+        | BranchSumOp::OverflowSub
+        | BranchSumOp::OverflowSubU => BranchOp::Beq,
+        BranchSumOp::FitAdd | BranchSumOp::FitAddU | BranchSumOp::FitSub | BranchSumOp::FitSubU =>
+            BranchOp::Bne,
+    }
+}
+
+// Appends the items of such a branch to none.
+pub(crate) fn put_sum_branch(op: BranchSumOp, operands: &[Operand], items: &mut Items)
+    requires { items.old ≡ [] }
+    ensures { items.new ≡ sum_items op operands.now }
+{
+    match operands {
+        [Operand::Label(label), Operand::Reg(first), second] => {
+            let a = portable(*first);
+            let b = second_register(*second);
+            put_second(*second, items);
+            put_sum(op, a, b, items);
+            put_jump_unless(staying(op), 31, 0, *label, items);
+        }
+        _ => {}
+    }
+}
