@@ -1,0 +1,10 @@
+pub mod CarriedLemmas
+pub mod CountLemmas
+pub mod FinishedLemmas
+pub mod FitLemmas
+pub mod NodeFits
+pub mod NodeLemmas
+pub mod OperandLemmas
+pub mod PlaceLemmas
+pub mod PushFits
+pub mod ValueFixes

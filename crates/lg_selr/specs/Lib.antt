@@ -1,0 +1,3 @@
+pub mod Items
+pub mod Needs
+pub mod Selected

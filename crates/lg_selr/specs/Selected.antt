@@ -1,0 +1,131 @@
+-- What is asked of a node and its buffer, and what the code that is appended does once the buffer is finished.
+use Rattle.std.specs.Prelude.{◌≡◌, ℕ, ◌+◌, ◌-◌, ◌%◌, ◌^◌, ◌<◌, ◌≤◌, ◌||◌, Bool, true, false, List, [], ◌∷◌, ◌++◌, length, drop, replicate, slice_index, slice_index_or, Option, Some, ⊤}
+use Rattle.std.specs.List.{All}
+use Rattle.lg_base.specs.Layout.{code_base, most_code}
+use Rattle.lg_base.specs.declared.target.Target.TheVariants.{Riscv64}
+use Rattle.lg_buf.specs.declared.fixes.Fix.{Fix}
+use Rattle.lg_buf.specs.Buffers.{Buffer, AreDone}
+use Rattle.lg_carry.specs.Codes.{Code}
+use Rattle.lg_carry.specs.NodeCode.{numbered, CarriesNode}
+use Rattle.lg_carry_rv.specs.Places.{IsInText}
+use Rattle.lg_carry_rv.specs.RvRows.{rv_processor}
+use Rattle.lg_cpu.specs.Laws.{AreBytes}
+use Rattle.lg_node.specs.Preparations.{pushed}
+use Rattle.lg_op.specs.Forms.{forms_of}
+use Rattle.lg_op.specs.declared.form.Form.{Form}
+use Rattle.lg_op.specs.declared.form.Form.TheVariants.{Immediate}
+use Rattle.lg_op.specs.declared.node.Node.{Node}
+use Rattle.lg_op.specs.declared.op.Op.{Op}
+use Rattle.lg_op.specs.declared.op.Op.TheVariants as op
+use Rattle.lg_op.specs.declared.op.ControlOp.TheVariants as control
+use Rattle.lg_op.specs.declared.op.PlainOp.TheVariants as plain
+use Rattle.lg_op.specs.declared.operand.Operand.{Operand}
+use Rattle.lg_op.specs.declared.operand.Operand.TheVariants as operand
+use Rattle.lg_op.specs.declared.operand.Reg.{Reg}
+use Rattle.lg_selr_control.specs.ControlLaws.{IsFrameOf}
+use Rattle.lg_selr_control.specs.Standing.{HasPlaces}
+use Rattle.lg_selr_items.specs.Patched.{IsApartFrom, HaveAddresses}
+use Rattle.lg_selr_memory.specs.PushNodes.{NamesCode}
+use Rattle.lg_selr_values.specs.ValueItems.{value_needs}
+use Rattle.lg_temp.specs.declared.choice.Choice.{Choice}
+use Rattle.lg_temp.specs.Chosen.{around, choices_of}
+
+-- ---- what is asked
+-- the size of a frame
+pub record IsFrame (frame : ℕ) : Type 0 where
+  pub low : 272 ≤ frame
+  pub high : frame ≤ 65808
+  pub whole : frame % 16 ≡ 0
+
+-- a set of arguments holds another
+abbrev pub Holds : List Bool → List Bool → Type 0
+Holds set staged = (j : ℕ) → slice_index_or staged j false ≡ true → slice_index_or set j false ≡ true
+
+-- the choices are those for the needs of the node, a set of live registers, and a set of arguments that holds those that are staged
+pub record AreChosen (node : Node) (live : Reg → Bool) (staged : List Bool) (choices : List Choice) : Type 0 where
+  pub set : List Bool
+  pub holds : Holds set staged
+  pub chosen : choices_of (around Riscv64 node live set) (value_needs node.op) ≡ Some choices
+
+-- `pushargr` and `pushargi`
+abbrev pub is_pusharg : Op → Bool
+is_pusharg (op.Control control.Pusharg last) = true
+is_pusharg o = false
+
+-- the set of the first n arguments
+abbrev pub first_arguments : ℕ → List Bool
+first_arguments n = replicate n true ++ replicate (16 - n) false
+
+-- it has fewer than 16
+abbrev pub AreFirst : List Bool → Type 0
+AreFirst staged = (n : ℕ) × (n < 16) × (staged ≡ first_arguments n)
+
+-- a label stands in the place of an immediate
+abbrev pub is_label_for : Form → Operand → Bool
+is_label_for Immediate (operand.Label l) = true
+is_label_for f x = false
+
+abbrev pub has_label_for : List Form → List Operand → Bool
+has_label_for (f ∷ fs) (x ∷ xs) = is_label_for f x || has_label_for fs xs
+has_label_for fs xs = false
+
+-- the operations at which one may
+abbrev pub may_take_label : Op → Bool
+may_take_label (op.Plain plain.Movi) = true
+may_take_label (op.Control control.Pusharg last) = true
+may_take_label (op.Control control.Ret last) = true
+may_take_label o = false
+
+abbrev pub TakesLabelsWell : Node → Type 0
+TakesLabelsWell node = has_label_for (forms_of node.op) node.operands ≡ true → may_take_label node.op ≡ true
+
+-- ---- the numbers of a node
+abbrev pub IsWord : Operand → Type 0
+IsWord (operand.Number v) = v < 2 ^ 64
+IsWord x = ⊤
+
+abbrev pub HaveWords : List Operand → Type 0
+HaveWords [] = ⊤
+HaveWords (x ∷ xs) = IsWord x × HaveWords xs
+
+-- ---- what follows
+-- a buffer whose fixes are patched, in which the bytes and the fixes that were appended to an old buffer stand where they were appended, and
+-- no other fix has one of the bytes: of the final code, node i has these bytes, and each label has the address of its place
+pub record IsFinished (old new : Buffer) (code : List ℕ) (c : Code) (i : ℕ) : Type 0 where
+  pub labels : List (Option ℕ)
+  pub fixes : List Fix
+  pub emitted : List ℕ
+  pub done : AreDone labels fixes (length fixes) emitted code
+  pub small : length code ≤ most_code
+  pub bytes : AreBytes code
+  pub rest : List ℕ
+  pub stands : drop (length old.bytes) emitted ≡ drop (length old.bytes) new.bytes ++ rest
+  pub before : List Fix
+  pub behind : List Fix
+  pub among : fixes ≡ before ++ (drop (length old.fixes) new.fixes ++ behind)
+  pub apart_before : All (IsApartFrom (length old.bytes) (length new.bytes - length old.bytes)) before
+  pub apart_behind : All (IsApartFrom (length old.bytes) (length new.bytes - length old.bytes)) behind
+  pub here : c.place i ≡ code_base + length old.bytes
+  pub next : c.place (i + 1) ≡ code_base + length new.bytes
+  pub addresses : HaveAddresses labels (slice_index c.addresses)
+
+-- the node is node i of an accepted text: its function has this frame, its labels are code labels, and these arguments are staged at it,
+-- among them all that are pushed; at a `pushargr` or `pushargi` none but these. The nodes stand at multiples of four in the code part, and
+-- all addresses of labels are below 2 ^ 30, as all of the memory is
+pub record IsNodeOf (node : Node) (frame : ℕ) (staged : List Bool) (c : Code) (i : ℕ) : Type 0 where
+  pub text : IsInText c i node
+  pub frame_is : IsFrameOf c i frame
+  pub names : NamesCode c node
+  pub pushed_are : (j : ℕ) → j < pushed c.nodes.nodes i → slice_index_or staged j false ≡ true
+  pub exact : is_pusharg node.op ≡ true → staged ≡ first_arguments (pushed c.nodes.nodes i)
+  pub places : HasPlaces c
+  pub low : (label : ℕ) → slice_index c.addresses label < 2 ^ 30
+
+-- wherever that is so, the code carries the node, with these registers live behind it
+abbrev pub IsCarriedWhenFinished : Node → ℕ → (Reg → Bool) → List Bool → Buffer → Buffer → Type 0
+IsCarriedWhenFinished node frame live staged old new =
+    (code : List ℕ) (trash : ℕ) (c : Code) (i : ℕ) → trash < 2 ^ 64 → IsFinished old new code c i → IsNodeOf node frame staged c i → CarriesNode (rv_processor code trash) c i node (numbered live)
+
+-- behind an `.align` the place is a multiple of its number, where the place before it is one of four
+abbrev pub IsAligned : Node → ℕ → ℕ → Type 0
+IsAligned node place behind = (n : ℕ) → node.op ≡ op.Plain plain.Align → node.operands ≡ operand.Number n ∷ [] → place % 4 ≡ 0 → behind % n ≡ 0

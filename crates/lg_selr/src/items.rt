@@ -1,0 +1,77 @@
+// The items of a node.
+
+ghost use Rattle.std.specs.Prelude.{◌≡◌, ◌<◌, ◌≤◌, [], true, length};
+ghost use Rattle.lg_op.specs.Nodes.{InForm};
+ghost use Rattle.lg_selr.specs.Items.{node_items, staged_count, items_of};
+ghost use Rattle.lg_selr.specs.Selected.{IsFrame, AreFirst, is_pusharg, IsWord, HaveWords};
+ghost use Rattle.lg_selr_values.specs.ValueItems.{HaveSlots};
+
+use lg_op::{ControlOp, Node, Op, Operand, PlainOp};
+use lg_selr_control::{put_control, put_retval};
+use lg_selr_items::Items;
+use lg_selr_memory::{put_argument, put_getarg, put_load, put_store};
+use lg_selr_values::value_items;
+use lg_temp::choice::{Choices, Staged};
+
+// Appends the items of a node to none. Its code begins at a place of the buffer.
+pub(crate) fn put_items(
+    node: &Node,
+    frame: u32,
+    choices: &Choices,
+    staged: &Staged,
+    place: u32,
+    items: &mut Items,
+)
+    requires formed { InForm node.now }
+    requires frame { IsFrame frame }
+    requires few { length choices.now ≤ 1 }
+    requires slots { HaveSlots choices.now }
+    requires staged { is_pusharg node.now.op ≡ true → AreFirst staged.now.arguments }
+    requires empty { items.old ≡ [] }
+    ensures { items.new ≡ node_items node.now frame choices.now staged.now.arguments place }
+{
+    match node.op {
+        Op::Binary(_, _) | Op::Wide(_, _) | Op::Unary(_) | Op::Plain(PlainOp::Movi) => {
+            value_items(node, choices, items)
+        }
+        Op::Load(t, at) => put_load(t, at, node, items),
+        Op::Store(t, at) => put_store(t, at, node, items),
+        Op::Getarg(t) => put_getarg(t, node, items),
+        Op::Retval(t) => put_retval(t, node.operands.as_slice(), items),
+        Op::Control(ControlOp::Pusharg, _) => put_argument(staged_count(staged), node, items),
+        _ => put_control(node, frame, place, items),
+    }
+}
+
+// How many arguments are staged.
+fn staged_count(staged: &Staged) -> u32
+    ensures { result ≡ staged_count staged.now.arguments }
+{
+    staged
+        .arguments
+        .iter()
+        .filter(|argument| **argument)
+        .count() as u32
+}
+
+// The number of an operand is a word.
+pub(crate) fn see_number(operand: Operand)
+    ensures { IsWord operand }
+{
+    if let Operand::Number(value) = operand {
+        let _value = value;
+    }
+}
+
+// The numbers of operands are words.
+pub(crate) fn see_numbers(operands: &[Operand])
+    ensures { HaveWords operands.now }
+{
+    match operands {
+        [] => {}
+        [operand, rest @ ..] => {
+            see_number(*operand);
+            see_numbers(rest);
+        }
+    }
+}
