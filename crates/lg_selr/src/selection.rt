@@ -20,7 +20,8 @@ use lg_temp::choice::{Choices, Staged};
 /// the arguments that were pushed before it, of which there are fewer than 16. The node has the operands of its operation; it names code
 /// labels of the buffer, and one in the place of an immediate only at `movi`, `pushargi` and `reti`. There is room for a fix.
 ///
-/// Behind an `.align` the place is a multiple of its number. Once the fixes of the buffer are patched, the code carries the node where the registers of `live_after` are live behind it.
+/// Behind an `.align` the place is a multiple of its number. Once the fixes of the buffer are patched, the code carries the node where
+/// the registers of `live_after` are live behind it.
 #[must_use]
 pub fn select(
     node: &Node,
