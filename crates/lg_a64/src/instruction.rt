@@ -1,7 +1,8 @@
 // The instructions of A64, by the formats of their words.
 
-/// An instruction: its row, and the numbers in its word. Registers are 0 to 31; what 31 stands for, the
-/// stack pointer or zero, depends on the row and the place.
+/// An instruction: its row, and the numbers in its word. Registers are 0 to 31. 31 is the stack pointer as
+/// `rn` of `Imm`, of loads and of stores, and as `rd` of `addi` and `subi`; elsewhere it reads as 0 and is
+/// not written.
 ///
 /// The names and fields are those of the Arm Architecture Reference Manual, "A64 Base Instruction
 /// Descriptions". A name that ends in `i`, or in a number of bits, parts rows that share one there.
@@ -37,7 +38,8 @@ pub enum Instr {
         rm: u8,
         ra: u8,
     },
-    /// `immr` and `imms` are 0 to 63.
+    /// `rd` gets a bit field of `rn`: where `imms` is at least `immr`, bits `immr` to `imms` go to bit 0 and
+    /// on, and else bits 0 to `imms` go to bit `64 - immr` and on. `immr` and `imms` are 0 to 63.
     Bitfield {
         op: BitfieldOp,
         rd: u8,

@@ -15,6 +15,3 @@ pub use instruction::{
     BitfieldOp, BranchOp, BranchRegOp, Cond, ImmOp, Instr, MulAddOp, RegOp, ReverseOp, ScaledOp,
     UnscaledOp, WideOp,
 };
-
-#[cfg(test)]
-mod tests;

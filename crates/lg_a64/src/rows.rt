@@ -21,14 +21,6 @@ pub(crate) const BRANCH_IF: u32 = 0x5400_0000;
 
 pub(crate) const NOP: u32 = 0xd503_201f;
 
-const CSINC_NAME: &[u8] = b"csinc";
-
-const LDRX_NAME: &[u8] = b"ldrx";
-
-const BRANCH_IF_NAME: &[u8] = b"b.";
-
-const NOP_NAME: &[u8] = b"nop";
-
 // a row's word
 macro_rules! word_of {
     ($op:expr; $type:ident; $($name:ident, $text:literal = $word:literal;)*) => {
@@ -449,7 +441,7 @@ impl Cond {
 
     fn letters(self) -> &'static [u8]
         ensures same { result.now ≡ (cond_row self).name }
-        ensures short { length result.now ≤ 14 }
+        ensures short { length result.now ≤ 2 }
     {
         conds!(name_of, self)
     }
@@ -474,15 +466,15 @@ impl Instr {
             Instr::Wide { op, .. } => Piece::of(op.name()),
             Instr::MulAdd { op, .. } => Piece::of(op.name()),
             Instr::Bitfield { op, .. } => Piece::of(op.name()),
-            Instr::Csinc { .. } => Piece::of(CSINC_NAME),
+            Instr::Csinc { .. } => Piece::of(b"csinc"),
             Instr::Reverse { op, .. } => Piece::of(op.name()),
             Instr::Scaled { op, .. } => Piece::of(op.name()),
-            Instr::Ldrx { .. } => Piece::of(LDRX_NAME),
+            Instr::Ldrx { .. } => Piece::of(b"ldrx"),
             Instr::Unscaled { op, .. } => Piece::of(op.name()),
             Instr::Branch { op, .. } => Piece::of(op.name()),
             Instr::BranchIf { cond, .. } => branch_if_name(cond),
             Instr::BranchReg { op, .. } => Piece::of(op.name()),
-            Instr::Nop => Piece::of(NOP_NAME),
+            Instr::Nop => Piece::of(b"nop"),
         }
     }
 }
@@ -490,7 +482,7 @@ impl Instr {
 fn branch_if_name(cond: Cond) -> Piece
     ensures { result ≡ branch_if_row.name ++ (cond_row cond).name }
 {
-    let mut name = Piece::of(BRANCH_IF_NAME);
+    let mut name = Piece::of(b"b.");
     name.extend(cond.letters());
     name
 }

@@ -72,6 +72,7 @@ impl FixKind {
         match self {
             FixKind::X86Rel8 => is_within(128, place as u64 + 1, target),
             FixKind::X86Rel32 => is_within(0x8000_0000, place as u64 + 4, target),
+            // the address, 0x1000_0000 and the target, has 32 bits
             FixKind::X86Abs32 | FixKind::A64MovPair => target < 0xF000_0000,
             FixKind::A64Branch26 => {
                 is_within(0x800_0000, place as u64, target) && target % 4 == place % 4
@@ -85,6 +86,7 @@ impl FixKind {
             FixKind::RvJal => {
                 is_within(0x10_0000, place as u64, target) && target % 2 == place % 2
             }
+            // the address is at most 0x7FFF_F7FF: 524,287 * 4,096 and 2,047
             FixKind::RvLuiAddi => target < 0x6FFF_F800,
         }
     }

@@ -10,6 +10,3 @@ mod words;
 
 pub use buffer::{CodeBuf, Finished};
 pub use fixes::{Fix, FixKind, Label32};
-
-#[cfg(test)]
-mod tests;

@@ -7,10 +7,10 @@ use lg_base::fault::FaultKind;
 pub enum CpuStep {
     /// The run goes on.
     Went,
-    /// The run has ended with a status.
+    /// The run has ended with a status: 0 at the stop address, else that of the host function.
     Ended(u8),
     /// The step can't be taken, and nothing changed.
     Fault(FaultKind),
-    /// A write failed.
+    /// A write failed. A part of the output may have been written, and nothing else changed.
     WriteFault,
 }

@@ -43,8 +43,10 @@ impl Cpu {
     ghost use Rattle.lg_cpu.specs.Machines.{shown, CpuSays, StepShows, after_set, after_jump, after_store};
 
     /// A processor before its first step: at the first address of the code, with the data part and the argument part in
-    /// memory and zeros elsewhere. The target is one that is built, the code has at most 67,108,864 bytes, the data part at
-    /// most 16,777,216, and the argument part is that of some words. No other call takes memory.
+    /// memory and zeros elsewhere. It finds the number of the argument part's strings and the part's address in the registers
+    /// of the first two arguments, and the trash word in every register that no convention sets. The target is RV64, which is
+    /// the one that is built; the code has at most 67,108,864 bytes, the data part at most 16,777,216, and the argument part
+    /// at most 1,048,576. No other call takes memory.
     pub fn new(
         alloc: Global,
         target: Target,

@@ -7,5 +7,3 @@ mod board;
 pub mod cpu;
 pub mod laws;
 mod riscv64;
-#[cfg(test)]
-mod tests;

@@ -16,6 +16,7 @@ use lg_base::wide::sign_part;
 use lg_base::word::sign_extend_32;
 use lg_rv::{ImmOp, Instr, RegOp, StoreOp, UpperOp, decode};
 
+// the stop address, and the first address of code
 const STOP: u64 = 0x0FE0_0000;
 
 const CODE: u64 = 0x1000_0000;
@@ -167,25 +168,25 @@ impl Riscv64 {
         }
     }
 
+    // Executes an instruction with a number of 20 bits.
+    fn act_upper(&mut self, op: UpperOp, rd: u8, imm: u32) -> CpuStep
+        requires { IsInstr (Instr.Upper op rd imm) }
+        ensures { Does (act (Instr.Upper op rd imm) (state_of self.old)) self.old self.new result }
+    {
+        let upper = sign_extend_32(u64::from(imm) * 4096);
+        match op {
+            UpperOp::Lui => self.set(rd, upper),
+            UpperOp::Auipc => self.set(rd, self.pc.wrapping_add(upper)),
+        }
+    }
+
     // Executes an instruction.
     fn act(&mut self, instr: Instr) -> CpuStep
         requires { IsInstr instr }
         ensures { Does (act instr (state_of self.old)) self.old self.new result }
     {
         match instr {
-            Instr::Upper {
-                op: UpperOp::Lui,
-                rd,
-                imm,
-            } => self.set(rd, sign_extend_32(u64::from(imm) * 4096)),
-            Instr::Upper {
-                op: UpperOp::Auipc,
-                rd,
-                imm,
-            } => self.set(
-                rd,
-                self.pc.wrapping_add(sign_extend_32(u64::from(imm) * 4096)),
-            ),
+            Instr::Upper { op, rd, imm } => self.act_upper(op, rd, imm),
             Instr::Jal { rd, offset } => self.jump(rd, self.pc.wrapping_add(sign_extended(offset))),
             Instr::Branch {
                 op,

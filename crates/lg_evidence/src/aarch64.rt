@@ -4,6 +4,7 @@ ghost use Rattle.std.specs.Prelude.{pos, ◌≤ℤ◌};
 
 use crate::table::{Found, Table, spoken};
 use lg_a64::{Instr, ScaledOp, decode, encode};
+use lg_base::piece::Piece;
 use std::alloc::{AllocError, Global};
 
 /// A64.
@@ -32,17 +33,6 @@ fn operation(alloc: Global, instr: &Instr) -> Result<String, AllocError> {
     let name = instr.name();
     match *instr {
         Instr::Reg { rd, rn, rm, .. } => spoken(alloc, &name, &[rd.into(), rn.into(), rm.into()]),
-        Instr::Imm {
-            rd,
-            rn,
-            imm,
-            shifted,
-            ..
-        } => spoken(
-            alloc,
-            &name,
-            &[rd.into(), rn.into(), imm.into(), shifted.into()],
-        ),
         Instr::Wide { rd, imm, hw, .. } => spoken(
             alloc,
             &name,
@@ -53,6 +43,36 @@ fn operation(alloc: Global, instr: &Instr) -> Result<String, AllocError> {
             &name,
             &[rd.into(), rn.into(), rm.into(), ra.into()],
         ),
+        Instr::Csinc { rd, rn, rm, cond } => spoken(
+            alloc,
+            &name,
+            &[rd.into(), rn.into(), rm.into(), cond.number().into()],
+        ),
+        Instr::Reverse { rd, rn, .. } => spoken(alloc, &name, &[rd.into(), rn.into()]),
+        Instr::Ldrx { rt, rn, rm } => spoken(alloc, &name, &[rt.into(), rn.into(), rm.into()]),
+        Instr::Branch { words, .. } => spoken(alloc, &name, &[i64::from(words) * 4]),
+        Instr::BranchIf { words, .. } => spoken(alloc, &name, &[i64::from(words) * 4]),
+        Instr::BranchReg { rn, .. } => spoken(alloc, &name, &[rn.into()]),
+        Instr::Nop => spoken(alloc, &name, &[]),
+        Instr::Imm { .. } | Instr::Bitfield { .. } => two_numbers(alloc, &name, instr),
+        Instr::Scaled { .. } | Instr::Unscaled { .. } => access(alloc, &name, instr),
+    }
+}
+
+// a row with two numbers
+fn two_numbers(alloc: Global, name: &Piece, instr: &Instr) -> Result<String, AllocError> {
+    match *instr {
+        Instr::Imm {
+            rd,
+            rn,
+            imm,
+            shifted,
+            ..
+        } => spoken(
+            alloc,
+            name,
+            &[rd.into(), rn.into(), imm.into(), shifted.into()],
+        ),
         Instr::Bitfield {
             rd,
             rn,
@@ -61,30 +81,27 @@ fn operation(alloc: Global, instr: &Instr) -> Result<String, AllocError> {
             ..
         } => spoken(
             alloc,
-            &name,
+            name,
             &[rd.into(), rn.into(), immr.into(), imms.into()],
         ),
-        Instr::Csinc { rd, rn, rm, cond } => spoken(
-            alloc,
-            &name,
-            &[rd.into(), rn.into(), rm.into(), cond.number().into()],
-        ),
-        Instr::Reverse { rd, rn, .. } => spoken(alloc, &name, &[rd.into(), rn.into()]),
+        _ => spoken(alloc, name, &[]),
+    }
+}
+
+// a load or store with a displacement
+fn access(alloc: Global, name: &Piece, instr: &Instr) -> Result<String, AllocError> {
+    match *instr {
         Instr::Scaled { op, rt, rn, imm } => spoken(
             alloc,
-            &name,
+            name,
             &[rt.into(), rn.into(), i64::from(imm) * width(op)],
         ),
-        Instr::Ldrx { rt, rn, rm } => spoken(alloc, &name, &[rt.into(), rn.into(), rm.into()]),
         Instr::Unscaled { rt, rn, imm, .. } => spoken(
             alloc,
-            &name,
+            name,
             &[rt.into(), rn.into(), imm.into()],
         ),
-        Instr::Branch { words, .. } => spoken(alloc, &name, &[i64::from(words) * 4]),
-        Instr::BranchIf { words, .. } => spoken(alloc, &name, &[i64::from(words) * 4]),
-        Instr::BranchReg { rn, .. } => spoken(alloc, &name, &[rn.into()]),
-        Instr::Nop => spoken(alloc, &name, &[]),
+        _ => spoken(alloc, name, &[]),
     }
 }
 

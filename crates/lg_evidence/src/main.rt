@@ -1,6 +1,7 @@
-// Compares the tables of the processors with evidence from outside, the files of `data`: what
-// assemblers make of each instruction, and bytes that are no instruction. Prints a line for each file,
-// and first, for each of up to twenty lines that differ, the line and what was found in its place.
+// Compares the tables of the processors and the model of RV64IM with evidence from outside, the files of
+// `data`: what assemblers make of each instruction, bytes that are no instruction, runs of a few steps, and
+// whole programs. Prints a line for each file, and first, for each of up to twenty lines that differ, the
+// line and what was found in its place.
 #![tactic(auto)]
 
 mod aarch64;

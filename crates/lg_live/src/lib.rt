@@ -2,6 +2,4 @@
 #![tactic(auto)]
 
 pub mod reg_set;
-#[cfg(test)]
-mod tests;
 pub mod uses;

@@ -42,7 +42,7 @@ word_of (Reg op rd rs1 rs2) = base_of (reg_row op) + rd * 2 ^ 7 + rs1 * 2 ^ 15 +
 abbrev pub spelling : Instr → List ℕ
 spelling i = to_le_bytes w32 (word_of i)
 
--- the numbers are in the row's ranges
+-- the numbers are in the row's ranges; distances are even, and a shift on 32 bits is by at most 31
 abbrev pub IsInstr : Instr → Type 0
 IsInstr (Upper op rd imm) = (rd < 32) × (imm < 2 ^ 20)
 IsInstr (Jal rd offset) =

@@ -6,7 +6,7 @@
 /// Set", "RV64I Base Integer Instruction Set" and "M Extension".
 #[derive(Clone, Copy, PartialEq, Eq, Debug)]
 pub enum Instr {
-    /// `imm`, 0 to 1,048,575, is bits 12 to 31 of a number of 32 bits.
+    /// `imm`, 0 to 1,048,575, is bits 12 to 31 of a number of 32 bits, whose others are 0.
     Upper {
         op: UpperOp,
         rd: u8,
@@ -24,14 +24,14 @@ pub enum Instr {
         rs2: u8,
         offset: i32,
     },
-    /// `imm` is from -2,048 to 2,047. Of a load it is the displacement from `rs1`.
+    /// `imm` is from -2,048 to 2,047. Of `jalr` and of a load it is the displacement from `rs1`.
     Imm {
         op: ImmOp,
         rd: u8,
         rs1: u8,
         imm: i32,
     },
-    /// `amount` is from 0 to 63, and to 31 on 32 bits.
+    /// `rs1` is shifted by `amount`, 0 to 63, and to 31 in the rows on 32 bits.
     Shift {
         op: ShiftOp,
         rd: u8,

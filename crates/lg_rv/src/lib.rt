@@ -12,6 +12,3 @@ mod rows;
 pub use decoder::decode;
 pub use encoder::encode;
 pub use instruction::{BranchOp, ImmOp, Instr, RegOp, ShiftOp, StoreOp, UpperOp};
-
-#[cfg(test)]
-mod tests;

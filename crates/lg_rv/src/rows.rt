@@ -24,8 +24,6 @@ pub(crate) const JAL: Fixed = Fixed {
     high: 0,
 };
 
-const JAL_NAME: &[u8] = b"jal";
-
 // what a row fixes
 macro_rules! fixed_of {
     ($op:expr; $type:ident; $($name:ident, $text:literal = $opcode:literal, $funct3:literal, $high:literal;)*) => {
@@ -301,7 +299,7 @@ impl Instr {
     {
         match *self {
             Instr::Upper { op, .. } => Piece::of(op.name()),
-            Instr::Jal { .. } => Piece::of(JAL_NAME),
+            Instr::Jal { .. } => Piece::of(b"jal"),
             Instr::Branch { op, .. } => Piece::of(op.name()),
             Instr::Imm { op, .. } => Piece::of(op.name()),
             Instr::Shift { op, .. } => Piece::of(op.name()),

@@ -1,7 +1,6 @@
 // What a node's temporaries need, and which registers they take.
 
-ghost use Rattle.std.specs.Prelude.{◌≡◌, ◌<◌, ◌≤◌, ◌+◌, [], ◌∷◌, ◌++◌, length, slice_set};
-ghost use Rattle.std.specs.Prelude.{true, false, replicate};
+ghost use Rattle.std.specs.Prelude.{◌≡◌, ◌<◌, ◌≤◌, ◌+◌, [], ◌∷◌, ◌++◌, length, replicate, slice_set, true, false};
 
 use std::marker::Model;
 

@@ -1,13 +1,11 @@
-//! When code agrees with the meaning of its text: the definitions that the code of every target shares, and
-//! the induction that leads from single portable steps to whole runs.
+//! What the code of every target shares: the calling conventions, the registers that a node's temporaries take, when
+//! code agrees with the meaning of its text, and the induction that leads from single portable steps to whole runs.
 #![tactic(auto)]
 
 pub mod abi;
 pub mod choice;
 pub mod choose;
 pub mod laws;
-#[cfg(test)]
-mod tests;
 
 ghost use Rattle.std.specs.Prelude.{◌≡◌, ℕ};
 ghost use Rattle.lg_base.specs.Runs.{Machine, IsMachine, EndsSilently};

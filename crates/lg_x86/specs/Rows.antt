@@ -183,6 +183,48 @@ bare_row Nop = prefix_row (codes "nop") false Plain false 0x90
 abbrev pub bare_ops : List BareOp
 bare_ops = Cqo ∷ Ret ∷ Nop ∷ []
 
+-- the rows that stand alone: the sum of two registers as an address; numbers to a register, of which the opcode is
+-- that of the first register, but for movs32, which has digit 0; a register's bytes in reverse order, with the byte 0F
+-- in front of the opcode of the first register; and a jump by a distance of 8 bits
+abbrev pub lea2_row : Row
+lea2_row = row (codes "lea2") 0x8d
+
+abbrev pub movi32_row : Row
+movi32_row = row (codes "movi32") 0xb8
+
+abbrev pub movs32_row : Row
+movs32_row = row (codes "movs32") 0xc7
+
+abbrev pub movi64_row : Row
+movi64_row = row (codes "movi64") 0xb8
+
+abbrev pub bswap_row : Row
+bswap_row = row (codes "bswap") 0xc8
+
+abbrev pub jump_short_row : Row
+jump_short_row = row (codes "jmp8") 0xeb
+
+-- a row with a condition: what stands before and behind the condition's letters in the name, and the opcode of
+-- condition 0
+pub record ConditionRow : Type 0 where
+  pub before : List ℕ
+  pub behind : List ℕ
+  pub opcode : ℕ
+
+abbrev pub condition_row : List ℕ → List ℕ → ℕ → ConditionRow
+condition_row before behind opcode = record { before = before; behind = behind; opcode = opcode }
+
+-- jumps by a distance of 8 bits and of 32, and the setting of a register's low byte, which has digit 0; the byte 0F
+-- stands in front of the opcodes of the last two
+abbrev pub jump_if_short_row : ConditionRow
+jump_if_short_row = condition_row (codes "j") (codes "8") 0x70
+
+abbrev pub jump_if_near_row : ConditionRow
+jump_if_near_row = condition_row (codes "j") (codes "32") 0x80
+
+abbrev pub set_row : ConditionRow
+set_row = condition_row (codes "set") (codes "") 0x90
+
 -- the conditions: the letters in names, and the number by which opcodes are raised (volume 1, appendix B)
 abbrev pub cond_row : Cond → Row
 cond_row Overflow = row (codes "o") 0

@@ -2,14 +2,14 @@
 -- chapter 2, "Instruction Format"): prefixes, REX, the opcode, ModRM, SIB, displacement, immediate.
 -- Numbers stand with the lowest byte first, and where a short and a long form would both do, the short
 -- one.
-use Rattle.std.specs.Prelude.{ℕ, ◌+◌, ◌*◌, ◌/◌, ◌%◌, ◌^◌, ◌<◌, ◌≡◌, ◌≢◌, ◌==◌, Bool, true, false, ℤ, pos, negsuc, ◌≤ℤ◌, nat_lt, List, [], ◌∷◌, ◌++◌, if◌then◌else◌, codes}
+use Rattle.std.specs.Prelude.{ℕ, ◌+◌, ◌*◌, ◌/◌, ◌%◌, ◌^◌, ◌<◌, ◌≡◌, ◌≢◌, ◌==◌, Bool, true, false, ℤ, pos, negsuc, ◌≤ℤ◌, nat_lt, List, [], ◌∷◌, ◌++◌, if◌then◌else◌}
 use Rattle.std.specs.Int.{w32, w64, to_le_bytes}
 use Rattle.lg_base.specs.Fields.{bits_of}
 use Rattle.lg_x86.specs.declared.rows.Mark.{Mark}
 use Rattle.lg_x86.specs.declared.rows.Mark.TheVariants.{Wide, Low, Plain}
 use Rattle.lg_x86.specs.declared.instruction.Instr.{Instr}
 use Rattle.lg_x86.specs.declared.instruction.Instr.TheVariants.{RmReg, Imm, RegRm, Load, Store, Lea2, Movi32, Movs32, Movi64, Unary, Shift, Bswap, Stack, JumpIfShort, JumpIfNear, Set, JumpShort, JumpNear, JumpReg, Bare}
-use Rattle.lg_x86.specs.Rows.{rm_reg_row, imm_row, reg_rm_row, load_row, store_row, unary_row, shift_row, stack_row, jump_near_row, jump_reg_row, bare_row, cond_row}
+use Rattle.lg_x86.specs.Rows.{rm_reg_row, imm_row, reg_rm_row, load_row, store_row, unary_row, shift_row, stack_row, jump_near_row, jump_reg_row, bare_row, lea2_row, movi32_row, movs32_row, movi64_row, bswap_row, jump_short_row, jump_if_short_row, jump_if_near_row, set_row, cond_row}
 
 -- the name of an instruction's row; some have the letters of a condition in them
 abbrev pub name_of : Instr → List ℕ
@@ -18,18 +18,18 @@ name_of (Imm op rm imm) = (imm_row op).name
 name_of (RegRm op reg rm) = (reg_rm_row op).name
 name_of (Load op reg base disp) = (load_row op).name
 name_of (Store op base disp reg) = (store_row op).name
-name_of (Lea2 reg base index) = codes "lea2"
-name_of (Movi32 reg imm) = codes "movi32"
-name_of (Movs32 rm imm) = codes "movs32"
-name_of (Movi64 reg imm) = codes "movi64"
+name_of (Lea2 reg base index) = lea2_row.name
+name_of (Movi32 reg imm) = movi32_row.name
+name_of (Movs32 rm imm) = movs32_row.name
+name_of (Movi64 reg imm) = movi64_row.name
 name_of (Unary op rm) = (unary_row op).name
 name_of (Shift op rm count) = (shift_row op).name
-name_of (Bswap reg) = codes "bswap"
+name_of (Bswap reg) = bswap_row.name
 name_of (Stack op reg) = (stack_row op).name
-name_of (JumpIfShort cond distance) = codes "j" ++ (cond_row cond).name ++ codes "8"
-name_of (JumpIfNear cond distance) = codes "j" ++ (cond_row cond).name ++ codes "32"
-name_of (Set cond rm) = codes "set" ++ (cond_row cond).name ++ codes ""
-name_of (JumpShort distance) = codes "jmp8"
+name_of (JumpIfShort cond distance) = jump_if_short_row.before ++ (cond_row cond).name ++ jump_if_short_row.behind
+name_of (JumpIfNear cond distance) = jump_if_near_row.before ++ (cond_row cond).name ++ jump_if_near_row.behind
+name_of (Set cond rm) = set_row.before ++ (cond_row cond).name ++ set_row.behind
+name_of (JumpShort distance) = jump_short_row.name
 name_of (JumpNear op distance) = (jump_near_row op).name
 name_of (JumpReg op rm) = (jump_reg_row op).name
 name_of (Bare op) = (bare_row op).name
@@ -98,18 +98,18 @@ spelling (Imm op rm imm) = rex Wide (extension 0 0 rm) ++ (imm_opcode imm ∷ mo
 spelling (RegRm op reg rm) = rex (reg_rm_row op).mark (extension reg 0 rm) ++ opcode_bytes (reg_rm_row op).escaped (reg_rm_row op).opcode ++ (modrm 3 reg rm ∷ [])
 spelling (Load op reg base disp) = rex (load_row op).mark (extension reg 0 base) ++ opcode_bytes (load_row op).escaped (load_row op).opcode ++ memory reg base disp
 spelling (Store op base disp reg) = size_prefix (store_row op).word_sized ++ rex (store_row op).mark (extension reg 0 base) ++ ((store_row op).opcode ∷ []) ++ memory reg base disp
-spelling (Lea2 reg base index) = rex Wide (extension reg index base) ++ (0x8d ∷ modrm 1 reg 4 ∷ sib index base ∷ 0 ∷ [])
-spelling (Movi32 reg imm) = rex Plain (extension 0 0 reg) ++ ((0xb8 + reg % 8) ∷ []) ++ to_le_bytes w32 imm
-spelling (Movs32 rm imm) = rex Wide (extension 0 0 rm) ++ (0xc7 ∷ modrm 3 0 rm ∷ []) ++ long_bytes imm
-spelling (Movi64 reg imm) = rex Wide (extension 0 0 reg) ++ ((0xb8 + reg % 8) ∷ []) ++ to_le_bytes w64 imm
+spelling (Lea2 reg base index) = rex Wide (extension reg index base) ++ (lea2_row.number ∷ modrm 1 reg 4 ∷ sib index base ∷ 0 ∷ [])
+spelling (Movi32 reg imm) = rex Plain (extension 0 0 reg) ++ ((movi32_row.number + reg % 8) ∷ []) ++ to_le_bytes w32 imm
+spelling (Movs32 rm imm) = rex Wide (extension 0 0 rm) ++ (movs32_row.number ∷ modrm 3 0 rm ∷ []) ++ long_bytes imm
+spelling (Movi64 reg imm) = rex Wide (extension 0 0 reg) ++ ((movi64_row.number + reg % 8) ∷ []) ++ to_le_bytes w64 imm
 spelling (Unary op rm) = rex Wide (extension 0 0 rm) ++ ((unary_row op).opcode ∷ modrm 3 (unary_row op).digit rm ∷ [])
 spelling (Shift op rm count) = rex Wide (extension 0 0 rm) ++ (0xc1 ∷ modrm 3 (shift_row op).number rm ∷ count ∷ [])
-spelling (Bswap reg) = rex Wide (extension 0 0 reg) ++ (0x0f ∷ (0xc8 + reg % 8) ∷ [])
+spelling (Bswap reg) = rex Wide (extension 0 0 reg) ++ (0x0f ∷ (bswap_row.number + reg % 8) ∷ [])
 spelling (Stack op reg) = rex Plain (extension 0 0 reg) ++ (((stack_row op).number + reg % 8) ∷ [])
-spelling (JumpIfShort cond distance) = (0x70 + (cond_row cond).number) ∷ short_bytes distance
-spelling (JumpIfNear cond distance) = 0x0f ∷ (0x80 + (cond_row cond).number) ∷ long_bytes distance
-spelling (Set cond rm) = rex Low (extension 0 0 rm) ++ (0x0f ∷ (0x90 + (cond_row cond).number) ∷ modrm 3 0 rm ∷ [])
-spelling (JumpShort distance) = 0xeb ∷ short_bytes distance
+spelling (JumpIfShort cond distance) = (jump_if_short_row.opcode + (cond_row cond).number) ∷ short_bytes distance
+spelling (JumpIfNear cond distance) = 0x0f ∷ (jump_if_near_row.opcode + (cond_row cond).number) ∷ long_bytes distance
+spelling (Set cond rm) = rex Low (extension 0 0 rm) ++ (0x0f ∷ (set_row.opcode + (cond_row cond).number) ∷ modrm 3 0 rm ∷ [])
+spelling (JumpShort distance) = jump_short_row.number ∷ short_bytes distance
 spelling (JumpNear op distance) = (jump_near_row op).number ∷ long_bytes distance
 spelling (JumpReg op rm) = rex Plain (extension 0 0 rm) ++ (0xff ∷ modrm 3 (jump_reg_row op).number rm ∷ [])
 spelling (Bare op) = rex (bare_row op).mark 0 ++ ((bare_row op).opcode ∷ [])

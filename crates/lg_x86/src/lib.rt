@@ -15,6 +15,3 @@ pub use instruction::{
     BareOp, Cond, ImmOp, Instr, JumpNearOp, JumpRegOp, LoadOp, RegRmOp, RmRegOp, ShiftOp, StackOp,
     StoreOp, UnaryOp,
 };
-
-#[cfg(test)]
-mod tests;

@@ -4,12 +4,9 @@ ghost use Rattle.std.specs.Prelude.{◌≡◌, ◌≤◌, length, slice_index, i
 ghost use Rattle.lg_cpu.specs.RvStep.{start_registers};
 
 use crate::board::Board;
-use crate::riscv64::Riscv64;
+use crate::riscv64::{CODE, Riscv64, STOP};
 
-const STOP: u64 = 0x0FE0_0000;
-
-const CODE: u64 = 0x1000_0000;
-
+// the first address of the argument part, and the address behind the stack
 const ARGS: u64 = 0x2800_0000;
 
 const STACK_END: u64 = 0x4000_0000;
