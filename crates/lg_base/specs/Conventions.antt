@@ -1,4 +1,5 @@
--- The calling conventions: registers by their numbers. R0, R1, R2, V0, V1, V2 are the numbers 0 to 5.
+-- The calling conventions, System V AMD64, AAPCS64 and the integer convention of RISC-V, with registers by their numbers. Which registers
+-- stand for R0, R1, R2, V0, V1, V2 (the numbers 0 to 5) and for the carry is this assembler's choice.
 use Rattle.std.specs.Prelude.{ℕ, ◌-◌, List, [], ◌∷◌, length, slice_index, slice_get, Option, Some, None, Bool, nat_eq}
 use Rattle.std.specs.List.{list_any}
 use Rattle.lg_base.specs.declared.target.Target.{Target}

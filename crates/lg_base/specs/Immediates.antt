@@ -1,4 +1,5 @@
--- The scattered immediates of RV64 instruction words, as the bits of a signed number.
+-- The scattered immediates of RV64 instruction words, as the bits of a signed number (RISC-V unprivileged ISA, "Immediate Encoding
+-- Variants": the S, B and J forms).
 use Rattle.std.specs.Prelude.{ℕ, ◌+◌, ◌*◌, ◌^◌}
 use Rattle.lg_base.specs.Fields.{part}
 

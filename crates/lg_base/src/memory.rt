@@ -203,6 +203,7 @@ impl Space for Memory {
     }
 
     fn raise(&mut self, mark: u64) {
+        // the whole heap can be written from the start
         let _ = &self.heap;
     }
 }

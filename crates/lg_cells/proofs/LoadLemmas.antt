@@ -2,6 +2,7 @@
 use Rattle.std.proofs.Common.{◌≡◌, ℕ, zero, suc, ◌+◌, ◌*◌, ◌^◌, ◌<◌, ◌≤◌, Bool, true, false, Option, Some, None, refl, sym, ap, ◌∙◌, arith}
 use Rattle.std.specs.Prelude.{◌&&◌, is_some, if◌then◌else◌}
 use Rattle.std.proofs.Math.Nat.{pow-le-pow_right}
+use Rattle.std.proofs.lemmas.Bool.{and_parts}
 use Rattle.lg_base.specs.Spaces.{mapped, number_at, byte_or_zero, loaded}
 use Rattle.lg_cells.specs.Memories.{writable}
 
@@ -42,22 +43,14 @@ pub writable_step : (p : ℕ → Bool) (a k b n : ℕ) → b ≡ a + 1 → k ≡
 unfolding writable
 writable_step p a k b n e f = rw (e, f)
 
-and_left : (b c : Bool) → b && c ≡ true → b ≡ true
-and_left true c h = refl
-and_left false c h = h
-
-and_right : (b c : Bool) → b && c ≡ true → c ≡ true
-and_right true c h = h
-and_right false c h = cc
-
 -- each of the addresses can be written
 pub writable_at : (p : ℕ → Bool) (a w j : ℕ) → writable p a w ≡ true → j < w → p (a + j) ≡ true
 unfolding writable
 writable_at p a zero j h lt = absurd (omega arith)
-writable_at p a (suc w) zero h lt = let e : a + 0 ≡ a = omega arith in ap p e ∙ and_left (p a) (writable p (a + 1) w) h
+writable_at p a (suc w) zero h lt = let e : a + 0 ≡ a = omega arith in ap p e ∙ (and_parts (p a) (writable p (a + 1) w) h).0
 writable_at p a (suc w) (suc j) h lt =
     let e : a + suc j ≡ a + 1 + j = omega arith in
-    ap p e ∙ writable_at p (a + 1) w j (and_right (p a) (writable p (a + 1) w) h) (omega arith)
+    ap p e ∙ writable_at p (a + 1) w j (and_parts (p a) (writable p (a + 1) w) h).1 (omega arith)
 
 pub writable_fails : (p : ℕ → Bool) (a k b n : ℕ) → b ≡ a + 1 → k ≡ suc n → p a ≡ false → writable p a k ≡ false
 writable_fails p a k b n e f h = writable_step p a k b n e f ∙ rw h

@@ -6,6 +6,3 @@ mod memory;
 
 pub use cell::Cell;
 pub use memory::CellMemory;
-
-#[cfg(test)]
-mod tests;

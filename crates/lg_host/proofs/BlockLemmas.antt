@@ -1,7 +1,7 @@
 -- Ranges of bytes: whether all can be read or written, and one more byte that is copied or set.
 use Rattle.std.proofs.Common.{◌≡◌, ℕ, zero, suc, ◌+◌, ◌-◌, ◌<◌, ◌≤◌, Bool, true, false, Option, Some, None, refl, sym, ap, ◌∙◌, ⊎_elim, arith}
 use Rattle.std.specs.Prelude.{◌==◌, ◌&&◌, ◌||◌, is_some, unwrap_or, if◌then◌else◌}
-use Rattle.std.proofs.lemmas.Bool.{cases_eq, ne_eqb, false≢true}
+use Rattle.std.proofs.lemmas.Bool.{cases_eq, ne_eqb, false≢true, or_right, and_parts}
 use mathlib.Core.Path.{fun_ext}
 use Rattle.lg_base.specs.Spaces.{put_some, mapped, in_heap, raised}
 use Rattle.lg_base.proofs.SpaceLemmas.{mapped-each}
@@ -48,14 +48,10 @@ can_write-yes w a n i lt is =
     let e : a + i + 1 ≡ a + (i + 1) = omega arith in
     can_write-suc w (a + i) (n - i) (n - (i + 1)) (omega arith) ∙ ap (λ o. o && can_write w (a + i + 1) (n - (i + 1))) is ∙ ap (λ x. can_write w x (n - (i + 1))) e
 
-pub both : (x y : Bool) → (x && y) ≡ true → (x ≡ true) × (y ≡ true)
-both true y e = (refl, e)
-both false y e = (e, absurd (false≢true e))
-
 pub can_write-at : (w : ℕ → Bool) (a n i : ℕ) → can_write w a n ≡ true → i < n → w (a + i) ≡ true
 can_write-at w a zero i h lt = absurd (omega arith)
-can_write-at w a (suc n) zero h lt = let e : a ≡ a + 0 = omega arith in ap w (sym e) ∙ (both (w a) (can_write w (a + 1) n) (sym (can_write-suc w a (suc n) n refl) ∙ h)).0
-can_write-at w a (suc n) (suc i) h lt = let e : a + suc i ≡ a + 1 + i = omega arith in ap w e ∙ can_write-at w (a + 1) n i (both (w a) (can_write w (a + 1) n) (sym (can_write-suc w a (suc n) n refl) ∙ h)).1 (omega arith)
+can_write-at w a (suc n) zero h lt = let e : a ≡ a + 0 = omega arith in ap w (sym e) ∙ (and_parts (w a) (can_write w (a + 1) n) (sym (can_write-suc w a (suc n) n refl) ∙ h)).0
+can_write-at w a (suc n) (suc i) h lt = let e : a + suc i ≡ a + 1 + i = omega arith in ap w e ∙ can_write-at w (a + 1) n i (and_parts (w a) (can_write w (a + 1) n) (sym (can_write-suc w a (suc n) n refl) ∙ h)).1 (omega arith)
 
 pub can_write-all : (w : ℕ → Bool) (a n : ℕ) → ((j : ℕ) → a ≤ j → j < a + n → w j ≡ true) → can_write w a n ≡ true
 can_write-all w a zero h = can_write-zero w a zero refl
@@ -127,10 +123,6 @@ copy-more new m0 m w r d s n i v lt can read apart got is e told =
     e ∙ ap (λ t. if t then put_some m (d + i) v else m) (is ∙ can_write-at w d n i can lt) ∙ ap (λ f. put_some f (d + i) v) told ∙ fun_ext (λ j. copied-at m0 d s i v j value)
 
 -- ---- fresh heap can be written
-or-true : (x y : Bool) → y ≡ true → (x || y) ≡ true
-or-true true y e = refl
-or-true false y e = e
-
 heap-in : (mark n a j : ℕ) → a ≡ mark → 0x30000000 ≤ a → a ≤ j → j < a + n → in_heap (mark + rounded n) j ≡ true
 heap-in mark n a j e low p q = grind arith
 
@@ -140,4 +132,4 @@ mark-rises mark n = ne_eqb (mark + rounded n) mark (λ e. omega arith)
 pub fresh-heap : (new w : ℕ → Bool) (mark n a : ℕ) → new ≡ (if (mark + rounded n) == mark then w else raised w (mark + rounded n)) → a ≡ mark → 0x30000000 ≤ a → can_write new a n ≡ true
 fresh-heap new w mark n a is e low =
     ap (λ f. can_write f a n) (is ∙ ap (λ t. if t then w else raised w (mark + rounded n)) (mark-rises mark n))
-    ∙ can_write-all (raised w (mark + rounded n)) a n (λ j p q. or-true (w j) (in_heap (mark + rounded n) j) (heap-in mark n a j e low p q))
+    ∙ can_write-all (raised w (mark + rounded n)) a n (λ j p q. or_right (w j) (in_heap (mark + rounded n) j) (heap-in mark n a j e low p q))

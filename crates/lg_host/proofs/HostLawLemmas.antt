@@ -2,6 +2,7 @@
 use Rattle.std.proofs.Common.{◌≡◌, ℕ, zero, suc, ◌+◌, ◌-◌, ◌*◌, ◌%◌, ◌^◌, ◌<◌, ◌≤◌, Bool, true, false, List, [], ◌∷◌, ◌++◌, length, drop, Option, Some, None, refl, sym, ap, ap₂, ◌∙◌, inl, inr, arith, length-append}
 use Rattle.std.specs.Prelude.{◌==◌, nat_lt, nat_le, ◌&&◌, not, IfSome, slice_index, if◌then◌else◌}
 use Rattle.std.specs.Option.{option_map}
+use Rattle.std.proofs.lemmas.Bool.{and_parts}
 use Rattle.lg_base.specs.Spaces.{mapped}
 use Rattle.lg_base.specs.declared.host_name.HostName.{HostName}
 use Rattle.lg_base.specs.declared.host_name.HostName.TheVariants as host
@@ -11,7 +12,7 @@ use Rattle.lg_host.specs.Blocks.{Changes, unchanged, in_range, copied, filled, c
 use Rattle.lg_host.specs.Printed.{printed_at}
 use Rattle.lg_host.specs.Host.{Mem, Host, Gives, Undefined, int_answer, answered, text, heap_end, rounded, fits, malloc, calloc, memset, memcpy, named, table, host_of}
 use Rattle.lg_host.specs.HostLaws.{Extends, IsLarger, IsDefined, IsKept, OnGives, IsAllowed, AnswersAllowed}
-use Rattle.lg_host.proofs.BlockLemmas.{both, can_write-at}
+use Rattle.lg_host.proofs.BlockLemmas.{can_write-at}
 use Rattle.lg_host.proofs.LargerLemmas.{run-begins, string-extends, compared-extends, atoi-extends, printed_at-extends, mapped-extends, can_write-extends, copied-extends, Extends-map}
 use Rattle.lg_host.specs.declared.format.Reading.TheVariants as reading
 
@@ -30,7 +31,7 @@ memset-kept m m' to w n l d = by (n == 0) (is_below_end to n && can_write m.room
     by : (t c : Bool) → (n == 0) ≡ t → (is_below_end to n && can_write m.room to n) ≡ c → IsDefined (if t then Gives to unchanged m.mark [] else if c then Gives to (filled to (w % 256) n) m.mark [] else Undefined) → memset m' to w n ≡ memset m to w n
     by true c e f d = rw e (ap (λ k. Gives to unchanged k []) l.mark)
     by false true e f d =
-        let p = both (is_below_end to n) (can_write m.room to n) f in
+        let p = and_parts (is_below_end to n) (can_write m.room to n) f in
         let g : (is_below_end to n && can_write m'.room to n) ≡ true = ap₂ (λ x y. x && y) p.0 (can_write-extends m.room m'.room to n l.room p.1) in
         rw (e, f, g) (ap (λ k. Gives to (filled to (w % 256) n) k []) l.mark)
     by false false e f d = absurd d
@@ -45,8 +46,8 @@ memcpy-kept m m' to from n l d = by (n == 0) (can_copy m to from n) refl refl d
     by true c e f d = rw e (ap (λ k. Gives to unchanged k []) l.mark)
     by false true e f d =
         let head = is_below_end to n && is_below_end from n && not (overlaps to from n) in
-        let p = both (head && mapped m.bytes from n) (can_write m.room to n) f in
-        let q = both head (mapped m.bytes from n) p.0 in
+        let p = and_parts (head && mapped m.bytes from n) (can_write m.room to n) f in
+        let q = and_parts head (mapped m.bytes from n) p.0 in
         let g : can_copy m' to from n ≡ true = ap₂ (λ x y. x && y) (ap₂ (λ x y. x && y) q.0 (mapped-extends m.bytes m'.bytes from n l.bytes q.1)) (can_write-extends m.room m'.room to n l.room p.1) in
         rw (e, f, g) (ap₂ (λ c k. Gives to c k []) (copied-extends m.bytes m'.bytes to from n l.bytes q.1) l.mark)
     by false false e f d = absurd d
@@ -211,14 +212,14 @@ memset-allowed : (m : Mem) (to w n : ℕ) → to < 2 ^ 64 → m.mark ≤ heap_en
 memset-allowed m to w n lt le = on-if (n == 0) (Gives to unchanged m.mark []) (if is_below_end to n && can_write m.room to n then Gives to (filled to (w % 256) n) m.mark [] else Undefined) (IsAllowed m)
     (λ e. unchanged-allowed m to [] lt le)
     (λ e. on-if (is_below_end to n && can_write m.room to n) (Gives to (filled to (w % 256) n) m.mark []) Undefined (IsAllowed m)
-    (λ c. let p = both (is_below_end to n) (can_write m.room to n) c in record { word = lt; written = λ a b is. let t = filled-there to (w % 256) n a b is in (omega (arith, t.0), inl (can_write-there m.room to n a p.1 t.1 t.2)); rises = omega arith; within = le })
+    (λ c. let p = and_parts (is_below_end to n) (can_write m.room to n) c in record { word = lt; written = λ a b is. let t = filled-there to (w % 256) n a b is in (omega (arith, t.0), inl (can_write-there m.room to n a p.1 t.1 t.2)); rises = omega arith; within = le })
     (λ c. tt))
 
 memcpy-allowed : (m : Mem) (to from n : ℕ) → ((a b : ℕ) → m.bytes a ≡ Some b → b < 256) → to < 2 ^ 64 → m.mark ≤ heap_end → OnGives (memcpy m to from n) (IsAllowed m)
 memcpy-allowed m to from n bytes lt le = on-if (n == 0) (Gives to unchanged m.mark []) (if can_copy m to from n then Gives to (copied m.bytes to from n) m.mark [] else Undefined) (IsAllowed m)
     (λ e. unchanged-allowed m to [] lt le)
     (λ e. on-if (can_copy m to from n) (Gives to (copied m.bytes to from n) m.mark []) Undefined (IsAllowed m)
-    (λ c. let p = both (is_below_end to n && is_below_end from n && not (overlaps to from n) && mapped m.bytes from n) (can_write m.room to n) c in record { word = lt; written = λ a b is. let t = copied-there m.bytes to from n a b is in (bytes (from + (a - to)) b t.0, inl (can_write-there m.room to n a p.1 t.1 t.2)); rises = omega arith; within = le })
+    (λ c. let p = and_parts (is_below_end to n && is_below_end from n && not (overlaps to from n) && mapped m.bytes from n) (can_write m.room to n) c in record { word = lt; written = λ a b is. let t = copied-there m.bytes to from n a b is in (bytes (from + (a - to)) b t.0, inl (can_write-there m.room to n a p.1 t.1 t.2)); rises = omega arith; within = le })
     (λ c. tt))
 
 table-allowed : (name : HostName) (a b c : ℕ) (args : List ℕ) (v : Bool) (m : Mem) → a < 2 ^ 64 → ((a b : ℕ) → m.bytes a ≡ Some b → b < 256) → m.mark ≤ heap_end → OnGives (table name a b c args v m) (IsAllowed m)

@@ -1,9 +1,10 @@
 -- A format prints what its pieces give, and what prints anything is spelled by pieces.
-use Rattle.std.proofs.Common.{◌≡◌, ◌⊎◌, ℕ, ◌+◌, ◌-◌, ◌*◌, ◌≤◌, Bool, true, false, List, [], ◌∷◌, ◌++◌, Option, Some, None, refl, ap, ap₂, ◌∙◌, ⊎_elim, arith, append_assoc}
+use Rattle.std.proofs.Common.{◌≡◌, ◌⊎◌, ℕ, ◌+◌, ◌-◌, ◌*◌, ◌≤◌, Bool, true, false, List, [], ◌∷◌, ◌++◌, Option, Some, None, refl, sym, ap, ap₂, ◌∙◌, ⊎_elim, arith, append_assoc}
 use Rattle.std.specs.Prelude.{◌==◌, ◌||◌, nat_le, if◌then◌else◌}
 use Rattle.std.specs.Option.{option_map}
 use Rattle.std.specs.Fmt.{◌++?◌}
 use Rattle.std.proofs.lemmas.Bool.{ne_eqb}
+use Rattle.std.proofs.Math.Bool.{or-false}
 use Rattle.lg_host.specs.Runs.{Bytes}
 use Rattle.lg_host.specs.Strings.{is_digit}
 use Rattle.lg_host.specs.Formats.{number_letter, at_width, with_digit, plain_style, next_of}
@@ -66,11 +67,7 @@ after-flags m s (f ∷ fs) rest args h =
 
 -- what the flags leave
 flagged-is : (s : Style) (fs : List ℕ) → AreFlags fs → flagged s fs ≡ record { left = s.left || has_flag 45 fs; zero = s.zero || has_flag 48 fs; width = s.width }
-flagged-is s [] h = ap₂ (λ (l z : Bool). let t : Style = record { left = l; zero = z; width = s.width } in t) (or-false s.left) (or-false s.zero)
-  where
-    or-false : (x : Bool) → x ≡ (x || false)
-    or-false true = refl
-    or-false false = refl
+flagged-is s [] h = ap₂ (λ (l z : Bool). let t : Style = record { left = l; zero = z; width = s.width } in t) (sym (or-false s.left)) (sym (or-false s.zero))
 flagged-is s (f ∷ fs) h = ⊎_elim
     (λ (e : f ≡ 45). rw e (flagged-is record { left = true; zero = s.zero; width = s.width } fs h.1 ∙ ap (λ (l : Bool). let t : Style = record { left = l; zero = s.zero || has_flag 48 fs; width = s.width } in t) (or-true s.left)))
     (λ (e : f ≡ 48). rw e (flagged-is record { left = s.left; zero = true; width = s.width } fs h.1 ∙ ap (λ (z : Bool). let t : Style = record { left = s.left || has_flag 45 fs; zero = z; width = s.width } in t) (or-true s.zero)))

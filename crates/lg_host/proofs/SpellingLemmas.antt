@@ -4,6 +4,7 @@ use Rattle.std.specs.Prelude.{◌==◌, ◌||◌, nat_le, if◌then◌else◌}
 use Rattle.std.specs.Option.{option_map}
 use Rattle.std.proofs.lemmas.Bool.{false≢true}
 use Rattle.std.proofs.lemmas.List.{append-nil}
+use Rattle.std.proofs.Math.Bool.{or-false}
 use Rattle.lg_io.specs.declared.digits.Radix.TheVariants as radix
 use Rattle.lg_host.specs.Runs.{Bytes}
 use Rattle.lg_host.specs.Strings.{is_digit}
@@ -159,10 +160,6 @@ flags-more (x ∷ xs) f h k = (h.0, flags-more xs f h.1 k)
 
 has_flag-more : (flag : ℕ) (fs : List ℕ) (f : ℕ) → has_flag flag (fs ++ f ∷ []) ≡ (has_flag flag fs || f == flag)
 has_flag-more flag [] f = or-false (f == flag)
-  where
-    or-false : (x : Bool) → (x || false) ≡ x
-    or-false true = refl
-    or-false false = refl
 has_flag-more flag (x ∷ xs) f = ap (λ t. x == flag || t) (has_flag-more flag xs f) ∙ or-assoc (x == flag) (has_flag flag xs) (f == flag)
   where
     or-assoc : (a b c : Bool) → (a || (b || c)) ≡ ((a || b) || c)
@@ -188,15 +185,11 @@ flags-after s text o b none =
     let left : Style = record { left = true; zero = s.zero; width = s.width } in
     let zeros : Style = record { left = s.left; zero = true; width = s.width } in
     after-if (b == 45) (next.Reads (reading.Flags left)) (if b == 48 then next.Reads (reading.Flags zeros) else at_width s b) (text ++ b ∷ [])
-    (λ t. let e : b ≡ 45 = grind arith in flag-opens s left text o b none (inl e) (o.zero_is ∙ or-no (has_flag 48 o.flags) ∙ ap (λ x. has_flag 48 o.flags || x == 48) (sym e) ∙ sym (has_flag-more 48 o.flags b)) refl)
+    (λ t. let e : b ≡ 45 = grind arith in flag-opens s left text o b none (inl e) (o.zero_is ∙ sym (or-false (has_flag 48 o.flags)) ∙ ap (λ x. has_flag 48 o.flags || x == 48) (sym e) ∙ sym (has_flag-more 48 o.flags b)) refl)
     (λ u. after-if (b == 48) (next.Reads (reading.Flags zeros)) (at_width s b) (text ++ b ∷ [])
     (λ t. let e : b ≡ 48 = grind arith in flag-opens s zeros text o b none (inr e) (or-yes (has_flag 48 o.flags) ∙ ap (λ x. has_flag 48 o.flags || x == 48) (sym e) ∙ sym (has_flag-more 48 o.flags b)) refl)
     (λ t. let ne : b ≡ 48 → ⊥ = grind arith in width-after s text o b (subst (λ ds. BeginsWithoutZero (ds ++ b ∷ [])) (sym none) ne)))
   where
-    or-no : (x : Bool) → x ≡ (x || false)
-    or-no true = refl
-    or-no false = refl
-
     or-yes : (x : Bool) → true ≡ (x || true)
     or-yes true = refl
     or-yes false = refl

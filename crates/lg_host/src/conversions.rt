@@ -118,6 +118,7 @@ fn low(size: Size, word: u64) -> u64
     }
 }
 
+// Whether the low bytes of a word are a number below 0.
 fn is_negative(size: Size, word: u64) -> bool
     ensures { result ≡ is_negative size word }
 {
@@ -129,6 +130,7 @@ fn is_negative(size: Size, word: u64) -> bool
     }
 }
 
+// The number in the low bytes of a word, without its sign.
 fn magnitude(size: Size, word: u64) -> u64
     ensures { result ≡ magnitude_of size word }
 {

@@ -16,6 +16,4 @@ mod output;
 mod parts;
 mod print;
 mod strings;
-#[cfg(test)]
-mod tests;
 mod walk;

@@ -10,7 +10,7 @@ use lg_base::space::Space;
 /// No part of memory lies from this address on.
 pub const MEMORY_END: u64 = 0x4000_0000;
 
-/// The address of the zero byte that ends the string at an address.
+/// The address of the zero byte that ends the string at an address; None where a byte before it can't be read.
 pub fn string_end<S: Space>(mem: &S, from: u64) -> Option<u64>
     ensures value { result ≡ option_map (λ s. from + length s) (string_in (run (S.byte_of mem.now) from)) }
     ensures below { IfSome result (λ end. (from ≤ end) × (end < 0x40000000)) }
@@ -26,7 +26,7 @@ pub fn string_end<S: Space>(mem: &S, from: u64) -> Option<u64>
     None
 }
 
-/// How two strings compare, as a word.
+/// -1, 0 or 1, as a word, by the first bytes of two strings that differ; None where a byte up to there can't be read.
 pub fn compare<S: Space>(mem: &S, first: u64, second: u64) -> Option<u64>
     ensures { result ≡ compared (run (S.byte_of mem.now) first) (run (S.byte_of mem.now) second) }
 {
@@ -50,7 +50,7 @@ pub fn compare<S: Space>(mem: &S, first: u64, second: u64) -> Option<u64>
     None
 }
 
-/// The number that a string begins with.
+/// The number that a string begins with, behind white space; None where a byte up to its end can't be read, or where it is no int.
 pub fn atoi<S: Space>(mem: &S, from: u64) -> Option<u64>
     ensures { result ≡ atoi_in (run (S.byte_of mem.now) from) }
 {
@@ -65,6 +65,7 @@ pub fn atoi<S: Space>(mem: &S, from: u64) -> Option<u64>
     None
 }
 
+// Whether a byte is one of the six of white space.
 fn is_space(byte: u8) -> bool
     ensures { result ≡ is_space byte }
 {
@@ -106,6 +107,7 @@ fn number<S: Space>(mem: &S, from: u64, negative: bool) -> Option<u64>
     None
 }
 
+// An int by its sign and magnitude, as a word; None where it is none.
 fn int_word(negative: bool, value: u64) -> Option<u64>
     ensures { result ≡ int_word negative value }
 {

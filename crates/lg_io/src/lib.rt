@@ -8,6 +8,4 @@ pub mod memory_texts;
 mod named_text;
 pub mod sink;
 pub mod standard;
-#[cfg(test)]
-mod tests;
 pub mod texts;

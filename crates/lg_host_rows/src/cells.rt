@@ -1,7 +1,7 @@
 // What a memory of cells holds, and what can be written.
 
-use super::*;
 use lg_base::space::Space;
+use lg_cells::*;
 use std::test::Fail;
 
 #[test]

@@ -1,11 +1,11 @@
 // Calls with ample memory, faults in mid-stream, and the edge to real files.
 
-use crate::digits::{Digits, Radix};
-use crate::memory_sink::MemorySink;
-use crate::memory_texts::MemoryTexts;
-use crate::sink::{Sink, SinkFault, write_all, write_parts};
-use crate::standard::{StdSink, StdTexts};
-use crate::texts::{TextFault, Texts};
+use lg_io::digits::{Digits, Radix};
+use lg_io::memory_sink::MemorySink;
+use lg_io::memory_texts::MemoryTexts;
+use lg_io::sink::{Sink, SinkFault, write_all, write_parts};
+use lg_io::standard::{StdSink, StdTexts};
+use lg_io::texts::{TextFault, Texts};
 use std::io::Write;
 use std::test::Fail;
 use std::{fs, io};
