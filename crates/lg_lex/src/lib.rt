@@ -15,6 +15,3 @@ mod token;
 pub use escapes::string_bytes;
 pub use lexer::Lexer;
 pub use token::{Token, TokenKind};
-
-#[cfg(test)]
-mod tests;

@@ -1,9 +1,9 @@
 -- Where no node is refused, functions and calls stay within their limits.
-use Rattle.std.proofs.Common.{◌≡◌, ℕ, zero, suc, ◌+◌, ◌<◌, ◌≤◌, Bool, true, false, ◌&&◌, ◌||◌, cond, List, [], ◌∷◌, ◌⊎◌, inl, inr, ⊎_elim, Option, Some, None, refl, ap, ◌∙◌, length, get_or, add-one, arith}
+use Rattle.std.proofs.Common.{◌≡◌, ℕ, zero, suc, ◌+◌, ◌<◌, ◌≤◌, Bool, true, false, ◌&&◌, cond, List, [], ◌∷◌, ◌⊎◌, inl, inr, ⊎_elim, Option, Some, None, refl, ap, ◌∙◌, length, get_or, add-one, arith}
 use Rattle.std.specs.Prelude.{nat_lt, nat_le, slice_get}
 use Rattle.std.specs.List.{find}
 use Rattle.std.specs.Option.{option_map}
-use Rattle.std.proofs.lemmas.Bool.{leb-false, ltb-false, cases_lt}
+use Rattle.std.proofs.lemmas.Bool.{leb-false, ltb-false, cases_lt, or_parts}
 use Rattle.std.proofs.lemmas.Option.{slice_get-get_or}
 use Rattle.lg_base.specs.declared.refusal.Refusal.{Refusal}
 use Rattle.lg_base.specs.declared.refusal.RefusalKind.{RefusalKind}
@@ -41,10 +41,6 @@ not_refused l i n e r = fails_all (refuses l i n) kinds (by (find (refuses l i n
     by None r = refl
     by (Some k) r = cc
 
-pub or_false : (x y : Bool) → (x || y) ≡ false → (x ≡ false) × (y ≡ false)
-or_false true y e = cc
-or_false false y e = (refl, e)
-
 args_on : (a : Bool) (args : ℕ) (op : Op) → is_arg op ≡ a → (is_arg op && nat_le 16 args) ≡ false → args ≤ 16 → args + cond (is_arg op) 1 0 ≤ 16
 args_on true args op ea few h = let below : nat_le 16 args ≡ false = rw ea at few in rw ea (omega (arith, leb-false 16 args below))
 args_on false args op ea few h = rw ea (omega arith)
@@ -65,7 +61,7 @@ within false n most h = omega arith
 limits_on : (l : LabelledNodes) (i : ℕ) (n : Node) → slice_get l.nodes i ≡ Some n → refusal_at l i ≡ None → IsWithinLimits (walk_at l.nodes i) → IsWithinLimits (walk_at l.nodes (i + 1))
 limits_on l i n e r limits =
     let none = not_refused l i n e r in
-    let many = or_false (is_arg n.op && nat_le 16 (args_before l.nodes i)) (pushes_too_many (prepared_before l.nodes i) n.op) none.1.1.1.1.1.0 in
+    let many = or_parts (is_arg n.op && nat_le 16 (args_before l.nodes i)) (pushes_too_many (prepared_before l.nodes i) n.op) none.1.1.1.1.1.0 in
     let big : nat_lt 65536 (locals_before l.nodes i + local_size n) ≡ false = none.1.1.1.1.1.1.0 in
     let few : args_before l.nodes i + cond (is_arg n.op) 1 0 ≤ 16 = args_on (is_arg n.op) (args_before l.nodes i) n.op refl many.0 limits.args in
     let small : locals_before l.nodes i + local_size n ≤ 65536 = ltb-false 65536 (locals_before l.nodes i + local_size n) big in

@@ -1,5 +1,5 @@
 -- The steps of the loops that fill tables.
-use Rattle.std.proofs.Common.{◌≡◌, ℕ, ◌+◌, ◌<◌, ◌≤◌, Bool, ◌||◌, true, false, List, [], ◌∷◌, ◌++◌, Some, refl, sym, ap, ◌∙◌, length, get_or, take, drop, ⊎_elim, arith}
+use Rattle.std.proofs.Common.{◌≡◌, ℕ, ◌+◌, ◌<◌, ◌≤◌, Bool, ◌||◌, List, [], ◌∷◌, ◌++◌, Some, sym, ap, ◌∙◌, length, get_or, take, drop, ⊎_elim, arith}
 use Rattle.std.specs.Prelude.{slice_get}
 use Rattle.std.specs.List.{list_any}
 use Rattle.std.proofs.lemmas.Bool.{cases_lt}
@@ -7,10 +7,7 @@ use Rattle.std.proofs.lemmas.List.{take_more, take_at, get_or_past}
 use Rattle.std.proofs.lemmas.List.Folds.{list_any-append}
 use Rattle.std.proofs.lemmas.Grind.{common_steps}
 use Rattle.std.proofs.lemmas.Option.{slice_get_within, get_or_from_slice_get}
-
-or_false : (b : Bool) → (b || false) ≡ b
-or_false true = refl
-or_false false = refl
+use Rattle.std.proofs.Math.Bool.{or-false}
 
 -- a list that is one longer
 pub count_push : {A : Type 0} (xs ys : List A) (x : A) (i : ℕ) → ys ≡ xs ++ x ∷ [] → length xs ≡ i → length ys ≡ i + 1
@@ -33,4 +30,4 @@ pub any_on : {A : Type 0} (test : A → Bool) (xs : List A) (i : ℕ) (x : A) �
 any_on test xs i x e =
     ap (list_any test) (take_more xs i x (slice_get_within xs i x e) ∙ ap (λ y. take i xs ++ y ∷ []) (get_or_from_slice_get xs i x x e))
     ∙ list_any-append test (take i xs) (x ∷ [])
-    ∙ ap (λ b. list_any test (take i xs) || b) (or_false (test x))
+    ∙ ap (λ b. list_any test (take i xs) || b) (or-false (test x))

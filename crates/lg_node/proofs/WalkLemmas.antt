@@ -7,6 +7,7 @@ use Rattle.std.proofs.lemmas.List.Edits.{between_more}
 use Rattle.std.proofs.lemmas.List.Folds.{list_any-append}
 use Rattle.std.proofs.lemmas.Grind.{common_steps}
 use Rattle.std.proofs.lemmas.Option.{slice_get_within, get_or_from_slice_get, slice_get_past}
+use Rattle.std.proofs.Math.Bool.{or-false}
 use Rattle.lg_op.specs.declared.node.Node.{Node}
 use Rattle.lg_node.specs.Functions.{is_prolog, is_epilog, is_prolog_node, home_of, home_at, open_behind, open_behind_at, open_before, home, since, local_size}
 use Rattle.lg_node.specs.Preparations.{prepared_behind, prepared_before}
@@ -109,12 +110,8 @@ sum_of_open f nodes i n e false (Some p) eb eo = home_sum f nodes i p n e eo
 pub since_on : (f : Node → ℕ) (nodes : List Node) (i : ℕ) (n : Node) → slice_get nodes i ≡ Some n → sum_by f (since nodes (open_before nodes (i + 1)) (i + 1)) ≡ (if is_some (open_before nodes (i + 1)) then sum_by f (since nodes (open_before nodes i) i) + f n else 0)
 since_on f nodes i n e = rw (open_on nodes i n e) (sum_of_open f nodes i n e (is_epilog n.op) (home_of (open_before nodes i) i n.op) refl refl)
 
-or_none : (x : Bool) → (x || false) ≡ x
-or_none true = refl
-or_none false = refl
-
 pub begun_on : (nodes : List Node) (i : ℕ) (n : Node) → slice_get nodes i ≡ Some n → is_begun nodes (i + 1) ≡ (is_begun nodes i || is_prolog n.op)
-begun_on nodes i n e = ap (list_any is_prolog_node) (take_on nodes i n e) ∙ list_any-append is_prolog_node (take i nodes) (n ∷ []) ∙ ap (λ b. list_any is_prolog_node (take i nodes) || b) (or_none (is_prolog n.op))
+begun_on nodes i n e = ap (list_any is_prolog_node) (take_on nodes i n e) ∙ list_any-append is_prolog_node (take i nodes) (n ∷ []) ∙ ap (λ b. list_any is_prolog_node (take i nodes) || b) (or-false (is_prolog n.op))
 
 -- what is known before the first node, and behind each one
 pub walk_start : (nodes : List Node) → walk_at nodes 0 ≡ record { function = None; begun = false; args = 0; locals = 0; call = None }

@@ -3,7 +3,7 @@ use Rattle.std.proofs.Common.{◌≡◌, ◌⊎◌, inl, inr, ⊎_elim, ℕ, zer
 use Rattle.std.specs.Prelude.{is_none, nat_le, slice_get, ◌==◌}
 use Rattle.std.specs.List.{list_any}
 use Rattle.std.specs.Option.{option_flatten}
-use Rattle.std.proofs.lemmas.Bool.{and_parts, leb-false, eqb-true, eqb-false, eq-eqb, cases_lt, not-true, not-false}
+use Rattle.std.proofs.lemmas.Bool.{and_parts, leb-false, eqb-true, eqb-false, eq-eqb, cases_lt, not-true, not-false, or_right, or_parts}
 use Rattle.std.proofs.lemmas.Option.{slice_get_within}
 use Rattle.lg_op.specs.Forms.{last_form, forms_of}
 use Rattle.lg_op.specs.declared.form.Form.{Form}
@@ -29,7 +29,7 @@ use Rattle.lg_node.specs.Walks.{walk_at, IsWithinLimits}
 use Rattle.lg_node.specs.ShapeLaws.{has_target, has_callee, IsTargetIn, IsEntry, JumpsTo, IsWellShaped}
 use Rattle.lg_node.proofs.AcceptedLaws.{is_closed}
 use Rattle.lg_node.proofs.FunctionLaws.{node_within, home_within, home_from, home_next, goes_on, Begins, home_cases}
-use Rattle.lg_node.proofs.LimitLemmas.{not_refused, limits_before, or_false}
+use Rattle.lg_node.proofs.LimitLemmas.{not_refused, limits_before}
 use Rattle.lg_node.proofs.WalkLemmas.{home_here, open_below, prepared_start, prepared_on}
 
 and_false : (x y : Bool) → (x && y) ≡ false → x ≡ true → y ≡ false
@@ -85,17 +85,13 @@ prepared_from None op call e = cc
 unbroken : (o : Option Preparation) (labelled : Bool) (op : Op) → is_some o ≡ true → is_bad_call o labelled op ≡ false → (labelled ≡ false) × (breaks_preparation op ≡ false)
 unbroken None labelled op s e = cc
 unbroken (Some call) labelled op s e =
-    let one = or_false labelled (breaks_preparation op || (call.variadic && is_ellipsis op)) e in
-    (one.0, (or_false (breaks_preparation op) (call.variadic && is_ellipsis op) one.1).0)
+    let one = or_parts labelled (breaks_preparation op || (call.variadic && is_ellipsis op)) e in
+    (one.0, (or_parts (breaks_preparation op) (call.variadic && is_ellipsis op) one.1).0)
 
 both_false : {A : Type 0} (x y : Bool) → x ≡ false → y ≡ false → (x || y) ≡ true → A
 both_false true y ex ey e = cc
 both_false false true ex ey e = cc
 both_false false false ex ey e = cc
-
-or_right : (x y : Bool) → y ≡ true → (x || y) ≡ true
-or_right true y e = refl
-or_right false y e = e
 
 -- a label is bound at the node that is its place
 any_at : (test : Option Place → Bool) (places : List (Option Place)) (x : ℕ) (o : Option Place) → slice_get places x ≡ Some o → test o ≡ true → list_any test places ≡ true
@@ -238,7 +234,7 @@ module _ (l : LabelledNodes) (a : IsAccepted l) where
   first_passes i n x xs f fs e forms operands =
       let test : any_by_form (is_astray l (home l.nodes i) n.op) (forms_of n.op) n.operands ≡ false = (passes i n e).1.1.1.0 in
       let first : any_by_form (is_astray l (home l.nodes i) n.op) (f ∷ fs) (operand.Label x ∷ xs) ≡ false = rw (forms, operands) at test in
-      (or_false (is_astray l (home l.nodes i) n.op f (operand.Label x)) (any_by_form (is_astray l (home l.nodes i) n.op) fs xs) first).0
+      (or_parts (is_astray l (home l.nodes i) n.op f (operand.Label x)) (any_by_form (is_astray l (home l.nodes i) n.op) fs xs) first).0
 
   pub jumps : (i : ℕ) (n : Node) (x : Label) (xs : List Operand) → slice_get l.nodes i ≡ Some n → has_target n.op ≡ true → n.operands ≡ operand.Label x ∷ xs → JumpsTo l (home l.nodes i) (place_of l.places x)
   jumps i n x xs e t operands =
@@ -274,7 +270,7 @@ module _ (l : LabelledNodes) (a : IsAccepted l) where
         call,
         eo,
         λ push.
-            let many = or_false (is_arg n.op && nat_le 16 (args_before l.nodes i)) (pushes_too_many (prepared_before l.nodes i) n.op) (passes i n e).1.1.1.1.1.0 in
+            let many = or_parts (is_arg n.op && nat_le 16 (args_before l.nodes i)) (pushes_too_many (prepared_before l.nodes i) n.op) (passes i n e).1.1.1.1.1.0 in
             let few : (is_pusharg n.op && nat_le 16 call.pushed) ≡ false = rw eo at many.1 in
             leb-false 16 call.pushed (and_false (is_pusharg n.op) (nat_le 16 call.pushed) few push),
       )

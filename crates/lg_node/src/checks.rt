@@ -84,8 +84,8 @@ fn end_refusal(nodes: &NodeList, walk: Walk) -> Option<Refusal>
     })
 }
 
-/// Why a text is refused, if it is.
-pub fn first_refusal(nodes: &NodeList, tables: &Tables) -> Result<(), Refusal>
+// Why a text is refused, if it is.
+fn first_refusal(nodes: &NodeList, tables: &Tables) -> Result<(), Refusal>
     requires { AreTables nodes.now tables.now }
     ensures accepted { OnOk result (IsAccepted nodes.now) }
     ensures refused { IfErr result (λ r. IsRefused nodes.now r) }
@@ -119,8 +119,9 @@ fn checked(alloc: Global, nodes: &NodeList) -> Result<Result<Shape, Refusal>, Ou
     Ok(Ok(shape))
 }
 
-/// The shape of a text that has been read, or why it is refused: by its first node that is refused, for the first reason in
-/// the order of the kinds, or at its end.
+/// The shape of a text that has been read, or why it is refused: by the first node that is refused, with that node's line and the
+/// first of these kinds that refuses it, `LabelMissing`, `NotInFunction`, `FunctionOpen`, `TargetOutside`, `BadCall`, `TooManyArgs` and
+/// `FrameTooBig`; else at its end, by `FunctionOpen` with the line of the `prolog` that is open, or by `NoCode` with line 1.
 pub fn check(alloc: Global, unit: &Unit) -> Result<Shape, Stop>
     ensures shape { IfOk result (λ shape. IsShapeOf unit.now.nodes shape) }
     ensures taken { IfOk result (λ shape. shape.taken ≡ taken_labels unit.now.nodes) }

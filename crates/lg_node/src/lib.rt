@@ -28,6 +28,3 @@ pub use node_list::NodeList;
 pub use place::Place;
 pub use shape::Shape;
 pub use unit::Unit;
-
-#[cfg(test)]
-mod tests;

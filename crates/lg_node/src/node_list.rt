@@ -1,8 +1,9 @@
 // The nodes of a text and its labels.
 
 ghost use Rattle.std.specs.Prelude.{◌≡◌, ◌↔◌, ◌<◌, ◌-◌, ◌^◌, Bool, false, IsTrue, Some, None, [], length, slice_get, OnOk, OnErr, IfOk, IfSome};
+ghost use Rattle.std.specs.List.{All};
 ghost use Rattle.lg_op.specs.Nodes.{InForm};
-ghost use Rattle.lg_node.specs.Nodes.{IsWithin, with_node, mentioned, number_of, with_place, is_word};
+ghost use Rattle.lg_node.specs.Nodes.{IsWithin, MayStand, with_node, mentioned, number_of, with_place, is_word};
 
 use crate::place::Place;
 use indexmap::IndexSet;
@@ -146,5 +147,16 @@ impl NodeList {
         ensures form { IsTrue (is_word result.now) }
     {
         &self.words.as_slice()[label.0 as usize]
+    }
+
+    /// What holds of every list: there are fewer than 2^32 nodes, each of them in form, and each label has a place, which is at most
+    /// `len` where it is a node. The call does nothing: its contract is the law.
+    pub fn what_holds(&self)
+        ensures few { length self.now.nodes < 2 ^ 32 }
+        ensures formed { All InForm self.now.nodes }
+        ensures places { length self.now.places ≡ length self.now.words }
+        ensures placed { All (MayStand (length self.now.nodes)) self.now.places }
+    {
+        let _ = &self.nodes;
     }
 }

@@ -1,7 +1,7 @@
 // The forms of operands that an operation takes.
 
-ghost use Rattle.std.specs.Prelude.{◌≡◌};
-ghost use Rattle.lg_op.specs.Forms.{forms_of, control_forms, plain_forms, admits, is_alignment};
+ghost use Rattle.std.specs.Prelude.{◌≡◌, ◌∷◌};
+ghost use Rattle.lg_op.specs.Forms.{forms_of, control_forms, plain_forms, address_forms, store_forms, admits, is_alignment};
 
 use crate::op::{Addressing, ControlOp, LastOperand, Op, PlainOp};
 use crate::operand::{Operand, Reg};
@@ -90,22 +90,8 @@ impl Op {
             Op::Control(op, last) => op.forms(last),
             Op::Unary(_) => &[Form::Write, Form::Read],
             Op::Plain(op) => op.forms(),
-            Op::Load(_, Addressing::Register) => &[Form::Write, Form::Read],
-            Op::Load(_, Addressing::Immediate) => &[Form::Write, Form::Immediate],
-            Op::Load(_, Addressing::RegisterRegister) => &[Form::Write, Form::Read, Form::Read],
-            Op::Load(_, Addressing::RegisterImmediate) => &[
-                Form::Write,
-                Form::Read,
-                Form::Immediate,
-            ],
-            Op::Store(_, Addressing::Register) => &[Form::Read, Form::Read],
-            Op::Store(_, Addressing::Immediate) => &[Form::Immediate, Form::Read],
-            Op::Store(_, Addressing::RegisterRegister) => &[Form::Read, Form::Read, Form::Read],
-            Op::Store(_, Addressing::RegisterImmediate) => &[
-                Form::Immediate,
-                Form::Read,
-                Form::Read,
-            ],
+            Op::Load(_, addressing) => addressing.load_forms(),
+            Op::Store(_, addressing) => addressing.store_forms(),
             Op::Retval(_) => &[Form::Write],
             Op::Getarg(_) => &[Form::Write, Form::Argument],
         }
@@ -122,6 +108,32 @@ impl ControlOp {
             (ControlOp::Jmp, LastOperand::Immediate) => &[Form::Target],
             (ControlOp::Call | ControlOp::Finish, LastOperand::Immediate) => &[Form::Callee],
             (ControlOp::Pusharg | ControlOp::Ret, LastOperand::Immediate) => &[Form::Immediate],
+        }
+    }
+}
+
+impl Addressing {
+    // The forms of a load's operands, in order: the register comes first.
+    fn load_forms(self) -> &'static [Form]
+        ensures { result.now ≡ Form.Write ∷ address_forms self }
+    {
+        match self {
+            Addressing::Register => &[Form::Write, Form::Read],
+            Addressing::Immediate => &[Form::Write, Form::Immediate],
+            Addressing::RegisterRegister => &[Form::Write, Form::Read, Form::Read],
+            Addressing::RegisterImmediate => &[Form::Write, Form::Read, Form::Immediate],
+        }
+    }
+
+    // The forms of a store's operands, in order: the number of the address comes first.
+    fn store_forms(self) -> &'static [Form]
+        ensures { result.now ≡ store_forms self }
+    {
+        match self {
+            Addressing::Register => &[Form::Read, Form::Read],
+            Addressing::Immediate => &[Form::Immediate, Form::Read],
+            Addressing::RegisterRegister => &[Form::Read, Form::Read, Form::Read],
+            Addressing::RegisterImmediate => &[Form::Immediate, Form::Read, Form::Read],
         }
     }
 }

@@ -14,6 +14,3 @@ pub use op::{
     UnaryOp, ValueType, WideOp,
 };
 pub use operand::{Label, Operand, Operands, Reg};
-
-#[cfg(test)]
-mod tests;

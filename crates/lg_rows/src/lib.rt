@@ -10,8 +10,16 @@ mod lists;
 #[cfg(test)]
 mod memory;
 #[cfg(test)]
+mod nodes;
+#[cfg(test)]
+mod operations;
+#[cfg(test)]
 mod parse_rows;
 #[cfg(test)]
 mod readings;
+#[cfg(test)]
+mod rows;
+#[cfg(test)]
+mod tokens;
 #[cfg(test)]
 mod wide;

@@ -1,15 +1,15 @@
 // What is made of texts: nodes with their operands, places of labels and bytes of data; and the largest texts.
 
-use lg_base::refusal::{RefusalKind, Stop};
-use lg_node::{Form, Label, NodeList, Op, Operand, Place, Unit};
+use crate::rows::{parts, told};
+use lg_base::refusal::Stop;
+use lg_node::{Form, Label, NodeList, Op, Unit};
 use lg_tst::parse;
 use std::alloc::{AllocError, Global};
-use std::process::Abort;
 use std::test::Fail;
 
 // Every name of the instruction table, with the names of arguments and locals behind those that make them.
-const NAMES: &[u8] =
-    b"addr addi subr subi rsbr rsbi mulr muli andr andi orr ori xorr xori lshr lshi rshr rshi rshr_u \
+const NAMES: &str =
+    "addr addi subr subi rsbr rsbi mulr muli andr andi orr ori xorr xori lshr lshi rshr rshi rshr_u \
         rshi_u divr divi divr_u divi_u remr remi remr_u remi_u addcr addci subcr subci addxr addxi subxr \
         subxi ltr lti ltr_u lti_u ler lei ler_u lei_u ger gei ger_u gei_u gtr gti gtr_u gti_u eqr eqi ner \
         nei qmulr qmuli qmulr_u qmuli_u qdivr qdivi qdivr_u qdivi_u bltr blti bltr_u blti_u bler blei \
@@ -25,39 +25,37 @@ const NAMES: &[u8] =
         ldxi_l str_l sti_l stxr_l stxi_l retval_l getarg_l";
 
 // What a text is read as.
-fn read(alloc: Global, text: &[u8]) -> Result<Unit, Fail> {
+fn read(alloc: Global, text: &[u8]) -> Result<Unit, Stop> {
     if text.len() > 16_777_216 {
-        return Err(Fail::from(AllocError));
+        return Err(Stop::OutOfMemory);
     }
-    Ok(parse(alloc, text)?)
+    parse(alloc, text)
 }
 
-// The kind and the line of a text's refusal.
-fn refusal(alloc: Global, text: &[u8]) -> Result<Option<(RefusalKind, u32)>, AllocError> {
-    if text.len() > 16_777_216 {
-        return Ok(None);
+// The line and the last operand of each node, in lines.
+fn last_operands(alloc: Global, nodes: &NodeList) -> Result<String, AllocError> {
+    let mut list = String::new(alloc);
+    for index in 0..nodes.len() {
+        let node = nodes.node(index);
+        let line = node.line;
+        match node.operands.as_slice().last() {
+            Some(operand) => list.push_str(&format!(in alloc; "{line} {operand:?}\n")?)?,
+            None => list.push_str(&format!(in alloc; "{line} none\n")?)?,
+        }
     }
-    match parse(alloc, text) {
-        Ok(_) => Ok(None),
-        Err(Stop::Refused(refusal)) => Ok(Some((refusal.kind, refusal.line))),
-        Err(Stop::OutOfMemory) => Err(AllocError),
-    }
+    Ok(list)
 }
 
-// The last operand of a node.
-fn last_operand(nodes: &NodeList, index: u32) -> Option<Operand> {
-    if index >= nodes.len() {
-        return None;
+// The place of each label, in lines.
+fn places(alloc: Global, nodes: &NodeList) -> Result<String, AllocError> {
+    let mut list = String::new(alloc);
+    for label in 0..nodes.labels() {
+        match nodes.place(Label(label)) {
+            Some(place) => list.push_str(&format!(in alloc; "{place:?}\n")?)?,
+            None => list.push_str("none\n")?,
+        }
     }
-    nodes.node(index).operands.as_slice().last().copied()
-}
-
-// The place of a label, by its number.
-fn place(nodes: &NodeList, number: u32) -> Option<Place> {
-    if number >= nodes.labels() {
-        return None;
-    }
-    nodes.place(Label(number))
+    Ok(list)
 }
 
 #[test]
@@ -66,15 +64,32 @@ fn binds_labels_to_nodes_and_bytes(rt: HostRuntime) -> Result<(), Fail> {
         rt.alloc(),
         b"prolog f: jmpi g .data 16 .c 1 x: .align 8 y: .c 1 z: .code ret g:",
     )?;
-    assert_eq!(rt; place(&unit.nodes, 0), Some(Place::Node(1)));
-    assert_eq!(rt; place(&unit.nodes, 1), Some(Place::Node(3)));
-    assert_eq!(rt; place(&unit.nodes, 2), Some(Place::Image(1)));
-    assert_eq!(rt; place(&unit.nodes, 3), Some(Place::Image(8)));
-    assert_eq!(rt; place(&unit.nodes, 4), Some(Place::Image(9)));
-    assert_eq!(rt; unit.nodes.labels(), 5);
     assert_eq!(rt;
-        last_operand(&unit.nodes, 1),
-        Some(Operand::Label(Label(1)))
+        places(rt.alloc(), &unit.nodes)?.as_str(),
+        "Node(1)\nNode(3)\nImage(1)\nImage(8)\nImage(9)\n"
+    );
+    assert_eq!(rt;
+        last_operands(rt.alloc(), &unit.nodes)?.as_str(),
+        "1 none\n1 Label(Label(1))\n1 none\n"
+    );
+    Ok(())
+}
+
+#[test]
+fn reads_a_text(rt: HostRuntime) -> Result<(), Fail> {
+    let unit = read(
+        rt.alloc(),
+        b".data 4 word: .s -2 .code main: prolog\nallocai 9 $x movi %r0 $x jmpi main",
+    )?;
+    assert_eq!(rt; unit.image.as_slice(), b"\xfe\xff\0\0".as_slice());
+    assert_eq!(rt;
+        places(rt.alloc(), &unit.nodes)?.as_str(),
+        "Image(0)\nNode(0)\n"
+    );
+    // the local stands at -144
+    assert_eq!(rt;
+        last_operands(rt.alloc(), &unit.nodes)?.as_str(),
+        "1 none\n2 Slot(0)\n2 Number(18446744073709551472)\n2 Label(Label(1))\n"
     );
     Ok(())
 }
@@ -98,24 +113,12 @@ fn numbers_arguments_and_locals(rt: HostRuntime) -> Result<(), Fail> {
         rt.alloc(),
         b"prolog arg $a allocai 8 $b arg $c allocai 9 $d\nmovi %r0 $b movi %r0 $d getarg %r0 $c prolog allocai 1 $d movi %r0 $d",
     )?;
-    let nodes = &unit.nodes;
-    assert_eq!(rt; last_operand(nodes, 1), Some(Operand::Slot(0)));
-    assert_eq!(rt; last_operand(nodes, 2), Some(Operand::Slot(0)));
-    assert_eq!(rt; last_operand(nodes, 3), Some(Operand::Slot(1)));
-    assert_eq!(rt; last_operand(nodes, 4), Some(Operand::Slot(1)));
+    // the locals stand at -136, -152 and, in the second function, -136
     assert_eq!(rt;
-        last_operand(nodes, 5),
-        Some(Operand::Number(0xffff_ffff_ffff_ff78))
-    );
-    assert_eq!(rt;
-        last_operand(nodes, 6),
-        Some(Operand::Number(0xffff_ffff_ffff_ff68))
-    );
-    assert_eq!(rt; last_operand(nodes, 7), Some(Operand::Slot(1)));
-    assert_eq!(rt; last_operand(nodes, 9), Some(Operand::Slot(0)));
-    assert_eq!(rt;
-        last_operand(nodes, 10),
-        Some(Operand::Number(0xffff_ffff_ffff_ff78))
+        last_operands(rt.alloc(), &unit.nodes)?.as_str(),
+        "1 none\n1 Slot(0)\n1 Slot(0)\n1 Slot(1)\n1 Slot(1)\n\
+        2 Number(18446744073709551480)\n2 Number(18446744073709551464)\n2 Slot(1)\n\
+        2 none\n2 Slot(0)\n2 Number(18446744073709551480)\n"
     );
     Ok(())
 }
@@ -138,9 +141,9 @@ fn sample(form: Form, place: usize) -> &'static [u8] {
 #[test]
 fn reads_every_instruction(rt: HostRuntime) -> Result<(), Fail> {
     let mut text = Vec::new(rt.alloc());
-    for name in NAMES.split(|byte| *byte == b' ') {
-        text.extend_from_slice(name)?;
-        if let Some(op) = Op::by_name(name) {
+    for name in NAMES.split(' ') {
+        text.extend_from_slice(name.as_bytes())?;
+        if let Some(op) = Op::by_name(name.as_bytes()) {
             for (place, form) in op.forms().iter().enumerate() {
                 text.extend_from_slice(sample(*form, place))?;
             }
@@ -149,10 +152,10 @@ fn reads_every_instruction(rt: HostRuntime) -> Result<(), Fail> {
     }
     let unit = read(rt.alloc(), &text)?;
     let mut index = 0u32;
-    for name in NAMES.split(|byte| *byte == b' ') {
+    for name in NAMES.split(' ') {
         if index < unit.nodes.len() {
             let node = unit.nodes.node(index);
-            assert!(rt; Op::by_name(name) == Some(node.op), "{name:?}");
+            assert!(rt; Op::by_name(name.as_bytes()) == Some(node.op), "{name:?}");
             assert_eq!(rt; node.line, index.wrapping_add(1));
         }
         index = index.wrapping_add(1);
@@ -162,30 +165,34 @@ fn reads_every_instruction(rt: HostRuntime) -> Result<(), Fail> {
 }
 
 // A text of `prolog`, 65,535 times `ret` in lines of their own, and what comes behind them.
-fn full(alloc: Global, behind: &[u8]) -> Result<Vec<u8>, AllocError> {
+fn full(alloc: Global, behind: &str) -> Result<Vec<u8>, AllocError> {
     let mut text = Vec::new(alloc);
     text.extend_from_slice(b"prolog")?;
     for _ in 0..65_535u32 {
         text.extend_from_slice(b"\nret")?;
     }
-    text.extend_from_slice(behind)?;
+    text.extend_from_slice(behind.as_bytes())?;
     Ok(text)
 }
 
+// What stands behind 65,536 nodes, and the refusal of the whole text.
+const BEHIND_65536_NODES: &str = "TooManyNodes 65536\x1f ret\x1e\
+        TooManyNodes 65536\x1f movi\x1e\
+        TooManyNodes 65536\x1f .align 3\x1e\
+        UnknownName 65536\x1f nop\x1e\
+        FloatRefused 65536\x1f x_f";
+
 #[test]
 fn takes_65536_nodes_and_no_more(rt: HostRuntime) -> Result<(), Fail> {
-    let unit = read(rt.alloc(), &full(rt.alloc(), b" x: .data 1 .align 1 note")?)?;
+    let unit = read(rt.alloc(), &full(rt.alloc(), " x: .data 1 .align 1 note")?)?;
     assert_eq!(rt; unit.nodes.len(), 65_536);
-    let rows: [(&[u8], RefusalKind); 5] = [
-        (b" ret", RefusalKind::TooManyNodes),
-        (b" movi", RefusalKind::TooManyNodes),
-        (b" .align 3", RefusalKind::TooManyNodes),
-        (b" nop", RefusalKind::UnknownName),
-        (b" x_f", RefusalKind::FloatRefused),
-    ];
-    for (behind, kind) in &rows {
-        let found = refusal(rt.alloc(), &full(rt.alloc(), behind)?)?;
-        assert_eq!(rt; found, Some((*kind, 65_536)));
+    for row in BEHIND_65536_NODES.split('\x1e') {
+        let (wanted, behind) = parts(row);
+        let outcome = match read(rt.alloc(), &full(rt.alloc(), behind)?) {
+            Ok(_) => Ok(()),
+            Err(stop) => Err(stop),
+        };
+        assert_eq!(rt; told(rt.alloc(), outcome)?.as_str(), wanted);
     }
     Ok(())
 }
@@ -198,6 +205,9 @@ fn takes_16_mib_of_data(rt: HostRuntime) -> Result<(), Fail> {
     text.extend_from_slice(b"\" .size 64 x:")?;
     let unit = read(rt.alloc(), &text)?;
     assert_eq!(rt; unit.image.len(), 16_777_216);
-    assert_eq!(rt; place(&unit.nodes, 0), Some(Place::Image(16_777_216)));
+    assert_eq!(rt;
+        places(rt.alloc(), &unit.nodes)?.as_str(),
+        "Image(16777216)\n"
+    );
     Ok(())
 }

@@ -3,580 +3,495 @@
 use lg_base::wide::{
     div_wide, div_wide_u, mul_high, mul_high_mixed, mul_high_u, sign_part, swap_bytes, zero_part,
 };
+use std::alloc::{AllocError, Global};
 use std::process::Abort;
+use std::test::Fail;
 
-// 0, 1, -1, -2, the least and greatest signed words and a neighbor, 2^31 and 2^32 with their neighbors.
-const VALUES: [u64; 13] = [
-    0,
-    1,
-    0xffffffffffffffff,
-    0xfffffffffffffffe,
-    0x8000000000000000,
-    0x7fffffffffffffff,
-    0x8000000000000001,
-    0x7fffffff,
-    0x80000000,
-    0x80000001,
-    0xffffffff,
-    0x100000000,
-    0x100000001,
-];
+// The tables have a row a line, of words in hexadecimal digits. The factors and dividends are 0, 1, -1, -2, the least and greatest signed
+// words and a neighbor, and 2^31 and 2^32 with their neighbors.
 
-// Two of the values by their places, and the high words of their unsigned product, of their signed product, and of the
-// product of the first with its sign by the second without.
-const PRODUCTS: [(usize, usize, u64, u64, u64); 169] = [
-    (0, 0, 0, 0, 0),
-    (0, 1, 0, 0, 0),
-    (0, 2, 0, 0, 0),
-    (0, 3, 0, 0, 0),
-    (0, 4, 0, 0, 0),
-    (0, 5, 0, 0, 0),
-    (0, 6, 0, 0, 0),
-    (0, 7, 0, 0, 0),
-    (0, 8, 0, 0, 0),
-    (0, 9, 0, 0, 0),
-    (0, 10, 0, 0, 0),
-    (0, 11, 0, 0, 0),
-    (0, 12, 0, 0, 0),
-    (1, 0, 0, 0, 0),
-    (1, 1, 0, 0, 0),
-    (1, 2, 0, 0xffffffffffffffff, 0),
-    (1, 3, 0, 0xffffffffffffffff, 0),
-    (1, 4, 0, 0xffffffffffffffff, 0),
-    (1, 5, 0, 0, 0),
-    (1, 6, 0, 0xffffffffffffffff, 0),
-    (1, 7, 0, 0, 0),
-    (1, 8, 0, 0, 0),
-    (1, 9, 0, 0, 0),
-    (1, 10, 0, 0, 0),
-    (1, 11, 0, 0, 0),
-    (1, 12, 0, 0, 0),
-    (2, 0, 0, 0, 0),
-    (2, 1, 0, 0xffffffffffffffff, 0xffffffffffffffff),
-    (2, 2, 0xfffffffffffffffe, 0, 0xffffffffffffffff),
-    (2, 3, 0xfffffffffffffffd, 0, 0xffffffffffffffff),
-    (2, 4, 0x7fffffffffffffff, 0, 0xffffffffffffffff),
-    (
-        2,
-        5,
-        0x7ffffffffffffffe,
-        0xffffffffffffffff,
-        0xffffffffffffffff,
-    ),
-    (2, 6, 0x8000000000000000, 0, 0xffffffffffffffff),
-    (2, 7, 0x7ffffffe, 0xffffffffffffffff, 0xffffffffffffffff),
-    (2, 8, 0x7fffffff, 0xffffffffffffffff, 0xffffffffffffffff),
-    (2, 9, 0x80000000, 0xffffffffffffffff, 0xffffffffffffffff),
-    (2, 10, 0xfffffffe, 0xffffffffffffffff, 0xffffffffffffffff),
-    (2, 11, 0xffffffff, 0xffffffffffffffff, 0xffffffffffffffff),
-    (2, 12, 0x100000000, 0xffffffffffffffff, 0xffffffffffffffff),
-    (3, 0, 0, 0, 0),
-    (3, 1, 0, 0xffffffffffffffff, 0xffffffffffffffff),
-    (3, 2, 0xfffffffffffffffd, 0, 0xfffffffffffffffe),
-    (3, 3, 0xfffffffffffffffc, 0, 0xfffffffffffffffe),
-    (3, 4, 0x7fffffffffffffff, 1, 0xffffffffffffffff),
-    (
-        3,
-        5,
-        0x7ffffffffffffffe,
-        0xffffffffffffffff,
-        0xffffffffffffffff,
-    ),
-    (3, 6, 0x7fffffffffffffff, 0, 0xfffffffffffffffe),
-    (3, 7, 0x7ffffffe, 0xffffffffffffffff, 0xffffffffffffffff),
-    (3, 8, 0x7fffffff, 0xffffffffffffffff, 0xffffffffffffffff),
-    (3, 9, 0x80000000, 0xffffffffffffffff, 0xffffffffffffffff),
-    (3, 10, 0xfffffffe, 0xffffffffffffffff, 0xffffffffffffffff),
-    (3, 11, 0xffffffff, 0xffffffffffffffff, 0xffffffffffffffff),
-    (3, 12, 0x100000000, 0xffffffffffffffff, 0xffffffffffffffff),
-    (4, 0, 0, 0, 0),
-    (4, 1, 0, 0xffffffffffffffff, 0xffffffffffffffff),
-    (4, 2, 0x7fffffffffffffff, 0, 0x8000000000000000),
-    (4, 3, 0x7fffffffffffffff, 1, 0x8000000000000001),
-    (
-        4,
-        4,
-        0x4000000000000000,
-        0x4000000000000000,
-        0xc000000000000000,
-    ),
-    (
-        4,
-        5,
-        0x3fffffffffffffff,
-        0xc000000000000000,
-        0xc000000000000000,
-    ),
-    (
-        4,
-        6,
-        0x4000000000000000,
-        0x3fffffffffffffff,
-        0xbfffffffffffffff,
-    ),
-    (4, 7, 0x3fffffff, 0xffffffffc0000000, 0xffffffffc0000000),
-    (4, 8, 0x40000000, 0xffffffffc0000000, 0xffffffffc0000000),
-    (4, 9, 0x40000000, 0xffffffffbfffffff, 0xffffffffbfffffff),
-    (4, 10, 0x7fffffff, 0xffffffff80000000, 0xffffffff80000000),
-    (4, 11, 0x80000000, 0xffffffff80000000, 0xffffffff80000000),
-    (4, 12, 0x80000000, 0xffffffff7fffffff, 0xffffffff7fffffff),
-    (5, 0, 0, 0, 0),
-    (5, 1, 0, 0, 0),
-    (
-        5,
-        2,
-        0x7ffffffffffffffe,
-        0xffffffffffffffff,
-        0x7ffffffffffffffe,
-    ),
-    (
-        5,
-        3,
-        0x7ffffffffffffffe,
-        0xffffffffffffffff,
-        0x7ffffffffffffffe,
-    ),
-    (
-        5,
-        4,
-        0x3fffffffffffffff,
-        0xc000000000000000,
-        0x3fffffffffffffff,
-    ),
-    (
-        5,
-        5,
-        0x3fffffffffffffff,
-        0x3fffffffffffffff,
-        0x3fffffffffffffff,
-    ),
-    (
-        5,
-        6,
-        0x3fffffffffffffff,
-        0xc000000000000000,
-        0x3fffffffffffffff,
-    ),
-    (5, 7, 0x3fffffff, 0x3fffffff, 0x3fffffff),
-    (5, 8, 0x3fffffff, 0x3fffffff, 0x3fffffff),
-    (5, 9, 0x40000000, 0x40000000, 0x40000000),
-    (5, 10, 0x7fffffff, 0x7fffffff, 0x7fffffff),
-    (5, 11, 0x7fffffff, 0x7fffffff, 0x7fffffff),
-    (5, 12, 0x80000000, 0x80000000, 0x80000000),
-    (6, 0, 0, 0, 0),
-    (6, 1, 0, 0xffffffffffffffff, 0xffffffffffffffff),
-    (6, 2, 0x8000000000000000, 0, 0x8000000000000001),
-    (6, 3, 0x7fffffffffffffff, 0, 0x8000000000000001),
-    (
-        6,
-        4,
-        0x4000000000000000,
-        0x3fffffffffffffff,
-        0xc000000000000000,
-    ),
-    (
-        6,
-        5,
-        0x3fffffffffffffff,
-        0xc000000000000000,
-        0xc000000000000000,
-    ),
-    (
-        6,
-        6,
-        0x4000000000000001,
-        0x3fffffffffffffff,
-        0xc000000000000000,
-    ),
-    (6, 7, 0x3fffffff, 0xffffffffc0000000, 0xffffffffc0000000),
-    (6, 8, 0x40000000, 0xffffffffc0000000, 0xffffffffc0000000),
-    (6, 9, 0x40000000, 0xffffffffbfffffff, 0xffffffffbfffffff),
-    (6, 10, 0x7fffffff, 0xffffffff80000000, 0xffffffff80000000),
-    (6, 11, 0x80000000, 0xffffffff80000000, 0xffffffff80000000),
-    (6, 12, 0x80000000, 0xffffffff7fffffff, 0xffffffff7fffffff),
-    (7, 0, 0, 0, 0),
-    (7, 1, 0, 0, 0),
-    (7, 2, 0x7ffffffe, 0xffffffffffffffff, 0x7ffffffe),
-    (7, 3, 0x7ffffffe, 0xffffffffffffffff, 0x7ffffffe),
-    (7, 4, 0x3fffffff, 0xffffffffc0000000, 0x3fffffff),
-    (7, 5, 0x3fffffff, 0x3fffffff, 0x3fffffff),
-    (7, 6, 0x3fffffff, 0xffffffffc0000000, 0x3fffffff),
-    (7, 7, 0, 0, 0),
-    (7, 8, 0, 0, 0),
-    (7, 9, 0, 0, 0),
-    (7, 10, 0, 0, 0),
-    (7, 11, 0, 0, 0),
-    (7, 12, 0, 0, 0),
-    (8, 0, 0, 0, 0),
-    (8, 1, 0, 0, 0),
-    (8, 2, 0x7fffffff, 0xffffffffffffffff, 0x7fffffff),
-    (8, 3, 0x7fffffff, 0xffffffffffffffff, 0x7fffffff),
-    (8, 4, 0x40000000, 0xffffffffc0000000, 0x40000000),
-    (8, 5, 0x3fffffff, 0x3fffffff, 0x3fffffff),
-    (8, 6, 0x40000000, 0xffffffffc0000000, 0x40000000),
-    (8, 7, 0, 0, 0),
-    (8, 8, 0, 0, 0),
-    (8, 9, 0, 0, 0),
-    (8, 10, 0, 0, 0),
-    (8, 11, 0, 0, 0),
-    (8, 12, 0, 0, 0),
-    (9, 0, 0, 0, 0),
-    (9, 1, 0, 0, 0),
-    (9, 2, 0x80000000, 0xffffffffffffffff, 0x80000000),
-    (9, 3, 0x80000000, 0xffffffffffffffff, 0x80000000),
-    (9, 4, 0x40000000, 0xffffffffbfffffff, 0x40000000),
-    (9, 5, 0x40000000, 0x40000000, 0x40000000),
-    (9, 6, 0x40000000, 0xffffffffbfffffff, 0x40000000),
-    (9, 7, 0, 0, 0),
-    (9, 8, 0, 0, 0),
-    (9, 9, 0, 0, 0),
-    (9, 10, 0, 0, 0),
-    (9, 11, 0, 0, 0),
-    (9, 12, 0, 0, 0),
-    (10, 0, 0, 0, 0),
-    (10, 1, 0, 0, 0),
-    (10, 2, 0xfffffffe, 0xffffffffffffffff, 0xfffffffe),
-    (10, 3, 0xfffffffe, 0xffffffffffffffff, 0xfffffffe),
-    (10, 4, 0x7fffffff, 0xffffffff80000000, 0x7fffffff),
-    (10, 5, 0x7fffffff, 0x7fffffff, 0x7fffffff),
-    (10, 6, 0x7fffffff, 0xffffffff80000000, 0x7fffffff),
-    (10, 7, 0, 0, 0),
-    (10, 8, 0, 0, 0),
-    (10, 9, 0, 0, 0),
-    (10, 10, 0, 0, 0),
-    (10, 11, 0, 0, 0),
-    (10, 12, 0, 0, 0),
-    (11, 0, 0, 0, 0),
-    (11, 1, 0, 0, 0),
-    (11, 2, 0xffffffff, 0xffffffffffffffff, 0xffffffff),
-    (11, 3, 0xffffffff, 0xffffffffffffffff, 0xffffffff),
-    (11, 4, 0x80000000, 0xffffffff80000000, 0x80000000),
-    (11, 5, 0x7fffffff, 0x7fffffff, 0x7fffffff),
-    (11, 6, 0x80000000, 0xffffffff80000000, 0x80000000),
-    (11, 7, 0, 0, 0),
-    (11, 8, 0, 0, 0),
-    (11, 9, 0, 0, 0),
-    (11, 10, 0, 0, 0),
-    (11, 11, 1, 1, 1),
-    (11, 12, 1, 1, 1),
-    (12, 0, 0, 0, 0),
-    (12, 1, 0, 0, 0),
-    (12, 2, 0x100000000, 0xffffffffffffffff, 0x100000000),
-    (12, 3, 0x100000000, 0xffffffffffffffff, 0x100000000),
-    (12, 4, 0x80000000, 0xffffffff7fffffff, 0x80000000),
-    (12, 5, 0x80000000, 0x80000000, 0x80000000),
-    (12, 6, 0x80000000, 0xffffffff7fffffff, 0x80000000),
-    (12, 7, 0, 0, 0),
-    (12, 8, 0, 0, 0),
-    (12, 9, 0, 0, 0),
-    (12, 10, 0, 0, 0),
-    (12, 11, 1, 1, 1),
-    (12, 12, 1, 1, 1),
-];
+// Two words, and the high words of their unsigned product, of their signed product, and of the product of the first with its sign
+// by the second without.
+const PRODUCTS: &str = "0 0 0 0 0\n\
+    0 1 0 0 0\n\
+    0 ffffffffffffffff 0 0 0\n\
+    0 fffffffffffffffe 0 0 0\n\
+    0 8000000000000000 0 0 0\n\
+    0 7fffffffffffffff 0 0 0\n\
+    0 8000000000000001 0 0 0\n\
+    0 7fffffff 0 0 0\n\
+    0 80000000 0 0 0\n\
+    0 80000001 0 0 0\n\
+    0 ffffffff 0 0 0\n\
+    0 100000000 0 0 0\n\
+    0 100000001 0 0 0\n\
+    1 0 0 0 0\n\
+    1 1 0 0 0\n\
+    1 ffffffffffffffff 0 ffffffffffffffff 0\n\
+    1 fffffffffffffffe 0 ffffffffffffffff 0\n\
+    1 8000000000000000 0 ffffffffffffffff 0\n\
+    1 7fffffffffffffff 0 0 0\n\
+    1 8000000000000001 0 ffffffffffffffff 0\n\
+    1 7fffffff 0 0 0\n\
+    1 80000000 0 0 0\n\
+    1 80000001 0 0 0\n\
+    1 ffffffff 0 0 0\n\
+    1 100000000 0 0 0\n\
+    1 100000001 0 0 0\n\
+    ffffffffffffffff 0 0 0 0\n\
+    ffffffffffffffff 1 0 ffffffffffffffff ffffffffffffffff\n\
+    ffffffffffffffff ffffffffffffffff fffffffffffffffe 0 ffffffffffffffff\n\
+    ffffffffffffffff fffffffffffffffe fffffffffffffffd 0 ffffffffffffffff\n\
+    ffffffffffffffff 8000000000000000 7fffffffffffffff 0 ffffffffffffffff\n\
+    ffffffffffffffff 7fffffffffffffff 7ffffffffffffffe ffffffffffffffff ffffffffffffffff\n\
+    ffffffffffffffff 8000000000000001 8000000000000000 0 ffffffffffffffff\n\
+    ffffffffffffffff 7fffffff 7ffffffe ffffffffffffffff ffffffffffffffff\n\
+    ffffffffffffffff 80000000 7fffffff ffffffffffffffff ffffffffffffffff\n\
+    ffffffffffffffff 80000001 80000000 ffffffffffffffff ffffffffffffffff\n\
+    ffffffffffffffff ffffffff fffffffe ffffffffffffffff ffffffffffffffff\n\
+    ffffffffffffffff 100000000 ffffffff ffffffffffffffff ffffffffffffffff\n\
+    ffffffffffffffff 100000001 100000000 ffffffffffffffff ffffffffffffffff\n\
+    fffffffffffffffe 0 0 0 0\n\
+    fffffffffffffffe 1 0 ffffffffffffffff ffffffffffffffff\n\
+    fffffffffffffffe ffffffffffffffff fffffffffffffffd 0 fffffffffffffffe\n\
+    fffffffffffffffe fffffffffffffffe fffffffffffffffc 0 fffffffffffffffe\n\
+    fffffffffffffffe 8000000000000000 7fffffffffffffff 1 ffffffffffffffff\n\
+    fffffffffffffffe 7fffffffffffffff 7ffffffffffffffe ffffffffffffffff ffffffffffffffff\n\
+    fffffffffffffffe 8000000000000001 7fffffffffffffff 0 fffffffffffffffe\n\
+    fffffffffffffffe 7fffffff 7ffffffe ffffffffffffffff ffffffffffffffff\n\
+    fffffffffffffffe 80000000 7fffffff ffffffffffffffff ffffffffffffffff\n\
+    fffffffffffffffe 80000001 80000000 ffffffffffffffff ffffffffffffffff\n\
+    fffffffffffffffe ffffffff fffffffe ffffffffffffffff ffffffffffffffff\n\
+    fffffffffffffffe 100000000 ffffffff ffffffffffffffff ffffffffffffffff\n\
+    fffffffffffffffe 100000001 100000000 ffffffffffffffff ffffffffffffffff\n\
+    8000000000000000 0 0 0 0\n\
+    8000000000000000 1 0 ffffffffffffffff ffffffffffffffff\n\
+    8000000000000000 ffffffffffffffff 7fffffffffffffff 0 8000000000000000\n\
+    8000000000000000 fffffffffffffffe 7fffffffffffffff 1 8000000000000001\n\
+    8000000000000000 8000000000000000 4000000000000000 4000000000000000 c000000000000000\n\
+    8000000000000000 7fffffffffffffff 3fffffffffffffff c000000000000000 c000000000000000\n\
+    8000000000000000 8000000000000001 4000000000000000 3fffffffffffffff bfffffffffffffff\n\
+    8000000000000000 7fffffff 3fffffff ffffffffc0000000 ffffffffc0000000\n\
+    8000000000000000 80000000 40000000 ffffffffc0000000 ffffffffc0000000\n\
+    8000000000000000 80000001 40000000 ffffffffbfffffff ffffffffbfffffff\n\
+    8000000000000000 ffffffff 7fffffff ffffffff80000000 ffffffff80000000\n\
+    8000000000000000 100000000 80000000 ffffffff80000000 ffffffff80000000\n\
+    8000000000000000 100000001 80000000 ffffffff7fffffff ffffffff7fffffff\n\
+    7fffffffffffffff 0 0 0 0\n\
+    7fffffffffffffff 1 0 0 0\n\
+    7fffffffffffffff ffffffffffffffff 7ffffffffffffffe ffffffffffffffff 7ffffffffffffffe\n\
+    7fffffffffffffff fffffffffffffffe 7ffffffffffffffe ffffffffffffffff 7ffffffffffffffe\n\
+    7fffffffffffffff 8000000000000000 3fffffffffffffff c000000000000000 3fffffffffffffff\n\
+    7fffffffffffffff 7fffffffffffffff 3fffffffffffffff 3fffffffffffffff 3fffffffffffffff\n\
+    7fffffffffffffff 8000000000000001 3fffffffffffffff c000000000000000 3fffffffffffffff\n\
+    7fffffffffffffff 7fffffff 3fffffff 3fffffff 3fffffff\n\
+    7fffffffffffffff 80000000 3fffffff 3fffffff 3fffffff\n\
+    7fffffffffffffff 80000001 40000000 40000000 40000000\n\
+    7fffffffffffffff ffffffff 7fffffff 7fffffff 7fffffff\n\
+    7fffffffffffffff 100000000 7fffffff 7fffffff 7fffffff\n\
+    7fffffffffffffff 100000001 80000000 80000000 80000000\n\
+    8000000000000001 0 0 0 0\n\
+    8000000000000001 1 0 ffffffffffffffff ffffffffffffffff\n\
+    8000000000000001 ffffffffffffffff 8000000000000000 0 8000000000000001\n\
+    8000000000000001 fffffffffffffffe 7fffffffffffffff 0 8000000000000001\n\
+    8000000000000001 8000000000000000 4000000000000000 3fffffffffffffff c000000000000000\n\
+    8000000000000001 7fffffffffffffff 3fffffffffffffff c000000000000000 c000000000000000\n\
+    8000000000000001 8000000000000001 4000000000000001 3fffffffffffffff c000000000000000\n\
+    8000000000000001 7fffffff 3fffffff ffffffffc0000000 ffffffffc0000000\n\
+    8000000000000001 80000000 40000000 ffffffffc0000000 ffffffffc0000000\n\
+    8000000000000001 80000001 40000000 ffffffffbfffffff ffffffffbfffffff\n\
+    8000000000000001 ffffffff 7fffffff ffffffff80000000 ffffffff80000000\n\
+    8000000000000001 100000000 80000000 ffffffff80000000 ffffffff80000000\n\
+    8000000000000001 100000001 80000000 ffffffff7fffffff ffffffff7fffffff\n\
+    7fffffff 0 0 0 0\n\
+    7fffffff 1 0 0 0\n\
+    7fffffff ffffffffffffffff 7ffffffe ffffffffffffffff 7ffffffe\n\
+    7fffffff fffffffffffffffe 7ffffffe ffffffffffffffff 7ffffffe\n\
+    7fffffff 8000000000000000 3fffffff ffffffffc0000000 3fffffff\n\
+    7fffffff 7fffffffffffffff 3fffffff 3fffffff 3fffffff\n\
+    7fffffff 8000000000000001 3fffffff ffffffffc0000000 3fffffff\n\
+    7fffffff 7fffffff 0 0 0\n\
+    7fffffff 80000000 0 0 0\n\
+    7fffffff 80000001 0 0 0\n\
+    7fffffff ffffffff 0 0 0\n\
+    7fffffff 100000000 0 0 0\n\
+    7fffffff 100000001 0 0 0\n\
+    80000000 0 0 0 0\n\
+    80000000 1 0 0 0\n\
+    80000000 ffffffffffffffff 7fffffff ffffffffffffffff 7fffffff\n\
+    80000000 fffffffffffffffe 7fffffff ffffffffffffffff 7fffffff\n\
+    80000000 8000000000000000 40000000 ffffffffc0000000 40000000\n\
+    80000000 7fffffffffffffff 3fffffff 3fffffff 3fffffff\n\
+    80000000 8000000000000001 40000000 ffffffffc0000000 40000000\n\
+    80000000 7fffffff 0 0 0\n\
+    80000000 80000000 0 0 0\n\
+    80000000 80000001 0 0 0\n\
+    80000000 ffffffff 0 0 0\n\
+    80000000 100000000 0 0 0\n\
+    80000000 100000001 0 0 0\n\
+    80000001 0 0 0 0\n\
+    80000001 1 0 0 0\n\
+    80000001 ffffffffffffffff 80000000 ffffffffffffffff 80000000\n\
+    80000001 fffffffffffffffe 80000000 ffffffffffffffff 80000000\n\
+    80000001 8000000000000000 40000000 ffffffffbfffffff 40000000\n\
+    80000001 7fffffffffffffff 40000000 40000000 40000000\n\
+    80000001 8000000000000001 40000000 ffffffffbfffffff 40000000\n\
+    80000001 7fffffff 0 0 0\n\
+    80000001 80000000 0 0 0\n\
+    80000001 80000001 0 0 0\n\
+    80000001 ffffffff 0 0 0\n\
+    80000001 100000000 0 0 0\n\
+    80000001 100000001 0 0 0\n\
+    ffffffff 0 0 0 0\n\
+    ffffffff 1 0 0 0\n\
+    ffffffff ffffffffffffffff fffffffe ffffffffffffffff fffffffe\n\
+    ffffffff fffffffffffffffe fffffffe ffffffffffffffff fffffffe\n\
+    ffffffff 8000000000000000 7fffffff ffffffff80000000 7fffffff\n\
+    ffffffff 7fffffffffffffff 7fffffff 7fffffff 7fffffff\n\
+    ffffffff 8000000000000001 7fffffff ffffffff80000000 7fffffff\n\
+    ffffffff 7fffffff 0 0 0\n\
+    ffffffff 80000000 0 0 0\n\
+    ffffffff 80000001 0 0 0\n\
+    ffffffff ffffffff 0 0 0\n\
+    ffffffff 100000000 0 0 0\n\
+    ffffffff 100000001 0 0 0\n\
+    100000000 0 0 0 0\n\
+    100000000 1 0 0 0\n\
+    100000000 ffffffffffffffff ffffffff ffffffffffffffff ffffffff\n\
+    100000000 fffffffffffffffe ffffffff ffffffffffffffff ffffffff\n\
+    100000000 8000000000000000 80000000 ffffffff80000000 80000000\n\
+    100000000 7fffffffffffffff 7fffffff 7fffffff 7fffffff\n\
+    100000000 8000000000000001 80000000 ffffffff80000000 80000000\n\
+    100000000 7fffffff 0 0 0\n\
+    100000000 80000000 0 0 0\n\
+    100000000 80000001 0 0 0\n\
+    100000000 ffffffff 0 0 0\n\
+    100000000 100000000 1 1 1\n\
+    100000000 100000001 1 1 1\n\
+    100000001 0 0 0 0\n\
+    100000001 1 0 0 0\n\
+    100000001 ffffffffffffffff 100000000 ffffffffffffffff 100000000\n\
+    100000001 fffffffffffffffe 100000000 ffffffffffffffff 100000000\n\
+    100000001 8000000000000000 80000000 ffffffff7fffffff 80000000\n\
+    100000001 7fffffffffffffff 80000000 80000000 80000000\n\
+    100000001 8000000000000001 80000000 ffffffff7fffffff 80000000\n\
+    100000001 7fffffff 0 0 0\n\
+    100000001 80000000 0 0 0\n\
+    100000001 80000001 0 0 0\n\
+    100000001 ffffffff 0 0 0\n\
+    100000001 100000000 1 1 1\n\
+    100000001 100000001 1 1 1";
 
-// The high and the low word of a dividend and a divisor, by their places, and quotient and remainder.
-type Quotient = (usize, usize, usize, Option<(u64, u64)>);
+// The high and the low word of a dividend and a divisor without signs, and quotient and remainder where the quotient fits.
+const QUOTIENTS: &str = "0 0 1 0 0\n\
+    0 0 ffffffffffffffff 0 0\n\
+    0 0 8000000000000000 0 0\n\
+    0 0 7fffffffffffffff 0 0\n\
+    0 0 ffffffff 0 0\n\
+    0 1 1 1 0\n\
+    0 1 ffffffffffffffff 0 1\n\
+    0 1 8000000000000000 0 1\n\
+    0 1 7fffffffffffffff 0 1\n\
+    0 1 ffffffff 0 1\n\
+    0 ffffffffffffffff 1 ffffffffffffffff 0\n\
+    0 ffffffffffffffff ffffffffffffffff 1 0\n\
+    0 ffffffffffffffff 8000000000000000 1 7fffffffffffffff\n\
+    0 ffffffffffffffff 7fffffffffffffff 2 1\n\
+    0 ffffffffffffffff ffffffff 100000001 0\n\
+    0 8000000000000000 1 8000000000000000 0\n\
+    0 8000000000000000 ffffffffffffffff 0 8000000000000000\n\
+    0 8000000000000000 8000000000000000 1 0\n\
+    0 8000000000000000 7fffffffffffffff 1 1\n\
+    0 8000000000000000 ffffffff 80000000 80000000\n\
+    1 0 ffffffffffffffff 1 1\n\
+    1 0 8000000000000000 2 0\n\
+    1 0 7fffffffffffffff 2 2\n\
+    1 0 ffffffff 100000001 1\n\
+    1 1 ffffffffffffffff 1 2\n\
+    1 1 8000000000000000 2 1\n\
+    1 1 7fffffffffffffff 2 3\n\
+    1 1 ffffffff 100000001 2\n\
+    1 ffffffffffffffff ffffffffffffffff 2 1\n\
+    1 ffffffffffffffff 8000000000000000 3 7fffffffffffffff\n\
+    1 ffffffffffffffff 7fffffffffffffff 4 3\n\
+    1 ffffffffffffffff ffffffff 200000002 1\n\
+    1 8000000000000000 ffffffffffffffff 1 8000000000000001\n\
+    1 8000000000000000 8000000000000000 3 0\n\
+    1 8000000000000000 7fffffffffffffff 3 3\n\
+    1 8000000000000000 ffffffff 180000001 80000001\n\
+    8000000000000000 0 ffffffffffffffff 8000000000000000 8000000000000000\n\
+    8000000000000000 1 ffffffffffffffff 8000000000000000 8000000000000001\n\
+    8000000000000000 ffffffffffffffff ffffffffffffffff 8000000000000001 8000000000000000\n\
+    8000000000000000 8000000000000000 ffffffffffffffff 8000000000000001 1\n\
+    7fffffffffffffff 0 ffffffffffffffff 7fffffffffffffff 7fffffffffffffff\n\
+    7fffffffffffffff 0 8000000000000000 fffffffffffffffe 0\n\
+    7fffffffffffffff 1 ffffffffffffffff 7fffffffffffffff 8000000000000000\n\
+    7fffffffffffffff 1 8000000000000000 fffffffffffffffe 1\n\
+    7fffffffffffffff ffffffffffffffff ffffffffffffffff 8000000000000000 7fffffffffffffff\n\
+    7fffffffffffffff ffffffffffffffff 8000000000000000 ffffffffffffffff 7fffffffffffffff\n\
+    7fffffffffffffff 8000000000000000 ffffffffffffffff 8000000000000000 0\n\
+    7fffffffffffffff 8000000000000000 8000000000000000 ffffffffffffffff 0\n\
+    80000000 0 ffffffffffffffff 80000000 80000000\n\
+    80000000 0 8000000000000000 100000000 0\n\
+    80000000 0 7fffffffffffffff 100000000 100000000\n\
+    80000000 0 ffffffff 8000000080000000 80000000\n\
+    80000000 1 ffffffffffffffff 80000000 80000001\n\
+    80000000 1 8000000000000000 100000000 1\n\
+    80000000 1 7fffffffffffffff 100000000 100000001\n\
+    80000000 1 ffffffff 8000000080000000 80000001\n\
+    80000000 ffffffffffffffff ffffffffffffffff 80000001 80000000\n\
+    80000000 ffffffffffffffff 8000000000000000 100000001 7fffffffffffffff\n\
+    80000000 ffffffffffffffff 7fffffffffffffff 100000002 100000001\n\
+    80000000 ffffffffffffffff ffffffff 8000000180000001 80000000\n\
+    80000000 8000000000000000 ffffffffffffffff 80000000 8000000080000000\n\
+    80000000 8000000000000000 8000000000000000 100000001 0\n\
+    80000000 8000000000000000 7fffffffffffffff 100000001 100000001\n\
+    80000000 8000000000000000 ffffffff 8000000100000001 1\n\
+    100000001 0 ffffffffffffffff 100000001 100000001\n\
+    100000001 0 8000000000000000 200000002 0\n\
+    100000001 0 7fffffffffffffff 200000002 200000002\n\
+    100000001 1 ffffffffffffffff 100000001 100000002\n\
+    100000001 1 8000000000000000 200000002 1\n\
+    100000001 1 7fffffffffffffff 200000002 200000003\n\
+    100000001 ffffffffffffffff ffffffffffffffff 100000002 100000001\n\
+    100000001 ffffffffffffffff 8000000000000000 200000003 7fffffffffffffff\n\
+    100000001 ffffffffffffffff 7fffffffffffffff 200000004 200000003\n\
+    100000001 8000000000000000 ffffffffffffffff 100000001 8000000100000001\n\
+    100000001 8000000000000000 8000000000000000 200000003 0\n\
+    100000001 8000000000000000 7fffffffffffffff 200000003 200000003\n\
+    0 0 0\n\
+    1 0 0\n\
+    1 ffffffffffffffff 0\n\
+    ffffffffffffffff 0 0\n\
+    ffffffffffffffff 0 7fffffffffffffff\n\
+    ffffffffffffffff 1 ffffffffffffffff\n\
+    ffffffffffffffff ffffffffffffffff 0\n\
+    ffffffffffffffff ffffffffffffffff 7fffffffffffffff\n\
+    ffffffffffffffff 8000000000000000 ffffffffffffffff\n\
+    8000000000000000 0 0\n\
+    8000000000000000 0 ffffffff\n\
+    8000000000000000 1 7fffffffffffffff\n\
+    8000000000000000 ffffffffffffffff 8000000000000000\n\
+    8000000000000000 8000000000000000 1\n\
+    7fffffffffffffff 0 0\n\
+    7fffffffffffffff 1 0\n\
+    7fffffffffffffff ffffffffffffffff 0\n\
+    7fffffffffffffff 8000000000000000 0\n\
+    80000000 0 0\n\
+    80000000 ffffffffffffffff 0\n\
+    100000001 0 0\n\
+    100000001 1 1\n\
+    100000001 ffffffffffffffff ffffffff";
 
-// Without signs.
-const QUOTIENTS: [Quotient; 99] = [
-    (0, 0, 1, Some((0, 0))),
-    (0, 0, 2, Some((0, 0))),
-    (0, 0, 4, Some((0, 0))),
-    (0, 0, 5, Some((0, 0))),
-    (0, 0, 10, Some((0, 0))),
-    (0, 1, 1, Some((1, 0))),
-    (0, 1, 2, Some((0, 1))),
-    (0, 1, 4, Some((0, 1))),
-    (0, 1, 5, Some((0, 1))),
-    (0, 1, 10, Some((0, 1))),
-    (0, 2, 1, Some((0xffffffffffffffff, 0))),
-    (0, 2, 2, Some((1, 0))),
-    (0, 2, 4, Some((1, 0x7fffffffffffffff))),
-    (0, 2, 5, Some((2, 1))),
-    (0, 2, 10, Some((0x100000001, 0))),
-    (0, 4, 1, Some((0x8000000000000000, 0))),
-    (0, 4, 2, Some((0, 0x8000000000000000))),
-    (0, 4, 4, Some((1, 0))),
-    (0, 4, 5, Some((1, 1))),
-    (0, 4, 10, Some((0x80000000, 0x80000000))),
-    (1, 0, 2, Some((1, 1))),
-    (1, 0, 4, Some((2, 0))),
-    (1, 0, 5, Some((2, 2))),
-    (1, 0, 10, Some((0x100000001, 1))),
-    (1, 1, 2, Some((1, 2))),
-    (1, 1, 4, Some((2, 1))),
-    (1, 1, 5, Some((2, 3))),
-    (1, 1, 10, Some((0x100000001, 2))),
-    (1, 2, 2, Some((2, 1))),
-    (1, 2, 4, Some((3, 0x7fffffffffffffff))),
-    (1, 2, 5, Some((4, 3))),
-    (1, 2, 10, Some((0x200000002, 1))),
-    (1, 4, 2, Some((1, 0x8000000000000001))),
-    (1, 4, 4, Some((3, 0))),
-    (1, 4, 5, Some((3, 3))),
-    (1, 4, 10, Some((0x180000001, 0x80000001))),
-    (4, 0, 2, Some((0x8000000000000000, 0x8000000000000000))),
-    (4, 1, 2, Some((0x8000000000000000, 0x8000000000000001))),
-    (4, 2, 2, Some((0x8000000000000001, 0x8000000000000000))),
-    (4, 4, 2, Some((0x8000000000000001, 1))),
-    (5, 0, 2, Some((0x7fffffffffffffff, 0x7fffffffffffffff))),
-    (5, 0, 4, Some((0xfffffffffffffffe, 0))),
-    (5, 1, 2, Some((0x7fffffffffffffff, 0x8000000000000000))),
-    (5, 1, 4, Some((0xfffffffffffffffe, 1))),
-    (5, 2, 2, Some((0x8000000000000000, 0x7fffffffffffffff))),
-    (5, 2, 4, Some((0xffffffffffffffff, 0x7fffffffffffffff))),
-    (5, 4, 2, Some((0x8000000000000000, 0))),
-    (5, 4, 4, Some((0xffffffffffffffff, 0))),
-    (8, 0, 2, Some((0x80000000, 0x80000000))),
-    (8, 0, 4, Some((0x100000000, 0))),
-    (8, 0, 5, Some((0x100000000, 0x100000000))),
-    (8, 0, 10, Some((0x8000000080000000, 0x80000000))),
-    (8, 1, 2, Some((0x80000000, 0x80000001))),
-    (8, 1, 4, Some((0x100000000, 1))),
-    (8, 1, 5, Some((0x100000000, 0x100000001))),
-    (8, 1, 10, Some((0x8000000080000000, 0x80000001))),
-    (8, 2, 2, Some((0x80000001, 0x80000000))),
-    (8, 2, 4, Some((0x100000001, 0x7fffffffffffffff))),
-    (8, 2, 5, Some((0x100000002, 0x100000001))),
-    (8, 2, 10, Some((0x8000000180000001, 0x80000000))),
-    (8, 4, 2, Some((0x80000000, 0x8000000080000000))),
-    (8, 4, 4, Some((0x100000001, 0))),
-    (8, 4, 5, Some((0x100000001, 0x100000001))),
-    (8, 4, 10, Some((0x8000000100000001, 1))),
-    (12, 0, 2, Some((0x100000001, 0x100000001))),
-    (12, 0, 4, Some((0x200000002, 0))),
-    (12, 0, 5, Some((0x200000002, 0x200000002))),
-    (12, 1, 2, Some((0x100000001, 0x100000002))),
-    (12, 1, 4, Some((0x200000002, 1))),
-    (12, 1, 5, Some((0x200000002, 0x200000003))),
-    (12, 2, 2, Some((0x100000002, 0x100000001))),
-    (12, 2, 4, Some((0x200000003, 0x7fffffffffffffff))),
-    (12, 2, 5, Some((0x200000004, 0x200000003))),
-    (12, 4, 2, Some((0x100000001, 0x8000000100000001))),
-    (12, 4, 4, Some((0x200000003, 0))),
-    (12, 4, 5, Some((0x200000003, 0x200000003))),
-    (0, 0, 0, None),
-    (1, 0, 0, None),
-    (1, 2, 0, None),
-    (2, 0, 0, None),
-    (2, 0, 5, None),
-    (2, 1, 2, None),
-    (2, 2, 0, None),
-    (2, 2, 5, None),
-    (2, 4, 2, None),
-    (4, 0, 0, None),
-    (4, 0, 10, None),
-    (4, 1, 5, None),
-    (4, 2, 4, None),
-    (4, 4, 1, None),
-    (5, 0, 0, None),
-    (5, 1, 0, None),
-    (5, 2, 0, None),
-    (5, 4, 0, None),
-    (8, 0, 0, None),
-    (8, 2, 0, None),
-    (12, 0, 0, None),
-    (12, 1, 1, None),
-    (12, 2, 10, None),
-];
-
-// With signs, as words.
-const SIGNED_QUOTIENTS: [Quotient; 87] = [
-    (0, 0, 1, Some((0, 0))),
-    (0, 0, 2, Some((0, 0))),
-    (0, 0, 4, Some((0, 0))),
-    (0, 0, 5, Some((0, 0))),
-    (0, 0, 10, Some((0, 0))),
-    (0, 1, 1, Some((1, 0))),
-    (0, 1, 2, Some((0xffffffffffffffff, 0))),
-    (0, 1, 4, Some((0, 1))),
-    (0, 1, 5, Some((0, 1))),
-    (0, 1, 10, Some((0, 1))),
-    (0, 2, 4, Some((0xffffffffffffffff, 0x7fffffffffffffff))),
-    (0, 2, 5, Some((2, 1))),
-    (0, 2, 10, Some((0x100000001, 0))),
-    (0, 4, 2, Some((0x8000000000000000, 0))),
-    (0, 4, 4, Some((0xffffffffffffffff, 0))),
-    (0, 4, 5, Some((1, 1))),
-    (0, 4, 10, Some((0x80000000, 0x80000000))),
-    (1, 0, 4, Some((0xfffffffffffffffe, 0))),
-    (1, 0, 5, Some((2, 2))),
-    (1, 0, 10, Some((0x100000001, 1))),
-    (1, 1, 4, Some((0xfffffffffffffffe, 1))),
-    (1, 1, 5, Some((2, 3))),
-    (1, 1, 10, Some((0x100000001, 2))),
-    (1, 2, 4, Some((0xfffffffffffffffd, 0x7fffffffffffffff))),
-    (1, 2, 5, Some((4, 3))),
-    (1, 2, 10, Some((0x200000002, 1))),
-    (1, 4, 4, Some((0xfffffffffffffffd, 0))),
-    (1, 4, 5, Some((3, 3))),
-    (1, 4, 10, Some((0x180000001, 0x80000001))),
-    (2, 0, 4, Some((2, 0))),
-    (2, 0, 5, Some((0xfffffffffffffffe, 0xfffffffffffffffe))),
-    (2, 0, 10, Some((0xfffffffeffffffff, 0xffffffffffffffff))),
-    (2, 1, 4, Some((1, 0x8000000000000001))),
-    (2, 1, 5, Some((0xfffffffffffffffe, 0xffffffffffffffff))),
-    (2, 1, 10, Some((0xfffffffeffffffff, 0))),
-    (2, 2, 1, Some((0xffffffffffffffff, 0))),
-    (2, 2, 2, Some((1, 0))),
-    (2, 2, 4, Some((0, 0xffffffffffffffff))),
-    (2, 2, 5, Some((0, 0xffffffffffffffff))),
-    (2, 2, 10, Some((0, 0xffffffffffffffff))),
-    (2, 4, 1, Some((0x8000000000000000, 0))),
-    (2, 4, 4, Some((1, 0))),
-    (2, 4, 5, Some((0xffffffffffffffff, 0xffffffffffffffff))),
-    (2, 4, 10, Some((0xffffffff80000000, 0xffffffff80000000))),
-    (8, 0, 4, Some((0xffffffff00000000, 0))),
-    (8, 0, 5, Some((0x100000000, 0x100000000))),
-    (8, 1, 4, Some((0xffffffff00000000, 1))),
-    (8, 1, 5, Some((0x100000000, 0x100000001))),
-    (8, 2, 4, Some((0xfffffffeffffffff, 0x7fffffffffffffff))),
-    (8, 2, 5, Some((0x100000002, 0x100000001))),
-    (8, 4, 4, Some((0xfffffffeffffffff, 0))),
-    (8, 4, 5, Some((0x100000001, 0x100000001))),
-    (12, 0, 4, Some((0xfffffffdfffffffe, 0))),
-    (12, 0, 5, Some((0x200000002, 0x200000002))),
-    (12, 1, 4, Some((0xfffffffdfffffffe, 1))),
-    (12, 1, 5, Some((0x200000002, 0x200000003))),
-    (12, 2, 4, Some((0xfffffffdfffffffd, 0x7fffffffffffffff))),
-    (12, 2, 5, Some((0x200000004, 0x200000003))),
-    (12, 4, 4, Some((0xfffffffdfffffffd, 0))),
-    (12, 4, 5, Some((0x200000003, 0x200000003))),
-    (0, 0, 0, None),
-    (0, 2, 2, None),
-    (1, 0, 1, None),
-    (1, 1, 2, None),
-    (1, 4, 0, None),
-    (2, 0, 1, None),
-    (2, 1, 2, None),
-    (4, 0, 0, None),
-    (4, 0, 5, None),
-    (4, 1, 2, None),
-    (4, 2, 0, None),
-    (4, 2, 5, None),
-    (4, 4, 2, None),
-    (5, 0, 0, None),
-    (5, 0, 5, None),
-    (5, 1, 2, None),
-    (5, 2, 0, None),
-    (5, 2, 5, None),
-    (5, 4, 2, None),
-    (8, 0, 0, None),
-    (8, 1, 0, None),
-    (8, 2, 0, None),
-    (8, 4, 0, None),
-    (12, 0, 0, None),
-    (12, 1, 0, None),
-    (12, 2, 0, None),
-    (12, 4, 0, None),
-];
+// The same with signs.
+const SIGNED_QUOTIENTS: &str = "0 0 1 0 0\n\
+    0 0 ffffffffffffffff 0 0\n\
+    0 0 8000000000000000 0 0\n\
+    0 0 7fffffffffffffff 0 0\n\
+    0 0 ffffffff 0 0\n\
+    0 1 1 1 0\n\
+    0 1 ffffffffffffffff ffffffffffffffff 0\n\
+    0 1 8000000000000000 0 1\n\
+    0 1 7fffffffffffffff 0 1\n\
+    0 1 ffffffff 0 1\n\
+    0 ffffffffffffffff 8000000000000000 ffffffffffffffff 7fffffffffffffff\n\
+    0 ffffffffffffffff 7fffffffffffffff 2 1\n\
+    0 ffffffffffffffff ffffffff 100000001 0\n\
+    0 8000000000000000 ffffffffffffffff 8000000000000000 0\n\
+    0 8000000000000000 8000000000000000 ffffffffffffffff 0\n\
+    0 8000000000000000 7fffffffffffffff 1 1\n\
+    0 8000000000000000 ffffffff 80000000 80000000\n\
+    1 0 8000000000000000 fffffffffffffffe 0\n\
+    1 0 7fffffffffffffff 2 2\n\
+    1 0 ffffffff 100000001 1\n\
+    1 1 8000000000000000 fffffffffffffffe 1\n\
+    1 1 7fffffffffffffff 2 3\n\
+    1 1 ffffffff 100000001 2\n\
+    1 ffffffffffffffff 8000000000000000 fffffffffffffffd 7fffffffffffffff\n\
+    1 ffffffffffffffff 7fffffffffffffff 4 3\n\
+    1 ffffffffffffffff ffffffff 200000002 1\n\
+    1 8000000000000000 8000000000000000 fffffffffffffffd 0\n\
+    1 8000000000000000 7fffffffffffffff 3 3\n\
+    1 8000000000000000 ffffffff 180000001 80000001\n\
+    ffffffffffffffff 0 8000000000000000 2 0\n\
+    ffffffffffffffff 0 7fffffffffffffff fffffffffffffffe fffffffffffffffe\n\
+    ffffffffffffffff 0 ffffffff fffffffeffffffff ffffffffffffffff\n\
+    ffffffffffffffff 1 8000000000000000 1 8000000000000001\n\
+    ffffffffffffffff 1 7fffffffffffffff fffffffffffffffe ffffffffffffffff\n\
+    ffffffffffffffff 1 ffffffff fffffffeffffffff 0\n\
+    ffffffffffffffff ffffffffffffffff 1 ffffffffffffffff 0\n\
+    ffffffffffffffff ffffffffffffffff ffffffffffffffff 1 0\n\
+    ffffffffffffffff ffffffffffffffff 8000000000000000 0 ffffffffffffffff\n\
+    ffffffffffffffff ffffffffffffffff 7fffffffffffffff 0 ffffffffffffffff\n\
+    ffffffffffffffff ffffffffffffffff ffffffff 0 ffffffffffffffff\n\
+    ffffffffffffffff 8000000000000000 1 8000000000000000 0\n\
+    ffffffffffffffff 8000000000000000 8000000000000000 1 0\n\
+    ffffffffffffffff 8000000000000000 7fffffffffffffff ffffffffffffffff ffffffffffffffff\n\
+    ffffffffffffffff 8000000000000000 ffffffff ffffffff80000000 ffffffff80000000\n\
+    80000000 0 8000000000000000 ffffffff00000000 0\n\
+    80000000 0 7fffffffffffffff 100000000 100000000\n\
+    80000000 1 8000000000000000 ffffffff00000000 1\n\
+    80000000 1 7fffffffffffffff 100000000 100000001\n\
+    80000000 ffffffffffffffff 8000000000000000 fffffffeffffffff 7fffffffffffffff\n\
+    80000000 ffffffffffffffff 7fffffffffffffff 100000002 100000001\n\
+    80000000 8000000000000000 8000000000000000 fffffffeffffffff 0\n\
+    80000000 8000000000000000 7fffffffffffffff 100000001 100000001\n\
+    100000001 0 8000000000000000 fffffffdfffffffe 0\n\
+    100000001 0 7fffffffffffffff 200000002 200000002\n\
+    100000001 1 8000000000000000 fffffffdfffffffe 1\n\
+    100000001 1 7fffffffffffffff 200000002 200000003\n\
+    100000001 ffffffffffffffff 8000000000000000 fffffffdfffffffd 7fffffffffffffff\n\
+    100000001 ffffffffffffffff 7fffffffffffffff 200000004 200000003\n\
+    100000001 8000000000000000 8000000000000000 fffffffdfffffffd 0\n\
+    100000001 8000000000000000 7fffffffffffffff 200000003 200000003\n\
+    0 0 0\n\
+    0 ffffffffffffffff ffffffffffffffff\n\
+    1 0 1\n\
+    1 1 ffffffffffffffff\n\
+    1 8000000000000000 0\n\
+    ffffffffffffffff 0 1\n\
+    ffffffffffffffff 1 ffffffffffffffff\n\
+    8000000000000000 0 0\n\
+    8000000000000000 0 7fffffffffffffff\n\
+    8000000000000000 1 ffffffffffffffff\n\
+    8000000000000000 ffffffffffffffff 0\n\
+    8000000000000000 ffffffffffffffff 7fffffffffffffff\n\
+    8000000000000000 8000000000000000 ffffffffffffffff\n\
+    7fffffffffffffff 0 0\n\
+    7fffffffffffffff 0 7fffffffffffffff\n\
+    7fffffffffffffff 1 ffffffffffffffff\n\
+    7fffffffffffffff ffffffffffffffff 0\n\
+    7fffffffffffffff ffffffffffffffff 7fffffffffffffff\n\
+    7fffffffffffffff 8000000000000000 ffffffffffffffff\n\
+    80000000 0 0\n\
+    80000000 1 0\n\
+    80000000 ffffffffffffffff 0\n\
+    80000000 8000000000000000 0\n\
+    100000001 0 0\n\
+    100000001 1 0\n\
+    100000001 ffffffffffffffff 0\n\
+    100000001 8000000000000000 0";
 
 // A word, a number of bytes, and its low bytes with zeros, with their sign, and in the other order.
-const PARTS: [(u64, u32, u64, u64, u64); 28] = [
-    (0, 1, 0, 0, 0),
-    (0, 2, 0, 0, 0),
-    (0, 4, 0, 0, 0),
-    (0, 8, 0, 0, 0),
-    (0xf1e2d3c4b5a69788, 1, 0x88, 0xffffffffffffff88, 0x88),
-    (0xf1e2d3c4b5a69788, 2, 0x9788, 0xffffffffffff9788, 0x8897),
-    (
-        0xf1e2d3c4b5a69788,
-        4,
-        0xb5a69788,
-        0xffffffffb5a69788,
-        0x8897a6b5,
-    ),
-    (
-        0xf1e2d3c4b5a69788,
-        8,
-        0xf1e2d3c4b5a69788,
-        0xf1e2d3c4b5a69788,
-        0x8897a6b5c4d3e2f1,
-    ),
-    (0x80, 1, 0x80, 0xffffffffffffff80, 0x80),
-    (0x80, 2, 0x80, 0x80, 0x8000),
-    (0x80, 4, 0x80, 0x80, 0x80000000),
-    (0x80, 8, 0x80, 0x80, 0x8000000000000000),
-    (0x7fff, 1, 0xff, 0xffffffffffffffff, 0xff),
-    (0x7fff, 2, 0x7fff, 0x7fff, 0xff7f),
-    (0x7fff, 4, 0x7fff, 0x7fff, 0xff7f0000),
-    (0x7fff, 8, 0x7fff, 0x7fff, 0xff7f000000000000),
-    (0x7fffffff, 1, 0xff, 0xffffffffffffffff, 0xff),
-    (0x7fffffff, 2, 0xffff, 0xffffffffffffffff, 0xffff),
-    (0x7fffffff, 4, 0x7fffffff, 0x7fffffff, 0xffffff7f),
-    (0x7fffffff, 8, 0x7fffffff, 0x7fffffff, 0xffffff7f00000000),
-    (0xffffffffffffffff, 1, 0xff, 0xffffffffffffffff, 0xff),
-    (0xffffffffffffffff, 2, 0xffff, 0xffffffffffffffff, 0xffff),
-    (
-        0xffffffffffffffff,
-        4,
-        0xffffffff,
-        0xffffffffffffffff,
-        0xffffffff,
-    ),
-    (
-        0xffffffffffffffff,
-        8,
-        0xffffffffffffffff,
-        0xffffffffffffffff,
-        0xffffffffffffffff,
-    ),
-    (0x8000000000000000, 1, 0, 0, 0),
-    (0x8000000000000000, 2, 0, 0, 0),
-    (0x8000000000000000, 4, 0, 0, 0),
-    (
-        0x8000000000000000,
-        8,
-        0x8000000000000000,
-        0x8000000000000000,
-        0x80,
-    ),
-];
+const PARTS: &str = "0 1 0 0 0\n\
+    0 2 0 0 0\n\
+    0 4 0 0 0\n\
+    0 8 0 0 0\n\
+    f1e2d3c4b5a69788 1 88 ffffffffffffff88 88\n\
+    f1e2d3c4b5a69788 2 9788 ffffffffffff9788 8897\n\
+    f1e2d3c4b5a69788 4 b5a69788 ffffffffb5a69788 8897a6b5\n\
+    f1e2d3c4b5a69788 8 f1e2d3c4b5a69788 f1e2d3c4b5a69788 8897a6b5c4d3e2f1\n\
+    80 1 80 ffffffffffffff80 80\n\
+    80 2 80 80 8000\n\
+    80 4 80 80 80000000\n\
+    80 8 80 80 8000000000000000\n\
+    7fff 1 ff ffffffffffffffff ff\n\
+    7fff 2 7fff 7fff ff7f\n\
+    7fff 4 7fff 7fff ff7f0000\n\
+    7fff 8 7fff 7fff ff7f000000000000\n\
+    7fffffff 1 ff ffffffffffffffff ff\n\
+    7fffffff 2 ffff ffffffffffffffff ffff\n\
+    7fffffff 4 7fffffff 7fffffff ffffff7f\n\
+    7fffffff 8 7fffffff 7fffffff ffffff7f00000000\n\
+    ffffffffffffffff 1 ff ffffffffffffffff ff\n\
+    ffffffffffffffff 2 ffff ffffffffffffffff ffff\n\
+    ffffffffffffffff 4 ffffffff ffffffffffffffff ffffffff\n\
+    ffffffffffffffff 8 ffffffffffffffff ffffffffffffffff ffffffffffffffff\n\
+    8000000000000000 1 0 0 0\n\
+    8000000000000000 2 0 0 0\n\
+    8000000000000000 4 0 0 0\n\
+    8000000000000000 8 8000000000000000 8000000000000000 80";
 
-// The value at a place.
-fn at(rt: &impl Abort, place: usize) -> u64 {
-    match VALUES.get(place) {
-        Some(value) => *value,
-        None => panic!(rt; "no value {place}"),
-    }
-}
-
-#[test]
-fn multiplies(rt: HostRuntime) {
-    for (a, b, unsigned, signed, mixed) in PRODUCTS {
-        let (a, b) = (at(&rt, a), at(&rt, b));
-        assert_eq!(rt; mul_high_u(a, b), unsigned);
-        assert_eq!(rt;
-            mul_high(a.cast_signed(), b.cast_signed()).cast_unsigned(),
-            signed
-        );
-        assert_eq!(rt; mul_high_mixed(a, b), mixed);
-    }
-}
-
-#[test]
-fn divides(rt: HostRuntime) {
-    for (high, low, by, quotient) in QUOTIENTS {
-        assert_eq!(rt;
-            div_wide_u(at(&rt, high), at(&rt, low), at(&rt, by)),
-            quotient
-        );
-    }
-    for (high, low, by, quotient) in SIGNED_QUOTIENTS {
-        let high = at(&rt, high).cast_signed();
-        let by = at(&rt, by).cast_signed();
-        let wanted = quotient.map(|(q, r)| (q.cast_signed(), r.cast_signed()));
-        assert_eq!(rt; div_wide(high, at(&rt, low), by), wanted);
-    }
-}
-
-#[test]
-fn takes_parts(rt: HostRuntime) {
-    for (value, bytes, zero, sign, swapped) in PARTS {
-        if bytes == 1 || bytes == 2 || bytes == 4 || bytes == 8 {
-            assert_eq!(rt; zero_part(value, bytes), zero);
-            assert_eq!(rt; sign_part(value, bytes), sign);
-            assert_eq!(rt; swap_bytes(value, bytes), swapped);
+// The words of a row.
+fn words(alloc: Global, row: &str) -> Result<Vec<u64>, AllocError> {
+    let mut words = Vec::new(alloc);
+    for digits in row.split(' ') {
+        if let Ok(word) = u64::from_str_radix(digits, 16) {
+            words.push(word)?;
         }
     }
+    Ok(words)
+}
+
+fn multiply(rt: &impl Abort, row: &[u64]) {
+    match row {
+        [a, b, unsigned, signed, mixed] => {
+            assert_eq!(rt; mul_high_u(*a, *b), *unsigned);
+            let product = mul_high(a.cast_signed(), b.cast_signed());
+            assert_eq!(rt; product.cast_unsigned(), *signed);
+            assert_eq!(rt; mul_high_mixed(*a, *b), *mixed);
+        }
+        _ => panic!(rt; "no product"),
+    }
+}
+
+fn divide(rt: &impl Abort, row: &[u64]) {
+    match row {
+        [high, low, by, quotient, remainder] => {
+            assert_eq!(rt; div_wide_u(*high, *low, *by), Some((*quotient, *remainder)));
+        }
+        [high, low, by] => assert_eq!(rt; div_wide_u(*high, *low, *by), None),
+        _ => panic!(rt; "no quotient"),
+    }
+}
+
+fn divide_signed(rt: &impl Abort, row: &[u64]) {
+    match row {
+        [high, low, by, quotient, remainder] => {
+            let wanted = Some((quotient.cast_signed(), remainder.cast_signed()));
+            assert_eq!(rt;
+                div_wide(high.cast_signed(), *low, by.cast_signed()),
+                wanted
+            );
+        }
+        [high, low, by] => {
+            assert_eq!(rt; div_wide(high.cast_signed(), *low, by.cast_signed()), None);
+        }
+        _ => panic!(rt; "no quotient"),
+    }
+}
+
+fn take_parts(rt: &impl Abort, row: &[u64]) {
+    match row {
+        [word, bytes, zero, sign, swapped] => {
+            assert!(rt; *bytes == 1 || *bytes == 2 || *bytes == 4 || *bytes == 8);
+            let bytes = *bytes as u32;
+            assert_eq!(rt; zero_part(*word, bytes), *zero);
+            assert_eq!(rt; sign_part(*word, bytes), *sign);
+            assert_eq!(rt; swap_bytes(*word, bytes), *swapped);
+        }
+        _ => panic!(rt; "no parts"),
+    }
+}
+
+#[test]
+fn multiplies(rt: HostRuntime) -> Result<(), Fail> {
+    for row in PRODUCTS.lines() {
+        multiply(&rt, &words(rt.alloc(), row)?);
+    }
+    Ok(())
+}
+
+#[test]
+fn divides(rt: HostRuntime) -> Result<(), Fail> {
+    for row in QUOTIENTS.lines() {
+        divide(&rt, &words(rt.alloc(), row)?);
+    }
+    Ok(())
+}
+
+#[test]
+fn divides_with_signs(rt: HostRuntime) -> Result<(), Fail> {
+    for row in SIGNED_QUOTIENTS.lines() {
+        divide_signed(&rt, &words(rt.alloc(), row)?);
+    }
+    Ok(())
+}
+
+#[test]
+fn takes_parts(rt: HostRuntime) -> Result<(), Fail> {
+    for row in PARTS.lines() {
+        take_parts(&rt, &words(rt.alloc(), row)?);
+    }
+    Ok(())
 }

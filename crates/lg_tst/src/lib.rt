@@ -32,6 +32,3 @@ pub fn parse(alloc: Global, text: &[u8]) -> Result<Unit, Stop>
     parser.statements()?;
     parser.into_unit()
 }
-
-#[cfg(test)]
-mod tests;

@@ -1,8 +1,8 @@
 // Lists of nodes, with labels as they are mentioned and bound.
 
-use super::*;
 use lg_base::image::DataImage;
 use lg_base::refusal::{Refusal, RefusalKind, Stop};
+use lg_node::*;
 use std::test::Fail;
 
 #[test]
