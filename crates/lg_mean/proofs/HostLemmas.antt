@@ -1,6 +1,7 @@
 -- The heap mark never falls over a host call, and the parts of the memory grow with it.
 use Rattle.std.proofs.Common.{◌≡◌, ℕ, ◌+◌, ◌-◌, ◌*◌, ◌%◌, ◌≤◌, Bool, true, false, not, List, [], Option, Some, None, refl, sym, ap, ◌∙◌, length, slice_index, arith}
 use Rattle.std.specs.Prelude.{◌==◌, ◌&&◌, ◌||◌, nat_lt, nat_le, if◌then◌else◌}
+use Rattle.std.proofs.Math.Bool.{or-false}
 use mathlib.Core.Path.{fun_ext}
 use Rattle.lg_base.specs.Spaces.{raised, in_heap, mapped}
 use Rattle.lg_base.specs.declared.host_name.HostName.{HostName}
@@ -82,11 +83,7 @@ part_raised d g k k' frames low rise = fun_ext (λ a. by (within 0x20000000 d a)
         or_true : (b : Bool) → b || true ≡ true
         or_true true = refl
         or_true false = refl
-    by false false false r false l e f = rw e (or_false l)
-      where
-        or_false : (b : Bool) → b || false ≡ b
-        or_false true = refl
-        or_false false = refl
+    by false false false r false l e f = rw e (or-false l)
 
 -- the memory behind a call
 pub record IsLater (d g : ℕ) (frames : List Frame) (m' : Mem) : Type 0 where

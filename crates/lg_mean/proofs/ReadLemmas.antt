@@ -1,6 +1,7 @@
 -- A number that was written is read only where each of its bytes lies in a part.
 use Rattle.std.proofs.Common.{◌≡◌, ℕ, zero, suc, ◌+◌, Bool, true, false, Option, Some, None, refl}
 use Rattle.std.specs.Prelude.{◌&&◌, is_some, if◌then◌else◌}
+use Rattle.std.proofs.lemmas.Bool.{and_parts}
 use Rattle.lg_base.specs.Spaces.{mapped, loaded, number_at, byte_or_zero}
 use Rattle.lg_cells.specs.Memories.{writable}
 
@@ -8,20 +9,12 @@ some_of : (o : Option ℕ) → is_some o ≡ true → (b : ℕ) × (o ≡ Some b
 some_of None h = cc
 some_of (Some b) h = (b, refl)
 
-and_left : (b c : Bool) → b && c ≡ true → b ≡ true
-and_left true c h = refl
-and_left false c h = h
-
-and_right : (b c : Bool) → b && c ≡ true → c ≡ true
-and_right true c h = h
-and_right false c h = cc
-
 mapped_writable : (m : ℕ → Option ℕ) (p : ℕ → Bool) (a w : ℕ) → ((j b : ℕ) → m j ≡ Some b → p j ≡ true) → mapped m a w ≡ true → writable p a w ≡ true
 unfolding mapped writable
 mapped_writable m p a zero h e = refl
 mapped_writable m p a (suc w) h e =
-    let s = some_of (m a) (and_left (is_some (m a)) (mapped m (a + 1) w) e) in
-    rw (h a s.0 s.1) (mapped_writable m p (a + 1) w h (and_right (is_some (m a)) (mapped m (a + 1) w) e))
+    let s = some_of (m a) (and_parts (is_some (m a)) (mapped m (a + 1) w) e).0 in
+    rw (h a s.0 s.1) (mapped_writable m p (a + 1) w h (and_parts (is_some (m a)) (mapped m (a + 1) w) e).1)
 
 pub loaded_is_read : (m : ℕ → Option ℕ) (p : ℕ → Bool) (a w : ℕ) → ((j b : ℕ) → m j ≡ Some b → p j ≡ true) → loaded m a w ≡ (if writable p a w then loaded m a w else None)
 loaded_is_read m p a w h = by (mapped m a w) refl

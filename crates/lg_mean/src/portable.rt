@@ -21,7 +21,7 @@ use lg_base::refusal::OutOfMemory;
 use lg_io::sink::Sink;
 use lg_meaning::laws::{starts_fit, steps_keep_the_fit};
 use lg_node::laws::accepted_nodes_are_well_shaped;
-use lg_node::{LabelAddresses, NodeList, Shape, Unit};
+use lg_node::{LabelAddresses, Shape, Unit};
 use std::alloc::Global;
 use std::marker::Model;
 
@@ -40,15 +40,6 @@ impl Model for Portable {
     ghost Value = { PortableState };
 
     ghost view = { λ p. record { machine = p.machine; labels = p.labels; over = p.over; steps = p.steps } };
-}
-
-// What is true of every list of nodes: there are fewer than 2^32, and each label has a place.
-fn told_of(nodes: &NodeList)
-    ensures few { length nodes.now.nodes < 2 ^ 32 }
-    ensures places { length nodes.now.places ≡ length nodes.now.words }
-{
-    let _ = nodes.len();
-    let _ = nodes.labels();
 }
 
 impl Portable {
@@ -85,10 +76,11 @@ impl Portable {
         })
     }
 
-    /// One step of the node that comes next. The state is one of a run of this text: it was made by `new` for these nodes and this shape, and
-    /// fits them, as it does behind the step. `Undefined` exactly where the step is undefined by the table of undefined steps, with the line of its node; `WriteFault`
-    /// only where the count of faults of `out` rose, and then a part of the step's bytes may have been written, from the first one
-    /// on. After an answer other than `Went` it answers the same and changes nothing. Fewer than 2^64 - 1 steps went or ended before.
+    /// One step of the node that comes next. The state is one of a run of this text: it was made by `new` for these nodes and this
+    /// shape, and fits them, as it does behind the step. `Undefined` exactly where the definition `step` of lg_meaning leaves the step
+    /// undefined, with the line of its node; `WriteFault` only where the count of faults of `out` rose, and then a part of the step's
+    /// bytes may have been written, from the first one on. After an answer other than `Went` it answers the same and changes nothing.
+    /// Fewer than 2^64 - 1 steps went or ended before.
     pub fn step<O: Sink>(&mut self, unit: &Unit, shape: &Shape, out: &mut O) -> MeanStep
         requires made { IsTableOf unit.now.nodes shape.now self.old.labels }
         requires fits { Fits unit.now.nodes shape.now (state_of self.old.machine) }
@@ -106,7 +98,7 @@ impl Portable {
         }
         accepted_nodes_are_well_shaped();
         steps_keep_the_fit();
-        told_of(&unit.nodes);
+        unit.nodes.what_holds();
         let _ = self.machine.pushed();
         let node = unit.nodes.node(self.machine.place());
         let program = Program::new(&unit.nodes, shape, &self.labels);

@@ -3,7 +3,7 @@ use Rattle.std.proofs.Common.{◌≡◌, ◌≢◌, ℕ, zero, suc, ◌+◌, Boo
 use Rattle.std.specs.Prelude.{◌&&◌, slice_get, is_none}
 use Rattle.std.specs.Option.{option_and_then}
 use Rattle.std.specs.List.{list_any}
-use Rattle.std.proofs.lemmas.Bool.{eq-eqb}
+use Rattle.std.proofs.lemmas.Bool.{eq-eqb, or_right}
 use Rattle.std.proofs.lemmas.List.Elements.{All-get_or}
 use Rattle.std.proofs.lemmas.Option.{same_Some, slice_get_within, get_or_from_slice_get}
 use Rattle.lg_op.specs.declared.op.Op.{Op}
@@ -34,7 +34,6 @@ use Rattle.lg_node.proofs.WalkLemmas.{prepared_on}
 use Rattle.lg_meaning.specs.States.{State}
 use Rattle.lg_meaning.specs.Steps.{function_here}
 use Rattle.lg_meaning.specs.Fits.{RunsIn, IsTopOf, FitsWell}
-use Rattle.lg_meaning.proofs.OpenFacts.{or_right}
 use Rattle.lg_meaning.proofs.FunctionFacts.{IsAt, function_at_home}
 
 -- the node at a state's place, in an accepted text whose shape the state fits

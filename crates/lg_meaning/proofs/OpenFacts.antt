@@ -1,7 +1,7 @@
 -- Which addresses stay open where frames come and go, the heap grows and bytes are written.
 use Rattle.std.proofs.Common.{◌≡◌, ℕ, zero, suc, ◌+◌, ◌-◌, ◌<◌, ◌≤◌, Bool, true, false, List, ◌∷◌, Option, Some, None, refl, ap, ◌∙◌, arith}
 use Rattle.std.specs.Prelude.{◌||◌, ◌==◌, if◌then◌else◌, ◌%◌, ◌/◌}
-use Rattle.std.proofs.lemmas.Bool.{and_parts, eqb-true}
+use Rattle.std.proofs.lemmas.Bool.{and_parts, eqb-true, or_right}
 use Rattle.lg_base.specs.Spaces.{put_some, stored}
 use Rattle.lg_cells.specs.Cells.{within}
 use Rattle.lg_cells.specs.Memories.{without, writable}
@@ -20,10 +20,6 @@ third_more false true z w u h e = refl
 third_more false false true w u h e = rw (h refl) refl
 third_more false false false true u h e = refl
 third_more false false false false u h e = e
-
-pub or_right : (x y : Bool) → y ≡ true → (x || y) ≡ true
-or_right true y e = refl
-or_right false y e = e
 
 or_other : (x y : Bool) → x ≡ false → (x || y) ≡ true → y ≡ true
 or_other true y out e = cc

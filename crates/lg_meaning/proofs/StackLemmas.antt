@@ -1,7 +1,7 @@
 -- Of the stack only the locals of the frames are open.
 use Rattle.std.proofs.Common.{◌≡◌, ◌⊎◌, inl, inr, ⊎_elim, ℕ, zero, suc, ◌+◌, ◌-◌, ◌<◌, ◌≤◌, Bool, true, false, List, [], ◌∷◌, Option, Some, None, refl, sym, ap, ◌∙◌, subst, arith}
 use Rattle.std.specs.Prelude.{◌||◌, slice_get}
-use Rattle.std.proofs.lemmas.Bool.{cases_eq, cases_lt, or_cases}
+use Rattle.std.proofs.lemmas.Bool.{cases_eq, cases_lt, or_cases, false_from_ne_true}
 use Rattle.lg_cells.specs.Cells.{within}
 use Rattle.lg_node.specs.declared.function.Function.{Function}
 use Rattle.lg_node.specs.Nodes.{LabelledNodes}
@@ -32,10 +32,6 @@ pub top_whole : (l : LabelledNodes) (shape : TextShape) (s : State) → (o : Opt
 top_whole l shape s None h = inl (h.size, h.locals)
 top_whole l shape s (Some p) h =
     ⊎_elim (λ (e : s.at ≡ h.function.entry). inl ((h.top.before e).0, (h.top.before e).1)) (λ (e : s.at ≡ h.function.entry → ⊥). inr (whole h.function s.frame (h.top.behind e).0 (h.top.behind e).1)) (cases_eq s.at h.function.entry)
-
-not_true : (b : Bool) → (b ≡ true → ⊥) → b ≡ false
-not_true true h = absurd (h refl)
-not_true false h = refl
 
 pub inside : (lo n a : ℕ) → within lo n a ≡ true → (lo ≤ a) × (a < lo + n)
 inside lo n a h = (grind arith, grind arith)
@@ -94,18 +90,18 @@ or_none false y e = e
 module _ (d g mark : ℕ) (hd : d ≤ 0x1000000) (hg : g ≤ 0x100000) (hm : mark ≤ 0x30400000) where
   -- behind the heap only locals are open
   high_part : (fs : List Frame) (a : ℕ) → 0x30400000 ≤ a → is_part d g mark fs a ≡ in_any_locals fs a
-  high_part fs a h = last_alone (within 0x20000000 d a) (within 0x28000000 g a) (within 0x30000000 (mark - 0x30000000) a) (in_any_locals fs a) (not_true (within 0x20000000 d a) (λ e. let i = inside 0x20000000 d a e in absurd (omega (arith, i.1)))) (not_true (within 0x28000000 g a) (λ e. let i = inside 0x28000000 g a e in absurd (omega (arith, i.1)))) (not_true (within 0x30000000 (mark - 0x30000000) a) (λ e. let i = inside 0x30000000 (mark - 0x30000000) a e in absurd (omega (arith, i.0, i.1))))
+  high_part fs a h = last_alone (within 0x20000000 d a) (within 0x28000000 g a) (within 0x30000000 (mark - 0x30000000) a) (in_any_locals fs a) (false_from_ne_true (within 0x20000000 d a) (λ e. let i = inside 0x20000000 d a e in absurd (omega (arith, i.1)))) (false_from_ne_true (within 0x28000000 g a) (λ e. let i = inside 0x28000000 g a e in absurd (omega (arith, i.1)))) (false_from_ne_true (within 0x30000000 (mark - 0x30000000) a) (λ e. let i = inside 0x30000000 (mark - 0x30000000) a e in absurd (omega (arith, i.0, i.1))))
 
 -- among the addresses of a frame, its locals alone
 frame_locals : (f : Frame) (gs : List Frame) → AreStacked f gs → IsWhole f → f.size ≤ f.sp → (k a : ℕ) (h : Frame) → slice_get (f ∷ gs) k ≡ Some h → h.sp - h.size ≤ a → a < h.sp → in_any_locals (f ∷ gs) a ≡ in_locals h a
 frame_locals f gs st w le zero a h e lo hi =
     let same : f ≡ h = cc in
     let top : f.sp ≡ h.sp = ap (λ u. u.sp) same in
-    or_none (in_locals f a) (in_any_locals gs a) (not_true (in_any_locals gs a) (λ t. let up = locals_above f gs a st t in absurd (omega (arith, up.0, top)))) ∙ ap (λ u. in_locals u a) same
+    or_none (in_locals f a) (in_any_locals gs a) (false_from_ne_true (in_any_locals gs a) (λ t. let up = locals_above f gs a st t in absurd (omega (arith, up.0, top)))) ∙ ap (λ u. in_locals u a) same
 frame_locals f [] st w le (suc k) a h e lo hi = cc
 frame_locals f (g ∷ gs) st w le (suc k) a h e lo hi =
     let up = frame_above f h (g ∷ gs) k st e in
-    let none : in_locals f a ≡ false = not_true (in_locals f a) (λ t. let in_it = within_frame f a w le t in absurd (omega (arith, in_it.1, up))) in
+    let none : in_locals f a ≡ false = false_from_ne_true (in_locals f a) (λ t. let in_it = within_frame f a w le t in absurd (omega (arith, in_it.1, up))) in
     rw none (frame_locals g gs st.2 (inr st.1) (omega (arith, st.0)) k a h e lo hi)
 
 module _ (l : LabelledNodes) (shape : TextShape) (s : State) (well : FitsWell l shape s) (small : HasSmallParts s) where
@@ -138,17 +134,17 @@ module _ (l : LabelledNodes) (shape : TextShape) (s : State) (well : FitsWell l 
   frames_open k a f e lo hi = high a (let from = begins k f e in omega arith) ∙ frame_locals s.frame s.callers st w le k a f e lo hi
 
   below_closed : (a : ℕ) → 0x30400000 ≤ a → a < s.frame.sp - s.frame.size → is_open s a ≡ false
-  below_closed a lo hi = high a lo ∙ not_true (in_any_locals (s.frame ∷ s.callers) a) (λ t. let i = in_frames a t in absurd (omega (arith, i.0)))
+  below_closed a lo hi = high a lo ∙ false_from_ne_true (in_any_locals (s.frame ∷ s.callers) a) (λ t. let i = in_frames a t in absurd (omega (arith, i.0)))
 
   behind_closed : (a : ℕ) → 0x40000000 ≤ a → is_open s a ≡ false
-  behind_closed a lo = high a (omega arith) ∙ not_true (in_any_locals (s.frame ∷ s.callers) a) (λ t. let i = in_frames a t in absurd (omega (arith, i.1)))
+  behind_closed a lo = high a (omega arith) ∙ false_from_ne_true (in_any_locals (s.frame ∷ s.callers) a) (λ t. let i = in_frames a t in absurd (omega (arith, i.1)))
 
   -- the lowest words of a frame that has begun, and its highest ones
   low_words : (k a : ℕ) (f : Frame) → slice_get (s.frame ∷ s.callers) k ≡ Some f → 272 + f.locals ≤ f.size → f.sp - f.size ≤ a → a < f.sp - f.size + 128 → is_open s a ≡ false
-  low_words k a f e room lo hi = let from = begins k f e in frames_open k a f e lo (omega arith) ∙ not_true (in_locals f a) (λ t. let i = inside (f.sp - 144 - f.locals) f.locals a t in absurd (omega (arith, i.0)))
+  low_words k a f e room lo hi = let from = begins k f e in frames_open k a f e lo (omega arith) ∙ false_from_ne_true (in_locals f a) (λ t. let i = inside (f.sp - 144 - f.locals) f.locals a t in absurd (omega (arith, i.0)))
 
   high_words : (k a : ℕ) (f : Frame) → slice_get (s.frame ∷ s.callers) k ≡ Some f → 272 + f.locals ≤ f.size → f.sp - 144 ≤ a → a < f.sp → is_open s a ≡ false
-  high_words k a f e room lo hi = let from = begins k f e in frames_open k a f e (omega arith) hi ∙ not_true (in_locals f a) (λ t. let i = inside (f.sp - 144 - f.locals) f.locals a t in absurd (omega (arith, i.1)))
+  high_words k a f e room lo hi = let from = begins k f e in frames_open k a f e (omega arith) hi ∙ false_from_ne_true (in_locals f a) (λ t. let i = inside (f.sp - 144 - f.locals) f.locals a t in absurd (omega (arith, i.1)))
 
   -- those of its arguments are the lowest ones of its caller's, or lie behind the stack
   argument_words : (k a : ℕ) (f : Frame) → slice_get (s.frame ∷ s.callers) k ≡ Some f → f.sp ≤ a → a < f.sp + 128 → is_open s a ≡ false

@@ -20,7 +20,7 @@ use Rattle.lg_mean.proofs.portable.Portable.step.Goals as goal
 pub step_node-answer-requires-clause-room : goal.step_node-answer-requires-clause-room
 step_node-answer-requires-clause-room g c =
     let fits : Fits c.args.unit.now.nodes c.args.shape.now (state_of c.self.inside.machine) = subst (λ (p : PortableState). Fits c.args.unit.now.nodes c.args.shape.now (state_of p.machine)) (sym c.self.view_is) c.requires.fits in
-    omega (arith, fits.inside, c.told_of.ensures.few)
+    omega (arith, fits.inside, c.what_holds.ensures.few)
 
 pub step_node-answer-requires-clause-suits : goal.step_node-answer-requires-clause-suits
 step_node-answer-requires-clause-suits g c =
@@ -35,7 +35,7 @@ step_node-answer-requires-clause-known g c =
     let w : IsWellShaped c.args.unit.now.nodes = c.accepted_nodes_are_well_shaped.ensures c.args.unit.now.nodes c.requires.made.shaped.accepted in
     let here : slice_get c.args.unit.now.nodes.nodes c.self.inside.machine.at ≡ Some c.node-node.result = ap (slice_get c.args.unit.now.nodes.nodes) (sym c.place.ensures.value) ∙ sym c.node-node.ensures.node in
     let addresses : length c.self.inside.labels.addresses ≡ length c.args.unit.now.nodes.words = ap (λ (p : PortableState). length p.labels.addresses) c.self.view_is ∙ c.requires.made.same in
-    rw c.new-program.ensures (known c.args.unit.now.nodes w c.self.inside.machine.at c.node-node.result here (length c.self.inside.labels.addresses) (addresses ∙ sym c.told_of.ensures.places))
+    rw c.new-program.ensures (known c.args.unit.now.nodes w c.self.inside.machine.at c.node-node.result here (length c.self.inside.labels.addresses) (addresses ∙ sym c.what_holds.ensures.places))
 
 pub returns-clause-fits : goal.returns-clause-fits
 returns-clause-fits g c =
