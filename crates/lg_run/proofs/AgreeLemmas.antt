@@ -21,6 +21,7 @@ use Rattle.lg_run.specs.declared.form.Callee.{Callee}
 use Rattle.lg_run.specs.declared.form.Callee.TheVariants.{Putchar, Exit}
 use Rattle.lg_run.proofs.CodeLemmas.{HasCode, AllInstr, has_code, code_of-append}
 use Rattle.lg_run.proofs.NodeLemmas.{InFrame}
+use Rattle.lg_run.proofs.SameLemmas.{none_some, some_same}
 
 -- nodes behind the `prolog`, with so many arguments pushed before them
 abbrev pub Fits : ℕ → List FormNode → Type 0
@@ -61,12 +62,6 @@ put_same R to v r e = ap (λ b. if b then v else R r) (eq-eqb r to e)
 
 put_other : (R : ℕ → ℕ) (to v r : ℕ) → r ≢ to → machine.put R to v r ≡ R r
 put_other R to v r ne = ap (λ b. if b then v else R r) (ne_eqb r to ne)
-
-pub some_same : {v w : ℕ} → Some v ≡ Some w → v ≡ w
-some_same e = cc
-
-none_some : {v : ℕ} → None ≡ Some v → ⊥
-none_some e = cc
 
 pub holds_put : (registers : ℕ → Option ℕ) (R : ℕ → ℕ) (to : Register) (v v' : ℕ) → Holds registers R → v' ≡ v → v < 2 ^ 64 → Holds (meaning.put registers to v) (machine.put R (hardware to) v')
 holds_put registers R to v v' h same small = record { word = λ r w e. at r w e (cases_eq (index_of r) (index_of to)) }

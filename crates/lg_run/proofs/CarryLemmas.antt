@@ -18,7 +18,8 @@ use Rattle.lg_run.specs.declared.form.Callee.{Callee}
 use Rattle.lg_run.specs.declared.form.Callee.TheVariants.{Putchar, Exit}
 use Rattle.lg_run.proofs.CodeLemmas.{code_of-append}
 use Rattle.lg_run.proofs.NodeLemmas.{InFrame, GoesOn, EndsRun, Entered, movi_goes, addi_goes, addr_goes, pushargr_goes, prepare_goes, return_ends, putchar_goes, exit_ends, prolog_goes, word_small}
-use Rattle.lg_run.proofs.AgreeLemmas.{Fits, Holds, holds_put, holds_argument, holds_call, holds_none, ten_stays, some_same, slice_get-seam, slice_get-end, Inside, AtStart, Stands, next_code, enter_has}
+use Rattle.lg_run.proofs.AgreeLemmas.{Fits, Holds, holds_put, holds_argument, holds_call, holds_none, ten_stays, slice_get-seam, slice_get-end, Inside, AtStart, Stands, next_code, enter_has}
+use Rattle.lg_run.proofs.SameLemmas.{some_same}
 
 -- a state before a node of the list
 abbrev here : List FormNode → (ℕ → Option ℕ) → List ℕ → meaning.Place

@@ -7,9 +7,7 @@ use Rattle.lg_base.proofs.ArgumentLemmas.{length-args_of}
 use Rattle.lg_run.specs.Command.{Command, command_of, is_file, targeted}
 use Rattle.lg_run.specs.declared.words.Mode.{Mode}
 use Rattle.lg_run.specs.declared.words.Mode.TheVariants as mode
-
-none_some : {command : Command} → None ≡ Some command → ⊥
-none_some e = cc
+use Rattle.lg_run.proofs.SameLemmas.{none_some}
 
 false_true : false ≡ true → ⊥
 false_true e = cc

@@ -1,12 +1,11 @@
 -- Where no count rose, the answer on a text of the first form is the end of its meaning.
 use Rattle.std.proofs.Common.{◌≡◌, ℕ, ◌*◌, ◌≤◌, inl, inr, List, [], ◌∷◌, length, Option, Some, None, Bool, true, false, refl, sym, ap, ◌∙◌, subst, arith, lit<}
-use Rattle.std.specs.Prelude.{IsSome, Result, Ok}
+use Rattle.std.specs.Prelude.{IsSome, Ok}
 use Rattle.lg_base.specs.Runs.{Running, iter}
 use Rattle.lg_base.specs.Runs as runs
 use Rattle.lg_node.specs.Checks.{IsAccepted}
 use Rattle.lg_node.specs.declared.unit.Unit.{Unit as TextUnit}
 use Rattle.lg_tst.specs.Units.{unit_of}
-use Rattle.lg_base.specs.declared.refusal.Refusal.{Refusal}
 use Rattle.lg_temp.proofs.Answers.{ends_in_time}
 use Rattle.lg_meaning.proofs.MeanLemmas.{means_are_machines}
 use Rattle.lg_run.specs.Agreement.{Agrees, shape_of_unit, meaning, meaning_of, start_of}
@@ -27,11 +26,9 @@ use Rattle.lg_run.proofs.CommandLemmas.{args_short, command_file}
 use Rattle.lg_run.proofs.EndLemmas.{ends_says, over_at}
 use Rattle.lg_run.proofs.MeanAnswers.{complete_mean}
 use Rattle.lg_run.proofs.RefusedLemmas.{form_accepted}
+use Rattle.lg_run.proofs.SameLemmas.{end_same, ok_same, some_same}
 
 -- ---- the answer of a run
-end_same : {s t : ℕ} → runs.Ended s ≡ runs.Ended t → s ≡ t
-end_same e = cc
-
 -- a run that has ended has the meaning's end
 ended_is : (file : List ℕ) (unit : TextUnit) (bytes addresses : List ℕ) (steps status m status' : ℕ) → is_file file ≡ true → Agrees bytes addresses unit → steps ≤ most_steps
     → (iter (machine.step bytes trash_word) steps (machine.start unit.image (file ∷ []) trash_word)).stands ≡ machine.EndedWith status
@@ -41,12 +38,6 @@ ended_is file unit bytes addresses steps status m status' is agrees le end time 
     let q = machine.start unit.image (file ∷ []) trash_word in
     let there = ends_in_time (meaning_of unit addresses) (machine.processor bytes trash_word) (length unit.nodes.nodes) most_steps m status' (start_of unit (file ∷ [])) q (means_are_machines unit.nodes (shape_of_unit unit) addresses).0 at ended time in
     end_same (sym (ap machine.status_of (over_at bytes trash_word q steps most_steps status le end)) ∙ there)
-
-ok_same : {u v : TextUnit} → ◌≡◌ {A = Result TextUnit Refusal} (Ok u) (Ok v) → u ≡ v
-ok_same e = cc
-
-some_same : {x y : Code} → Some x ≡ Some y → x ≡ y
-some_same e = cc
 
 complete_end : (file text : List ℕ) (unit : TextUnit) (code : Option Code) (steps : ℕ) (c : Change) (status : ℕ) → is_file file ≡ true → unit_of text ≡ Ok unit → AnswerSays mode.Run file text code steps c (Ended status) → CodeSays text code
     → IsComplete unit file code (Ended status)

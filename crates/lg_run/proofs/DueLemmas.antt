@@ -12,7 +12,7 @@ use Rattle.lg_run.specs.declared.form.FormNode.{FormNode}
 use Rattle.lg_run.specs.declared.form.FormNode.TheVariants.{Prolog, Movi, Addi, Addr, Prepare, Pushargr, Finishi, Ret, Epilog}
 use Rattle.lg_run.specs.declared.first_form.Due.{Due}
 use Rattle.lg_run.specs.declared.first_form.Due.TheVariants.{Entry, Statement, Argument, Call, Close, Nothing}
-use Rattle.lg_run.proofs.FormLemmas.{none_some, some_same}
+use Rattle.lg_run.proofs.SameLemmas.{none_some, some_same}
 
 -- ---- walks
 pub walk-append : (due : Due) (xs ys : List FormNode) → walk due (xs ++ ys) ≡ option_and_then (λ next. walk next ys) (walk due xs)

@@ -25,8 +25,9 @@ use Rattle.lg_run.specs.declared.form.FormNode.{FormNode}
 use Rattle.lg_run.specs.declared.form.FormNode.TheVariants.{Prolog, Movi, Addi, Addr, Prepare, Pushargr, Finishi, Ret, Epilog}
 use Rattle.lg_run.specs.declared.first_form.Due.{Due}
 use Rattle.lg_run.specs.declared.first_form.Due.TheVariants.{Entry, Statement, Argument, Call, Close, Nothing}
-use Rattle.lg_run.proofs.FormLemmas.{none_some, some_same, length_forms, ranged, means, Means, prolog, movi, addi, addr, prepare, pushargr, finishi, ret, epilog}
+use Rattle.lg_run.proofs.FormLemmas.{length_forms, ranged, means, Means, prolog, movi, addi, addr, prepare, pushargr, finishi, ret, epilog}
 use Rattle.lg_run.proofs.DueLemmas.{walk-front, walk-more, form_walks, walk_begins, walk_whole}
+use Rattle.lg_run.proofs.SameLemmas.{none_some, some_same}
 
 -- ---- the first label
 pub first_none : (l : LabelledNodes) (i : ℕ) → IsFirstBound l None → IsBoundAt l i → ⊥

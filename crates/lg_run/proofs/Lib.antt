@@ -18,4 +18,5 @@ pub mod NodeLemmas
 pub mod ProcessorLemmas
 pub mod RefusedLemmas
 pub mod RunLemmas
+pub mod SameLemmas
 pub mod SaysLemmas

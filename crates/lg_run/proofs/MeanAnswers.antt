@@ -1,11 +1,10 @@
 -- What the answers of the mode `mean` say, and that the meaning of a text of the first form is over in time.
 use Rattle.std.proofs.Common.{◌≡◌, ◌≢◌, ℕ, ◌+◌, ◌*◌, ◌<◌, ◌≤◌, inl, inr, List, [], ◌∷◌, length, Option, Some, None, true, refl, sym, ap, ◌∙◌, subst, arith, lit<}
-use Rattle.std.specs.Prelude.{IsSome, Result, Ok}
+use Rattle.std.specs.Prelude.{IsSome, Ok}
 use Rattle.std.proofs.lemmas.Nat.{mul-le}
 use Rattle.lg_base.specs.Arguments.{args_of}
 use Rattle.lg_base.specs.Runs.{Running, Bad, iter}
 use Rattle.lg_base.specs.Runs as runs
-use Rattle.lg_base.specs.declared.refusal.Refusal.{Refusal}
 use Rattle.lg_node.specs.Checks.{IsAccepted}
 use Rattle.lg_node.specs.Labels.{taken_labels}
 use Rattle.lg_node.specs.Nodes.{LabelledNodes}
@@ -31,6 +30,7 @@ use Rattle.lg_run.proofs.CommandLemmas.{args_short}
 use Rattle.lg_run.proofs.FormLemmas.{length_forms}
 use Rattle.lg_run.proofs.MeanRuns.{bad_running, ended_running, going_before, over_once}
 use Rattle.lg_run.proofs.RefusedLemmas.{form_accepted}
+use Rattle.lg_run.proofs.SameLemmas.{end_same, ok_same, some_same}
 
 -- ---- the start
 shape_same : (l : LabelledNodes) (s : TextShape) → IsShapeOf l s → s.taken ≡ taken_labels l → s ≡ shape_of l.nodes (taken_labels l)
@@ -91,15 +91,6 @@ mean_not_stuck file unit nodes bytes A steps c ReadFault is form agrees ends say
 mean_not_stuck file unit nodes bytes A steps c OutOfMemory is form agrees ends says = tt
 
 -- ---- completeness
-ok_same : {u v : TextUnit} → ◌≡◌ {A = Result TextUnit Refusal} (Ok u) (Ok v) → u ≡ v
-ok_same e = cc
-
-some_same : {x y : Code} → Some x ≡ Some y → x ≡ y
-some_same e = cc
-
-end_same : {s t : ℕ} → runs.Ended s ≡ runs.Ended t → s ≡ t
-end_same e = cc
-
 answer_same : {s t : ℕ} → Ended s ≡ Ended t → s ≡ t
 answer_same e = cc
 

@@ -38,7 +38,8 @@ use Rattle.lg_run.specs.declared.form.Callee.TheVariants.{Putchar, Exit}
 use Rattle.lg_run.specs.declared.form.FormNode.{FormNode}
 use Rattle.lg_run.specs.declared.form.FormNode.TheVariants as form
 use Rattle.lg_run.proofs.FormMeaning as meaning
-use Rattle.lg_run.proofs.FormLemmas.{none_some, some_same, are_first, length_forms, means, Means, prolog, movi, addi, addr, prepare, pushargr, finishi, ret, epilog}
+use Rattle.lg_run.proofs.FormLemmas.{are_first, length_forms, means, Means, prolog, movi, addi, addr, prepare, pushargr, finishi, ret, epilog}
+use Rattle.lg_run.proofs.SameLemmas.{none_some, some_same}
 
 -- ---- operands
 -- the register of the portable machine

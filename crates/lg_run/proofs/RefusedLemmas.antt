@@ -1,5 +1,5 @@
 -- A text is refused for one reason, and then it is not of the first form.
-use Rattle.std.proofs.Common.{◌≡◌, ℕ, ◌+◌, ◌<◌, ◌≤◌, inl, inr, List, length, take, drop, Some, None, sym, ap, ◌∙◌, subst, arith, ⊎_elim}
+use Rattle.std.proofs.Common.{◌≡◌, ℕ, ◌+◌, ◌<◌, ◌≤◌, inl, inr, List, length, take, drop, Some, sym, ap, ◌∙◌, subst, arith, ⊎_elim}
 use Rattle.std.specs.Prelude.{slice_get, Result, Ok, Err}
 use Rattle.std.proofs.lemmas.Bool.{cases_lt}
 use Rattle.std.proofs.lemmas.List.{take-append-drop, take-map}
@@ -16,14 +16,9 @@ use Rattle.lg_run.specs.FirstForm.{IsForm, Begins, Departs, misplaced, labelled,
 use Rattle.lg_run.specs.Refused.{IsRefusedUnit, IsRefusedAs, IsRefusedText, most_text}
 use Rattle.lg_run.specs.declared.form.FormNode.{FormNode}
 use Rattle.lg_run.proofs.FormLemmas.{length_forms}
+use Rattle.lg_run.proofs.SameLemmas.{none_some, some_same}
 
 -- ---- the checks
-none_some : {A : Type 0} {a : A} → None ≡ Some a → ⊥
-none_some e = cc
-
-some_same : {A : Type 0} {a b : A} → Some a ≡ Some b → a ≡ b
-some_same e = cc
-
 checked_once : (l : LabelledNodes) (r q : Refusal) → IsRefused l r → IsRefused l q → r ≡ q
 checked_once l r q (inl a) (inl b) =
     ⊎_elim (λ lt. absurd (none_some (sym (b.before a.at lt) ∙ a.here)))

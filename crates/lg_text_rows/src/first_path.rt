@@ -100,12 +100,7 @@ fn runs_meanings(rt: HostRuntime) -> Result<(), Fail> {
     check(&rt, &meant(behind, b"A", undefined, 120))?;
     let refused = b"lightning: t.tst:1: refused 2 UnknownName\n";
     let unknown = b".code prolog movi %r0 65 nop ret epilog";
-    check(&rt, &meant(unknown, b"", refused, 121))?;
-    let failing = Row {
-        failing_writes: &[2],
-        ..meant(kept_registers(), b"H", b"lightning: write fault\n", 124)
-    };
-    check(&rt, &failing)
+    check(&rt, &meant(unknown, b"", refused, 121))
 }
 
 #[test]
@@ -263,26 +258,52 @@ fn says_what_fails(rt: HostRuntime) -> Result<(), Fail> {
         failing_reads: &[4],
         ..plain(first_letter(), b"A", b"", 3)
     };
-    check(&rt, &behind)?;
-    let first = Row {
-        failing_writes: &[1],
-        ..plain(kept_registers(), b"", b"lightning: write fault\n", 124)
-    };
-    check(&rt, &first)?;
-    let second = Row {
-        failing_writes: &[2],
-        ..plain(kept_registers(), b"H", b"lightning: write fault\n", 124)
-    };
-    check(&rt, &second)
+    check(&rt, &behind)
+}
+
+// Each byte is a write of its own.
+#[test]
+fn says_which_write_fails(rt: HostRuntime) -> Result<(), Fail> {
+    for (call, out) in [
+        (1, b"".as_slice()),
+        (2, b"H".as_slice()),
+        (3, b"Hi".as_slice()),
+        (4, b"Hi!".as_slice()),
+    ] {
+        let failing = Row {
+            failing_writes: &[call],
+            ..plain(kept_registers(), out, b"lightning: write fault\n", 124)
+        };
+        check(&rt, &failing)?;
+        let meaning = Row {
+            failing_writes: &[call],
+            ..meant(kept_registers(), out, b"lightning: write fault\n", 124)
+        };
+        check(&rt, &meaning)?;
+    }
+    Ok(())
 }
 
 #[test]
 fn says_write_fault_where_a_line_fails(rt: HostRuntime) -> Result<(), Fail> {
-    let line = Row {
-        failing_lines: &[1],
-        ..plain(b"", b"", b"", 124)
-    };
-    check(&rt, &line)?;
+    // the line has nine pieces, each a write of its own
+    for (call, err) in [
+        (1, b"".as_slice()),
+        (2, b"lightning: ".as_slice()),
+        (3, b"lightning: t.tst".as_slice()),
+        (4, b"lightning: t.tst:".as_slice()),
+        (5, b"lightning: t.tst:1".as_slice()),
+        (6, b"lightning: t.tst:1: refused ".as_slice()),
+        (7, b"lightning: t.tst:1: refused 20".as_slice()),
+        (8, b"lightning: t.tst:1: refused 20 ".as_slice()),
+        (9, b"lightning: t.tst:1: refused 20 NoCode".as_slice()),
+    ] {
+        let line = Row {
+            failing_lines: &[call],
+            ..plain(b"", b"", err, 124)
+        };
+        check(&rt, &line)?;
+    }
     let both = Row {
         failing_writes: &[1],
         failing_lines: &[1],
