@@ -1,24 +1,16 @@
 -- The code of a node that is a block of instructions.
-use Rattle.std.specs.Prelude.{◌≡◌, ℕ, ◌+◌, ◌-◌, ◌<◌, ◌≤◌, Bool, true, List, ◌++◌, length, drop, slice_get}
-use Rattle.std.specs.List.{All}
-use Rattle.lg_base.specs.Layout.{code_base}
+use Rattle.std.specs.Prelude.{◌≡◌, ℕ, Bool, List}
 use Rattle.lg_meaning.specs.States.{Frame, State}
 use Rattle.lg_meaning.specs.Steps.{Outcome}
 use Rattle.lg_carry.specs.Codes.{Code}
 use Rattle.lg_carry.specs.Rows.{Rows}
-use Rattle.lg_carry.specs.Blocks.{spellings, done, GoesThrough, IsBlock}
-use Rattle.lg_carry.specs.Carries.{leaps_at, Meets, Leads}
+use Rattle.lg_carry.specs.Blocks.{done, GoesThrough, IsBlock}
+use Rattle.lg_carry.specs.Carries.{Meets, Leads}
+use Rattle.lg_carry.specs.Passages.{IsNodeCode}
 
--- the bytes of node i are the spellings of these instructions, of which there are at most 64, and at a branch, jump, call or return at least one
+-- its instructions are these, and each but the last is followed by the next
 pub record IsNodeBlock {Q I : Type 0} (R : Rows Q I) (fits : I → Type 0) (c : Code) (i : ℕ) (is : List I) : Type 0 where
-  pub low : code_base ≤ c.place i
-  pub place : R.is_place (c.place i) ≡ true
-  pub more : List ℕ
-  pub stands : drop (c.place i - code_base) R.code ≡ spellings R.spelling is ++ more
-  pub next : c.place (i + 1) ≡ c.place i + length (spellings R.spelling is)
-  pub few : length is ≤ 64
-  pub some : leaps_at (slice_get c.nodes.nodes i) ≡ true → 0 < length is
-  pub fit : All fits is
+  pub code : IsNodeCode R fits c i is
   pub block : IsBlock R.is_straight is
 
 -- where the instructions of a node go through from a state at its place, and lead to a state that meets the outcome of its step, they lead there

@@ -36,7 +36,7 @@ pub record HasRoom {Q I : Type 0} (R : Rows Q I) (code : List I) (q : Q) : Type 
 abbrev pub IsBehind : {Q I : Type 0} → Rows Q I → List I → Q → Q → Type 0
 IsBehind R code q q' = (R.processor.seen q').pc ≡ (R.processor.seen q).pc + length (spellings R.spelling code)
 
--- registers, mark and flag of a state are those of another
+-- the mark and the flag of a state are those of another
 abbrev pub HasMarks : {Q I : Type 0} → Rows Q I → Q → Q → Type 0
 HasMarks R q q' = ((R.processor.seen q').mark ≡ (R.processor.seen q).mark) × ((R.processor.seen q').flag ≡ (R.processor.seen q).flag)
 

@@ -228,13 +228,13 @@ module _ (code : List ℕ) (trash : ℕ) (c : Code) (i : ℕ) (n : Node) (S : �
     here : q.state.pc ≡ c.place i
     here = st.here ∙ ap c.place at
 
-    stands : drop (q.state.pc - code_base) code ≡ spellings (rv_rows code trash).spelling is ++ k.block.more
-    stands = ap (λ p. drop (p - code_base) code) here ∙ k.block.stands
+    stands : drop (q.state.pc - code_base) code ≡ spellings (rv_rows code trash).spelling is ++ k.block.code.more
+    stands = ap (λ p. drop (p - code_base) code) here ∙ k.block.code.stands
 
     room : HasRoom (rv_rows code trash) is q
     room = record {
-      low = omega (arith, here, k.block.low);
-      high = in-room code (spellings (rv_rows code trash).spelling is) k.block.more q.state.pc (omega (arith, here, k.block.low)) (some-spelled code trash is (some-wrapped code trash choices body m.some)) stands k.small;
+      low = omega (arith, here, k.block.code.low);
+      high = in-room code (spellings (rv_rows code trash).spelling is) k.block.code.more q.state.pc (omega (arith, here, k.block.code.low)) (some-spelled code trash is (some-wrapped code trash choices body m.some)) stands k.small;
     }
 
     leaves : Leaves (rv_rows code trash) is fp 0 (left w) q.state.bytes q.state.mark None (lost choices T) q
@@ -251,7 +251,7 @@ module _ (code : List ℕ) (trash : ℕ) (c : Code) (i : ℕ) (n : Node) (S : �
     u = done rv_does is q
 
     run : RunsBlock (rv_rows code trash) is q
-    run = blocks-run (rv_rows code trash) IsInstr (are-rows code trash k.small k.bytes k.word) is q k.block.more k.block.fit k.block.block leaves.through room.low (ap (λ p. p % 4 == 0) here ∙ k.block.place) stands
+    run = blocks-run (rv_rows code trash) IsInstr (are-rows code trash k.small k.bytes k.word) is q k.block.code.more k.block.code.fit k.block.block leaves.through room.low (ap (λ p. p % 4 == 0) here ∙ k.block.code.place) stands
 
     read-before : HoldsRead n s w
     read-before = record {
@@ -290,7 +290,7 @@ module _ (code : List ℕ) (trash : ℕ) (c : Code) (i : ℕ) (n : Node) (S : �
             few = (shaped c.nodes t.well).few;
             fits = text-keeps c i n t s p.to [] at (omega (arith, st.seen.low, st.mark)) (omega (arith, st.seen.high, st.mark)) st.fits p.goes;
             seen = run.keeps st.seen;
-            here = leaves.behind ∙ ap (λ z. z + length (spellings (rv_rows code trash).spelling is)) here ∙ sym k.block.next ∙ ap (λ j. c.place (j + 1)) (sym at) ∙ ap c.place (sym p.on.at);
+            here = leaves.behind ∙ ap (λ z. z + length (spellings (rv_rows code trash).spelling is)) here ∙ sym k.block.code.next ∙ ap (λ j. c.place (j + 1)) (sym at) ∙ ap c.place (sym p.on.at);
             before = inside;
             behind = ap (is_inside c) p.on.at ∙ ap (λ j. is_inside c (j + 1)) at ∙ (shaped c.nodes t.well).next i place.entry place.home (ap is_epilog_at t.here ∙ no-epilog n.op falls);
             frame = p.on.frame;

@@ -32,7 +32,7 @@ use Rattle.lg_selr.specs.Items.{staged_count, items_of}
 use Rattle.lg_selr.specs.Selected.{AreChosen, is_pusharg, AreFirst, TakesLabelsWell, HaveWords, IsNodeOf}
 use Rattle.lg_selr.proofs.CountLemmas.{count-is}
 use Rattle.lg_selr.proofs.FitLemmas.{straight-block, straight-ones}
-use Rattle.lg_selr.proofs.OperandLemmas.{word-at, has-words, named-at, are-given, control-words, value-words, leads_nowhere, node_of, unlabelled, no-labels, control-ends}
+use Rattle.lg_selr.proofs.OperandLemmas.{word-at, has-words, named-at, are-given, are-words, leads_nowhere, node_of, unlabelled, no-labels, control-ends}
 use Rattle.lg_selr.proofs.PlaceLemmas.{control-items-at}
 use Rattle.lg_selr.proofs.PushFits.{push-good}
 use Rattle.lg_selr_control.specs.ControlFits.{AreEmitted}
@@ -131,7 +131,7 @@ module _ (code : List ℕ) (trash : ℕ) (c : Code) (i frame : ℕ) (live : Reg 
       let set = k.chosen.set in
       let are : AreFor (around Riscv64 n live set) (value_needs n.op) [] (value_needs n.op) choices = choices-are-for (around Riscv64 n live set) (value_needs n.op) choices k.chosen.chosen in
       let fit = value-items-fit n live set choices are in
-      value-nodes-carry code trash c i n live set choices computes (value-words c.addresses k.node.low n.operands k.words) are (λ j below. k.chosen.holds j (k.node.pushed_are j below)) k.node.text
+      value-nodes-carry code trash c i n live set choices computes (are-words c.addresses k.node.low n.operands k.words) are (λ j below. k.chosen.holds j (k.node.pushed_are j below)) k.node.text
       (items-are-in-code code trash c i (value_items n choices) a (falls c i n (value_items n choices) k.node.text stays) (fit.block (slice_index c.addresses) (c.place i)))
 
   loads : (t : ValueType) (at : Addressing) (xs : List Operand) (line : ℕ) → Carries (node_of (op.Load t at) xs line) (ones (load_code t at (node_of (op.Load t at) xs line)))
@@ -178,7 +178,7 @@ module _ (code : List ℕ) (trash : ℕ) (c : Code) (i frame : ℕ) (live : Reg 
         node = items-are-node-code code trash c i items a (λ leaping. fit.some (sym (ap leaps_at k.node.text.here) ∙ leaping));
       } in
       let same : items ≡ control_items n.op n.operands frame (c.place i) = sym (control-items-at n.op n.operands frame place (operands-are c i n k.node.text)) ∙ ap (control_items n.op n.operands frame) (sym k.address) in
-      control-nodes-carry code trash c i n frame (numbered live) is k.node.places (control-words c.addresses k.node.low n.operands k.words) ends k.node.frame_is k.node.text
+      control-nodes-carry code trash c i n frame (numbered live) is k.node.places (are-words c.addresses k.node.low n.operands k.words) ends k.node.frame_is k.node.text
       (subst (λ l. StandsInCode code trash c i (settled to (c.place i) l)) same stands)
 
   retvals : (t : ValueType) (xs : List Operand) (line : ℕ) → IsOneRegister xs → Carries (node_of (op.Retval t) xs line) (retval_items t xs)

@@ -56,27 +56,16 @@ are-given labels [] named words = tt
 are-given labels (x ∷ xs) named words = (given labels x named.0 words.0, are-given labels xs named.1 words.1)
 
 module _ (addresses : List ℕ) (low : (label : ℕ) → slice_index addresses label < 2 ^ 30) where
-  control-word : (x : Operand) → IsWord x → control_law.IsWord addresses x
-  control-word (operand.Number v) word = word
-  control-word (operand.Label l) word = low l.0
-  control-word (operand.Reg r) word = tt
-  control-word (operand.Host name) word = tt
-  control-word (operand.Slot k) word = tt
+  is-word : (x : Operand) → IsWord x → value_law.IsWord addresses x
+  is-word (operand.Number v) word = word
+  is-word (operand.Label l) word = low l.0
+  is-word (operand.Reg r) word = tt
+  is-word (operand.Host name) word = tt
+  is-word (operand.Slot k) word = tt
 
-  pub control-words : (xs : List Operand) → HaveWords xs → control_law.AreWords addresses xs
-  control-words [] words = tt
-  control-words (x ∷ xs) words = (control-word x words.0, control-words xs words.1)
-
-  value-word : (x : Operand) → IsWord x → value_law.IsWord addresses x
-  value-word (operand.Number v) word = word
-  value-word (operand.Label l) word = low l.0
-  value-word (operand.Reg r) word = tt
-  value-word (operand.Host name) word = tt
-  value-word (operand.Slot k) word = tt
-
-  pub value-words : (xs : List Operand) → HaveWords xs → value_law.AreWords addresses xs
-  value-words [] words = tt
-  value-words (x ∷ xs) words = (value-word x words.0, value-words xs words.1)
+  pub are-words : (xs : List Operand) → HaveWords xs → value_law.AreWords addresses xs
+  are-words [] words = tt
+  are-words (x ∷ xs) words = (is-word x words.0, are-words xs words.1)
 
 -- ---- labels
 -- forms that stand for no label but in the place of an immediate

@@ -44,11 +44,12 @@ use Rattle.lg_selr_control.specs.Standing.{StandsInCode, HasPlaces}
 use Rattle.lg_selr_control.specs.Branches.{failing, left_of, right_of, bits_code, branch_code, branch_node, number_branch_node, BranchesCarry, NumberBranchesCarry}
 use Rattle.lg_carry_rv.specs.Numbers.{number_code}
 use Rattle.lg_carry_rv.proofs.NumberCodeLemmas.{numbers-are-loaded}
+use Rattle.lg_carry_rv.proofs.RegisterLemmas.{given, register-apart}
 use Rattle.lg_selr_control.proofs.ChainLemmas.{RunsAt, next-at, begins-at}
 use Rattle.lg_selr_control.proofs.ComputedLemmas.{computed-passes}
 use Rattle.lg_selr_control.proofs.JumpLemmas.{Lands, jump-lands}
 use Rattle.lg_selr_control.proofs.LiveLemmas.{unwritten, still-live}
-use Rattle.lg_selr_control.proofs.OperandLemmas.{named-here, named-later, read-is-live, held-word, immediate-value}
+use Rattle.lg_selr_control.proofs.OperandLemmas.{named-here, named-later, read-is-live, immediate-value}
 use Rattle.lg_selr_control.proofs.StandingLemmas.{behind-prolog, next-inside, in-some, none-passed, one-passes, then-passes}
 use Rattle.lg_selr_control.proofs.TwoWayLemmas.{two-ways-lead}
 use Rattle.lg_selr_control.proofs.WordLemmas.{put-same, put-other}
@@ -133,15 +134,6 @@ pub record Prepared (code : List ℕ) (trash : ℕ) (c : Code) (i : ℕ) (front 
   pub bytes : r.state.bytes ≡ q.state.bytes
   pub mark : r.state.mark ≡ q.state.mark
 
-not-link : (a : Reg) → register_of Riscv64 a ≢ 1
-not-link R0 e = cc
-not-link R1 e = cc
-not-link R2 e = cc
-not-link V0 e = cc
-not-link V1 e = cc
-not-link V2 e = cc
-not-link Fp e = cc
-
 pub read-kept : (w w' : ℕ → ℕ) (a : Reg) → w' (register_of Riscv64 a) ≡ w (register_of Riscv64 a) → read w' (register_of Riscv64 a) ≡ read w (register_of Riscv64 a)
 read-kept w w' a h = ap (λ z. if register_of Riscv64 a == 0 then 0 else z) h
 
@@ -170,7 +162,7 @@ module _ (code : List ℕ) (trash : ℕ) (c : Code) (i : ℕ) (o : Condition) (l
         let p = in-some c i n t refl in
         let inside = behind-prolog c i n t p.0 p.1 refl in
         let lands : Lands c i l = jump-lands c i l (λ p e. behind-prolog c i n t p e refl) (t.well.jumps i n l (operand.Reg a ∷ third ∷ []) t.here refl refl) in
-        let ea : read r.state.registers (register_of Riscv64 a) ≡ x = read-kept q.state.registers r.state.registers a (h.others (register_of Riscv64 a) (not-link a)) ∙ held-word c live s (rv_seen q) (live_before n S) a x st.state (ap (is_inside c) at ∙ inside) live-a ex in
+        let ea : read r.state.registers (register_of Riscv64 a) ≡ x = read-kept q.state.registers r.state.registers a (h.others (register_of Riscv64 a) (register-apart a).0) ∙ given c live s (rv_seen q) (live_before n S) a x st.state (ap (is_inside c) at ∙ inside) live-a ex in
         let two = instr.Branch (failing o) (left_of o (register_of Riscv64 a) b) (right_of o (register_of Riscv64 a) b) (pos 8) ∷ instr.Jal 0 (pos (slice_index c.addresses l.0) -ℤ pos (c.place i + (4 * length (front ++ bits_code o (register_of Riscv64 a) b) + 4))) ∷ [] in
         let k' : StandsInCode code trash c i (front ++ (bits_code o (register_of Riscv64 a) b ++ two)) = subst (λ z. StandsInCode code trash c i z) (append_assoc front (bits_code o (register_of Riscv64 a) b) two) k in
         let m = compares code trash c i front two (register_of Riscv64 a) b x y q r h.passes ea h.value o k' h.at in
@@ -222,7 +214,7 @@ module _ (code : List ℕ) (trash : ℕ) (c : Code) (i : ℕ) (o : Condition) (l
           record {
             passes = none-passed code trash c i q;
             at = begins-there (begins-at code trash c i two-node (branch_code (slice_index c.addresses) (c.place i) [] o (register_of Riscv64 a) (register_of Riscv64 b) l) q w t k st.runs (st.state.here ∙ ap c.place at));
-            value = held-word c live s (rv_seen q) (live_before two-node S) b y st.state inside live-b eb;
+            value = given c live s (rv_seen q) (live_before two-node S) b y st.state inside live-b eb;
             others = λ z ne. refl;
             bytes = refl;
             mark = refl;

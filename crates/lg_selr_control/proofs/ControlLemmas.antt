@@ -38,7 +38,8 @@ use Rattle.lg_selr_control.specs.Returns.{return_code}
 use Rattle.lg_selr_control.specs.Prologs.{prolog_code}
 use Rattle.lg_selr_control.specs.Alignments.{align_code}
 use Rattle.lg_selr_control.specs.ControlItems.{jump_unless_items, control_items, is_control}
-use Rattle.lg_selr_control.specs.ControlLaws.{AreWords, ends_in_label, IsFrameOf, ControlNodesCarry}
+use Rattle.lg_selr_values.specs.ValueLaws.{AreWords}
+use Rattle.lg_selr_control.specs.ControlLaws.{ends_in_label, IsFrameOf, ControlNodesCarry}
 use Rattle.lg_selr_control.proofs.AlignLemmas.{alignments-carry}
 use Rattle.lg_selr_control.proofs.BranchLemmas.{branches-carry, number-branches-carry}
 use Rattle.lg_selr_control.proofs.CallLemmas.{calls-carry, finishes-carry}

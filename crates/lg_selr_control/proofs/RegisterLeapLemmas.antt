@@ -37,12 +37,13 @@ use Rattle.lg_carry_rv.specs.RvRows.{rv_processor, rv_seen}
 use Rattle.lg_carry_rv.proofs.SlotLemmas.{pc-next}
 use Rattle.lg_selr_control.specs.Standing.{StandsInCode, HasPlaces}
 use Rattle.lg_selr_control.specs.RegisterLeaps.{register_leap_code, jmpr_node, callr_node, finishr_node, RegisterJumpsCarry, RegisterCallsCarry, RegisterFinishesCarry}
+use Rattle.lg_carry_rv.proofs.RegisterLemmas.{given}
 use Rattle.lg_selr_control.proofs.CallLemmas.{enters}
 use Rattle.lg_selr_control.proofs.ChainLemmas.{RunsAt, begins-at}
 use Rattle.lg_selr_control.proofs.HostLemmas.{host-called}
 use Rattle.lg_selr_control.proofs.HostNodeLemmas.{is-entry}
 use Rattle.lg_selr_control.proofs.LiveLemmas.{unwritten, still-live}
-use Rattle.lg_selr_control.proofs.OperandLemmas.{named-here, read-is-live, held-word}
+use Rattle.lg_selr_control.proofs.OperandLemmas.{named-here, read-is-live}
 use Rattle.lg_selr_control.proofs.ReturnLemmas.{lands-there}
 use Rattle.lg_selr_control.proofs.StandingLemmas.{behind-prolog, next-inside, in-some, goes-fits, one-passes}
 use Rattle.lg_selr_control.proofs.WordLemmas.{runs-there, put-same, put-other, portable-some, argument-some}
@@ -65,7 +66,7 @@ module _ (code : List ℕ) (trash : ℕ) (c : Code) (i : ℕ) (n : Node) (a : Re
   leap-begins = begins-at code trash c i n (register_leap_code rd a) q w t k st.runs leap-here
 
   does : act (instr.Imm Jalr rd (register_of Riscv64 a) (pos 0)) q.state ≡ e
-  does = lands-there q.state rd (register_of Riscv64 a) x (held-word c live s (rv_seen q) (live_before n S) a x st.state (ap (is_inside c) at ∙ inside) reads ex) near even
+  does = lands-there q.state rd (register_of Riscv64 a) x (given c live s (rv_seen q) (live_before n S) a x st.state (ap (is_inside c) at ∙ inside) reads ex) near even
 
   pub leap-passes : Passes (rv_processor code trash) c i 1 q (after q e)
   leap-passes = subst (λ z. Passes (rv_processor code trash) c i 1 q (after q z)) does (one-passes code trash c i [] (instr.Imm Jalr rd (register_of Riscv64 a) (pos 0)) [] q k st.runs (leap-here ∙ omega arith))

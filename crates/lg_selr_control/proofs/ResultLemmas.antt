@@ -29,9 +29,10 @@ use Rattle.lg_carry_rv.specs.RvRows.{rv_processor, rv_seen}
 use Rattle.lg_carry_rv.proofs.NumberCodeLemmas.{numbers-are-loaded}
 use Rattle.lg_selr_control.specs.Standing.{StandsInCode, HasPlaces}
 use Rattle.lg_selr_control.specs.Returns.{return_code, retr_node, reti_node, reti_label_node, RetrsCarry, RetisCarry, RetiLabelsCarry}
+use Rattle.lg_carry_rv.proofs.RegisterLemmas.{given}
 use Rattle.lg_selr_control.proofs.ChainLemmas.{RunsAt, begins-at}
 use Rattle.lg_selr_control.proofs.ComputedLemmas.{computed-passes}
-use Rattle.lg_selr_control.proofs.OperandLemmas.{named-here, read-is-live, held-word, immediate-value}
+use Rattle.lg_selr_control.proofs.OperandLemmas.{named-here, read-is-live, immediate-value}
 use Rattle.lg_selr_control.proofs.ReturnLemmas.{returns-lead}
 use Rattle.lg_selr_control.proofs.StandingLemmas.{stands-inside}
 use Rattle.lg_selr_control.proofs.WordLemmas.{put-same}
@@ -86,7 +87,7 @@ retrs-carry code trash c i a line S w t k live returns s out q at st = by (reg s
     by : (o : Option ℕ) → reg s a ≡ o → (step c.nodes c.shape c.addresses s ≡ Undefined) ⊎ Leads (rv_processor code trash) c live (live_behind live (retr_node a line) S s) i (step c.nodes c.shape c.addresses s) out q
     by None e = inl (stepped ∙ ap (λ z. need z (λ x. leave s (Some x))) e)
     by (Some x) e =
-        let h = held-word c live s (rv_seen q) (live_before (retr_node a line) S) a x st.state (ap (is_inside c) at ∙ inside) live-a e in
+        let h = given c live s (rv_seen q) (live_before (retr_node a line) S) a x st.state (ap (is_inside c) at ∙ inside) live-a e in
         let small = read-small q.state.registers (register_of Riscv64 a) (st.state.seen.words (register_of Riscv64 a)) in
         inr (result-returned code trash c i (retr_node a line) S (instr.Imm Addi 10 (register_of Riscv64 a) (pos 0) ∷ []) w t k (omega arith) refl refl inside live s out q x at st
         (stepped ∙ ap (λ z. need z (λ x. leave s (Some x))) e) (put-same q.state.registers 10 (add_words (read q.state.registers (register_of Riscv64 a)) 0) ∙ no-change (read q.state.registers (register_of Riscv64 a)) small ∙ h) refl)

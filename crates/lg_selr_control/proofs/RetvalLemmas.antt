@@ -93,14 +93,7 @@ retvals-carry code trash c i t d line S x k =
       bytes = k.bytes;
       word = k.word;
       block = record {
-        low = k.node.low;
-        place = k.node.place;
-        more = k.node.more;
-        stands = k.node.stands;
-        next = k.node.next;
-        few = k.node.few;
-        some = k.node.some;
-        fit = k.node.fit;
+        code = k.node;
         block = straight-block (retval_code t d) (all-straight (retval_code t d) (unary-computes (extension t) (register_of Riscv64 d) 10));
       };
     }

@@ -39,7 +39,7 @@ use Rattle.lg_carry_rv.specs.Numbers.{number_code}
 use Rattle.lg_carry_rv.specs.Places.{IsInText}
 use Rattle.lg_carry_rv.specs.RvRows.{rv_processor, rv_seen}
 use Rattle.lg_carry_rv.proofs.NumberCodeLemmas.{numbers-are-loaded}
-use Rattle.lg_carry_rv.proofs.RegisterLemmas.{stands-for, number-few, register-nonzero, register-apart, only-number}
+use Rattle.lg_carry_rv.proofs.RegisterLemmas.{stands-for, number-few, register-nonzero, register-apart, only-number, given}
 use Rattle.lg_selr_control.specs.Immediates.{immediate}
 use Rattle.lg_selr_control.specs.Standing.{StandsInCode, HasPlaces}
 use Rattle.lg_selr_control.specs.SumBranches.{sum_code, staying, sum_branch_code, sum_branch_node, number_sum_branch_node, SumBranchesCarry, NumberSumBranchesCarry}
@@ -48,7 +48,7 @@ use Rattle.lg_selr_control.proofs.ChainLemmas.{RunsAt, begins-at}
 use Rattle.lg_selr_control.proofs.ComputedLemmas.{computed-passes}
 use Rattle.lg_selr_control.proofs.JumpLemmas.{Lands, jump-lands}
 use Rattle.lg_selr_control.proofs.LiveLemmas.{still-live}
-use Rattle.lg_selr_control.proofs.OperandLemmas.{named-here, named-later, read-is-live, held-word, immediate-value}
+use Rattle.lg_selr_control.proofs.OperandLemmas.{named-here, named-later, read-is-live, immediate-value}
 use Rattle.lg_selr_control.proofs.StandingLemmas.{behind-prolog, next-inside, in-some, none-passed, then-passes}
 use Rattle.lg_selr_control.proofs.SumLemmas.{sums, sum-computes}
 use Rattle.lg_selr_control.proofs.TwoWayLemmas.{two-ways-lead}
@@ -126,7 +126,7 @@ module _ (code : List ℕ) (trash : ℕ) (c : Code) (i : ℕ) (o : BranchSumOp) 
         let inside = behind-prolog c i n t p.0 p.1 refl in
         let lands : Lands c i l = jump-lands c i l (λ p e. behind-prolog c i n t p e refl) (t.well.jumps i n l (operand.Reg a ∷ third ∷ []) t.here refl refl) in
         let apart = register-apart a in
-        let ea : read r.state.registers ra ≡ x = read-kept q.state.registers r.state.registers a (h.others ra apart.0) ∙ held-word c live s (rv_seen q) (live_before n S) a x st.state (ap (is_inside c) at ∙ inside) live-a ex in
+        let ea : read r.state.registers ra ≡ x = read-kept q.state.registers r.state.registers a (h.others ra apart.0) ∙ given c live s (rv_seen q) (live_before n S) a x st.state (ap (is_inside c) at ∙ inside) live-a ex in
         let two = instr.Branch (staying o) 31 0 (pos 8) ∷ instr.Jal 0 (pos (slice_index c.addresses l.0) -ℤ pos (c.place i + (4 * length (front ++ sum-part) + 4))) ∷ [] in
         let k' : StandsInCode code trash c i (front ++ (sum-part ++ two)) = subst (λ z. StandsInCode code trash c i z) (append_assoc front sum-part two) k in
         let size : length front + length sum-part ≡ length (front ++ sum-part) = sym (length-append front sum-part) in
@@ -204,8 +204,8 @@ module _ (code : List ℕ) (trash : ℕ) (c : Code) (i : ℕ) (o : BranchSumOp) 
       by None ob ea eb = inl (stepped ∙ ap (λ z. need z (λ x. need (reg s b) (λ y. goes-by s x y))) ea)
       by (Some x) None ea eb = inl (stepped ∙ ap (λ z. need z (λ x. need (reg s b) (λ y. goes-by s x y))) ea ∙ ap (λ z. need z (λ y. goes-by s x y)) eb)
       by (Some x) (Some y) ea eb =
-          let ha = held-word c live s (rv_seen q) (live_before two-node S) a x st.state inside live-first ea in
-          let hb = held-word c live s (rv_seen q) (live_before two-node S) b y st.state inside live-b eb in
+          let ha = given c live s (rv_seen q) (live_before two-node S) a x st.state inside live-first ea in
+          let hb = given c live s (rv_seen q) (live_before two-node S) b y st.state inside live-b eb in
           inr (sum-leads code trash c i o last_operand.Register l a (operand.Reg b) line S [] (register_of Riscv64 b) w t k (omega arith) (register-apart b).1 live s out q q x y at st (word a x ha) (word b y hb) ea
           (stepped ∙ ap (λ z. need z (λ x. need (reg s b) (λ y. goes-by s x y))) ea ∙ ap (λ z. need z (λ y. goes-by s x y)) eb)
           record { passes = none-passed code trash c i q; at = begins; value = hb; others = λ z ne. refl; bytes = refl; mark = refl })
@@ -261,7 +261,7 @@ module _ (code : List ℕ) (trash : ℕ) (c : Code) (i : ℕ) (o : BranchSumOp) 
       by : (oa : Option ℕ) → reg s a ≡ oa → (step c.nodes c.shape c.addresses s ≡ Undefined) ⊎ Leads (rv_processor code trash) c live (live_behind live one-node S s) i (step c.nodes c.shape c.addresses s) out q
       by None ea = inl (stepped ∙ ap (λ z. need z (λ x. goes-with s x)) ea)
       by (Some x) ea =
-          let ha = held-word c live s (rv_seen q) (live_before one-node S) a x st.state inside live-only ea in
+          let ha = given c live s (rv_seen q) (live_before one-node S) a x st.state inside live-only ea in
           let split : StandsInCode code trash c i (front ++ (number-body ++ number-ends)) = subst (λ z. StandsInCode code trash c i z) (append_assoc front number-body number-ends) k in
           let p = number-prepared code trash c i v (length (front ++ number-body) + 2) (number-body ++ number-ends) q small split (let z = length-append front number-body in omega (arith, z)) begins in
           inr (sum-leads code trash c i o last_operand.Immediate l a third line S front 1 w t k (let z = (numbers-are-loaded 1 v (λ z. cc) (omega arith) small).few in omega (arith, z)) (λ z. cc) live s out q p.0 x v at st (word x ha) small ea

@@ -1,5 +1,5 @@
 -- The nodes that branch, jump, call and return, `prolog`, `.align` and those without code are carried by their items.
-use Rattle.std.specs.Prelude.{◌≡◌, ℕ, ◌^◌, ◌<◌, Bool, true, false, List, [], ◌∷◌, slice_index, Some, ⊤}
+use Rattle.std.specs.Prelude.{◌≡◌, ℕ, Bool, true, false, List, ◌∷◌, slice_index, Some}
 use Rattle.lg_op.specs.declared.node.Node.{Node}
 use Rattle.lg_op.specs.declared.operand.Operand.{Operand}
 use Rattle.lg_op.specs.declared.operand.Operand.TheVariants as operand
@@ -11,18 +11,9 @@ use Rattle.lg_carry.specs.NodeCode.{CarriesNode}
 use Rattle.lg_carry_rv.specs.Places.{IsInText}
 use Rattle.lg_carry_rv.specs.RvRows.{rv_processor}
 use Rattle.lg_selr_items.specs.Items.{settled}
+use Rattle.lg_selr_values.specs.ValueLaws.{AreWords}
 use Rattle.lg_selr_control.specs.Standing.{StandsInCode, HasPlaces}
 use Rattle.lg_selr_control.specs.ControlItems.{control_items, is_control}
-
--- a number is a word, and the address of a label is below 2 ^ 30, as all of the memory is
-abbrev pub IsWord : List ℕ → Operand → Type 0
-IsWord addresses (operand.Number v) = v < 2 ^ 64
-IsWord addresses (operand.Label l) = slice_index addresses l.0 < 2 ^ 30
-IsWord addresses x = ⊤
-
-abbrev pub AreWords : List ℕ → List Operand → Type 0
-AreWords addresses [] = ⊤
-AreWords addresses (x ∷ xs) = IsWord addresses x × AreWords addresses xs
 
 -- the frame is that of the function in which the node stands, where it stands in one
 abbrev pub IsFrameOf : Code → ℕ → ℕ → Type 0

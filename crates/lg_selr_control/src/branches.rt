@@ -5,10 +5,10 @@ ghost use Rattle.lg_selr_control.specs.Branches.{failing, left_of, right_of, bit
 ghost use Rattle.lg_selr_control.specs.ControlItems.{jump_unless_items, branch_items};
 ghost use Rattle.lg_selr_items.specs.Items.{words_in, ones};
 
-use crate::operands::{portable, put_second, second_register};
+use crate::operands::{put_second, second_register};
 use lg_op::{Condition, Label, Operand};
 use lg_rv::{BranchOp, Instr, RegOp};
-use lg_selr_items::Items;
+use lg_selr_items::{Items, register_of, row};
 
 // The branch that is taken where a condition fails.
 fn failing(condition: Condition) -> BranchOp
@@ -54,12 +54,7 @@ fn put_bits(condition: Condition, a: u8, b: u8, items: &mut Items)
     ensures few { words_in items.new ≤ words_in items.old + 1 }
 {
     match condition {
-        Condition::Ms | Condition::Mc => items.one(Instr::Reg {
-            op: RegOp::And,
-            rd: 1,
-            rs1: a,
-            rs2: b,
-        }),
+        Condition::Ms | Condition::Mc => items.one(row(RegOp::And, 1, a, b)),
         _ => {}
     }
 }
@@ -86,7 +81,7 @@ pub(crate) fn put_branch(condition: Condition, operands: &[Operand], items: &mut
 {
     match operands {
         [Operand::Label(label), Operand::Reg(first), second] => {
-            let a = portable(*first);
+            let a = register_of(*first);
             let b = second_register(*second);
             put_second(*second, items);
             put_bits(condition, a, b, items);

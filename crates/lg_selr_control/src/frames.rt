@@ -11,10 +11,9 @@ ghost use Rattle.lg_selr_control.specs.Returns.{return_code};
 ghost use Rattle.lg_selr_items.specs.Items.{words_in, ones};
 ghost use Rattle.lg_op.specs.Forms.{admit, plain_forms};
 
-use crate::operands::{high_part, low_part};
 use lg_op::{Operand, PlainOp};
 use lg_rv::{ImmOp, Instr, RegOp, StoreOp, UpperOp};
-use lg_selr_items::Items;
+use lg_selr_items::{Items, high_part, imm, low_part, row};
 
 // A word of the frame is stored by the stack pointer.
 fn store(reg: u8, imm: i32) -> Instr
@@ -26,13 +25,6 @@ fn store(reg: u8, imm: i32) -> Instr
         rs2: reg,
         imm,
     }
-}
-
-// A row of a register and a number.
-fn with(op: ImmOp, rd: u8, rs1: u8, imm: i32) -> Instr
-    ensures { result ≡ Instr.Imm op rd rs1 imm }
-{
-    Instr::Imm { op, rd, rs1, imm }
 }
 
 // What a `prolog` stores: the link, FP, V0, V1, V2 and the register arguments.
@@ -62,7 +54,7 @@ fn short_fall(size: u32) -> Instr
     requires short { size ≤ 2048 }
     ensures { result ≡ Instr.Imm (ImmOp.Addi) 2 2 (negsuc (size - 1)) }
 {
-    with(ImmOp::Addi, 2, 2, -(size as i32))
+    imm(ImmOp::Addi, 2, 2, -(size as i32))
 }
 
 // By more bytes.
@@ -70,18 +62,14 @@ fn long_fall(size: u32) -> [Instr; 3]
     requires { size < 0x4000_0000 }
     ensures { result ≡ Instr.Upper (UpperOp.Lui) 1 (high_part size) ∷ Instr.Imm (ImmOp.Addiw) 1 1 (low_part size) ∷ Instr.Reg (RegOp.Sub) 2 2 1 ∷ [] }
 {
+    let size = u64::from(size);
     let lui = Instr::Upper {
         op: UpperOp::Lui,
         rd: 1,
         imm: high_part(size),
     };
-    let sub = Instr::Reg {
-        op: RegOp::Sub,
-        rd: 2,
-        rs1: 2,
-        rs2: 1,
-    };
-    [lui, with(ImmOp::Addiw, 1, 1, low_part(size)), sub]
+    let low = imm(ImmOp::Addiw, 1, 1, low_part(size));
+    [lui, low, row(RegOp::Sub, 2, 2, 1)]
 }
 
 // Appends the fall of the stack pointer.
@@ -107,7 +95,7 @@ fn put_prolog(size: u32, items: &mut Items)
     ensures { items.new ≡ ones (prolog_code size) }
 {
     items.all(&stores());
-    items.one(with(ImmOp::Addi, 8, 2, -16));
+    items.one(imm(ImmOp::Addi, 8, 2, -16));
     put_fall(size, items);
 }
 
@@ -116,13 +104,13 @@ fn return_code() -> [Instr; 7]
     ensures { result ≡ return_code }
 {
     [
-        with(ImmOp::Ld, 9, 8, -8),
-        with(ImmOp::Ld, 18, 8, -16),
-        with(ImmOp::Ld, 19, 8, -24),
-        with(ImmOp::Ld, 1, 8, 8),
-        with(ImmOp::Addi, 2, 8, 16),
-        with(ImmOp::Ld, 8, 8, 0),
-        with(ImmOp::Jalr, 0, 1, 0),
+        imm(ImmOp::Ld, 9, 8, -8),
+        imm(ImmOp::Ld, 18, 8, -16),
+        imm(ImmOp::Ld, 19, 8, -24),
+        imm(ImmOp::Ld, 1, 8, 8),
+        imm(ImmOp::Addi, 2, 8, 16),
+        imm(ImmOp::Ld, 8, 8, 0),
+        imm(ImmOp::Jalr, 0, 1, 0),
     ]
 }
 
@@ -141,7 +129,7 @@ fn put_idle(count: u32, items: &mut Items)
     ensures { items.new ≡ items.old ++ ones (idle count) }
 {
     if count > 0 {
-        items.one(with(ImmOp::Addi, 0, 0, 0));
+        items.one(imm(ImmOp::Addi, 0, 0, 0));
         put_idle(count - 1, items);
     }
 }

@@ -6,29 +6,23 @@ ghost use Rattle.lg_selr_control.specs.HostCalls.{host_code};
 ghost use Rattle.lg_selr_items.specs.Items.{words_in, ones};
 
 use crate::frames::put_return;
-use crate::operands::{high_part, low_part, portable, put_word};
+use crate::operands::put_word;
 use lg_base::host_name::HostName;
 use lg_op::{ControlOp, LastOperand, Operand};
 use lg_rv::{ImmOp, Instr, UpperOp};
-use lg_selr_items::Items;
+use lg_selr_items::{Items, high_part, imm, low_part, register_of};
 
 // The call of a host function: the address of its entry goes into the link, and the jump there links.
 fn host_code(name: HostName) -> [Instr; 2]
     ensures { result ≡ host_code name }
 {
-    let entry = name.address() as u32;
+    let entry = name.address();
     let lui = Instr::Upper {
         op: UpperOp::Lui,
         rd: 1,
         imm: high_part(entry),
     };
-    let jalr = Instr::Imm {
-        op: ImmOp::Jalr,
-        rd: 1,
-        rs1: 1,
-        imm: low_part(entry),
-    };
-    [lui, jalr]
+    [lui, imm(ImmOp::Jalr, 1, 1, low_part(entry))]
 }
 
 // Appends the items of `jmpi` to none.
@@ -60,12 +54,7 @@ fn put_register_leap(rd: u8, operands: &[Operand], items: &mut Items)
     ensures { items.new ≡ register_leap_items rd operands.now }
 {
     match operands {
-        [Operand::Reg(reg)] => items.one(Instr::Imm {
-            op: ImmOp::Jalr,
-            rd,
-            rs1: portable(*reg),
-            imm: 0,
-        }),
+        [Operand::Reg(reg)] => items.one(imm(ImmOp::Jalr, rd, register_of(*reg), 0)),
         _ => {}
     }
 }
@@ -77,12 +66,7 @@ fn put_result(operand: Operand, items: &mut Items)
     ensures few { words_in items.new ≤ 8 }
 {
     match operand {
-        Operand::Reg(reg) => items.one(Instr::Imm {
-            op: ImmOp::Addi,
-            rd: 10,
-            rs1: portable(reg),
-            imm: 0,
-        }),
+        Operand::Reg(reg) => items.one(imm(ImmOp::Addi, 10, register_of(reg), 0)),
         Operand::Label(label) => items.address(10, label.0),
         other => put_word(10, other, items),
     }

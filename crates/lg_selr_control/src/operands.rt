@@ -1,31 +1,19 @@
 // Operands whose words are put into registers.
 
-ghost use Rattle.std.specs.Prelude.{◌≡◌, ◌≢◌, ◌<◌, ◌≤◌, ◌%◌, [], length};
-ghost use Rattle.lg_base.specs.declared.target.Target.TheVariants.{Riscv64};
-ghost use Rattle.lg_carry_rv.specs.Numbers.{high_part, low_part};
+ghost use Rattle.std.specs.Prelude.{◌≡◌, ◌≢◌, ◌<◌, ◌≤◌, []};
 ghost use Rattle.lg_selr_control.specs.ControlItems.{second_register, second_items, word_items};
 ghost use Rattle.lg_selr_control.specs.Immediates.{immediate};
 ghost use Rattle.lg_selr_items.specs.Items.{words_in};
-ghost use Rattle.lg_temp.specs.Abis.{register_of};
 
-use lg_base::target::Target;
-use lg_op::{Operand, Reg};
-use lg_selr_items::Items;
-use lg_temp::abi::Abi;
-
-// The register that stands for one of the portable machine.
-pub(crate) fn portable(reg: Reg) -> u8
-    ensures { result ≡ register_of Riscv64 reg }
-{
-    Abi::of(Target::Riscv64).portable(reg)
-}
+use lg_op::Operand;
+use lg_selr_items::{Items, register_of};
 
 // The register in which an operand is once `put_second` has put it there.
 pub(crate) fn second_register(operand: Operand) -> u8
     ensures { result ≡ second_register operand }
 {
     match operand {
-        Operand::Reg(reg) => portable(reg),
+        Operand::Reg(reg) => register_of(reg),
         _ => 1,
     }
 }
@@ -55,20 +43,4 @@ pub(crate) fn put_second(operand: Operand, items: &mut Items)
         Operand::Reg(_) => {}
         other => put_word(1, other, items),
     }
-}
-
-// The 20 bits above the low 12 of a number of 30 bits, by which `lui` makes up for their sign.
-pub(crate) fn high_part(value: u32) -> u32
-    requires { value < 0x4000_0000 }
-    ensures { result ≡ high_part value }
-{
-    (value + 2048) / 4096 % 0x10_0000
-}
-
-// The low 12 bits, with their sign.
-pub(crate) fn low_part(value: u32) -> i32
-    ensures { result ≡ low_part value }
-{
-    let low = (value % 4096) as i32;
-    if low < 2048 { low } else { low - 4096 }
 }

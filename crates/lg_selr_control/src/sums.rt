@@ -6,40 +6,21 @@ ghost use Rattle.lg_selr_control.specs.ControlItems.{sum_items};
 ghost use Rattle.lg_selr_items.specs.Items.{words_in, ones};
 
 use crate::branches::put_jump_unless;
-use crate::operands::{portable, put_second, second_register};
+use crate::operands::{put_second, second_register};
 use lg_op::{BranchSumOp, Operand};
 use lg_rv::{BranchOp, ImmOp, Instr, RegOp};
-use lg_selr_items::Items;
-
-// A row of two registers.
-fn row(op: RegOp, rd: u8, rs1: u8, rs2: u8) -> Instr
-    ensures { result ≡ Instr.Reg op rd rs1 rs2 }
-{
-    Instr::Reg { op, rd, rs1, rs2 }
-}
-
-// A row of a register and 0.
-fn with_zero(op: ImmOp, rd: u8, rs1: u8) -> Instr
-    ensures { result ≡ Instr.Imm op rd rs1 (pos 0) }
-{
-    Instr::Imm {
-        op,
-        rd,
-        rs1,
-        imm: 0,
-    }
-}
+use lg_selr_items::{Items, imm, register_of, row};
 
 // Adds, and x31 tells whether the signed sum does not fit.
 fn signed_sum(a: u8, b: u8) -> [Instr; 5]
     ensures { result ≡ signed_sum_code a b }
 {
     [
-        with_zero(ImmOp::Slti, 31, b),
+        imm(ImmOp::Slti, 31, b, 0),
         row(RegOp::Add, 1, a, b),
         row(RegOp::Slt, a, 1, a),
         row(RegOp::Xor, 31, 31, a),
-        with_zero(ImmOp::Addi, a, 1),
+        imm(ImmOp::Addi, a, 1, 0),
     ]
 }
 
@@ -50,9 +31,9 @@ fn signed_difference(a: u8, b: u8) -> [Instr; 5]
     [
         row(RegOp::Slt, 31, a, b),
         row(RegOp::Sub, 1, a, b),
-        with_zero(ImmOp::Slti, a, 1),
+        imm(ImmOp::Slti, a, 1, 0),
         row(RegOp::Xor, 31, 31, a),
-        with_zero(ImmOp::Addi, a, 1),
+        imm(ImmOp::Addi, a, 1, 0),
     ]
 }
 
@@ -63,7 +44,7 @@ fn unsigned_sum(a: u8, b: u8) -> [Instr; 3]
     [
         row(RegOp::Add, 1, a, b),
         row(RegOp::Sltu, 31, 1, a),
-        with_zero(ImmOp::Addi, a, 1),
+        imm(ImmOp::Addi, a, 1, 0),
     ]
 }
 
@@ -110,7 +91,7 @@ pub(crate) fn put_sum_branch(op: BranchSumOp, operands: &[Operand], items: &mut 
 {
     match operands {
         [Operand::Label(label), Operand::Reg(first), second] => {
-            let a = portable(*first);
+            let a = register_of(*first);
             let b = second_register(*second);
             put_second(*second, items);
             put_sum(op, a, b, items);

@@ -54,5 +54,5 @@ items-are-in-code code trash c i items a some block =
       small = a.small;
       bytes = a.bytes;
       word = a.word;
-      block = record { low = n.low; place = n.place; more = n.more; stands = n.stands; next = n.next; few = n.few; some = n.some; fit = n.fit; block = block };
+      block = record { code = n; block = block };
     }

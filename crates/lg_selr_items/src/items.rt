@@ -1,9 +1,10 @@
 // Items, and lists of them.
 
-ghost use Rattle.std.specs.Prelude.{◌≡◌, ◌+◌, ◌<◌, ◌≤◌, [], ◌∷◌, ◌++◌, length};
+ghost use Rattle.std.specs.Prelude.{◌≡◌, ◌+◌, ◌<◌, ◌≤◌, pos, [], ◌∷◌, ◌++◌, length};
 ghost use Rattle.lg_carry_rv.specs.Numbers.{is_short, is_half, low_part, high_part, half_code, long_code, number_code};
 ghost use Rattle.lg_selr_items.specs.Items.{words_in, ones};
 
+use crate::rows::{imm, shift};
 use lg_rv::{ImmOp, Instr, ShiftOp, UpperOp};
 use smallvec::SmallVec;
 use std::alloc::Global;
@@ -23,13 +24,10 @@ pub enum Item {
 
 impl Default for Item {
     /// What stands in the places that are not used: the no-op.
-    fn default() -> Item {
-        Item::One(Instr::Imm {
-            op: ImmOp::Addi,
-            rd: 0,
-            rs1: 0,
-            imm: 0,
-        })
+    fn default() -> Item
+        ensures { result ≡ Item.One (Instr.Imm (ImmOp.Addi) 0 0 (pos 0)) }
+    {
+        Item::One(imm(ImmOp::Addi, 0, 0, 0))
     }
 }
 
@@ -119,7 +117,7 @@ impl Items {
         ensures { self.new ≡ self.old ++ ones (number_code rd value) }
     {
         if is_short(value) {
-            self.all(&[add(rd, 0, low_part(value))]);
+            self.one(imm(ImmOp::Addi, rd, 0, low_part(value)));
         } else if is_half(value) {
             self.all(&half_code(rd, value));
         } else {
@@ -133,30 +131,6 @@ impl Items {
         ensures few { words_in result.now ≤ 64 }
     {
         self.list.as_slice()
-    }
-}
-
-// `addi`.
-fn add(rd: u8, rs1: u8, imm: i32) -> Instr
-    ensures { result ≡ Instr.Imm (ImmOp.Addi) rd rs1 imm }
-{
-    Instr::Imm {
-        op: ImmOp::Addi,
-        rd,
-        rs1,
-        imm,
-    }
-}
-
-// `slli` of a register by itself.
-fn shift(rd: u8, amount: u8) -> Instr
-    ensures { result ≡ Instr.Shift (ShiftOp.Slli) rd rd amount }
-{
-    Instr::Shift {
-        op: ShiftOp::Slli,
-        rd,
-        rs1: rd,
-        amount,
     }
 }
 
@@ -198,13 +172,7 @@ fn half_code(rd: u8, value: u64) -> [Instr; 2]
         rd,
         imm: high_part(value),
     };
-    let addiw = Instr::Imm {
-        op: ImmOp::Addiw,
-        rd,
-        rs1: rd,
-        imm: low_part(value),
-    };
-    [lui, addiw]
+    [lui, imm(ImmOp::Addiw, rd, rd, low_part(value))]
 }
 
 // Loads any number.
@@ -215,11 +183,11 @@ fn long_code(rd: u8, value: u64) -> [Instr; 8]
     [
         lui,
         addiw,
-        shift(rd, 11),
-        add(rd, rd, (value / 0x20_0000 % 0x800) as i32),
-        shift(rd, 11),
-        add(rd, rd, (value / 0x400 % 0x800) as i32),
-        shift(rd, 10),
-        add(rd, rd, (value % 0x400) as i32),
+        shift(ShiftOp::Slli, rd, rd, 11),
+        imm(ImmOp::Addi, rd, rd, (value / 0x20_0000 % 0x800) as i32),
+        shift(ShiftOp::Slli, rd, rd, 11),
+        imm(ImmOp::Addi, rd, rd, (value / 0x400 % 0x800) as i32),
+        shift(ShiftOp::Slli, rd, rd, 10),
+        imm(ImmOp::Addi, rd, rd, (value % 0x400) as i32),
     ]
 }

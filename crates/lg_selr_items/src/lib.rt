@@ -5,6 +5,8 @@
 mod emission;
 mod items;
 pub mod laws;
+mod rows;
 
 pub use emission::append;
 pub use items::{Item, Items, high_part, is_short, low_part};
+pub use rows::{imm, register_of, row, shift};

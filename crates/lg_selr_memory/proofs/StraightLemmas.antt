@@ -60,15 +60,15 @@ module _ (code : List ℕ) (trash : ℕ) (c : Code) (i : ℕ) (n : Node) (S : �
     here : q.state.pc ≡ c.place i
     here = st.here ∙ ap c.place at
 
-    stands : drop (q.state.pc - code_base) code ≡ spellings spelling is ++ k.block.more
-    stands = ap (λ p. drop (p - code_base) code) here ∙ k.block.stands
+    stands : drop (q.state.pc - code_base) code ≡ spellings spelling is ++ k.block.code.more
+    stands = ap (λ p. drop (p - code_base) code) here ∙ k.block.code.stands
 
     pub low : code_base ≤ q.state.pc
-    low = omega (arith, here, k.block.low)
+    low = omega (arith, here, k.block.code.low)
 
     pub high : q.state.pc + 4 * length is ≤ code_base + most_code
     high =
-        let l : length (drop (q.state.pc - code_base) code) ≡ length (spellings spelling is) + length k.block.more = ap length stands ∙ length-append (spellings spelling is) k.block.more in
+        let l : length (drop (q.state.pc - code_base) code) ≡ length (spellings spelling is) + length k.block.code.more = ap length stands ∙ length-append (spellings spelling is) k.block.code.more in
         let d = length-drop (q.state.pc - code_base) code in
         let long = spellings-long is in
         omega (arith, l, d, long, low, k.small, some)
@@ -87,7 +87,7 @@ module _ (code : List ℕ) (trash : ℕ) (c : Code) (i : ℕ) (n : Node) (S : �
       u = done rv_does is q
 
       run : RunsBlock (rv_rows code trash) is q
-      run = blocks-run (rv_rows code trash) IsInstr (are-rows code trash k.small k.bytes k.word) is q k.block.more k.block.fit k.block.block g.through low (ap (λ p. p % 4 == 0) here ∙ k.block.place) stands
+      run = blocks-run (rv_rows code trash) IsInstr (are-rows code trash k.small k.bytes k.word) is q k.block.code.more k.block.code.fit k.block.block g.through low (ap (λ p. p % 4 == 0) here ∙ k.block.code.place) stands
 
       module _ (to : State) (goes : step c.nodes c.shape c.addresses s ≡ Goes to []) (next : to.at ≡ s.at + 1) where
         -- the state stays in its frame
@@ -96,7 +96,7 @@ module _ (code : List ℕ) (trash : ℕ) (c : Code) (i : ℕ) (n : Node) (S : �
           few = (shaped c.nodes t.well).few;
           fits = text-keeps c i n t s to [] at (omega (arith, st.seen.low, st.mark)) (omega (arith, st.seen.high, st.mark)) st.fits goes;
           seen = run.keeps st.seen;
-          here = g.behind ∙ ap (λ z. z + 4 * length is) here ∙ ap (λ z. c.place i + z) (sym (spellings-long is)) ∙ sym k.block.next ∙ ap (λ j. c.place (j + 1)) (sym at) ∙ ap c.place (sym next);
+          here = g.behind ∙ ap (λ z. z + 4 * length is) here ∙ ap (λ z. c.place i + z) (sym (spellings-long is)) ∙ sym k.block.code.next ∙ ap (λ j. c.place (j + 1)) (sym at) ∙ ap c.place (sym next);
           before = inside;
           behind = ap (is_inside c) next ∙ ap (λ j. is_inside c (j + 1)) at ∙ (shaped c.nodes t.well).next i place.entry place.home (ap is_epilog_at t.here ∙ no-epilog n.op falls);
           frame = frame;

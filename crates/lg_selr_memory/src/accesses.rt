@@ -1,14 +1,13 @@
 // Loads and stores.
 
 ghost use Rattle.std.specs.Prelude.{◌≡◌, [], ◌∷◌, ◌++◌};
-ghost use Rattle.lg_rv.specs.declared.instruction.RegOp.TheVariants as reg;
 ghost use Rattle.lg_selr_items.specs.Items.{ones};
 ghost use Rattle.lg_selr_memory.specs.Accesses.{load_row, store_row, link, at_register, at_link, indexed, place_at, load_code, store_code};
 
 use crate::operands::{number, operand, register};
 use lg_op::{Addressing, Node, Operand, StoreType, ValueType};
 use lg_rv::{ImmOp, Instr, RegOp, StoreOp};
-use lg_selr_items::{Items, is_short, low_part};
+use lg_selr_items::{Items, is_short, low_part, row};
 
 // The link holds nothing that is needed behind a `prolog`.
 const LINK: u8 = 1;
@@ -47,18 +46,6 @@ fn store_row(t: StoreType) -> StoreOp
     }
 }
 
-// The sum of two registers into the link.
-fn sum(a: u8, b: u8) -> Instr
-    ensures { result ≡ Instr.Reg (reg.Add) link a b }
-{
-    Instr::Reg {
-        op: RegOp::Add,
-        rd: LINK,
-        rs1: a,
-        rs2: b,
-    }
-}
-
 // An address that is a register.
 fn at_register(register: u8) -> Base
     ensures register { result.register ≡ (at_register register).base }
@@ -84,7 +71,7 @@ fn put_indexed(register: u8, value: u64, items: &mut Items) -> Base
         };
     }
     items.number(LINK, value);
-    items.one(sum(register, LINK));
+    items.one(row(RegOp::Add, LINK, register, LINK));
     at_register(LINK)
 }
 
@@ -102,7 +89,7 @@ fn put_address(at: Addressing, first: Operand, second: Operand, items: &mut Item
             at_register(LINK)
         }
         Addressing::RegisterRegister => {
-            items.one(sum(register(first), register(second)));
+            items.one(row(RegOp::Add, LINK, register(first), register(second)));
             at_register(LINK)
         }
         Addressing::RegisterImmediate => match first {

@@ -10,10 +10,10 @@ ghost use Rattle.lg_selr_memory.specs.ArgumentCode.{argument_offset, argument_co
 ghost use Rattle.lg_selr_memory.specs.PushCode.{into, stack_push, onto_stack, push_code};
 
 use crate::accesses::load_row;
-use crate::operands::{operand, register, standing_for};
+use crate::operands::{operand, register};
 use lg_op::{Node, Operand, ValueType};
 use lg_rv::{ImmOp, Instr, StoreOp};
-use lg_selr_items::Items;
+use lg_selr_items::{Items, imm, register_of};
 
 // The link holds nothing that is needed behind a `prolog`.
 const LINK: u8 = 1;
@@ -24,12 +24,7 @@ fn put_into(rd: u8, operand: Operand, items: &mut Items)
     ensures { items.new ≡ into rd operand }
 {
     match operand {
-        Operand::Reg(reg) => items.one(Instr::Imm {
-            op: ImmOp::Addi,
-            rd,
-            rs1: standing_for(reg),
-            imm: 0,
-        }),
+        Operand::Reg(reg) => items.one(imm(ImmOp::Addi, rd, register_of(reg), 0)),
         Operand::Number(value) => items.number(rd, value),
         Operand::Host(name) => items.number(rd, name.address()),
         Operand::Label(label) => items.address(rd, label.0),
@@ -56,7 +51,7 @@ fn put_onto_stack(index: u32, operand: Operand, items: &mut Items)
     ensures { items.new ≡ onto_stack index operand }
 {
     match operand {
-        Operand::Reg(reg) => items.one(stack_push(index, standing_for(reg))),
+        Operand::Reg(reg) => items.one(stack_push(index, register_of(reg))),
         _ => {
             put_into(LINK, operand, items);
             items.one(stack_push(index, LINK));
@@ -109,11 +104,7 @@ pub fn put_getarg(t: ValueType, node: &Node, items: &mut Items)
 {
     let index = slot(operand(node, 1));
     if index < 16 {
-        items.one(Instr::Imm {
-            op: load_row(t),
-            rd: register(operand(node, 0)),
-            rs1: 8,
-            imm: argument_offset(index),
-        });
+        let rd = register(operand(node, 0));
+        items.one(imm(load_row(t), rd, 8, argument_offset(index)));
     }
 }

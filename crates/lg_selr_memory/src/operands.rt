@@ -1,14 +1,11 @@
 // The operands of nodes, as registers and numbers of the processor.
 
 ghost use Rattle.std.specs.Prelude.{◌≡◌, ◌<◌};
-ghost use Rattle.lg_base.specs.declared.target.Target.TheVariants.{Riscv64};
 ghost use Rattle.lg_meaning.specs.Steps.{operand_at};
 ghost use Rattle.lg_selr_memory.specs.Accesses.{register, number};
-ghost use Rattle.lg_temp.specs.Abis.{register_of};
 
-use lg_base::target::Target;
-use lg_op::{Node, Operand, Reg};
-use lg_temp::abi::Abi;
+use lg_op::{Node, Operand};
+use lg_selr_items::register_of;
 
 // An operand of a node, by its number from 0.
 pub(crate) fn operand(node: &Node, index: usize) -> Operand
@@ -20,19 +17,12 @@ pub(crate) fn operand(node: &Node, index: usize) -> Operand
     }
 }
 
-// The register that stands for one of the portable machine.
-pub(crate) fn standing_for(reg: Reg) -> u8
-    ensures { result ≡ register_of Riscv64 reg }
-{
-    Abi::of(Target::Riscv64).portable(reg)
-}
-
 // The register of an operand that is one.
 pub(crate) fn register(operand: Operand) -> u8
     ensures { result ≡ register operand }
 {
     match operand {
-        Operand::Reg(reg) => standing_for(reg),
+        Operand::Reg(reg) => register_of(reg),
         _ => 0,
     }
 }

@@ -1,14 +1,12 @@
 // The operations on two words, from two registers or from a register and a number.
 
 ghost use Rattle.std.specs.Prelude.{◌≡◌, ◌+◌, ◌≤◌, ◌++◌};
-ghost use Rattle.lg_carry_rv.specs.Numbers.{low_part};
 ghost use Rattle.lg_selr_items.specs.Items.{ones, words_in};
 ghost use Rattle.lg_selr_values.specs.BinaryCode.{register_code, is_addend, loaded_code, addend_code, sum_code, number_form_code};
 
-use crate::rows::{imm, row, shift};
 use lg_op::BinaryOp;
 use lg_rv::{ImmOp, RegOp, ShiftOp};
-use lg_selr_items::Items;
+use lg_selr_items::{Items, imm, low_part, row, shift};
 
 /// Appends the code of `d = a op b`, at most 2 instructions, for which there is room. Of an operation that sets the carry nothing is appended.
 pub fn register_code(op: BinaryOp, d: u8, a: u8, b: u8, items: &mut Items)
@@ -49,14 +47,6 @@ fn is_addend(value: u64) -> bool
     ensures { result ≡ is_addend value }
 {
     value.wrapping_add(2047) < 4095
-}
-
-// The low 12 bits of a number, with their sign.
-fn low_part(value: u64) -> i32
-    ensures { result ≡ low_part value }
-{
-    let low = (value % 4096) as i32;
-    if low < 2048 { low } else { low - 4096 }
 }
 
 // Appends the code of `d = a op value` over the link, at most 10 instructions, for which there is room.

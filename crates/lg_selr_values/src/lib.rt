@@ -3,7 +3,6 @@
 
 mod binary;
 pub mod laws;
-mod rows;
 mod unary;
 mod values;
 mod wide;

@@ -4,10 +4,9 @@ ghost use Rattle.std.specs.Prelude.{◌≡◌, ◌+◌, ◌*◌, ◌≤◌, ◌+
 ghost use Rattle.lg_selr_items.specs.Items.{ones, words_in};
 ghost use Rattle.lg_selr_values.specs.UnaryCode.{more_bytes_code, swapped_code, unary_code};
 
-use crate::rows::{imm, row, shift};
 use lg_op::UnaryOp;
 use lg_rv::{ImmOp, RegOp, ShiftOp};
-use lg_selr_items::Items;
+use lg_selr_items::{Items, imm, row, shift};
 
 // Appends the code that puts so many further bytes of the link behind those of `d`: 4 instructions for each, for which there is room.
 fn more_bytes_code(d: u8, n: u32, items: &mut Items)

@@ -1,33 +1,18 @@
 // The nodes that compute values.
 
 ghost use Rattle.std.specs.Prelude.{◌≡◌, ◌+◌, ◌<◌, ◌≤◌, [], ◌∷◌, ◌++◌, length, slice_index_or};
-ghost use Rattle.lg_base.specs.declared.target.Target.TheVariants.{Riscv64};
 ghost use Rattle.lg_operators.specs.Operators.{is_carried};
 ghost use Rattle.lg_carry_rv.specs.RvRows.{slot_offset};
-ghost use Rattle.lg_temp.specs.Abis.{register_of};
 ghost use Rattle.lg_selr_items.specs.Items.{words_in};
 ghost use Rattle.lg_selr_values.specs.ValueItems.{load_items, binary_items, second_items, carried_items, wide_items, operation_items, register_for, body_items, value_items, HaveSlots};
 
 use crate::binary::{number_form_code, register_code};
-use crate::rows::imm;
 use crate::unary::unary_code;
 use crate::wide::{carried_code, wide_code};
-use lg_base::target::Target;
 use lg_op::{BinaryOp, Label, Node, Op, Operand, PlainOp, Reg, WideOp};
 use lg_rv::{ImmOp, Instr, StoreOp};
-use lg_selr_items::Items;
-use lg_temp::abi::Abi;
+use lg_selr_items::{Items, imm, register_of};
 use lg_temp::choice::{Choice, Choices};
-
-// The register that stands for a portable one.
-fn register_of(reg: Reg) -> u8
-    ensures { result ≡ register_of Riscv64 reg }
-{
-    let abi = Abi {
-        target: Target::Riscv64,
-    };
-    abi.portable(reg)
-}
 
 // The register of an operand that is one, and else 0.
 fn register_for(operand: Operand) -> u8

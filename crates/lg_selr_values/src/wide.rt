@@ -5,10 +5,9 @@ ghost use Rattle.lg_selr_items.specs.Items.{ones, words_in};
 ghost use Rattle.lg_selr_values.specs.CarriedCode.{carried_code};
 ghost use Rattle.lg_selr_values.specs.WideCode.{waited_code, wide_code};
 
-use crate::rows::{imm, row};
 use lg_op::{BinaryOp, WideOp};
 use lg_rv::{ImmOp, RegOp};
-use lg_selr_items::Items;
+use lg_selr_items::{Items, imm, row};
 
 // Appends the code of `s = a second b` and `t = a first b`, where `s` may be `a` or `b`: 3 instructions, for which there is room.
 fn waited_code(first: RegOp, second: RegOp, t: u8, s: u8, a: u8, b: u8, items: &mut Items)

@@ -1,8 +1,13 @@
-// Instructions by their rows. Registers are 0 to 31.
+// Instructions by their rows, and the registers that stand for portable ones. Registers are 0 to 31.
 
 ghost use Rattle.std.specs.Prelude.{◌≡◌};
+ghost use Rattle.lg_base.specs.declared.target.Target.TheVariants.{Riscv64};
+ghost use Rattle.lg_temp.specs.Abis.{register_of};
 
-use lg_rv::{ImmOp, Instr, RegOp, ShiftOp};
+use lg_base::target::Target;
+use lg_op::Reg;
+use lg_rv::{ImmOp, Instr, RegOp, ShiftOp, StoreOp};
+use lg_temp::abi::Abi;
 
 /// `rd` gets what the row makes of two registers.
 pub fn row(op: RegOp, rd: u8, rs1: u8, rs2: u8) -> Instr
@@ -28,4 +33,11 @@ pub fn shift(op: ShiftOp, rd: u8, rs1: u8, amount: u8) -> Instr
         rs1,
         amount,
     }
+}
+
+/// The register that stands for a portable one, by the calling convention of RISC-V.
+pub fn register_of(reg: Reg) -> u8
+    ensures { result ≡ register_of Riscv64 reg }
+{
+    Abi::of(Target::Riscv64).portable(reg)
 }
