@@ -357,6 +357,17 @@ fn gives_the_bytes_of_strings(rt: HostRuntime) -> Result<(), Fail> {
     Ok(())
 }
 
+#[test]
+fn gives_no_byte_behind_the_last(rt: HostRuntime) {
+    let token = b"\"/* \\1\\12\\1234 \xff\0\"";
+    let mut place = 0;
+    for wanted in b"/* \x01\n\x534 \xff\0" {
+        assert_eq!(rt; string_bytes(token, &mut place), Some(*wanted));
+    }
+    assert_eq!(rt; string_bytes(token, &mut place), None);
+    assert_eq!(rt; string_bytes(token, &mut place), None);
+}
+
 // Appends a piece so many times.
 fn repeat(text: &mut Vec<u8>, piece: &[u8], times: u32) -> Result<(), AllocError> {
     for _ in 0..times {
