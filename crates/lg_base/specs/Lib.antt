@@ -1,4 +1,5 @@
 pub mod Arguments
+pub mod CarryFlags
 pub mod Conventions
 pub mod Faults
 pub mod Fields

@@ -173,57 +173,81 @@ impl Places {
     }
 }
 
-/// The addresses of labels, by the number of the label.
+/// For each node of a text that was rewritten, the index of the node that it comes from, with room for more.
 #[derive(Drop)]
-pub struct LabelAddresses {
-    addresses: Vec<u64>,
+pub struct Origin {
+    indices: Vec<u32>,
+    room: u32,
 }
 
-impl Model for LabelAddresses {
-    ghost Value = { List ℕ };
+impl Model for Origin {
+    ghost use Rattle.std.specs.Prelude.{◌+◌, ◌≤◌, ◌<◌, ◌^◌, vec_len, vec_capacity};
+    ghost use Rattle.lg_base.specs.Rooms.{Roomy};
 
-    ghost view = { λ l. l.addresses.items };
+    ghost Value = { Roomy };
 
-    ghost invariant = { λ l. vec_len l.addresses < 2 ^ 32 };
+    ghost view = { λ l. record { items = l.indices.items; room = l.room } };
+
+    ghost invariant = { λ l. (vec_len l.indices + l.room ≤ vec_capacity l.indices) × (vec_len l.indices + l.room < 2 ^ 32) };
 }
 
-impl LabelAddresses {
-    /// The list of these addresses, of which there are at most 4,294,967,295.
-    pub fn of(alloc: Global, list: &[u64]) -> Result<LabelAddresses, OutOfMemory>
+impl Origin {
+    /// The list of these indices, of which there are at most 4,294,967,295, with room for no more.
+    pub fn of(alloc: Global, list: &[u32]) -> Result<Origin, OutOfMemory>
         requires { length list.now < 2 ^ 32 }
-        ensures { IfOk result (λ l. l ≡ list.now) }
+        ensures items { IfOk result (λ l. l.items ≡ list.now) }
+        ensures room { IfOk result (λ l. l.room ≡ 0) }
     {
-        let addresses = Vec::from_slice(alloc, list)?;
-        Ok(LabelAddresses { addresses })
+        let indices = Vec::from_slice(alloc, list)?;
+        Ok(Origin { indices, room: 0 })
     }
 
-    /// How many addresses there are.
-    pub fn len(&self) -> u32
-        ensures { result ≡ length self.now }
+    /// No indices, with room for so many.
+    pub fn with_room(alloc: Global, room: u32) -> Result<Origin, OutOfMemory>
+        ensures items { IfOk result (λ l. l.items ≡ []) }
+        ensures room { IfOk result (λ l. l.room ≡ room) }
     {
-        self.addresses.len() as u32
+        let indices = Vec::with_capacity(alloc, room as usize)?;
+        Ok(Origin { indices, room })
+    }
+
+    /// Appends an index. There is room left.
+    pub fn push(&mut self, index: u32)
+        requires { 0 < self.old.room }
+        ensures items { self.new.items ≡ self.old.items ++ index ∷ [] }
+        ensures room { self.new.room + 1 ≡ self.old.room }
+    {
+        self.indices.push_reserved(index);
+        self.room -= 1;
+    }
+
+    /// How many nodes there are.
+    pub fn len(&self) -> u32
+        ensures { result ≡ length self.now.items }
+    {
+        self.indices.len() as u32
     }
 
     /// Whether there is none.
     pub fn is_empty(&self) -> bool
-        ensures { IsTrue result ↔ (length self.now ≡ 0) }
+        ensures { IsTrue result ↔ (length self.now.items ≡ 0) }
     {
-        self.addresses.len() == 0
+        self.indices.len() == 0
     }
 
-    /// The address of an index, which is below `len`.
-    pub fn get(&self, index: u32) -> u64
-        requires { index < length self.now }
-        ensures { result ≡ slice_index self.now index }
+    /// The index that a node comes from, whose own is below `len`.
+    pub fn get(&self, index: u32) -> u32
+        requires { index < length self.now.items }
+        ensures { result ≡ slice_index self.now.items index }
     {
-        self.addresses[index as usize]
+        self.indices[index as usize]
     }
 
-    /// The addresses.
-    pub fn as_slice(&self) -> &[u64]
-        ensures value { result.now ≡ self.now }
-        ensures small { length self.now < 2 ^ 32 }
+    /// The indices.
+    pub fn as_slice(&self) -> &[u32]
+        ensures value { result.now ≡ self.now.items }
+        ensures small { length self.now.items < 2 ^ 32 }
     {
-        &self.addresses
+        &self.indices
     }
 }

@@ -6,6 +6,7 @@ pub mod args;
 pub mod code;
 pub mod fault;
 pub mod field;
+pub mod flags;
 pub mod host_name;
 pub mod image;
 pub mod memory;

@@ -82,8 +82,9 @@ fn fits(negative: bool, q: u128) -> bool
     }
 }
 
-// Signed quotient and remainder of a double word by a word, as words.
-fn div_wide_words(high: u64, low: u64, by: u64) -> Option<(u64, u64)>
+/// Signed quotient towards zero and remainder of a double word by a word, all as words. None exactly where the divisor is 0 or the quotient
+/// does not fit a signed word.
+pub fn div_wide_words(high: u64, low: u64, by: u64) -> Option<(u64, u64)>
     ensures { result ≡ quotient_wide_signed high low by }
 {
     if by == 0 {

@@ -123,6 +123,16 @@ impl CodeBuf {
         self.labels[label.0 as usize] = Some(here);
     }
 
+    /// Binds a label to a place of the code, which is at most that behind the last byte. It is one of the buffer's labels, and it isn't bound.
+    pub fn bind_at(&mut self, label: Label32, place: u32)
+        requires label { label.0 < length self.old.labels }
+        requires unbound { place_of self.old.labels label.0 ≡ None }
+        requires place { place ≤ length self.old.bytes }
+        ensures { self.new ≡ record self.old { labels = slice_set self.old.labels label.0 (Some place) } }
+    {
+        self.labels[label.0 as usize] = Some(place);
+    }
+
     /// The place of a label, or None where it isn't bound. It is one of the buffer's labels.
     pub fn bound(&self, label: Label32) -> Option<u32>
         requires { label.0 < length self.now.labels }

@@ -13,6 +13,7 @@ use Rattle.lg_node.specs.Functions.{frame_of, home}
 use Rattle.lg_meaning.specs.States.{Frame, in_locals, in_any_locals, is_open, State}
 use Rattle.lg_meaning.specs.Steps.{called, on, begun, kept, function_here}
 use Rattle.lg_meaning.specs.Fits.{AreLinked, IsTopOf}
+use Rattle.lg_base.specs.CarryFlags.{carry_of}
 use Rattle.lg_carry.specs.Codes.{is_inside}
 use Rattle.lg_carry.specs.Registers.{HasArguments, HoldsCarry, HoldsArguments}
 use Rattle.lg_carry.specs.Frames.{at_call, KeepsCaller, MayKeepCaller, HaveWords, IsArriving, IsRunning, IsLinked, arriving}
@@ -230,7 +231,7 @@ start-agrees target c live s q S is k arrives = record {
   parts = k.parts;
   here = arrives.here;
   registers = record { is = λ r w lt m e. absurd (none (is.undefined r) e) };
-  carry = subst (λ x. HoldsCarry target q.registers q.flag x) (sym is.carry) tt;
+  carry = subst (λ x. HoldsCarry target q.registers (carry_of q.flags) x) (sym is.carry) tt;
   result = record { is = λ w e. absurd (none is.answer e) };
   pushed = subst (λ args. HoldsArguments target q.registers args) (sym is.pushed) record { is = λ i w lt e. cc };
   outgoing = subst (λ args. HasArguments target q.bytes (lowest s.frame) args) (sym is.pushed) record { is = λ i w le e. cc };

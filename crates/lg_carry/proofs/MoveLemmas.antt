@@ -9,6 +9,7 @@ use Rattle.lg_base.specs.declared.target.Target.{Target}
 use Rattle.lg_meaning.specs.States.{Frame, State}
 use Rattle.lg_operators.specs.declared.carry.Carry.TheVariants as carry
 use Rattle.lg_carry.specs.Processors.{Seen}
+use Rattle.lg_base.specs.CarryFlags.{carry_of}
 use Rattle.lg_carry.specs.Codes.{Code, is_inside}
 use Rattle.lg_carry.specs.Registers.{HoldsRegisters, HoldsCarry, HoldsArguments, HasArguments}
 use Rattle.lg_carry.specs.Frames.{at_call, arriving, IsLinked, MayHoldCaller, IsSettled, IsArriving, IsRunning, HasWords, HaveWords, return_address}
@@ -54,7 +55,7 @@ move-agrees target c live s t q u S S' st m k less =
       };
       here = k.here;
       registers = subst (λ regs. HoldsRegisters target u.registers regs S') (sym m.regs) held;
-      carry = subst (λ x. HoldsCarry target u.registers u.flag x) (sym m.carry) tt;
+      carry = subst (λ x. HoldsCarry target u.registers (carry_of u.flags) x) (sym m.carry) tt;
       result = record { is = λ w e. absurd (none m.answer e) };
       pushed = subst (λ args. HoldsArguments target u.registers args) (sym m.pushed) passed;
       outgoing = subst (λ f. HasArguments target u.bytes (lowest f) t.pushed) (sym m.frame) (subst (λ args. HasArguments target u.bytes (lowest s.frame) args) (sym m.pushed) (subst (λ b. HasArguments target b (lowest s.frame) s.pushed) (sym k.bytes) st.outgoing));

@@ -6,6 +6,7 @@ use Rattle.lg_base.specs.declared.target.Target.{Target}
 use Rattle.lg_cells.specs.Cells.{within}
 use Rattle.lg_meaning.specs.States.{Frame, State, is_open}
 use Rattle.lg_meaning.specs.Fits.{Fits}
+use Rattle.lg_base.specs.CarryFlags.{carry_of}
 use Rattle.lg_carry.specs.Processors.{Seen, IsSeen}
 use Rattle.lg_carry.specs.Codes.{Code, is_inside}
 use Rattle.lg_carry.specs.Registers.{HoldsRegisters, HoldsCarry, HoldsResult, HoldsArguments, HasArguments}
@@ -31,7 +32,7 @@ pub record StaysInFrame (target : Target) (c : Code) (s t : State) (q u : Seen) 
 -- what the processor is to hold of state t
 pub record Holds (target : Target) (t : State) (u : Seen) (S : ℕ → Bool) : Type 0 where
   pub registers : HoldsRegisters target u.registers t.regs S
-  pub carry : HoldsCarry target u.registers u.flag t.carry
+  pub carry : HoldsCarry target u.registers (carry_of u.flags) t.carry
   pub result : HoldsResult target u.registers t.answer
   pub pushed : HoldsArguments target u.registers t.pushed
 
@@ -100,4 +101,4 @@ pub record WritesRegister (target : Target) (s t : State) (q u : Seen) (S S' : �
 
 abbrev pub AgreesBehindWrite : Type 0
 AgreesBehindWrite = (target : Target) (c : Code) (live : Frame → ℕ → Bool) (s t : State) (q u : Seen) (S S' : ℕ → Bool) (d v : ℕ) → StatesAgree target c live s q S → StaysInFrame target c s t q u
-    → ChangesNothing s t q u → WritesRegister target s t q u S S' d v → HoldsCarry target u.registers u.flag t.carry → StatesAgree target c live t u S'
+    → ChangesNothing s t q u → WritesRegister target s t q u S S' d v → HoldsCarry target u.registers (carry_of u.flags) t.carry → StatesAgree target c live t u S'

@@ -1,5 +1,6 @@
 pub mod Across
 pub mod Again
+pub mod Agreement
 pub mod Apart
 pub mod Blocks
 pub mod Carries
@@ -21,3 +22,4 @@ pub mod SpillChoices
 pub mod Spills
 pub mod Stands
 pub mod Taken
+pub mod Targets

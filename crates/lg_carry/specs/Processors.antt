@@ -4,15 +4,16 @@ use Rattle.lg_base.specs.Parts.{heap_base, stack_base}
 use Rattle.lg_base.specs.Runs.{Machine}
 use Rattle.lg_base.specs.declared.target.Target.{Target}
 use Rattle.lg_cells.specs.Cells.{within}
+use Rattle.lg_base.specs.declared.flags.Flags.{Flags}
 
 -- what is seen of a state: the program counter, the registers by their numbers, the bytes of the memory by their addresses, the heap mark,
--- and the carry flag, where the processor has one and it is defined
+-- and the flags
 pub record Seen : Type 0 where
   pub pc : ℕ
   pub registers : ℕ → ℕ
   pub bytes : ℕ → Option ℕ
   pub mark : ℕ
-  pub flag : Option Bool
+  pub flags : Flags
 
 -- registers hold words and the memory holds bytes; heap and stack are there whole, and the mark lies in the heap
 pub record IsSeen (q : Seen) : Type 0 where

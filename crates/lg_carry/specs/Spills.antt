@@ -8,6 +8,7 @@ use Rattle.lg_base.specs.Spaces.{stored}
 use Rattle.lg_cells.specs.Cells.{within}
 use Rattle.lg_temp.specs.declared.choice.Choice.{Choice}
 use Rattle.lg_temp.specs.declared.choice.Choice.TheVariants.{Free, Own, Spill}
+use Rattle.lg_base.specs.declared.flags.Flags.{Flags}
 use Rattle.lg_carry.specs.Registers.{HasWord}
 use Rattle.lg_carry.specs.Rows.{Rows}
 use Rattle.lg_carry.specs.Blocks.{spellings, done, GoesThrough}
@@ -36,9 +37,9 @@ pub record HasRoom {Q I : Type 0} (R : Rows Q I) (code : List I) (q : Q) : Type 
 abbrev pub IsBehind : {Q I : Type 0} → Rows Q I → List I → Q → Q → Type 0
 IsBehind R code q q' = (R.processor.seen q').pc ≡ (R.processor.seen q).pc + length (spellings R.spelling code)
 
--- the mark and the flag of a state are those of another
+-- the mark and the flags of a state are those of another
 abbrev pub HasMarks : {Q I : Type 0} → Rows Q I → Q → Q → Type 0
-HasMarks R q q' = ((R.processor.seen q').mark ≡ (R.processor.seen q).mark) × ((R.processor.seen q').flag ≡ (R.processor.seen q).flag)
+HasMarks R q q' = ((R.processor.seen q').mark ≡ (R.processor.seen q).mark) × ((R.processor.seen q').flags ≡ (R.processor.seen q).flags)
 
 pub record IsSaved {Q I : Type 0} (R : Rows Q I) (r k fp : ℕ) (q q' : Q) : Type 0 where
   pub runs : R.processor.machine.status q' ≡ Running
@@ -67,18 +68,18 @@ pub record AreSpills {Q I : Type 0} (R : Rows Q I) : Type 0 where
       → HasWord (R.processor.seen q).bytes (spill_word fp k) w → IsRestored R r k w q (R.does (R.restore r k) q)
 
 -- ---- what code does
--- how a state looks to the code of a node: it runs; registers, bytes off the slots, mark and flag are these; and the slots are there
-pub record Looks {Q I : Type 0} (R : Rows Q I) (fp : ℕ) (registers : ℕ → ℕ) (bytes : ℕ → Option ℕ) (mark : ℕ) (flag : Option Bool) (q : Q) : Type 0 where
+-- how a state looks to the code of a node: it runs; registers, bytes off the slots, mark and flags are these; and the slots are there
+pub record Looks {Q I : Type 0} (R : Rows Q I) (fp : ℕ) (registers : ℕ → ℕ) (bytes : ℕ → Option ℕ) (mark : ℕ) (flags : Flags) (q : Q) : Type 0 where
   pub runs : R.processor.machine.status q ≡ Running
   pub has_registers : (r : ℕ) → (R.processor.seen q).registers r ≡ registers r
   pub has_bytes : (a : ℕ) → in_slots fp a ≡ false → (R.processor.seen q).bytes a ≡ bytes a
   pub has_slots : (a : ℕ) → in_slots fp a ≡ true → is_some ((R.processor.seen q).bytes a) ≡ true
   pub has_mark : (R.processor.seen q).mark ≡ mark
-  pub has_flag : (R.processor.seen q).flag ≡ flag
+  pub has_flags : (R.processor.seen q).flags ≡ flags
 
--- the code goes through to its end and leaves the registers W but for those of T, the bytes M but for the slots, and this mark and flag; it keeps the
+-- the code goes through to its end and leaves the registers W but for those of T, the bytes M but for the slots, and this mark and flags; it keeps the
 -- first n slots
-pub record Leaves {Q I : Type 0} (R : Rows Q I) (code : List I) (fp n : ℕ) (W : ℕ → ℕ) (M : ℕ → Option ℕ) (mark : ℕ) (flag : Option Bool) (T : ℕ → Bool) (q : Q) : Type 0 where
+pub record Leaves {Q I : Type 0} (R : Rows Q I) (code : List I) (fp n : ℕ) (W : ℕ → ℕ) (M : ℕ → Option ℕ) (mark : ℕ) (flags : Flags) (T : ℕ → Bool) (q : Q) : Type 0 where
   pub through : GoesThrough R.does R.processor.machine.status code q
   pub runs : R.processor.machine.status (done R.does code q) ≡ Running
   pub behind : IsBehind R code q (done R.does code q)
@@ -86,22 +87,22 @@ pub record Leaves {Q I : Type 0} (R : Rows Q I) (code : List I) (fp n : ℕ) (W 
   pub bytes : (a : ℕ) → in_slots fp a ≡ false → (R.processor.seen (done R.does code q)).bytes a ≡ M a
   pub slots : (a : ℕ) → in_first_slots fp n a ≡ true → (R.processor.seen (done R.does code q)).bytes a ≡ (R.processor.seen q).bytes a
   pub has_mark : (R.processor.seen (done R.does code q)).mark ≡ mark
-  pub has_flag : (R.processor.seen (done R.does code q)).flag ≡ flag
+  pub has_flags : (R.processor.seen (done R.does code q)).flags ≡ flags
 
 -- how a state looks before code, and what the code is to leave
 pub record Work : Type 0 where
   pub registers : ℕ → ℕ
   pub bytes : ℕ → Option ℕ
   pub mark : ℕ
-  pub flag : Option Bool
+  pub flags : Flags
   pub end_registers : ℕ → ℕ
   pub end_bytes : ℕ → Option ℕ
   pub end_mark : ℕ
-  pub end_flag : Option Bool
+  pub end_flags : Flags
 
 -- code does so from every state that looks so, wherever it lies and whatever stands in the slots
 abbrev pub Does : {Q I : Type 0} → Rows Q I → Work → List I → ℕ → ℕ → (ℕ → Bool) → Type 0
-Does {Q} R w code fp n T = (q : Q) → Looks R fp w.registers w.bytes w.mark w.flag q → HasRoom R code q → Leaves R code fp n w.end_registers w.end_bytes w.end_mark w.end_flag T q
+Does {Q} R w code fp n T = (q : Q) → Looks R fp w.registers w.bytes w.mark w.flags q → HasRoom R code q → Leaves R code fp n w.end_registers w.end_bytes w.end_mark w.end_flags T q
 
 -- ---- saved registers
 -- the code of a node, with each register that is spilled saved before it and restored behind it

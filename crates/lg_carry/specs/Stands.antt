@@ -7,6 +7,7 @@ use Rattle.lg_base.specs.declared.target.Target.{Target}
 use Rattle.lg_cells.specs.Cells.{within}
 use Rattle.lg_meaning.specs.States.{Frame, State}
 use Rattle.lg_meaning.specs.Fits.{Fits}
+use Rattle.lg_base.specs.CarryFlags.{carry_of}
 use Rattle.lg_carry.specs.Processors.{Seen, IsSeen, Processor}
 use Rattle.lg_carry.specs.Codes.{Code, is_inside}
 use Rattle.lg_carry.specs.Registers.{HoldsRegisters, HoldsCarry, HoldsResult, HoldsArguments, HasArguments}
@@ -36,7 +37,7 @@ pub record StatesAgree (target : Target) (c : Code) (live : Frame → ℕ → Bo
   pub parts : HasParts s q.bytes
   pub here : q.pc ≡ c.place s.at
   pub registers : HoldsRegisters target q.registers s.regs S
-  pub carry : HoldsCarry target q.registers q.flag s.carry
+  pub carry : HoldsCarry target q.registers (carry_of q.flags) s.carry
   pub result : HoldsResult target q.registers s.answer
   pub pushed : HoldsArguments target q.registers s.pushed
   pub outgoing : HasArguments target q.bytes (lowest s.frame) s.pushed

@@ -11,7 +11,9 @@ use Rattle.lg_rv.specs.declared.instruction.ImmOp.{ImmOp}
 use Rattle.lg_rv.specs.declared.instruction.ImmOp.TheVariants.{Addi, Slti, Sltiu, Xori, Ori, Andi, Addiw}
 use Rattle.lg_cpu.specs.Steps.{after, status_of}
 use Rattle.lg_cpu.specs.HostSteps.{put}
-use Rattle.lg_cpu.specs.RvStep.{RvState, read, goes, sets, imm_effect, act}
+use Rattle.lg_cpu.specs.States.{CpuState}
+use Rattle.lg_cpu.specs.RvStep.{read, goes, sets, imm_effect, act}
+use Rattle.lg_base.specs.declared.flags.Flags.TheVariants.{NoFlags}
 use Rattle.lg_carry.specs.Blocks.{spellings}
 use Rattle.lg_carry.specs.Spills.{Does}
 use Rattle.lg_carry_rv.specs.RvRows.{rv_does, rv_rows, is_straight}
@@ -64,7 +66,7 @@ spellings-long [] = refl
 spellings-long (i ∷ is) = omega (arith, spellings-long is)
 
 -- ---- one instruction
-imm-act : (op : ImmOp) (rd a n : ℕ) (q : RvState) → imm_computes op ≡ true → imm_effect op rd a n q ≡ sets q rd (imm_value op a n)
+imm-act : (op : ImmOp) (rd a n : ℕ) (q : CpuState) → imm_computes op ≡ true → imm_effect op rd a n q ≡ sets q rd (imm_value op a n)
 imm-act Addi rd a n q h = refl
 imm-act Slti rd a n q h = refl
 imm-act Sltiu rd a n q h = refl
@@ -74,7 +76,7 @@ imm-act Andi rd a n q h = refl
 imm-act Addiw rd a n q h = refl
 imm-act o rd a n q h = cc
 
-pub computes-act : (i : Instr) (q : RvState) → computes i ≡ true → act i q ≡ goes (add_words q.pc 4) (computed_by i q.registers) q.bytes q.mark
+pub computes-act : (i : Instr) (q : CpuState) → computes i ≡ true → act i q ≡ goes (add_words q.pc 4) (computed_by i q.registers) q.bytes q.mark
 computes-act (Upper Lui rd imm) q h = refl
 computes-act (Upper Auipc rd imm) q h = cc
 computes-act (Jal rd offset) q h = cc
@@ -125,7 +127,7 @@ computations-run (i ∷ is) q h runs low high =
 -- so code that only computes does what it computes, and spoils no slot
 pub computations-do : (code : List ℕ) (trash : ℕ) (is : List Instr) (W : ℕ → ℕ) (T : ℕ → Bool) (registers : ℕ → ℕ) (bytes : ℕ → Option ℕ) (mark fp n : ℕ) → all_compute is ≡ true
     → ((r : ℕ) → T r ≡ false → computed is registers r ≡ W r)
-    → Does (rv_rows code trash) record { registers = registers; bytes = bytes; mark = mark; flag = None; end_registers = W; end_bytes = bytes; end_mark = mark; end_flag = None } is fp n T
+    → Does (rv_rows code trash) record { registers = registers; bytes = bytes; mark = mark; flags = NoFlags; end_registers = W; end_bytes = bytes; end_mark = mark; end_flags = NoFlags } is fp n T
 computations-do code trash is W T registers bytes mark fp n h is-W q looks room =
     let long = spellings-long is in
     let m = computations-run is q h looks.runs room.low (omega (arith, room.high, long)) in
@@ -137,5 +139,5 @@ computations-do code trash is W T registers bytes mark fp n h is-W q looks room 
       bytes = λ a off. m.bytes a ∙ looks.has_bytes a off;
       slots = λ a on. m.bytes a;
       has_mark = m.mark ∙ looks.has_mark;
-      has_flag = refl;
+      has_flags = refl;
     }

@@ -24,7 +24,7 @@ use Rattle.lg_live.specs.Uses.{is_read, is_written}
 use Rattle.lg_rv.specs.declared.instruction.Instr.{Instr}
 use Rattle.lg_rv.specs.Spelling.{IsInstr}
 use Rattle.lg_cpu.specs.Steps.{Run}
-use Rattle.lg_cpu.specs.RvStep.{RvState}
+use Rattle.lg_cpu.specs.States.{CpuState}
 use Rattle.lg_meaning.specs.States.{Frame, State, number}
 use Rattle.lg_meaning.specs.Steps.{Goes, Undefined}
 use Rattle.lg_meaning.specs.Texts.{step}
@@ -41,6 +41,7 @@ use Rattle.lg_carry.specs.Registers.{HoldsCarry}
 use Rattle.lg_carry.specs.Stands.{lowest, StatesAgree, Stands}
 use Rattle.lg_carry.specs.Carries.{leaps, Leads}
 use Rattle.lg_carry.specs.NodeCode.{numbered, live_before, live_behind, is_return, CarriesNode}
+use Rattle.lg_base.specs.declared.flags.Flags.TheVariants.{NoFlags}
 use Rattle.lg_carry.specs.Blocks.{spellings, done, RunsBlock}
 use Rattle.lg_carry.specs.Spills.{IsFramePointer, in_slots, HasRoom, Leaves, wrapped, AreInOrder, lost}
 use Rattle.lg_carry.specs.Frames.{at_call}
@@ -206,7 +207,7 @@ module _ (code : List ℕ) (trash : ℕ) (c : Code) (i : ℕ) (n : Node) (S : �
       by (inl e) = left-chosen w x e
       by (inr e) = left-computed w x e ∙ m.keeps w x record { written = o.written; chosen = e; link = o.link; carry = o.carry }
 
-  module _ (frames : Frame → ℕ → Bool) (s : State) (q : Run RvState) (at : s.at ≡ i) (runs : (rv_processor code trash).machine.status q ≡ Running) (st : StatesAgree Riscv64 c frames s (rv_seen q) (live_before n S)) where
+  module _ (frames : Frame → ℕ → Bool) (s : State) (q : Run CpuState) (at : s.at ≡ i) (runs : (rv_processor code trash).machine.status q ≡ Running) (st : StatesAgree Riscv64 c frames s (rv_seen q) (live_before n S)) where
     abbrev w : ℕ → ℕ
     w = q.state.registers
 
@@ -237,17 +238,17 @@ module _ (code : List ℕ) (trash : ℕ) (c : Code) (i : ℕ) (n : Node) (S : �
       high = in-room code (spellings (rv_rows code trash).spelling is) k.block.code.more q.state.pc (omega (arith, here, k.block.code.low)) (some-spelled code trash is (some-wrapped code trash choices body m.some)) stands k.small;
     }
 
-    leaves : Leaves (rv_rows code trash) is fp 0 (left w) q.state.bytes q.state.mark None (lost choices T) q
+    leaves : Leaves (rv_rows code trash) is fp 0 (left w) q.state.bytes q.state.mark NoFlags (lost choices T) q
     leaves = saves-restore (rv_rows code trash) (are-spills code trash) choices
-        record { registers = w; bytes = q.state.bytes; mark = q.state.mark; flag = None; end_registers = left w; end_bytes = q.state.bytes; end_mark = q.state.mark; end_flag = None }
+        record { registers = w; bytes = q.state.bytes; mark = q.state.mark; flags = NoFlags; end_registers = left w; end_bytes = q.state.bytes; end_mark = q.state.mark; end_flags = NoFlags }
         body fp 0 T is-fp st.seen.words h.in_order (keep-chosen choices (left w) w (left-chosen w))
         record { before = fp-held; behind = left-other w 8 other-8 ∙ fp-held; unspoiled = free-8 }
         (computations-do code trash body (left w) T w q.state.bytes q.state.mark fp _ m.computes (λ x free. sym (left-computed w x free)))
         q
-        record { runs = runs; has_registers = λ r. refl; has_bytes = λ p off. refl; has_slots = λ p on. st.seen.stack p (in-stack fp p is-fp.low is-fp.high on); has_mark = refl; has_flag = refl }
+        record { runs = runs; has_registers = λ r. refl; has_bytes = λ p off. refl; has_slots = λ p on. st.seen.stack p (in-stack fp p is-fp.low is-fp.high on); has_mark = refl; has_flags = refl }
         room
 
-    abbrev u : Run RvState
+    abbrev u : Run CpuState
     u = done rv_does is q
 
     run : RunsBlock (rv_rows code trash) is q

@@ -6,7 +6,8 @@ use Rattle.lg_base.specs.Runs.{Running, Ended, Bad}
 use Rattle.lg_base.specs.Words.{add_words}
 use Rattle.lg_rv.specs.declared.instruction.Instr.{Instr}
 use Rattle.lg_cpu.specs.Steps.{Progress, Goes, EndedWith, Faulted, Effect, Run, after, on_going, status_of}
-use Rattle.lg_cpu.specs.RvStep.{RvState, act, effect}
+use Rattle.lg_cpu.specs.States.{CpuState}
+use Rattle.lg_cpu.specs.RvStep.{act, effect}
 use Rattle.lg_cpu.proofs.RunLemmas.{stands-executed}
 use Rattle.lg_carry_rv.specs.RvRows.{is_straight, rv_does, InstructionsAreRows, rv_seen}
 use Rattle.lg_carry_rv.proofs.ActLemmas.{silent_act, next_act, steady_act}
@@ -21,10 +22,10 @@ going Goes e = refl
 going (EndedWith n) e = cc
 going (Faulted kind) e = cc
 
-pub went : (r : Run RvState) (e : Effect RvState) → status_of r.progress ≡ Running → on_going r.progress (after r e) r ≡ after r e
+pub went : (r : Run CpuState) (e : Effect CpuState) → status_of r.progress ≡ Running → on_going r.progress (after r e) r ≡ after r e
 went r e h = ap (λ p. on_going p (after r e) r) (going r.progress h)
 
-silent : (r : Run RvState) (i : Instr) → (rv_does i r).out ≡ r.out
+silent : (r : Run CpuState) (i : Instr) → (rv_does i r).out ≡ r.out
 silent r i = by r.progress
   where
     by : (p : Progress) → (on_going p (after r (act i r.state)) r).out ≡ r.out
@@ -41,7 +42,7 @@ ended n e = cc
 bad : Bad ≡ Running → ⊥
 bad e = cc
 
-follows : (r : Run RvState) (i : Instr) → is_straight i ≡ true → r.state.pc < code_base + most_code → status_of (rv_does i r).progress ≡ Running → (rv_does i r).state.pc ≡ r.state.pc + 4
+follows : (r : Run CpuState) (i : Instr) → is_straight i ≡ true → r.state.pc < code_base + most_code → status_of (rv_does i r).progress ≡ Running → (rv_does i r).state.pc ≡ r.state.pc + 4
 follows r i h low running = by r.progress refl running
   where
     by : (p : Progress) → r.progress ≡ p → status_of (on_going p (after r (act i r.state)) r).progress ≡ Running → (on_going p (after r (act i r.state)) r).state.pc ≡ r.state.pc + 4
@@ -62,7 +63,7 @@ in-code code four more pc low long e small =
     let d = length-drop (pc - code_base) code in
     omega (arith, l, d, small, low)
 
-keeps : (code : List ℕ) (trash : ℕ) → length code ≤ most_code → AreBytes code → trash < 2 ^ 64 → (r : Run RvState) (i : Instr) (more : List ℕ) → IsInstr i → status_of r.progress ≡ Running → code_base ≤ r.state.pc → (r.state.pc % 4 == 0) ≡ true
+keeps : (code : List ℕ) (trash : ℕ) → length code ≤ most_code → AreBytes code → trash < 2 ^ 64 → (r : Run CpuState) (i : Instr) (more : List ℕ) → IsInstr i → status_of r.progress ≡ Running → code_base ≤ r.state.pc → (r.state.pc % 4 == 0) ≡ true
     → drop (r.state.pc - code_base) code ≡ spelling i ++ more → IsSeen (rv_seen r) → IsSeen (rv_seen (rv_does i r))
 keeps code trash small bytes word r i more ok running low at stands h =
     let same : effect code trash r.state ≡ act i r.state = stands-executed code more trash r.state i ok low (aligned r.state.pc at) stands in

@@ -11,7 +11,8 @@ use Rattle.lg_rv.specs.declared.instruction.Instr.TheVariants.{Imm, Store}
 use Rattle.lg_rv.specs.declared.instruction.ImmOp.TheVariants.{Ld}
 use Rattle.lg_rv.specs.declared.instruction.StoreOp.TheVariants.{Sd}
 use Rattle.lg_cpu.specs.Steps.{after, arrived, status_of}
-use Rattle.lg_cpu.specs.RvStep.{RvState, read, goes, sets, loads, act}
+use Rattle.lg_cpu.specs.States.{CpuState}
+use Rattle.lg_cpu.specs.RvStep.{read, goes, sets, loads, act}
 use Rattle.lg_carry.specs.Registers.{HasWord}
 use Rattle.lg_carry.specs.Spills.{IsFramePointer, in_slots}
 use Rattle.lg_carry_rv.specs.RvRows.{rv_does, slot_offset, can_save, InstructionsAreSpills}
@@ -43,7 +44,7 @@ pub goes-on : (pc : ℕ) → code_base ≤ pc → pc + 4 ≤ code_base + most_co
 goes-on pc low high = let n = no-stop pc low high in rw n refl
 
 -- ---- what the two instructions do
-save-act : (q : RvState) (r k fp : ℕ) → can_save r ≡ true → k < 5 → IsFramePointer fp → q.registers 8 ≡ fp → ((a : ℕ) → in_slots fp a ≡ true → is_some (q.bytes a) ≡ true)
+save-act : (q : CpuState) (r k fp : ℕ) → can_save r ≡ true → k < 5 → IsFramePointer fp → q.registers 8 ≡ fp → ((a : ℕ) → in_slots fp a ≡ true → is_some (q.bytes a) ≡ true)
     → act (Store Sd 8 r (slot_offset k)) q ≡ goes (add_words q.pc 4) q.registers (stored q.bytes (spill_word fp k) 8 (q.registers r)) q.mark
 save-act q r k fp can few f at slots =
     let address : add_words (q.registers 8) (word_of (slot_offset k)) ≡ spill_word fp k = ap (λ x. add_words x (word_of (slot_offset k))) at ∙ slot-address fp k few f.low f.high in
@@ -52,7 +53,7 @@ save-act q r k fp can few f at slots =
     let even = slot-aligned fp k few f.low f.aligned in
     rw (address, value, even, there) refl
 
-restore-act : (q : RvState) (r k fp w : ℕ) → k < 5 → IsFramePointer fp → q.registers 8 ≡ fp → HasWord q.bytes (spill_word fp k) w
+restore-act : (q : CpuState) (r k fp w : ℕ) → k < 5 → IsFramePointer fp → q.registers 8 ≡ fp → HasWord q.bytes (spill_word fp k) w
     → act (Imm Ld r 8 (slot_offset k)) q ≡ sets q r w
 restore-act q r k fp w few f at held =
     let address : add_words (q.registers 8) (word_of (slot_offset k)) ≡ spill_word fp k = ap (λ x. add_words x (word_of (slot_offset k))) at ∙ slot-address fp k few f.low f.high in

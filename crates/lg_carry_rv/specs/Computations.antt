@@ -13,7 +13,8 @@ use Rattle.lg_rv.specs.declared.instruction.RegOp.TheVariants.{Add, Slt, Sltu, X
 use Rattle.lg_cpu.specs.Steps.{Run, status_of}
 use Rattle.lg_cpu.specs.HostSteps.{put}
 use Rattle.lg_cpu.specs.RvOperators.{reg_value, shift_value}
-use Rattle.lg_cpu.specs.RvStep.{RvState, read}
+use Rattle.lg_cpu.specs.States.{CpuState}
+use Rattle.lg_cpu.specs.RvStep.{read}
 use Rattle.lg_carry.specs.Blocks.{done, GoesThrough}
 use Rattle.lg_carry_rv.specs.RvRows.{rv_does}
 
@@ -65,8 +66,8 @@ computed [] w = w
 computed (i ∷ is) w = computed is (computed_by i w)
 
 -- a list of them goes through from a run, and leaves its registers so; all else stays, and the program counter is behind them
-pub record RunsComputations (is : List Instr) (q : Run RvState) : Type 0 where
-  pub through : GoesThrough rv_does (λ (r : Run RvState). status_of r.progress) is q
+pub record RunsComputations (is : List Instr) (q : Run CpuState) : Type 0 where
+  pub through : GoesThrough rv_does (λ (r : Run CpuState). status_of r.progress) is q
   pub runs : status_of (done rv_does is q).progress ≡ Running
   pub behind : (done rv_does is q).state.pc ≡ q.state.pc + 4 * length is
   pub registers : (r : ℕ) → (done rv_does is q).state.registers r ≡ computed is q.state.registers r
@@ -76,4 +77,4 @@ pub record RunsComputations (is : List Instr) (q : Run RvState) : Type 0 where
 
 abbrev pub ComputationsRun : Type 0
 ComputationsRun =
-    (is : List Instr) (q : Run RvState) → all_compute is ≡ true → status_of q.progress ≡ Running → code_base ≤ q.state.pc → q.state.pc + 4 * length is ≤ code_base + most_code → RunsComputations is q
+    (is : List Instr) (q : Run CpuState) → all_compute is ≡ true → status_of q.progress ≡ Running → code_base ≤ q.state.pc → q.state.pc + 4 * length is ≤ code_base + most_code → RunsComputations is q

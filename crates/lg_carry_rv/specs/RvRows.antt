@@ -1,5 +1,5 @@
 -- The RV64IM processor by its instructions.
-use Rattle.std.specs.Prelude.{ℕ, ◌+◌, ◌*◌, ◌%◌, ◌==◌, ◌≤◌, ◌&&◌, not, nat_lt, Bool, true, false, ℤ, negsuc, List, length, None, ◌<◌, ◌^◌}
+use Rattle.std.specs.Prelude.{ℕ, ◌+◌, ◌*◌, ◌%◌, ◌==◌, ◌≤◌, ◌&&◌, not, nat_lt, Bool, true, false, ℤ, negsuc, List, length, ◌<◌, ◌^◌}
 use Rattle.lg_base.specs.Layout.{most_code}
 use Rattle.lg_base.specs.declared.target.Target.TheVariants.{Riscv64}
 use Rattle.lg_rv.specs.Spelling.{spelling, IsInstr}
@@ -8,17 +8,19 @@ use Rattle.lg_rv.specs.declared.instruction.Instr.TheVariants.{Jal, Branch, Imm,
 use Rattle.lg_rv.specs.declared.instruction.ImmOp.TheVariants.{Jalr, Ld}
 use Rattle.lg_rv.specs.declared.instruction.StoreOp.TheVariants.{Sd}
 use Rattle.lg_cpu.specs.Steps.{Run, after, on_going, machine}
-use Rattle.lg_cpu.specs.RvStep.{RvState, act, effect}
+use Rattle.lg_cpu.specs.States.{CpuState}
+use Rattle.lg_cpu.specs.RvStep.{act, effect}
+use Rattle.lg_base.specs.declared.flags.Flags.TheVariants.{NoFlags}
 use Rattle.lg_carry.specs.Processors.{Seen, Processor}
 use Rattle.lg_carry.specs.Rows.{Rows, AreRows}
 use Rattle.lg_carry.specs.Spills.{AreSpills}
 use Rattle.lg_cpu.specs.Laws.{AreBytes}
 
 -- the carry is in a register, so there is no flag
-abbrev pub rv_seen : Run RvState → Seen
-rv_seen r = record { pc = r.state.pc; registers = r.state.registers; bytes = r.state.bytes; mark = r.state.mark; flag = None }
+abbrev pub rv_seen : Run CpuState → Seen
+rv_seen r = record { pc = r.state.pc; registers = r.state.registers; bytes = r.state.bytes; mark = r.state.mark; flags = NoFlags }
 
-abbrev pub rv_processor : List ℕ → ℕ → Processor (Run RvState)
+abbrev pub rv_processor : List ℕ → ℕ → Processor (Run CpuState)
 rv_processor code trash = record { target = Riscv64; machine = machine (effect code trash); seen = rv_seen }
 
 -- jumps and branches need not go on to the next instruction
@@ -29,7 +31,7 @@ is_straight (Imm Jalr rd rs1 imm) = false
 is_straight i = true
 
 -- what an instruction does to a run that goes on
-abbrev pub rv_does : Instr → Run RvState → Run RvState
+abbrev pub rv_does : Instr → Run CpuState → Run CpuState
 rv_does i r = on_going r.progress (after r (act i r.state)) r
 
 -- the offset of a spill slot from FP
@@ -41,7 +43,7 @@ abbrev pub can_save : ℕ → Bool
 can_save r = nat_lt r 32 && (not (r == 0) && not (r == 8))
 
 -- instructions of four bytes stand at multiples of four
-abbrev pub rv_rows : List ℕ → ℕ → Rows (Run RvState) Instr
+abbrev pub rv_rows : List ℕ → ℕ → Rows (Run CpuState) Instr
 rv_rows code trash = record {
   processor = rv_processor code trash;
   code = code;

@@ -30,7 +30,8 @@ use Rattle.lg_rv.specs.declared.instruction.RegOp.TheVariants.{Add, Slt, Sltu, X
 use Rattle.lg_cpu.specs.Steps.{Effect, faults}
 use Rattle.lg_cpu.specs.HostSteps.{stack_words, read_before, argument_words, put, clobbered, behind_call}
 use Rattle.lg_cpu.specs.RvOperators.{reg_value, is_taken}
-use Rattle.lg_cpu.specs.RvStep.{RvState, read, goes, sets, extended_by, loads, load_at, store_at, store_width, jump_to, branch_to, imm_effect, act, decoded, in_code, fetch, host_effect, enter_host, effect_at}
+use Rattle.lg_cpu.specs.States.{CpuState}
+use Rattle.lg_cpu.specs.RvStep.{read, goes, sets, extended_by, loads, load_at, store_at, store_width, jump_to, branch_to, imm_effect, act, decoded, in_code, fetch, host_effect, enter_host, effect_at}
 use Rattle.lg_cpu.specs.Laws.{IsSound, AreBytes, StaysSound}
 use Rattle.lg_cpu.proofs.OperatorLemmas.{low_word, sign_32_word, choice_word, reg_word, shift_word, sign_1_word, sign_2_word, sign_4_word}
 
@@ -76,38 +77,38 @@ read_word : (f : ℕ → ℕ) (r : ℕ) → AreWords f → read f r < 2 ^ 64
 read_word f r h = choice_word (r == 0) 0 (f r) (omega arith) (h r)
 
 -- ---- effects
-sound_goes : (q : RvState) (pc : ℕ) (registers : ℕ → ℕ) (bytes : ℕ → Option ℕ) → IsSound q → pc < 2 ^ 64 → AreWords registers → Sound bytes → IsSound (goes pc registers bytes q.mark).to
+sound_goes : (q : CpuState) (pc : ℕ) (registers : ℕ → ℕ) (bytes : ℕ → Option ℕ) → IsSound q → pc < 2 ^ 64 → AreWords registers → Sound bytes → IsSound (goes pc registers bytes q.mark).to
 sound_goes q pc registers bytes s p r b = record { pc = p; words = r; bytes = b; mark = s.mark }
 
-sound_choice : (b : Bool) (e f : Effect RvState) → IsSound e.to → IsSound f.to → IsSound (if b then e else f).to
+sound_choice : (b : Bool) (e f : Effect CpuState) → IsSound e.to → IsSound f.to → IsSound (if b then e else f).to
 sound_choice true e f h k = h
 sound_choice false e f h k = k
 
-sound_sets : (q : RvState) (to value : ℕ) → IsSound q → value < 2 ^ 64 → IsSound (sets q to value).to
+sound_sets : (q : CpuState) (to value : ℕ) → IsSound q → value < 2 ^ 64 → IsSound (sets q to value).to
 sound_sets q to value s v = sound_goes q (add_words q.pc 4) (put q.registers to value) q.bytes s (low_word (q.pc + 4)) (put_words q.registers to value s.words v) s.bytes
 
-sound_loads : (q : RvState) (to width : ℕ) (signed : Bool) (o : Option ℕ) → IsSound q → ((v : ℕ) → o ≡ Some v → extended_by signed width v < 2 ^ 64) → IsSound (loads q to width signed o).to
+sound_loads : (q : CpuState) (to width : ℕ) (signed : Bool) (o : Option ℕ) → IsSound q → ((v : ℕ) → o ≡ Some v → extended_by signed width v < 2 ^ 64) → IsSound (loads q to width signed o).to
 sound_loads q to width signed None s h = s
 sound_loads q to width signed (Some v) s h = sound_sets q to (extended_by signed width v) s (h v refl)
 
-sound_load : (q : RvState) (to address width : ℕ) (signed : Bool) → IsSound q → ((v : ℕ) → v < 256 ^ width → extended_by signed width v < 2 ^ 64) → IsSound (load_at q to address width signed).to
+sound_load : (q : CpuState) (to address width : ℕ) (signed : Bool) → IsSound q → ((v : ℕ) → v < 256 ^ width → extended_by signed width v < 2 ^ 64) → IsSound (load_at q to address width signed).to
 sound_load q to address width signed s h =
     sound_choice (address % width == 0) (loads q to width signed (loaded q.bytes address width)) (faults q Align)
     (sound_loads q to width signed (loaded q.bytes address width) s (λ v e. h v (loaded_lt q.bytes address width v s.bytes e))) s
 
-sound_store : (q : RvState) (address width value : ℕ) → IsSound q → IsSound (store_at q address width value).to
+sound_store : (q : CpuState) (address width value : ℕ) → IsSound q → IsSound (store_at q address width value).to
 sound_store q address width value s =
     sound_choice (address % width == 0) _ (faults q Align)
     (sound_choice (mapped q.bytes address width) (goes (add_words q.pc 4) q.registers (stored q.bytes address width value) q.mark) (faults q Memory)
     (sound_goes q (add_words q.pc 4) q.registers (stored q.bytes address width value) s (low_word (q.pc + 4)) s.words (stored_sound q.bytes address width value s.bytes)) s)
     s
 
-sound_jump : (q : RvState) (link target : ℕ) → IsSound q → target < 2 ^ 64 → IsSound (jump_to q link target).to
+sound_jump : (q : CpuState) (link target : ℕ) → IsSound q → target < 2 ^ 64 → IsSound (jump_to q link target).to
 sound_jump q link target s t =
     sound_choice (target % 4 == 0) (goes target (put q.registers link (add_words q.pc 4)) q.bytes q.mark) (faults q Align)
     (sound_goes q target (put q.registers link (add_words q.pc 4)) q.bytes s t (put_words q.registers link (add_words q.pc 4) s.words (low_word (q.pc + 4))) s.bytes) s
 
-sound_branch : (q : RvState) (target : ℕ) (taken : Bool) → IsSound q → target < 2 ^ 64 → IsSound (branch_to q target taken).to
+sound_branch : (q : CpuState) (target : ℕ) (taken : Bool) → IsSound q → target < 2 ^ 64 → IsSound (branch_to q target taken).to
 sound_branch q target true s t =
     sound_choice (target % 4 == 0) (goes target q.registers q.bytes q.mark) (faults q Align) (sound_goes q target q.registers q.bytes s t s.words s.bytes) s
 sound_branch q target false s t = sound_goes q (add_words q.pc 4) q.registers q.bytes s (low_word (q.pc + 4)) s.words s.bytes
@@ -115,7 +116,7 @@ sound_branch q target false s t = sound_goes q (add_words q.pc 4) q.registers q.
 even_word : (n : ℕ) → n < 2 ^ 64 → n / 2 * 2 < 2 ^ 64
 even_word n h = omega (arith, h)
 
-sound_imm : (op : ImmOp) (rd a n : ℕ) (q : RvState) → IsSound q → a < 2 ^ 64 → n < 2 ^ 64 → IsSound (imm_effect op rd a n q).to
+sound_imm : (op : ImmOp) (rd a n : ℕ) (q : CpuState) → IsSound q → a < 2 ^ 64 → n < 2 ^ 64 → IsSound (imm_effect op rd a n q).to
 sound_imm Jalr rd a n q s h k = sound_jump q rd (add_words a n / 2 * 2) s (even_word (add_words a n) (low_word (a + n)))
 sound_imm Lb rd a n q s h k = sound_load q rd (add_words a n) 1 true s (λ v e. sign_1_word v)
 sound_imm Lh rd a n q s h k = sound_load q rd (add_words a n) 2 true s (λ v e. sign_2_word v)
@@ -136,7 +137,7 @@ imm_word : (z : ℤ) → z ≤ℤ pos 2047 → word_of z < 2 ^ 64
 imm_word (pos k) h = grind (arith, ints, h)
 imm_word (negsuc k) h = omega arith
 
-sound_act : (i : Instr) (q : RvState) → rv.IsInstr i → IsSound q → IsSound (act i q).to
+sound_act : (i : Instr) (q : CpuState) → rv.IsInstr i → IsSound q → IsSound (act i q).to
 sound_act (Upper Lui rd imm) q ok s = sound_sets q rd (sign_32 (imm * 4096)) s (sign_32_word (imm * 4096))
 sound_act (Upper Auipc rd imm) q ok s = sound_sets q rd (add_words q.pc (sign_32 (imm * 4096))) s (low_word (q.pc + sign_32 (imm * 4096)))
 sound_act (Jal rd offset) q ok s = sound_jump q rd (add_words q.pc (word_of offset)) s (low_word (q.pc + word_of offset))
@@ -147,7 +148,7 @@ sound_act (Store op rs1 rs2 imm) q ok s = sound_store q (add_words (read q.regis
 sound_act (Reg op rd rs1 rs2) q ok s = sound_sets q rd _ s (reg_word op (read q.registers rs1) (read q.registers rs2) (read_word q.registers rs1 s.words) (read_word q.registers rs2 s.words))
 
 -- ---- fetching
-sound_decoded : (o : Option (Instr × ℕ)) (q : RvState) → IfSome o (λ found. rv.IsInstr found.0) → IsSound q → IsSound (decoded o q).to
+sound_decoded : (o : Option (Instr × ℕ)) (q : CpuState) → IfSome o (λ found. rv.IsInstr found.0) → IsSound q → IsSound (decoded o q).to
 sound_decoded None q ok s = s
 sound_decoded (Some (i, len)) q ok s = sound_act i q ok s
 
@@ -158,7 +159,7 @@ only_form bytes (Some x) h = h.0.0
 drop_bytes : (code : List ℕ) (p : ℕ) → AreBytes code → AreBytes (drop p code)
 drop_bytes code p h k = let e : slice_index (drop p code) k ≡ slice_index code (p + k) = get_or-drop p code k 0 in omega (arith, e, h (p + k))
 
-sound_fetch : (code : List ℕ) (q : RvState) → AreBytes code → IsSound q → IsSound (fetch code q).to
+sound_fetch : (code : List ℕ) (q : CpuState) → AreBytes code → IsSound q → IsSound (fetch code q).to
 sound_fetch code q bytes s =
     let front = drop (q.pc - code_base) code in
     let ok = only_form front (front_of front) (word_spells instr_of rv.word_of rv.IsInstr read_spells front (drop_bytes code (q.pc - code_base) bytes)) in
@@ -191,7 +192,7 @@ stack_word bytes a (suc n) h r =
 behind_words : (f : ℕ → ℕ) (trash value : ℕ) → AreWords f → trash < 2 ^ 64 → value < 2 ^ 64 → AreWords (behind_call target.Riscv64 32 f trash value)
 behind_words f trash value h t v = put_words (clobbered target.Riscv64 32 f trash) 10 value (λ r. choice_word (nat_lt r 32 && not (is_kept target.Riscv64 r)) trash (f r) t (h r)) v
 
-sound_answer : (h : Answer) (m : Mem) (trash : ℕ) (q : RvState) → OnGives h (IsAllowed m) → trash < 2 ^ 64 → IsSound q → IsSound (host_effect h trash q).to
+sound_answer : (h : Answer) (m : Mem) (trash : ℕ) (q : CpuState) → OnGives h (IsAllowed m) → trash < 2 ^ 64 → IsSound q → IsSound (host_effect h trash q).to
 sound_answer (Gives value changes mark bytes) m trash q ok t s = record {
   pc = s.words 1;
   words = behind_words q.registers trash value s.words t ok.word;
@@ -201,7 +202,7 @@ sound_answer (Gives value changes mark bytes) m trash q ok t s = record {
 sound_answer (Exits status) m trash q ok t s = s
 sound_answer Undefined m trash q ok t s = s
 
-sound_host : (name : HostName) (trash : ℕ) (q : RvState) → trash < 2 ^ 64 → IsSound q → IsSound (enter_host name trash q).to
+sound_host : (name : HostName) (trash : ℕ) (q : CpuState) → trash < 2 ^ 64 → IsSound q → IsSound (enter_host name trash q).to
 sound_host name trash q t s =
     let args = argument_words target.Riscv64 q.registers q.bytes (q.registers 2) in
     let m = memory q.bytes (readable q.bytes) q.mark in
@@ -213,7 +214,7 @@ sound_host name trash q t s =
     sound_choice (q.registers 2 % 16 == 0) (host_effect (host_of name args true m) trash q) (faults q Host)
     (sound_answer (host_of name args true m) m trash q (host_of-allowed name args true m sound) t s) s
 
-sound_at : (o : Option HostName) (code : List ℕ) (trash : ℕ) (q : RvState) → AreBytes code → trash < 2 ^ 64 → IsSound q → IsSound (effect_at o code trash q).to
+sound_at : (o : Option HostName) (code : List ℕ) (trash : ℕ) (q : CpuState) → AreBytes code → trash < 2 ^ 64 → IsSound q → IsSound (effect_at o code trash q).to
 sound_at None code trash q bytes t s = sound_fetch code q bytes s
 sound_at (Some name) code trash q bytes t s = sound_host name trash q t s
 

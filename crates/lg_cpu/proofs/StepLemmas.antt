@@ -4,7 +4,8 @@ use Rattle.lg_cpu.specs.declared.answer.CpuStep.{CpuStep}
 use Rattle.lg_cpu.specs.declared.answer.CpuStep.TheVariants as cpu
 use Rattle.lg_cpu.specs.Steps.{Progress, Goes, EndedWith, Faulted, Effect, Run, after, on_going}
 use Rattle.lg_cpu.specs.Answers.{answer_of, progress_of}
-use Rattle.lg_cpu.specs.RvStep.{RvState, effect, rv_step}
+use Rattle.lg_cpu.specs.States.{CpuState}
+use Rattle.lg_cpu.specs.RvStep.{effect, rv_step}
 use Rattle.lg_cpu.specs.Machines.{Shown, StepShows, SaysAfter, after_step, run_of}
 use Rattle.lg_cpu.specs.Laws.{StepsAreThose}
 
@@ -17,7 +18,7 @@ abbrev Stepped : Shown → Shown → List ℕ → List ℕ → Type 0
 Stepped old new out out' = (run_of new out' ≡ rv_step old.code old.trash (run_of old out)) × (new.code ≡ old.code) × (new.trash ≡ old.trash)
 
 -- a step with this effect
-went : (e : Effect RvState) (old new : Shown) (out out' : List ℕ) → old.answer ≡ cpu.Went → e ≡ effect old.code old.trash old.state → new ≡ after_step e old → out' ≡ out ++ e.written → Stepped old new out out'
+went : (e : Effect CpuState) (old new : Shown) (out out' : List ℕ) → old.answer ≡ cpu.Went → e ≡ effect old.code old.trash old.state → new ≡ after_step e old → out' ≡ out ++ e.written → Stepped old new out out'
 went e old new out out' going is same grown =
     let next : run_of new out' ≡ after (run_of old out) e = λ i. record { state = (same i).state; progress = (ap (λ s. progress_of s.answer) same ∙ back e.progress) i; out = grown i } in (
       next ∙ ap (after (run_of old out)) is ∙ sym (ap (λ a. on_going (progress_of a) (after (run_of old out) (effect old.code old.trash old.state)) (run_of old out)) going),
@@ -25,14 +26,14 @@ went e old new out out' going is same grown =
       ap (λ s. s.trash) same,
     )
 
-shows : (e : Effect RvState) (old new : Shown) (out out' : List ℕ) (count count' : ℕ) (answer : CpuStep) → old.answer ≡ cpu.Went → e ≡ effect old.code old.trash old.state → StepShows e old new (Some out) (Some out') count count' answer → answer ≢ cpu.WriteFault → Stepped old new out out'
+shows : (e : Effect CpuState) (old new : Shown) (out out' : List ℕ) (count count' : ℕ) (answer : CpuStep) → old.answer ≡ cpu.Went → e ≡ effect old.code old.trash old.state → StepShows e old new (Some out) (Some out') count count' answer → answer ≢ cpu.WriteFault → Stepped old new out out'
 shows e old new out out' count count' cpu.Went going is h ok = went e old new out out' going is h.1 h.2
 shows e old new out out' count count' (cpu.Ended status) going is h ok = went e old new out out' going is h.1 h.2
 shows e old new out out' count count' (cpu.Fault kind) going is h ok = went e old new out out' going is h.1 h.2
 shows e old new out out' count count' cpu.WriteFault going is h ok = absurd (ok refl)
 
 -- a run that is over
-over : (old new : Shown) (out out' : List ℕ) (next : Run RvState) → on_going (progress_of old.answer) next (run_of old out) ≡ run_of old out → next ≡ after (run_of old out) (effect old.code old.trash old.state) → new ≡ old → Some out' ≡ Some out → Stepped old new out out'
+over : (old new : Shown) (out out' : List ℕ) (next : Run CpuState) → on_going (progress_of old.answer) next (run_of old out) ≡ run_of old out → next ≡ after (run_of old out) (effect old.code old.trash old.state) → new ≡ old → Some out' ≡ Some out → Stepped old new out out'
 over old new out out' next stays is same kept =
     let bytes : out' ≡ out = cc in
     ((λ i. run_of (same i) (bytes i)) ∙ sym stays ∙ ap (λ r. on_going (progress_of old.answer) r (run_of old out)) is, ap (λ s. s.code) same, ap (λ s. s.trash) same)

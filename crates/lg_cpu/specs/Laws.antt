@@ -6,7 +6,8 @@ use Rattle.lg_host.specs.Host.{heap_end}
 use Rattle.lg_rv.specs.Spelling.{IsInstr, spelling}
 use Rattle.lg_rv.specs.declared.instruction.Instr.{Instr}
 use Rattle.lg_cpu.specs.Steps.{Progress, Goes, EndedWith, Faulted, Effect, machine}
-use Rattle.lg_cpu.specs.RvStep.{RvState, act, effect, rv_step}
+use Rattle.lg_cpu.specs.States.{CpuState}
+use Rattle.lg_cpu.specs.RvStep.{act, effect, rv_step}
 use Rattle.lg_cpu.specs.Machines.{Shown, CpuSays, run_of}
 use Rattle.lg_cpu.specs.declared.answer.CpuStep.{CpuStep}
 use Rattle.lg_cpu.specs.declared.answer.CpuStep.TheVariants as cpu
@@ -18,7 +19,7 @@ StepsAreThose = (old new : Shown) (out out' : List ℕ) (count count' : ℕ) (an
 
 -- ---- where an instruction stands, the step is the instruction's
 abbrev pub ExecutesWhatStands : Type 0
-ExecutesWhatStands = (code more : List ℕ) (trash : ℕ) (q : RvState) (i : Instr) → IsInstr i → code_base ≤ q.pc → q.pc % 4 ≡ 0 → drop (q.pc - code_base) code ≡ spelling i ++ more
+ExecutesWhatStands = (code more : List ℕ) (trash : ℕ) (q : CpuState) (i : Instr) → IsInstr i → code_base ≤ q.pc → q.pc % 4 ≡ 0 → drop (q.pc - code_base) code ≡ spelling i ++ more
     → effect code trash q ≡ act i q
 
 -- ---- a step that faults leaves everything as it was
@@ -27,15 +28,15 @@ OnFault (Faulted kind) P = P
 OnFault Goes P = ⊤
 OnFault (EndedWith status) P = ⊤
 
-abbrev pub IsUnchanged : RvState → Effect RvState → Type 0
+abbrev pub IsUnchanged : CpuState → Effect CpuState → Type 0
 IsUnchanged q e = (e.to ≡ q) × (e.written ≡ [])
 
 abbrev pub FaultsChangeNothing : Type 0
-FaultsChangeNothing = (code : List ℕ) (trash : ℕ) (q : RvState) → OnFault (effect code trash q).progress (IsUnchanged q (effect code trash q))
+FaultsChangeNothing = (code : List ℕ) (trash : ℕ) (q : CpuState) → OnFault (effect code trash q).progress (IsUnchanged q (effect code trash q))
 
 -- ---- words stay words
 -- the program counter and the registers hold words, the memory holds bytes, and the heap mark lies in the heap
-pub record IsSound (q : RvState) : Type 0 where
+pub record IsSound (q : CpuState) : Type 0 where
   pub pc : q.pc < 2 ^ 64
   pub words : (r : ℕ) → q.registers r < 2 ^ 64
   pub bytes : (a b : ℕ) → q.bytes a ≡ Some b → b < 256
@@ -45,7 +46,7 @@ abbrev pub AreBytes : List ℕ → Type 0
 AreBytes code = (k : ℕ) → slice_index code k < 256
 
 abbrev pub StaysSound : Type 0
-StaysSound = (code : List ℕ) (trash : ℕ) (q : RvState) → AreBytes code → trash < 2 ^ 64 → IsSound q → IsSound (effect code trash q).to
+StaysSound = (code : List ℕ) (trash : ℕ) (q : CpuState) → AreBytes code → trash < 2 ^ 64 → IsSound q → IsSound (effect code trash q).to
 
 -- ---- runs are those of a machine: one that is over stays, and what is written stays written
 abbrev pub RunsAreMachines : Type 0

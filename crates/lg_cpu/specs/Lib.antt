@@ -5,4 +5,6 @@ pub mod Machines
 pub mod RvOperators
 pub mod RvStep
 pub mod Starts
+pub mod States
 pub mod Steps
+pub mod Targets

@@ -7,8 +7,10 @@ use Rattle.lg_io.specs.Wrote.{AppendsPrefix}
 use Rattle.lg_base.specs.Spaces.{stored}
 use Rattle.lg_cpu.specs.Steps.{Effect, Run, arrived}
 use Rattle.lg_cpu.specs.Answers.{answer_of, progress_of, counted}
+use Rattle.lg_base.specs.declared.flags.Flags.TheVariants.{NoFlags}
 use Rattle.lg_cpu.specs.HostSteps.{put}
-use Rattle.lg_cpu.specs.RvStep.{RvState, effect}
+use Rattle.lg_cpu.specs.States.{CpuState}
+use Rattle.lg_cpu.specs.RvStep.{effect}
 use Rattle.lg_cpu.specs.declared.riscv64.Riscv64.{Riscv64}
 use Rattle.lg_cpu.specs.declared.cpu.Cpu.{Cpu}
 use Rattle.lg_cpu.specs.declared.answer.CpuStep.{CpuStep}
@@ -16,8 +18,8 @@ use Rattle.lg_cpu.specs.declared.answer.CpuStep.TheVariants as cpu
 
 -- ---- the RV64IM processor
 
-abbrev pub state_of : Riscv64 → RvState
-state_of p = record { pc = p.pc; registers = slice_index p.registers; bytes = byte_at p.board.memory; mark = p.board.heap }
+abbrev pub state_of : Riscv64 → CpuState
+state_of p = record { pc = p.pc; registers = slice_index p.registers; flags = NoFlags; bytes = byte_at p.board.memory; mark = p.board.heap }
 
 -- what no step changes
 pub record Fixed : Type 0 where
@@ -28,15 +30,15 @@ abbrev pub fixed_of : Riscv64 → Fixed
 fixed_of p = record { code = p.board.code.items; trash = p.board.trash }
 
 -- a step that writes nothing has this effect
-abbrev pub Does : Effect RvState → Riscv64 → Riscv64 → CpuStep → Type 0
+abbrev pub Does : Effect CpuState → Riscv64 → Riscv64 → CpuStep → Type 0
 Does e old new answer = (answer ≡ answer_of e.progress) × (state_of new ≡ e.to) × (fixed_of new ≡ fixed_of old) × (e.written ≡ [])
 
 -- a step has this effect; taken and count are those of the sink, before and after
-abbrev pub Comes : Effect RvState → Riscv64 → Riscv64 → Option (List ℕ) → Option (List ℕ) → CpuStep → Type 0
+abbrev pub Comes : Effect CpuState → Riscv64 → Riscv64 → Option (List ℕ) → Option (List ℕ) → CpuStep → Type 0
 Comes e old new taken taken' answer = (answer ≡ answer_of e.progress) × (state_of new ≡ e.to) × (fixed_of new ≡ fixed_of old) × Appends taken taken' e.written
 
 -- and where a write fails nothing but the sink changes
-abbrev pub StepSays : Effect RvState → Riscv64 → Riscv64 → Option (List ℕ) → Option (List ℕ) → ℕ → ℕ → CpuStep → Type 0
+abbrev pub StepSays : Effect CpuState → Riscv64 → Riscv64 → Option (List ℕ) → Option (List ℕ) → ℕ → ℕ → CpuStep → Type 0
 StepSays e old new taken taken' count count' cpu.WriteFault = (state_of new ≡ state_of old) × (fixed_of new ≡ fixed_of old) × Rose count count' × AppendsPrefix taken taken' e.written
 StepSays e old new taken taken' count count' answer = Comes e old new taken taken' answer
 
@@ -47,7 +49,7 @@ StepSays e old new taken taken' count count' answer = Comes e old new taken take
 pub record Shown : Type 0 where
   pub code : List ℕ
   pub trash : ℕ
-  pub state : RvState
+  pub state : CpuState
   pub answer : CpuStep
   pub steps : ℕ
 
@@ -61,17 +63,17 @@ shown c = record {
 }
 
 -- behind a step with this effect
-abbrev pub after_step : Effect RvState → Shown → Shown
+abbrev pub after_step : Effect CpuState → Shown → Shown
 after_step e s = record s { state = e.to; answer = answer_of e.progress; steps = counted (answer_of e.progress) s.steps }
 
 -- a step of a run that goes on has this effect; where a write fails a part of its output was written, the sink's count of
 -- faults rose, and nothing else changed
-abbrev pub StepShows : Effect RvState → Shown → Shown → Option (List ℕ) → Option (List ℕ) → ℕ → ℕ → CpuStep → Type 0
+abbrev pub StepShows : Effect CpuState → Shown → Shown → Option (List ℕ) → Option (List ℕ) → ℕ → ℕ → CpuStep → Type 0
 StepShows e old new taken taken' count count' cpu.WriteFault = (new ≡ record old { answer = cpu.WriteFault }) × Rose count count' × AppendsPrefix taken taken' e.written
 StepShows e old new taken taken' count count' answer = (answer ≡ answer_of e.progress) × (new ≡ after_step e old) × Appends taken taken' e.written
 
 -- a run that is over answers what it answered, and nothing changes
-abbrev pub SaysAfter : CpuStep → Effect RvState → Shown → Shown → Option (List ℕ) → Option (List ℕ) → ℕ → ℕ → CpuStep → Type 0
+abbrev pub SaysAfter : CpuStep → Effect CpuState → Shown → Shown → Option (List ℕ) → Option (List ℕ) → ℕ → ℕ → CpuStep → Type 0
 SaysAfter cpu.Went e old new taken taken' count count' answer = StepShows e old new taken taken' count count' answer
 SaysAfter before e old new taken taken' count count' answer = (answer ≡ before) × (new ≡ old) × (taken' ≡ taken) × (count' ≡ count)
 
@@ -79,15 +81,15 @@ abbrev pub CpuSays : Shown → Shown → Option (List ℕ) → Option (List ℕ)
 CpuSays old new taken taken' count count' answer = SaysAfter old.answer (effect old.code old.trash old.state) old new taken taken' count count' answer
 
 -- the run of which this is seen, where these bytes were written
-abbrev pub run_of : Shown → List ℕ → Run RvState
+abbrev pub run_of : Shown → List ℕ → Run CpuState
 run_of s out = record { state = s.state; progress = progress_of s.answer; out = out }
 
 -- a register is set, the run goes on elsewhere, bytes are stored
 abbrev pub after_set : Shown → ℕ → ℕ → Shown
-after_set s number value = record s { state = record { pc = s.state.pc; registers = put s.state.registers number value; bytes = s.state.bytes; mark = s.state.mark } }
+after_set s number value = record s { state = record { pc = s.state.pc; registers = put s.state.registers number value; flags = s.state.flags; bytes = s.state.bytes; mark = s.state.mark } }
 
 abbrev pub after_jump : Shown → ℕ → Shown
-after_jump s pc = record s { state = record { pc = pc; registers = s.state.registers; bytes = s.state.bytes; mark = s.state.mark }; answer = answer_of (arrived pc) }
+after_jump s pc = record s { state = record { pc = pc; registers = s.state.registers; flags = s.state.flags; bytes = s.state.bytes; mark = s.state.mark }; answer = answer_of (arrived pc) }
 
 abbrev pub after_store : Shown → ℕ → ℕ → ℕ → Shown
-after_store s address width value = record s { state = record { pc = s.state.pc; registers = s.state.registers; bytes = stored s.state.bytes address width value; mark = s.state.mark } }
+after_store s address width value = record s { state = record { pc = s.state.pc; registers = s.state.registers; flags = s.state.flags; bytes = stored s.state.bytes address width value; mark = s.state.mark } }

@@ -24,18 +24,13 @@ use Rattle.lg_rv.specs.declared.instruction.StoreOp.{StoreOp}
 use Rattle.lg_rv.specs.declared.instruction.StoreOp.TheVariants.{Sb, Sh, Sw, Sd}
 use Rattle.lg_rv.specs.declared.instruction.RegOp.TheVariants.{Add, Slt, Sltu, Xor, Or, And, Addw}
 use Rattle.lg_rv.specs.Reading.{front_of}
+use Rattle.lg_base.specs.declared.flags.Flags.TheVariants.{NoFlags}
+use Rattle.lg_cpu.specs.States.{CpuState}
 use Rattle.lg_cpu.specs.Steps.{Effect, EndedWith, Run, arrived, faults, stepped}
 use Rattle.lg_cpu.specs.HostSteps.{argument_words, put, behind_call}
 use Rattle.lg_base.specs.Arguments.{argument_count}
 use Rattle.lg_cpu.specs.Starts.{start_bytes}
 use Rattle.lg_cpu.specs.RvOperators.{reg_value, shift_value, is_taken}
-
--- the program counter, the registers, the bytes of the memory by their addresses, and the heap mark
-pub record RvState : Type 0 where
-  pub pc : ℕ
-  pub registers : ℕ → ℕ
-  pub bytes : ℕ → Option ℕ
-  pub mark : ℕ
 
 -- register 0 reads as 0
 abbrev pub read : (ℕ → ℕ) → ℕ → ℕ
@@ -44,42 +39,42 @@ read registers r = if r == 0 then 0 else registers r
 -- ---- what the instructions do
 
 -- the run goes on at an address, or has ended there
-abbrev pub goes : ℕ → (ℕ → ℕ) → (ℕ → Option ℕ) → ℕ → Effect RvState
+abbrev pub goes : ℕ → (ℕ → ℕ) → (ℕ → Option ℕ) → ℕ → Effect CpuState
 goes pc registers bytes mark =
-    record { to = record { pc = pc; registers = registers; bytes = bytes; mark = mark }; progress = arrived pc; written = [] }
+    record { to = record { pc = pc; registers = registers; flags = NoFlags; bytes = bytes; mark = mark }; progress = arrived pc; written = [] }
 
 -- a register gets a value, and the next instruction follows
-abbrev pub sets : RvState → ℕ → ℕ → Effect RvState
+abbrev pub sets : CpuState → ℕ → ℕ → Effect CpuState
 sets q to value = goes (add_words q.pc 4) (put q.registers to value) q.bytes q.mark
 
 -- what a load puts into a register: the number in so many bytes, extended by its sign or with zeros
 abbrev pub extended_by : Bool → ℕ → ℕ → ℕ
 extended_by signed width value = if signed then sign_part_of value width else value
 
-abbrev pub loads : RvState → ℕ → ℕ → Bool → Option ℕ → Effect RvState
+abbrev pub loads : CpuState → ℕ → ℕ → Bool → Option ℕ → Effect CpuState
 loads q to width signed None = faults q Memory
 loads q to width signed (Some value) = sets q to (extended_by signed width value)
 
-abbrev pub load_at : RvState → ℕ → ℕ → ℕ → Bool → Effect RvState
+abbrev pub load_at : CpuState → ℕ → ℕ → ℕ → Bool → Effect CpuState
 load_at q to address width signed = if address % width == 0 then loads q to width signed (loaded q.bytes address width) else faults q Align
 
-abbrev pub store_at : RvState → ℕ → ℕ → ℕ → Effect RvState
+abbrev pub store_at : CpuState → ℕ → ℕ → ℕ → Effect CpuState
 store_at q address width value =
     if address % width == 0
     then (if mapped q.bytes address width then goes (add_words q.pc 4) q.registers (stored q.bytes address width value) q.mark else faults q Memory)
     else faults q Align
 
 -- a jump; the link is the next instruction's address
-abbrev pub jump_to : RvState → ℕ → ℕ → Effect RvState
+abbrev pub jump_to : CpuState → ℕ → ℕ → Effect CpuState
 jump_to q link target = if target % 4 == 0 then goes target (put q.registers link (add_words q.pc 4)) q.bytes q.mark else faults q Align
 
 -- a branch, whose target counts only where it is taken
-abbrev pub branch_to : RvState → ℕ → Bool → Effect RvState
+abbrev pub branch_to : CpuState → ℕ → Bool → Effect CpuState
 branch_to q target true = if target % 4 == 0 then goes target q.registers q.bytes q.mark else faults q Align
 branch_to q target false = goes (add_words q.pc 4) q.registers q.bytes q.mark
 
 -- the rows with a number of 12 bits: a is the word in rs1, and n the number, extended by its sign
-abbrev pub imm_effect : ImmOp → ℕ → ℕ → ℕ → RvState → Effect RvState
+abbrev pub imm_effect : ImmOp → ℕ → ℕ → ℕ → CpuState → Effect CpuState
 imm_effect Jalr rd a n q = jump_to q rd (add_words a n / 2 * 2)
 imm_effect Lb rd a n q = load_at q rd (add_words a n) 1 true
 imm_effect Lh rd a n q = load_at q rd (add_words a n) 2 true
@@ -103,7 +98,7 @@ store_width Sh = 2
 store_width Sw = 4
 store_width Sd = 8
 
-abbrev pub act : Instr → RvState → Effect RvState
+abbrev pub act : Instr → CpuState → Effect CpuState
 act (Upper Lui rd imm) q = sets q rd (sign_32 (imm * 4096))
 act (Upper Auipc rd imm) q = sets q rd (add_words q.pc (sign_32 (imm * 4096)))
 act (Jal rd offset) q = jump_to q rd (add_words q.pc (word_of offset))
@@ -117,7 +112,7 @@ act (Reg op rd rs1 rs2) q = sets q rd (reg_value op (read q.registers rs1) (read
 
 -- ---- fetching
 
-abbrev pub decoded : Option (Instr × ℕ) → RvState → Effect RvState
+abbrev pub decoded : Option (Instr × ℕ) → CpuState → Effect CpuState
 decoded None q = faults q Decode
 decoded (Some (i, len)) q = act i q
 
@@ -125,7 +120,7 @@ decoded (Some (i, len)) q = act i q
 abbrev pub in_code : List ℕ → ℕ → Bool
 in_code code pc = nat_le code_base pc && nat_lt pc (code_base + length code)
 
-abbrev pub fetch : List ℕ → RvState → Effect RvState
+abbrev pub fetch : List ℕ → CpuState → Effect CpuState
 fetch code q =
     if q.pc % 4 == 0
     then (if in_code code q.pc then decoded (front_of (drop (q.pc - code_base) code)) q else faults q Fetch)
@@ -134,10 +129,10 @@ fetch code q =
 -- ---- host functions
 
 -- what a host function comes to; control returns to the link, register 1
-abbrev pub host_effect : Answer → ℕ → RvState → Effect RvState
+abbrev pub host_effect : Answer → ℕ → CpuState → Effect CpuState
 host_effect (Gives value changes mark bytes) trash q =
     record {
-      to = record { pc = q.registers 1; registers = behind_call target.Riscv64 32 q.registers trash value; bytes = over changes q.bytes; mark = mark };
+      to = record { pc = q.registers 1; registers = behind_call target.Riscv64 32 q.registers trash value; flags = NoFlags; bytes = over changes q.bytes; mark = mark };
       progress = arrived (q.registers 1);
       written = bytes;
     }
@@ -145,7 +140,7 @@ host_effect (Exits status) trash q = record { to = q; progress = EndedWith statu
 host_effect Undefined trash q = faults q Host
 
 -- at a host entry the stack pointer, register 2, is a multiple of 16
-abbrev pub enter_host : HostName → ℕ → RvState → Effect RvState
+abbrev pub enter_host : HostName → ℕ → CpuState → Effect CpuState
 enter_host name trash q =
     if q.registers 2 % 16 == 0
     then host_effect (host_of name (argument_words target.Riscv64 q.registers q.bytes (q.registers 2)) true (memory q.bytes (readable q.bytes) q.mark)) trash q
@@ -153,16 +148,16 @@ enter_host name trash q =
 
 -- ---- the step
 
-abbrev pub effect_at : Option HostName → List ℕ → ℕ → RvState → Effect RvState
+abbrev pub effect_at : Option HostName → List ℕ → ℕ → CpuState → Effect CpuState
 effect_at None code trash q = fetch code q
 effect_at (Some name) code trash q = enter_host name trash q
 
 -- what a step does with this code and trash word
-abbrev pub effect : List ℕ → ℕ → RvState → Effect RvState
+abbrev pub effect : List ℕ → ℕ → CpuState → Effect CpuState
 effect code trash q = effect_at (host_by_address q.pc) code trash q
 
 -- the run one step further; a run that is over stays
-abbrev pub rv_step : List ℕ → ℕ → Run RvState → Run RvState
+abbrev pub rv_step : List ℕ → ℕ → Run CpuState → Run CpuState
 rv_step code trash = stepped (effect code trash)
 
 -- ---- the start
@@ -177,6 +172,6 @@ start_registers count trash r =
     else if nat_lt r 32 then trash
     else 0
 
-abbrev pub start_state : List ℕ → List ℕ → ℕ → RvState
+abbrev pub start_state : List ℕ → List ℕ → ℕ → CpuState
 start_state image args trash =
-    record { pc = code_base; registers = start_registers (argument_count args) trash; bytes = start_bytes image args; mark = heap_base }
+    record { pc = code_base; registers = start_registers (argument_count args) trash; flags = NoFlags; bytes = start_bytes image args; mark = heap_base }

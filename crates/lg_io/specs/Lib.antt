@@ -6,3 +6,4 @@ pub mod NamedTexts
 pub mod Radixes
 pub mod Rests
 pub mod Wrote
+pub mod StandardSinks

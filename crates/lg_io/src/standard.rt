@@ -1,6 +1,6 @@
 // Texts and sinks over std's files, input and writers: the edge to the outside, whose bytes no contract tells.
 
-ghost use Rattle.std.specs.Prelude.{◌≡◌, ◌<◌, ◌≤◌, ℕ, List, length, Option, None, IfOk, OnOk, OnErr, is_ok, if◌then◌else◌};
+ghost use Rattle.std.specs.Prelude.{◌≡◌, ◌<◌, ◌≤◌, ℕ, List, [], length, Option, Some, None, IfOk, OnOk, OnErr, is_ok, if◌then◌else◌};
 ghost use Rattle.std.specs.Io.KnownBytes.{WriteAppends, ReadConsumes};
 ghost use Rattle.lg_io.specs.Counts.{HasCause, next_count};
 ghost use Rattle.lg_io.specs.NamedTexts.{NamedTexts, Selects};
@@ -20,39 +20,41 @@ pub struct StdSink<W: Write + Drop> {
 }
 
 impl<W: Write + Drop> Model for StdSink<W> {
-    ghost Value = { ℕ };
+    ghost use Rattle.lg_io.specs.StandardSinks.{WriterState};
 
-    ghost view = { λ sink. sink.faults };
+    ghost Value = { WriterState };
+
+    ghost view = { λ sink. record { held = W.contents sink.writer; faults = sink.faults } };
 }
 
 impl<W: Write + Drop> StdSink<W> {
     /// A sink that writes to the writer, each piece at once.
     pub fn new(writer: W) -> StdSink<W>
-        ensures { result ≡ 0 }
+        ensures { result ≡ record { held = W.contents writer; faults = 0 } }
     {
         StdSink { writer, faults: 0 }
     }
 
     /// How many writes failed.
     pub fn faults(&self) -> u64
-        ensures { result ≡ self.now }
+        ensures { result ≡ self.now.faults }
     {
         self.faults
     }
 }
 
 impl<W: Write + Drop> Sink for StdSink<W> {
-    ghost taken = { λ _. None };
+    ghost taken = { λ sink. sink.held };
 
-    ghost faults = { λ sink. sink };
+    ghost faults = { λ sink. sink.faults };
 
     /// Writes once. The count of faults rises where the writer fails, and where it takes nothing of a piece that is not empty.
     fn write(&mut self, bytes: &[u8]) -> Result<usize, SinkFault>
         ensures bound { IfOk result (λ n. n ≤ length bytes.now) }
         ensures some { IfOk result (λ n. 0 < length bytes.now → 0 < n) }
-        ensures bytes { WriteAppends None None result bytes.now }
-        ensures cause { HasCause self.old self.new result }
-        ensures count { self.new ≡ (if is_ok result then self.old else next_count self.old) }
+        ensures bytes { WriteAppends self.old.held self.new.held result bytes.now }
+        ensures cause { HasCause self.old.faults self.new.faults result }
+        ensures count { self.new.faults ≡ (if is_ok result then self.old.faults else next_count self.old.faults) }
     {
         match self.writer.write(bytes) {
             Ok(count) if count > 0 || bytes.is_empty() => Ok(count),
@@ -81,15 +83,17 @@ pub struct StdTexts<'a, R: Files + Input> {
 }
 
 impl<'a, R: Files + Input> Model for StdTexts<'a, R> {
-    ghost Value = { ℕ };
+    ghost use Rattle.lg_io.specs.StandardSinks.{ReaderState, left_of};
 
-    ghost view = { λ texts. texts.faults };
+    ghost Value = { ReaderState };
+
+    ghost view = { λ texts. record { left = left_of R.File.remaining R.Reader.remaining texts.selected; faults = texts.faults } };
 }
 
 impl<'a, R: Files + Input> StdTexts<'a, R> {
     /// No text is selected.
     pub fn new(rt: &'a R) -> StdTexts<'a, R>
-        ensures { result ≡ 0 }
+        ensures { result ≡ record { left = Some []; faults = 0 } }
     {
         StdTexts {
             rt,
@@ -100,7 +104,7 @@ impl<'a, R: Files + Input> StdTexts<'a, R> {
 
     /// How many calls failed.
     pub fn faults(&self) -> u64
-        ensures { result ≡ self.now }
+        ensures { result ≡ self.now.faults }
     {
         self.faults
     }
@@ -109,17 +113,17 @@ impl<'a, R: Files + Input> StdTexts<'a, R> {
 impl<'a, R: Files + Input> Texts for StdTexts<'a, R> {
     ghost held = { λ _. None };
 
-    ghost left = { λ _. None };
+    ghost left = { λ texts. texts.left };
 
-    ghost faults = { λ texts. texts };
+    ghost faults = { λ texts. texts.faults };
 
     /// Opens the file of that name, or takes the standard input for `-`.
     fn select(&mut self, name: &str) -> Result<(), TextFault>
         ensures held { ◌≡◌ {A = Option NamedTexts} None None }
-        ensures left { OnOk result (Selects None None name.now) }
-        ensures err { OnErr result (◌≡◌ {A = Option (List ℕ)} None None) }
-        ensures cause { HasCause self.old self.new result }
-        ensures count { self.new ≡ (if is_ok result then self.old else next_count self.old) }
+        ensures left { OnOk result (Selects None self.new.left name.now) }
+        ensures err { OnErr result (self.new.left ≡ self.old.left) }
+        ensures cause { HasCause self.old.faults self.new.faults result }
+        ensures count { self.new.faults ≡ (if is_ok result then self.old.faults else next_count self.old.faults) }
     {
         if name == "-" {
             self.selected = Selected::Input(self.rt.reader());
@@ -141,9 +145,9 @@ impl<'a, R: Files + Input> Texts for StdTexts<'a, R> {
     fn read(&mut self, into: &mut [u8]) -> Result<usize, TextFault>
         ensures held { ◌≡◌ {A = Option NamedTexts} None None }
         ensures bound { IfOk result (λ n. n ≤ length into.old) }
-        ensures bytes { ReadConsumes None None result into.new }
-        ensures cause { HasCause self.old self.new result }
-        ensures count { self.new ≡ (if is_ok result then self.old else next_count self.old) }
+        ensures bytes { ReadConsumes self.old.left self.new.left result into.new }
+        ensures cause { HasCause self.old.faults self.new.faults result }
+        ensures count { self.new.faults ≡ (if is_ok result then self.old.faults else next_count self.old.faults) }
     {
         let answer = match &mut self.selected {
             Selected::Nothing => Ok(0),

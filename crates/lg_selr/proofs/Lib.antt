@@ -2,6 +2,7 @@ pub mod CarriedLemmas
 pub mod CountLemmas
 pub mod FinishedLemmas
 pub mod FitLemmas
+pub mod FixLemmas
 pub mod NodeFits
 pub mod NodeLemmas
 pub mod OperandLemmas

@@ -1,15 +1,17 @@
 -- What is asked of a node and its buffer, and what the code that is appended does once the buffer is finished.
 use Rattle.std.specs.Prelude.{◌≡◌, ℕ, ◌+◌, ◌-◌, ◌%◌, ◌^◌, ◌<◌, ◌≤◌, ◌||◌, Bool, true, false, List, [], ◌∷◌, ◌++◌, length, drop, replicate, slice_index, slice_index_or, Option, Some, ⊤}
-use Rattle.std.specs.List.{All}
+use Rattle.std.specs.List.{All, list_any}
 use Rattle.lg_base.specs.Layout.{code_base, most_code}
 use Rattle.lg_base.specs.declared.target.Target.TheVariants.{Riscv64}
 use Rattle.lg_buf.specs.declared.fixes.Fix.{Fix}
 use Rattle.lg_buf.specs.Buffers.{Buffer, AreDone}
+use Rattle.lg_buf.specs.Fixing.{IsWithin, Fits}
 use Rattle.lg_carry.specs.Codes.{Code}
 use Rattle.lg_carry.specs.NodeCode.{numbered, CarriesNode}
 use Rattle.lg_carry_rv.specs.Places.{IsInText}
 use Rattle.lg_carry_rv.specs.RvRows.{rv_processor}
 use Rattle.lg_cpu.specs.Laws.{AreBytes}
+use Rattle.lg_node.specs.Labels.{is_label}
 use Rattle.lg_node.specs.Preparations.{pushed}
 use Rattle.lg_op.specs.Forms.{forms_of}
 use Rattle.lg_op.specs.declared.form.Form.{Form}
@@ -89,6 +91,13 @@ HaveWords [] = ⊤
 HaveWords (x ∷ xs) = IsWord x × HaveWords xs
 
 -- ---- what follows
+-- a field that lies behind a place leads to a label of the node, and reaches every place within 1 MiB at which an instruction may stand, which is
+-- a multiple of the unit
+pub record IsFixOf (unit place : ℕ) (n : Node) (f : Fix) : Type 0 where
+  pub from : place ≤ f.place
+  pub names : list_any (is_label f.label.0) n.operands ≡ true
+  pub reaches : place % unit ≡ 0 → (target : ℕ) → target % unit ≡ 0 → target ≤ most_code → IsWithin 1048576 f.place target → Fits f.kind f.place target
+
 -- a buffer whose fixes are patched, in which the bytes and the fixes that were appended to an old buffer stand where they were appended, and
 -- no other fix has one of the bytes: of the final code, node i has these bytes, and each label has the address of its place
 pub record IsFinished (old new : Buffer) (code : List ℕ) (c : Code) (i : ℕ) : Type 0 where

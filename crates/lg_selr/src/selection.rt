@@ -1,10 +1,12 @@
 // The code of a node into a buffer.
 
-ghost use Rattle.std.specs.Prelude.{◌≡◌, ◌+◌, ◌<◌, ◌≤◌, ◌++◌, true, false, drop, length, IsTrue};
+ghost use Rattle.std.specs.Prelude.{◌≡◌, ◌+◌, ◌%◌, ◌<◌, ◌≤◌, ◌++◌, true, false, drop, length, IsTrue};
+ghost use Rattle.std.specs.List.{All};
+ghost use Rattle.lg_node.specs.Functions.{is_prolog};
 ghost use Rattle.lg_selr_values.specs.ValueFits.{NameBelow};
 ghost use Rattle.lg_op.specs.Nodes.{InForm};
 ghost use Rattle.lg_live.specs.RegSets.{has};
-ghost use Rattle.lg_selr.specs.Selected.{IsFrame, AreChosen, AreFirst, is_pusharg, TakesLabelsWell, IsAligned, IsCarriedWhenFinished};
+ghost use Rattle.lg_selr.specs.Selected.{IsFrame, AreChosen, AreFirst, is_pusharg, TakesLabelsWell, IsAligned, IsCarriedWhenFinished, IsFixOf};
 
 use crate::items::{put_items, see_numbers};
 use lg_buf::CodeBuf;
@@ -45,6 +47,9 @@ pub fn select(
     ensures one_fix { buf.old.room ≤ buf.new.room + 1 }
     ensures others { buf.new ≡ record buf.old { bytes = buf.new.bytes; fixes = buf.new.fixes; room = buf.new.room } }
     ensures aligned { IsTrue result → IsAligned node.now (length buf.old.bytes) (length buf.new.bytes) }
+    ensures whole { IsTrue result → length buf.old.bytes % 4 ≡ 0 → length buf.new.bytes % 4 ≡ 0 }
+    ensures begins { IsTrue result → is_prolog node.now.op ≡ true → length buf.old.bytes < length buf.new.bytes }
+    ensures lead { IsTrue result → All (IsFixOf 4 (length buf.old.bytes) node.now) (drop (length buf.old.fixes) buf.new.fixes) }
     ensures carries { IsTrue result → IsCarriedWhenFinished node.now frame (has live_after) staged.arguments buf.old buf.new }
 {
     see_numbers(node.operands.as_slice());

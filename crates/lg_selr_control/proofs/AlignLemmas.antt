@@ -15,7 +15,8 @@ use Rattle.lg_rv.specs.declared.instruction.Instr.TheVariants as instr
 use Rattle.lg_rv.specs.declared.instruction.ImmOp.TheVariants.{Addi}
 use Rattle.lg_cpu.specs.Steps.{Run, after}
 use Rattle.lg_cpu.specs.HostSteps.{put}
-use Rattle.lg_cpu.specs.RvStep.{RvState, sets}
+use Rattle.lg_cpu.specs.States.{CpuState}
+use Rattle.lg_cpu.specs.RvStep.{sets}
 use Rattle.lg_meaning.specs.Steps.{Goes, on}
 use Rattle.lg_meaning.specs.Texts.{text, step_at, step}
 use Rattle.lg_carry.specs.Codes.{Code, is_inside}
@@ -63,15 +64,15 @@ idle-straight zero = refl
 idle-straight (suc k) = idle-straight k
 
 -- a run behind so many of them
-record Idles (base n j k : ℕ) (q : Run RvState) : Type 0 where
-  end : Run RvState
+record Idles (base n j k : ℕ) (q : Run CpuState) : Type 0 where
+  end : Run CpuState
   chain : Chain (idle k) q end
   at : RunsAt base n (j + k) end
   registers : (x : ℕ) → x ≢ 0 → end.state.registers x ≡ q.state.registers x
   bytes : end.state.bytes ≡ q.state.bytes
   mark : end.state.mark ≡ q.state.mark
 
-idles : (base n j k : ℕ) (q : Run RvState) → j + k ≤ n → RunsAt base n j q → Idles base n j k q
+idles : (base n j k : ℕ) (q : Run CpuState) → j + k ≤ n → RunsAt base n j q → Idles base n j k q
 idles base n j zero q room at = record { end = q; chain = chain-end q; at = subst (λ x. RunsAt base n x q) (omega arith) at; registers = λ x ne. refl; bytes = refl; mark = refl }
 idles base n j (suc k) q room at =
     let v = add_words 0 0 in

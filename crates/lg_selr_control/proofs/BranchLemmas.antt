@@ -26,7 +26,8 @@ use Rattle.lg_rv.specs.declared.instruction.RegOp.TheVariants.{And}
 use Rattle.lg_cpu.specs.Steps.{Run, after}
 use Rattle.lg_cpu.specs.HostSteps.{put}
 use Rattle.lg_cpu.specs.RvOperators.{is_taken}
-use Rattle.lg_cpu.specs.RvStep.{RvState, read, sets}
+use Rattle.lg_cpu.specs.States.{CpuState}
+use Rattle.lg_cpu.specs.RvStep.{read, sets}
 use Rattle.lg_meaning.specs.States.{Frame, State, reg, number}
 use Rattle.lg_meaning.specs.Steps.{Goes, Undefined, need, to, node_in, branch, node_of_label}
 use Rattle.lg_meaning.specs.Texts.{text, step_at, step}
@@ -60,8 +61,8 @@ twice false = refl
 
 -- ---- the registers that the branch compares
 -- from a run that holds the two operands, the conjunction of their bits is made where it is asked for
-record Compares (code : List ℕ) (trash : ℕ) (c : Code) (i : ℕ) (o : Condition) (front : List Instr) (a b x y : ℕ) (q r : Run RvState) : Type 0 where
-  end : Run RvState
+record Compares (code : List ℕ) (trash : ℕ) (c : Code) (i : ℕ) (o : Condition) (front : List Instr) (a b x y : ℕ) (q r : Run CpuState) : Type 0 where
+  end : Run CpuState
   passes : Passes (rv_processor code trash) c i (length (front ++ bits_code o a b)) q end
   at : RunsAt (c.place i) (length (front ++ bits_code o a b) + 2) (length (front ++ bits_code o a b)) end
   taken : is_taken (failing o) (read end.state.registers (left_of o a b)) (read end.state.registers (right_of o a b)) ≡ not (holds o x y)
@@ -69,7 +70,7 @@ record Compares (code : List ℕ) (trash : ℕ) (c : Code) (i : ℕ) (o : Condit
   bytes : end.state.bytes ≡ r.state.bytes
   mark : end.state.mark ≡ r.state.mark
 
-module _ (code : List ℕ) (trash : ℕ) (c : Code) (i : ℕ) (front back : List Instr) (a b x y : ℕ) (q r : Run RvState) (pass : Passes (rv_processor code trash) c i (length front) q r) (ea : read r.state.registers a ≡ x) (eb : read r.state.registers b ≡ y) where
+module _ (code : List ℕ) (trash : ℕ) (c : Code) (i : ℕ) (front back : List Instr) (a b x y : ℕ) (q r : Run CpuState) (pass : Passes (rv_processor code trash) c i (length front) q r) (ea : read r.state.registers a ≡ x) (eb : read r.state.registers b ≡ y) where
   unmade : (o : Condition) → bits_code o a b ≡ [] → RunsAt (c.place i) (length (front ++ bits_code o a b) + 2) (length front) r → is_taken (failing o) (read r.state.registers (left_of o a b)) (read r.state.registers (right_of o a b)) ≡ not (holds o x y)
       → Compares code trash c i o front a b x y q r
   unmade o e at taken =
@@ -87,7 +88,7 @@ module _ (code : List ℕ) (trash : ℕ) (c : Code) (i : ℕ) (front back : List
   abbrev v : ℕ
   v = bit_and (read r.state.registers a) (read r.state.registers b)
 
-  abbrev r1 : Run RvState
+  abbrev r1 : Run CpuState
   r1 = after r (sets r.state 1 v)
 
   made : (o : Condition) → bits_code o a b ≡ instr.Reg And 1 a b ∷ [] → StandsInCode code trash c i (front ++ (bits_code o a b ++ back)) → RunsAt (c.place i) (length (front ++ bits_code o a b) + 2) (length front) r
@@ -126,7 +127,7 @@ module _ (code : List ℕ) (trash : ℕ) (c : Code) (i : ℕ) (front back : List
 
 -- ---- the node, behind what puts its second operand into a register
 -- the run r holds the second operand in register b; it changed x1 alone
-pub record Prepared (code : List ℕ) (trash : ℕ) (c : Code) (i : ℕ) (front : List Instr) (n b y : ℕ) (q r : Run RvState) : Type 0 where
+pub record Prepared (code : List ℕ) (trash : ℕ) (c : Code) (i : ℕ) (front : List Instr) (n b y : ℕ) (q r : Run CpuState) : Type 0 where
   pub passes : Passes (rv_processor code trash) c i (length front) q r
   pub at : RunsAt (c.place i) n (length front) r
   pub value : read r.state.registers b ≡ y
@@ -155,7 +156,7 @@ module _ (code : List ℕ) (trash : ℕ) (c : Code) (i : ℕ) (o : Condition) (l
         by last_operand.Register e = unwritten n (rw e refl) r
         by last_operand.Immediate e = unwritten n (rw e refl) r
 
-    pub branch-leads : (live : Frame → ℕ → Bool) (s : State) (out : List ℕ) (q r : Run RvState) (x y : ℕ) → s.at ≡ i → Stands (rv_processor code trash) c live s out q (live_before n S)
+    pub branch-leads : (live : Frame → ℕ → Bool) (s : State) (out : List ℕ) (q r : Run CpuState) (x y : ℕ) → s.at ≡ i → Stands (rv_processor code trash) c live s out q (live_before n S)
         → reg s a ≡ Some x → step c.nodes c.shape c.addresses s ≡ Goes (to s (if holds o x y then node_of_label c.nodes.places (operand.Label l) else s.at + 1)) []
         → Prepared code trash c i front (length (front ++ bits_code o (register_of Riscv64 a) b) + 2) b y q r → Leads (rv_processor code trash) c live (live_behind live n S s) i (step c.nodes c.shape c.addresses s) out q
     branch-leads live s out q r x y at st ex goes' h =
@@ -231,8 +232,8 @@ branches-carry code trash c i o l a b line S w t k = carried code trash c i o l 
 
 -- ---- on a register and a number
 -- the number is put into x1 in front
-pub number-prepared : (code : List ℕ) (trash : ℕ) (c : Code) (i v n : ℕ) (back : List Instr) (q : Run RvState) → v < 2 ^ 64 → StandsInCode code trash c i (number_code 1 v ++ back) → length (number_code 1 v) ≤ n → RunsAt (c.place i) n 0 q
-    → (r : Run RvState) × Prepared code trash c i (number_code 1 v) n 1 v q r
+pub number-prepared : (code : List ℕ) (trash : ℕ) (c : Code) (i v n : ℕ) (back : List Instr) (q : Run CpuState) → v < 2 ^ 64 → StandsInCode code trash c i (number_code 1 v ++ back) → length (number_code 1 v) ≤ n → RunsAt (c.place i) n 0 q
+    → (r : Run CpuState) × Prepared code trash c i (number_code 1 v) n 1 v q r
 number-prepared code trash c i v n back q small k room at =
     let loads = numbers-are-loaded 1 v (λ z. cc) (omega arith) small in
     let r = computed-passes code trash c i n [] (number_code 1 v) back q k loads.computes (omega (arith, room)) at in

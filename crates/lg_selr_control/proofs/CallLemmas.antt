@@ -19,7 +19,8 @@ use Rattle.lg_node.proofs.FunctionLaws.{home_within}
 use Rattle.lg_rv.specs.declared.instruction.Instr.TheVariants as instr
 use Rattle.lg_cpu.specs.Steps.{Run, Effect, after, status_of}
 use Rattle.lg_cpu.specs.HostSteps.{put}
-use Rattle.lg_cpu.specs.RvStep.{RvState, goes, act}
+use Rattle.lg_cpu.specs.States.{CpuState}
+use Rattle.lg_cpu.specs.RvStep.{goes, act}
 use Rattle.lg_meaning.specs.States.{Frame, State}
 use Rattle.lg_meaning.specs.Steps.{Goes, Undefined, need, when, quiet, called, started, enter, call_node as call_node_step, node_in}
 use Rattle.lg_meaning.specs.Texts.{text, step_at, step}
@@ -60,7 +61,7 @@ stays-frame o e = cc
 -- the node of a call of a function stands behind a `prolog`, and its code ends in its bytes; from q the link is the place behind the node, and
 -- the run goes on at the place of the function
 module _ (code : List ℕ) (trash : ℕ) (c : Code) (i : ℕ) (n : Node) (S : ℕ → Bool) (w : HasPlaces c) (t : IsInText c i n) (inside : is_inside c i ≡ true) (calls : is_call n.op ≡ true) (unwritten : (v : ℕ) → v < 3 → numbered (is_written n) (v + 3) ≡ false)
-    (live : Frame → ℕ → Bool) (returns : ReturnsTo live n i S) (s : State) (out : List ℕ) (q u : Run RvState) (at : s.at ≡ i) (st : Stands (rv_processor code trash) c live s out q (live_before n S))
+    (live : Frame → ℕ → Bool) (returns : ReturnsTo live n i S) (s : State) (out : List ℕ) (q u : Run CpuState) (at : s.at ≡ i) (st : Stands (rv_processor code trash) c live s out q (live_before n S))
     (args : List ℕ) (held : HoldsArguments Riscv64 q.state.registers args) (stacked : HasArguments Riscv64 q.state.bytes (lowest s.frame) args) (m : ℕ) (pass : Passes (rv_processor code trash) c i m q u) (few : m ≤ 64) (some : 0 < m)
     (kept : (r : ℕ) → r ≢ 1 → u.state.registers r ≡ q.state.registers r) (bytes : u.state.bytes ≡ q.state.bytes) (mark : u.state.mark ≡ q.state.mark) (link : u.state.registers 1 ≡ c.place (i + 1)) where
   -- at the place of a function that begins
@@ -110,7 +111,7 @@ module _ (code : List ℕ) (trash : ℕ) (c : Code) (i : ℕ) (n : Node) (S : �
 -- ---- by a jump that links
 module _ (code : List ℕ) (trash : ℕ) (c : Code) (i : ℕ) (n : Node) (l : Label) (S : ℕ → Bool) (w : HasPlaces c) (t : IsInText c i n) (k : StandsInCode code trash c i (call_code (slice_index c.addresses) (c.place i) l)) (inside : is_inside c i ≡ true) (calls : is_call n.op ≡ true)
     (unwritten : (v : ℕ) → v < 3 → numbered (is_written n) (v + 3) ≡ false) (target : IsEntry c.nodes (place_of c.nodes.places l))
-    (live : Frame → ℕ → Bool) (returns : ReturnsTo live n i S) (s : State) (out : List ℕ) (q : Run RvState) (at : s.at ≡ i) (st : Stands (rv_processor code trash) c live s out q (live_before n S))
+    (live : Frame → ℕ → Bool) (returns : ReturnsTo live n i S) (s : State) (out : List ℕ) (q : Run CpuState) (at : s.at ≡ i) (st : Stands (rv_processor code trash) c live s out q (live_before n S))
     (args : List ℕ) (held : HoldsArguments Riscv64 q.state.registers args) (stacked : HasArguments Riscv64 q.state.bytes (lowest s.frame) args) where
   here : q.state.pc ≡ c.place i
   here = st.state.here ∙ ap c.place at
@@ -121,7 +122,7 @@ module _ (code : List ℕ) (trash : ℕ) (c : Code) (i : ℕ) (n : Node) (l : La
   within : target.node < length c.nodes.nodes
   within = home_within c.nodes.nodes target.node target.node target.entry
 
-  abbrev e : Effect RvState
+  abbrev e : Effect CpuState
   e = goes (c.place target.node) (put q.state.registers 1 (add_words q.state.pc 4)) q.state.bytes q.state.mark
 
   does : act (instr.Jal 1 (pos (slice_index c.addresses l.0) -ℤ pos (c.place i))) q.state ≡ e

@@ -11,7 +11,8 @@ use Rattle.lg_op.specs.declared.node.Node.{Node}
 use Rattle.lg_rv.specs.declared.instruction.Instr.{Instr}
 use Rattle.lg_rv.specs.Spelling.{IsInstr}
 use Rattle.lg_cpu.specs.Steps.{Run, Effect, after, status_of}
-use Rattle.lg_cpu.specs.RvStep.{RvState, goes, act}
+use Rattle.lg_cpu.specs.States.{CpuState}
+use Rattle.lg_cpu.specs.RvStep.{goes, act}
 use Rattle.lg_carry.specs.Blocks.{done, GoesThrough, IsBlock}
 use Rattle.lg_carry.specs.Codes.{Code}
 use Rattle.lg_carry.specs.Passages.{Passes}
@@ -24,13 +25,13 @@ use Rattle.lg_selr_control.specs.Standing.{StandsInCode, HasPlaces}
 use Rattle.lg_selr_control.proofs.StandingLemmas.{spelled-size}
 
 -- a run that goes on at instruction k of n that stand at an address
-pub record RunsAt (base n k : ℕ) (q : Run RvState) : Type 0 where
+pub record RunsAt (base n k : ℕ) (q : Run CpuState) : Type 0 where
   pub runs : status_of q.progress ≡ Running
   pub here : q.state.pc ≡ base + 4 * k
   pub low : code_base ≤ base
   pub high : base + 4 * n ≤ code_base + most_code
 
-pub next-at : (base n k : ℕ) (q : Run RvState) (registers : ℕ → ℕ) (bytes : ℕ → Option ℕ) (mark : ℕ) → k < n → RunsAt base n k q → RunsAt base n (suc k) (after q (goes (add_words q.state.pc 4) registers bytes mark))
+pub next-at : (base n k : ℕ) (q : Run CpuState) (registers : ℕ → ℕ) (bytes : ℕ → Option ℕ) (mark : ℕ) → k < n → RunsAt base n k q → RunsAt base n (suc k) (after q (goes (add_words q.state.pc 4) registers bytes mark))
 next-at base n k q registers bytes mark lt h = record {
   runs = goes-on q.state.pc (omega (arith, h.here, h.low)) (omega (arith, h.here, h.high, lt));
   here = pc-next q.state.pc (omega (arith, h.here, h.high, lt)) ∙ omega (arith, h.here);
@@ -39,14 +40,14 @@ next-at base n k q registers bytes mark lt h = record {
 }
 
 -- from q the instructions lead to u, one after the other, and the run goes on at each
-pub record Chain (is : List Instr) (q u : Run RvState) : Type 0 where
+pub record Chain (is : List Instr) (q u : Run CpuState) : Type 0 where
   pub through : GoesThrough rv_does (λ r. status_of r.progress) is q
   pub leads : done rv_does is q ≡ u
 
-pub chain-end : (q : Run RvState) → Chain [] q q
+pub chain-end : (q : Run CpuState) → Chain [] q q
 chain-end q = record { through = tt; leads = refl }
 
-pub chain-more : (x : Instr) (is : List Instr) (q u : Run RvState) (e : Effect RvState) → status_of q.progress ≡ Running → act x q.state ≡ e → Chain is (after q e) u → Chain (x ∷ is) q u
+pub chain-more : (x : Instr) (is : List Instr) (q u : Run CpuState) (e : Effect CpuState) → status_of q.progress ≡ Running → act x q.state ≡ e → Chain is (after q e) u → Chain (x ∷ is) q u
 chain-more x is q u e runs does rest =
     let d : rv_does x q ≡ after q e = went q (act x q.state) runs ∙ ap (after q) does in
     record { through = (runs, subst (λ z. GoesThrough rv_does (λ r. status_of r.progress) is z) (sym d) rest.through); leads = ap (done rv_does is) d ∙ rest.leads }
@@ -64,7 +65,7 @@ straight-block (i ∷ j ∷ is) h = let p = and_parts (is_straight i) (list_all 
 
 module _ (code : List ℕ) (trash : ℕ) (c : Code) (i : ℕ) where
   -- a chain of instructions of the node is passed
-  pub chain-passes : (front part back : List Instr) (q u : Run RvState) → StandsInCode code trash c i (front ++ (part ++ back)) → q.state.pc ≡ c.place i + 4 * length front → IsBlock is_straight part → Chain part q u
+  pub chain-passes : (front part back : List Instr) (q u : Run CpuState) → StandsInCode code trash c i (front ++ (part ++ back)) → q.state.pc ≡ c.place i + 4 * length front → IsBlock is_straight part → Chain part q u
       → Passes (rv_processor code trash) c i (length part) q u
   chain-passes front part back q u k at block h =
       let size = spelled-size front in
@@ -76,5 +77,5 @@ module _ (code : List ℕ) (trash : ℕ) (c : Code) (i : ℕ) where
   node-high n is w t k = let lt = slice_get_within c.nodes.nodes i n t.here in let h = w.high (i + 1) (omega (arith, lt)) in omega (arith, h, k.node.next, spelled-size is)
 
   -- a run that stands for a state at the node begins there
-  pub begins-at : (n : Node) (is : List Instr) (q : Run RvState) → HasPlaces c → IsInText c i n → StandsInCode code trash c i is → status_of q.progress ≡ Running → q.state.pc ≡ c.place i → RunsAt (c.place i) (length is) 0 q
+  pub begins-at : (n : Node) (is : List Instr) (q : Run CpuState) → HasPlaces c → IsInText c i n → StandsInCode code trash c i is → status_of q.progress ≡ Running → q.state.pc ≡ c.place i → RunsAt (c.place i) (length is) 0 q
   begins-at n is q w t k runs at = record { runs = runs; here = at ∙ omega arith; low = k.node.low; high = node-high n is w t k }

@@ -6,7 +6,7 @@ use Rattle.std.proofs.lemmas.Bool.{and_parts}
 use Rattle.lg_rv.specs.declared.instruction.Instr.{Instr}
 use Rattle.lg_rv.specs.Spelling.{IsInstr}
 use Rattle.lg_cpu.specs.Steps.{Run}
-use Rattle.lg_cpu.specs.RvStep.{RvState}
+use Rattle.lg_cpu.specs.States.{CpuState}
 use Rattle.lg_carry.specs.Blocks.{done}
 use Rattle.lg_carry.specs.Codes.{Code}
 use Rattle.lg_carry.specs.Passages.{Passes}
@@ -32,15 +32,15 @@ all-straight (i ∷ is) h =
     ap (λ z. z && list_all is_straight is) (computes-straight i p.0) ∙ all-straight is p.1
 
 -- from q the instructions lead to a run with the registers that they compute
-pub record Computes (code : List ℕ) (trash : ℕ) (c : Code) (i n k : ℕ) (part : List Instr) (q : Run RvState) : Type 0 where
-  pub end : Run RvState
+pub record Computes (code : List ℕ) (trash : ℕ) (c : Code) (i n k : ℕ) (part : List Instr) (q : Run CpuState) : Type 0 where
+  pub end : Run CpuState
   pub passes : Passes (rv_processor code trash) c i (length part) q end
   pub at : RunsAt (c.place i) n (k + length part) end
   pub registers : end.state.registers ≡ computed part q.state.registers
   pub bytes : end.state.bytes ≡ q.state.bytes
   pub mark : end.state.mark ≡ q.state.mark
 
-pub computed-passes : (code : List ℕ) (trash : ℕ) (c : Code) (i n : ℕ) (front part back : List Instr) (q : Run RvState) → StandsInCode code trash c i (front ++ (part ++ back)) → all_compute part ≡ true → length front + length part ≤ n
+pub computed-passes : (code : List ℕ) (trash : ℕ) (c : Code) (i n : ℕ) (front part back : List Instr) (q : Run CpuState) → StandsInCode code trash c i (front ++ (part ++ back)) → all_compute part ≡ true → length front + length part ≤ n
     → RunsAt (c.place i) n (length front) q → Computes code trash c i n (length front) part q
 computed-passes code trash c i n front part back q k all room at =
     let run = computations-run part q all at.runs (omega (arith, at.here, at.low)) (omega (arith, at.here, at.high, room)) in

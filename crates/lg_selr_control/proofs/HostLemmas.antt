@@ -17,7 +17,8 @@ use Rattle.lg_cpu.specs.Laws.{AreBytes, IsSound}
 use Rattle.lg_base.specs.declared.fault.FaultKind.TheVariants.{Host as HostFault}
 use Rattle.lg_cpu.specs.Steps.{Run, Effect, after, arrived, faults, status_of}
 use Rattle.lg_cpu.specs.HostSteps.{behind_call, argument_words}
-use Rattle.lg_cpu.specs.RvStep.{RvState, effect, effect_at, host_effect}
+use Rattle.lg_cpu.specs.States.{CpuState}
+use Rattle.lg_cpu.specs.RvStep.{effect, effect_at, host_effect}
 use Rattle.lg_cpu.proofs.SoundLemmas.{stays-sound}
 use Rattle.lg_meaning.specs.States.{Frame, State, is_open}
 use Rattle.lg_meaning.specs.Steps.{Outcome, Goes, Ends, answered, host_end, call_host, kept as kept_registers}
@@ -85,7 +86,7 @@ extends (Some x) p h = h x refl
 -- the code of a call node has led to the entry of a host function, with the link behind the node
 module _ (code : List ℕ) (trash : ℕ) (c : Code) (i : ℕ) (n : Node) (S : ℕ → Bool) (w : HasPlaces c) (t : IsInText c i n) (bytes-code : AreBytes code) (word-trash : trash < 2 ^ 64) (inside : is_inside c i ≡ true) (next : is_inside c (i + 1) ≡ true)
     (calls : is_call n.op ≡ true) (unwritten : (v : ℕ) → v < 3 → numbered (is_written n) (v + 3) ≡ false)
-    (live : Frame → ℕ → Bool) (s : State) (out : List ℕ) (q u : Run RvState) (at : s.at ≡ i) (st : Stands (rv_processor code trash) c live s out q (live_before n S))
+    (live : Frame → ℕ → Bool) (s : State) (out : List ℕ) (q u : Run CpuState) (at : s.at ≡ i) (st : Stands (rv_processor code trash) c live s out q (live_before n S))
     (args : List ℕ) (few-args : length args ≤ 16) (held : HoldsArguments Riscv64 q.state.registers args) (stacked : HasArguments Riscv64 q.state.bytes (lowest s.frame) args) (m : ℕ) (pass : Passes (rv_processor code trash) c i m q u) (few : m < 64)
     (kept : (r : ℕ) → r ≢ 1 → u.state.registers r ≡ q.state.registers r) (bytes : u.state.bytes ≡ q.state.bytes) (mark : u.state.mark ≡ q.state.mark) (link : u.state.registers 1 ≡ c.place (i + 1)) (name : HostName)
     (entry : host_by_address u.state.pc ≡ Some name) (low-pc : u.state.pc < 2 ^ 64) (runs : status_of u.progress ≡ Running) (steps : step c.nodes c.shape c.addresses s ≡ call_host s args name) where
@@ -144,7 +145,7 @@ module _ (code : List ℕ) (trash : ℕ) (c : Code) (i : ℕ) (n : Node) (S : �
       ∙ ap (λ xs. host_effect (host_of name xs true m2) trash u.state) (sym words.1)
       ∙ ap (λ x. host_effect x trash u.state) (host_of-kept name args words.0 s.variadic m1 m2 larger (subst IsDefined (sym e) defined) ∙ e)
 
-  stepped : (e : Effect RvState) → effect code trash u.state ≡ e → (rv_processor code trash).machine.step u ≡ after u e
+  stepped : (e : Effect CpuState) → effect code trash u.state ≡ e → (rv_processor code trash).machine.step u ≡ after u e
   stepped e h = went u (effect code trash u.state) runs ∙ ap (after u) h
 
   -- the step of the node leads there
@@ -160,7 +161,7 @@ module _ (code : List ℕ) (trash : ℕ) (c : Code) (i : ℕ) (n : Node) (S : �
     abbrev s' : State
     s' = answered s v (over d s.mem) to
 
-    abbrev u' : Run RvState
+    abbrev u' : Run CpuState
     u' = after u (host_effect (Gives v d to xs) trash u.state)
 
     goes' : step c.nodes c.shape c.addresses s ≡ Goes s' xs

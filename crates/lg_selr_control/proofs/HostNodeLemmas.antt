@@ -12,7 +12,8 @@ use Rattle.lg_op.specs.declared.node.Node.{Node}
 use Rattle.lg_base.specs.declared.fault.FaultKind.TheVariants.{Align}
 use Rattle.lg_cpu.specs.Steps.{Run, after, arrived, faults, status_of}
 use Rattle.lg_cpu.specs.HostSteps.{put}
-use Rattle.lg_cpu.specs.RvStep.{RvState, goes, sets, jump_to}
+use Rattle.lg_cpu.specs.States.{CpuState}
+use Rattle.lg_cpu.specs.RvStep.{goes, sets, jump_to}
 use Rattle.lg_meaning.specs.States.{Frame, State}
 use Rattle.lg_meaning.specs.Steps.{call_host}
 use Rattle.lg_meaning.specs.Steps.{Undefined as NoStep}
@@ -77,7 +78,7 @@ is-entry host.Strcmp = record { even = refl; found = refl; small = (omega arith,
 
 module _ (code : List ℕ) (trash : ℕ) (c : Code) (i : ℕ) (n : Node) (name : HostName) (S : ℕ → Bool) (w : HasPlaces c) (t : IsInText c i n) (k : StandsInCode code trash c i (host_code name)) (inside : is_inside c i ≡ true) (next : is_inside c (i + 1) ≡ true)
     (calls : is_call n.op ≡ true) (unwritten : (v : ℕ) → v < 3 → numbered (is_written n) (v + 3) ≡ false)
-    (live : Frame → ℕ → Bool) (s : State) (out : List ℕ) (q : Run RvState) (at : s.at ≡ i) (st : Stands (rv_processor code trash) c live s out q (live_before n S))
+    (live : Frame → ℕ → Bool) (s : State) (out : List ℕ) (q : Run CpuState) (at : s.at ≡ i) (st : Stands (rv_processor code trash) c live s out q (live_before n S))
     (args : List ℕ) (few-args : length args ≤ 16) (held : HoldsArguments Riscv64 q.state.registers args) (stacked : HasArguments Riscv64 q.state.bytes (lowest s.frame) args) where
   abbrev a : ℕ
   a = host_address name
@@ -88,13 +89,13 @@ module _ (code : List ℕ) (trash : ℕ) (c : Code) (i : ℕ) (n : Node) (name :
   abbrev v1 : ℕ
   v1 = sign_32 (high_part a * 4096)
 
-  abbrev q1 : Run RvState
+  abbrev q1 : Run CpuState
   q1 = after q (sets q.state 1 v1)
 
   a1 : RunsAt (c.place i) 2 1 q1
   a1 = next-at (c.place i) 2 0 q _ _ _ (omega arith) begins
 
-  abbrev u : Run RvState
+  abbrev u : Run CpuState
   u = after q1 (goes a (put q1.state.registers 1 (add_words q1.state.pc 4)) q1.state.bytes q1.state.mark)
 
   chain : Chain (host_code name) q u

@@ -16,7 +16,8 @@ use Rattle.lg_rv.specs.declared.instruction.Instr.TheVariants as instr
 use Rattle.lg_base.specs.declared.fault.FaultKind.TheVariants.{Align}
 use Rattle.lg_cpu.specs.Steps.{after, faults, Effect}
 use Rattle.lg_cpu.specs.HostSteps.{put}
-use Rattle.lg_cpu.specs.RvStep.{RvState, goes, jump_to, act}
+use Rattle.lg_cpu.specs.States.{CpuState}
+use Rattle.lg_cpu.specs.RvStep.{goes, jump_to, act}
 use Rattle.lg_meaning.specs.States.{State}
 use Rattle.lg_meaning.specs.Steps.{Goes, to, node_in}
 use Rattle.lg_meaning.specs.Texts.{text, step_at, step}
@@ -40,7 +41,7 @@ pub aligned-there : (to : ℕ) → to % 4 ≡ 0 → (to % 4 == 0) ≡ true
 aligned-there to h = rw h refl
 
 -- a jump to a place of the code
-pub jumps-there : (q : RvState) (rd to : ℕ) → q.pc < 2 ^ 62 → to < 2 ^ 62 → to % 4 ≡ 0 → act (instr.Jal rd (pos to -ℤ pos q.pc)) q ≡ goes to (put q.registers rd (add_words q.pc 4)) q.bytes q.mark
+pub jumps-there : (q : CpuState) (rd to : ℕ) → q.pc < 2 ^ 62 → to < 2 ^ 62 → to % 4 ≡ 0 → act (instr.Jal rd (pos to -ℤ pos q.pc)) q ≡ goes to (put q.registers rd (add_words q.pc 4)) q.bytes q.mark
 jumps-there q rd to h k at = ap (jump_to q rd) (distance-leads q.pc to h k) ∙ ap (λ b. if b then goes to (put q.registers rd (add_words q.pc 4)) q.bytes q.mark else faults q Align) (aligned-there to at)
 
 -- ---- where a label is bound
@@ -89,7 +90,7 @@ module _ (code : List ℕ) (trash : ℕ) (c : Code) (i : ℕ) (l : Label) (line 
       let there-high = w.high u.at (omega (arith, fits.inside)) in
       let here : q.state.pc ≡ c.place i = st.state.here ∙ ap c.place at in
       let target : slice_index c.addresses l.0 ≡ c.place u.at = w.bound l.0 lands.node (bound-at c.nodes.places l (place.Node lands.node) lands.place) in
-      let e : Effect RvState = goes (c.place u.at) (put q.state.registers 0 (add_words q.state.pc 4)) q.state.bytes q.state.mark in
+      let e : Effect CpuState = goes (c.place u.at) (put q.state.registers 0 (add_words q.state.pc 4)) q.state.bytes q.state.mark in
       let does : act (instr.Jal 0 (pos (slice_index c.addresses l.0) -ℤ pos (c.place i))) q.state ≡ e =
       ap (λ p. act (instr.Jal 0 (pos (slice_index c.addresses l.0) -ℤ pos p)) q.state) (sym here)
       ∙ ap (λ p. act (instr.Jal 0 (pos p -ℤ pos q.state.pc)) q.state) target

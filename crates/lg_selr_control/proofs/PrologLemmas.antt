@@ -16,7 +16,8 @@ use Rattle.lg_rv.specs.declared.instruction.ImmOp.TheVariants.{Addi, Addiw}
 use Rattle.lg_rv.specs.declared.instruction.RegOp.TheVariants.{Sub}
 use Rattle.lg_rv.specs.declared.instruction.UpperOp.TheVariants.{Lui}
 use Rattle.lg_cpu.specs.Steps.{Run, after}
-use Rattle.lg_cpu.specs.RvStep.{RvState, sets}
+use Rattle.lg_cpu.specs.States.{CpuState}
+use Rattle.lg_cpu.specs.RvStep.{sets}
 use Rattle.lg_meaning.specs.States.{Frame, State}
 use Rattle.lg_meaning.specs.Steps.{Goes, on, begun, need, quiet, function_here}
 use Rattle.lg_meaning.specs.Texts.{text, step_at, step}
@@ -72,7 +73,7 @@ few-falls size = by (nat_le size 2048)
     by false = omega arith
 
 module _ (code : List ℕ) (trash : ℕ) (c : Code) (i line : ℕ) (f : Function) (S : ℕ → Bool) (w : HasPlaces c) (t : IsInText c i (prolog_node line)) (here : function_here c.shape.functions i ≡ Some f) (k : StandsInCode code trash c i (prolog_code (frame_of f)))
-    (live : Frame → ℕ → Bool) (s : State) (out : List ℕ) (q : Run RvState) (at : s.at ≡ i) (st : Stands (rv_processor code trash) c live s out q (live_before (prolog_node line) S)) where
+    (live : Frame → ℕ → Bool) (s : State) (out : List ℕ) (q : Run CpuState) (at : s.at ≡ i) (st : Stands (rv_processor code trash) c live s out q (live_before (prolog_node line) S)) where
   abbrev n : Node
   n = prolog_node line
 
@@ -110,7 +111,7 @@ module _ (code : List ℕ) (trash : ℕ) (c : Code) (i line : ℕ) (f : Function
   begins = begins-at code trash c i n (prolog_code size) q w t k st.runs (st.state.here ∙ ap c.place at)
 
   -- the stores
-  abbrev q1 : Run RvState
+  abbrev q1 : Run CpuState
   q1 = run_stored q sp stored_registers 0
 
   regs1 : q1.state.registers ≡ q.state.registers
@@ -120,7 +121,7 @@ module _ (code : List ℕ) (trash : ℕ) (c : Code) (i line : ℕ) (f : Function
   a1 = stored-at sp low high.1 high.0 stored_registers 0 (c.place i) (length (prolog_code size)) 0 q (omega arith) begins
 
   -- FP
-  abbrev q2 : Run RvState
+  abbrev q2 : Run CpuState
   q2 = after q1 (sets q1.state 8 (add_words (q1.state.registers 2) (word_of (negsuc 15))))
 
   a2 : RunsAt (c.place i) (length (prolog_code size)) 14 q2
@@ -138,7 +139,7 @@ module _ (code : List ℕ) (trash : ℕ) (c : Code) (i line : ℕ) (f : Function
   fall : Falls (fall_code size) (c.place i) (length (prolog_code size)) 14 size q2
   fall = falls (c.place i) (length (prolog_code size)) 14 size q2 a2 (omega (arith, size-few)) (omega (arith, room, high.1)) (omega (arith, stack2, room)) (omega (arith, stack2, high.1)) (omega arith)
 
-  abbrev u : Run RvState
+  abbrev u : Run CpuState
   u = fall.end
 
   chain : Chain (prolog_code size) q u

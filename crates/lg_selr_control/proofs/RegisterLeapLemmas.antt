@@ -17,7 +17,8 @@ use Rattle.lg_rv.specs.declared.instruction.Instr.TheVariants as instr
 use Rattle.lg_rv.specs.declared.instruction.ImmOp.TheVariants.{Jalr}
 use Rattle.lg_cpu.specs.Steps.{Run, Effect, after, arrived, status_of}
 use Rattle.lg_cpu.specs.HostSteps.{put}
-use Rattle.lg_cpu.specs.RvStep.{RvState, goes, act}
+use Rattle.lg_cpu.specs.States.{CpuState}
+use Rattle.lg_cpu.specs.RvStep.{goes, act}
 use Rattle.lg_meaning.specs.States.{Frame, State, reg, number}
 use Rattle.lg_meaning.specs.Steps.{Goes, Undefined, need, to, quiet, is_target, jump_target, is_entry_label, entry_target, call_named, call_word, call_node as call_node_step, call_host}
 use Rattle.lg_meaning.specs.Texts.{text, step_at, step}
@@ -54,9 +55,9 @@ even-of : (a : ℕ) → (a % 4 == 0) ≡ true → a % 4 ≡ 0
 even-of a h = grind (arith, h)
 
 module _ (code : List ℕ) (trash : ℕ) (c : Code) (i : ℕ) (n : Node) (a : Reg) (rd : ℕ) (S : ℕ → Bool) (w : HasPlaces c) (t : IsInText c i n) (k : StandsInCode code trash c i (register_leap_code rd a)) (inside : is_inside c i ≡ true)
-    (reads : a ≢ Fp → live_before n S (number a) ≡ true) (live : Frame → ℕ → Bool) (s : State) (out : List ℕ) (q : Run RvState) (at : s.at ≡ i) (st : Stands (rv_processor code trash) c live s out q (live_before n S)) (x : ℕ) (ex : reg s a ≡ Some x)
+    (reads : a ≢ Fp → live_before n S (number a) ≡ true) (live : Frame → ℕ → Bool) (s : State) (out : List ℕ) (q : Run CpuState) (at : s.at ≡ i) (st : Stands (rv_processor code trash) c live s out q (live_before n S)) (x : ℕ) (ex : reg s a ≡ Some x)
     (near : x < 2 ^ 62) (even : x % 4 ≡ 0) where
-  abbrev e : Effect RvState
+  abbrev e : Effect CpuState
   e = goes x (put q.state.registers rd (add_words q.state.pc 4)) q.state.bytes q.state.mark
 
   leap-here : q.state.pc ≡ c.place i
@@ -139,7 +140,7 @@ register-jumps-carry code trash c i a line S w t k = jump-carried code trash c i
 -- ---- calls
 module _ (code : List ℕ) (trash : ℕ) (c : Code) (i : ℕ) (n : Node) (a : Reg) (S : ℕ → Bool) (w : HasPlaces c) (t : IsInText c i n) (k : StandsInCode code trash c i (register_leap_code 1 a)) (inside : is_inside c i ≡ true) (next : is_inside c (i + 1) ≡ true)
     (calls : is_call n.op ≡ true) (unwritten-saved : (v : ℕ) → v < 3 → numbered (is_written n) (v + 3) ≡ false) (reads : a ≢ Fp → live_before n S (number a) ≡ true)
-    (live : Frame → ℕ → Bool) (returns : ReturnsTo live n i S) (s : State) (out : List ℕ) (q : Run RvState) (at : s.at ≡ i) (st : Stands (rv_processor code trash) c live s out q (live_before n S))
+    (live : Frame → ℕ → Bool) (returns : ReturnsTo live n i S) (s : State) (out : List ℕ) (q : Run CpuState) (at : s.at ≡ i) (st : Stands (rv_processor code trash) c live s out q (live_before n S))
     (args : List ℕ) (few-args : length args ≤ 16) (held : HoldsArguments Riscv64 q.state.registers args) (stacked : HasArguments Riscv64 q.state.bytes (lowest s.frame) args) where
   abbrev Carried : Type 0
   Carried = (step c.nodes c.shape c.addresses s ≡ Undefined) ⊎ Leads (rv_processor code trash) c live (live_behind live n S s) i (step c.nodes c.shape c.addresses s) out q

@@ -13,7 +13,8 @@ use Rattle.lg_rv.specs.declared.instruction.Instr.TheVariants as instr
 use Rattle.lg_rv.specs.declared.instruction.ImmOp.TheVariants.{Addi}
 use Rattle.lg_rv.specs.declared.instruction.UpperOp.TheVariants.{Lui}
 use Rattle.lg_cpu.specs.Steps.{Run}
-use Rattle.lg_cpu.specs.RvStep.{RvState, read}
+use Rattle.lg_cpu.specs.States.{CpuState}
+use Rattle.lg_cpu.specs.RvStep.{read}
 use Rattle.lg_meaning.specs.States.{Frame, State, reg, number}
 use Rattle.lg_meaning.specs.Steps.{Undefined, need, leave}
 use Rattle.lg_meaning.specs.Texts.{text, step_at, step}
@@ -40,7 +41,7 @@ use Rattle.lg_selr_control.proofs.WordLemmas.{put-same}
 -- a return with a word, which computing instructions in front put into x10
 module _ (code : List ℕ) (trash : ℕ) (c : Code) (i : ℕ) (n : Node) (S : ℕ → Bool) (front : List Instr) (w : HasPlaces c) (t : IsInText c i n) (k : StandsInCode code trash c i (front ++ return_code)) (few : length front ≤ 57) (all : all_compute front ≡ true)
     (is : is_return n.op ≡ true) (inside : is_inside c i ≡ true) where
-  pub result-returned : (live : Frame → ℕ → Bool) (s : State) (out : List ℕ) (q : Run RvState) (x : ℕ) → s.at ≡ i → Stands (rv_processor code trash) c live s out q (live_before n S) → step c.nodes c.shape c.addresses s ≡ leave s (Some x)
+  pub result-returned : (live : Frame → ℕ → Bool) (s : State) (out : List ℕ) (q : Run CpuState) (x : ℕ) → s.at ≡ i → Stands (rv_processor code trash) c live s out q (live_before n S) → step c.nodes c.shape c.addresses s ≡ leave s (Some x)
       → computed front q.state.registers 10 ≡ x → computed front q.state.registers 8 ≡ q.state.registers 8 → Leads (rv_processor code trash) c live (live_behind live n S s) i (step c.nodes c.shape c.addresses s) out q
   result-returned live s out q x at st steps held kept =
       let size : length (front ++ return_code) ≡ length front + 7 = length-append front return_code in

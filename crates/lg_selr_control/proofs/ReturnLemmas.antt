@@ -20,7 +20,8 @@ use Rattle.lg_rv.specs.declared.instruction.ImmOp.TheVariants.{Ld, Addi, Jalr}
 use Rattle.lg_base.specs.declared.fault.FaultKind.TheVariants.{Align}
 use Rattle.lg_cpu.specs.Steps.{Run, after, arrived, faults, status_of}
 use Rattle.lg_cpu.specs.HostSteps.{put}
-use Rattle.lg_cpu.specs.RvStep.{RvState, read, goes, sets, loads, load_at, jump_to, act}
+use Rattle.lg_cpu.specs.States.{CpuState}
+use Rattle.lg_cpu.specs.RvStep.{read, goes, sets, loads, load_at, jump_to, act}
 use Rattle.lg_meaning.specs.States.{Frame, State}
 use Rattle.lg_meaning.specs.Fits.{AreLinked}
 use Rattle.lg_meaning.specs.Steps.{Goes, leave, back_to, node_step}
@@ -62,7 +63,7 @@ pub aligned-load : (a : ℕ) → a % 8 ≡ 0 → (a % 8 == 0) ≡ true
 aligned-load a h = rw h refl
 
 -- a load by FP
-pub load-act : (q : RvState) (rd base address w : ℕ) (offset : ℤ) → read q.registers 8 ≡ base → add_words base (word_of offset) ≡ address → address % 8 ≡ 0 → HasWord q.bytes address w → act (instr.Imm Ld rd 8 offset) q ≡ sets q rd w
+pub load-act : (q : CpuState) (rd base address w : ℕ) (offset : ℤ) → read q.registers 8 ≡ base → add_words base (word_of offset) ≡ address → address % 8 ≡ 0 → HasWord q.bytes address w → act (instr.Imm Ld rd 8 offset) q ≡ sets q rd w
 load-act q rd base address w offset at e even held =
     ap (λ x. load_at q rd (add_words x (word_of offset)) 8 false) at ∙ ap (λ x. load_at q rd x 8 false) e ∙ ap (λ b. if b then loads q rd 8 false (loaded q.bytes address 8) else faults q Align) (aligned-load address even) ∙ ap (loads q rd 8 false) held
 
@@ -82,7 +83,7 @@ pointer-address sp low high = grind (arith, low, high)
 pub even-there : (to : ℕ) → to < 2 ^ 62 → to % 4 ≡ 0 → add_words to 0 / 2 * 2 ≡ to
 even-there to lt even = grind (arith, lt, even)
 
-pub lands-there : (q : RvState) (rd base to : ℕ) → read q.registers base ≡ to → to < 2 ^ 62 → to % 4 ≡ 0 → act (instr.Imm Jalr rd base (pos 0)) q ≡ goes to (put q.registers rd (add_words q.pc 4)) q.bytes q.mark
+pub lands-there : (q : CpuState) (rd base to : ℕ) → read q.registers base ≡ to → to < 2 ^ 62 → to % 4 ≡ 0 → act (instr.Imm Jalr rd base (pos 0)) q ≡ goes to (put q.registers rd (add_words q.pc 4)) q.bytes q.mark
 lands-there q rd base to at lt even =
     ap (λ x. jump_to q rd (add_words x 0 / 2 * 2)) at ∙ ap (jump_to q rd) (even-there to lt even) ∙ ap (λ b. if b then goes to (put q.registers rd (add_words q.pc 4)) q.bytes q.mark else faults q Align) (let e : (to % 4 == 0) ≡ true = rw even refl in e)
 
@@ -91,7 +92,7 @@ abbrev six : List Instr
 six = instr.Imm Ld 9 8 (negsuc 7) ∷ instr.Imm Ld 18 8 (negsuc 15) ∷ instr.Imm Ld 19 8 (negsuc 23) ∷ instr.Imm Ld 1 8 (pos 8) ∷ instr.Imm Addi 2 8 (pos 16) ∷ instr.Imm Ld 8 8 (pos 0) ∷ []
 
 -- ---- the instructions of a return, from a run in a frame
-module _ (base n k : ℕ) (q : Run RvState) (sp back : ℕ) (low : 0x3FF00010 + 272 ≤ sp) (high : sp ≤ 0x40000000) (even : sp % 16 ≡ 0) (at : RunsAt base n k q) (room : k + 7 ≤ n)
+module _ (base n k : ℕ) (q : Run CpuState) (sp back : ℕ) (low : 0x3FF00010 + 272 ≤ sp) (high : sp ≤ 0x40000000) (even : sp % 16 ≡ 0) (at : RunsAt base n k q) (room : k + 7 ≤ n)
     (pointer : q.state.registers 8 ≡ sp - 16) (seen : (j : ℕ) → within stack_base 0x100000 j ≡ true → is_some (q.state.bytes j) ≡ true) (held : HasWord q.state.bytes (return_word sp) back) (near : back < 2 ^ 62) (aligned : back % 4 ≡ 0) where
   abbrev m : ℕ → Option ℕ
   m = q.state.bytes
@@ -99,26 +100,26 @@ module _ (base n k : ℕ) (q : Run RvState) (sp back : ℕ) (low : 0x3FF00010 + 
   abbrev fp : ℕ
   fp = sp - 16
 
-  abbrev s1 : Run RvState
+  abbrev s1 : Run CpuState
   s1 = after q (sets q.state 9 (word_at m (saved_word fp 0)))
 
-  abbrev s2 : Run RvState
+  abbrev s2 : Run CpuState
   s2 = after s1 (sets s1.state 18 (word_at m (saved_word fp 1)))
 
-  abbrev s3 : Run RvState
+  abbrev s3 : Run CpuState
   s3 = after s2 (sets s2.state 19 (word_at m (saved_word fp 2)))
 
-  abbrev s4 : Run RvState
+  abbrev s4 : Run CpuState
   s4 = after s3 (sets s3.state 1 back)
 
-  abbrev s5 : Run RvState
+  abbrev s5 : Run CpuState
   s5 = after s4 (sets s4.state 2 sp)
 
-  abbrev s6 : Run RvState
+  abbrev s6 : Run CpuState
   s6 = after s5 (sets s5.state 8 (word_at m fp))
 
   -- the run behind the return
-  abbrev pub left : Run RvState
+  abbrev pub left : Run CpuState
   left = after s6 (goes back (put s6.state.registers 0 (add_words s6.state.pc 4)) m q.state.mark)
 
   a1 : RunsAt base n (suc k) s1
@@ -155,7 +156,7 @@ module _ (base n k : ℕ) (q : Run RvState) (sp back : ℕ) (low : 0x3FF00010 + 
 
 -- ---- a node that returns
 -- what the instructions in front of a return make of a run: the result is in its register
-pub record Returning (code : List ℕ) (trash : ℕ) (c : Code) (i : ℕ) (front : List Instr) (v : Option ℕ) (q r : Run RvState) : Type 0 where
+pub record Returning (code : List ℕ) (trash : ℕ) (c : Code) (i : ℕ) (front : List Instr) (v : Option ℕ) (q r : Run CpuState) : Type 0 where
   pub passes : Passes (rv_processor code trash) c i (length front) q r
   pub at : RunsAt (c.place i) (length front + 7) (length front) r
   pub pointer : r.state.registers 8 ≡ q.state.registers 8
@@ -168,7 +169,7 @@ inner-home None k e = cc
 inner-home (Some p) k e = (p, refl)
 
 module _ (code : List ℕ) (trash : ℕ) (c : Code) (i : ℕ) (n : Node) (front : List Instr) (S S' : ℕ → Bool) (w : HasPlaces c) (t : IsInText c i n) (k : StandsInCode code trash c i (front ++ return_code)) (few : length front ≤ 57)
-    (is : is_return n.op ≡ true) (inside : is_inside c i ≡ true) (live : Frame → ℕ → Bool) (s : State) (out : List ℕ) (q r : Run RvState) (v : Option ℕ) (at : s.at ≡ i) (st : Stands (rv_processor code trash) c live s out q S)
+    (is : is_return n.op ≡ true) (inside : is_inside c i ≡ true) (live : Frame → ℕ → Bool) (s : State) (out : List ℕ) (q r : Run CpuState) (v : Option ℕ) (at : s.at ≡ i) (st : Stands (rv_processor code trash) c live s out q S)
     (steps : step c.nodes c.shape c.addresses s ≡ leave s v) (h : Returning code trash c i front v q r) where
   abbrev sp : ℕ
   sp = s.frame.sp
@@ -206,7 +207,7 @@ module _ (code : List ℕ) (trash : ℕ) (c : Code) (i : ℕ) (n : Node) (front 
   there : (j : ℕ) → within stack_base 0x100000 j ≡ true → is_some (r.state.bytes j) ≡ true
   there j e = ap (λ m. is_some (m j)) h.bytes ∙ st.state.seen.stack j e
 
-  abbrev u : Run RvState
+  abbrev u : Run CpuState
   u = left (c.place i) (length front + 7) (length front) r sp back low high.1 high.0 h.at (omega arith) (h.pointer ∙ frame.pointer) there (subst (λ m. HasWord m (return_word sp) back) (sym h.bytes) frame.words.back) (back-place s.callers refl).0 (back-place s.callers refl).1
 
   pass : Passes (rv_processor code trash) c i (length front + 7) q u

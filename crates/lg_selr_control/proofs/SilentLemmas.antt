@@ -10,7 +10,7 @@ use Rattle.lg_node.specs.Functions.{is_prolog, is_epilog}
 use Rattle.lg_node.specs.Checks.{is_begun, may_stand_outside, breaks_preparation}
 use Rattle.lg_node.specs.Preparations.{prepared_before, pushed_of}
 use Rattle.lg_cpu.specs.Steps.{Run}
-use Rattle.lg_cpu.specs.RvStep.{RvState}
+use Rattle.lg_cpu.specs.States.{CpuState}
 use Rattle.lg_meaning.specs.States.{Frame, State}
 use Rattle.lg_meaning.specs.Steps.{Goes, on, node_step}
 use Rattle.lg_meaning.specs.Texts.{text, step_at, step}
@@ -67,7 +67,7 @@ nothing (x ∷ xs) e = absurd (omega (arith, e))
 
 module _ (code : List ℕ) (trash : ℕ) (c : Code) (i : ℕ) (n : Node) (S : ℕ → Bool) (t : IsInText c i n) (k : StandsInCode code trash c i []) (is : IsSilent n) where
   -- at a `prepare` nothing is pushed
-  unpushed : (s : State) (live : Frame → ℕ → Bool) (q : Run RvState) (out : List ℕ) → s.at ≡ i → Stands (rv_processor code trash) c live s out q (live_before n S) → breaks_preparation n.op ≡ true → [] ≡ s.pushed
+  unpushed : (s : State) (live : Frame → ℕ → Bool) (q : Run CpuState) (out : List ℕ) → s.at ≡ i → Stands (rv_processor code trash) c live s out q (live_before n S) → breaks_preparation n.op ≡ true → [] ≡ s.pushed
   unpushed s live q out at st breaks =
       let none : prepared_before c.nodes.nodes i ≡ None = t.well.unprepared i n t.here (rw breaks refl) in
       nothing s.pushed (st.state.fits.pushed ∙ ap (λ j. pushed_of (prepared_before c.nodes.nodes j)) at ∙ ap pushed_of none)

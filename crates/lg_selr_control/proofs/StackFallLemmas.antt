@@ -10,7 +10,8 @@ use Rattle.lg_rv.specs.declared.instruction.RegOp.TheVariants.{Sub}
 use Rattle.lg_rv.specs.declared.instruction.UpperOp.TheVariants.{Lui}
 use Rattle.lg_cpu.specs.Steps.{Run, after}
 use Rattle.lg_cpu.specs.HostSteps.{put}
-use Rattle.lg_cpu.specs.RvStep.{RvState, sets}
+use Rattle.lg_cpu.specs.States.{CpuState}
+use Rattle.lg_cpu.specs.RvStep.{sets}
 use Rattle.lg_carry_rv.specs.Numbers.{high_part, low_part}
 use Rattle.lg_selr_control.specs.Prologs.{fall_code}
 use Rattle.lg_selr_control.proofs.ChainLemmas.{RunsAt, next-at, Chain, chain-end, chain-more}
@@ -18,8 +19,8 @@ use Rattle.lg_selr_control.proofs.WordLemmas.{put-other, number-made}
 
 -- ---- the stack pointer falls
 -- a run in which so many instructions made the stack pointer fall
-pub record Falls (is : List Instr) (base n k size : ℕ) (q : Run RvState) : Type 0 where
-  pub end : Run RvState
+pub record Falls (is : List Instr) (base n k size : ℕ) (q : Run CpuState) : Type 0 where
+  pub end : Run CpuState
   pub chain : Chain is q end
   pub at : RunsAt base n (k + length is) end
   pub stack : end.state.registers 2 ≡ q.state.registers 2 - size
@@ -36,7 +37,7 @@ differs sp size room high = grind (arith, room, high)
 near-word : (size : ℕ) → size ≤ 0x100000 → (size + 2 ^ 31) % 2 ^ 64 < 2 ^ 32
 near-word size h = grind (arith, h)
 
-module _ (base n k size : ℕ) (q : Run RvState) (at : RunsAt base n k q) (few : 16 ≤ size) (many : size ≤ 0x100000) (room : size ≤ q.state.registers 2) (high : q.state.registers 2 ≤ 0x40000000) where
+module _ (base n k size : ℕ) (q : Run CpuState) (at : RunsAt base n k q) (few : 16 ≤ size) (many : size ≤ 0x100000) (room : size ≤ q.state.registers 2) (high : q.state.registers 2 ≤ 0x40000000) where
   short : k + 1 ≤ n → Falls (instr.Imm Addi 2 2 (negsuc (size - 1)) ∷ []) base n k size q
   short le =
       let end = after q (sets q.state 2 (add_words (q.state.registers 2) (word_of (negsuc (size - 1))))) in

@@ -10,7 +10,8 @@ use Rattle.lg_node.specs.Checks.{is_begun, may_stand_outside}
 use Rattle.lg_rv.specs.declared.instruction.Instr.{Instr}
 use Rattle.lg_rv.specs.Spelling.{spelling, IsInstr}
 use Rattle.lg_cpu.specs.Steps.{Run, after}
-use Rattle.lg_cpu.specs.RvStep.{RvState, act}
+use Rattle.lg_cpu.specs.States.{CpuState}
+use Rattle.lg_cpu.specs.RvStep.{act}
 use Rattle.lg_meaning.specs.States.{State}
 use Rattle.lg_meaning.specs.Steps.{Goes}
 use Rattle.lg_meaning.specs.Texts.{step}
@@ -66,18 +67,18 @@ spelled-size (i ∷ is) = let e = length-append (spelling i) (spellings spelling
 
 module _ (code : List ℕ) (trash : ℕ) (c : Code) (i : ℕ) where
   -- an instruction of the node is passed
-  pub one-passes : (front : List Instr) (x : Instr) (back : List Instr) (q : Run RvState) → StandsInCode code trash c i (front ++ (x ∷ [] ++ back)) → (rv_processor code trash).machine.status q ≡ Running
+  pub one-passes : (front : List Instr) (x : Instr) (back : List Instr) (q : Run CpuState) → StandsInCode code trash c i (front ++ (x ∷ [] ++ back)) → (rv_processor code trash).machine.status q ≡ Running
       → q.state.pc ≡ c.place i + 4 * length front → Passes (rv_processor code trash) c i 1 q (after q (act x q.state))
   one-passes front x back q k runs at =
       let size = spelled-size front in
       subst (λ u. Passes (rv_processor code trash) c i 1 q u) (went q (act x q.state) runs)
       (parts-pass (rv_rows code trash) IsInstr (are-rows code trash k.small k.bytes k.word) c i front (x ∷ []) back q k.node (omega (arith, at, size)) tt (runs, tt))
 
-  pub then-passes : (m n : ℕ) (q u v : Run RvState) → Passes (rv_processor code trash) c i m q u → Passes (rv_processor code trash) c i n u v → Passes (rv_processor code trash) c i (m + n) q v
+  pub then-passes : (m n : ℕ) (q u v : Run CpuState) → Passes (rv_processor code trash) c i m q u → Passes (rv_processor code trash) c i n u v → Passes (rv_processor code trash) c i (m + n) q v
   then-passes m n q u v h k = passages-join (rv_processor code trash) c i m n q u v h k
 
   -- no instruction leads nowhere
-  pub none-passed : (q : Run RvState) → Passes (rv_processor code trash) c i 0 q q
+  pub none-passed : (q : Run CpuState) → Passes (rv_processor code trash) c i 0 q q
   none-passed q = record {
     leads = iter-zero (rv_processor code trash).machine.step q;
     inside = λ j lt. absurd (omega (arith, lt));

@@ -12,7 +12,8 @@ use Rattle.lg_rv.specs.declared.instruction.Instr.{Instr}
 use Rattle.lg_rv.specs.declared.instruction.Instr.TheVariants as instr
 use Rattle.lg_rv.specs.declared.instruction.StoreOp.TheVariants.{Sd}
 use Rattle.lg_cpu.specs.Steps.{Run, after}
-use Rattle.lg_cpu.specs.RvStep.{RvState, read, goes, act}
+use Rattle.lg_cpu.specs.States.{CpuState}
+use Rattle.lg_cpu.specs.RvStep.{read, goes, act}
 use Rattle.lg_carry.specs.Registers.{HasWord}
 use Rattle.lg_carry.proofs.SpillLemmas.{stored-there}
 use Rattle.lg_carry.proofs.WordLemmas.{word-kept}
@@ -29,10 +30,10 @@ with_stored m w sp [] k = m
 with_stored m w sp (r ∷ rs) k = with_stored (stored m (word_below sp k) 8 (w r)) w sp rs (suc k)
 
 -- and the run behind that
-abbrev pub store_one : Run RvState → ℕ → ℕ → ℕ → Run RvState
+abbrev pub store_one : Run CpuState → ℕ → ℕ → ℕ → Run CpuState
 store_one q sp r k = after q (goes (add_words q.state.pc 4) q.state.registers (stored q.state.bytes (word_below sp k) 8 (q.state.registers r)) q.state.mark)
 
-abbrev pub run_stored : Run RvState → ℕ → List ℕ → ℕ → Run RvState
+abbrev pub run_stored : Run CpuState → ℕ → List ℕ → ℕ → Run CpuState
 run_stored q sp [] k = q
 run_stored q sp (r ∷ rs) k = run_stored (store_one q sp r k) sp rs (suc k)
 
@@ -54,7 +55,7 @@ in-stack : (sp k j : ℕ) → k < 13 → 0x3FF00010 + 272 ≤ sp → sp ≤ 0x40
 in-stack sp k j few low high le lt = grind (arith, few, low, high, le, lt)
 
 module _ (sp : ℕ) (low : 0x3FF00010 + 272 ≤ sp) (high : sp ≤ 0x40000000) (even : sp % 16 ≡ 0) where
-  store-act : (q : RvState) (r k : ℕ) → k < 13 → (r == 0) ≡ false → q.registers 2 ≡ sp → ((j : ℕ) → within stack_base 0x100000 j ≡ true → is_some (q.bytes j) ≡ true)
+  store-act : (q : CpuState) (r k : ℕ) → k < 13 → (r == 0) ≡ false → q.registers 2 ≡ sp → ((j : ℕ) → within stack_base 0x100000 j ≡ true → is_some (q.bytes j) ≡ true)
       → act (instr.Store Sd 2 r (negsuc (7 + 8 * k))) q ≡ goes (add_words q.pc 4) q.registers (stored q.bytes (word_below sp k) 8 (q.registers r)) q.mark
   store-act q r k few some at there =
       let address : add_words (q.registers 2) (word_of (negsuc (7 + 8 * k))) ≡ word_below sp k = ap (λ x. add_words x (word_of (negsuc (7 + 8 * k)))) at ∙ address-below sp k few low high in
@@ -63,7 +64,7 @@ module _ (sp : ℕ) (low : 0x3FF00010 + 272 ≤ sp) (high : sp ≤ 0x40000000) (
       let aligned = aligned-below sp k few low even in
       rw (address, value, aligned, is-there) refl
 
-  pub stored-chain : (rs : List ℕ) (k : ℕ) (rest : List Instr) (base n j : ℕ) (q u : Run RvState) → k + length rs ≤ 13 → are_some rs ≡ true → j + length rs ≤ n → RunsAt base n j q → q.state.registers 2 ≡ sp
+  pub stored-chain : (rs : List ℕ) (k : ℕ) (rest : List Instr) (base n j : ℕ) (q u : Run CpuState) → k + length rs ≤ 13 → are_some rs ≡ true → j + length rs ≤ n → RunsAt base n j q → q.state.registers 2 ≡ sp
       → ((a : ℕ) → within stack_base 0x100000 a ≡ true → is_some (q.state.bytes a) ≡ true) → Chain rest (run_stored q sp rs k) u → Chain (stores_below rs k ++ rest) q u
   stored-chain [] k rest base n j q u few some room at two there h = h
   stored-chain (r ∷ rs) k rest base n j q u few some room at two there h =
@@ -72,19 +73,19 @@ module _ (sp : ℕ) (low : 0x3FF00010 + 272 ≤ sp) (high : sp ≤ 0x40000000) (
       (stored-chain rs (suc k) rest base n (suc j) (store_one q sp r k) u (omega (arith, few)) (and_parts (not (r == 0)) (are_some rs) some).1 (omega (arith, room)) (next-at base n j q _ _ _ (omega (arith, room)) at) two
       (λ a w. stored-there q.state.bytes (word_below sp k) 8 (q.state.registers r) a (there a w)) h)
 
-  pub stored-at : (rs : List ℕ) (k base n j : ℕ) (q : Run RvState) → j + length rs ≤ n → RunsAt base n j q → RunsAt base n (j + length rs) (run_stored q sp rs k)
+  pub stored-at : (rs : List ℕ) (k base n j : ℕ) (q : Run CpuState) → j + length rs ≤ n → RunsAt base n j q → RunsAt base n (j + length rs) (run_stored q sp rs k)
   stored-at [] k base n j q room at = subst (λ x. RunsAt base n x q) (omega arith) at
   stored-at (r ∷ rs) k base n j q room at = subst (λ x. RunsAt base n x (run_stored (store_one q sp r k) sp rs (suc k))) (omega arith) (stored-at rs (suc k) base n (suc j) (store_one q sp r k) (omega (arith, room)) (next-at base n j q _ _ _ (omega (arith, room)) at))
 
-  pub stored-registers : (rs : List ℕ) (k : ℕ) (q : Run RvState) → (run_stored q sp rs k).state.registers ≡ q.state.registers
+  pub stored-registers : (rs : List ℕ) (k : ℕ) (q : Run CpuState) → (run_stored q sp rs k).state.registers ≡ q.state.registers
   stored-registers [] k q = refl
   stored-registers (r ∷ rs) k q = stored-registers rs (suc k) (store_one q sp r k)
 
-  pub stored-mark : (rs : List ℕ) (k : ℕ) (q : Run RvState) → (run_stored q sp rs k).state.mark ≡ q.state.mark
+  pub stored-mark : (rs : List ℕ) (k : ℕ) (q : Run CpuState) → (run_stored q sp rs k).state.mark ≡ q.state.mark
   stored-mark [] k q = refl
   stored-mark (r ∷ rs) k q = stored-mark rs (suc k) (store_one q sp r k)
 
-  pub stored-bytes : (rs : List ℕ) (k : ℕ) (q : Run RvState) → (run_stored q sp rs k).state.bytes ≡ with_stored q.state.bytes q.state.registers sp rs k
+  pub stored-bytes : (rs : List ℕ) (k : ℕ) (q : Run CpuState) → (run_stored q sp rs k).state.bytes ≡ with_stored q.state.bytes q.state.registers sp rs k
   stored-bytes [] k q = refl
   stored-bytes (r ∷ rs) k q = stored-bytes rs (suc k) (store_one q sp r k)
 

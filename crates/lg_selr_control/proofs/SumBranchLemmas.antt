@@ -24,7 +24,8 @@ use Rattle.lg_rv.specs.declared.instruction.Instr.{Instr}
 use Rattle.lg_rv.specs.declared.instruction.Instr.TheVariants as instr
 use Rattle.lg_cpu.specs.Steps.{Run}
 use Rattle.lg_cpu.specs.RvOperators.{is_taken}
-use Rattle.lg_cpu.specs.RvStep.{RvState, read}
+use Rattle.lg_cpu.specs.States.{CpuState}
+use Rattle.lg_cpu.specs.RvStep.{read}
 use Rattle.lg_meaning.specs.States.{Frame, State, reg, number}
 use Rattle.lg_meaning.specs.Steps.{Outcome, Goes, Undefined, need, to, with_word, with_reg, node_in, branch, node_of_label}
 use Rattle.lg_meaning.specs.Texts.{text, step_at, step}
@@ -118,7 +119,7 @@ module _ (code : List ℕ) (trash : ℕ) (c : Code) (i : ℕ) (o : BranchSumOp) 
         by true e = absurd (ne (only-number a r e))
         by false e = only-written r ∙ e
 
-    pub sum-leads : (live : Frame → ℕ → Bool) (s : State) (out : List ℕ) (q r : Run RvState) (x y : ℕ) → s.at ≡ i → Stands (rv_processor code trash) c live s out q (live_before n S) → x < 2 ^ 64 → y < 2 ^ 64
+    pub sum-leads : (live : Frame → ℕ → Bool) (s : State) (out : List ℕ) (q r : Run CpuState) (x y : ℕ) → s.at ≡ i → Stands (rv_processor code trash) c live s out q (live_before n S) → x < 2 ^ 64 → y < 2 ^ 64
         → reg s a ≡ Some x → step c.nodes c.shape c.addresses s ≡ Goes (to (with_reg s (operand.Reg a) (branch_sum_value o x y)) (if branch_sum_goes o x y then node_of_label c.nodes.places (operand.Label l) else s.at + 1)) []
         → Prepared code trash c i front (length (front ++ sum-part) + 2) b y q r → Leads (rv_processor code trash) c live (live_behind live n S s) i (step c.nodes c.shape c.addresses s) out q
     sum-leads live s out q r x y at st hx hy ex goes' h =

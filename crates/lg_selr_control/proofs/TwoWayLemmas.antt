@@ -16,7 +16,8 @@ use Rattle.lg_rv.specs.declared.instruction.Instr.TheVariants as instr
 use Rattle.lg_cpu.specs.Steps.{Run, Effect, after, faults, status_of}
 use Rattle.lg_cpu.specs.HostSteps.{put}
 use Rattle.lg_cpu.specs.RvOperators.{is_taken}
-use Rattle.lg_cpu.specs.RvStep.{RvState, read, goes, branch_to, act}
+use Rattle.lg_cpu.specs.States.{CpuState}
+use Rattle.lg_cpu.specs.RvStep.{read, goes, branch_to, act}
 use Rattle.lg_meaning.specs.States.{Frame, State}
 use Rattle.lg_meaning.specs.Steps.{Goes, to}
 use Rattle.lg_meaning.specs.Texts.{step}
@@ -40,8 +41,8 @@ use Rattle.lg_selr_control.proofs.StandingLemmas.{goes-fits, one-passes, then-pa
 use Rattle.lg_selr_control.proofs.WordLemmas.{runs-there, put-other, portable-some, argument-some}
 
 -- steps from q through r in the bytes of node i that lead to the place of a node, and change nothing behind r
-pub record Way (code : List ℕ) (trash : ℕ) (c : Code) (i to : ℕ) (q r : Run RvState) : Type 0 where
-  pub end : Run RvState
+pub record Way (code : List ℕ) (trash : ℕ) (c : Code) (i to : ℕ) (q r : Run CpuState) : Type 0 where
+  pub end : Run CpuState
   pub steps : ℕ
   pub passes : Passes (rv_processor code trash) c i steps q end
   pub few : steps ≤ 64
@@ -56,7 +57,7 @@ eight-on : (pc : ℕ) → pc < 2 ^ 62 → add_words pc 8 ≡ pc + 8
 eight-on pc h = grind (arith, h)
 
 module _ (code : List ℕ) (trash : ℕ) (c : Code) (i : ℕ) (n : Node) (w : HasPlaces c) (t : IsInText c i n) (front : List Instr) (o : BranchOp) (a b : ℕ) (l : Label) (k : StandsInCode code trash c i (jump_unless (slice_index c.addresses) (c.place i) front o a b l))
-    (few : length front ≤ 62) (q r : Run RvState) (pass : Passes (rv_processor code trash) c i (length front) q r) (at : RunsAt (c.place i) (length front + 2) (length front) r) where
+    (few : length front ≤ 62) (q r : Run CpuState) (pass : Passes (rv_processor code trash) c i (length front) q r) (at : RunsAt (c.place i) (length front + 2) (length front) r) where
   abbrev branch : Instr
   branch = instr.Branch o a b (pos 8)
 
@@ -75,7 +76,7 @@ module _ (code : List ℕ) (trash : ℕ) (c : Code) (i : ℕ) (n : Node) (w : Ha
   -- where the branch is taken, the next node follows
   pub skips : taken ≡ true → Way code trash c i (i + 1) q r
   skips h =
-      let e : Effect RvState = goes (c.place (i + 1)) r.state.registers r.state.bytes r.state.mark in
+      let e : Effect CpuState = goes (c.place (i + 1)) r.state.registers r.state.bytes r.state.mark in
       let there : add_words r.state.pc 8 ≡ c.place (i + 1) = eight-on r.state.pc (omega (arith, at.here, at.high)) ∙ sym next-place in
       let even : (c.place (i + 1) % 4 == 0) ≡ true = rw (w.aligned (i + 1) (omega (arith, in-nodes))) refl in
       let does : act branch r.state ≡ e = ap (branch_to r.state (add_words r.state.pc 8)) h ∙ ap (λ p. branch_to r.state p true) there ∙ ap (λ z. if z then goes (c.place (i + 1)) r.state.registers r.state.bytes r.state.mark else faults r.state Align) even in
@@ -97,7 +98,7 @@ module _ (code : List ℕ) (trash : ℕ) (c : Code) (i : ℕ) (n : Node) (w : Ha
   jumps node target within h =
       let r1 = after r (goes (add_words r.state.pc 4) r.state.registers r.state.bytes r.state.mark) in
       let a1 : RunsAt (c.place i) (length front + 2) (suc (length front)) r1 = next-at (c.place i) (length front + 2) (length front) r r.state.registers r.state.bytes r.state.mark (omega arith) at in
-      let e : Effect RvState = goes (c.place node) (put r1.state.registers 0 (add_words r1.state.pc 4)) r1.state.bytes r1.state.mark in
+      let e : Effect CpuState = goes (c.place node) (put r1.state.registers 0 (add_words r1.state.pc 4)) r1.state.bytes r1.state.mark in
       let high = w.high node (omega (arith, within)) in
       let does1 : act branch r.state ≡ goes (add_words r.state.pc 4) r.state.registers r.state.bytes r.state.mark = ap (branch_to r.state (add_words r.state.pc 8)) h in
       let from : c.place i + (4 * length front + 4) ≡ r1.state.pc = omega (arith, a1.here) in

@@ -5,7 +5,8 @@ use Rattle.lg_base.specs.Runs.{Status, Running}
 use Rattle.lg_base.specs.Words.{add_words}
 use Rattle.lg_rv.specs.declared.instruction.Instr.{Instr}
 use Rattle.lg_cpu.specs.Steps.{Run, after, status_of}
-use Rattle.lg_cpu.specs.RvStep.{RvState, goes, act}
+use Rattle.lg_cpu.specs.States.{CpuState}
+use Rattle.lg_cpu.specs.RvStep.{goes, act}
 use Rattle.lg_carry.specs.Blocks.{done, GoesThrough}
 use Rattle.lg_carry_rv.specs.RvRows.{rv_does}
 use Rattle.lg_carry_rv.specs.Computations.{all_compute, computed}
@@ -23,15 +24,15 @@ goes-append does status [] ys q a b = b
 goes-append does status (i ∷ xs) ys q a b = (a.0, goes-append does status xs ys (does i q) a.1 b)
 
 -- what the last one does
-pub record EndsWith (code : List Instr) (x : Instr) (q : Run RvState) (registers : ℕ → ℕ) (bytes : ℕ → Option ℕ) : Type 0 where
+pub record EndsWith (code : List Instr) (x : Instr) (q : Run CpuState) (registers : ℕ → ℕ) (bytes : ℕ → Option ℕ) : Type 0 where
   pub goes : GoesBehind (code ++ x ∷ []) q
   pub registers_are : (r : ℕ) → (done rv_does (code ++ x ∷ []) q).state.registers r ≡ registers r
   pub bytes_are : (a : ℕ) → (done rv_does (code ++ x ∷ []) q).state.bytes a ≡ bytes a
   pub mark : (done rv_does (code ++ x ∷ []) q).state.mark ≡ q.state.mark
 
-pub ends-with : (code : List Instr) (x : Instr) (q : Run RvState) (registers : ℕ → ℕ) (bytes : ℕ → Option ℕ) → all_compute code ≡ true → status_of q.progress ≡ Running
+pub ends-with : (code : List Instr) (x : Instr) (q : Run CpuState) (registers : ℕ → ℕ) (bytes : ℕ → Option ℕ) → all_compute code ≡ true → status_of q.progress ≡ Running
     → code_base ≤ q.state.pc → q.state.pc + 4 * length (code ++ x ∷ []) ≤ code_base + most_code
-    → ((r : RvState) → ((y : ℕ) → r.registers y ≡ computed code q.state.registers y) → ((a : ℕ) → r.bytes a ≡ q.state.bytes a) → act x r ≡ goes (add_words r.pc 4) registers bytes r.mark)
+    → ((r : CpuState) → ((y : ℕ) → r.registers y ≡ computed code q.state.registers y) → ((a : ℕ) → r.bytes a ≡ q.state.bytes a) → act x r ≡ goes (add_words r.pc 4) registers bytes r.mark)
     → EndsWith code x q registers bytes
 ends-with code x q registers bytes computes runs low high does =
     let long : length (code ++ x ∷ []) ≡ length code + 1 = length-append code (x ∷ []) in
@@ -42,7 +43,7 @@ ends-with code x q registers bytes computes runs low high does =
     let near : q1.state.pc + 4 ≤ code_base + most_code = omega (arith, high, long, m.behind) in
     record {
       goes = record {
-        through = goes-append rv_does (λ (r : Run RvState). status_of r.progress) code (x ∷ []) q m.through (m.runs, tt);
+        through = goes-append rv_does (λ (r : Run CpuState). status_of r.progress) code (x ∷ []) q m.through (m.runs, tt);
         runs = ap (λ s. status_of s.progress) last ∙ goes-on q1.state.pc (omega (arith, low, m.behind)) near;
         behind = ap (λ s. s.state.pc) last ∙ pc-next q1.state.pc near ∙ omega (arith, m.behind, long);
       };

@@ -20,7 +20,8 @@ use Rattle.lg_rv.specs.declared.instruction.Instr.{Instr}
 use Rattle.lg_rv.specs.declared.instruction.Instr.TheVariants as instr
 use Rattle.lg_cpu.specs.Steps.{Run}
 use Rattle.lg_cpu.specs.HostSteps.{put}
-use Rattle.lg_cpu.specs.RvStep.{RvState, read, goes}
+use Rattle.lg_cpu.specs.States.{CpuState}
+use Rattle.lg_cpu.specs.RvStep.{read, goes}
 use Rattle.lg_meaning.specs.States.{Frame, State}
 use Rattle.lg_meaning.specs.Steps.{Goes, Undefined, need, on, with_reg, operate}
 use Rattle.lg_meaning.specs.Texts.{step}
@@ -96,7 +97,7 @@ module _ (code : List ℕ) (trash : ℕ) (c : Code) (i : ℕ) (n : Node) (t : Va
   abbrev one : Instr
   one = instr.Imm (load_row t) rd 8 (argument_offset k)
 
-  module _ (frames : Frame → ℕ → Bool) (s : State) (out : List ℕ) (q : Run RvState) (at : s.at ≡ i) (st : Stands (rv_processor code trash) c frames s out q (live_before n S)) (v : ℕ) (given : slice_get s.frame.args k ≡ Some v) where
+  module _ (frames : Frame → ℕ → Bool) (s : State) (out : List ℕ) (q : Run CpuState) (at : s.at ≡ i) (st : Stands (rv_processor code trash) c frames s out q (live_before n S)) (v : ℕ) (given : slice_get s.frame.args k ≡ Some v) where
     abbrev to : State
     to = on (with_reg s (operand.Reg d) (typed t v))
 

@@ -19,7 +19,8 @@ use Rattle.lg_rv.specs.declared.instruction.Instr.{Instr}
 use Rattle.lg_rv.specs.declared.instruction.Instr.TheVariants as instr
 use Rattle.lg_cpu.specs.Steps.{Run}
 use Rattle.lg_cpu.specs.HostSteps.{put}
-use Rattle.lg_cpu.specs.RvStep.{RvState, read, goes, sets, loads, act}
+use Rattle.lg_cpu.specs.States.{CpuState}
+use Rattle.lg_cpu.specs.RvStep.{read, goes, sets, loads, act}
 use Rattle.lg_meaning.specs.States.{Frame, State, is_open}
 use Rattle.lg_meaning.specs.Steps.{Outcome, Goes, Undefined, need, on_with_carry, with_reg, load_to}
 use Rattle.lg_meaning.specs.Steps as steps
@@ -42,7 +43,7 @@ use Rattle.lg_selr_memory.proofs.WriteLemmas.{Leaves, Stays, write-leads}
 
 -- ---- the instruction
 -- a row loads by its type
-pub load-act : (t : ValueType) (q : RvState) (rd base : ℕ) (offset : ℤ) (a v : ℕ) → add_words (read q.registers base) (word_of offset) ≡ a → (a % width t == 0) ≡ true
+pub load-act : (t : ValueType) (q : CpuState) (rd base : ℕ) (offset : ℤ) (a v : ℕ) → add_words (read q.registers base) (word_of offset) ≡ a → (a % width t == 0) ≡ true
     → loaded q.bytes a (width t) ≡ Some v → v < 256 ^ width t → act (instr.Imm (load_row t) rd base offset) q ≡ sets q rd (typed t v)
 load-act value_type.Char q rd base offset a v at even e lt = rw (at, even) (ap (loads q rd 1 true) e)
 load-act value_type.UnsignedChar q rd base offset a v at even e lt = rw (at, even) (ap (loads q rd 1 false) e ∙ ap (sets q rd) (let z : v ≡ v % 2 ^ 8 = omega (arith, lt) in z))
@@ -78,7 +79,7 @@ module _ (code : List ℕ) (trash : ℕ) (c : Code) (i : ℕ) (n : Node) (t : Va
   some : 0 < length is
   some = let l = length-append p.code (instr.Imm (load_row t) rd p.base p.offset ∷ []) in omega (arith, l)
 
-  module _ (frames : Frame → ℕ → Bool) (s : State) (out : List ℕ) (q : Run RvState) (at : s.at ≡ i) (st : Stands (rv_processor code trash) c frames s out q (live_before n S)) (a v : ℕ) (address : o s ≡ Some a) (got : steps.read s a (width t) ≡ Some v) where
+  module _ (frames : Frame → ℕ → Bool) (s : State) (out : List ℕ) (q : Run CpuState) (at : s.at ≡ i) (st : Stands (rv_processor code trash) c frames s out q (live_before n S)) (a v : ℕ) (address : o s ≡ Some a) (got : steps.read s a (width t) ≡ Some v) where
     abbrev w : ℕ → ℕ
     w = q.state.registers
 

@@ -15,7 +15,8 @@ use Rattle.lg_rv.specs.declared.instruction.Instr.{Instr}
 use Rattle.lg_rv.specs.declared.instruction.Instr.TheVariants as instr
 use Rattle.lg_rv.specs.declared.instruction.StoreOp.TheVariants.{Sd}
 use Rattle.lg_cpu.specs.Steps.{Run}
-use Rattle.lg_cpu.specs.RvStep.{RvState, read, goes, act}
+use Rattle.lg_cpu.specs.States.{CpuState}
+use Rattle.lg_cpu.specs.RvStep.{read, goes, act}
 use Rattle.lg_node.specs.Preparations.{pushed}
 use Rattle.lg_meaning.specs.States.{Frame, State}
 use Rattle.lg_meaning.specs.Steps.{Goes, Undefined, need, on, quiet}
@@ -74,7 +75,7 @@ module _ (code : List ℕ) (trash : ℕ) (c : Code) (i : ℕ) (n : Node) (S : �
   stepped s v at e = steps_so s at ∙ ap (λ z. need z (λ v. quiet (on (record s { pushed = s.pushed ++ v ∷ [] })))) e
 
   -- what is left of the code's work: memory changes in an outgoing word alone, and the argument is in its place
-  pub record Passes (xs : List Instr) (s : State) (v : ℕ) (q : Run RvState) (rd : ℕ) : Type 0 where
+  pub record Passes (xs : List Instr) (s : State) (v : ℕ) (q : Run CpuState) (rd : ℕ) : Type 0 where
     pub goes : GoesBehind xs q
     pub kept : (y : ℕ) → y ≢ rd → y ≢ 1 → (done rv_does xs q).state.registers y ≡ q.state.registers y
     pub apart : ((r : ℕ) → r < 6 → portable_register Riscv64 r ≢ rd) × (8 ≢ rd) × (2 ≢ rd)
@@ -85,8 +86,8 @@ module _ (code : List ℕ) (trash : ℕ) (c : Code) (i : ℕ) (n : Node) (S : �
     pub register : length s.pushed < 8 → (done rv_does xs q).state.registers (slice_index (argument_registers Riscv64) (length s.pushed)) ≡ v
     pub word : 8 ≤ length s.pushed → HasWord (done rv_does xs q).state.bytes (stack_argument (lowest s.frame) (length s.pushed - 8)) v
 
-  module _ (frames : Frame → ℕ → Bool) (s : State) (out : List ℕ) (q : Run RvState) (at : s.at ≡ i) (st : Stands (rv_processor code trash) c frames s out q (live_before n S)) (v rd : ℕ) (given : o s ≡ Some v) (p : Passes is s v q rd) where
-    abbrev u : Run RvState
+  module _ (frames : Frame → ℕ → Bool) (s : State) (out : List ℕ) (q : Run CpuState) (at : s.at ≡ i) (st : Stands (rv_processor code trash) c frames s out q (live_before n S)) (v rd : ℕ) (given : o s ≡ Some v) (p : Passes is s v q rd) where
+    abbrev u : Run CpuState
     u = done rv_does is q
 
     passed : HoldsArguments Riscv64 u.state.registers (s.pushed ++ v ∷ [])
@@ -125,11 +126,11 @@ module _ (code : List ℕ) (trash : ℕ) (c : Code) (i : ℕ) (n : Node) (S : �
   undefined : (s : State) → s.at ≡ i → o s ≡ None → step c.nodes c.shape c.addresses s ≡ Undefined
   undefined s at e = steps_so s at ∙ ap (λ z. need z (λ v. quiet (on (record s { pushed = s.pushed ++ v ∷ [] })))) e
 
-  abbrev Result : (Frame → ℕ → Bool) → State → List ℕ → Run RvState → Type 0
+  abbrev Result : (Frame → ℕ → Bool) → State → List ℕ → Run CpuState → Type 0
   Result frames s out q = (step c.nodes c.shape c.addresses s ≡ Undefined) ⊎ Leads (rv_processor code trash) c frames (live_behind frames n S s) i (step c.nodes c.shape c.addresses s) out q
 
   -- so many arguments are passed before
-  count : (frames : Frame → ℕ → Bool) (s : State) (q : Run RvState) → s.at ≡ i → StatesAgree Riscv64 c frames s (rv_seen q) (live_before n S) → length s.pushed ≡ pushed c.nodes.nodes i
+  count : (frames : Frame → ℕ → Bool) (s : State) (q : Run CpuState) → s.at ≡ i → StatesAgree Riscv64 c frames s (rv_seen q) (live_before n S) → length s.pushed ≡ pushed c.nodes.nodes i
   count frames s q at st = st.fits.pushed ∙ ap (pushed c.nodes.nodes) at
 
   -- ---- into a register
@@ -163,12 +164,12 @@ module _ (code : List ℕ) (trash : ℕ) (c : Code) (i : ℕ) (n : Node) (S : �
   abbrev pushing : ℕ → Instr
   pushing r = instr.Store Sd 2 r (pos (8 * (pushed c.nodes.nodes i - 8)))
 
-  store-word : (q : RvState) (r a : ℕ) (offset : ℕ) → add_words (read q.registers 2) offset ≡ a → (a % 8 == 0) ≡ true → mapped q.bytes a 8 ≡ true
+  store-word : (q : CpuState) (r a : ℕ) (offset : ℕ) → add_words (read q.registers 2) offset ≡ a → (a % 8 == 0) ≡ true → mapped q.bytes a 8 ≡ true
       → act (instr.Store Sd 2 r (pos offset)) q ≡ goes (add_words q.pc 4) q.registers (stored q.bytes a 8 (read q.registers r)) q.mark
   store-word q r a offset at even there = rw (at, even, there) refl
 
   module _ (code' : List Instr) (r : ℕ) (same-code : is ≡ code' ++ pushing r ∷ []) (many : 8 ≤ pushed c.nodes.nodes i) (prepares : Prepares n o code' r) where
-    module _ (frames : Frame → ℕ → Bool) (s : State) (out : List ℕ) (q : Run RvState) (at : s.at ≡ i) (st : Stands (rv_processor code trash) c frames s out q (live_before n S)) (v : ℕ) (given : o s ≡ Some v) where
+    module _ (frames : Frame → ℕ → Bool) (s : State) (out : List ℕ) (q : Run CpuState) (at : s.at ≡ i) (st : Stands (rv_processor code trash) c frames s out q (live_before n S)) (v : ℕ) (given : o s ≡ Some v) where
       abbrev w : ℕ → ℕ
       w = q.state.registers
 

@@ -18,7 +18,8 @@ use Rattle.lg_operators.specs.Operators.{store_width}
 use Rattle.lg_rv.specs.declared.instruction.Instr.{Instr}
 use Rattle.lg_rv.specs.declared.instruction.Instr.TheVariants as instr
 use Rattle.lg_cpu.specs.Steps.{Run}
-use Rattle.lg_cpu.specs.RvStep.{RvState, read, goes, act}
+use Rattle.lg_cpu.specs.States.{CpuState}
+use Rattle.lg_cpu.specs.RvStep.{read, goes, act}
 use Rattle.lg_meaning.specs.States.{Frame, State, is_open}
 use Rattle.lg_meaning.specs.Steps.{Goes, Undefined, need, on_with_carry, store_to}
 use Rattle.lg_meaning.specs.Texts.{step}
@@ -47,7 +48,7 @@ use Rattle.lg_selr_memory.proofs.OpenLemmas.{open-mapped}
 use Rattle.lg_selr_memory.proofs.StraightLemmas.{inside, low, high, read-before, stays, leads, still}
 
 -- a row stores by its type
-store-act : (t : StoreType) (q : RvState) (base from : ℕ) (offset : ℤ) (a : ℕ) → add_words (read q.registers base) (word_of offset) ≡ a → (a % store_width t == 0) ≡ true → mapped q.bytes a (store_width t) ≡ true
+store-act : (t : StoreType) (q : CpuState) (base from : ℕ) (offset : ℤ) (a : ℕ) → add_words (read q.registers base) (word_of offset) ≡ a → (a % store_width t == 0) ≡ true → mapped q.bytes a (store_width t) ≡ true
     → act (instr.Store (store_row t) base from offset) q ≡ goes (add_words q.pc 4) q.registers (stored q.bytes a (store_width t) (read q.registers from)) q.mark
 store-act store_type.Char q base from offset a at even there = rw (at, even, there) refl
 store-act store_type.Short q base from offset a at even there = rw (at, even, there) refl
@@ -68,7 +69,7 @@ module _ (code : List ℕ) (trash : ℕ) (c : Code) (i : ℕ) (n : Node) (t : St
   some : 0 < length is
   some = let l = length-append p.code (instr.Store (store_row t) p.base from p.offset ∷ []) in omega (arith, l)
 
-  module _ (frames : Frame → ℕ → Bool) (s : State) (out : List ℕ) (q : Run RvState) (at : s.at ≡ i) (st : Stands (rv_processor code trash) c frames s out q (live_before n S)) (a v : ℕ) (address : o s ≡ Some a) (given : f s ≡ Some v)
+  module _ (frames : Frame → ℕ → Bool) (s : State) (out : List ℕ) (q : Run CpuState) (at : s.at ≡ i) (st : Stands (rv_processor code trash) c frames s out q (live_before n S)) (a v : ℕ) (address : o s ≡ Some a) (given : f s ≡ Some v)
       (even : (a % store_width t == 0) ≡ true) (room : writable (is_open s) a (store_width t) ≡ true) where
     abbrev w : ℕ → ℕ
     w = q.state.registers
@@ -102,7 +103,7 @@ module _ (code : List ℕ) (trash : ℕ) (c : Code) (i : ℕ) (n : Node) (t : St
         same-bytes : (f g : ℕ → Option ℕ) → ((y : ℕ) → f y ≡ g y) → f ≡ g
         same-bytes f g h = λ j y. h y j
 
-    abbrev u : Run RvState
+    abbrev u : Run CpuState
     u = done rv_does is q
 
     kept : (y : ℕ) → y ≢ 1 → u.state.registers y ≡ w y
@@ -146,7 +147,7 @@ module _ (code : List ℕ) (trash : ℕ) (c : Code) (i : ℕ) (n : Node) (t : St
     pub goes-there : (step c.nodes c.shape c.addresses s ≡ Undefined) ⊎ Leads (rv_processor code trash) c frames (live_behind frames n S s) i (step c.nodes c.shape c.addresses s) out q
     goes-there = leads code trash c i n S is inside_op falls x k some frames s q at st.runs st.state end.goes to stepped refl out st.wrote agree
 
-  abbrev Result : (Frame → ℕ → Bool) → State → List ℕ → Run RvState → Type 0
+  abbrev Result : (Frame → ℕ → Bool) → State → List ℕ → Run CpuState → Type 0
   Result frames s out q = (step c.nodes c.shape c.addresses s ≡ Undefined) ⊎ Leads (rv_processor code trash) c frames (live_behind frames n S s) i (step c.nodes c.shape c.addresses s) out q
 
   pub store-carried : CarriesNode (rv_processor code trash) c i n S

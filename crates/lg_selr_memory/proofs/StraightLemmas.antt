@@ -11,7 +11,7 @@ use Rattle.lg_live.specs.Uses.{is_read, is_written}
 use Rattle.lg_rv.specs.declared.instruction.Instr.{Instr}
 use Rattle.lg_rv.specs.Spelling.{spelling, IsInstr}
 use Rattle.lg_cpu.specs.Steps.{Run, status_of}
-use Rattle.lg_cpu.specs.RvStep.{RvState}
+use Rattle.lg_cpu.specs.States.{CpuState}
 use Rattle.lg_meaning.specs.States.{Frame, State, number}
 use Rattle.lg_meaning.specs.Steps.{Goes, Undefined}
 use Rattle.lg_meaning.specs.Texts.{step}
@@ -35,8 +35,8 @@ use Rattle.lg_carry_rv.proofs.RegisterLemmas.{numbered-at, given}
 use Rattle.lg_carry_rv.proofs.RowLemmas.{are-rows}
 
 -- the run goes through these instructions from q, and goes on behind them
-pub record GoesBehind (is : List Instr) (q : Run RvState) : Type 0 where
-  pub through : GoesThrough rv_does (λ (r : Run RvState). status_of r.progress) is q
+pub record GoesBehind (is : List Instr) (q : Run CpuState) : Type 0 where
+  pub through : GoesThrough rv_does (λ (r : Run CpuState). status_of r.progress) is q
   pub runs : status_of (done rv_does is q).progress ≡ Running
   pub behind : (done rv_does is q).state.pc ≡ q.state.pc + 4 * length is
 
@@ -53,7 +53,7 @@ module _ (code : List ℕ) (trash : ℕ) (c : Code) (i : ℕ) (n : Node) (S : �
   pub still : (r : ℕ) → S r ≡ true → numbered (is_written n) r ≡ false → live_before n S r ≡ true
   still r m off = or-last (numbered (is_read n) r) (S r) (numbered (is_written n) r) m off
 
-  module _ (frames : Frame → ℕ → Bool) (s : State) (q : Run RvState) (at : s.at ≡ i) (runs : (rv_processor code trash).machine.status q ≡ Running) (st : StatesAgree Riscv64 c frames s (rv_seen q) (live_before n S)) where
+  module _ (frames : Frame → ℕ → Bool) (s : State) (q : Run CpuState) (at : s.at ≡ i) (runs : (rv_processor code trash).machine.status q ≡ Running) (st : StatesAgree Riscv64 c frames s (rv_seen q) (live_before n S)) where
     pub inside : is_inside c s.at ≡ true
     inside = ap (is_inside c) at ∙ inner (home c.nodes.nodes i) place.entry i place.home place.behind
 
@@ -83,7 +83,7 @@ module _ (code : List ℕ) (trash : ℕ) (c : Code) (i : ℕ) (n : Node) (S : �
     }
 
     module _ (g : GoesBehind is q) where
-      abbrev u : Run RvState
+      abbrev u : Run CpuState
       u = done rv_does is q
 
       run : RunsBlock (rv_rows code trash) is q

@@ -12,7 +12,7 @@ use Rattle.lg_operators.specs.declared.carry.Carry.{Carry}
 use Rattle.lg_operators.specs.declared.carry.Carry.TheVariants as carry
 use Rattle.lg_rv.specs.declared.instruction.Instr.{Instr}
 use Rattle.lg_cpu.specs.Steps.{Run}
-use Rattle.lg_cpu.specs.RvStep.{RvState}
+use Rattle.lg_cpu.specs.States.{CpuState}
 use Rattle.lg_meaning.specs.States.{Frame, State, number}
 use Rattle.lg_meaning.specs.Steps.{Goes, Undefined, with_word}
 use Rattle.lg_meaning.specs.Texts.{step}
@@ -44,7 +44,7 @@ pub record Sets (s to : State) (d v : ℕ) : Type 0 where
   pub args_size : to.args_size ≡ s.args_size
 
 -- what the code leaves: the register's word, and all but that register and the link as it was
-pub record Leaves (is : List Instr) (rd v : ℕ) (q : Run RvState) : Type 0 where
+pub record Leaves (is : List Instr) (rd v : ℕ) (q : Run CpuState) : Type 0 where
   pub goes : GoesBehind is q
   pub value : (done rv_does is q).state.registers rd ≡ v
   pub kept : (y : ℕ) → y ≢ rd → y ≢ 1 → (done rv_does is q).state.registers y ≡ q.state.registers y
@@ -67,9 +67,9 @@ carry-again s to w u (IsGone e) same h = subst (λ k. HoldsCarry Riscv64 u None 
 
 module _ (code : List ℕ) (trash : ℕ) (c : Code) (i : ℕ) (n : Node) (S : ℕ → Bool) (is : List Instr) (d : Reg) (named : d ≢ Fp) (inside_op : stands_inside n.op ≡ true) (falls : leaps n.op ≡ false)
     (x : IsInText c i n) (k : IsInCode code trash c i is) (some : 0 < length is) (writes : (r : ℕ) → numbered (is_written n) r ≡ numbered (is_same d) r)
-    (frames : Frame → ℕ → Bool) (s : State) (out : List ℕ) (q : Run RvState) (at : s.at ≡ i) (st : Stands (rv_processor code trash) c frames s out q (live_before n S)) (to : State) (v : ℕ)
+    (frames : Frame → ℕ → Bool) (s : State) (out : List ℕ) (q : Run CpuState) (at : s.at ≡ i) (st : Stands (rv_processor code trash) c frames s out q (live_before n S)) (to : State) (v : ℕ)
     (stepped : step c.nodes c.shape c.addresses s ≡ Goes to []) (sets : Sets s to (number d) v) (carries : StaysOrGoes s to) (l : Leaves is (register_of Riscv64 d) v q) where
-  abbrev u : Run RvState
+  abbrev u : Run CpuState
   u = done rv_does is q
 
   unwritten : (r : ℕ) → r ≢ number d → numbered (is_written n) r ≡ false

@@ -13,4 +13,5 @@ loop-done-preserved g c =
       within = omega arith;
       told = subst (Appends (g.O.Sink.taken c.args.out.now) (g.O.Sink.taken c.write.new.self)) (sym (take-add c.loop-done.done c.in_ok-done.field-0 c.args.bytes.now)) (Appends-trans _ (g.O.Sink.taken c.loop-done.out) _ _ _ i.told (rw take_rest at e.bytes));
       later = omega (arith, i.later, e.cause.later);
+      same = omega (arith, i.same, e.cause.kept);
     }

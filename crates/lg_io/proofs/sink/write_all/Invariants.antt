@@ -1,4 +1,4 @@
-use Rattle.std.proofs.Common.{length, take, ◌-◌, ◌≤◌}
+use Rattle.std.proofs.Common.{length, take, ◌-◌, ◌≤◌, ◌≡◌}
 use Rattle.std.specs.Io.KnownBytes.{Appends}
 use Rattle.lg_io.proofs.sink.write_all.Given as goal
 
@@ -7,6 +7,7 @@ invariant-loop-done g l = record {
   within : l.done ≤ length l.bytes;
   told : Appends (g.O.Sink.taken l.fn.out) (g.O.Sink.taken l.out) (take l.done l.bytes);
   later : g.O.Sink.faults l.fn.out ≤ g.O.Sink.faults l.out;
+  same : g.O.Sink.faults l.out ≡ g.O.Sink.faults l.fn.out;
 }
 
 abbrev pub decreases-loop-done : goal.decreases-loop-done

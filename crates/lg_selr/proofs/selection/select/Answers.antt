@@ -7,6 +7,7 @@ use Rattle.lg_op.specs.declared.operand.Reg.{Reg}
 use Rattle.lg_selr.specs.Items.{node_items}
 use Rattle.lg_selr.specs.Selected.{AreChosen, is_pusharg, AreFirst, TakesLabelsWell, HaveWords}
 use Rattle.lg_selr.proofs.CarriedLemmas.{selected-carries, aligned-behind, short-appended, one-fixed}
+use Rattle.lg_selr.proofs.FixLemmas.{appended-lead, appended-whole, appended-begins}
 use Rattle.lg_selr.proofs.NodeFits.{IsAsked, AreEmittable, choices-fit, items-fit}
 use Rattle.lg_selr.proofs.selection.select.Goals as goal
 use Rattle.lg_selr_items.specs.declared.items.Item.{Item}
@@ -69,3 +70,16 @@ pub returns-clause-aligned : goal.returns-clause-aligned
 returns-clause-aligned c =
     aligned-behind c.append.result c.args.node.now c.args.frame c.args.choices.now c.args.staged.arguments c.args.buf.now c.append.new.buf c.put_items.new.items c.requires.formed
     (c.put_items.ensures ∙ ap (node_items c.args.node.now c.args.frame c.args.choices.now c.args.staged.arguments) c.here.ensures.value) c.append.ensures.bytes
+
+pub returns-clause-whole : goal.returns-clause-whole
+returns-clause-whole c = appended-whole c.append.result c.args.buf.now c.append.new.buf c.put_items.new.items c.append.ensures.bytes
+
+pub returns-clause-begins : goal.returns-clause-begins
+returns-clause-begins c =
+    appended-begins c.append.result c.args.node.now c.args.frame c.args.choices.now c.args.staged.arguments c.args.buf.now c.append.new.buf c.put_items.new.items
+    (c.put_items.ensures ∙ ap (node_items c.args.node.now c.args.frame c.args.choices.now c.args.staged.arguments) c.here.ensures.value) c.append.ensures.bytes
+
+pub returns-clause-lead : goal.returns-clause-lead
+returns-clause-lead c =
+    appended-lead c.append.result c.args.node.now c.args.frame c.args.choices.now c.args.staged.arguments c.args.buf.now c.append.new.buf c.put_items.new.items
+    (c.put_items.ensures ∙ ap (node_items c.args.node.now c.args.frame c.args.choices.now c.args.staged.arguments) c.here.ensures.value) c.append.ensures.fixes

@@ -1,0 +1,27 @@
+-- The processors of the targets, as the laws of agreement see them.
+use Rattle.std.specs.Prelude.{ℕ, List}
+use Rattle.lg_base.specs.declared.flags.Flags.{Flags}
+use Rattle.lg_base.specs.declared.flags.Flags.TheVariants.{NoFlags}
+use Rattle.lg_base.specs.declared.target.Target.{Target}
+use Rattle.lg_base.specs.declared.target.Target.TheVariants.{X86_64, Riscv64}
+use Rattle.lg_cpu.specs.States.{CpuState}
+use Rattle.lg_cpu.specs.Steps.{Run}
+use Rattle.lg_cpu.specs.Targets.{machine_of}
+use Rattle.lg_carry.specs.Processors.{Seen, Processor}
+
+-- the flags that a target has; RV64 has none
+abbrev pub flags_on : Target → Flags → Flags
+flags_on Riscv64 flags = NoFlags
+flags_on target flags = flags
+
+abbrev pub seen_on : Target → Run CpuState → Seen
+seen_on target r = record { pc = r.state.pc; registers = r.state.registers; bytes = r.state.bytes; mark = r.state.mark; flags = flags_on target r.state.flags }
+
+-- the processor of a target that runs this code, with the word that registers hold which nothing has set
+abbrev pub processor_of : Target → List ℕ → ℕ → Processor (Run CpuState)
+processor_of target code trash = record { target = target; machine = machine_of target code trash; seen = seen_on target }
+
+-- instructions stand at multiples of so many bytes
+abbrev pub unit_of : Target → ℕ
+unit_of X86_64 = 1
+unit_of target = 4
