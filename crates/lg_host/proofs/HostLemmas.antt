@@ -1,5 +1,5 @@
 -- What calls answer that write no output.
-use Rattle.std.proofs.Common.{ℕ, List, Option, sym, subst}
+use Rattle.std.proofs.Common.{ℕ, List, Option, sym, subst, refl}
 use Rattle.std.specs.Io.KnownBytes.{Appends}
 use Rattle.std.proofs.KnownBytes.{Appends-nil}
 use Rattle.lg_host.specs.Host.{Mem, Host, Gives, Exits, Undefined, HostSays, MemSays}
@@ -7,15 +7,15 @@ use Rattle.lg_host.specs.declared.host_end.HostEnd.{HostEnd}
 use Rattle.lg_host.specs.declared.host_end.HostEnd.TheVariants as end
 
 pub HostSays-memory : (h : Host) (m m' : Mem) (o : Option (List ℕ)) (n : ℕ) (e : HostEnd) → MemSays h m m' e → HostSays h m m' record { old = o; new = o; before = n; now = n } e
-HostSays-memory (Gives v d k bytes) m m' o n (end.Value x) h = (h.0, h.1, subst (Appends o o) (sym h.2) (Appends-nil o))
+HostSays-memory (Gives v d k bytes) m m' o n (end.Value x) h = (h.0, h.1, subst (Appends o o) (sym h.2) (Appends-nil o), refl)
 HostSays-memory (Gives v d k bytes) m m' o n (end.Exit x) h = absurd h
 HostSays-memory (Gives v d k bytes) m m' o n end.Undefined h = absurd h
 HostSays-memory (Gives v d k bytes) m m' o n end.WriteFault h = absurd h
 HostSays-memory (Exits s) m m' o n (end.Value x) h = absurd h
-HostSays-memory (Exits s) m m' o n (end.Exit x) h = (h.0, h.1, Appends-nil o)
+HostSays-memory (Exits s) m m' o n (end.Exit x) h = (h.0, h.1, Appends-nil o, refl)
 HostSays-memory (Exits s) m m' o n end.Undefined h = absurd h
 HostSays-memory (Exits s) m m' o n end.WriteFault h = absurd h
 HostSays-memory Undefined m m' o n (end.Value x) h = absurd h
 HostSays-memory Undefined m m' o n (end.Exit x) h = absurd h
-HostSays-memory Undefined m m' o n end.Undefined h = (h, Appends-nil o)
+HostSays-memory Undefined m m' o n end.Undefined h = (h, Appends-nil o, refl)
 HostSays-memory Undefined m m' o n end.WriteFault h = absurd h

@@ -39,9 +39,9 @@ Passes-flushed a b new bytes e p h = subst (Appends a.taken new) (sym p.2 ∙ ap
 pub Passes-cut : (a b : Output) (new : Option (List ℕ)) (bytes : List ℕ) → a.waiting ≡ [] → Passes a b bytes → AppendsPrefix b.taken new b.waiting → AppendsPrefix a.taken new bytes
 Passes-cut a b new bytes e p h = AppendsPrefix-after a.taken b.taken new p.0 b.waiting [] bytes (sym (sym p.2 ∙ ap (λ x. x ++ bytes) e) ∙ ap (λ x. p.0 ++ x) (sym (append-nil b.waiting))) p.1 h
 
-pub Wrote-flushed : {T E : Type 0} (a b : Output) (new : Option (List ℕ)) (now : ℕ) (result : Result T E) (bytes : List ℕ) → a.waiting ≡ [] → Passes a b bytes → a.faults ≤ b.faults → Wrote b.taken new b.faults now result b.waiting → Wrote a.taken new a.faults now result bytes
-Wrote-flushed a b new now (Ok x) bytes e p le h = record { ok = Passes-flushed a b new bytes e p h.ok; err = tt; cause = record { later = omega (arith, le, h.cause.later); failed = tt } }
-Wrote-flushed a b new now (Err x) bytes e p le h = record { ok = tt; err = Passes-cut a b new bytes e p h.err; cause = record { later = omega (arith, le, h.cause.later); failed = omega (arith, le, h.cause.failed) } }
+pub Wrote-flushed : {T E : Type 0} (a b : Output) (new : Option (List ℕ)) (now : ℕ) (result : Result T E) (bytes : List ℕ) → a.waiting ≡ [] → Passes a b bytes → b.faults ≡ a.faults → Wrote b.taken new b.faults now result b.waiting → Wrote a.taken new a.faults now result bytes
+Wrote-flushed a b new now (Ok x) bytes e p le h = record { ok = Passes-flushed a b new bytes e p h.ok; err = tt; cause = record { later = omega (arith, le, h.cause.later); kept = h.cause.kept ∙ le; failed = tt } }
+Wrote-flushed a b new now (Err x) bytes e p le h = record { ok = tt; err = Passes-cut a b new bytes e p h.err; cause = record { later = omega (arith, le, h.cause.later); kept = tt; failed = omega (arith, le, h.cause.failed) } }
 
 -- ---- pieces
 pub parts_bytes-append : (m : Bytes) (ps qs : List Part) → parts_bytes m (ps ++ qs) ≡ parts_bytes m ps ++ parts_bytes m qs

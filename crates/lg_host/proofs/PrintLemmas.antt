@@ -64,13 +64,13 @@ onto-onto xs ys None = refl
 onto-onto xs ys (Some z) = ap Some (sym (append_assoc xs ys z))
 
 -- ---- what the calls answer
-pub Told-none : (o : Option (List ℕ)) (old new : Output) → o ≡ None → old.faults ≤ new.faults → Told {E = SinkFault} o old new (Ok None)
-Told-none o old new e le = subst (λ (p : Option (List ℕ)). Told {E = SinkFault} p old new (Ok None)) (sym e) record { ok = refl; err = tt; cause = record { later = le; failed = tt } }
+pub Told-none : (o : Option (List ℕ)) (old new : Output) → o ≡ None → new.faults ≡ old.faults → Told {E = SinkFault} o old new (Ok None)
+Told-none o old new e le = subst (λ (p : Option (List ℕ)). Told {E = SinkFault} p old new (Ok None)) (sym e) record { ok = refl; err = tt; cause = record { later = omega (arith, le); kept = le; failed = tt } }
 
-pub Told-end : (o : Option (List ℕ)) (old new : Output) (count : ℕ) (done : List ℕ) → o ≡ onto done (Some []) → Passes old new done → count ≡ length done % 2 ^ 64 → old.faults ≤ new.faults → Told {E = SinkFault} o old new (Ok (Some count))
+pub Told-end : (o : Option (List ℕ)) (old new : Output) (count : ℕ) (done : List ℕ) → o ≡ onto done (Some []) → Passes old new done → count ≡ length done % 2 ^ 64 → new.faults ≡ old.faults → Told {E = SinkFault} o old new (Ok (Some count))
 Told-end o old new count done e told is le =
     let f : o ≡ Some done = e ∙ ap Some (append-nil done) in
-    subst (λ (p : Option (List ℕ)). Told {E = SinkFault} p old new (Ok (Some count))) (sym f) record { ok = (ap Some is, told); err = tt; cause = record { later = le; failed = tt } }
+    subst (λ (p : Option (List ℕ)). Told {E = SinkFault} p old new (Ok (Some count))) (sym f) record { ok = (ap Some is, told); err = tt; cause = record { later = omega (arith, le); kept = le; failed = tt } }
 
 pub after-none : (eff : Option Effect) (count : ℕ) (args : List ℕ) (old new : Output) → IsAfter eff count args old new None → eff ≡ None
 after-none None count args old new h = refl
@@ -84,9 +84,9 @@ prefix-by old mid new done (Some e) rest told h = by (rest e)
     by None = tt
     by (Some bs) = Passes-prefix old mid new done e.bytes bs (done ++ (e.bytes ++ bs)) refl told h
 
-pub Told-err : (o : Option (List ℕ)) (old mid new : Output) (fault : SinkFault) (done : List ℕ) (eff : Option Effect) (rest : Effect → Option (List ℕ)) → o ≡ onto done (followed_by eff rest) → Passes old mid done → IfSome eff (λ e. AppendsPrefix mid.taken new.taken (mid.waiting ++ e.bytes)) → old.faults ≤ mid.faults → mid.faults ≤ new.faults → Rose mid.faults new.faults → Told {E = SinkFault} o old new (Err fault)
+pub Told-err : (o : Option (List ℕ)) (old mid new : Output) (fault : SinkFault) (done : List ℕ) (eff : Option Effect) (rest : Effect → Option (List ℕ)) → o ≡ onto done (followed_by eff rest) → Passes old mid done → IfSome eff (λ e. AppendsPrefix mid.taken new.taken (mid.waiting ++ e.bytes)) → mid.faults ≡ old.faults → mid.faults ≤ new.faults → Rose mid.faults new.faults → Told {E = SinkFault} o old new (Err fault)
 Told-err o old mid new fault done eff rest e told h le later rose =
-    subst (λ (p : Option (List ℕ)). Told {E = SinkFault} p old new (Err fault)) (sym e) record { ok = tt; err = prefix-by old mid new done eff rest told h; cause = record { later = omega arith; failed = omega (arith, rose) } }
+    subst (λ (p : Option (List ℕ)). Told {E = SinkFault} p old new (Err fault)) (sym e) record { ok = tt; err = prefix-by old mid new done eff rest told h; cause = record { later = omega arith; kept = tt; failed = omega (arith, rose) } }
 
 pub record More (m : Bytes) (eff : Option Effect) (w : Walk) (args : List ℕ) (count a : ℕ) (mid new : Output) : Type 0 where
   pub bytes : List ℕ
@@ -124,13 +124,13 @@ SoFar-more all m w v b a args old mid new lt is ne s h =
     }
 
 -- ---- bytes of which none waits before or after
-pub Prints-flushed : (bytes : Option (List ℕ)) (a b : Output) (new : Option (List ℕ)) (now count : ℕ) (result : Result (Option ℕ) SinkFault) → a.waiting ≡ [] → IsTold bytes a b (Some count) → a.faults ≤ b.faults → IfOk result (λ answer. (answer ≡ Some count) × Appends b.taken new b.waiting) → OnErr result (AppendsPrefix b.taken new b.waiting) → HasCause b.faults now result → Prints {E = SinkFault} bytes a.taken new a.faults now result
+pub Prints-flushed : (bytes : Option (List ℕ)) (a b : Output) (new : Option (List ℕ)) (now count : ℕ) (result : Result (Option ℕ) SinkFault) → a.waiting ≡ [] → IsTold bytes a b (Some count) → b.faults ≡ a.faults → IfOk result (λ answer. (answer ≡ Some count) × Appends b.taken new b.waiting) → OnErr result (AppendsPrefix b.taken new b.waiting) → HasCause b.faults now result → Prints {E = SinkFault} bytes a.taken new a.faults now result
 Prints-flushed None a b new now count result e told le ok err cause = let no : ⊥ = cc in absurd no
-Prints-flushed (Some bs) a b new now count (Ok answer) e told le ok err cause = record { ok = (ok.0 ∙ told.0, Passes-flushed a b new bs e told.1 ok.1); err = tt; cause = record { later = omega (arith, le, cause.later); failed = tt } }
-Prints-flushed (Some bs) a b new now count (Err fault) e told le ok err cause = record { ok = tt; err = Passes-cut a b new bs e told.1 err; cause = record { later = omega (arith, le, cause.later); failed = omega (arith, le, cause.failed) } }
+Prints-flushed (Some bs) a b new now count (Ok answer) e told le ok err cause = record { ok = (ok.0 ∙ told.0, Passes-flushed a b new bs e told.1 ok.1); err = tt; cause = record { later = omega (arith, le, cause.later); kept = cause.kept ∙ le; failed = tt } }
+Prints-flushed (Some bs) a b new now count (Err fault) e told le ok err cause = record { ok = tt; err = Passes-cut a b new bs e told.1 err; cause = record { later = omega (arith, le, cause.later); kept = tt; failed = omega (arith, le, cause.failed) } }
 
-pub Prints-none : (bytes : Option (List ℕ)) (a b : Output) → IsTold bytes a b None → a.faults ≤ b.faults → Prints {E = SinkFault} bytes a.taken b.taken a.faults b.faults (Ok None)
-Prints-none None a b told le = record { ok = told; err = tt; cause = record { later = le; failed = tt } }
+pub Prints-none : (bytes : Option (List ℕ)) (a b : Output) → IsTold bytes a b None → b.faults ≡ a.faults → Prints {E = SinkFault} bytes a.taken b.taken a.faults b.faults (Ok None)
+Prints-none None a b told le = record { ok = told; err = tt; cause = record { later = omega (arith, le); kept = le; failed = tt } }
 Prints-none (Some bs) a b told le = let no : ⊥ = cc in absurd no
 
 pub Prints-err : (bytes : Option (List ℕ)) (a b : Output) (fault : SinkFault) → a.waiting ≡ [] → Told {E = SinkFault} bytes a b (Err fault) → Prints {E = SinkFault} bytes a.taken b.taken a.faults b.faults (Err fault)

@@ -125,23 +125,27 @@ pub record Out : Type 0 where
 abbrev pub outcome : Option (List ℕ) → Option (List ℕ) → ℕ → ℕ → Out
 outcome old new before now = record { old = old; new = new; before = before; now = now }
 
+-- no fault happened
+abbrev pub KeepsCount : Out → Type 0
+KeepsCount o = o.now ≡ o.before
+
 abbrev pub HostSays : Host → Mem → Mem → Out → HostEnd → Type 0
-HostSays (Gives value changes mark bytes) m m' o (end.Value x) = (x ≡ value) × Same (after m changes mark) m' × Appends o.old o.new bytes
+HostSays (Gives value changes mark bytes) m m' o (end.Value x) = (x ≡ value) × Same (after m changes mark) m' × Appends o.old o.new bytes × KeepsCount o
 HostSays (Gives value changes mark bytes) m m' o end.WriteFault = Same m m' × AppendsPrefix o.old o.new bytes × Rose o.before o.now
-HostSays (Exits status) m m' o (end.Exit x) = (x ≡ status) × Same m m' × Appends o.old o.new []
-HostSays Undefined m m' o end.Undefined = Same m m' × Appends o.old o.new []
+HostSays (Exits status) m m' o (end.Exit x) = (x ≡ status) × Same m m' × Appends o.old o.new [] × KeepsCount o
+HostSays Undefined m m' o end.Undefined = Same m m' × Appends o.old o.new [] × KeepsCount o
 HostSays h m m' o e = ⊥
 
 -- what a function answers that writes these bytes, if they are defined
 abbrev pub TextSays : Option (List ℕ) → Out → HostEnd → Type 0
-TextSays (Some bytes) o (end.Value x) = (x ≡ int_answer (length bytes)) × Appends o.old o.new bytes
+TextSays (Some bytes) o (end.Value x) = (x ≡ int_answer (length bytes)) × Appends o.old o.new bytes × KeepsCount o
 TextSays (Some bytes) o end.WriteFault = AppendsPrefix o.old o.new bytes × Rose o.before o.now
-TextSays None o end.Undefined = Appends o.old o.new []
+TextSays None o end.Undefined = Appends o.old o.new [] × KeepsCount o
 TextSays bytes o e = ⊥
 
 -- what a function answers that writes one byte
 abbrev pub ByteSays : ℕ → Out → HostEnd → Type 0
-ByteSays byte o (end.Value x) = (x ≡ byte) × Appends o.old o.new (byte ∷ [])
+ByteSays byte o (end.Value x) = (x ≡ byte) × Appends o.old o.new (byte ∷ []) × KeepsCount o
 ByteSays byte o end.WriteFault = AppendsPrefix o.old o.new (byte ∷ []) × Rose o.before o.now
 ByteSays byte o e = ⊥
 

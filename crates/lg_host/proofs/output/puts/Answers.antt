@@ -11,7 +11,7 @@ returns-in-Ok-clause-says g c =
     let m = g.S.Space.byte_of c.args.mem.now in
     let bs : List ℕ = bytes_from (c.in-Some.end - c.args.from) m c.args.from in
     let len : c.in-Some.end - c.args.from + 1 ≡ length (bs ++ 10 ∷ []) = omega (arith, length-append bs (10 ∷ []), length-bytes (c.in-Some.end - c.args.from) m c.args.from) in
-    subst (λ (o : Option (List ℕ)). TextSays (option_map (λ string. string ++ 10 ∷ []) o) record { old = g.O.Sink.taken c.args.out.now; new = g.O.Sink.taken c.write_parts.new.out; before = g.O.Sink.faults c.args.out.now; now = g.O.Sink.faults c.write_parts.new.out } (end.Value c.int_answer.result)) (sym (string-told m c.args.from c.in-Some.end c.in-Some.ensures.value)) (c.int_answer.ensures ∙ ap int_answer len, c.in-Ok.ensures.ok)
+    subst (λ (o : Option (List ℕ)). TextSays (option_map (λ string. string ++ 10 ∷ []) o) record { old = g.O.Sink.taken c.args.out.now; new = g.O.Sink.taken c.write_parts.new.out; before = g.O.Sink.faults c.args.out.now; now = g.O.Sink.faults c.write_parts.new.out } (end.Value c.int_answer.result)) (sym (string-told m c.args.from c.in-Some.end c.in-Some.ensures.value)) (c.int_answer.ensures ∙ ap int_answer len, c.in-Ok.ensures.ok, c.in-Ok.ensures.cause.kept)
 
 pub returns-in-Err-clause-says : goal.returns-in-Err-clause-says
 returns-in-Err-clause-says g c =

@@ -1,4 +1,4 @@
-use Rattle.std.proofs.Common.{◌≤◌}
+use Rattle.std.proofs.Common.{◌≡◌}
 use Rattle.lg_host.specs.Output.{Passes, output}
 use Rattle.std.specs.Prelude.{replicate}
 use Rattle.lg_host.proofs.parts.put_fill.Given as goal
@@ -6,5 +6,5 @@ use Rattle.lg_host.proofs.parts.put_fill.Given as goal
 abbrev pub invariant-loop-i : goal.invariant-loop-i
 invariant-loop-i g l = record {
   told : Passes (output (g.O.Sink.taken l.fn.out) l.fn.buffer (g.O.Sink.faults l.fn.out)) (output (g.O.Sink.taken l.out) l.buffer (g.O.Sink.faults l.out)) (replicate l.i l.byte);
-  later : g.O.Sink.faults l.fn.out ≤ g.O.Sink.faults l.out;
+  same : g.O.Sink.faults l.out ≡ g.O.Sink.faults l.fn.out;
 }
