@@ -1,5 +1,5 @@
 -- What a host function answers, changes and writes.
-use Rattle.std.specs.Prelude.{◌≡◌, ℕ, ◌+◌, ◌-◌, ◌*◌, ◌/◌, ◌%◌, ◌^◌, ◌==◌, ◌&&◌, max, not, Bool, true, false, nat_lt, nat_le, List, [], ◌∷◌, ◌++◌, length, drop, slice_index, Option, Some, None, MatchOption, if◌then◌else◌}
+use Rattle.std.specs.Prelude.{◌≡◌, ℕ, ◌+◌, ◌-◌, ◌*◌, ◌/◌, ◌%◌, ◌^◌, ◌==◌, ◌&&◌, max, not, Bool, true, false, nat_lt, nat_le, List, [], ◌∷◌, ◌++◌, length, drop, slice_index, Option, Some, None, MatchOption, if◌then◌else◌, ⊤}
 use Rattle.std.specs.Option.{option_map}
 use Rattle.std.specs.Io.KnownBytes.{Appends}
 use Rattle.lg_base.specs.Spaces.{raised, mapped}
@@ -135,6 +135,11 @@ HostSays (Gives value changes mark bytes) m m' o end.WriteFault = Same m m' × A
 HostSays (Exits status) m m' o (end.Exit x) = (x ≡ status) × Same m m' × Appends o.old o.new [] × KeepsCount o
 HostSays Undefined m m' o end.Undefined = Same m m' × Appends o.old o.new [] × KeepsCount o
 HostSays h m m' o e = ⊥
+
+-- so it is at every answer but that a write failed
+abbrev pub KeepsCountAt : HostEnd → Out → Type 0
+KeepsCountAt end.WriteFault o = ⊤
+KeepsCountAt e o = KeepsCount o
 
 -- what a function answers that writes these bytes, if they are defined
 abbrev pub TextSays : Option (List ℕ) → Out → HostEnd → Type 0

@@ -1,5 +1,5 @@
 -- Where a run of the portable machine has come to, in the words of the portable meaning.
-use Rattle.std.specs.Prelude.{◌≡◌, ◌<◌, ◌≤◌, ℕ, ◌+◌, List, ◌++◌, length, take, Option, Some, None}
+use Rattle.std.specs.Prelude.{◌≡◌, ◌<◌, ◌≤◌, ℕ, ◌+◌, List, ◌++◌, length, take, Option, Some, None, ⊤}
 use Rattle.std.specs.Io.KnownBytes.{Appends}
 use Rattle.lg_base.specs.Runs.{Ended, Bad}
 use Rattle.lg_io.specs.Counts.{Rose}
@@ -43,6 +43,11 @@ ComesTo meaning (runs_end.Ended status) n most s line out out' faults faults' = 
 ComesTo meaning (runs_end.Undefined at) n most s line out out' faults faults' = (n < most) × GoesOn meaning n s out out' × IsUndefinedBehind meaning n × (at ≡ line)
 ComesTo meaning runs_end.StepsOut n most s line out out' faults faults' = (n ≡ most) × GoesOn meaning n s out out'
 ComesTo meaning runs_end.WriteFault n most s line out out' faults faults' = (n < most) × FailsToWrite meaning n s out out' faults faults'
+
+-- the sink's count of faults stays, but where a write failed
+abbrev pub KeepsCountBehind : RunEnd → (faults faults' : ℕ) → Type 0
+KeepsCountBehind runs_end.WriteFault faults faults' = ⊤
+KeepsCountBehind answer faults faults' = faults' ≡ faults
 
 -- the answer that steps behind a run repeat
 abbrev pub over_behind : RunEnd → Option MeanStep

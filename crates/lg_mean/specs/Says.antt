@@ -1,5 +1,5 @@
 -- What a machine's steps say of a step's outcome.
-use Rattle.std.specs.Prelude.{◌≡◌, ◌<◌, ◌≤◌, ◌⊎◌, ℕ, ◌+◌, ◌-◌, Bool, true, false, if◌then◌else◌, Option, Some, None, List, [], ◌∷◌}
+use Rattle.std.specs.Prelude.{◌≡◌, ◌<◌, ◌≤◌, ◌⊎◌, ℕ, ◌+◌, ◌-◌, Bool, true, false, if◌then◌else◌, Option, Some, None, List, [], ◌∷◌, ⊤}
 use Rattle.std.specs.Io.KnownBytes.{Appends}
 use Rattle.lg_io.specs.Counts.{Rose}
 use Rattle.lg_io.specs.Wrote.{AppendsPrefix}
@@ -41,6 +41,11 @@ Steps (Goes t bytes) line old answer new out out' faults faults' =
     ((answer ≡ mean.Went) × (new ≡ t) × Appends out out' bytes) ⊎ ((answer ≡ mean.WriteFault) × (new ≡ old) × AppendsPrefix out out' bytes × Rose faults faults')
 Steps (Ends n) line old answer new out out' faults faults' = (answer ≡ mean.Ended n) × (new ≡ old) × Appends out out' []
 Steps Undefined line old answer new out out' faults faults' = (answer ≡ mean.Undefined line) × (new ≡ old) × Appends out out' []
+
+-- the sink's count of faults stays, but where a write failed
+abbrev pub KeepsCount : MeanStep → (faults faults' : ℕ) → Type 0
+KeepsCount mean.WriteFault faults faults' = ⊤
+KeepsCount answer faults faults' = faults' ≡ faults
 
 -- the same for a step that writes nothing
 abbrev pub Quiet : Outcome → ℕ → State → MeanStep → State → Type 0

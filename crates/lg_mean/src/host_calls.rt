@@ -1,12 +1,12 @@
 // Calls of host functions.
 
 ghost use Rattle.std.specs.Prelude.{◌≡◌, ◌<◌, ◌≤◌, ◌-◌, ◌+◌, ◌^◌, ◌∷◌, [], ℕ, take, length, Some};
-ghost use Rattle.lg_host.specs.Host.{HostSays, host_of, memory, outcome};
+ghost use Rattle.lg_host.specs.Host.{HostSays, KeepsCountAt, host_of, memory, outcome};
 ghost use Rattle.lg_cells.specs.Memories.{byte_at, room_at};
 ghost use Rattle.lg_meaning.specs.States.{is_open};
 ghost use Rattle.lg_meaning.specs.Steps.{call_host, resumed};
 ghost use Rattle.lg_mean.specs.Machines.{state_of, regs_of};
-ghost use Rattle.lg_mean.specs.Says.{Steps};
+ghost use Rattle.lg_mean.specs.Says.{Steps, KeepsCount};
 
 use crate::machine::Machine;
 use crate::mean_step::MeanStep;
@@ -25,6 +25,7 @@ impl Machine {
             (outcome (O.taken out.old) (O.taken out.new) (O.faults out.old) (O.faults out.new)) result }
         ensures same { self.new ≡ record self.old { memory = self.new.memory; heap = self.new.heap } }
         ensures later { O.faults out.old ≤ O.faults out.new }
+        ensures kept { KeepsCountAt result (outcome (O.taken out.old) (O.taken out.new) (O.faults out.old) (O.faults out.new)) }
     {
         let staged = self.staged;
         let variadic = self.variadic;
@@ -60,6 +61,7 @@ impl Machine {
         requires few { count ≤ 16 }
         ensures says { Steps (call_host (state_of self.old) (take count self.old.staged) name) line (state_of self.old) result (state_of self.new) (O.taken out.old) (O.taken out.new) (O.faults out.old) (O.faults out.new) }
         ensures later { O.faults out.old ≤ O.faults out.new }
+        ensures kept { KeepsCount result (O.faults out.old) (O.faults out.new) }
     {
         match self.call_out(name, count, out) {
             HostEnd::Value(word) => {

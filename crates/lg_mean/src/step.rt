@@ -7,7 +7,7 @@ ghost use Rattle.lg_meaning.specs.States.{value};
 ghost use Rattle.lg_meaning.specs.Steps.{need, quiet, on, enter, prolog_step, leave, ret_step, function_here, call_node, call_operand, call_named, call_word, call_step, entry_target, operand_at, plain_step, node_step, node_of_label, begun};
 ghost use Rattle.lg_mean.specs.Machines.{state_of};
 ghost use Rattle.lg_mean.specs.Programs.{text_of};
-ghost use Rattle.lg_mean.specs.Says.{AreKnown, IsKnown, Does, Quiet, Steps, HasBegun, CanBegin, Suits, stays, answer_of};
+ghost use Rattle.lg_mean.specs.Says.{AreKnown, IsKnown, Does, Quiet, Steps, HasBegun, CanBegin, Suits, stays, answer_of, KeepsCount};
 
 use crate::calls::frame_size;
 use crate::functions::function_here;
@@ -109,6 +109,7 @@ impl Machine {
         requires known { AreKnown (length program.now.labels.addresses) node.now }
         ensures says { Steps (call_operand (text_of program.now) (state_of self.old) (take count self.old.staged) (operand_at node.now 0)) node.now.line (state_of self.old) result (state_of self.new) (O.taken out.old) (O.taken out.new) (O.faults out.old) (O.faults out.new) }
         ensures later { O.faults out.old ≤ O.faults out.new }
+        ensures kept { KeepsCount result (O.faults out.old) (O.faults out.new) }
     {
         match operand(node, 0) {
             Operand::Host(name) => self.host(name, count, node.line, out),
@@ -145,6 +146,7 @@ impl Machine {
         requires begun { HasBegun (state_of self.old) }
         ensures says { Steps (call_word (text_of program.now) (state_of self.old) (take count self.old.staged) word) node.now.line (state_of self.old) result (state_of self.new) (O.taken out.old) (O.taken out.new) (O.faults out.old) (O.faults out.new) }
         ensures later { O.faults out.old ≤ O.faults out.new }
+        ensures kept { KeepsCount result (O.faults out.old) (O.faults out.new) }
     {
         match HostName::from_address(word) {
             Some(name) => self.host(name, count, node.line, out),
@@ -167,6 +169,7 @@ impl Machine {
         requires known { AreKnown (length program.now.labels.addresses) node.now }
         ensures says { Steps (call_step (text_of program.now) node.now last (take count self.old.staged) (state_of self.old)) node.now.line (state_of self.old) result (state_of self.new) (O.taken out.old) (O.taken out.new) (O.faults out.old) (O.faults out.new) }
         ensures later { O.faults out.old ≤ O.faults out.new }
+        ensures kept { KeepsCount result (O.faults out.old) (O.faults out.new) }
     {
         match last {
             LastOperand::Immediate => self.call_operand(count, node, program, out),
@@ -293,6 +296,7 @@ impl Machine {
         requires known { AreKnown (length program.now.labels.addresses) node.now }
         ensures says { Steps (call_step (text_of program.now) node.now last (state_of self.old).pushed (state_of self.old)) node.now.line (state_of self.old) result (state_of self.new) (O.taken out.old) (O.taken out.new) (O.faults out.old) (O.faults out.new) }
         ensures later { O.faults out.old ≤ O.faults out.new }
+        ensures kept { KeepsCount result (O.faults out.old) (O.faults out.new) }
     {
         let count = self.count;
         self.call(last, count, node, program, out)
@@ -306,6 +310,7 @@ impl Machine {
         requires known { AreKnown (length program.now.labels.addresses) node.now }
         ensures says { Steps (node_step (text_of program.now) node.now node.now.op (state_of self.old)) node.now.line (state_of self.old) result (state_of self.new) (O.taken out.old) (O.taken out.new) (O.faults out.old) (O.faults out.new) }
         ensures later { O.faults out.old ≤ O.faults out.new }
+        ensures kept { KeepsCount result (O.faults out.old) (O.faults out.new) }
     {
         match node.op {
             Op::Control(ControlOp::Call, last) => self.call(last, 0, node, program, out),
@@ -329,6 +334,7 @@ impl Machine {
         requires known { AreKnown (length program.now.labels.addresses) node.now }
         ensures says { Steps (node_step (text_of program.now) node.now node.now.op (state_of self.old)) node.now.line (state_of self.old) result (state_of self.new) (O.taken out.old) (O.taken out.new) (O.faults out.old) (O.faults out.new) }
         ensures later { O.faults out.old ≤ O.faults out.new }
+        ensures kept { KeepsCount result (O.faults out.old) (O.faults out.new) }
     {
         if stays(node.op) {
             let went = self.stay(node, program);

@@ -4,6 +4,7 @@ use Rattle.lg_cells.specs.Memories.{byte_at, room_at}
 use Rattle.lg_meaning.specs.States.{is_part}
 use Rattle.lg_mean.specs.Machines.{frame_in}
 use Rattle.lg_mean.proofs.HostLemmas.{IsLater, host_mark, host_later}
+use Rattle.lg_host.proofs.HostLemmas.{HostSays-count}
 use Rattle.lg_mean.proofs.machine.Machine.call_out.Goals as goal
 
 pub invariant_of-self : goal.invariant_of-self
@@ -40,3 +41,6 @@ returns-clause-says g c =
     let first = subst (λ (q : ℕ → Bool). HostSays (host_of name args m.variadic old) old (memory (byte_at c.call.new.mem) q c.call.new.heap) out c.call.result) later.room c.call.ensures.says in
     let second = subst (λ (p : ℕ → Bool). HostSays (host_of name args m.variadic (memory (byte_at m.memory) p m.heap)) (memory (byte_at m.memory) p m.heap) (memory (byte_at c.call.new.mem) (is_part m.data_size m.args_size c.call.new.heap frames) c.call.new.heap) out c.call.result) i.rooms first in
     rw (← c.self.view_is) second
+
+pub returns-clause-kept : goal.returns-clause-kept
+returns-clause-kept g c = HostSays-count _ _ _ _ c.call.result c.call.ensures.says

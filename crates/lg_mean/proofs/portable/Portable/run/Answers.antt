@@ -13,7 +13,7 @@ loop-turn-init g c = record {
   labels = refl;
   steps = omega arith;
   goes = goes_at_once _ (state_of c.args.self.now.machine) (g.O.Sink.taken c.args.out.now) (starts c.args.unit.now.nodes c.args.shape.now c.args.self.now.labels.addresses (state_of c.args.self.now.machine));
-  later = omega arith;
+  same = refl;
 }
 
 pub returns-in-Ended-clause-says : goal.returns-in-Ended-clause-says
@@ -40,7 +40,7 @@ returns-in-WriteFault-clause-says g c =
     let i = c.loop-turn.invariant in
     let runs = mean_from l c.args.shape.now c.args.self.now.labels.addresses (state_of c.args.self.now.machine) in
     let steps = counted c.loop-turn.self.over c.loop-turn.self.steps c.step.new.self.steps c.step.result mean.WriteFault i.running c.in-WriteFault.is c.step.ensures.steps in
-    faulted runs (line_at l) c.loop-turn._turn (c.step.new.self.steps - c.args.self.now.steps) c.args.most (state_of c.step.new.self.machine) _ _ (g.O.Sink.faults c.args.out.now) (g.O.Sink.faults c.step.new.out) (g.O.Sink.faults c.loop-turn.out) i.later (omega (arith, steps, i.steps)) c.loop-turn-test.true
+    faulted runs (line_at l) c.loop-turn._turn (c.step.new.self.steps - c.args.self.now.steps) c.args.most (state_of c.step.new.self.machine) _ _ (g.O.Sink.faults c.args.out.now) (g.O.Sink.faults c.step.new.out) (g.O.Sink.faults c.loop-turn.out) (omega (arith, i.same)) (omega (arith, steps, i.steps)) c.loop-turn-test.true
     (then_says c.steps_are_those_of_the_meaning.ensures l c.args.shape.now c.args.self.now.labels c.loop-turn.self.labels (state_of c.args.self.now.machine) c.loop-turn._turn (line_at l) (state_of c.loop-turn.self.machine) (state_of c.step.new.self.machine) c.loop-turn.self.over c.step.result mean.WriteFault _ _ _ _ _ i.running i.labels c.in-WriteFault.is i.goes c.step.ensures.says)
 
 pub loop-turn-preserved : goal.loop-turn-preserved
@@ -53,7 +53,7 @@ loop-turn-preserved g c =
       labels = c.step.ensures.labels ∙ i.labels;
       steps = omega (arith, i.steps, counted c.loop-turn.self.over c.loop-turn.self.steps c.step.new.self.steps c.step.result mean.Went i.running c.in-Went.is c.step.ensures.steps);
       goes = then_says c.steps_are_those_of_the_meaning.ensures l c.args.shape.now c.args.self.now.labels c.loop-turn.self.labels (state_of c.args.self.now.machine) c.loop-turn._turn (line_at l) (state_of c.loop-turn.self.machine) (state_of c.step.new.self.machine) c.loop-turn.self.over c.step.result mean.Went _ _ _ (g.O.Sink.faults c.loop-turn.out) (g.O.Sink.faults c.step.new.out) i.running i.labels c.in-Went.is i.goes c.step.ensures.says;
-      later = omega (arith, i.later, c.step.ensures.later);
+      same = (rw c.in-Went.is at c.step.ensures.kept) ∙ i.same;
     }
 
 pub returns-clause-says : goal.returns-clause-says

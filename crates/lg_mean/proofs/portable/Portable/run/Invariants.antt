@@ -1,4 +1,4 @@
-use Rattle.std.proofs.Common.{◌≡◌, ◌≤◌, ◌+◌, None}
+use Rattle.std.proofs.Common.{◌≡◌, ◌+◌, None}
 use Rattle.lg_meaning.specs.Fits.{Fits}
 use Rattle.lg_meaning.specs.Means.{mean_from}
 use Rattle.lg_mean.specs.Machines.{state_of}
@@ -12,5 +12,5 @@ invariant-loop-turn g l = record {
   labels : l.self.labels ≡ l.fn.self.labels;
   steps : l.self.steps ≡ l.fn.self.steps + l._turn;
   goes : GoesOn (mean_from l.unit.nodes l.shape l.fn.self.labels.addresses (state_of l.fn.self.machine)) l._turn (state_of l.self.machine) (g.O.Sink.taken l.fn.out) (g.O.Sink.taken l.out);
-  later : g.O.Sink.faults l.fn.out ≤ g.O.Sink.faults l.out;
+  same : g.O.Sink.faults l.out ≡ g.O.Sink.faults l.fn.out;
 }
