@@ -1,8 +1,8 @@
 // Sets of registers.
 
-ghost use Rattle.std.specs.Prelude.{◌≡◌, ◌||◌, false, ⊤, [], ◌∷◌, codes};
+ghost use Rattle.std.specs.Prelude.{◌≡◌, ◌||◌, nat_lt, false, ⊤, [], ◌∷◌, codes};
 ghost use Rattle.lg_op.specs.declared.operand.Reg.{Reg};
-ghost use Rattle.lg_live.specs.Registers.{bit_of, is_same};
+ghost use Rattle.lg_live.specs.Registers.{bit_of, is_same, number_of};
 
 use bitflags::{Flag, Flags, bitflag_items};
 use lg_op::Reg;
@@ -68,6 +68,14 @@ impl RegSet {
         ensures small { IsSmall result }
     {
         RegSet(0)
+    }
+
+    /// The set of all six registers.
+    pub fn all() -> RegSet
+        ensures all { (r : Reg) → has result r ≡ nat_lt (number_of r) 6 }
+        ensures small { IsSmall result }
+    {
+        RegSet(63)
     }
 
     /// Whether a register is in the set. FP is in none.

@@ -46,6 +46,21 @@ impl NodeList {
         }
     }
 
+    /// A list of the same nodes, with the same labels at the same places, in memory of its own.
+    pub fn copy(&self, alloc: Global) -> Result<NodeList, OutOfMemory>
+        ensures { IfOk result (λ l. l ≡ self.now) }
+    {
+        let nodes = Vec::from_slice(alloc, &self.nodes)?;
+        let places = Vec::from_slice(alloc, &self.places)?;
+        let words = self.words.clone()?;
+        Ok(NodeList {
+            alloc,
+            nodes,
+            words,
+            places,
+        })
+    }
+
     /// Appends a node. The node is in form, and there are fewer than 2^32 - 1 nodes. At Err nothing changes.
     pub fn push(&mut self, node: Node) -> Result<(), OutOfMemory>
         requires room { length self.old.nodes < 2 ^ 32 - 1 }

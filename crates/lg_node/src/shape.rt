@@ -38,7 +38,7 @@ impl Model for Shape {
 
 impl Shape {
     /// The shape of these functions, where these labels are taken.
-    pub fn from_ranges(ranges: Ranges, taken: Vec<bool>) -> Shape
+    pub(crate) fn from_ranges(ranges: Ranges, taken: Vec<bool>) -> Shape
         requires few { length ranges.functions.items < 2 ^ 32 }
         requires small { All IsSmall ranges.functions.items }
         requires numbers { AreNumbers ranges.functions.items ranges.numbers.items }
@@ -53,11 +53,25 @@ impl Shape {
     }
 
     /// The list of the labels that are taken.
-    pub fn clone_taken(&self, alloc: Global) -> Result<Vec<bool>, OutOfMemory>
+    pub(crate) fn clone_taken(&self, alloc: Global) -> Result<Vec<bool>, OutOfMemory>
         ensures { IfOk result (λ taken. taken.items ≡ self.now.taken) }
     {
         let taken = Vec::from_slice(alloc, &self.taken)?;
         Ok(taken)
+    }
+
+    /// The same shape, in memory of its own.
+    pub fn copy(&self, alloc: Global) -> Result<Shape, OutOfMemory>
+        ensures { IfOk result (λ s. s ≡ self.now) }
+    {
+        let functions = Vec::from_slice(alloc, &self.functions)?;
+        let numbers = Vec::from_slice(alloc, &self.numbers)?;
+        let taken = Vec::from_slice(alloc, &self.taken)?;
+        Ok(Shape {
+            functions,
+            numbers,
+            taken,
+        })
     }
 
     /// How many functions there are. They are numbered in the order of the text.

@@ -1,6 +1,7 @@
 // What a node's temporaries need, and which registers they take.
 
-ghost use Rattle.std.specs.Prelude.{◌≡◌, ◌<◌, ◌≤◌, ◌+◌, [], ◌∷◌, ◌++◌, length, replicate, slice_set, true, false};
+ghost use Rattle.std.specs.Prelude.{◌≡◌, ◌<◌, ◌≤◌, ◌+◌, ◌==◌, ◌↔◌, ℕ, [], ◌∷◌, ◌++◌, length, replicate, slice_set, slice_index_or, count_by, true, false, IsTrue};
+ghost use Rattle.std.specs.List.{All, list_any};
 
 use std::marker::Model;
 
@@ -109,6 +110,28 @@ impl Choices {
         }
     }
 
+    /// The list of these choices, of which there are at most 3.
+    pub fn of(list: &[Choice]) -> Choices
+        requires { length list.now ≤ 3 }
+        ensures { result ≡ list.now }
+    {
+        match list {
+            [] => Choices::new(),
+            [a] => Choices {
+                list: [*a, UNUSED, UNUSED],
+                len: 1,
+            },
+            [a, b] => Choices {
+                list: [*a, *b, UNUSED],
+                len: 2,
+            },
+            _ => Choices {
+                list: [list[0], list[1], list[2]],
+                len: 3,
+            },
+        }
+    }
+
     /// The list with a choice more. There are at most 2 before.
     pub fn with(self, choice: Choice) -> Choices
         requires { length self < 3 }
@@ -155,6 +178,44 @@ impl Staged {
         Staged {
             arguments: [false; 16],
         }
+    }
+
+    /// The set of these arguments. Each number is below 16.
+    pub fn of(list: &[u32]) -> Staged
+        requires { All (λ index. index < 16) list.now }
+        ensures each { (index : ℕ) → slice_index_or result.arguments index false ≡ list_any (λ k. k == index) list.now }
+        ensures count { length result.arguments ≡ 16 }
+    {
+        let mut staged = Staged::none();
+        for index in list {
+            staged = staged.with(*index);
+        }
+        staged
+    }
+
+    /// Whether an argument is in the set. None is from number 16 on.
+    pub fn has(self, index: u32) -> bool
+        ensures { result ≡ slice_index_or self.arguments index false }
+    {
+        self.arguments
+            .get(index as usize)
+            .copied()
+            .unwrap_or(false)
+    }
+
+    /// How many arguments are in the set.
+    pub fn len(self) -> u32
+        ensures value { result ≡ count_by (λ argument. argument) self.arguments }
+        ensures few { result ≤ 16 }
+    {
+        self.arguments.iter().filter(|argument| **argument).count() as u32
+    }
+
+    /// Whether no argument is in the set.
+    pub fn is_empty(self) -> bool
+        ensures { IsTrue result ↔ (count_by (λ argument. argument) self.arguments ≡ 0) }
+    {
+        self.len() == 0
     }
 
     /// The set with an argument more. Its number is below 16.
