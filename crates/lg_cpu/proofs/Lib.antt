@@ -1,6 +1,7 @@
 mod ArgumentLemmas
 mod CallLemmas
 mod FaultLemmas
+mod FollowLemmas
 mod OperatorLemmas
 pub mod RunLemmas
 mod ShownLemmas

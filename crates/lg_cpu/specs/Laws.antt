@@ -1,5 +1,7 @@
 -- What holds of every step of the RV64IM processor.
-use Rattle.std.specs.Prelude.{◌≡◌, ◌≢◌, ℕ, ◌-◌, ◌%◌, ◌^◌, ◌<◌, ◌≤◌, List, [], ◌++◌, drop, slice_index, Some, ⊤}
+use Rattle.std.specs.Prelude.{◌≡◌, ◌≢◌, ℕ, ◌-◌, ◌%◌, ◌^◌, ◌<◌, ◌≤◌, List, [], ◌++◌, drop, slice_index, Option, Some, ⊤}
+use Rattle.std.specs.Io.KnownBytes.{Appends}
+use Rattle.lg_base.specs.declared.target.Target.{Target}
 use Rattle.lg_base.specs.Layout.{code_base}
 use Rattle.lg_base.specs.Runs.{IsMachine}
 use Rattle.lg_host.specs.Host.{heap_end}
@@ -7,15 +9,31 @@ use Rattle.lg_rv.specs.Spelling.{IsInstr, spelling}
 use Rattle.lg_rv.specs.declared.instruction.Instr.{Instr}
 use Rattle.lg_cpu.specs.Steps.{Progress, Goes, EndedWith, Faulted, Effect, machine}
 use Rattle.lg_cpu.specs.States.{CpuState}
-use Rattle.lg_cpu.specs.RvStep.{act, effect, rv_step}
-use Rattle.lg_cpu.specs.Machines.{Shown, CpuSays, run_of}
+use Rattle.lg_cpu.specs.RvStep.{act, effect}
+use Rattle.lg_cpu.specs.Targets.{machine_of}
+use Rattle.lg_cpu.specs.Machines.{Shown, CpuSays, run_of, shown_at_start, IsRunOf}
 use Rattle.lg_cpu.specs.declared.answer.CpuStep.{CpuStep}
 use Rattle.lg_cpu.specs.declared.answer.CpuStep.TheVariants as cpu
 
 -- ---- a step that is answered without a failed write is the step of the definition; code and trash word stay
 abbrev pub StepsAreThose : Type 0
 StepsAreThose = (old new : Shown) (out out' : List ℕ) (count count' : ℕ) (answer : CpuStep) → CpuSays old new (Some out) (Some out') count count' answer → answer ≢ cpu.WriteFault
-    → (run_of new out' ≡ rv_step old.code old.trash (run_of old out)) × (new.code ≡ old.code) × (new.trash ≡ old.trash)
+    → (run_of new out' ≡ (machine_of old.target old.code old.trash).step (run_of old out)) × (new.target ≡ old.target) × (new.code ≡ old.code) × (new.trash ≡ old.trash)
+
+-- a processor that was just made is its run before the first step
+abbrev pub StartsAreRuns : Type 0
+StartsAreRuns = (target : Target) (code image args : List ℕ) (trash : ℕ) → IsRunOf image args [] (shown_at_start target code image args trash)
+
+-- what is seen behind a step, and the bytes that the step wrote
+pub record GoesOnAsRun (image args out : List ℕ) (new : Shown) (taken taken' : Option (List ℕ)) : Type 0 where
+  pub bytes : List ℕ
+  pub written : Appends taken taken' bytes
+  pub run : IsRunOf image args (out ++ bytes) new
+
+-- one that is its run is so behind each step that is answered without a failed write
+abbrev pub StepsFollowRuns : Type 0
+StepsFollowRuns = (image args out : List ℕ) (old new : Shown) (taken taken' : Option (List ℕ)) (count count' : ℕ) (answer : CpuStep)
+    → IsRunOf image args out old → CpuSays old new taken taken' count count' answer → answer ≢ cpu.WriteFault → GoesOnAsRun image args out new taken taken'
 
 -- ---- where an instruction stands, the step is the instruction's
 abbrev pub ExecutesWhatStands : Type 0

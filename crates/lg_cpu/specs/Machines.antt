@@ -1,7 +1,9 @@
 -- What the code of the processors answers and leaves.
-use Rattle.std.specs.Prelude.{◌≡◌, ℕ, List, [], Option, slice_index}
+use Rattle.std.specs.Prelude.{◌≡◌, ℕ, ◌+◌, List, [], Option, slice_index}
 use Rattle.std.specs.Io.KnownBytes.{Appends}
 use Rattle.lg_base.specs.Parts.{byte_at}
+use Rattle.lg_base.specs.declared.target.Target.{Target}
+use Rattle.lg_base.specs.declared.target.Target.TheVariants as target
 use Rattle.lg_io.specs.Counts.{Rose}
 use Rattle.lg_io.specs.Wrote.{AppendsPrefix}
 use Rattle.lg_base.specs.Spaces.{stored}
@@ -10,7 +12,7 @@ use Rattle.lg_cpu.specs.Answers.{answer_of, progress_of, counted}
 use Rattle.lg_base.specs.declared.flags.Flags.TheVariants.{NoFlags}
 use Rattle.lg_cpu.specs.HostSteps.{put}
 use Rattle.lg_cpu.specs.States.{CpuState}
-use Rattle.lg_cpu.specs.RvStep.{effect}
+use Rattle.lg_cpu.specs.Targets.{effect_of, start_of, run_at}
 use Rattle.lg_cpu.specs.declared.riscv64.Riscv64.{Riscv64}
 use Rattle.lg_cpu.specs.declared.cpu.Cpu.{Cpu}
 use Rattle.lg_cpu.specs.declared.answer.CpuStep.{CpuStep}
@@ -33,20 +35,21 @@ fixed_of p = record { code = p.board.code.items; trash = p.board.trash }
 abbrev pub Does : Effect CpuState → Riscv64 → Riscv64 → CpuStep → Type 0
 Does e old new answer = (answer ≡ answer_of e.progress) × (state_of new ≡ e.to) × (fixed_of new ≡ fixed_of old) × (e.written ≡ [])
 
--- a step has this effect; taken and count are those of the sink, before and after
-abbrev pub Comes : Effect CpuState → Riscv64 → Riscv64 → Option (List ℕ) → Option (List ℕ) → CpuStep → Type 0
-Comes e old new taken taken' answer = (answer ≡ answer_of e.progress) × (state_of new ≡ e.to) × (fixed_of new ≡ fixed_of old) × Appends taken taken' e.written
+-- a step has this effect, and no write failed; taken and count are those of the sink, before and after
+abbrev pub Comes : Effect CpuState → Riscv64 → Riscv64 → Option (List ℕ) → Option (List ℕ) → ℕ → ℕ → CpuStep → Type 0
+Comes e old new taken taken' count count' answer = (answer ≡ answer_of e.progress) × (state_of new ≡ e.to) × (fixed_of new ≡ fixed_of old) × Appends taken taken' e.written × (count' ≡ count)
 
 -- and where a write fails nothing but the sink changes
 abbrev pub StepSays : Effect CpuState → Riscv64 → Riscv64 → Option (List ℕ) → Option (List ℕ) → ℕ → ℕ → CpuStep → Type 0
 StepSays e old new taken taken' count count' cpu.WriteFault = (state_of new ≡ state_of old) × (fixed_of new ≡ fixed_of old) × Rose count count' × AppendsPrefix taken taken' e.written
-StepSays e old new taken taken' count count' answer = Comes e old new taken taken' answer
+StepSays e old new taken taken' count count' answer = Comes e old new taken taken' count count' answer
 
 -- ---- the public processor
 
--- what is seen of it: the code, the word that registers hold which nothing has set, the state, what its steps answer (Went
+-- what is seen of it: the target, the code, the word that registers hold which nothing has set, the state, what its steps answer (Went
 -- while the run goes on), and how many instructions and host steps went or ended
 pub record Shown : Type 0 where
+  pub target : Target
   pub code : List ℕ
   pub trash : ℕ
   pub state : CpuState
@@ -55,6 +58,7 @@ pub record Shown : Type 0 where
 
 abbrev pub shown : Cpu → Shown
 shown c = record {
+  target = target.Riscv64;
   code = (fixed_of c.processor).code;
   trash = (fixed_of c.processor).trash;
   state = state_of c.processor;
@@ -62,15 +66,19 @@ shown c = record {
   steps = c.steps;
 }
 
+-- before its first step
+abbrev pub shown_at_start : Target → (code image args : List ℕ) → ℕ → Shown
+shown_at_start t code image args trash = record { target = t; code = code; trash = trash; state = start_of t image args trash; answer = cpu.Went; steps = 0 }
+
 -- behind a step with this effect
 abbrev pub after_step : Effect CpuState → Shown → Shown
 after_step e s = record s { state = e.to; answer = answer_of e.progress; steps = counted (answer_of e.progress) s.steps }
 
 -- a step of a run that goes on has this effect; where a write fails a part of its output was written, the sink's count of
--- faults rose, and nothing else changed
+-- faults rose, and nothing else changed; else the count stays
 abbrev pub StepShows : Effect CpuState → Shown → Shown → Option (List ℕ) → Option (List ℕ) → ℕ → ℕ → CpuStep → Type 0
 StepShows e old new taken taken' count count' cpu.WriteFault = (new ≡ record old { answer = cpu.WriteFault }) × Rose count count' × AppendsPrefix taken taken' e.written
-StepShows e old new taken taken' count count' answer = (answer ≡ answer_of e.progress) × (new ≡ after_step e old) × Appends taken taken' e.written
+StepShows e old new taken taken' count count' answer = (answer ≡ answer_of e.progress) × (new ≡ after_step e old) × Appends taken taken' e.written × (count' ≡ count)
 
 -- a run that is over answers what it answered, and nothing changes
 abbrev pub SaysAfter : CpuStep → Effect CpuState → Shown → Shown → Option (List ℕ) → Option (List ℕ) → ℕ → ℕ → CpuStep → Type 0
@@ -78,11 +86,20 @@ SaysAfter cpu.Went e old new taken taken' count count' answer = StepShows e old 
 SaysAfter before e old new taken taken' count count' answer = (answer ≡ before) × (new ≡ old) × (taken' ≡ taken) × (count' ≡ count)
 
 abbrev pub CpuSays : Shown → Shown → Option (List ℕ) → Option (List ℕ) → ℕ → ℕ → CpuStep → Type 0
-CpuSays old new taken taken' count count' answer = SaysAfter old.answer (effect old.code old.trash old.state) old new taken taken' count count' answer
+CpuSays old new taken taken' count count' answer = SaysAfter old.answer (effect_of old.target old.code old.trash old.state) old new taken taken' count count' answer
 
 -- the run of which this is seen, where these bytes were written
 abbrev pub run_of : Shown → List ℕ → Run CpuState
 run_of s out = record { state = s.state; progress = progress_of s.answer; out = out }
+
+-- the steps that a run has made which has answered so and counts so many: a step that faults is not counted
+abbrev pub steps_made : CpuStep → ℕ → ℕ
+steps_made (cpu.Fault kind) steps = steps + 1
+steps_made answer steps = steps
+
+-- this is seen of the run of its code, over a data part and an argument part, which has written these bytes, after all the steps that it has made
+abbrev pub IsRunOf : (image args out : List ℕ) → Shown → Type 0
+IsRunOf image args out s = run_of s out ≡ run_at s.target s.code image args s.trash (steps_made s.answer s.steps)
 
 -- a register is set, the run goes on elsewhere, bytes are stored
 abbrev pub after_set : Shown → ℕ → ℕ → Shown

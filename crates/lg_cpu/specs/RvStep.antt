@@ -26,7 +26,7 @@ use Rattle.lg_rv.specs.declared.instruction.RegOp.TheVariants.{Add, Slt, Sltu, X
 use Rattle.lg_rv.specs.Reading.{front_of}
 use Rattle.lg_base.specs.declared.flags.Flags.TheVariants.{NoFlags}
 use Rattle.lg_cpu.specs.States.{CpuState}
-use Rattle.lg_cpu.specs.Steps.{Effect, EndedWith, Run, arrived, faults, stepped}
+use Rattle.lg_cpu.specs.Steps.{Effect, EndedWith, arrived, faults}
 use Rattle.lg_cpu.specs.HostSteps.{argument_words, put, behind_call}
 use Rattle.lg_base.specs.Arguments.{argument_count}
 use Rattle.lg_cpu.specs.Starts.{start_bytes}
@@ -155,10 +155,6 @@ effect_at (Some name) code trash q = enter_host name trash q
 -- what a step does with this code and trash word
 abbrev pub effect : List ℕ → ℕ → CpuState → Effect CpuState
 effect code trash q = effect_at (host_by_address q.pc) code trash q
-
--- the run one step further; a run that is over stays
-abbrev pub rv_step : List ℕ → ℕ → Run CpuState → Run CpuState
-rv_step code trash = stepped (effect code trash)
 
 -- ---- the start
 

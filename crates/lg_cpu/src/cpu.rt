@@ -5,7 +5,7 @@ ghost use Rattle.lg_base.specs.Layout.{most_code};
 ghost use Rattle.lg_base.specs.Arguments.{most_args};
 ghost use Rattle.lg_base.specs.Spaces.{loaded, mapped};
 ghost use Rattle.lg_base.specs.declared.target.Target.{Target};
-ghost use Rattle.lg_cpu.specs.RvStep.{read, effect, start_state};
+ghost use Rattle.lg_cpu.specs.RvStep.{read, effect};
 ghost use Rattle.lg_cpu.specs.Answers.{is_counted};
 
 use crate::answer::CpuStep;
@@ -40,7 +40,7 @@ fn is_counted(answer: CpuStep) -> bool
 }
 
 impl Cpu {
-    ghost use Rattle.lg_cpu.specs.Machines.{shown, CpuSays, StepShows, after_set, after_jump, after_store};
+    ghost use Rattle.lg_cpu.specs.Machines.{shown, shown_at_start, CpuSays, StepShows, after_set, after_jump, after_store};
 
     /// A processor before its first step: at the first address of the code, with the data part and the argument part in
     /// memory and zeros elsewhere. It finds the number of the argument part's strings and the part's address in the registers
@@ -59,7 +59,7 @@ impl Cpu {
         requires code { length code.now.items ≤ most_code }
         requires image { length image.now ≤ 0x1000000 }
         requires args { length args.now ≤ most_args }
-        ensures { IfOk result (λ c. shown c ≡ record { code = code.now.items; trash = trash; state = start_state image.now args.now trash; answer = CpuStep.Went; steps = 0 }) }
+        ensures { IfOk result (λ c. shown c ≡ shown_at_start target code.now.items image.now args.now trash) }
     {
         let board = Board {
             code: CodeBytes::of(alloc, code.as_slice())?,

@@ -1,10 +1,21 @@
 // What holds of every step, for the crates above. The functions do nothing: their contracts are the laws.
 
-ghost use Rattle.lg_cpu.specs.Laws.{StepsAreThose, ExecutesWhatStands, FaultsChangeNothing, StaysSound, RunsAreMachines};
+ghost use Rattle.lg_cpu.specs.Laws.{StepsAreThose, StartsAreRuns, StepsFollowRuns, ExecutesWhatStands, FaultsChangeNothing, StaysSound, RunsAreMachines};
 
 /// A call of `step` makes the step of the definition, unless a write fails.
 pub fn steps_are_those_of_the_definition()
     ensures { StepsAreThose }
+{}
+
+/// A processor that was just made is the run of its code before the first step.
+pub fn starts_are_those_of_the_run()
+    ensures { StartsAreRuns }
+{}
+
+/// A processor that is the run of its code after as many steps as it has made is so behind its next step, unless a write fails: after n steps
+/// that went or ended it is the run after n steps.
+pub fn steps_follow_the_run()
+    ensures { StepsFollowRuns }
 {}
 
 /// Where the program counter is the address of an instruction's spelling in the code, the step is the instruction's.

@@ -13,6 +13,7 @@ pub mod OpenFacts
 pub mod Outcomes
 pub mod PartLemmas
 pub mod PushLemmas
+pub mod ReachLemmas
 pub mod StackLemmas
 pub mod StartLemmas
 pub mod StayLemmas

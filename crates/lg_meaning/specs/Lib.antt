@@ -3,6 +3,7 @@ pub mod Fits
 pub mod Laws
 pub mod Means
 pub mod Parts
+pub mod Reaching
 pub mod Stacks
 pub mod Starts
 pub mod States

@@ -1,6 +1,7 @@
 // What holds of the portable meaning, for the crates that hold its state and follow its runs. The functions do nothing: their
 // contracts are the laws.
 
+ghost use Rattle.lg_meaning.specs.Reaching.{StepsReachSuccessors, TakenLabelsAreSuccessors};
 ghost use Rattle.lg_meaning.specs.Laws.{StartsFit, StepsKeepFit, MeansFit, FramesAreOfFunctions, StepsGrow, MeansHoldParts, FitsOpensLocals, MeansAreMachines, StepsAreMeans, PlainAddressesAre};
 
 use lg_node::laws::{accepted_nodes_are_well_shaped, accepted_nodes_have_functions};
@@ -77,4 +78,15 @@ pub fn steps_are_those_of_the_meaning()
 /// code of at least 256 bytes for each node.
 pub fn plain_addresses_are_addresses()
     ensures { PlainAddressesAre }
+{}
+
+/// A step of an accepted text that goes to a node, from one that is no return, goes to a successor of its node, or begins a function, where
+/// no register is defined.
+pub fn steps_reach_successors()
+    ensures { StepsReachSuccessors }
+{}
+
+/// The taken labels of a function are successors of each `jmpr` in it.
+pub fn taken_labels_are_successors()
+    ensures { TakenLabelsAreSuccessors }
 {}

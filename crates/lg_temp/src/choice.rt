@@ -197,10 +197,7 @@ impl Staged {
     pub fn has(self, index: u32) -> bool
         ensures { result ≡ slice_index_or self.arguments index false }
     {
-        self.arguments
-            .get(index as usize)
-            .copied()
-            .unwrap_or(false)
+        self.arguments.get(index as usize).copied().unwrap_or(false)
     }
 
     /// How many arguments are in the set.
