@@ -1,7 +1,8 @@
 // Each list that takes memory, made once and read back.
 
-use lg_base::code::{CodeBytes, LabelAddresses, Places};
+use lg_base::code::{CodeBytes, Origin, Places};
 use lg_base::image::{ArgImage, DataImage};
+use lg_node::LabelAddresses;
 use std::test::Fail;
 
 #[test]
@@ -28,6 +29,11 @@ fn holds_places_and_addresses(rt: HostRuntime) -> Result<(), Fail> {
     let mut grown = Places::with_room(rt.alloc(), 1)?;
     grown.push(12);
     assert_eq!(rt; grown.get(0), 12);
+    let origin = Origin::of(rt.alloc(), &[0, 2])?;
+    assert_eq!(rt; origin.as_slice(), [0, 2].as_slice());
+    let mut grown = Origin::with_room(rt.alloc(), 1)?;
+    grown.push(5);
+    assert_eq!(rt; grown.get(0), 5);
     let addresses = LabelAddresses::of(rt.alloc(), &[0x1000_0000])?;
     assert_eq!(rt; addresses.get(0), 0x1000_0000);
     assert_eq!(rt; addresses.len(), 1);
