@@ -1,0 +1,11 @@
+use Rattle.std.proofs.Common.{ap, ◌∙◌, codes}
+use Rattle.std.specs.Prelude.{unwrap_or}
+use Rattle.clap.specs.Words.{found_of}
+use Rattle.clap.proofs.WalkLemmas.{first_value-rows}
+use Rattle.lg_command.proofs.getters.file.Goals as goal
+
+pub returns-in-Some : goal.returns-in-Some
+returns-in-Some c = ap (λ o. unwrap_or o (codes "-")) (c.in-Some.ensures ∙ first_value-rows (found_of c.args.matches.now) (codes "FILE"))
+
+pub returns-in-None : goal.returns-in-None
+returns-in-None c = ap (λ o. unwrap_or o (codes "-")) (c.in-None.ensures ∙ first_value-rows (found_of c.args.matches.now) (codes "FILE"))

@@ -1,0 +1,93 @@
+-- What the words of the command ask for.
+use Rattle.std.specs.Prelude.{◌≡◌, ◌≢◌, ℕ, ◌^◌, min, max, Bool, true, false, ◌&&◌, nat_lt, List, [], ◌∷◌, length, Option, Some, None, codes, unwrap_or, if◌then◌else◌}
+use Rattle.std.specs.Char.{digit_value}
+use Rattle.std.specs.Str.{bytes_eq}
+use Rattle.std.specs.Str.Parse.{digits_value, without_leading_plus}
+use Rattle.clap.specs.Words.{App, Row, Text, takes, matches_of, first_of, one_of, all_of, fault_of}
+use Rattle.lg_base.specs.Arguments.{texts_of}
+use Rattle.lg_base.specs.declared.target.Target.{Target}
+use Rattle.lg_base.specs.declared.target.Target.TheVariants as target
+use Rattle.lg_command.specs.Rules.{IsApp}
+use Rattle.lg_command.specs.declared.command.Command.{Command as Held}
+use Rattle.lg_command.specs.declared.command.Mode.{Mode}
+use Rattle.lg_command.specs.declared.command.Mode.TheVariants as mode
+
+-- what is done with the text of a file, for which target, with at most so many steps and so many bytes of code, and the words of the
+-- arguments, which begin with the file
+pub record Command : Type 0 where
+  pub mode : Mode
+  pub target : Target
+  pub steps : ℕ
+  pub size : ℕ
+  pub file : Text
+  pub arguments : List Text
+
+abbrev pub mode_of : Option Text → Mode
+mode_of None = mode.Run
+mode_of (Some t) = if bytes_eq t (codes "mean") then mode.Mean else mode.Run
+
+abbrev pub target_of : Option Text → Target
+target_of None = target.X86_64
+target_of (Some t) = if bytes_eq t (codes "riscv64") then target.Riscv64 else (if bytes_eq t (codes "aarch64") then target.Aarch64 else target.X86_64)
+
+abbrev pub are_digits : Text → Bool
+are_digits [] = true
+are_digits (c ∷ cs) = nat_lt (digit_value c) 10 && are_digits cs
+
+-- one digit or more, and the number that they write has at most 64 bits
+abbrev pub is_number : Text → Bool
+is_number t = nat_lt 0 (length t) && are_digits t && nat_lt (digits_value 10 t) (2 ^ 64)
+
+-- the number that a text writes, behind a plus or without one, and another number where it writes none
+abbrev pub number_of : ℕ → Option Text → ℕ
+number_of other None = other
+number_of other (Some t) = let digits = without_leading_plus t in if is_number digits then digits_value 10 digits else other
+
+-- a number between two others
+abbrev pub between : ℕ → ℕ → ℕ → ℕ
+between least most n = min (max n least) most
+
+abbrev pub file_of : List Row → Text
+file_of rows = unwrap_or (first_of (codes "FILE") rows) (codes "-")
+
+-- the command that the values of the arguments give
+abbrev pub command_of : List Row → Command
+command_of rows = record {
+  mode = mode_of (first_of (codes "mode") rows);
+  target = target_of (first_of (codes "target") rows);
+  steps = between 1 1000000000000 (number_of 1000000000 (one_of (codes "steps") rows));
+  size = between 256 1048576 (number_of 1048576 (one_of (codes "code") rows));
+  file = file_of rows;
+  arguments = file_of rows ∷ unwrap_or (all_of (codes "ARG") rows) [];
+}
+
+-- clap reads these values in the words, and no fault
+pub record AreRows (words : List Text) (rows : List Row) : Type 0 where
+  pub app : App
+  pub is : IsApp app
+  pub faultless : fault_of app words ≡ []
+  pub are : rows ≡ matches_of app words
+
+-- the words ask for this command
+pub record IsCommand (words : List Text) (command : Command) : Type 0 where
+  pub rows : List Row
+  pub read : AreRows words rows
+  pub is : command ≡ command_of rows
+
+-- clap does not take the words
+pub record AreNoCommand (words : List Text) : Type 0 where
+  pub app : App
+  pub is : IsApp app
+  pub refused : takes app words ≡ false
+
+-- clap takes the words
+abbrev pub Takes : List Text → Type 0
+Takes words = (app : App) → IsApp app → takes app words ≡ true
+
+-- clap finds a fault in the words
+abbrev pub HasFault : List Text → Type 0
+HasFault words = (app : App) → IsApp app → fault_of app words ≢ []
+
+-- a command as it is held
+abbrev pub shown : Held → Command
+shown c = record { mode = c.mode; target = c.target; steps = c.steps; size = c.size; file = c.file.now; arguments = texts_of c.arguments.items }

@@ -1,0 +1,88 @@
+// The arguments of the command, each with its rule.
+
+ghost use Rattle.std.specs.Prelude.{◌≡◌, IfOk, false};
+ghost use Rattle.clap.specs.Words.{app_of, rule_of};
+ghost use Rattle.lg_command.specs.Rules.{IsApp, IsModeRule, IsTargetRule, steps_rule, code_rule, file_rule, rest_rule};
+
+use clap::{Arg, ArgAction, Command, value_parser};
+use std::alloc::{AllocError, Global};
+
+static MODES: [&str; 2] = ["run", "mean"];
+
+static TARGETS: [&str; 3] = ["x86_64", "aarch64", "riscv64"];
+
+fn mode_argument<'a>(alloc: Global) -> Arg<'a>
+    ensures rule { IsModeRule (rule_of result) }
+    ensures local { result.global ≡ false }
+{
+    Arg::new(alloc, "mode")
+        .long("mode")
+        .action(ArgAction::Set)
+        .default_value("run")
+        .value_parser(MODES.as_slice())
+}
+
+fn target_argument<'a>(alloc: Global) -> Arg<'a>
+    ensures rule { IsTargetRule (rule_of result) }
+    ensures local { result.global ≡ false }
+{
+    Arg::new(alloc, "target")
+        .long("target")
+        .action(ArgAction::Set)
+        .default_value("x86_64")
+        .value_parser(TARGETS.as_slice())
+}
+
+fn steps_argument<'a>(alloc: Global) -> Arg<'a>
+    ensures rule { rule_of result ≡ steps_rule }
+    ensures local { result.global ≡ false }
+{
+    Arg::new(alloc, "steps")
+        .long("steps")
+        .action(ArgAction::Set)
+        .default_value("1000000000")
+        .value_parser(value_parser!(u64).range(1..=1_000_000_000_000))
+}
+
+fn code_argument<'a>(alloc: Global) -> Arg<'a>
+    ensures rule { rule_of result ≡ code_rule }
+    ensures local { result.global ≡ false }
+{
+    Arg::new(alloc, "code")
+        .long("code")
+        .action(ArgAction::Set)
+        .default_value("1048576")
+        .value_parser(value_parser!(u64).range(256..=1_048_576))
+}
+
+fn file_argument<'a>(alloc: Global) -> Arg<'a>
+    ensures rule { rule_of result ≡ file_rule }
+    ensures local { result.global ≡ false }
+{
+    Arg::new(alloc, "FILE")
+        .action(ArgAction::Set)
+        .default_value("-")
+}
+
+fn rest_argument<'a>(alloc: Global) -> Arg<'a>
+    ensures rule { rule_of result ≡ rest_rule }
+    ensures local { result.global ≡ false }
+{
+    Arg::new(alloc, "ARG")
+        .action(ArgAction::Append)
+        .num_args(0..)
+}
+
+/// The command with its arguments.
+pub fn command<'a>(alloc: Global) -> Result<Command<'a>, AllocError>
+    ensures { IfOk result (λ c. IsApp (app_of c)) }
+{
+    Command::new(alloc, "lightning")
+        .disable_help_flag(true)
+        .arg(mode_argument(alloc))?
+        .arg(target_argument(alloc))?
+        .arg(steps_argument(alloc))?
+        .arg(code_argument(alloc))?
+        .arg(file_argument(alloc))?
+        .arg(rest_argument(alloc))
+}

@@ -1,0 +1,38 @@
+// What words ask for.
+
+use lg_base::target::Target;
+
+/// What is done with a text.
+#[derive(Clone, Copy, Debug, PartialEq, Eq)]
+pub enum Mode {
+    /// Its code runs.
+    Run,
+    /// Its portable meaning runs, over the addresses of the code's labels.
+    Mean,
+}
+
+/// What the words of the command ask for.
+#[derive(Drop)]
+pub struct Command<'a> {
+    /// What is done.
+    pub mode: Mode,
+    /// The processor that code is made for.
+    pub target: Target,
+    /// The most steps of the run.
+    pub steps: u64,
+    /// The most bytes of the code.
+    pub size: u32,
+    /// The name of the text.
+    pub file: &'a str,
+    /// The words of the arguments: the name of the text, and what follows it.
+    pub arguments: Vec<String>,
+}
+
+/// Why the words give no command.
+#[derive(Clone, Copy, Debug, PartialEq, Eq)]
+pub enum WordsStop {
+    /// The words are not of the command's form.
+    Usage,
+    /// Memory could not be had.
+    OutOfMemory,
+}

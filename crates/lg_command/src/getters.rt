@@ -1,0 +1,107 @@
+// What each argument gives.
+
+ghost use Rattle.std.specs.Prelude.{◌≡◌, ◌∷◌, [], ◌++◌, ◌≤◌, IfOk, OnOk, map, option_map, unwrap_or, codes};
+ghost use Rattle.clap.specs.Words.{found_of, rows_of, first_of, one_of, all_of};
+ghost use Rattle.lg_base.specs.Arguments.{texts_of};
+ghost use Rattle.lg_command.specs.Commands.{mode_of, target_of, number_of, between, file_of};
+
+use crate::command::Mode;
+use clap::ArgMatches;
+use lg_base::refusal::OutOfMemory;
+use lg_base::target::Target;
+use std::alloc::Global;
+
+// The mode of a word.
+fn mode_named(word: Option<&str>) -> Mode
+    ensures { result ≡ mode_of (option_map (λ s. s.now) word.entry) }
+{
+    match word {
+        Some("mean") => Mode::Mean,
+        _ => Mode::Run,
+    }
+}
+
+/// What is done.
+pub fn mode(matches: &ArgMatches<'_>) -> Mode
+    ensures { result ≡ mode_of (first_of (codes "mode") (rows_of (found_of matches.now))) }
+{
+    mode_named(matches.get_str("mode"))
+}
+
+// The target of a word.
+fn target_named(word: Option<&str>) -> Target
+    ensures { result ≡ target_of (option_map (λ s. s.now) word.entry) }
+{
+    match word {
+        Some("riscv64") => Target::Riscv64,
+        Some("aarch64") => Target::Aarch64,
+        _ => Target::X86_64,
+    }
+}
+
+/// The processor that code is made for.
+pub fn target(matches: &ArgMatches<'_>) -> Target
+    ensures { result ≡ target_of (first_of (codes "target") (rows_of (found_of matches.now))) }
+{
+    target_named(matches.get_str("target"))
+}
+
+// The number of an argument, and another where it has none.
+fn number(matches: &ArgMatches<'_>, id: &str, other: u64) -> u64
+    ensures { result ≡ number_of other (one_of id.now (rows_of (found_of matches.now))) }
+{
+    match matches.get_one::<u64>(id) {
+        Some(number) => number,
+        None => other,
+    }
+}
+
+/// The most steps of the run.
+pub fn steps(matches: &ArgMatches<'_>) -> u64
+    ensures { result ≡ between 1 1000000000000 (number_of 1000000000 (one_of (codes "steps") (rows_of (found_of matches.now)))) }
+{
+    number(matches, "steps", 1_000_000_000).clamp(1, 1_000_000_000_000)
+}
+
+/// The most bytes of the code.
+pub fn size(matches: &ArgMatches<'_>) -> u32
+    ensures { result ≡ between 256 1048576 (number_of 1048576 (one_of (codes "code") (rows_of (found_of matches.now)))) }
+{
+    number(matches, "code", 1_048_576).clamp(256, 1_048_576) as u32
+}
+
+/// The name of the text.
+pub fn file<'a>(matches: &ArgMatches<'a>) -> &'a str
+    ensures { result.now ≡ file_of (rows_of (found_of matches.now)) }
+{
+    match matches.get_str("FILE") {
+        Some(file) => file,
+        None => "-",
+    }
+}
+
+// Appends words to those of the arguments.
+fn push_words(arguments: &mut Vec<String>, words: &[&str], alloc: Global) -> Result<(), OutOfMemory>
+    ensures { OnOk result (texts_of arguments.new.items ≡ texts_of arguments.old.items ++ map (λ s. s.now) words.now) }
+{
+    for word in words {
+        arguments.push(String::from_str(alloc, word)?)?;
+    }
+    Ok(())
+}
+
+/// The words of the arguments, behind the name of the text.
+pub fn arguments(
+    alloc: Global,
+    file: &str,
+    matches: &ArgMatches<'_>,
+) -> Result<Vec<String>, OutOfMemory>
+    ensures { IfOk result (λ a. texts_of a.items ≡ file.now ∷ unwrap_or (all_of (codes "ARG") (rows_of (found_of matches.now))) []) }
+{
+    let mut arguments = Vec::new(alloc);
+    arguments.push(String::from_str(alloc, file)?)?;
+    if let Some(words) = matches.get_strs("ARG") {
+        push_words(&mut arguments, words, alloc)?;
+    }
+    Ok(arguments)
+}
