@@ -1,10 +1,10 @@
 -- What is a number by the test is one by std's words.
 use Rattle.std.proofs.Common.{◌≡◌, ℕ, ◌^◌, ◌<◌, Bool, true, false, List, [], ◌∷◌, length, refl, sym, ap, ◌∙◌}
-use Rattle.std.specs.Prelude.{Result, Ok, Err, ◌&&◌, nat_lt, if◌then◌else◌}
+use Rattle.std.specs.Prelude.{◌&&◌, nat_lt, if◌then◌else◌}
 use Rattle.std.specs.Bool.{Decides}
 use Rattle.std.specs.Char.{digit_value}
-use Rattle.std.specs.Str.Parse.{AllDigits, IsNumeral, ParsesUnsigned, digits_value, without_leading_plus}
-use Rattle.std.proofs.lemmas.Bool.Decides.{Decides-and, Decides-ltb, not_from_Decides}
+use Rattle.std.specs.Str.Parse.{AllDigits, IsNumeral, digits_value, without_leading_plus}
+use Rattle.std.proofs.lemmas.Bool.Decides.{Decides-and, Decides-ltb}
 use Rattle.lg_command.specs.Commands.{are_digits, is_number}
 
 digits_decide : (t : List ℕ) → Decides (are_digits t) (AllDigits 10 t)
@@ -20,18 +20,18 @@ not_true : (b : Bool) → (b ≡ true → ⊥) → b ≡ false
 not_true true h = absurd (h refl)
 not_true false h = refl
 
--- a text that is read is a number, and that one
-pub read_number : {E : Type 0} (t : List ℕ) (n other : ℕ) → ParsesUnsigned {E = E} 64 10 t (Ok n)
+-- what is read of a text is its number
+pub read_number : (t : List ℕ) (n other : ℕ) → ((IsNumeral 10 (without_leading_plus t) × (digits_value 10 (without_leading_plus t) < 2 ^ 64)) × (n ≡ digits_value 10 (without_leading_plus t)))
     → n ≡ (if is_number (without_leading_plus t) then digits_value 10 (without_leading_plus t) else other)
 read_number t n other h =
     let ds = without_leading_plus t in
     let yes = (number_decides ds).1 h.0 in
     h.1 ∙ sym (ap (λ b. if b then digits_value 10 ds else other) yes)
 
--- and one that is not read is none
-pub no_number : {E : Type 0} (t : List ℕ) (e : E) (other : ℕ) → ParsesUnsigned {E = E} 64 10 t (Err e)
+-- and where none is read there is none
+pub no_number : (t : List ℕ) (other : ℕ) → ¬ (IsNumeral 10 (without_leading_plus t) × (digits_value 10 (without_leading_plus t) < 2 ^ 64))
     → other ≡ (if is_number (without_leading_plus t) then digits_value 10 (without_leading_plus t) else other)
-no_number t e other h =
+no_number t other h =
     let ds = without_leading_plus t in
     let no = not_true (is_number ds) (λ yes. h ((number_decides ds).0 yes)) in
     sym (ap (λ b. if b then digits_value 10 ds else other) no)

@@ -90,7 +90,16 @@ fn push_words(arguments: &mut Vec<String>, words: &[&str], alloc: Global) -> Res
     Ok(())
 }
 
-/// The words of the arguments, behind the name of the text.
+// The words of the arguments with no words behind the name of the text.
+fn first(alloc: Global, file: &str) -> Result<Vec<String>, OutOfMemory>
+    ensures { IfOk result (λ a. texts_of a.items ≡ file.now ∷ []) }
+{
+    let mut arguments = Vec::new(alloc);
+    arguments.push(String::from_str(alloc, file)?)?;
+    Ok(arguments)
+}
+
+/// The words of the arguments: the name of the text, and what follows it.
 pub fn arguments(
     alloc: Global,
     file: &str,
@@ -98,10 +107,12 @@ pub fn arguments(
 ) -> Result<Vec<String>, OutOfMemory>
     ensures { IfOk result (λ a. texts_of a.items ≡ file.now ∷ unwrap_or (all_of (codes "ARG") (rows_of (found_of matches.now))) []) }
 {
-    let mut arguments = Vec::new(alloc);
-    arguments.push(String::from_str(alloc, file)?)?;
-    if let Some(words) = matches.get_strs("ARG") {
-        push_words(&mut arguments, words, alloc)?;
+    let mut arguments = first(alloc, file)?;
+    match matches.get_strs("ARG") {
+        Some(words) => {
+            push_words(&mut arguments, words, alloc)?;
+            Ok(arguments)
+        }
+        None => Ok(arguments),
     }
-    Ok(arguments)
 }

@@ -1,5 +1,5 @@
-use Rattle.std.proofs.Common.{◌≡◌, ℕ, Option, Some, None, List, refl, sym, ap, ◌∙◌, subst}
-use Rattle.clap.specs.Words.{Text, found_of, one_of, one_text, rows_of}
+use Rattle.std.proofs.Common.{◌≡◌, ℕ, Option, Some, None, refl, ◌∙◌}
+use Rattle.clap.specs.Words.{Text, found_of, one_of, rows_of}
 use Rattle.clap.proofs.WalkLemmas.{one_text-rows}
 use Rattle.lg_command.specs.Commands.{number_of}
 use Rattle.lg_command.proofs.Numbers.{read_number, no_number}
@@ -23,4 +23,4 @@ pub returns-in-None : goal.returns-in-None
 returns-in-None c =
     let rows = one_text-rows (found_of c.args.matches.now) c.args.id.now in
     by_text c.args.other c.args.other (one_of c.args.id.now (rows_of (found_of c.args.matches.now))) (λ e. refl)
-    (λ t e. let h = c.in-None.ensures.value t (rows ∙ e) in no_number t h.0 c.args.other h.1.0)
+    (λ t e. let h = c.in-None.ensures.value t (rows ∙ e) in no_number t c.args.other h.1.0)

@@ -1,0 +1,26 @@
+use Rattle.std.proofs.Common.{◌≡◌, ℕ, List, [], ◌∷◌, ap, ◌∙◌, codes}
+use Rattle.std.specs.Prelude.{unwrap_or}
+use Rattle.clap.specs.Words.{Text, all_of, found_of, rows_of}
+use Rattle.lg_base.specs.declared.target.Target.{Target}
+use Rattle.lg_command.specs.Commands.{Command}
+use Rattle.lg_command.specs.declared.command.Mode.{Mode}
+use Rattle.lg_command.proofs.words.read_words.Goals as goal
+
+abbrev of_parts : Mode → Target → ℕ → ℕ → Text → List Text → Command
+of_parts m t s z f g = record { mode = m; target = t; steps = s; size = z; file = f; arguments = g }
+
+-- commands with the same parts are the same
+same_command : {m m' : Mode} {t t' : Target} {s s' z z' : ℕ} {f f' : Text} {g g' : List Text} → m ≡ m' → t ≡ t' → s ≡ s' → z ≡ z' → f ≡ f' → g ≡ g' → of_parts m t s z f g ≡ of_parts m' t' s' z' f' g'
+same_command {m} {m'} {t} {t'} {s} {s'} {z} {z'} {f} {f'} {g} {g'} a b c d e h =
+    ap (λ x. of_parts x t s z f g) a ∙ ap (λ x. of_parts m' x s z f g) b ∙ ap (λ x. of_parts m' t' x z f g) c
+    ∙ ap (λ x. of_parts m' t' s' x f g) d ∙ ap (λ x. of_parts m' t' s' z' x g) e ∙ ap (λ x. of_parts m' t' s' z' f' x) h
+
+pub returns-in-Ok-clause-command : goal.returns-in-Ok-clause-command
+returns-in-Ok-clause-command c =
+    let rows = rows_of (found_of c.in_ok-matches.matches) in
+    record {
+      rows = rows;
+      read = c.in_ok-matches.ensures.ok;
+      is = same_command c.mode.ensures c.target.ensures c.steps.ensures c.size.ensures c.file-file.ensures
+          (c.in-Ok.ensures ∙ ap (λ f. f ∷ unwrap_or (all_of (codes "ARG") rows) []) c.file-file.ensures);
+    }
