@@ -1,5 +1,5 @@
 -- What the words of the command ask for.
-use Rattle.std.specs.Prelude.{◌≡◌, ◌≢◌, ℕ, ◌^◌, min, max, Bool, true, false, ◌&&◌, nat_lt, List, [], ◌∷◌, length, Option, Some, None, codes, unwrap_or, if◌then◌else◌}
+use Rattle.std.specs.Prelude.{◌≡◌, ◌≢◌, ◌<◌, ◌≤◌, ℕ, ◌^◌, min, max, Bool, true, false, ◌&&◌, nat_lt, List, [], ◌∷◌, length, Option, Some, None, codes, unwrap_or, if◌then◌else◌}
 use Rattle.std.specs.Char.{digit_value}
 use Rattle.std.specs.Str.{bytes_eq}
 use Rattle.std.specs.Str.Parse.{digits_value, without_leading_plus}
@@ -91,3 +91,10 @@ HasFault words = (app : App) → IsApp app → fault_of app words ≢ []
 -- a command as it is held
 abbrev pub shown : Held → Command
 shown c = record { mode = c.mode; target = c.target; steps = c.steps; size = c.size; file = c.file.now; arguments = texts_of c.arguments.items }
+
+-- its numbers are in their ranges, and its arguments begin with the file
+pub record IsInRange (c : Held) : Type 0 where
+  pub steps_most : c.steps ≤ 1000000000000
+  pub size_least : 256 ≤ c.size
+  pub size_most : c.size ≤ 1048576
+  pub some : 0 < length c.arguments.items

@@ -2,7 +2,7 @@
 
 ghost use Rattle.std.specs.Prelude.{◌≡◌, IfOk, Err};
 ghost use Rattle.lg_base.specs.Arguments.{texts_of};
-ghost use Rattle.lg_command.specs.Commands.{IsCommand, AreNoCommand, shown};
+ghost use Rattle.lg_command.specs.Commands.{IsCommand, IsInRange, AreNoCommand, shown};
 
 use crate::command::{Command, WordsStop};
 use crate::getters::{arguments, file, mode, size, steps, target};
@@ -14,6 +14,7 @@ use std::alloc::Global;
 /// `lightning [--mode M] [--target T] [--steps N] [--code N] [FILE [ARG]...]`. `Usage` comes only for words that clap does not take.
 pub fn read_words<'a>(alloc: Global, words: &'a Vec<String>) -> Result<Command<'a>, WordsStop>
     ensures command { IfOk result (λ c. IsCommand (texts_of words.entry.now.items) (shown c)) }
+    ensures range { IfOk result IsInRange }
     ensures usage { result ≡ Err WordsStop.Usage → AreNoCommand (texts_of words.entry.now.items) }
 {
     let matches = matches_of(alloc, words)?;

@@ -1,5 +1,6 @@
-use Rattle.std.proofs.Common.{◌≡◌, ℕ, List, [], ◌∷◌, ap, ◌∙◌, codes}
-use Rattle.std.specs.Prelude.{unwrap_or}
+use Rattle.std.proofs.Common.{◌≡◌, ℕ, List, [], ◌∷◌, length, ap, ◌∙◌, codes, arith}
+use Rattle.std.specs.Prelude.{string_bytes, unwrap_or}
+use Rattle.std.proofs.lemmas.List.{length-map}
 use Rattle.clap.specs.Words.{Text, all_of, found_of, rows_of}
 use Rattle.lg_base.specs.declared.target.Target.{Target}
 use Rattle.lg_command.specs.Commands.{Command}
@@ -23,4 +24,15 @@ returns-in-Ok-clause-command c =
       read = c.in_ok-matches.ensures.ok;
       is = same_command c.mode.ensures c.target.ensures c.steps.ensures c.size.ensures c.file-file.ensures
           (c.in-Ok.ensures ∙ ap (λ f. f ∷ unwrap_or (all_of (codes "ARG") rows) []) c.file-file.ensures);
+    }
+
+pub returns-in-Ok-clause-range : goal.returns-in-Ok-clause-range
+returns-in-Ok-clause-range c =
+    let long = ap length c.in-Ok.ensures in
+    let same = length-map c.in-Ok.arguments.items string_bytes in
+    record {
+      steps_most = omega (arith, c.steps.ensures);
+      size_least = omega (arith, c.size.ensures);
+      size_most = omega (arith, c.size.ensures);
+      some = omega (arith, long, same);
     }
