@@ -1,0 +1,57 @@
+-- The counts of the first nodes of a text.
+use Rattle.std.proofs.Common.{◌≡◌, ℕ, ◌+◌, ◌<◌, ◌≤◌, List, [], ◌∷◌, ◌++◌, length, refl, sym, ap, ◌∙◌, arith, add-one, below_more, length-append, Option, Some}
+use Rattle.std.proofs.Math.ListN.{get_or-append}
+use Rattle.std.proofs.Math.Seq.{get_or-append_seam}
+use Rattle.std.specs.Prelude.{count_by, slice_get, slice_index}
+use Rattle.std.specs.Option.{option_and_then}
+use Rattle.lg_base.specs.declared.target.Target.{Target}
+use Rattle.lg_node.specs.Checks.{IsAccepted}
+use Rattle.lg_node.specs.Nodes.{LabelledNodes}
+use Rattle.lg_node.specs.Preparations.{prepared_before, pushed}
+use Rattle.lg_op.specs.declared.node.Node.{Node}
+use Rattle.lg_temp.specs.declared.choice.Choice.{Choice}
+use Rattle.lg_asm.specs.Assembled.{ArePushed}
+use Rattle.lg_asm.specs.Passed.{passed_behind}
+use Rattle.lg_asm.specs.PlainChoices.{plain_choices, choices_at, is_spill, spills_of, spills_in}
+use Rattle.lg_asm.proofs.WellLemmas.{passed-next, pushed-few}
+
+-- the counts of the first nodes
+pub record AreCounted (target : Target) (l : LabelledNodes) (xs : List ℕ) (passed saved count : ℕ) : Type 0 where
+  pub pushed_are : ArePushed l.nodes xs count
+  pub before : passed ≡ pushed l.nodes count
+  pub saved_are : saved ≡ spills_in target l.nodes count
+
+pub none-counted : (target : Target) (l : LabelledNodes) (xs : List ℕ) → xs ≡ [] → AreCounted target l xs 0 0 0
+unfolding prepared_before spills_in
+none-counted target l xs e = record {
+  pushed_are = record { counted = ap length e; each = λ i h. absurd (omega (arith, h)); few = λ i h. absurd (omega (arith, h)) };
+  before = refl;
+  saved_are = refl;
+}
+
+spills-next : (target : Target) (nodes : List Node) (i : ℕ) → spills_in target nodes (i + 1) ≡ spills_in target nodes i + spills_of (choices_at target nodes i)
+unfolding spills_in
+spills-next target nodes i = rw add-one refl
+
+-- those of one node more
+pub one-counted : (target : Target) (l : LabelledNodes) (xs : List ℕ) (passed saved i : ℕ) (n : Node) (choices : List Choice) → IsAccepted l → i < length l.nodes → AreCounted target l xs passed saved i → slice_get l.nodes i ≡ Some n
+    → plain_choices target passed n ≡ Some choices → AreCounted target l (xs ++ passed ∷ []) (passed_behind passed n.op) (saved + count_by is_spill choices) (i + 1)
+one-counted target l xs passed saved i n choices accepted lt a here is = record {
+  pushed_are = record {
+    counted = length-append xs (passed ∷ []) ∙ ap (λ k. k + 1) long;
+    each = each;
+    few = λ j h. let e = each j h in let f = pushed-few l accepted j (omega (arith, h, lt)) in omega (arith, e, f);
+  };
+  before = passed-next l i passed n accepted here a.before;
+  saved_are = ap (λ k. k + count_by is_spill choices) a.saved_are ∙ (ap (λ k. spills_in target l.nodes i + spills_of k) (sym at) ∙ sym (spills-next target l.nodes i));
+}
+  where
+    long : length xs ≡ i
+    long = a.pushed_are.counted
+    last : slice_index (xs ++ passed ∷ []) i ≡ passed
+    last = ap (slice_index (xs ++ passed ∷ [])) (sym long) ∙ get_or-append_seam xs passed [] 0
+    each : (j : ℕ) → j < i + 1 → slice_index (xs ++ passed ∷ []) j ≡ pushed l.nodes j
+    each j h = below_more (λ k. slice_index (xs ++ passed ∷ []) k ≡ pushed l.nodes k) i
+        (λ k below. get_or-append xs (passed ∷ []) 0 k (omega (arith, below, long)) ∙ a.pushed_are.each k below) (last ∙ a.before) j h
+    at : choices_at target l.nodes i ≡ Some choices
+    at = ap (option_and_then (plain_choices target (pushed l.nodes i))) here ∙ (ap (λ k. plain_choices target k n) (sym a.before) ∙ is)

@@ -1,0 +1,86 @@
+-- What is kept of code, and what follows from it.
+use Rattle.std.specs.Prelude.{◌≡◌, ℕ, ◌+◌, ◌*◌, ◌^◌, ◌<◌, ◌≤◌, Bool, List, [], Ok, length, slice_index}
+use Rattle.lg_base.specs.Arguments.{most_args}
+use Rattle.lg_base.specs.Layout.{code_base}
+use Rattle.lg_base.specs.declared.refusal.Refusal.{Refusal}
+use Rattle.lg_base.specs.declared.refusal.RefusalKind.TheVariants.{CodeFull}
+use Rattle.lg_base.specs.declared.refusal.Stop.{Stop}
+use Rattle.lg_base.specs.declared.refusal.Stop.TheVariants as stop
+use Rattle.lg_base.specs.declared.target.Target.{Target}
+use Rattle.lg_base.specs.declared.target.Target.TheVariants.{Riscv64}
+use Rattle.lg_carry.specs.Agreement.{Agrees}
+use Rattle.lg_carry.specs.Carries.{Carries}
+use Rattle.lg_carry.specs.Codes.{Code}
+use Rattle.lg_carry.specs.Stands.{Stands}
+use Rattle.lg_carry.specs.Targets.{processor_of}
+use Rattle.lg_cpu.specs.Laws.{AreBytes}
+use Rattle.lg_cpu.specs.Targets.{run_from}
+use Rattle.lg_meaning.specs.Addresses.{AreAddresses}
+use Rattle.lg_meaning.specs.Starts.{start_state}
+use Rattle.lg_meaning.specs.States.{Frame}
+use Rattle.lg_node.specs.Nodes.{LabelledNodes}
+use Rattle.lg_node.specs.Preparations.{pushed}
+use Rattle.lg_node.specs.Shapes.{TextShape, IsChecked, IsShapeOf}
+use Rattle.lg_op.specs.declared.node.Node.{Node}
+use Rattle.lg_asm.specs.Lowered.{every_before, code_of, ArePlaces}
+use Rattle.lg_asm.specs.PlainChoices.{spills_in}
+
+-- the target, the bytes, the nodes with their shape, the places of the nodes and of the end, the addresses of the labels, the index of the text's
+-- node from which each comes, and how many registers are saved for temporaries
+pub record Assembled : Type 0 where
+  pub target : Target
+  pub bytes : List ℕ
+  pub nodes : LabelledNodes
+  pub shape : TextShape
+  pub places : List ℕ
+  pub labels : List ℕ
+  pub origin : List ℕ
+  pub spills : ℕ
+
+-- each index leads to itself
+pub record IsIdentity (count : ℕ) (xs : List ℕ) : Type 0 where
+  pub long : length xs ≡ count
+  pub same : (i : ℕ) → i < count → slice_index xs i ≡ i
+
+-- how many arguments are pushed before each of the first nodes
+pub record ArePushed (nodes : List Node) (xs : List ℕ) (count : ℕ) : Type 0 where
+  pub counted : length xs ≡ count
+  pub each : (i : ℕ) → i < count → slice_index xs i ≡ pushed nodes i
+  pub few : (i : ℕ) → i < count → slice_index xs i ≤ 16
+
+-- the nodes are accepted and are those of the text; they stand at their places, the labels have their addresses, and each node is carried, with all
+-- registers live
+pub record IsCode (c : Assembled) : Type 0 where
+  pub checked : IsChecked c.nodes (Ok c.shape)
+  pub small : length c.bytes ≤ 1048576
+  pub are_bytes : AreBytes c.bytes
+  pub ordered : ArePlaces c.nodes c.places (length c.bytes)
+  pub addresses : AreAddresses c.nodes (length c.bytes) c.labels
+  pub carried : (trash i : ℕ) → trash < 2 ^ 64 → i < length c.nodes.nodes → Carries (processor_of c.target c.bytes trash) (code_of c.nodes c.shape c.labels c.places) every_before i
+  pub identity : IsIdentity (length c.nodes.nodes) c.origin
+  pub saved : c.spills ≡ spills_in c.target c.nodes.nodes (length c.nodes.nodes)
+
+-- ---- laws
+-- such code agrees with the portable meaning over every data part
+abbrev pub CodeAgrees : Type 0
+CodeAgrees = (c : Assembled) (image : List ℕ) → IsCode c → c.target ≡ Riscv64 → AreBytes image → length image ≤ 0x1000000 → Agrees c.bytes c.labels (record { nodes = c.nodes; image = image }) c.target
+
+-- the parts of the memory and the word that is in what nothing has set
+pub record MayStart (image args : List ℕ) (trash : ℕ) : Type 0 where
+  pub image_bytes : AreBytes image
+  pub image_few : length image ≤ 0x1000000
+  pub args_bytes : AreBytes args
+  pub args_few : length args ≤ most_args
+  pub word : trash < 2 ^ 64
+
+-- the processor at the start of the code of an accepted text stands for the meaning at its start, whatever is live
+abbrev pub StartStands : Type 0
+StartStands =
+    (target : Target) (c : Code) (code image args : List ℕ) (trash : ℕ) (live : Frame → ℕ → Bool) (S : ℕ → Bool) → target ≡ Riscv64 → MayStart image args trash → IsShapeOf c.nodes c.shape
+    → c.place 0 ≡ code_base → Stands (processor_of target code trash) c live (start_state image args) [] (run_from target image args trash) S
+
+-- ---- refusals
+-- that of code that has no room, and only where the nodes could have more bytes than the size
+abbrev pub IsRefusedBy : ℕ → ℕ → Stop → Type 0
+IsRefusedBy nodes size (stop.Refused r) = (r ≡ record { kind = CodeFull; line = 0 }) × (size < 256 * nodes + 256)
+IsRefusedBy nodes size stop.OutOfMemory = Unit {0}

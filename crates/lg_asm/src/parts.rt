@@ -1,0 +1,117 @@
+// The parts that code is made of.
+
+ghost use Rattle.std.specs.Prelude.{◌≡◌, ◌+◌, ◌*◌, ◌<◌, ◌≤◌, length, IfOk, IfErr};
+ghost use Rattle.lg_cpu.specs.Laws.{AreBytes};
+ghost use Rattle.lg_asm.specs.Assembled.{IsIdentity, IsRefusedBy};
+ghost use Rattle.lg_asm.specs.Lowered.{IsGiven};
+ghost use Rattle.lg_base.specs.declared.target.Target.{Target};
+ghost use Rattle.lg_node.specs.Shapes.{IsShapeOf};
+
+use crate::lowering::lower;
+use lg_base::code::{CodeBytes, Origin, Places};
+use lg_base::refusal::{OutOfMemory, Refusal, RefusalKind, Stop};
+use lg_base::target::Target;
+use lg_buf::{CodeBuf, Finished};
+use lg_node::{NodeList, Shape};
+use std::alloc::Global;
+
+/// The bytes of a text's code, the places of its nodes and of the end, and the place of each label that is bound at a node.
+#[derive(Drop)]
+pub(crate) struct TextBytes {
+    /// The bytes.
+    pub(crate) bytes: CodeBytes,
+    /// The places of the nodes and of the end.
+    pub(crate) places: Places,
+    /// The places of the labels.
+    pub(crate) tags: Places,
+}
+
+// The bytes of code are bytes.
+fn see_bytes(bytes: &CodeBytes)
+    ensures { AreBytes bytes.now.items }
+{
+    see_slice(bytes.as_slice());
+}
+
+/// The bytes of a slice are bytes.
+pub(crate) fn see_slice(bytes: &[u8])
+    ensures { AreBytes bytes.now }
+{
+    let _count = bytes.len();
+}
+
+/// The bytes of a text in a buffer of a size. They are refused with CodeFull only where 256 bytes for each node and 256 more are more than
+/// the size.
+pub(crate) fn text_bytes(
+    alloc: Global,
+    nodes: &NodeList,
+    shape: &Shape,
+    target: Target,
+    size: u32,
+) -> Result<TextBytes, Stop>
+    requires built { target ≡ Target.Riscv64 }
+    requires shape { IsShapeOf nodes.now shape.now }
+    requires size { size ≤ 1048576 }
+    ensures given { IfOk result (λ t. IsGiven target nodes.now shape.now size t.places.items t.tags.items t.bytes.items) }
+    ensures refused { IfErr result (IsRefusedBy (length nodes.now.nodes) size) }
+{
+    let count = nodes.len();
+    let Some(room) = count.checked_add(1) else {
+        return Err(Stop::OutOfMemory);
+    };
+    let Ok(mut buf) = CodeBuf::new(alloc, size, nodes.labels(), count) else {
+        return Err(Stop::OutOfMemory);
+    };
+    let Ok(mut places) = Places::with_room(alloc, room) else {
+        return Err(Stop::OutOfMemory);
+    };
+    if !lower(nodes, shape, target, &mut buf, &mut places) {
+        return Err(Stop::Refused(Refusal {
+            kind: RefusalKind::CodeFull,
+            line: 0,
+        }));
+    }
+    let _end = buf.here();
+    let Finished {
+        bytes,
+        places: tags,
+    } = buf.finish();
+    see_bytes(&bytes);
+    Ok(TextBytes {
+        bytes,
+        places,
+        tags,
+    })
+}
+
+/// The nodes of code with their shape, and for each the index of the text's node from which it comes.
+#[derive(Drop)]
+pub(crate) struct TextNodes {
+    /// The nodes.
+    pub(crate) nodes: NodeList,
+    /// Their shape.
+    pub(crate) shape: Shape,
+    /// Where each comes from.
+    pub(crate) origin: Origin,
+}
+
+/// The nodes of a text as they are.
+pub(crate) fn text_nodes(
+    alloc: Global,
+    nodes: &NodeList,
+    shape: &Shape,
+) -> Result<TextNodes, OutOfMemory>
+    ensures nodes { IfOk result (λ t. t.nodes ≡ nodes.now) }
+    ensures shape { IfOk result (λ t. t.shape ≡ shape.now) }
+    ensures origin { IfOk result (λ t. IsIdentity (length nodes.now.nodes) t.origin.items) }
+{
+    let mut origin = Origin::with_room(alloc, nodes.len())?;
+    'nodes: for index in 0..nodes.len() {
+        origin.push(index);
+    }
+    Ok(TextNodes {
+        nodes: nodes.copy(alloc)?,
+        shape: shape.copy(alloc)?,
+        origin,
+    })
+}
