@@ -1,5 +1,5 @@
 // Work that is timed from outside. `names N` looks up each name of the instruction table N times; `text N` reads and checks a text of N
-// instructions, at most 65,000; `cpu N` runs N instructions of a loop on the modelled RV64IM processor; `steps N` follows the portable
+// instructions, at most 65,000; `code N TIMES` assembles it for RV64 as well, so many times, from its bytes to code; `cpu N` runs N instructions of a loop on the modelled RV64IM processor; `steps N` follows the portable
 // meaning of a loop for N steps. Without words it does a little of each.
 #![tactic(auto)]
 
@@ -12,7 +12,7 @@ use lg_base::refusal::{OutOfMemory, Stop};
 use lg_mean_rows::end::MeaningEnd;
 use names::found;
 use std::{env, io, str};
-use texts::{Counts, read_and_check};
+use texts::{Counts, read_and_assemble, read_and_check};
 
 // Looks up each name so many times.
 fn look_up(rt: &HostRuntime, times: u32) -> io::Result<()> {
@@ -27,6 +27,15 @@ fn look_up(rt: &HostRuntime, times: u32) -> io::Result<()> {
 fn read(rt: &HostRuntime, instructions: u32) -> io::Result<()> {
     match read_and_check(rt.alloc(), instructions) {
         Ok(Counts { nodes, functions }) => println!(rt; "{nodes} nodes, {functions} functions"),
+        Err(Stop::Refused(refusal)) => println!(rt; "refused at line {}", refusal.line),
+        Err(Stop::OutOfMemory) => println!(rt; "out of memory"),
+    }
+}
+
+// Reads, checks and assembles a text of so many instructions, so many times.
+fn make_code(rt: &HostRuntime, instructions: u32, times: u32) -> io::Result<()> {
+    match read_and_assemble(rt.alloc(), instructions, times) {
+        Ok(bytes) => println!(rt; "{bytes} bytes of code"),
         Err(Stop::Refused(refusal)) => println!(rt; "refused at line {}", refusal.line),
         Err(Stop::OutOfMemory) => println!(rt; "out of memory"),
     }
@@ -55,9 +64,14 @@ fn main(rt: HostRuntime) -> io::Result<()> {
     match (words.next(), words.next()) {
         (Some(mode), Some(number)) => {
             let times = str::parse::<u32>(&number).unwrap_or(1);
+            let again = match words.next() {
+                Some(number) => str::parse::<u32>(&number).unwrap_or(1),
+                None => 1,
+            };
             match mode.as_str() {
                 "names" => look_up(&rt, times),
                 "text" => read(&rt, times),
+                "code" => make_code(&rt, times, again),
                 "cpu" => run(&rt, times),
                 "steps" => follow(&rt, times),
                 _ => println!(rt; "no such work"),
@@ -66,6 +80,7 @@ fn main(rt: HostRuntime) -> io::Result<()> {
         _ => {
             look_up(&rt, 1)?;
             read(&rt, 64)?;
+            make_code(&rt, 64, 1)?;
             run(&rt, 1000)?;
             follow(&rt, 1000)
         }

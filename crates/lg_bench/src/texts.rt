@@ -2,7 +2,9 @@
 
 ghost use Rattle.std.specs.Prelude.{◌≤◌, length, IfOk};
 
+use lg_asm::assemble;
 use lg_base::refusal::{OutOfMemory, Stop};
+use lg_base::target::Target;
 use lg_node::check;
 use lg_tst::parse;
 use std::alloc::Global;
@@ -44,4 +46,27 @@ pub fn read_and_check(alloc: Global, instructions: u32) -> Result<Counts, Stop> 
         nodes: unit.nodes.len(),
         functions: shape.functions(),
     })
+}
+
+// How many bytes of code a text of so many instructions becomes on RV64.
+fn code_bytes(alloc: Global, text: &[u8]) -> Result<u32, Stop>
+    requires { length text.now ≤ 16777216 }
+{
+    let unit = parse(alloc, text)?;
+    let shape = check(alloc, &unit)?;
+    let code = assemble(alloc, &unit, &shape, Target::Riscv64, 1_048_576)?;
+    Ok(code.bytes().len())
+}
+
+/// Reads, checks and assembles a text of so many instructions, at most 65,000, so many times, and tells how many bytes its code has.
+pub fn read_and_assemble(alloc: Global, instructions: u32, times: u32) -> Result<u32, Stop> {
+    let text = match text(alloc, instructions) {
+        Ok(text) => text,
+        Err(OutOfMemory) => return Err(Stop::OutOfMemory),
+    };
+    let mut bytes = 0;
+    for _ in 0..times {
+        bytes = code_bytes(alloc, &text)?;
+    }
+    Ok(bytes)
 }
