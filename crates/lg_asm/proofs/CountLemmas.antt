@@ -1,5 +1,5 @@
 -- The counts of the first nodes of a text.
-use Rattle.std.proofs.Common.{◌≡◌, ℕ, ◌+◌, ◌<◌, ◌≤◌, List, [], ◌∷◌, ◌++◌, length, refl, sym, ap, ◌∙◌, arith, add-one, below_more, length-append, Option, Some}
+use Rattle.std.proofs.Common.{◌≡◌, ℕ, ◌+◌, ◌<◌, List, [], ◌∷◌, ◌++◌, length, refl, sym, ap, ◌∙◌, arith, add-one, below_more, length-append, Some}
 use Rattle.std.proofs.Math.ListN.{get_or-append}
 use Rattle.std.proofs.Math.Seq.{get_or-append_seam}
 use Rattle.std.specs.Prelude.{count_by, slice_get, slice_index}
@@ -48,10 +48,13 @@ one-counted target l xs passed saved i n choices accepted lt a here is = record 
   where
     long : length xs ≡ i
     long = a.pushed_are.counted
+
     last : slice_index (xs ++ passed ∷ []) i ≡ passed
     last = ap (slice_index (xs ++ passed ∷ [])) (sym long) ∙ get_or-append_seam xs passed [] 0
+
     each : (j : ℕ) → j < i + 1 → slice_index (xs ++ passed ∷ []) j ≡ pushed l.nodes j
     each j h = below_more (λ k. slice_index (xs ++ passed ∷ []) k ≡ pushed l.nodes k) i
         (λ k below. get_or-append xs (passed ∷ []) 0 k (omega (arith, below, long)) ∙ a.pushed_are.each k below) (last ∙ a.before) j h
+
     at : choices_at target l.nodes i ≡ Some choices
     at = ap (option_and_then (plain_choices target (pushed l.nodes i))) here ∙ (ap (λ k. plain_choices target k n) (sym a.before) ∙ is)

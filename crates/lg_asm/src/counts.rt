@@ -52,7 +52,11 @@ pub(crate) struct Counts {
 
 /// The counts of the nodes of an accepted text with their plain choices. There is no memory either where more than 4,294,967,295 registers
 /// are saved.
-pub(crate) fn counted(alloc: Global, nodes: &NodeList, target: Target) -> Result<Counts, OutOfMemory>
+pub(crate) fn counted(
+    alloc: Global,
+    nodes: &NodeList,
+    target: Target,
+) -> Result<Counts, OutOfMemory>
     requires { IsAccepted nodes.now }
     ensures passed { IfOk result (λ c. ArePushed nodes.now.nodes c.passed.items (length nodes.now.nodes)) }
     ensures spills { IfOk result (λ c. c.spills ≡ spills_in target nodes.now.nodes (length nodes.now.nodes)) }

@@ -1,4 +1,4 @@
-use Rattle.std.proofs.Common.{◌≡◌, ◌≤◌, ◌+◌, ◌<◌, ◌^◌, ◌∙◌, ℕ, List, [], ◌∷◌, ◌++◌, ap, sym, subst, length, arith}
+use Rattle.std.proofs.Common.{◌≡◌, ◌≤◌, ◌+◌, ◌<◌, ◌∙◌, ℕ, List, [], ◌∷◌, ◌++◌, ap, sym, subst, length, arith}
 use Rattle.std.specs.Prelude.{count_by}
 use Rattle.lg_asm.specs.PlainChoices.{is_spill}
 use Rattle.lg_base.specs.declared.target.Target.{Target}
@@ -29,7 +29,7 @@ pushed_behind-passed-requires c =
 pub nodes-preserved : goal.nodes-preserved
 nodes-preserved c =
     let more : c.in-Some.more ≡ c.nodes.saved + count_by is_spill c.plain_choices-choices.result =
-        sum c.nodes.saved c.spills.result c.in-Some.more (grind (arith, c.in-Some.ensures)) ∙ ap (λ k. c.nodes.saved + k) (c.spills.ensures ∙ ap (count_by is_spill) c.as_slice.ensures.value) in
+    sum c.nodes.saved c.spills.result c.in-Some.more (grind (arith, c.in-Some.ensures)) ∙ ap (λ k. c.nodes.saved + k) (c.spills.ensures ∙ ap (count_by is_spill) c.as_slice.ensures.value) in
     subst (λ xs. AreCounted c.args.target c.args.nodes.now xs c.pushed_behind-passed.result c.in-Some.more (c.nodes.index + 1)) (sym (c.in_ok-push.ensures.items))
     (subst (λ k. AreCounted c.args.target c.args.nodes.now (c.nodes.list.items ++ c.nodes.passed ∷ []) c.pushed_behind-passed.result k (c.nodes.index + 1)) (sym more)
     (subst (λ k. AreCounted c.args.target c.args.nodes.now (c.nodes.list.items ++ c.nodes.passed ∷ []) k (c.nodes.saved + count_by is_spill c.plain_choices-choices.result) (c.nodes.index + 1)) (sym c.pushed_behind-passed.ensures)

@@ -4,7 +4,7 @@ use Rattle.lg_op.specs.declared.operand.Reg.{Reg}
 use Rattle.lg_selr.specs.Selected.{first_arguments}
 use Rattle.lg_temp.specs.Chosen.{around, choices_of}
 use Rattle.lg_temp.specs.declared.choice.Need.{Need}
-use Rattle.lg_asm.specs.PlainChoices.{every, needs_on}
+use Rattle.lg_asm.specs.PlainChoices.{every}
 use Rattle.lg_asm.proofs.counts.plain_choices.Goals as goal
 
 pub returns : goal.returns
