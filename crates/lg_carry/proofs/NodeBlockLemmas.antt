@@ -1,6 +1,7 @@
 -- The code of a node that is a block of instructions leads where its step leads.
 use Rattle.std.proofs.Common.{◌≡◌, ℕ, ◌-◌, inl, List, [], ◌∷◌, refl, sym, ap, ◌∙◌, subst, arith, length, drop}
 use Rattle.lg_base.specs.Layout.{code_base}
+use Rattle.lg_base.specs.Runs.{iter}
 use Rattle.lg_carry.specs.Rows.{Rows, AreRows}
 use Rattle.lg_carry.specs.Blocks.{spellings, RunsBlock}
 use Rattle.lg_carry.specs.Carries.{Meets}
@@ -18,6 +19,7 @@ node-blocks-lead R fits ok c live after i is o out q k at wrote through meets =
       steps = length is;
       few = k.code.few;
       inside = λ j lt. let w = run.inside j lt in inl (omega (arith, w.0, at), omega (arith, w.1, at, k.code.next));
+      outside = λ j lt. let w = run.inside j lt in inl (k.code.outside (iter R.processor.machine.step j q) (omega (arith, w.0, at), omega (arith, w.1, at, k.code.next)));
       none = λ e. let z = no-bytes R.spelling is e in omega (arith, z, k.code.next);
       some = k.code.some;
       way = λ j lt. inl (run.silent j (omega (arith, lt)) ∙ wrote);

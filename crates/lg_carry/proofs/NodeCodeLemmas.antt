@@ -95,9 +95,10 @@ node-code-carries P c before behind i n ok here short node = record {
         steps = l.steps;
         few = l.few;
         inside = l.inside;
+        outside = l.outside;
         none = l.none;
         some = l.some;
         way = l.way;
         there = met P c before behind i n ok here s at (is_return n.op) refl (step c.nodes c.shape c.addresses s) refl out (iter P.machine.step l.steps q) l.there;
-      }) (node (λ f. before f.back) (λ s args at call r. ap (λ k. before (k + 1) r) at ∙ ok.calls i n here call r) s out q at start);
+      }) (node (λ f. before f.back) s (λ args call r. ap (λ k. before (k + 1) r) at ∙ ok.calls i n here call r) out q at start);
 }

@@ -10,7 +10,7 @@ use Rattle.lg_carry.specs.Processors.{Processor}
 use Rattle.lg_carry.specs.Codes.{Code}
 use Rattle.lg_carry.specs.Rows.{Rows, AreRows}
 use Rattle.lg_carry.specs.Blocks.{spellings, done, RunsBlock}
-use Rattle.lg_carry.specs.Carries.{BeginsInside, Meets}
+use Rattle.lg_carry.specs.Carries.{BeginsInside, IsHostStep, KeepsOutside, Meets}
 use Rattle.lg_carry.specs.Passages.{IsNodeCode, Passes, PartsPass, PassagesJoin, PassagesLead, HostStepsLead}
 use Rattle.lg_carry.proofs.BlockLemmas.{blocks-run, behind}
 
@@ -52,9 +52,11 @@ module _ {Q I : Type 0} (R : Rows Q I) (fits : I → Type 0) (ok : AreRows R fit
       let front-fits = all-front fits front (part ++ back) k.fit in
       let part-fits = all-front fits part back (all-back fits front (part ++ back) k.fit) in
       let run : RunsBlock R part q = blocks-run R fits ok part q (back-bytes ++ k.more) part-fits block through (omega (arith, at, k.low)) (subst (λ n. R.is_place n ≡ true) (sym at) (places-behind front (c.place i) front-fits k.place)) there in
+      let inside : (j : ℕ) → j < length part → BeginsInside c i (R.processor.seen (iter R.processor.machine.step j q)) = λ j lt. let w = run.inside j lt in (omega (arith, w.0, at), omega (arith, w.1, at, k.next, size)) in
       record {
         leads = run.leads;
-        inside = λ j lt. let w = run.inside j lt in (omega (arith, w.0, at), omega (arith, w.1, at, k.next, size));
+        inside = inside;
+        outside = λ j lt. k.outside (iter R.processor.machine.step j q) (inside j lt);
         silent = run.silent;
         keeps = run.keeps;
       }
@@ -68,6 +70,7 @@ module _ {Q : Type 0} (P : Processor Q) where
   passages-join c i m n q u v h k = record {
     leads = steps-add m n q ∙ ap (iter P.machine.step n) h.leads ∙ k.leads;
     inside = λ j lt. ⊎_elim (λ (l : j < m). h.inside j l) (λ (g : m ≤ j). subst (λ x. BeginsInside c i (P.seen x)) (sym (later j g)) (k.inside (j - m) (omega (arith, lt, g)))) (cases_lt j m);
+    outside = λ j lt. ⊎_elim (λ (l : j < m). h.outside j l) (λ (g : m ≤ j). subst (λ x. KeepsOutside P x) (sym (later j g)) (k.outside (j - m) (omega (arith, lt, g)))) (cases_lt j m);
     silent = λ j le. ⊎_elim (λ (l : j < m). h.silent j (omega (arith, l))) (λ (g : m ≤ j). ap P.machine.out (later j g) ∙ k.silent (j - m) (omega (arith, le, g)) ∙ ap P.machine.out (sym h.leads) ∙ h.silent m (omega arith)) (cases_lt j m);
     keeps = λ s. k.keeps (h.keeps s);
   }
@@ -80,6 +83,7 @@ module _ {Q : Type 0} (P : Processor Q) where
     steps = steps;
     few = few;
     inside = λ j lt. inl (h.inside j lt);
+    outside = λ j lt. inl (h.outside j lt);
     none = none;
     some = some;
     way = λ j lt. inl (h.silent j (omega (arith, lt)) ∙ wrote);
@@ -90,12 +94,16 @@ module _ {Q : Type 0} (P : Processor Q) where
   host-steps-lead c live after i steps name o out q u h few calls at wrote meets = record {
     steps = suc steps;
     few = omega (arith, few);
-    inside = λ j lt. ⊎_elim (λ (l : j < steps). inl (h.inside j l)) (λ (g : steps ≤ j). let e : j ≡ steps = omega (arith, lt, g) in inr (calls, omega (arith, e), name, ap (λ z. host_by_address (P.seen (iter P.machine.step z q)).pc) e ∙ ap (λ z. host_by_address (P.seen z).pc) h.leads ∙ at)) (cases_lt j steps);
+    inside = λ j lt. ⊎_elim (λ (l : j < steps). inl (h.inside j l)) (λ (g : steps ≤ j). inr (host j (omega (arith, lt, g)))) (cases_lt j steps);
+    outside = λ j lt. ⊎_elim (λ (l : j < steps). inl (h.outside j l)) (λ (g : steps ≤ j). inr (host j (omega (arith, lt, g)))) (cases_lt j steps);
     none = λ e. absurd (omega (arith, e));
     some = λ e. omega arith;
     way = λ j lt. inl (h.silent j (omega (arith, lt)) ∙ wrote);
     there = subst (Meets P c live after o out) (sym last) meets;
   }
     where
+      host : (j : ℕ) → j ≡ steps → IsHostStep c i (suc steps) j (P.seen (iter P.machine.step j q))
+      host j e = (calls, omega (arith, e), name, ap (λ z. host_by_address (P.seen (iter P.machine.step z q)).pc) e ∙ ap (λ z. host_by_address (P.seen z).pc) h.leads ∙ at)
+
       last : iter P.machine.step (suc steps) q ≡ P.machine.step u
       last = iter-suc P.machine.step steps q ∙ ap P.machine.step h.leads

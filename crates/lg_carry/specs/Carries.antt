@@ -14,6 +14,7 @@ use Rattle.lg_meaning.specs.Texts.{step}
 use Rattle.lg_meaning.specs.Fits.{is_call}
 use Rattle.lg_carry.specs.Processors.{Seen, Processor}
 use Rattle.lg_carry.specs.Codes.{Code}
+use Rattle.lg_carry.specs.Outside.{is_outside}
 use Rattle.lg_carry.specs.Stands.{Stands}
 
 -- branches, jumps, calls and returns; every other operation goes to the next node
@@ -44,6 +45,10 @@ BeginsInside c i q = (c.place i ≤ q.pc) × (q.pc < c.place (i + 1))
 abbrev pub IsHostStep : Code → ℕ → ℕ → ℕ → Seen → Type 0
 IsHostStep c i steps j q = (calls_at (slice_get c.nodes.nodes i) ≡ true) × (j + 1 ≡ steps) × (name : HostName) × (host_by_address q.pc ≡ Some name)
 
+-- a step of the processor changes no register that is outside of the conventions
+abbrev pub KeepsOutside : {Q : Type 0} → Processor Q → Q → Type 0
+KeepsOutside P q = (r : ℕ) → is_outside P.target r ≡ true → (P.seen (P.machine.step q)).registers r ≡ (P.seen q).registers r
+
 -- the bytes that a step writes
 abbrev pub written : Outcome → List ℕ → List ℕ
 written (Goes t bytes) out = out ++ bytes
@@ -56,12 +61,13 @@ Meets P c live after (Ends status) out q = (P.machine.status q ≡ Ended status)
 Meets P c live after Undefined out q = ⊥
 
 -- at most 64 steps of the processor lead to where the step of node i leads. Each begins in the bytes of the node, but for a host step; there are
--- none only where the node has no bytes, and never at a branch, jump, call or return. On the way the output is that before the step or that
--- behind it
+-- none only where the node has no bytes, and never at a branch, jump, call or return. No step but a host step changes a register that is outside of
+-- the conventions. On the way the output is that before the step or that behind it
 pub record Leads {Q : Type 0} (P : Processor Q) (c : Code) (live : Frame → ℕ → Bool) (after : State → ℕ → Bool) (i : ℕ) (next : Outcome) (out : List ℕ) (q : Q) : Type 0 where
   pub steps : ℕ
   pub few : steps ≤ 64
   pub inside : (j : ℕ) → j < steps → BeginsInside c i (P.seen (iter P.machine.step j q)) ⊎ IsHostStep c i steps j (P.seen (iter P.machine.step j q))
+  pub outside : (j : ℕ) → j < steps → KeepsOutside P (iter P.machine.step j q) ⊎ IsHostStep c i steps j (P.seen (iter P.machine.step j q))
   pub none : steps ≡ 0 → c.place (i + 1) ≡ c.place i
   pub some : leaps_at (slice_get c.nodes.nodes i) ≡ true → 0 < steps
   pub way : (j : ℕ) → j < steps → (P.machine.out (iter P.machine.step j q) ≡ out) ⊎ (P.machine.out (iter P.machine.step j q) ≡ written next out)

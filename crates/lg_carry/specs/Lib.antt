@@ -11,6 +11,7 @@ pub mod Meanings
 pub mod Moves
 pub mod NodeBlocks
 pub mod NodeCode
+pub mod Outside
 pub mod Passages
 pub mod Places
 pub mod Processors
@@ -23,3 +24,4 @@ pub mod Spills
 pub mod Stands
 pub mod Taken
 pub mod Targets
+pub mod TextNodes

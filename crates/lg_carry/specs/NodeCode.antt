@@ -9,13 +9,14 @@ use Rattle.lg_op.specs.declared.operand.Reg.{Reg}
 use Rattle.lg_op.specs.declared.operand.Reg.TheVariants.{R0, R1, R2, V0, V1, V2}
 use Rattle.lg_live.specs.Uses.{is_read, is_written}
 use Rattle.lg_meaning.specs.States.{Frame, State}
-use Rattle.lg_meaning.specs.Steps.{Goes, called}
+use Rattle.lg_meaning.specs.Steps.{Goes, Undefined, called}
 use Rattle.lg_meaning.specs.Texts.{step}
 use Rattle.lg_meaning.specs.Fits.{is_call}
 use Rattle.lg_carry.specs.Processors.{Processor}
 use Rattle.lg_carry.specs.Codes.{Code}
 use Rattle.lg_carry.specs.Frames.{at_call}
-use Rattle.lg_carry.specs.Carries.{CarriesBy, Carries}
+use Rattle.lg_carry.specs.Stands.{Stands}
+use Rattle.lg_carry.specs.Carries.{Leads, Carries}
 
 -- a set of registers, by their numbers
 abbrev pub numbered : (Reg → Bool) → ℕ → Bool
@@ -41,13 +42,15 @@ is_return o = false
 abbrev pub live_behind : (Frame → ℕ → Bool) → Node → (ℕ → Bool) → State → State → ℕ → Bool
 live_behind live n S s t = if is_return n.op then live (at_call s.frame) else S
 
--- at a call the set is also what is live at the return of the new frame
-abbrev pub ReturnsTo : (Frame → ℕ → Bool) → Node → ℕ → (ℕ → Bool) → Type 0
-ReturnsTo live n i S = (s : State) (args : List ℕ) → s.at ≡ i → is_call n.op ≡ true → (r : ℕ) → live (called s args) r ≡ S r
+-- at a call from a state the set is also what is live at the return of the new frame
+abbrev pub ReturnsTo : (Frame → ℕ → Bool) → Node → (ℕ → Bool) → State → Type 0
+ReturnsTo live n S s = (args : List ℕ) → is_call n.op ≡ true → (r : ℕ) → live (called s args) r ≡ S r
 
 -- the code of a node carries it where this set is live behind it, whatever is live at the returns of the other frames
 abbrev pub CarriesNode : {Q : Type 0} → Processor Q → Code → ℕ → Node → (ℕ → Bool) → Type 0
-CarriesNode P c i n S = (live : Frame → ℕ → Bool) → ReturnsTo live n i S → CarriesBy P c live (live_behind live n S) i (live_before n S)
+CarriesNode {Q} P c i n S =
+    (live : Frame → ℕ → Bool) (s : State) → ReturnsTo live n S s → (out : List ℕ) (q : Q) → s.at ≡ i → Stands P c live s out q (live_before n S)
+    → (step c.nodes c.shape c.addresses s ≡ Undefined) ⊎ Leads P c live (live_behind live n S s) i (step c.nodes c.shape c.addresses s) out q
 
 -- which registers are live before each node, and behind it: before a node at least those that it has to have; at a state to which a step goes those
 -- that are defined were live behind the node, unless it returns; and behind a call those that are live before the next node

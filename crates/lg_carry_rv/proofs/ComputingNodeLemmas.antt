@@ -56,7 +56,7 @@ use Rattle.lg_carry.proofs.SpillChoiceLemmas.{choices-in-order}
 use Rattle.lg_carry.proofs.StackLemmas.{stacked-running, stacked-high}
 use Rattle.lg_carry.proofs.TakenLemmas.{none-stood-for, none-staged, tried-spare}
 use Rattle.lg_carry_rv.specs.RvRows.{rv_seen, rv_processor, rv_does, rv_rows}
-use Rattle.lg_carry_rv.specs.Places.{IsInText, IsInCode, IsBehindProlog, stands_inside}
+use Rattle.lg_carry_rv.specs.Places.{IsInCode, IsBehindProlog, stands_inside}
 use Rattle.lg_carry_rv.specs.Computations.{computed}
 use Rattle.lg_carry_rv.specs.ComputingNodes.{HoldsRead, StepsTo, ComputesNode, ComputingNodesCarry, PlainNodesCarry}
 use Rattle.lg_carry_rv.proofs.ComputationLemmas.{computations-do}
@@ -65,6 +65,7 @@ use Rattle.lg_carry_rv.proofs.RegisterLemmas.{stands-for, number-few, numbered-a
 use Rattle.lg_carry_rv.proofs.RowLemmas.{are-rows}
 use Rattle.lg_carry_rv.proofs.SlotLemmas.{are-spills}
 use Rattle.lg_carry_rv.proofs.TemporaryLemmas.{IsTemporary, temporary, keep-chosen, unspoilt, none-named, tried-saved}
+use Rattle.lg_carry.specs.TextNodes.{IsInText}
 
 either : (b c : Bool) → (b || c) ≡ false → (b ≡ false) × (c ≡ false)
 either true c e = cc
@@ -312,7 +313,7 @@ module _ (code : List ℕ) (trash : ℕ) (c : Code) (i : ℕ) (n : Node) (S : �
           none-some e = cc
 
   pub carried : CarriesNode (rv_processor code trash) c i n S
-  carried frames returns s out q at st = by (m.steps s q.state.registers at (read-before frames s q at st.runs st.state))
+  carried frames s returns out q at st = by (m.steps s q.state.registers at (read-before frames s q at st.runs st.state))
     where
       by : (step c.nodes c.shape c.addresses s ≡ Undefined) ⊎ StepsTo c n s (computed body q.state.registers)
           → (step c.nodes c.shape c.addresses s ≡ Undefined) ⊎ Leads (rv_processor code trash) c frames (live_behind frames n S s) i (step c.nodes c.shape c.addresses s) out q

@@ -2,6 +2,7 @@ pub mod ActLemmas
 pub mod ComputationLemmas
 pub mod ComputingNodeLemmas
 pub mod NumberCodeLemmas
+pub mod OutsideLemmas
 pub mod PlaceLemmas
 pub mod RegisterLemmas
 pub mod RowLemmas

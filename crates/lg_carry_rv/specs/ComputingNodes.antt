@@ -24,8 +24,9 @@ use Rattle.lg_carry.specs.Carries.{leaps}
 use Rattle.lg_carry.specs.NodeCode.{numbered, CarriesNode}
 use Rattle.lg_carry.specs.Spills.{wrapped}
 use Rattle.lg_carry_rv.specs.RvRows.{rv_processor, rv_rows}
-use Rattle.lg_carry_rv.specs.Places.{IsInText, IsInCode, stands_inside}
+use Rattle.lg_carry_rv.specs.Places.{IsInCode, stands_inside}
 use Rattle.lg_carry_rv.specs.Computations.{all_compute, computed}
+use Rattle.lg_carry.specs.TextNodes.{IsInText}
 
 -- ---- the portable step
 -- it goes on to the next node, and changes only registers, the carry and the result of a call, which is gone

@@ -1,5 +1,6 @@
 pub mod Computations
 pub mod ComputingNodes
+pub mod Destinations
 pub mod Numbers
 pub mod Places
 pub mod RvRows

@@ -13,15 +13,8 @@ use Rattle.lg_cpu.specs.Laws.{AreBytes}
 use Rattle.lg_meaning.specs.Laws.{IsFormedAt}
 use Rattle.lg_carry.specs.Codes.{Code}
 use Rattle.lg_carry.specs.NodeBlocks.{IsNodeBlock}
+use Rattle.lg_carry.specs.TextNodes.{IsInText}
 use Rattle.lg_carry_rv.specs.RvRows.{rv_rows}
-
--- the text is accepted, and node i is this one and has the operands of its operation
-pub record IsInText (c : Code) (i : ℕ) (n : Node) : Type 0 where
-  pub shape : IsShapeOf c.nodes c.shape
-  pub well : IsWellShaped c.nodes
-  pub functions : HasFunctions c.nodes
-  pub formed : IsFormedAt c.nodes i
-  pub here : slice_get c.nodes.nodes i ≡ Some n
 
 -- the code that the processor runs, in which these instructions are those of node i
 pub record IsInCode (code : List ℕ) (trash : ℕ) (c : Code) (i : ℕ) (is : List Instr) : Type 0 where

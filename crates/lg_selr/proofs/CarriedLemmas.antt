@@ -17,18 +17,23 @@ use Rattle.lg_selr.specs.Items.{node_items}
 use Rattle.lg_selr.specs.Selected.{IsAligned, IsCarriedWhenFinished}
 use Rattle.lg_selr.proofs.FinishedLemmas.{AreAppended, are-of-node}
 use Rattle.lg_selr.proofs.NodeFits.{IsAsked, items-fit}
-use Rattle.lg_selr.proofs.NodeLemmas.{node-here, items-carry}
+use Rattle.lg_selr.proofs.NodeLemmas.{items-carry}
 use Rattle.lg_selr.proofs.PlaceLemmas.{and-first}
+use Rattle.lg_selr.proofs.WithinLemmas.{items-within}
 use Rattle.lg_selr_control.specs.Alignments.{align_code}
 use Rattle.lg_selr_control.proofs.AlignLemmas.{alignments-align}
 use Rattle.lg_selr_items.specs.declared.items.Item.{Item}
 use Rattle.lg_selr_items.specs.Items.{words_in, bytes_in, blanks, ones}
 use Rattle.lg_selr_items.proofs.ItemLemmas.{blank_bytes, words-ones}
+use Rattle.lg_base.specs.declared.target.Target.TheVariants.{Riscv64}
+use Rattle.lg_selr_values.specs.ValueItems.{value_needs}
+use Rattle.lg_temp.specs.Chosen.{around}
+use Rattle.lg_temp.proofs.ChoiceLemmas.{choices-are-for}
 use Rattle.lg_temp.specs.declared.choice.Choice.{Choice}
 
 pub selected-carries : (node : Node) (frame : ℕ) (live : Reg → Bool) (staged : List Bool) (choices : List Choice) (old new : Buffer) (items : List Item) → IsAsked node live staged choices (length old.labels)
-    → items ≡ node_items node frame choices staged (length old.bytes) → words_in items ≤ 64 → AreAppended old new items → IsCarriedWhenFinished node frame live staged old new
-selected-carries node frame live staged choices old new items asked e few appended code trash c i word f n =
+    → items ≡ node_items node frame choices staged (length old.bytes) → words_in items ≤ 64 → AreAppended old new items → length old.bytes % 4 ≡ 0 → IsCarriedWhenFinished node frame live staged old new
+selected-carries node frame live staged choices old new items asked e few appended whole code trash c i word f n =
     let place : ℕ = length old.bytes in
     let mine : List Item = node_items node frame choices staged place in
     let fit = items-fit frame live staged choices (length old.labels) place node.op node.operands node.line asked in
@@ -36,7 +41,7 @@ selected-carries node frame live staged choices old new items asked e few append
     let short : words_in mine ≤ 64 = subst (λ l. words_in l ≤ 64) e few in
     items-carry code trash c i frame live staged choices (length old.labels) place node.op node.operands node.line
     record { node = n; chosen = asked.chosen; first = asked.first; named = asked.named; takes = asked.takes; words = asked.words; address = f.here }
-    (are-of-node old new code trash c i mine word a fit.instrs short (n.places.aligned i (node-here c i node n.text)) f)
+    (are-of-node old new code trash c i mine word a fit.instrs (items-within node live asked.chosen.set frame choices staged place (choices-are-for (around Riscv64 node live asked.chosen.set) (value_needs node.op) choices asked.chosen.chosen)) short whole f)
 
 -- ---- how much was appended
 is-true : IsTrue true
@@ -55,8 +60,8 @@ one-fixed false old new fixes refused went few = let e = ap (λ (b : Buffer). b.
 
 -- ---- alignments
 pub aligned-behind : (b : Bool) (node : Node) (frame : ℕ) (choices : List Choice) (staged : List Bool) (old new : Buffer) (items : List Item) → InForm node → items ≡ node_items node frame choices staged (length old.bytes)
-    → (IsTrue b → new.bytes ≡ old.bytes ++ spellings spelling (blanks items)) → IsTrue b → IsAligned node (length old.bytes) (length new.bytes)
-aligned-behind b node frame choices staged old new items formed e bytes went n is xs even =
+    → (IsTrue b → new.bytes ≡ old.bytes ++ spellings spelling (blanks items)) → length old.bytes % 4 ≡ 0 → IsTrue b → IsAligned node (length new.bytes)
+aligned-behind b node frame choices staged old new items formed e bytes even went n is xs =
     let place : ℕ = length old.bytes in
     let made : Op → List Operand → List Item = λ o ys. node_items record { op = o; operands = ys; line = node.line } frame choices staged place in
     let same : items ≡ ones (align_code place n) = e ∙ (λ j. made (is j) (xs j)) in

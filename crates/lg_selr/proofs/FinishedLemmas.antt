@@ -10,7 +10,7 @@ use Rattle.lg_carry.specs.Codes.{Code}
 use Rattle.lg_rv.specs.Spelling.{spelling}
 use Rattle.lg_selr.specs.Selected.{IsFinished}
 use Rattle.lg_selr_items.specs.declared.items.Item.{Item}
-use Rattle.lg_selr_items.specs.Items.{words_in, bytes_in, blanks, fixes_of, AreItems}
+use Rattle.lg_selr_items.specs.Items.{words_in, bytes_in, blanks, fixes_of, AreItems, StayWithin}
 use Rattle.lg_selr_items.specs.OfNodes.{AreOfNode}
 use Rattle.lg_selr_items.specs.Patched.{IsApartFrom, StandAt, AreSettledAt}
 use Rattle.lg_selr_items.proofs.ItemLemmas.{blank_bytes}
@@ -22,9 +22,9 @@ pub record AreAppended (old new : Buffer) (items : List Item) : Type 0 where
   pub fixes : new.fixes ≡ old.fixes ++ fixes_of (length old.bytes) items
 
 -- so they are those of the node once the buffer is finished
-pub are-of-node : (old new : Buffer) (code : List ℕ) (trash : ℕ) (c : Code) (i : ℕ) (items : List Item) → trash < 2 ^ 64 → AreAppended old new items → AreItems items → words_in items ≤ 64
-    → c.place i % 4 ≡ 0 → IsFinished old new code c i → AreOfNode code trash c i items
-are-of-node old new code trash c i items word a ok few whole f =
+pub are-of-node : (old new : Buffer) (code : List ℕ) (trash : ℕ) (c : Code) (i : ℕ) (items : List Item) → trash < 2 ^ 64 → AreAppended old new items → AreItems items → StayWithin items → words_in items ≤ 64
+    → length old.bytes % 4 ≡ 0 → IsFinished old new code c i → AreOfNode code trash c i items
+are-of-node old new code trash c i items word a ok within few whole f =
     let place : ℕ = length old.bytes in
     let bytes : drop place new.bytes ≡ spellings spelling (blanks items) = ap (drop place) a.bytes ∙ drop_at old.bytes (spellings spelling (blanks items)) place refl in
     let fixes : drop (length old.fixes) new.fixes ≡ fixes_of place items = ap (drop (length old.fixes)) a.fixes ∙ drop_at old.fixes (fixes_of place items) (length old.fixes) refl in
@@ -45,8 +45,9 @@ are-of-node old new code trash c i items word a ok few whole f =
       bytes = f.bytes;
       word = word;
       low = let h = f.here in omega (arith, h);
-      whole = whole;
+      whole = let h = f.here in omega (arith, h, whole);
       settled = subst (λ p. AreSettledAt (slice_index c.addresses) code p items) e settled;
       next = let h = f.here in let n = f.next in omega (arith, h, n, size);
       few = few;
+      within = within;
     }

@@ -9,3 +9,4 @@ pub mod OperandLemmas
 pub mod PlaceLemmas
 pub mod PushFits
 pub mod ValueFixes
+pub mod WithinLemmas

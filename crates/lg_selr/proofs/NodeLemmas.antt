@@ -23,7 +23,7 @@ use Rattle.lg_carry.specs.Carries.{leaps, leaps_at}
 use Rattle.lg_carry.specs.Codes.{Code}
 use Rattle.lg_carry.specs.NodeCode.{numbered, CarriesNode}
 use Rattle.lg_node.specs.Preparations.{pushed}
-use Rattle.lg_carry_rv.specs.Places.{IsInText, IsInCode}
+use Rattle.lg_carry_rv.specs.Places.{IsInCode}
 use Rattle.lg_carry.specs.Passages.{IsNodeCode}
 use Rattle.lg_carry_rv.specs.RvRows.{rv_processor, rv_rows}
 use Rattle.lg_rv.specs.Spelling.{IsInstr}
@@ -63,14 +63,12 @@ use Rattle.lg_temp.specs.declared.choice.Choice.{Choice}
 use Rattle.lg_temp.specs.Choices.{AreFor}
 use Rattle.lg_temp.specs.Chosen.{around}
 use Rattle.lg_temp.proofs.ChoiceLemmas.{choices-are-for}
+use Rattle.lg_carry.specs.TextNodes.{IsInText}
 
 true-false : {A : Type 0} → true ≡ false → A
 true-false e = cc
 
 -- ---- a node of a text
-pub node-here : (c : Code) (i : ℕ) (n : Node) → IsInText c i n → i ≤ length c.nodes.nodes
-node-here c i n t = let h = slice_get_within c.nodes.nodes i n t.here in omega (arith, h)
-
 -- the operands are those of the operation
 operands-are : (c : Code) (i : ℕ) (n : Node) → IsInText c i n → admit (forms_of n.op) n.operands ≡ true
 operands-are c i n t = (t.formed n t.here).forms
@@ -114,7 +112,7 @@ written-one xs a = cc
 
 -- what is known of a node, of which the code begins at a place of the buffer, and of the buffer's labels
 pub record IsKnown (c : Code) (i : ℕ) (n : Node) (frame : ℕ) (live : Reg → Bool) (staged : List Bool) (choices : List Choice) (labels place : ℕ) : Type 0 where
-  pub node : IsNodeOf n frame staged c i
+  pub node : IsNodeOf 4 n frame staged c i
   pub chosen : AreChosen n live staged choices
   pub first : is_pusharg n.op ≡ true → AreFirst staged
   pub named : NameBelow labels n.operands

@@ -8,7 +8,7 @@ use Rattle.lg_buf.specs.Buffers.{Buffer, AreDone}
 use Rattle.lg_buf.specs.Fixing.{IsWithin, Fits}
 use Rattle.lg_carry.specs.Codes.{Code}
 use Rattle.lg_carry.specs.NodeCode.{numbered, CarriesNode}
-use Rattle.lg_carry_rv.specs.Places.{IsInText}
+use Rattle.lg_carry.specs.TextNodes.{IsInText, IsFrameOf, HasPlaces, NamesCode}
 use Rattle.lg_carry_rv.specs.RvRows.{rv_processor}
 use Rattle.lg_cpu.specs.Laws.{AreBytes}
 use Rattle.lg_node.specs.Labels.{is_label}
@@ -24,10 +24,7 @@ use Rattle.lg_op.specs.declared.op.PlainOp.TheVariants as plain
 use Rattle.lg_op.specs.declared.operand.Operand.{Operand}
 use Rattle.lg_op.specs.declared.operand.Operand.TheVariants as operand
 use Rattle.lg_op.specs.declared.operand.Reg.{Reg}
-use Rattle.lg_selr_control.specs.ControlLaws.{IsFrameOf}
-use Rattle.lg_selr_control.specs.Standing.{HasPlaces}
 use Rattle.lg_selr_items.specs.Patched.{IsApartFrom, HaveAddresses}
-use Rattle.lg_selr_memory.specs.PushNodes.{NamesCode}
 use Rattle.lg_selr_values.specs.ValueItems.{value_needs}
 use Rattle.lg_temp.specs.declared.choice.Choice.{Choice}
 use Rattle.lg_temp.specs.Chosen.{around, choices_of}
@@ -96,7 +93,7 @@ HaveWords (x ∷ xs) = IsWord x × HaveWords xs
 pub record IsFixOf (unit place : ℕ) (n : Node) (f : Fix) : Type 0 where
   pub from : place ≤ f.place
   pub names : list_any (is_label f.label.0) n.operands ≡ true
-  pub reaches : place % unit ≡ 0 → (target : ℕ) → target % unit ≡ 0 → target ≤ most_code → IsWithin 1048576 f.place target → Fits f.kind f.place target
+  pub reaches : (target : ℕ) → target % unit ≡ 0 → target ≤ most_code → IsWithin 1048576 f.place target → Fits f.kind f.place target
 
 -- a buffer whose fixes are patched, in which the bytes and the fixes that were appended to an old buffer stand where they were appended, and
 -- no other fix has one of the bytes: of the final code, node i has these bytes, and each label has the address of its place
@@ -119,22 +116,22 @@ pub record IsFinished (old new : Buffer) (code : List ℕ) (c : Code) (i : ℕ) 
   pub addresses : HaveAddresses labels (slice_index c.addresses)
 
 -- the node is node i of an accepted text: its function has this frame, its labels are code labels, and these arguments are staged at it,
--- among them all that are pushed; at a `pushargr` or `pushargi` none but these. The nodes stand at multiples of four in the code part, and
--- all addresses of labels are below 2 ^ 30, as all of the memory is
-pub record IsNodeOf (node : Node) (frame : ℕ) (staged : List Bool) (c : Code) (i : ℕ) : Type 0 where
+-- among them all that are pushed; at a `pushargr` or `pushargi` none but these. The nodes stand in the code part, those to which the code may jump at
+-- multiples of the unit, and all addresses of labels are below 2 ^ 30, as all of the memory is
+pub record IsNodeOf (unit : ℕ) (node : Node) (frame : ℕ) (staged : List Bool) (c : Code) (i : ℕ) : Type 0 where
   pub text : IsInText c i node
   pub frame_is : IsFrameOf c i frame
   pub names : NamesCode c node
   pub pushed_are : (j : ℕ) → j < pushed c.nodes.nodes i → slice_index_or staged j false ≡ true
   pub exact : is_pusharg node.op ≡ true → staged ≡ first_arguments (pushed c.nodes.nodes i)
-  pub places : HasPlaces c
+  pub places : HasPlaces unit c
   pub low : (label : ℕ) → slice_index c.addresses label < 2 ^ 30
 
 -- wherever that is so, the code carries the node, with these registers live behind it
 abbrev pub IsCarriedWhenFinished : Node → ℕ → (Reg → Bool) → List Bool → Buffer → Buffer → Type 0
 IsCarriedWhenFinished node frame live staged old new =
-    (code : List ℕ) (trash : ℕ) (c : Code) (i : ℕ) → trash < 2 ^ 64 → IsFinished old new code c i → IsNodeOf node frame staged c i → CarriesNode (rv_processor code trash) c i node (numbered live)
+    (code : List ℕ) (trash : ℕ) (c : Code) (i : ℕ) → trash < 2 ^ 64 → IsFinished old new code c i → IsNodeOf 4 node frame staged c i → CarriesNode (rv_processor code trash) c i node (numbered live)
 
--- behind an `.align` the place is a multiple of its number, where the place before it is one of four
-abbrev pub IsAligned : Node → ℕ → ℕ → Type 0
-IsAligned node place behind = (n : ℕ) → node.op ≡ op.Plain plain.Align → node.operands ≡ operand.Number n ∷ [] → place % 4 ≡ 0 → behind % n ≡ 0
+-- behind an `.align` the place is a multiple of its number
+abbrev pub IsAligned : Node → ℕ → Type 0
+IsAligned node behind = (n : ℕ) → node.op ≡ op.Plain plain.Align → node.operands ≡ operand.Number n ∷ [] → behind % n ≡ 0

@@ -20,10 +20,12 @@ use lg_temp::choice::{Choices, Staged};
 /// `frame` is the size of the frame of the node's function in bytes, a multiple of 16 from 272 to 65,808. The choices are those of
 /// `choose` for `needs` of the node, `live_after`, and a set of arguments that holds `staged`. At a `pushargr` or `pushargi` `staged` holds
 /// the arguments that were pushed before it, of which there are fewer than 16. The node has the operands of its operation; it names code
-/// labels of the buffer, and one in the place of an immediate only at `movi`, `pushargi` and `reti`. There is room for a fix.
+/// labels of the buffer, and one in the place of an immediate only at `movi`, `pushargi` and `reti`. There is room for a fix. The buffer holds
+/// whole instructions, and does so behind the node.
 ///
-/// Behind an `.align` the place is a multiple of its number. Once the fixes of the buffer are patched, the code carries the node where
-/// the registers of `live_after` are live behind it.
+/// Behind an `.align` the place is a multiple of its number, and a `prolog` has bytes. Each new fix lies behind what the buffer held, names a label
+/// of the node, and reaches every instruction within 1 MiB. Once the fixes of the buffer are patched, the code carries the node where the registers
+/// of `live_after` are live behind it: no step of it but one of a host function changes a register that is outside of the conventions.
 #[must_use]
 pub fn select(
     node: &Node,
@@ -40,14 +42,15 @@ pub fn select(
     requires labels { NameBelow (length buf.old.labels) node.now.operands }
     requires immediates { TakesLabelsWell node.now }
     requires room { 0 < buf.old.room }
+    requires whole { length buf.old.bytes % 4 ≡ 0 }
     ensures refused { result ≡ false → (buf.new ≡ buf.old) × (buf.old.size < length buf.old.bytes + 256) }
     ensures bytes { IsTrue result → buf.new.bytes ≡ buf.old.bytes ++ drop (length buf.old.bytes) buf.new.bytes }
     ensures short { length buf.new.bytes ≤ length buf.old.bytes + 256 }
     ensures fixes { IsTrue result → buf.new.fixes ≡ buf.old.fixes ++ drop (length buf.old.fixes) buf.new.fixes }
     ensures one_fix { buf.old.room ≤ buf.new.room + 1 }
     ensures others { buf.new ≡ record buf.old { bytes = buf.new.bytes; fixes = buf.new.fixes; room = buf.new.room } }
-    ensures aligned { IsTrue result → IsAligned node.now (length buf.old.bytes) (length buf.new.bytes) }
-    ensures whole { IsTrue result → length buf.old.bytes % 4 ≡ 0 → length buf.new.bytes % 4 ≡ 0 }
+    ensures aligned { IsTrue result → IsAligned node.now (length buf.new.bytes) }
+    ensures whole { length buf.new.bytes % 4 ≡ 0 }
     ensures begins { IsTrue result → is_prolog node.now.op ≡ true → length buf.old.bytes < length buf.new.bytes }
     ensures lead { IsTrue result → All (IsFixOf 4 (length buf.old.bytes) node.now) (drop (length buf.old.fixes) buf.new.fixes) }
     ensures carries { IsTrue result → IsCarriedWhenFinished node.now frame (has live_after) staged.arguments buf.old buf.new }

@@ -27,13 +27,13 @@ use Rattle.lg_carry.specs.Passages.{Passes}
 use Rattle.lg_carry.proofs.MoveLemmas.{move-agrees}
 use Rattle.lg_carry.proofs.PassageLemmas.{passages-lead}
 use Rattle.lg_carry_rv.specs.RvRows.{rv_processor, rv_seen, is_straight}
-use Rattle.lg_carry_rv.specs.Places.{IsInText}
-use Rattle.lg_selr_control.specs.Standing.{StandsInCode, HasPlaces}
+use Rattle.lg_carry.specs.TextNodes.{IsInText, HasPlaces}
+use Rattle.lg_selr_control.specs.Standing.{StandsInCode}
 use Rattle.lg_selr_control.specs.Alignments.{align_node, padding, idle, align_code, AlignmentsAlign, AlignmentsCarry}
 use Rattle.lg_selr_control.proofs.ChainLemmas.{RunsAt, next-at, Chain, chain-end, chain-more, chain-passes, straight-block, begins-at}
 use Rattle.lg_selr_control.proofs.JumpLemmas.{outer-is}
 use Rattle.lg_selr_control.proofs.LiveLemmas.{unwritten, still-live}
-use Rattle.lg_selr_control.proofs.StandingLemmas.{behind-prolog, next-inside, goes-fits, spelled-size}
+use Rattle.lg_selr_control.proofs.StandingLemmas.{behind-prolog, next-inside, goes-fits, spelled-size, even-here}
 use Rattle.lg_selr_control.proofs.WordLemmas.{put-other, portable-some, argument-some}
 
 -- ---- how many there are
@@ -88,7 +88,7 @@ idles base n j (suc k) q room at =
     }
 
 -- ---- the node
-module _ (code : List ℕ) (trash : ℕ) (c : Code) (i m line : ℕ) (S : ℕ → Bool) (w : HasPlaces c) (t : IsInText c i (align_node m line)) (k : StandsInCode code trash c i (align_code (c.place i) m)) where
+module _ (code : List ℕ) (trash : ℕ) (c : Code) (i m line : ℕ) (S : ℕ → Bool) (w : HasPlaces 4 c) (t : IsInText c i (align_node m line)) (k : StandsInCode code trash c i (align_code (c.place i) m)) where
   abbrev n : Node
   n = align_node m line
 
@@ -117,7 +117,7 @@ module _ (code : List ℕ) (trash : ℕ) (c : Code) (i m line : ℕ) (S : ℕ �
           outer (home c.nodes.nodes j) (successors_enter c.nodes c.shape t.shape i j h s) ∙ sym (ap (λ x. is_inner x i) h)
 
   carried : CarriesNode (rv_processor code trash) c i n S
-  carried live returns s out q at st =
+  carried live s returns out q at st =
       let s' = on s in
       let goes' : step c.nodes c.shape c.addresses s ≡ Goes s' [] = ap (λ x. step_at (text c.nodes c.shape c.addresses) x s) (ap (slice_get c.nodes.nodes) at ∙ t.here) in
       let fits = goes-fits c i n t s s' [] at (omega (arith, st.state.seen.low, st.state.mark)) (omega (arith, st.state.seen.high, st.state.mark)) st.state.fits goes' in
@@ -143,7 +143,7 @@ module _ (code : List ℕ) (trash : ℕ) (c : Code) (i m line : ℕ) (S : ℕ �
       }
       (λ x lt l. still-live n S x (unwritten n refl x) l) in
       inr (subst (λ o. Leads (rv_processor code trash) c live (live_behind live n S s) i o out q) (sym goes')
-      (passages-lead (rv_processor code trash) c live (live_behind live n S s) i (length (align_code (c.place i) m)) (Goes s' []) out q u pass (omega (arith, size, (padded (c.place i) m alignment (w.aligned i (omega (arith, st.state.fits.inside, at)))).1)) (λ z. omega (arith, z, behind)) (λ z. absurd (no z)) st.wrote
+      (passages-lead (rv_processor code trash) c live (live_behind live n S s) i (length (align_code (c.place i) m)) (Goes s' []) out q u pass (omega (arith, size, (padded (c.place i) m alignment (even-here code trash c i (align_code (c.place i) m) k)).1)) (λ z. omega (arith, z, behind)) (λ z. absurd (no z)) st.wrote
       record { runs = r.at.runs; wrote = ap (λ z. z.out) (sym pass.leads) ∙ pass.silent (length (align_code (c.place i) m)) (omega arith) ∙ st.wrote ∙ sym (append-nil out); state = agree }))
     where
       linked : (x : ℕ) → Some 1 ≡ Some x → x ≡ 0 → ⊥

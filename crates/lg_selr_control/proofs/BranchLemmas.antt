@@ -39,9 +39,9 @@ use Rattle.lg_carry.specs.NodeCode.{numbered, live_before, live_behind, CarriesN
 use Rattle.lg_carry.specs.Passages.{Passes}
 use Rattle.lg_carry.proofs.ApartLemmas.{conventions-apart}
 use Rattle.lg_carry_rv.specs.RvRows.{rv_processor, rv_seen}
-use Rattle.lg_carry_rv.specs.Places.{IsInText}
+use Rattle.lg_carry.specs.TextNodes.{IsInText, HasPlaces}
 use Rattle.lg_selr_control.specs.Immediates.{immediate}
-use Rattle.lg_selr_control.specs.Standing.{StandsInCode, HasPlaces}
+use Rattle.lg_selr_control.specs.Standing.{StandsInCode}
 use Rattle.lg_selr_control.specs.Branches.{failing, left_of, right_of, bits_code, branch_code, branch_node, number_branch_node, BranchesCarry, NumberBranchesCarry}
 use Rattle.lg_carry_rv.specs.Numbers.{number_code}
 use Rattle.lg_carry_rv.proofs.NumberCodeLemmas.{numbers-are-loaded}
@@ -138,7 +138,7 @@ pub record Prepared (code : List ℕ) (trash : ℕ) (c : Code) (i : ℕ) (front 
 pub read-kept : (w w' : ℕ → ℕ) (a : Reg) → w' (register_of Riscv64 a) ≡ w (register_of Riscv64 a) → read w' (register_of Riscv64 a) ≡ read w (register_of Riscv64 a)
 read-kept w w' a h = ap (λ z. if register_of Riscv64 a == 0 then 0 else z) h
 
-module _ (code : List ℕ) (trash : ℕ) (c : Code) (i : ℕ) (o : Condition) (last : LastOperand) (l : Label) (a : Reg) (third : Operand) (line : ℕ) (S : ℕ → Bool) (front : List Instr) (b : ℕ) (w : HasPlaces c) where
+module _ (code : List ℕ) (trash : ℕ) (c : Code) (i : ℕ) (o : Condition) (last : LastOperand) (l : Label) (a : Reg) (third : Operand) (line : ℕ) (S : ℕ → Bool) (front : List Instr) (b : ℕ) (w : HasPlaces 4 c) where
   abbrev n : Node
   n = record { op = op.Branch o last; operands = operand.Label l ∷ operand.Reg a ∷ third ∷ []; line = line }
 
@@ -190,7 +190,7 @@ module _ (code : List ℕ) (trash : ℕ) (c : Code) (i : ℕ) (o : Condition) (l
         few-bits condition.Ne = omega arith
 
 -- ---- on two registers
-module _ (code : List ℕ) (trash : ℕ) (c : Code) (i : ℕ) (o : Condition) (l : Label) (a b : Reg) (line : ℕ) (S : ℕ → Bool) (w : HasPlaces c) (t : IsInText c i (branch_node o l a b line))
+module _ (code : List ℕ) (trash : ℕ) (c : Code) (i : ℕ) (o : Condition) (l : Label) (a b : Reg) (line : ℕ) (S : ℕ → Bool) (w : HasPlaces 4 c) (t : IsInText c i (branch_node o l a b line))
     (k : StandsInCode code trash c i (branch_code (slice_index c.addresses) (c.place i) [] o (register_of Riscv64 a) (register_of Riscv64 b) l)) where
   abbrev two-node : Node
   two-node = branch_node o l a b line
@@ -199,7 +199,7 @@ module _ (code : List ℕ) (trash : ℕ) (c : Code) (i : ℕ) (o : Condition) (l
   live-b ne = read-is-live two-node S b (λ z. named-later Read form.Target (form.Read ∷ form.Read ∷ []) b (operand.Label l) (operand.Reg a ∷ operand.Reg b ∷ []) (named-later Read form.Read (form.Read ∷ []) b (operand.Reg a) (operand.Reg b ∷ []) (named-here Read form.Read [] b [] refl z))) ne
 
   carried : CarriesNode (rv_processor code trash) c i two-node S
-  carried live returns s out q at st = by (reg s a) (reg s b) refl refl
+  carried live s returns out q at st = by (reg s a) (reg s b) refl refl
     where
       stepped : step c.nodes c.shape c.addresses s ≡ need (reg s a) (λ x. need (reg s b) (λ y. branch (holds o x y) c.nodes.places s (operand.Label l)))
       stepped = ap (λ m. step_at (text c.nodes c.shape c.addresses) m s) (ap (slice_get c.nodes.nodes) at ∙ t.here)
@@ -250,7 +250,7 @@ number-prepared code trash c i v n back q small k room at =
       },
     )
 
-module _ (code : List ℕ) (trash : ℕ) (c : Code) (i : ℕ) (o : Condition) (l : Label) (a : Reg) (third : Operand) (v line : ℕ) (S : ℕ → Bool) (word : immediate third ≡ Some v) (small : v < 2 ^ 64) (w : HasPlaces c) (t : IsInText c i (number_branch_node o l a third line))
+module _ (code : List ℕ) (trash : ℕ) (c : Code) (i : ℕ) (o : Condition) (l : Label) (a : Reg) (third : Operand) (v line : ℕ) (S : ℕ → Bool) (word : immediate third ≡ Some v) (small : v < 2 ^ 64) (w : HasPlaces 4 c) (t : IsInText c i (number_branch_node o l a third line))
     (k : StandsInCode code trash c i (branch_code (slice_index c.addresses) (c.place i) (number_code 1 v) o (register_of Riscv64 a) 1 l)) where
   abbrev one-node : Node
   one-node = number_branch_node o l a third line
@@ -268,7 +268,7 @@ module _ (code : List ℕ) (trash : ℕ) (c : Code) (i : ℕ) (o : Condition) (l
   size = length-append (front ++ bits) two
 
   number-carried : CarriesNode (rv_processor code trash) c i one-node S
-  number-carried live returns s out q at st = by (reg s a) refl
+  number-carried live s returns out q at st = by (reg s a) refl
     where
       stepped : step c.nodes c.shape c.addresses s ≡ need (reg s a) (λ x. branch (holds o x v) c.nodes.places s (operand.Label l))
       stepped = ap (λ m. step_at (text c.nodes c.shape c.addresses) m s) (ap (slice_get c.nodes.nodes) at ∙ t.here) ∙ ap (λ z. need (reg s a) (λ x. need z (λ y. branch (holds o x y) c.nodes.places s (operand.Label l)))) (immediate-value c.addresses s third v word)

@@ -42,14 +42,15 @@ use Rattle.lg_carry.proofs.PassageLemmas.{passages-lead}
 use Rattle.lg_carry.proofs.ShapedLemmas.{shaped}
 use Rattle.lg_carry_rv.specs.RvRows.{rv_processor, rv_seen}
 use Rattle.lg_carry_rv.proofs.SlotLemmas.{pc-next}
-use Rattle.lg_carry_rv.specs.Places.{IsInText}
-use Rattle.lg_selr_control.specs.Standing.{StandsInCode, HasPlaces}
+use Rattle.lg_carry.specs.TextNodes.{IsInText, HasPlaces}
+use Rattle.lg_selr_control.specs.Standing.{StandsInCode}
 use Rattle.lg_selr_control.specs.Calls.{call_node, finish_node, call_code, CallsCarry, FinishesCarry}
 use Rattle.lg_selr_control.proofs.ChainLemmas.{RunsAt, begins-at}
 use Rattle.lg_selr_control.proofs.JumpLemmas.{jumps-there, bound-at, outer-is}
 use Rattle.lg_selr_control.proofs.LiveLemmas.{still-live}
 use Rattle.lg_selr_control.proofs.StandingLemmas.{stands-inside, goes-fits, one-passes}
 use Rattle.lg_selr_control.proofs.WordLemmas.{runs-there, put-same, put-other}
+use Rattle.lg_meaning.specs.Addresses.{IsBound}
 
 -- a call is no return
 pub stays-frame : (o : Op) → is_call o ≡ true → is_return o ≡ false
@@ -60,8 +61,8 @@ stays-frame o e = cc
 -- ---- into a function
 -- the node of a call of a function stands behind a `prolog`, and its code ends in its bytes; from q the link is the place behind the node, and
 -- the run goes on at the place of the function
-module _ (code : List ℕ) (trash : ℕ) (c : Code) (i : ℕ) (n : Node) (S : ℕ → Bool) (w : HasPlaces c) (t : IsInText c i n) (inside : is_inside c i ≡ true) (calls : is_call n.op ≡ true) (unwritten : (v : ℕ) → v < 3 → numbered (is_written n) (v + 3) ≡ false)
-    (live : Frame → ℕ → Bool) (returns : ReturnsTo live n i S) (s : State) (out : List ℕ) (q u : Run CpuState) (at : s.at ≡ i) (st : Stands (rv_processor code trash) c live s out q (live_before n S))
+module _ (code : List ℕ) (trash : ℕ) (c : Code) (i : ℕ) (n : Node) (S : ℕ → Bool) (w : HasPlaces 4 c) (t : IsInText c i n) (inside : is_inside c i ≡ true) (calls : is_call n.op ≡ true) (unwritten : (v : ℕ) → v < 3 → numbered (is_written n) (v + 3) ≡ false)
+    (live : Frame → ℕ → Bool) (s : State) (returns : ReturnsTo live n S s) (out : List ℕ) (q u : Run CpuState) (at : s.at ≡ i) (st : Stands (rv_processor code trash) c live s out q (live_before n S))
     (args : List ℕ) (held : HoldsArguments Riscv64 q.state.registers args) (stacked : HasArguments Riscv64 q.state.bytes (lowest s.frame) args) (m : ℕ) (pass : Passes (rv_processor code trash) c i m q u) (few : m ≤ 64) (some : 0 < m)
     (kept : (r : ℕ) → r ≢ 1 → u.state.registers r ≡ q.state.registers r) (bytes : u.state.bytes ≡ q.state.bytes) (mark : u.state.mark ≡ q.state.mark) (link : u.state.registers 1 ≡ c.place (i + 1)) where
   -- at the place of a function that begins
@@ -87,7 +88,7 @@ module _ (code : List ℕ) (trash : ℕ) (c : Code) (i : ℕ) (n : Node) (S : �
           let agree : StatesAgree Riscv64 c live s' (rv_seen u) S = call-agrees Riscv64 c live s args to (rv_seen q) (rv_seen u) (live_before n S) S st.state
           record {
             before = before;
-            needed = λ v lt l. still-live n S (v + 3) (unwritten v lt) (sym (returns s args at calls (v + 3)) ∙ l);
+            needed = λ v lt l. still-live n S (v + 3) (unwritten v lt) (sym (returns args calls (v + 3)) ∙ l);
             kept = λ v lt. kept (portable_register Riscv64 (v + 3)) ((apart.link 1 refl).portable (v + 3) (omega (arith, lt)));
             pointer = kept 8 (λ z. cc);
             stack = kept 2 (λ z. cc) ∙ frame.stack;
@@ -109,9 +110,9 @@ module _ (code : List ℕ) (trash : ℕ) (c : Code) (i : ℕ) (n : Node) (S : �
           (subst (λ b. Stands (rv_processor code trash) c live s' (out ++ []) u (if b then live (at_call s.frame) else S)) (sym (stays-frame n.op calls)) record { runs = runs; wrote = ap (λ z. z.out) (sym pass.leads) ∙ pass.silent m (omega arith) ∙ st.wrote ∙ sym (append-nil out); state = agree })))
 
 -- ---- by a jump that links
-module _ (code : List ℕ) (trash : ℕ) (c : Code) (i : ℕ) (n : Node) (l : Label) (S : ℕ → Bool) (w : HasPlaces c) (t : IsInText c i n) (k : StandsInCode code trash c i (call_code (slice_index c.addresses) (c.place i) l)) (inside : is_inside c i ≡ true) (calls : is_call n.op ≡ true)
+module _ (code : List ℕ) (trash : ℕ) (c : Code) (i : ℕ) (n : Node) (l : Label) (S : ℕ → Bool) (w : HasPlaces 4 c) (t : IsInText c i n) (k : StandsInCode code trash c i (call_code (slice_index c.addresses) (c.place i) l)) (inside : is_inside c i ≡ true) (calls : is_call n.op ≡ true)
     (unwritten : (v : ℕ) → v < 3 → numbered (is_written n) (v + 3) ≡ false) (target : IsEntry c.nodes (place_of c.nodes.places l))
-    (live : Frame → ℕ → Bool) (returns : ReturnsTo live n i S) (s : State) (out : List ℕ) (q : Run CpuState) (at : s.at ≡ i) (st : Stands (rv_processor code trash) c live s out q (live_before n S))
+    (live : Frame → ℕ → Bool) (s : State) (returns : ReturnsTo live n S s) (out : List ℕ) (q : Run CpuState) (at : s.at ≡ i) (st : Stands (rv_processor code trash) c live s out q (live_before n S))
     (args : List ℕ) (held : HoldsArguments Riscv64 q.state.registers args) (stacked : HasArguments Riscv64 q.state.bytes (lowest s.frame) args) where
   here : q.state.pc ≡ c.place i
   here = st.state.here ∙ ap c.place at
@@ -128,24 +129,25 @@ module _ (code : List ℕ) (trash : ℕ) (c : Code) (i : ℕ) (n : Node) (l : La
   does : act (instr.Jal 1 (pos (slice_index c.addresses l.0) -ℤ pos (c.place i))) q.state ≡ e
   does =
       let high = w.high target.node (omega (arith, within)) in
+      let bound : IsBound c.nodes l.0 (place.Node target.node) = bound-at c.nodes.places l (place.Node target.node) target.place in
       ap (λ p. act (instr.Jal 1 (pos (slice_index c.addresses l.0) -ℤ pos p)) q.state) (sym here)
-      ∙ ap (λ p. act (instr.Jal 1 (pos p -ℤ pos q.state.pc)) q.state) (w.bound l.0 target.node (bound-at c.nodes.places l (place.Node target.node) target.place))
-      ∙ jumps-there q.state 1 (c.place target.node) (omega (arith, begins.high, here)) (omega (arith, high)) (w.aligned target.node (omega (arith, within)))
+      ∙ ap (λ p. act (instr.Jal 1 (pos p -ℤ pos q.state.pc)) q.state) (w.bound l.0 target.node bound)
+      ∙ jumps-there q.state 1 (c.place target.node) (omega (arith, begins.high, here)) (omega (arith, high)) (w.aligned target.node (omega (arith, within)) (inl (l.0, bound)))
 
   pass : Passes (rv_processor code trash) c i 1 q (after q e)
   pass = subst (λ z. Passes (rv_processor code trash) c i 1 q (after q z)) does (one-passes code trash c i [] (instr.Jal 1 (pos (slice_index c.addresses l.0) -ℤ pos (c.place i))) [] q k st.runs (here ∙ omega arith))
 
   pub label-called : step c.nodes c.shape c.addresses s ≡ call_node_step (text c.nodes c.shape c.addresses) s args target.node
       → (step c.nodes c.shape c.addresses s ≡ Undefined) ⊎ Leads (rv_processor code trash) c live (live_behind live n S s) i (step c.nodes c.shape c.addresses s) out q
-  label-called steps = enters code trash c i n S w t inside calls unwritten live returns s out q (after q e) at st args held stacked 1 pass (omega arith) (omega arith)
+  label-called steps = enters code trash c i n S w t inside calls unwritten live s returns out q (after q e) at st args held stacked 1 pass (omega arith) (omega arith)
       (λ r ne. put-other q.state.registers 1 _ r ne) refl refl (put-same q.state.registers 1 _ ∙ pc-next q.state.pc (omega (arith, begins.high, here)) ∙ omega (arith, here, k.node.next))
       target.node target.entry refl (runs-there (c.place target.node) (w.low target.node (omega (arith, within)))) steps
 
-module _ (code : List ℕ) (trash : ℕ) (c : Code) (i : ℕ) (l : Label) (line : ℕ) (S : ℕ → Bool) (w : HasPlaces c) where
+module _ (code : List ℕ) (trash : ℕ) (c : Code) (i : ℕ) (l : Label) (line : ℕ) (S : ℕ → Bool) (w : HasPlaces 4 c) where
   calls-carried : IsInText c i (call_node l line) → StandsInCode code trash c i (call_code (slice_index c.addresses) (c.place i) l) → CarriesNode (rv_processor code trash) c i (call_node l line) S
-  calls-carried t k live returns s out q at st =
+  calls-carried t k live s returns out q at st =
       let target = t.well.calls i (call_node l line) l [] t.here refl refl in
-      label-called code trash c i (call_node l line) l S w t k (stands-inside c i (call_node l line) t refl refl) refl saved target live returns s out q at st [] record { is = λ j x lt z. cc } record { is = λ j x lt z. cc }
+      label-called code trash c i (call_node l line) l S w t k (stands-inside c i (call_node l line) t refl refl) refl saved target live s returns out q at st [] record { is = λ j x lt z. cc } record { is = λ j x lt z. cc }
       (ap (λ x. step_at (text c.nodes c.shape c.addresses) x s) (ap (slice_get c.nodes.nodes) at ∙ t.here) ∙ ap (λ o. call_node_step (text c.nodes c.shape c.addresses) s [] (node_in o)) target.place)
     where
       saved : (v : ℕ) → v < 3 → numbered (is_written (call_node l line)) (v + 3) ≡ false
@@ -155,9 +157,9 @@ module _ (code : List ℕ) (trash : ℕ) (c : Code) (i : ℕ) (l : Label) (line 
       saved (suc (suc (suc v))) lt = absurd (omega (arith, lt))
 
   finishes-carried : IsInText c i (finish_node l line) → StandsInCode code trash c i (call_code (slice_index c.addresses) (c.place i) l) → CarriesNode (rv_processor code trash) c i (finish_node l line) S
-  finishes-carried t k live returns s out q at st =
+  finishes-carried t k live s returns out q at st =
       let target = t.well.calls i (finish_node l line) l [] t.here refl refl in
-      label-called code trash c i (finish_node l line) l S w t k (stands-inside c i (finish_node l line) t refl refl) refl saved target live returns s out q at st s.pushed st.state.pushed st.state.outgoing
+      label-called code trash c i (finish_node l line) l S w t k (stands-inside c i (finish_node l line) t refl refl) refl saved target live s returns out q at st s.pushed st.state.pushed st.state.outgoing
       (ap (λ x. step_at (text c.nodes c.shape c.addresses) x s) (ap (slice_get c.nodes.nodes) at ∙ t.here) ∙ ap (λ o. call_node_step (text c.nodes c.shape c.addresses) s s.pushed (node_in o)) target.place)
     where
       saved : (v : ℕ) → v < 3 → numbered (is_written (finish_node l line)) (v + 3) ≡ false

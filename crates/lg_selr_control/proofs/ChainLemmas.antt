@@ -20,8 +20,8 @@ use Rattle.lg_carry.proofs.PassageLemmas.{parts-pass}
 use Rattle.lg_carry_rv.specs.RvRows.{rv_processor, rv_rows, rv_does, is_straight}
 use Rattle.lg_carry_rv.proofs.RowLemmas.{went, are-rows}
 use Rattle.lg_carry_rv.proofs.SlotLemmas.{pc-next, goes-on}
-use Rattle.lg_carry_rv.specs.Places.{IsInText}
-use Rattle.lg_selr_control.specs.Standing.{StandsInCode, HasPlaces}
+use Rattle.lg_carry.specs.TextNodes.{IsInText, HasPlaces}
+use Rattle.lg_selr_control.specs.Standing.{StandsInCode}
 use Rattle.lg_selr_control.proofs.StandingLemmas.{spelled-size}
 
 -- a run that goes on at instruction k of n that stand at an address
@@ -73,9 +73,9 @@ module _ (code : List ℕ) (trash : ℕ) (c : Code) (i : ℕ) where
       (parts-pass (rv_rows code trash) IsInstr (are-rows code trash k.small k.bytes k.word) c i front part back q k.node (omega (arith, at, size)) block h.through)
 
   -- the instructions of a node stand in the code part
-  pub node-high : (n : Node) (is : List Instr) → HasPlaces c → IsInText c i n → StandsInCode code trash c i is → c.place i + 4 * length is ≤ code_base + most_code
+  pub node-high : (n : Node) (is : List Instr) → HasPlaces 4 c → IsInText c i n → StandsInCode code trash c i is → c.place i + 4 * length is ≤ code_base + most_code
   node-high n is w t k = let lt = slice_get_within c.nodes.nodes i n t.here in let h = w.high (i + 1) (omega (arith, lt)) in omega (arith, h, k.node.next, spelled-size is)
 
   -- a run that stands for a state at the node begins there
-  pub begins-at : (n : Node) (is : List Instr) (q : Run CpuState) → HasPlaces c → IsInText c i n → StandsInCode code trash c i is → status_of q.progress ≡ Running → q.state.pc ≡ c.place i → RunsAt (c.place i) (length is) 0 q
+  pub begins-at : (n : Node) (is : List Instr) (q : Run CpuState) → HasPlaces 4 c → IsInText c i n → StandsInCode code trash c i is → status_of q.progress ≡ Running → q.state.pc ≡ c.place i → RunsAt (c.place i) (length is) 0 q
   begins-at n is q w t k runs at = record { runs = runs; here = at ∙ omega arith; low = k.node.low; high = node-high n is w t k }

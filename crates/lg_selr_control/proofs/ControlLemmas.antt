@@ -27,11 +27,11 @@ use Rattle.lg_temp.specs.Abis.{register_of}
 use Rattle.lg_carry.specs.Codes.{Code}
 use Rattle.lg_carry.specs.NodeCode.{CarriesNode}
 use Rattle.lg_carry_rv.specs.Numbers.{number_code}
-use Rattle.lg_carry_rv.specs.Places.{IsInText}
+use Rattle.lg_carry.specs.TextNodes.{IsInText, HasPlaces, IsFrameOf}
 use Rattle.lg_carry_rv.specs.RvRows.{rv_processor}
 use Rattle.lg_selr_items.specs.Items.{bytes_in, settled, ones}
 use Rattle.lg_selr_items.proofs.ItemLemmas.{settled-append, settled-ones, words-ones, ones-append}
-use Rattle.lg_selr_control.specs.Standing.{StandsInCode, HasPlaces}
+use Rattle.lg_selr_control.specs.Standing.{StandsInCode}
 use Rattle.lg_selr_control.specs.Branches.{jump_unless, failing, left_of, right_of, bits_code}
 use Rattle.lg_selr_control.specs.SumBranches.{sum_code, staying}
 use Rattle.lg_selr_control.specs.Returns.{return_code}
@@ -39,7 +39,7 @@ use Rattle.lg_selr_control.specs.Prologs.{prolog_code}
 use Rattle.lg_selr_control.specs.Alignments.{align_code}
 use Rattle.lg_selr_control.specs.ControlItems.{jump_unless_items, control_items, is_control}
 use Rattle.lg_selr_values.specs.ValueLaws.{AreWords}
-use Rattle.lg_selr_control.specs.ControlLaws.{ends_in_label, IsFrameOf, ControlNodesCarry}
+use Rattle.lg_selr_control.specs.ControlLaws.{ends_in_label, ControlNodesCarry}
 use Rattle.lg_selr_control.proofs.AlignLemmas.{alignments-carry}
 use Rattle.lg_selr_control.proofs.BranchLemmas.{branches-carry, number-branches-carry}
 use Rattle.lg_selr_control.proofs.CallLemmas.{calls-carry, finishes-carry}
@@ -87,7 +87,7 @@ pub host-small : (name : HostName) → host_address name < 2 ^ 64
 host-small name = let x = (is-entry name).small in omega (arith, x.0)
 
 -- ---- the nodes
-module _ (code : List ℕ) (trash : ℕ) (c : Code) (i frame line : ℕ) (S : ℕ → Bool) (w : HasPlaces c) (is-frame : IsFrameOf c i frame) where
+module _ (code : List ℕ) (trash : ℕ) (c : Code) (i frame line : ℕ) (S : ℕ → Bool) (w : HasPlaces 4 c) (is-frame : IsFrameOf c i frame) where
   abbrev node : Op → List Operand → Node
   node o xs = record { op = o; operands = xs; line = line }
 

@@ -44,8 +44,7 @@ use Rattle.lg_carry.proofs.ShapedLemmas.{shaped}
 use Rattle.lg_carry.proofs.StackLemmas.{stacked-running, stacked-high}
 use Rattle.lg_carry_rv.specs.RvRows.{rv_processor, rv_seen}
 use Rattle.lg_carry_rv.proofs.RowLemmas.{went}
-use Rattle.lg_carry_rv.specs.Places.{IsInText}
-use Rattle.lg_selr_control.specs.Standing.{HasPlaces}
+use Rattle.lg_carry.specs.TextNodes.{IsInText, HasPlaces}
 use Rattle.lg_selr_control.proofs.ArgumentLemmas.{arguments-begin}
 use Rattle.lg_selr_control.proofs.CallLemmas.{stays-frame}
 use Rattle.lg_selr_control.proofs.LiveLemmas.{still-live}
@@ -84,7 +83,7 @@ extends (Some x) p h = h x refl
 
 -- ---- the step of a host function
 -- the code of a call node has led to the entry of a host function, with the link behind the node
-module _ (code : List ℕ) (trash : ℕ) (c : Code) (i : ℕ) (n : Node) (S : ℕ → Bool) (w : HasPlaces c) (t : IsInText c i n) (bytes-code : AreBytes code) (word-trash : trash < 2 ^ 64) (inside : is_inside c i ≡ true) (next : is_inside c (i + 1) ≡ true)
+module _ (code : List ℕ) (trash : ℕ) (c : Code) (i : ℕ) (n : Node) (S : ℕ → Bool) (w : HasPlaces 4 c) (t : IsInText c i n) (bytes-code : AreBytes code) (word-trash : trash < 2 ^ 64) (inside : is_inside c i ≡ true) (next : is_inside c (i + 1) ≡ true)
     (calls : is_call n.op ≡ true) (unwritten : (v : ℕ) → v < 3 → numbered (is_written n) (v + 3) ≡ false)
     (live : Frame → ℕ → Bool) (s : State) (out : List ℕ) (q u : Run CpuState) (at : s.at ≡ i) (st : Stands (rv_processor code trash) c live s out q (live_before n S))
     (args : List ℕ) (few-args : length args ≤ 16) (held : HoldsArguments Riscv64 q.state.registers args) (stacked : HasArguments Riscv64 q.state.bytes (lowest s.frame) args) (m : ℕ) (pass : Passes (rv_processor code trash) c i m q u) (few : m < 64)

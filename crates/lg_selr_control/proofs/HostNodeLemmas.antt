@@ -30,8 +30,8 @@ use Rattle.lg_carry.proofs.ShapedLemmas.{shaped}
 use Rattle.lg_carry_rv.specs.Numbers.{high_part, low_part}
 use Rattle.lg_carry_rv.specs.RvRows.{rv_processor}
 use Rattle.lg_carry_rv.proofs.SlotLemmas.{pc-next}
-use Rattle.lg_carry_rv.specs.Places.{IsInText}
-use Rattle.lg_selr_control.specs.Standing.{StandsInCode, HasPlaces}
+use Rattle.lg_carry.specs.TextNodes.{IsInText, HasPlaces}
+use Rattle.lg_selr_control.specs.Standing.{StandsInCode}
 use Rattle.lg_selr_control.specs.HostCalls.{host_call_node, host_finish_node, host_code, HostCallsCarry, HostFinishesCarry}
 use Rattle.lg_selr_control.proofs.ChainLemmas.{RunsAt, next-at, Chain, chain-end, chain-more, chain-passes, begins-at}
 use Rattle.lg_selr_control.proofs.StandingLemmas.{behind-prolog, next-inside, in-some}
@@ -76,7 +76,7 @@ is-entry host.Memset = record { even = refl; found = refl; small = (omega arith,
 is-entry host.Strlen = record { even = refl; found = refl; small = (omega arith, omega arith); runs = refl }
 is-entry host.Strcmp = record { even = refl; found = refl; small = (omega arith, omega arith); runs = refl }
 
-module _ (code : List ℕ) (trash : ℕ) (c : Code) (i : ℕ) (n : Node) (name : HostName) (S : ℕ → Bool) (w : HasPlaces c) (t : IsInText c i n) (k : StandsInCode code trash c i (host_code name)) (inside : is_inside c i ≡ true) (next : is_inside c (i + 1) ≡ true)
+module _ (code : List ℕ) (trash : ℕ) (c : Code) (i : ℕ) (n : Node) (name : HostName) (S : ℕ → Bool) (w : HasPlaces 4 c) (t : IsInText c i n) (k : StandsInCode code trash c i (host_code name)) (inside : is_inside c i ≡ true) (next : is_inside c (i + 1) ≡ true)
     (calls : is_call n.op ≡ true) (unwritten : (v : ℕ) → v < 3 → numbered (is_written n) (v + 3) ≡ false)
     (live : Frame → ℕ → Bool) (s : State) (out : List ℕ) (q : Run CpuState) (at : s.at ≡ i) (st : Stands (rv_processor code trash) c live s out q (live_before n S))
     (args : List ℕ) (few-args : length args ≤ 16) (held : HoldsArguments Riscv64 q.state.registers args) (stacked : HasArguments Riscv64 q.state.bytes (lowest s.frame) args) where
@@ -111,9 +111,9 @@ module _ (code : List ℕ) (trash : ℕ) (c : Code) (i : ℕ) (n : Node) (name :
       (λ r ne. put-other q1.state.registers 1 _ r ne ∙ put-other q.state.registers 1 _ r ne) refl refl
       (put-same q1.state.registers 1 _ ∙ pc-next q1.state.pc (omega (arith, a1.here, a1.high)) ∙ omega (arith, a1.here, k.node.next)) name (is-entry name).found (let x = (is-entry name).small in omega (arith, x.0)) (is-entry name).runs steps
 
-module _ (code : List ℕ) (trash : ℕ) (c : Code) (i : ℕ) (name : HostName) (line : ℕ) (S : ℕ → Bool) (w : HasPlaces c) where
+module _ (code : List ℕ) (trash : ℕ) (c : Code) (i : ℕ) (name : HostName) (line : ℕ) (S : ℕ → Bool) (w : HasPlaces 4 c) where
   calls-carried : IsInText c i (host_call_node name line) → StandsInCode code trash c i (host_code name) → CarriesNode (rv_processor code trash) c i (host_call_node name line) S
-  calls-carried t k live returns s out q at st =
+  calls-carried t k live s returns out q at st =
       let p = in-some c i (host_call_node name line) t refl in
       entry-called code trash c i (host_call_node name line) name S w t k (behind-prolog c i (host_call_node name line) t p.0 p.1 refl) (next-inside c i (host_call_node name line) t p.0 p.1 refl) refl saved live s out q at st
       [] (omega arith) record { is = λ j x lt z. cc } record { is = λ j x lt z. cc }
@@ -126,7 +126,7 @@ module _ (code : List ℕ) (trash : ℕ) (c : Code) (i : ℕ) (name : HostName) 
       saved (suc (suc (suc v))) lt = absurd (omega (arith, lt))
 
   finishes-carried : IsInText c i (host_finish_node name line) → StandsInCode code trash c i (host_code name) → CarriesNode (rv_processor code trash) c i (host_finish_node name line) S
-  finishes-carried t k live returns s out q at st =
+  finishes-carried t k live s returns out q at st =
       let p = in-some c i (host_finish_node name line) t refl in
       entry-called code trash c i (host_finish_node name line) name S w t k (behind-prolog c i (host_finish_node name line) t p.0 p.1 refl) (next-inside c i (host_finish_node name line) t p.0 p.1 refl) refl saved live s out q at st
       s.pushed (let f = (shaped c.nodes t.well).few s.at (omega (arith, st.state.fits.inside)) in omega (arith, f, st.state.fits.pushed)) st.state.pushed st.state.outgoing

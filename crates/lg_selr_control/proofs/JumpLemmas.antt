@@ -1,5 +1,5 @@
 -- `jmpi` is carried by a jump.
-use Rattle.std.proofs.Common.{◌≡◌, ◌≢◌, ℕ, ◌%◌, ◌^◌, ◌<◌, inr, Bool, true, false, List, [], ◌++◌, Option, Some, None, refl, sym, ap, ◌∙◌, subst, arith}
+use Rattle.std.proofs.Common.{◌≡◌, ◌≢◌, ℕ, ◌%◌, ◌^◌, ◌<◌, inr, Bool, true, false, List, [], ◌++◌, Option, Some, None, refl, sym, ap, ◌∙◌, subst, arith, inl}
 use Rattle.std.specs.Prelude.{◌==◌, pos, ◌-ℤ◌, slice_get, slice_index, if◌then◌else◌}
 use Rattle.std.specs.Option.{option_flatten}
 use Rattle.lg_base.specs.Conventions.{argument_registers, portable_register}
@@ -29,12 +29,13 @@ use Rattle.lg_carry.specs.Passages.{Passes}
 use Rattle.lg_carry.proofs.MoveLemmas.{move-agrees}
 use Rattle.lg_carry.proofs.PassageLemmas.{passages-lead}
 use Rattle.lg_carry_rv.specs.RvRows.{rv_processor, rv_seen}
-use Rattle.lg_carry_rv.specs.Places.{IsInText}
-use Rattle.lg_selr_control.specs.Standing.{StandsInCode, HasPlaces}
+use Rattle.lg_carry.specs.TextNodes.{IsInText, HasPlaces}
+use Rattle.lg_selr_control.specs.Standing.{StandsInCode}
 use Rattle.lg_selr_control.specs.Jumps.{jump_node, jump_code, JumpsCarry}
 use Rattle.lg_selr_control.proofs.LiveLemmas.{unwritten, still-live}
 use Rattle.lg_selr_control.proofs.StandingLemmas.{behind-prolog, goes-fits, one-passes}
 use Rattle.lg_selr_control.proofs.WordLemmas.{distance-leads, runs-there, put-other, portable-some, argument-some}
+use Rattle.lg_meaning.specs.Addresses.{IsBound}
 
 -- ---- what a jump does
 pub aligned-there : (to : ℕ) → to % 4 ≡ 0 → (to % 4 == 0) ≡ true
@@ -72,7 +73,7 @@ jump-lands c i l inside h = by (home c.nodes.nodes i) refl h
     by (Some p) e h = record { node = h.node; place = h.place; side = inner-is (home c.nodes.nodes h.node) h.node p h.inside (λ z. absurd (omega (arith, z, h.behind))) ∙ sym (inside p e) }
     by None e h = record { node = h.node; place = h.place; side = outer-is (home c.nodes.nodes h.node) h.node h.entry ∙ sym (ap (λ o. is_inner o i) e) }
 
-module _ (code : List ℕ) (trash : ℕ) (c : Code) (i : ℕ) (l : Label) (line : ℕ) (S : ℕ → Bool) (w : HasPlaces c) (t : IsInText c i (jump_node l line)) (k : StandsInCode code trash c i (jump_code (slice_index c.addresses) (c.place i) l)) where
+module _ (code : List ℕ) (trash : ℕ) (c : Code) (i : ℕ) (l : Label) (line : ℕ) (S : ℕ → Bool) (w : HasPlaces 4 c) (t : IsInText c i (jump_node l line)) (k : StandsInCode code trash c i (jump_code (slice_index c.addresses) (c.place i) l)) where
   abbrev n : Node
   n = jump_node l line
 
@@ -80,7 +81,7 @@ module _ (code : List ℕ) (trash : ℕ) (c : Code) (i : ℕ) (l : Label) (line 
   lands = jump-lands c i l (λ p e. behind-prolog c i n t p e refl) (t.well.jumps i n l [] t.here refl refl)
 
   carried : CarriesNode (rv_processor code trash) c i n S
-  carried live returns s out q at st =
+  carried live s returns out q at st =
       let u : State = to s lands.node in
       let goes' : step c.nodes c.shape c.addresses s ≡ Goes u [] = ap (λ x. step_at (text c.nodes c.shape c.addresses) x s) (ap (slice_get c.nodes.nodes) at ∙ t.here) ∙ ap (λ o. Goes (to s (node_in o)) []) lands.place in
       let fits = goes-fits c i n t s u [] at (omega (arith, st.state.seen.low, st.state.mark)) (omega (arith, st.state.seen.high, st.state.mark)) st.state.fits goes' in
@@ -89,12 +90,13 @@ module _ (code : List ℕ) (trash : ℕ) (c : Code) (i : ℕ) (l : Label) (line 
       let there-low = w.low u.at (omega (arith, fits.inside)) in
       let there-high = w.high u.at (omega (arith, fits.inside)) in
       let here : q.state.pc ≡ c.place i = st.state.here ∙ ap c.place at in
-      let target : slice_index c.addresses l.0 ≡ c.place u.at = w.bound l.0 lands.node (bound-at c.nodes.places l (place.Node lands.node) lands.place) in
+      let bound : IsBound c.nodes l.0 (place.Node lands.node) = bound-at c.nodes.places l (place.Node lands.node) lands.place in
+      let target : slice_index c.addresses l.0 ≡ c.place u.at = w.bound l.0 lands.node bound in
       let e : Effect CpuState = goes (c.place u.at) (put q.state.registers 0 (add_words q.state.pc 4)) q.state.bytes q.state.mark in
       let does : act (instr.Jal 0 (pos (slice_index c.addresses l.0) -ℤ pos (c.place i))) q.state ≡ e =
       ap (λ p. act (instr.Jal 0 (pos (slice_index c.addresses l.0) -ℤ pos p)) q.state) (sym here)
       ∙ ap (λ p. act (instr.Jal 0 (pos p -ℤ pos q.state.pc)) q.state) target
-      ∙ jumps-there q.state 0 (c.place u.at) (omega (arith, from-high, st.state.here)) (omega (arith, there-high)) (w.aligned u.at (omega (arith, fits.inside))) in
+      ∙ jumps-there q.state 0 (c.place u.at) (omega (arith, from-high, st.state.here)) (omega (arith, there-high)) (w.aligned u.at (omega (arith, fits.inside)) (inl (l.0, bound))) in
       let pass : Passes (rv_processor code trash) c i 1 q (after q e) = subst (λ z. Passes (rv_processor code trash) c i 1 q (after q z)) does (one-passes code trash c i [] (instr.Jal 0 (pos (slice_index c.addresses l.0) -ℤ pos (c.place i))) [] q k st.runs (here ∙ omega arith)) in
       let agree : StatesAgree Riscv64 c live u (rv_seen (after q e)) S = move-agrees Riscv64 c live s u (rv_seen q) (rv_seen (after q e)) (live_before n S) S st.state
       record { fits = fits; side = lands.side ∙ ap (is_inside c) (sym at); regs = refl; carry = refl; answer = refl; pushed = refl; frame = refl; callers = refl; mem = refl; data_size = refl; args_size = refl; mark = refl }

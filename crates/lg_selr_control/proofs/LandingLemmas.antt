@@ -13,7 +13,7 @@ use Rattle.lg_meaning.specs.Steps.{later, landing, last_landing, is_behind, is_t
 use Rattle.lg_meaning.specs.Texts.{text}
 use Rattle.lg_meaning.proofs.NodeFacts.{function_found}
 use Rattle.lg_carry.specs.Codes.{Code, is_inside}
-use Rattle.lg_carry_rv.specs.Places.{IsInText}
+use Rattle.lg_carry.specs.TextNodes.{IsInText}
 use Rattle.lg_selr_control.proofs.JumpLemmas.{inner-is}
 
 -- ---- where a word leads

@@ -35,8 +35,8 @@ use Rattle.lg_carry.proofs.ShapedLemmas.{shaped}
 use Rattle.lg_carry.proofs.StackLemmas.{stacked, stacked-high}
 use Rattle.lg_carry_rv.specs.Numbers.{high_part, low_part}
 use Rattle.lg_carry_rv.specs.RvRows.{rv_processor, rv_seen, is_straight}
-use Rattle.lg_carry_rv.specs.Places.{IsInText}
-use Rattle.lg_selr_control.specs.Standing.{StandsInCode, HasPlaces}
+use Rattle.lg_carry.specs.TextNodes.{IsInText, HasPlaces}
+use Rattle.lg_selr_control.specs.Standing.{StandsInCode}
 use Rattle.lg_selr_control.specs.Prologs.{prolog_node, stored_registers, fall_code, prolog_code, PrologsCarry}
 use Rattle.lg_selr_control.proofs.ChainLemmas.{RunsAt, next-at, Chain, chain-more, chain-passes, straight-block, begins-at}
 use Rattle.lg_selr_control.proofs.JumpLemmas.{outer-is}
@@ -72,7 +72,7 @@ few-falls size = by (nat_le size 2048)
     by true = omega arith
     by false = omega arith
 
-module _ (code : List ℕ) (trash : ℕ) (c : Code) (i line : ℕ) (f : Function) (S : ℕ → Bool) (w : HasPlaces c) (t : IsInText c i (prolog_node line)) (here : function_here c.shape.functions i ≡ Some f) (k : StandsInCode code trash c i (prolog_code (frame_of f)))
+module _ (code : List ℕ) (trash : ℕ) (c : Code) (i line : ℕ) (f : Function) (S : ℕ → Bool) (w : HasPlaces 4 c) (t : IsInText c i (prolog_node line)) (here : function_here c.shape.functions i ≡ Some f) (k : StandsInCode code trash c i (prolog_code (frame_of f)))
     (live : Frame → ℕ → Bool) (s : State) (out : List ℕ) (q : Run CpuState) (at : s.at ≡ i) (st : Stands (rv_processor code trash) c live s out q (live_before (prolog_node line) S)) where
   abbrev n : Node
   n = prolog_node line
@@ -239,4 +239,4 @@ module _ (code : List ℕ) (trash : ℕ) (c : Code) (i line : ℕ) (f : Function
       record { runs = fall.at.runs; wrote = ap (λ z. z.out) (sym pass.leads) ∙ pass.silent (length (prolog_code size)) (omega arith) ∙ st.wrote ∙ sym (append-nil out); state = agree })
 
 pub prologs-carry : PrologsCarry
-prologs-carry code trash c i line f S w t here k live returns s out q at st = inr (carried-here code trash c i line f S w t here k live s out q at st)
+prologs-carry code trash c i line f S w t here k live s returns out q at st = inr (carried-here code trash c i line f S w t here k live s out q at st)

@@ -33,10 +33,10 @@ use Rattle.lg_carry.specs.Passages.{Passes}
 use Rattle.lg_carry.proofs.MoveLemmas.{move-agrees}
 use Rattle.lg_carry.proofs.PassageLemmas.{passages-lead}
 use Rattle.lg_carry.proofs.ShapedLemmas.{shaped}
-use Rattle.lg_carry_rv.specs.Places.{IsInText}
+use Rattle.lg_carry.specs.TextNodes.{IsInText, HasPlaces}
 use Rattle.lg_carry_rv.specs.RvRows.{rv_processor, rv_seen}
 use Rattle.lg_carry_rv.proofs.SlotLemmas.{pc-next}
-use Rattle.lg_selr_control.specs.Standing.{StandsInCode, HasPlaces}
+use Rattle.lg_selr_control.specs.Standing.{StandsInCode}
 use Rattle.lg_selr_control.specs.RegisterLeaps.{register_leap_code, jmpr_node, callr_node, finishr_node, RegisterJumpsCarry, RegisterCallsCarry, RegisterFinishesCarry}
 use Rattle.lg_carry_rv.proofs.RegisterLemmas.{given}
 use Rattle.lg_selr_control.proofs.CallLemmas.{enters}
@@ -54,7 +54,7 @@ use Rattle.lg_selr_control.proofs.LandingLemmas.{last-landed, host-found, entry-
 even-of : (a : ℕ) → (a % 4 == 0) ≡ true → a % 4 ≡ 0
 even-of a h = grind (arith, h)
 
-module _ (code : List ℕ) (trash : ℕ) (c : Code) (i : ℕ) (n : Node) (a : Reg) (rd : ℕ) (S : ℕ → Bool) (w : HasPlaces c) (t : IsInText c i n) (k : StandsInCode code trash c i (register_leap_code rd a)) (inside : is_inside c i ≡ true)
+module _ (code : List ℕ) (trash : ℕ) (c : Code) (i : ℕ) (n : Node) (a : Reg) (rd : ℕ) (S : ℕ → Bool) (w : HasPlaces 4 c) (t : IsInText c i n) (k : StandsInCode code trash c i (register_leap_code rd a)) (inside : is_inside c i ≡ true)
     (reads : a ≢ Fp → live_before n S (number a) ≡ true) (live : Frame → ℕ → Bool) (s : State) (out : List ℕ) (q : Run CpuState) (at : s.at ≡ i) (st : Stands (rv_processor code trash) c live s out q (live_before n S)) (x : ℕ) (ex : reg s a ≡ Some x)
     (near : x < 2 ^ 62) (even : x % 4 ≡ 0) where
   abbrev e : Effect CpuState
@@ -76,7 +76,7 @@ module _ (code : List ℕ) (trash : ℕ) (c : Code) (i : ℕ) (n : Node) (a : Re
   leap-link = pc-next q.state.pc (omega (arith, leap-begins.high, leap-here)) ∙ omega (arith, leap-here, k.node.next)
 
 -- ---- `jmpr`
-module _ (code : List ℕ) (trash : ℕ) (c : Code) (i : ℕ) (a : Reg) (line : ℕ) (S : ℕ → Bool) (w : HasPlaces c) (t : IsInText c i (jmpr_node a line)) (k : StandsInCode code trash c i (register_leap_code 0 a)) where
+module _ (code : List ℕ) (trash : ℕ) (c : Code) (i : ℕ) (a : Reg) (line : ℕ) (S : ℕ → Bool) (w : HasPlaces 4 c) (t : IsInText c i (jmpr_node a line)) (k : StandsInCode code trash c i (register_leap_code 0 a)) where
   abbrev jump-node : Node
   jump-node = jmpr_node a line
 
@@ -87,7 +87,7 @@ module _ (code : List ℕ) (trash : ℕ) (c : Code) (i : ℕ) (a : Reg) (line : 
   jump-inside = let p = in-some c i jump-node t refl in behind-prolog c i jump-node t p.0 p.1 refl
 
   jump-carried : CarriesNode (rv_processor code trash) c i jump-node S
-  jump-carried live returns s out q at st = by (reg s a) refl
+  jump-carried live s returns out q at st = by (reg s a) refl
     where
       stepped : step c.nodes c.shape c.addresses s ≡ need (reg s a) (λ x. need (jump_target (text c.nodes c.shape c.addresses) s.at x) (λ j. quiet (to s j)))
       stepped = ap (λ m. step_at (text c.nodes c.shape c.addresses) m s) (ap (slice_get c.nodes.nodes) at ∙ t.here)
@@ -102,7 +102,7 @@ module _ (code : List ℕ) (trash : ℕ) (c : Code) (i : ℕ) (a : Reg) (line : 
           let fits = goes-fits c i jump-node t s (to s j) [] at (omega (arith, st.state.seen.low, st.state.mark)) (omega (arith, st.state.seen.high, st.state.mark)) st.state.fits goes' in
           let high = w.high j (omega (arith, fits.inside)) in
           let near : x < 2 ^ 62 = omega (arith, place, high) in
-          let even : x % 4 ≡ 0 = ap (λ z. z % 4) place ∙ w.aligned j (omega (arith, fits.inside)) in
+          let even : x % 4 ≡ 0 = ap (λ z. z % 4) place ∙ w.aligned j (omega (arith, fits.inside)) (inl (l.label, l.bound)) in
           let pass = leap-passes code trash c i jump-node a 0 S w t k jump-inside jump-reads live s out q at st x ex near even in
           let u = after q (goes x (put q.state.registers 0 (add_words q.state.pc 4)) q.state.bytes q.state.mark) in
           let agree : StatesAgree Riscv64 c live (to s j) (rv_seen u) S = move-agrees Riscv64 c live s (to s j) (rv_seen q) (rv_seen u) (live_before jump-node S) S st.state
@@ -138,9 +138,9 @@ pub register-jumps-carry : RegisterJumpsCarry
 register-jumps-carry code trash c i a line S w t k = jump-carried code trash c i a line S w t k
 
 -- ---- calls
-module _ (code : List ℕ) (trash : ℕ) (c : Code) (i : ℕ) (n : Node) (a : Reg) (S : ℕ → Bool) (w : HasPlaces c) (t : IsInText c i n) (k : StandsInCode code trash c i (register_leap_code 1 a)) (inside : is_inside c i ≡ true) (next : is_inside c (i + 1) ≡ true)
+module _ (code : List ℕ) (trash : ℕ) (c : Code) (i : ℕ) (n : Node) (a : Reg) (S : ℕ → Bool) (w : HasPlaces 4 c) (t : IsInText c i n) (k : StandsInCode code trash c i (register_leap_code 1 a)) (inside : is_inside c i ≡ true) (next : is_inside c (i + 1) ≡ true)
     (calls : is_call n.op ≡ true) (unwritten-saved : (v : ℕ) → v < 3 → numbered (is_written n) (v + 3) ≡ false) (reads : a ≢ Fp → live_before n S (number a) ≡ true)
-    (live : Frame → ℕ → Bool) (returns : ReturnsTo live n i S) (s : State) (out : List ℕ) (q : Run CpuState) (at : s.at ≡ i) (st : Stands (rv_processor code trash) c live s out q (live_before n S))
+    (live : Frame → ℕ → Bool) (s : State) (returns : ReturnsTo live n S s) (out : List ℕ) (q : Run CpuState) (at : s.at ≡ i) (st : Stands (rv_processor code trash) c live s out q (live_before n S))
     (args : List ℕ) (few-args : length args ≤ 16) (held : HoldsArguments Riscv64 q.state.registers args) (stacked : HasArguments Riscv64 q.state.bytes (lowest s.frame) args) where
   abbrev Carried : Type 0
   Carried = (step c.nodes c.shape c.addresses s ≡ Undefined) ⊎ Leads (rv_processor code trash) c live (live_behind live n S s) i (step c.nodes c.shape c.addresses s) out q
@@ -165,10 +165,10 @@ module _ (code : List ℕ) (trash : ℕ) (c : Code) (i : ℕ) (n : Node) (a : Re
       let within = home_within c.nodes.nodes j j entry in
       let high = w.high j (omega (arith, within)) in
       let near : x < 2 ^ 62 = omega (arith, place, high) in
-      let even : x % 4 ≡ 0 = ap (λ z. z % 4) place ∙ w.aligned j (omega (arith, within)) in
+      let even : x % 4 ≡ 0 = ap (λ z. z % 4) place ∙ w.aligned j (omega (arith, within)) (inl (l.label, l.bound)) in
       let pass = leap-passes code trash c i n a 1 S w t k inside reads live s out q at st x ex near even in
       let u = after q (goes x (put q.state.registers 1 (add_words q.state.pc 4)) q.state.bytes q.state.mark) in
-      enters code trash c i n S w t inside calls unwritten-saved live returns s out q u at st args held stacked 1 pass (omega arith) (omega arith)
+      enters code trash c i n S w t inside calls unwritten-saved live s returns out q u at st args held stacked 1 pass (omega arith) (omega arith)
       (λ r ne. put-other q.state.registers 1 (add_words q.state.pc 4) r ne) refl refl (put-same q.state.registers 1 (add_words q.state.pc 4) ∙ leap-link code trash c i n a 1 S w t k inside reads live s out q at st x ex near even)
       j entry place (ap (λ z. status_of (arrived z)) place ∙ runs-there (c.place j) (w.low j (omega (arith, within)))) steps
 
@@ -187,7 +187,7 @@ module _ (code : List ℕ) (trash : ℕ) (c : Code) (i : ℕ) (n : Node) (a : Re
       by None ex = inl (stepped ∙ ap (λ z. need z (λ x. call_word (text c.nodes c.shape c.addresses) s args x)) ex)
       by (Some x) ex = named x (host_by_address x) ex refl (stepped ∙ ap (λ z. need z (λ x. call_word (text c.nodes c.shape c.addresses) s args x)) ex)
 
-module _ (code : List ℕ) (trash : ℕ) (c : Code) (i : ℕ) (a : Reg) (line : ℕ) (S : ℕ → Bool) (w : HasPlaces c) where
+module _ (code : List ℕ) (trash : ℕ) (c : Code) (i : ℕ) (a : Reg) (line : ℕ) (S : ℕ → Bool) (w : HasPlaces 4 c) where
   -- what a call writes are R0, R1 and R2
   call-saved : (v : ℕ) → v < 3 → numbered (is_written (callr_node a line)) (v + 3) ≡ false
   call-saved zero lt = refl
@@ -202,17 +202,17 @@ module _ (code : List ℕ) (trash : ℕ) (c : Code) (i : ℕ) (a : Reg) (line : 
   finish-saved (suc (suc (suc v))) lt = absurd (omega (arith, lt))
 
   calls-carried : IsInText c i (callr_node a line) → StandsInCode code trash c i (register_leap_code 1 a) → CarriesNode (rv_processor code trash) c i (callr_node a line) S
-  calls-carried t k live returns s out q at st =
+  calls-carried t k live s returns out q at st =
       let n = callr_node a line in
       let p = in-some c i n t refl in
-      word-called code trash c i n a S w t k (behind-prolog c i n t p.0 p.1 refl) (next-inside c i n t p.0 p.1 refl) refl call-saved (λ ne. read-is-live n S a (λ z. named-here Read form.Read [] a [] refl z) ne) live returns s out q at st
+      word-called code trash c i n a S w t k (behind-prolog c i n t p.0 p.1 refl) (next-inside c i n t p.0 p.1 refl) refl call-saved (λ ne. read-is-live n S a (λ z. named-here Read form.Read [] a [] refl z) ne) live s returns out q at st
       [] (omega arith) record { is = λ j x lt z. cc } record { is = λ j x lt z. cc } (ap (λ m. step_at (text c.nodes c.shape c.addresses) m s) (ap (slice_get c.nodes.nodes) at ∙ t.here))
 
   finishes-carried : IsInText c i (finishr_node a line) → StandsInCode code trash c i (register_leap_code 1 a) → CarriesNode (rv_processor code trash) c i (finishr_node a line) S
-  finishes-carried t k live returns s out q at st =
+  finishes-carried t k live s returns out q at st =
       let n = finishr_node a line in
       let p = in-some c i n t refl in
-      word-called code trash c i n a S w t k (behind-prolog c i n t p.0 p.1 refl) (next-inside c i n t p.0 p.1 refl) refl finish-saved (λ ne. read-is-live n S a (λ z. named-here Read form.Read [] a [] refl z) ne) live returns s out q at st
+      word-called code trash c i n a S w t k (behind-prolog c i n t p.0 p.1 refl) (next-inside c i n t p.0 p.1 refl) refl finish-saved (λ ne. read-is-live n S a (λ z. named-here Read form.Read [] a [] refl z) ne) live s returns out q at st
       s.pushed (let f = (shaped c.nodes t.well).few s.at (omega (arith, st.state.fits.inside)) in omega (arith, f, st.state.fits.pushed)) st.state.pushed st.state.outgoing (ap (λ m. step_at (text c.nodes c.shape c.addresses) m s) (ap (slice_get c.nodes.nodes) at ∙ t.here))
 
 pub register-calls-carry : RegisterCallsCarry

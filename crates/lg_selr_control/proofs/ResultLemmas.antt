@@ -25,10 +25,10 @@ use Rattle.lg_carry.specs.Carries.{Leads}
 use Rattle.lg_carry.specs.NodeCode.{live_before, live_behind, is_return}
 use Rattle.lg_carry_rv.specs.Computations.{all_compute, computed}
 use Rattle.lg_carry_rv.specs.Numbers.{number_code, high_part, low_part}
-use Rattle.lg_carry_rv.specs.Places.{IsInText}
+use Rattle.lg_carry.specs.TextNodes.{IsInText, HasPlaces}
 use Rattle.lg_carry_rv.specs.RvRows.{rv_processor, rv_seen}
 use Rattle.lg_carry_rv.proofs.NumberCodeLemmas.{numbers-are-loaded}
-use Rattle.lg_selr_control.specs.Standing.{StandsInCode, HasPlaces}
+use Rattle.lg_selr_control.specs.Standing.{StandsInCode}
 use Rattle.lg_selr_control.specs.Returns.{return_code, retr_node, reti_node, reti_label_node, RetrsCarry, RetisCarry, RetiLabelsCarry}
 use Rattle.lg_carry_rv.proofs.RegisterLemmas.{given}
 use Rattle.lg_selr_control.proofs.ChainLemmas.{RunsAt, begins-at}
@@ -39,7 +39,7 @@ use Rattle.lg_selr_control.proofs.StandingLemmas.{stands-inside}
 use Rattle.lg_selr_control.proofs.WordLemmas.{put-same}
 
 -- a return with a word, which computing instructions in front put into x10
-module _ (code : List ℕ) (trash : ℕ) (c : Code) (i : ℕ) (n : Node) (S : ℕ → Bool) (front : List Instr) (w : HasPlaces c) (t : IsInText c i n) (k : StandsInCode code trash c i (front ++ return_code)) (few : length front ≤ 57) (all : all_compute front ≡ true)
+module _ (code : List ℕ) (trash : ℕ) (c : Code) (i : ℕ) (n : Node) (S : ℕ → Bool) (front : List Instr) (w : HasPlaces 4 c) (t : IsInText c i n) (k : StandsInCode code trash c i (front ++ return_code)) (few : length front ≤ 57) (all : all_compute front ≡ true)
     (is : is_return n.op ≡ true) (inside : is_inside c i ≡ true) where
   pub result-returned : (live : Frame → ℕ → Bool) (s : State) (out : List ℕ) (q : Run CpuState) (x : ℕ) → s.at ≡ i → Stands (rv_processor code trash) c live s out q (live_before n S) → step c.nodes c.shape c.addresses s ≡ leave s (Some x)
       → computed front q.state.registers 10 ≡ x → computed front q.state.registers 8 ≡ q.state.registers 8 → Leads (rv_processor code trash) c live (live_behind live n S s) i (step c.nodes c.shape c.addresses s) out q
@@ -74,7 +74,7 @@ address-made v small = by (nat_lt (v % 4096) 2048) refl
     by false h = grind (arith, small, h)
 
 pub retrs-carry : RetrsCarry
-retrs-carry code trash c i a line S w t k live returns s out q at st = by (reg s a) refl
+retrs-carry code trash c i a line S w t k live s returns out q at st = by (reg s a) refl
   where
     stepped : step c.nodes c.shape c.addresses s ≡ need (reg s a) (λ x. leave s (Some x))
     stepped = ap (λ m. step_at (text c.nodes c.shape c.addresses) m s) (ap (slice_get c.nodes.nodes) at ∙ t.here)
@@ -94,13 +94,13 @@ retrs-carry code trash c i a line S w t k live returns s out q at st = by (reg s
         (stepped ∙ ap (λ z. need z (λ x. leave s (Some x))) e) (put-same q.state.registers 10 (add_words (read q.state.registers (register_of Riscv64 a)) 0) ∙ no-change (read q.state.registers (register_of Riscv64 a)) small ∙ h) refl)
 
 pub retis-carry : RetisCarry
-retis-carry code trash c i x v line S word small w t k live returns s out q at st =
+retis-carry code trash c i x v line S word small w t k live s returns out q at st =
     let loads = numbers-are-loaded 10 v (λ z. cc) (omega arith) small in
     inr (result-returned code trash c i (reti_node x line) S (number_code 10 v) w t k (omega (arith, loads.few)) loads.computes refl (stands-inside c i (reti_node x line) t refl refl) live s out q v at st
     (ap (λ m. step_at (text c.nodes c.shape c.addresses) m s) (ap (slice_get c.nodes.nodes) at ∙ t.here) ∙ ap (λ z. need z (λ y. leave s (Some y))) (immediate-value c.addresses s x v word)) (loads.value q.state.registers 10 ∙ put-same q.state.registers 10 v) (loads.value q.state.registers 8))
 
 pub reti-labels-carry : RetiLabelsCarry
-reti-labels-carry code trash c i l line S small w t k live returns s out q at st =
+reti-labels-carry code trash c i l line S small w t k live s returns out q at st =
     let a = slice_index c.addresses l.0 in
     inr (result-returned code trash c i (reti_label_node l line) S (instr.Upper Lui 10 (high_part a) ∷ instr.Imm Addi 10 10 (low_part a) ∷ []) w t k (omega arith) refl refl (stands-inside c i (reti_label_node l line) t refl refl) live s out q a at st
     (ap (λ m. step_at (text c.nodes c.shape c.addresses) m s) (ap (slice_get c.nodes.nodes) at ∙ t.here)) (address-made a small) refl)

@@ -32,7 +32,7 @@ use Rattle.lg_carry.specs.Frames.{at_call, IsSettled, return_address}
 use Rattle.lg_carry.specs.Places.{AreStacked}
 use Rattle.lg_carry.specs.Registers.{HasWord, HoldsResult}
 use Rattle.lg_carry.specs.Stands.{lowest, StatesAgree, Stands}
-use Rattle.lg_carry.specs.Carries.{Meets, Leads}
+use Rattle.lg_carry.specs.Carries.{Meets, Leads, calls_at}
 use Rattle.lg_carry.specs.NodeCode.{live_before, live_behind, is_return, CarriesNode}
 use Rattle.lg_carry.specs.Passages.{Passes}
 use Rattle.lg_carry.proofs.AcrossLemmas.{return-agrees}
@@ -41,8 +41,8 @@ use Rattle.lg_carry.proofs.PassageLemmas.{passages-lead}
 use Rattle.lg_carry.proofs.ShapedLemmas.{shaped}
 use Rattle.lg_carry.proofs.StackLemmas.{stacked-running, stacked-high}
 use Rattle.lg_carry_rv.specs.RvRows.{rv_processor, rv_seen}
-use Rattle.lg_carry_rv.specs.Places.{IsInText}
-use Rattle.lg_selr_control.specs.Standing.{StandsInCode, HasPlaces}
+use Rattle.lg_carry.specs.TextNodes.{IsInText, HasPlaces}
+use Rattle.lg_selr_control.specs.Standing.{StandsInCode}
 use Rattle.lg_selr_control.specs.Returns.{return_code, ret_node, epilog_node, RetsCarry, EpilogsCarry}
 use Rattle.lg_selr_control.proofs.ChainLemmas.{RunsAt, next-at, Chain, chain-end, chain-more, chain-passes, block-of, begins-at}
 use Rattle.lg_selr_control.proofs.StandingLemmas.{stands-inside, goes-fits, none-passed, then-passes}
@@ -168,7 +168,7 @@ inner-home : (o : Option ℕ) (k : ℕ) → is_inner o k ≡ true → (p : ℕ) 
 inner-home None k e = cc
 inner-home (Some p) k e = (p, refl)
 
-module _ (code : List ℕ) (trash : ℕ) (c : Code) (i : ℕ) (n : Node) (front : List Instr) (S S' : ℕ → Bool) (w : HasPlaces c) (t : IsInText c i n) (k : StandsInCode code trash c i (front ++ return_code)) (few : length front ≤ 57)
+module _ (code : List ℕ) (trash : ℕ) (c : Code) (i : ℕ) (n : Node) (front : List Instr) (S S' : ℕ → Bool) (w : HasPlaces 4 c) (t : IsInText c i n) (k : StandsInCode code trash c i (front ++ return_code)) (few : length front ≤ 57)
     (is : is_return n.op ≡ true) (inside : is_inside c i ≡ true) (live : Frame → ℕ → Bool) (s : State) (out : List ℕ) (q r : Run CpuState) (v : Option ℕ) (at : s.at ≡ i) (st : Stands (rv_processor code trash) c live s out q S)
     (steps : step c.nodes c.shape c.addresses s ≡ leave s v) (h : Returning code trash c i front v q r) where
   abbrev sp : ℕ
@@ -202,7 +202,8 @@ module _ (code : List ℕ) (trash : ℕ) (c : Code) (i : ℕ) (n : Node) (front 
       let p = inner-home (home c.nodes.nodes s.frame.back) s.frame.back (back-inside g gs e) in
       let lt = home_within c.nodes.nodes s.frame.back p.0 p.1 in
       let high = w.high s.frame.back (omega (arith, lt)) in
-      (omega (arith, high), w.aligned s.frame.back (omega (arith, lt)))
+      let from = (subst (λ l. AreLinked c.nodes c.shape s.frame l) e st.state.fits.linked).0 in
+      (omega (arith, high), w.aligned s.frame.back (omega (arith, lt)) (inr (from.at, from.back, ap calls_at from.here ∙ from.calls)))
 
   there : (j : ℕ) → within stack_base 0x100000 j ≡ true → is_some (r.state.bytes j) ≡ true
   there j e = ap (λ m. is_some (m j)) h.bytes ∙ st.state.seen.stack j e
@@ -264,9 +265,9 @@ module _ (code : List ℕ) (trash : ℕ) (c : Code) (i : ℕ) (n : Node) (front 
       (passages-lead (rv_processor code trash) c live (live_behind live n S' s) i (length front + 7) (leave s v) out q u pass (omega (arith, few)) (λ e. absurd (omega (arith, e))) (λ e. omega arith) st.wrote (meets s.callers refl))
 
 -- ---- without a result
-module _ (code : List ℕ) (trash : ℕ) (c : Code) (i : ℕ) (n : Node) (S : ℕ → Bool) (w : HasPlaces c) (t : IsInText c i n) (k : StandsInCode code trash c i return_code) where
+module _ (code : List ℕ) (trash : ℕ) (c : Code) (i : ℕ) (n : Node) (S : ℕ → Bool) (w : HasPlaces 4 c) (t : IsInText c i n) (k : StandsInCode code trash c i return_code) where
   pub plain-return : is_return n.op ≡ true → is_inside c i ≡ true → ((s : State) → node_step (text c.nodes c.shape c.addresses) n n.op s ≡ leave s None) → CarriesNode (rv_processor code trash) c i n S
-  plain-return is inside steps live returns s out q at st =
+  plain-return is inside steps live s returns out q at st =
       let e : step c.nodes c.shape c.addresses s ≡ leave s None = ap (λ x. step_at (text c.nodes c.shape c.addresses) x s) (ap (slice_get c.nodes.nodes) at ∙ t.here) ∙ steps s in
       let begins = begins-at code trash c i n return_code q w t k st.runs (st.state.here ∙ ap c.place at) in
       inr (returns-lead code trash c i n [] (live_before n S) S w t k (omega arith) is inside live s out q q None at st e record {

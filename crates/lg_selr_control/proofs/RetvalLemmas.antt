@@ -21,7 +21,7 @@ use Rattle.lg_temp.specs.Abis.{register_of}
 use Rattle.lg_carry.specs.Codes.{Code}
 use Rattle.lg_carry_rv.specs.Computations.{computed}
 use Rattle.lg_carry_rv.specs.ComputingNodes.{HoldsRead, StepsTo, ComputesNode}
-use Rattle.lg_carry_rv.specs.Places.{IsInText}
+use Rattle.lg_carry.specs.TextNodes.{IsInText}
 use Rattle.lg_carry_rv.proofs.ComputingNodeLemmas.{plain-nodes-carry}
 use Rattle.lg_carry_rv.proofs.RegisterLemmas.{register-nonzero, register-apart, register-small}
 use Rattle.lg_selr_values.specs.UnaryCode.{unary_code}

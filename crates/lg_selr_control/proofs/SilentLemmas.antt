@@ -25,7 +25,7 @@ use Rattle.lg_carry.proofs.PassageLemmas.{parts-pass, passages-lead}
 use Rattle.lg_carry_rv.specs.RvRows.{rv_processor, rv_rows, rv_seen}
 use Rattle.lg_carry_rv.proofs.RowLemmas.{are-rows}
 use Rattle.lg_rv.specs.Spelling.{IsInstr}
-use Rattle.lg_carry_rv.specs.Places.{IsInText}
+use Rattle.lg_carry.specs.TextNodes.{IsInText}
 use Rattle.lg_selr_control.specs.Standing.{StandsInCode}
 use Rattle.lg_selr_control.specs.SilentNodes.{is_silent, SilentNodesCarry}
 use Rattle.lg_selr_control.proofs.LiveLemmas.{writes_none, unwritten, still-live}
@@ -80,7 +80,7 @@ module _ (code : List ℕ) (trash : ℕ) (c : Code) (i : ℕ) (n : Node) (S : �
   stepped s o e h none = cc
 
   carried : is_silent n.op ≡ true → CarriesNode (rv_processor code trash) c i n S
-  carried silent live returns s out q at st =
+  carried silent live s returns out q at st =
       let p = in-some c i n t (is.inside (is_begun c.nodes.nodes i)) in
       let go = stepped s n.op refl silent (unpushed s live q out at st) in
       let u = go.0 in

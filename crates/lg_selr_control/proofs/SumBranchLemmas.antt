@@ -37,12 +37,12 @@ use Rattle.lg_carry.specs.NodeCode.{numbered, live_before, live_behind, CarriesN
 use Rattle.lg_carry.specs.Passages.{Passes}
 use Rattle.lg_carry.proofs.ApartLemmas.{conventions-apart}
 use Rattle.lg_carry_rv.specs.Numbers.{number_code}
-use Rattle.lg_carry_rv.specs.Places.{IsInText}
+use Rattle.lg_carry.specs.TextNodes.{IsInText, HasPlaces}
 use Rattle.lg_carry_rv.specs.RvRows.{rv_processor, rv_seen}
 use Rattle.lg_carry_rv.proofs.NumberCodeLemmas.{numbers-are-loaded}
 use Rattle.lg_carry_rv.proofs.RegisterLemmas.{stands-for, number-few, register-nonzero, register-apart, only-number, given}
 use Rattle.lg_selr_control.specs.Immediates.{immediate}
-use Rattle.lg_selr_control.specs.Standing.{StandsInCode, HasPlaces}
+use Rattle.lg_selr_control.specs.Standing.{StandsInCode}
 use Rattle.lg_selr_control.specs.SumBranches.{sum_code, staying, sum_branch_code, sum_branch_node, number_sum_branch_node, SumBranchesCarry, NumberSumBranchesCarry}
 use Rattle.lg_selr_control.proofs.BranchLemmas.{Prepared, read-kept, number-prepared}
 use Rattle.lg_selr_control.proofs.ChainLemmas.{RunsAt, begins-at}
@@ -82,7 +82,7 @@ written-register : (l : Label) (a : Reg) (third : Operand) (line : ℕ) (o : Bra
 written-register l a third line o last_operand.Register r = or-false (is_same a r)
 written-register l a third line o last_operand.Immediate r = or-false (is_same a r)
 
-module _ (code : List ℕ) (trash : ℕ) (c : Code) (i : ℕ) (o : BranchSumOp) (last : LastOperand) (l : Label) (a : Reg) (third : Operand) (line : ℕ) (S : ℕ → Bool) (front : List Instr) (b : ℕ) (w : HasPlaces c) where
+module _ (code : List ℕ) (trash : ℕ) (c : Code) (i : ℕ) (o : BranchSumOp) (last : LastOperand) (l : Label) (a : Reg) (third : Operand) (line : ℕ) (S : ℕ → Bool) (front : List Instr) (b : ℕ) (w : HasPlaces 4 c) where
   abbrev n : Node
   n = record { op = op.BranchSum o last; operands = operand.Label l ∷ operand.Reg a ∷ third ∷ []; line = line }
 
@@ -160,7 +160,7 @@ module _ (code : List ℕ) (trash : ℕ) (c : Code) (i : ℕ) (o : BranchSumOp) 
 some-same : (x y : ℕ) → Some x ≡ Some y → x ≡ y
 some-same x y e = cc
 
-module _ (code : List ℕ) (trash : ℕ) (c : Code) (i : ℕ) (o : BranchSumOp) (l : Label) (a b : Reg) (line : ℕ) (S : ℕ → Bool) (w : HasPlaces c) (t : IsInText c i (sum_branch_node o l a b line))
+module _ (code : List ℕ) (trash : ℕ) (c : Code) (i : ℕ) (o : BranchSumOp) (l : Label) (a b : Reg) (line : ℕ) (S : ℕ → Bool) (w : HasPlaces 4 c) (t : IsInText c i (sum_branch_node o l a b line))
     (k : StandsInCode code trash c i (sum_branch_code (slice_index c.addresses) (c.place i) [] o (register_of Riscv64 a) (register_of Riscv64 b) l)) where
   abbrev two-node : Node
   two-node = sum_branch_node o l a b line
@@ -181,7 +181,7 @@ module _ (code : List ℕ) (trash : ℕ) (c : Code) (i : ℕ) (o : BranchSumOp) 
   goes-by s x y = branch (branch_sum_goes o x y) c.nodes.places (with_reg s (operand.Reg a) (branch_sum_value o x y)) (operand.Label l)
 
   carried : CarriesNode (rv_processor code trash) c i two-node S
-  carried live returns s out q at st = by (reg s a) (reg s b) refl refl
+  carried live s returns out q at st = by (reg s a) (reg s b) refl refl
     where
       stepped : step c.nodes c.shape c.addresses s ≡ need (reg s a) (λ x. need (reg s b) (λ y. goes-by s x y))
       stepped = ap (λ m. step_at (text c.nodes c.shape c.addresses) m s) (ap (slice_get c.nodes.nodes) at ∙ t.here)
@@ -215,7 +215,7 @@ pub sum-branches-carry : SumBranchesCarry
 sum-branches-carry code trash c i o l a b line S w t k = carried code trash c i o l a b line S w t k
 
 -- ---- on a register and a number
-module _ (code : List ℕ) (trash : ℕ) (c : Code) (i : ℕ) (o : BranchSumOp) (l : Label) (a : Reg) (third : Operand) (v line : ℕ) (S : ℕ → Bool) (is-word : immediate third ≡ Some v) (small : v < 2 ^ 64) (w : HasPlaces c) (t : IsInText c i (number_sum_branch_node o l a third line))
+module _ (code : List ℕ) (trash : ℕ) (c : Code) (i : ℕ) (o : BranchSumOp) (l : Label) (a : Reg) (third : Operand) (v line : ℕ) (S : ℕ → Bool) (is-word : immediate third ≡ Some v) (small : v < 2 ^ 64) (w : HasPlaces 4 c) (t : IsInText c i (number_sum_branch_node o l a third line))
     (k : StandsInCode code trash c i (sum_branch_code (slice_index c.addresses) (c.place i) (number_code 1 v) o (register_of Riscv64 a) 1 l)) where
   abbrev one-node : Node
   one-node = number_sum_branch_node o l a third line
@@ -239,7 +239,7 @@ module _ (code : List ℕ) (trash : ℕ) (c : Code) (i : ℕ) (o : BranchSumOp) 
   goes-with s x = branch (branch_sum_goes o x v) c.nodes.places (with_reg s (operand.Reg a) (branch_sum_value o x v)) (operand.Label l)
 
   number-carried : CarriesNode (rv_processor code trash) c i one-node S
-  number-carried live returns s out q at st = by (reg s a) refl
+  number-carried live s returns out q at st = by (reg s a) refl
     where
       stepped : step c.nodes c.shape c.addresses s ≡ need (reg s a) (λ x. goes-with s x)
       stepped = ap (λ m. step_at (text c.nodes c.shape c.addresses) m s) (ap (slice_get c.nodes.nodes) at ∙ t.here) ∙ ap (λ z. need (reg s a) (λ x. need z (λ y. goes-by-sum s x y))) (immediate-value c.addresses s third v is-word)

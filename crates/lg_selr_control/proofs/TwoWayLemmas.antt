@@ -1,5 +1,5 @@
 -- A branch over a jump leads to the label of the jump, or to the next node.
-use Rattle.std.proofs.Common.{◌≡◌, ◌≢◌, ℕ, suc, ◌+◌, ◌*◌, ◌%◌, ◌^◌, ◌<◌, ◌≤◌, Bool, true, false, List, [], ◌∷◌, ◌++◌, Option, refl, sym, ap, ◌∙◌, subst, arith, length, length-append, append_assoc, append-nil}
+use Rattle.std.proofs.Common.{◌≡◌, ◌≢◌, ℕ, suc, ◌+◌, ◌*◌, ◌%◌, ◌^◌, ◌<◌, ◌≤◌, Bool, true, false, List, [], ◌∷◌, ◌++◌, Option, refl, sym, ap, ◌∙◌, subst, arith, length, length-append, append_assoc, append-nil, inl}
 use Rattle.std.specs.Prelude.{◌==◌, not, pos, ◌-ℤ◌, slice_index, if◌then◌else◌}
 use Rattle.std.proofs.lemmas.Option.{slice_get_within}
 use Rattle.lg_base.specs.Conventions.{argument_registers, portable_register}
@@ -32,13 +32,14 @@ use Rattle.lg_carry.proofs.AgainLemmas.{quiet-agrees}
 use Rattle.lg_carry.proofs.PassageLemmas.{passages-lead}
 use Rattle.lg_carry.proofs.ShapedLemmas.{shaped}
 use Rattle.lg_carry_rv.specs.RvRows.{rv_processor, rv_seen}
-use Rattle.lg_carry_rv.specs.Places.{IsInText}
-use Rattle.lg_selr_control.specs.Standing.{StandsInCode, HasPlaces}
+use Rattle.lg_carry.specs.TextNodes.{IsInText, HasPlaces}
+use Rattle.lg_selr_control.specs.Standing.{StandsInCode}
 use Rattle.lg_selr_control.specs.Branches.{jump_unless}
 use Rattle.lg_selr_control.proofs.ChainLemmas.{RunsAt, next-at}
 use Rattle.lg_selr_control.proofs.JumpLemmas.{jumps-there, bound-at, Lands}
-use Rattle.lg_selr_control.proofs.StandingLemmas.{goes-fits, one-passes, then-passes, spelled-size}
+use Rattle.lg_selr_control.proofs.StandingLemmas.{goes-fits, one-passes, then-passes, spelled-size, even-next}
 use Rattle.lg_selr_control.proofs.WordLemmas.{runs-there, put-other, portable-some, argument-some}
+use Rattle.lg_meaning.specs.Addresses.{IsBound}
 
 -- steps from q through r in the bytes of node i that lead to the place of a node, and change nothing behind r
 pub record Way (code : List ℕ) (trash : ℕ) (c : Code) (i to : ℕ) (q r : Run CpuState) : Type 0 where
@@ -56,7 +57,7 @@ pub record Way (code : List ℕ) (trash : ℕ) (c : Code) (i to : ℕ) (q r : Ru
 eight-on : (pc : ℕ) → pc < 2 ^ 62 → add_words pc 8 ≡ pc + 8
 eight-on pc h = grind (arith, h)
 
-module _ (code : List ℕ) (trash : ℕ) (c : Code) (i : ℕ) (n : Node) (w : HasPlaces c) (t : IsInText c i n) (front : List Instr) (o : BranchOp) (a b : ℕ) (l : Label) (k : StandsInCode code trash c i (jump_unless (slice_index c.addresses) (c.place i) front o a b l))
+module _ (code : List ℕ) (trash : ℕ) (c : Code) (i : ℕ) (n : Node) (w : HasPlaces 4 c) (t : IsInText c i n) (front : List Instr) (o : BranchOp) (a b : ℕ) (l : Label) (k : StandsInCode code trash c i (jump_unless (slice_index c.addresses) (c.place i) front o a b l))
     (few : length front ≤ 62) (q r : Run CpuState) (pass : Passes (rv_processor code trash) c i (length front) q r) (at : RunsAt (c.place i) (length front + 2) (length front) r) where
   abbrev branch : Instr
   branch = instr.Branch o a b (pos 8)
@@ -78,7 +79,7 @@ module _ (code : List ℕ) (trash : ℕ) (c : Code) (i : ℕ) (n : Node) (w : Ha
   skips h =
       let e : Effect CpuState = goes (c.place (i + 1)) r.state.registers r.state.bytes r.state.mark in
       let there : add_words r.state.pc 8 ≡ c.place (i + 1) = eight-on r.state.pc (omega (arith, at.here, at.high)) ∙ sym next-place in
-      let even : (c.place (i + 1) % 4 == 0) ≡ true = rw (w.aligned (i + 1) (omega (arith, in-nodes))) refl in
+      let even : (c.place (i + 1) % 4 == 0) ≡ true = rw (even-next code trash c i (front ++ (branch ∷ jump ∷ [])) k) refl in
       let does : act branch r.state ≡ e = ap (branch_to r.state (add_words r.state.pc 8)) h ∙ ap (λ p. branch_to r.state p true) there ∙ ap (λ z. if z then goes (c.place (i + 1)) r.state.registers r.state.bytes r.state.mark else faults r.state Align) even in
       record {
         end = after r e;
@@ -94,8 +95,9 @@ module _ (code : List ℕ) (trash : ℕ) (c : Code) (i : ℕ) (n : Node) (w : Ha
       }
 
   -- where it is not, the jump goes to the label
-  pub jumps : (node : ℕ) → slice_index c.addresses l.0 ≡ c.place node → node < length c.nodes.nodes → taken ≡ false → Way code trash c i node q r
-  jumps node target within h =
+  pub jumps : (node : ℕ) → IsBound c.nodes l.0 (place.Node node) → node < length c.nodes.nodes → taken ≡ false → Way code trash c i node q r
+  jumps node bound within h =
+      let target : slice_index c.addresses l.0 ≡ c.place node = w.bound l.0 node bound in
       let r1 = after r (goes (add_words r.state.pc 4) r.state.registers r.state.bytes r.state.mark) in
       let a1 : RunsAt (c.place i) (length front + 2) (suc (length front)) r1 = next-at (c.place i) (length front + 2) (length front) r r.state.registers r.state.bytes r.state.mark (omega arith) at in
       let e : Effect CpuState = goes (c.place node) (put r1.state.registers 0 (add_words r1.state.pc 4)) r1.state.bytes r1.state.mark in
@@ -105,7 +107,7 @@ module _ (code : List ℕ) (trash : ℕ) (c : Code) (i : ℕ) (n : Node) (w : Ha
       let does2 : act jump r1.state ≡ e =
       ap (λ p. act (instr.Jal 0 (pos (slice_index c.addresses l.0) -ℤ pos p)) r1.state) from
       ∙ ap (λ p. act (instr.Jal 0 (pos p -ℤ pos r1.state.pc)) r1.state) target
-      ∙ jumps-there r1.state 0 (c.place node) (omega (arith, a1.here, a1.high)) (omega (arith, high)) (w.aligned node (omega (arith, within))) in
+      ∙ jumps-there r1.state 0 (c.place node) (omega (arith, a1.here, a1.high)) (omega (arith, high)) (w.aligned node (omega (arith, within)) (inl (l.0, bound))) in
       let size : length (front ++ (branch ∷ [])) ≡ length front + 1 = length-append front (branch ∷ []) in
       let k' : StandsInCode code trash c i ((front ++ (branch ∷ [])) ++ (jump ∷ [])) = subst (λ z. StandsInCode code trash c i z) (sym (append_assoc front (branch ∷ []) (jump ∷ []))) k in
       record {
@@ -162,8 +164,8 @@ module _ (code : List ℕ) (trash : ℕ) (c : Code) (i : ℕ) (n : Node) (w : Ha
     pub two-ways-lead : (goes-there : Bool) → step c.nodes c.shape c.addresses s ≡ Goes (to s0 (if goes-there then lands.node else s.at + 1)) [] → taken ≡ not goes-there
         → Leads (rv_processor code trash) c live (live_behind live n S' s) i (step c.nodes c.shape c.addresses s) out q
     two-ways-lead true goes' h =
-        let target = w.bound l.0 lands.node (bound-at c.nodes.places l (place.Node lands.node) lands.place) in
-        leads-to lands.node (lands.side ∙ inside) goes' (jumps lands.node target within h)
+        let bound : IsBound c.nodes l.0 (place.Node lands.node) = bound-at c.nodes.places l (place.Node lands.node) lands.place in
+        leads-to lands.node (lands.side ∙ inside) goes' (jumps lands.node bound within h)
       where
         within : lands.node < length c.nodes.nodes
         within = (goes-fits c i n t s (to s0 lands.node) [] here (omega (arith, st.state.seen.low, st.state.mark)) (omega (arith, st.state.seen.high, st.state.mark)) st.state.fits goes').inside

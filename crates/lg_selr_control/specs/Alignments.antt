@@ -10,9 +10,9 @@ use Rattle.lg_rv.specs.declared.instruction.Instr.TheVariants as instr
 use Rattle.lg_rv.specs.declared.instruction.ImmOp.TheVariants.{Addi}
 use Rattle.lg_carry.specs.Codes.{Code}
 use Rattle.lg_carry.specs.NodeCode.{CarriesNode}
-use Rattle.lg_carry_rv.specs.Places.{IsInText}
+use Rattle.lg_carry.specs.TextNodes.{IsInText, HasPlaces}
 use Rattle.lg_carry_rv.specs.RvRows.{rv_processor}
-use Rattle.lg_selr_control.specs.Standing.{StandsInCode, HasPlaces}
+use Rattle.lg_selr_control.specs.Standing.{StandsInCode}
 
 abbrev pub align_node : ℕ → ℕ → Node
 align_node n line = record { op = op.Plain plain.Align; operands = operand.Number n ∷ []; line = line }
@@ -34,4 +34,4 @@ AlignmentsAlign = (at n : ℕ) → is_alignment n ≡ true → at % 4 ≡ 0 → 
 
 abbrev pub AlignmentsCarry : Type 0
 AlignmentsCarry =
-    (code : List ℕ) (trash : ℕ) (c : Code) (i n line : ℕ) (S : ℕ → Bool) → HasPlaces c → IsInText c i (align_node n line) → StandsInCode code trash c i (align_code (c.place i) n) → CarriesNode (rv_processor code trash) c i (align_node n line) S
+    (code : List ℕ) (trash : ℕ) (c : Code) (i n line : ℕ) (S : ℕ → Bool) → HasPlaces 4 c → IsInText c i (align_node n line) → StandsInCode code trash c i (align_code (c.place i) n) → CarriesNode (rv_processor code trash) c i (align_node n line) S

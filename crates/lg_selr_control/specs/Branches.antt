@@ -20,9 +20,9 @@ use Rattle.lg_carry.specs.Codes.{Code}
 use Rattle.lg_carry.specs.NodeCode.{CarriesNode}
 use Rattle.lg_carry_rv.specs.Numbers.{number_code}
 use Rattle.lg_carry_rv.specs.RvRows.{rv_processor}
-use Rattle.lg_carry_rv.specs.Places.{IsInText}
+use Rattle.lg_carry.specs.TextNodes.{IsInText, HasPlaces}
 use Rattle.lg_selr_control.specs.Immediates.{immediate}
-use Rattle.lg_selr_control.specs.Standing.{StandsInCode, HasPlaces}
+use Rattle.lg_selr_control.specs.Standing.{StandsInCode}
 
 -- a branch over the jump that follows it, and the jump: front stands before them in the node, whose code begins at an address
 abbrev pub jump_unless : (ℕ → ℕ) → ℕ → List Instr → BranchOp → ℕ → ℕ → Label → List Instr
@@ -76,7 +76,7 @@ branch_node c l a b line = record { op = op.Branch c last_operand.Register; oper
 
 abbrev pub BranchesCarry : Type 0
 BranchesCarry =
-    (code : List ℕ) (trash : ℕ) (c : Code) (i : ℕ) (o : Condition) (l : Label) (a b : Reg) (line : ℕ) (S : ℕ → Bool) → HasPlaces c → IsInText c i (branch_node o l a b line)
+    (code : List ℕ) (trash : ℕ) (c : Code) (i : ℕ) (o : Condition) (l : Label) (a b : Reg) (line : ℕ) (S : ℕ → Bool) → HasPlaces 4 c → IsInText c i (branch_node o l a b line)
     → StandsInCode code trash c i (branch_code (slice_index c.addresses) (c.place i) [] o (register_of Riscv64 a) (register_of Riscv64 b) l) → CarriesNode (rv_processor code trash) c i (branch_node o l a b line) S
 
 -- a word that stands for itself is put into x1 first
@@ -85,5 +85,5 @@ number_branch_node c l a x line = record { op = op.Branch c last_operand.Immedia
 
 abbrev pub NumberBranchesCarry : Type 0
 NumberBranchesCarry =
-    (code : List ℕ) (trash : ℕ) (c : Code) (i : ℕ) (o : Condition) (l : Label) (a : Reg) (x : Operand) (v line : ℕ) (S : ℕ → Bool) → immediate x ≡ Some v → v < 2 ^ 64 → HasPlaces c → IsInText c i (number_branch_node o l a x line)
+    (code : List ℕ) (trash : ℕ) (c : Code) (i : ℕ) (o : Condition) (l : Label) (a : Reg) (x : Operand) (v line : ℕ) (S : ℕ → Bool) → immediate x ≡ Some v → v < 2 ^ 64 → HasPlaces 4 c → IsInText c i (number_branch_node o l a x line)
     → StandsInCode code trash c i (branch_code (slice_index c.addresses) (c.place i) (number_code 1 v) o (register_of Riscv64 a) 1 l) → CarriesNode (rv_processor code trash) c i (number_branch_node o l a x line) S

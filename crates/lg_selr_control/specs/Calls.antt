@@ -11,8 +11,8 @@ use Rattle.lg_rv.specs.declared.instruction.Instr.TheVariants as instr
 use Rattle.lg_carry.specs.Codes.{Code}
 use Rattle.lg_carry.specs.NodeCode.{CarriesNode}
 use Rattle.lg_carry_rv.specs.RvRows.{rv_processor}
-use Rattle.lg_carry_rv.specs.Places.{IsInText}
-use Rattle.lg_selr_control.specs.Standing.{StandsInCode, HasPlaces}
+use Rattle.lg_carry.specs.TextNodes.{IsInText, HasPlaces}
+use Rattle.lg_selr_control.specs.Standing.{StandsInCode}
 
 abbrev pub call_node : Label → ℕ → Node
 call_node l line = record { op = op.Control control.Call last_operand.Immediate; operands = operand.Label l ∷ []; line = line }
@@ -25,10 +25,10 @@ call_code to at l = instr.Jal 1 (pos (to l.0) -ℤ pos at) ∷ []
 
 abbrev pub CallsCarry : Type 0
 CallsCarry =
-    (code : List ℕ) (trash : ℕ) (c : Code) (i : ℕ) (l : Label) (line : ℕ) (S : ℕ → Bool) → HasPlaces c → IsInText c i (call_node l line) → StandsInCode code trash c i (call_code (slice_index c.addresses) (c.place i) l)
+    (code : List ℕ) (trash : ℕ) (c : Code) (i : ℕ) (l : Label) (line : ℕ) (S : ℕ → Bool) → HasPlaces 4 c → IsInText c i (call_node l line) → StandsInCode code trash c i (call_code (slice_index c.addresses) (c.place i) l)
     → CarriesNode (rv_processor code trash) c i (call_node l line) S
 
 abbrev pub FinishesCarry : Type 0
 FinishesCarry =
-    (code : List ℕ) (trash : ℕ) (c : Code) (i : ℕ) (l : Label) (line : ℕ) (S : ℕ → Bool) → HasPlaces c → IsInText c i (finish_node l line) → StandsInCode code trash c i (call_code (slice_index c.addresses) (c.place i) l)
+    (code : List ℕ) (trash : ℕ) (c : Code) (i : ℕ) (l : Label) (line : ℕ) (S : ℕ → Bool) → HasPlaces 4 c → IsInText c i (finish_node l line) → StandsInCode code trash c i (call_code (slice_index c.addresses) (c.place i) l)
     → CarriesNode (rv_processor code trash) c i (finish_node l line) S

@@ -8,16 +8,12 @@ use Rattle.lg_node.specs.Functions.{frame_of}
 use Rattle.lg_meaning.specs.Steps.{function_here}
 use Rattle.lg_carry.specs.Codes.{Code}
 use Rattle.lg_carry.specs.NodeCode.{CarriesNode}
-use Rattle.lg_carry_rv.specs.Places.{IsInText}
+use Rattle.lg_carry.specs.TextNodes.{IsInText, IsFrameOf, HasPlaces}
 use Rattle.lg_carry_rv.specs.RvRows.{rv_processor}
 use Rattle.lg_selr_items.specs.Items.{settled}
 use Rattle.lg_selr_values.specs.ValueLaws.{AreWords}
-use Rattle.lg_selr_control.specs.Standing.{StandsInCode, HasPlaces}
+use Rattle.lg_selr_control.specs.Standing.{StandsInCode}
 use Rattle.lg_selr_control.specs.ControlItems.{control_items, is_control}
-
--- the frame is that of the function in which the node stands, where it stands in one
-abbrev pub IsFrameOf : Code → ℕ → ℕ → Type 0
-IsFrameOf c i frame = (f : Function) → function_here c.shape.functions i ≡ Some f → frame ≡ frame_of f
 
 -- a branch compares with no label
 abbrev pub ends_in_label : List Operand → Bool
@@ -26,5 +22,5 @@ ends_in_label xs = false
 
 abbrev pub ControlNodesCarry : Type 0
 ControlNodesCarry =
-    (code : List ℕ) (trash : ℕ) (c : Code) (i : ℕ) (n : Node) (frame : ℕ) (S : ℕ → Bool) → is_control n.op ≡ true → HasPlaces c → AreWords c.addresses n.operands → ends_in_label n.operands ≡ false → IsFrameOf c i frame
+    (code : List ℕ) (trash : ℕ) (c : Code) (i : ℕ) (n : Node) (frame : ℕ) (S : ℕ → Bool) → is_control n.op ≡ true → HasPlaces 4 c → AreWords c.addresses n.operands → ends_in_label n.operands ≡ false → IsFrameOf c i frame
     → IsInText c i n → StandsInCode code trash c i (settled (slice_index c.addresses) (c.place i) (control_items n.op n.operands frame (c.place i))) → CarriesNode (rv_processor code trash) c i n S

@@ -16,8 +16,8 @@ use Rattle.lg_carry.specs.Codes.{Code}
 use Rattle.lg_carry.specs.NodeCode.{CarriesNode}
 use Rattle.lg_carry_rv.specs.Numbers.{high_part, low_part}
 use Rattle.lg_carry_rv.specs.RvRows.{rv_processor}
-use Rattle.lg_carry_rv.specs.Places.{IsInText}
-use Rattle.lg_selr_control.specs.Standing.{StandsInCode, HasPlaces}
+use Rattle.lg_carry.specs.TextNodes.{IsInText, HasPlaces}
+use Rattle.lg_selr_control.specs.Standing.{StandsInCode}
 
 abbrev pub host_call_node : HostName → ℕ → Node
 host_call_node name line = record { op = op.Control control.Call last_operand.Immediate; operands = operand.Host name ∷ []; line = line }
@@ -30,10 +30,10 @@ host_code name = instr.Upper Lui 1 (high_part (host_address name)) ∷ instr.Imm
 
 abbrev pub HostCallsCarry : Type 0
 HostCallsCarry =
-    (code : List ℕ) (trash : ℕ) (c : Code) (i : ℕ) (name : HostName) (line : ℕ) (S : ℕ → Bool) → HasPlaces c → IsInText c i (host_call_node name line) → StandsInCode code trash c i (host_code name)
+    (code : List ℕ) (trash : ℕ) (c : Code) (i : ℕ) (name : HostName) (line : ℕ) (S : ℕ → Bool) → HasPlaces 4 c → IsInText c i (host_call_node name line) → StandsInCode code trash c i (host_code name)
     → CarriesNode (rv_processor code trash) c i (host_call_node name line) S
 
 abbrev pub HostFinishesCarry : Type 0
 HostFinishesCarry =
-    (code : List ℕ) (trash : ℕ) (c : Code) (i : ℕ) (name : HostName) (line : ℕ) (S : ℕ → Bool) → HasPlaces c → IsInText c i (host_finish_node name line) → StandsInCode code trash c i (host_code name)
+    (code : List ℕ) (trash : ℕ) (c : Code) (i : ℕ) (name : HostName) (line : ℕ) (S : ℕ → Bool) → HasPlaces 4 c → IsInText c i (host_finish_node name line) → StandsInCode code trash c i (host_code name)
     → CarriesNode (rv_processor code trash) c i (host_finish_node name line) S

@@ -11,8 +11,8 @@ use Rattle.lg_rv.specs.declared.instruction.Instr.TheVariants as instr
 use Rattle.lg_carry.specs.Codes.{Code}
 use Rattle.lg_carry.specs.NodeCode.{CarriesNode}
 use Rattle.lg_carry_rv.specs.RvRows.{rv_processor}
-use Rattle.lg_carry_rv.specs.Places.{IsInText}
-use Rattle.lg_selr_control.specs.Standing.{StandsInCode, HasPlaces}
+use Rattle.lg_carry.specs.TextNodes.{IsInText, HasPlaces}
+use Rattle.lg_selr_control.specs.Standing.{StandsInCode}
 
 abbrev pub jump_node : Label → ℕ → Node
 jump_node l line = record { op = op.Control control.Jmp last_operand.Immediate; operands = operand.Label l ∷ []; line = line }
@@ -22,5 +22,5 @@ jump_code to at l = instr.Jal 0 (pos (to l.0) -ℤ pos at) ∷ []
 
 abbrev pub JumpsCarry : Type 0
 JumpsCarry =
-    (code : List ℕ) (trash : ℕ) (c : Code) (i : ℕ) (l : Label) (line : ℕ) (S : ℕ → Bool) → HasPlaces c → IsInText c i (jump_node l line) → StandsInCode code trash c i (jump_code (slice_index c.addresses) (c.place i) l)
+    (code : List ℕ) (trash : ℕ) (c : Code) (i : ℕ) (l : Label) (line : ℕ) (S : ℕ → Bool) → HasPlaces 4 c → IsInText c i (jump_node l line) → StandsInCode code trash c i (jump_code (slice_index c.addresses) (c.place i) l)
     → CarriesNode (rv_processor code trash) c i (jump_node l line) S

@@ -19,8 +19,8 @@ use Rattle.lg_carry.specs.Codes.{Code}
 use Rattle.lg_carry.specs.NodeCode.{CarriesNode}
 use Rattle.lg_carry_rv.specs.Numbers.{high_part, low_part}
 use Rattle.lg_carry_rv.specs.RvRows.{rv_processor}
-use Rattle.lg_carry_rv.specs.Places.{IsInText}
-use Rattle.lg_selr_control.specs.Standing.{StandsInCode, HasPlaces}
+use Rattle.lg_carry.specs.TextNodes.{IsInText, HasPlaces}
+use Rattle.lg_selr_control.specs.Standing.{StandsInCode}
 
 abbrev pub prolog_node : ℕ → Node
 prolog_node line = record { op = op.Plain plain.Prolog; operands = []; line = line }
@@ -44,5 +44,5 @@ prolog_code size = stores_below stored_registers 0 ++ (instr.Imm Addi 8 2 (negsu
 -- the frame is that of the function that begins at the node
 abbrev pub PrologsCarry : Type 0
 PrologsCarry =
-    (code : List ℕ) (trash : ℕ) (c : Code) (i line : ℕ) (f : Function) (S : ℕ → Bool) → HasPlaces c → IsInText c i (prolog_node line) → function_here c.shape.functions i ≡ Some f → StandsInCode code trash c i (prolog_code (frame_of f))
+    (code : List ℕ) (trash : ℕ) (c : Code) (i line : ℕ) (f : Function) (S : ℕ → Bool) → HasPlaces 4 c → IsInText c i (prolog_node line) → function_here c.shape.functions i ≡ Some f → StandsInCode code trash c i (prolog_code (frame_of f))
     → CarriesNode (rv_processor code trash) c i (prolog_node line) S

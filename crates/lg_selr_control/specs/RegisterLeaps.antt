@@ -13,9 +13,9 @@ use Rattle.lg_rv.specs.declared.instruction.ImmOp.TheVariants.{Jalr}
 use Rattle.lg_temp.specs.Abis.{register_of}
 use Rattle.lg_carry.specs.Codes.{Code}
 use Rattle.lg_carry.specs.NodeCode.{CarriesNode}
-use Rattle.lg_carry_rv.specs.Places.{IsInText}
+use Rattle.lg_carry.specs.TextNodes.{IsInText, HasPlaces}
 use Rattle.lg_carry_rv.specs.RvRows.{rv_processor}
-use Rattle.lg_selr_control.specs.Standing.{StandsInCode, HasPlaces}
+use Rattle.lg_selr_control.specs.Standing.{StandsInCode}
 
 -- a jump to the word in a register, which puts the address behind it into another
 abbrev pub register_leap_code : ℕ → Reg → List Instr
@@ -32,14 +32,14 @@ finishr_node a line = record { op = op.Control control.Finish last_operand.Regis
 
 abbrev pub RegisterJumpsCarry : Type 0
 RegisterJumpsCarry =
-    (code : List ℕ) (trash : ℕ) (c : Code) (i : ℕ) (a : Reg) (line : ℕ) (S : ℕ → Bool) → HasPlaces c → IsInText c i (jmpr_node a line) → StandsInCode code trash c i (register_leap_code 0 a) → CarriesNode (rv_processor code trash) c i (jmpr_node a line) S
+    (code : List ℕ) (trash : ℕ) (c : Code) (i : ℕ) (a : Reg) (line : ℕ) (S : ℕ → Bool) → HasPlaces 4 c → IsInText c i (jmpr_node a line) → StandsInCode code trash c i (register_leap_code 0 a) → CarriesNode (rv_processor code trash) c i (jmpr_node a line) S
 
 abbrev pub RegisterCallsCarry : Type 0
 RegisterCallsCarry =
-    (code : List ℕ) (trash : ℕ) (c : Code) (i : ℕ) (a : Reg) (line : ℕ) (S : ℕ → Bool) → HasPlaces c → IsInText c i (callr_node a line) → StandsInCode code trash c i (register_leap_code 1 a)
+    (code : List ℕ) (trash : ℕ) (c : Code) (i : ℕ) (a : Reg) (line : ℕ) (S : ℕ → Bool) → HasPlaces 4 c → IsInText c i (callr_node a line) → StandsInCode code trash c i (register_leap_code 1 a)
     → CarriesNode (rv_processor code trash) c i (callr_node a line) S
 
 abbrev pub RegisterFinishesCarry : Type 0
 RegisterFinishesCarry =
-    (code : List ℕ) (trash : ℕ) (c : Code) (i : ℕ) (a : Reg) (line : ℕ) (S : ℕ → Bool) → HasPlaces c → IsInText c i (finishr_node a line) → StandsInCode code trash c i (register_leap_code 1 a)
+    (code : List ℕ) (trash : ℕ) (c : Code) (i : ℕ) (a : Reg) (line : ℕ) (S : ℕ → Bool) → HasPlaces 4 c → IsInText c i (finishr_node a line) → StandsInCode code trash c i (register_leap_code 1 a)
     → CarriesNode (rv_processor code trash) c i (finishr_node a line) S

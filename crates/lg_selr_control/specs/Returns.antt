@@ -20,9 +20,9 @@ use Rattle.lg_carry.specs.Codes.{Code}
 use Rattle.lg_carry.specs.NodeCode.{CarriesNode}
 use Rattle.lg_carry_rv.specs.Numbers.{number_code, high_part, low_part}
 use Rattle.lg_carry_rv.specs.RvRows.{rv_processor}
-use Rattle.lg_carry_rv.specs.Places.{IsInText}
+use Rattle.lg_carry.specs.TextNodes.{IsInText, HasPlaces}
 use Rattle.lg_selr_control.specs.Immediates.{immediate}
-use Rattle.lg_selr_control.specs.Standing.{StandsInCode, HasPlaces}
+use Rattle.lg_selr_control.specs.Standing.{StandsInCode}
 
 -- x8 is FP, x1 the link, x2 the stack pointer; x9, x18 and x19 stand for V0, V1 and V2
 abbrev pub return_code : List Instr
@@ -37,11 +37,11 @@ epilog_node line = record { op = op.Plain plain.Epilog; operands = []; line = li
 
 abbrev pub RetsCarry : Type 0
 RetsCarry =
-    (code : List ℕ) (trash : ℕ) (c : Code) (i line : ℕ) (S : ℕ → Bool) → HasPlaces c → IsInText c i (ret_node line) → StandsInCode code trash c i return_code → CarriesNode (rv_processor code trash) c i (ret_node line) S
+    (code : List ℕ) (trash : ℕ) (c : Code) (i line : ℕ) (S : ℕ → Bool) → HasPlaces 4 c → IsInText c i (ret_node line) → StandsInCode code trash c i return_code → CarriesNode (rv_processor code trash) c i (ret_node line) S
 
 abbrev pub EpilogsCarry : Type 0
 EpilogsCarry =
-    (code : List ℕ) (trash : ℕ) (c : Code) (i line : ℕ) (S : ℕ → Bool) → HasPlaces c → IsInText c i (epilog_node line) → StandsInCode code trash c i return_code
+    (code : List ℕ) (trash : ℕ) (c : Code) (i line : ℕ) (S : ℕ → Bool) → HasPlaces 4 c → IsInText c i (epilog_node line) → StandsInCode code trash c i return_code
     → CarriesNode (rv_processor code trash) c i (epilog_node line) S
 
 -- a register is moved to the register of the result first
@@ -53,7 +53,7 @@ retr_code a = instr.Imm Addi 10 (register_of Riscv64 a) (pos 0) ∷ return_code
 
 abbrev pub RetrsCarry : Type 0
 RetrsCarry =
-    (code : List ℕ) (trash : ℕ) (c : Code) (i : ℕ) (a : Reg) (line : ℕ) (S : ℕ → Bool) → HasPlaces c → IsInText c i (retr_node a line) → StandsInCode code trash c i (retr_code a)
+    (code : List ℕ) (trash : ℕ) (c : Code) (i : ℕ) (a : Reg) (line : ℕ) (S : ℕ → Bool) → HasPlaces 4 c → IsInText c i (retr_node a line) → StandsInCode code trash c i (retr_code a)
     → CarriesNode (rv_processor code trash) c i (retr_node a line) S
 
 -- or a word that stands for itself is put there
@@ -65,7 +65,7 @@ reti_code v = number_code 10 v ++ return_code
 
 abbrev pub RetisCarry : Type 0
 RetisCarry =
-    (code : List ℕ) (trash : ℕ) (c : Code) (i : ℕ) (x : Operand) (v line : ℕ) (S : ℕ → Bool) → immediate x ≡ Some v → v < 2 ^ 64 → HasPlaces c → IsInText c i (reti_node x line) → StandsInCode code trash c i (reti_code v) → CarriesNode (rv_processor code trash) c i (reti_node x line) S
+    (code : List ℕ) (trash : ℕ) (c : Code) (i : ℕ) (x : Operand) (v line : ℕ) (S : ℕ → Bool) → immediate x ≡ Some v → v < 2 ^ 64 → HasPlaces 4 c → IsInText c i (reti_node x line) → StandsInCode code trash c i (reti_code v) → CarriesNode (rv_processor code trash) c i (reti_node x line) S
 
 -- or the address of a label
 abbrev pub reti_label_node : Label → ℕ → Node
@@ -76,5 +76,5 @@ reti_label_code to l = instr.Upper Lui 10 (high_part (to l.0)) ∷ instr.Imm Add
 
 abbrev pub RetiLabelsCarry : Type 0
 RetiLabelsCarry =
-    (code : List ℕ) (trash : ℕ) (c : Code) (i : ℕ) (l : Label) (line : ℕ) (S : ℕ → Bool) → slice_index c.addresses l.0 < 2 ^ 30 → HasPlaces c → IsInText c i (reti_label_node l line) → StandsInCode code trash c i (reti_label_code (slice_index c.addresses) l)
+    (code : List ℕ) (trash : ℕ) (c : Code) (i : ℕ) (l : Label) (line : ℕ) (S : ℕ → Bool) → slice_index c.addresses l.0 < 2 ^ 30 → HasPlaces 4 c → IsInText c i (reti_label_node l line) → StandsInCode code trash c i (reti_label_code (slice_index c.addresses) l)
     → CarriesNode (rv_processor code trash) c i (reti_label_node l line) S

@@ -15,7 +15,7 @@ use Rattle.lg_rv.specs.declared.instruction.Instr.{Instr}
 use Rattle.lg_temp.specs.Abis.{register_of}
 use Rattle.lg_carry.specs.Codes.{Code}
 use Rattle.lg_carry.specs.NodeCode.{CarriesNode}
-use Rattle.lg_carry_rv.specs.Places.{IsInText}
+use Rattle.lg_carry.specs.TextNodes.{IsInText}
 use Rattle.lg_carry_rv.specs.RvRows.{rv_processor}
 use Rattle.lg_selr_items.specs.declared.items.Item.{Item}
 use Rattle.lg_selr_items.specs.Items.{ones}

@@ -7,7 +7,7 @@ use Rattle.lg_op.specs.declared.node.Node.{Node}
 use Rattle.lg_carry.specs.Codes.{Code}
 use Rattle.lg_carry.specs.NodeCode.{CarriesNode}
 use Rattle.lg_carry_rv.specs.RvRows.{rv_processor}
-use Rattle.lg_carry_rv.specs.Places.{IsInText}
+use Rattle.lg_carry.specs.TextNodes.{IsInText}
 use Rattle.lg_selr_control.specs.Standing.{StandsInCode}
 
 abbrev pub is_silent : Op → Bool

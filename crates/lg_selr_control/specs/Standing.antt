@@ -16,10 +16,3 @@ pub record StandsInCode (code : List ℕ) (trash : ℕ) (c : Code) (i : ℕ) (is
   pub bytes : AreBytes code
   pub word : trash < 2 ^ 64
   pub node : IsNodeCode (rv_rows code trash) IsInstr c i is
-
--- nodes stand in the code part, at multiples of four, and a label that is bound at a node has the address of its place
-pub record HasPlaces (c : Code) : Type 0 where
-  pub low : (i : ℕ) → i ≤ length c.nodes.nodes → code_base ≤ c.place i
-  pub high : (i : ℕ) → i ≤ length c.nodes.nodes → c.place i ≤ code_base + most_code
-  pub aligned : (i : ℕ) → i ≤ length c.nodes.nodes → c.place i % 4 ≡ 0
-  pub bound : (label i : ℕ) → IsBound c.nodes label (place.Node i) → slice_index c.addresses label ≡ c.place i

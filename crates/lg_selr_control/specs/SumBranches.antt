@@ -20,10 +20,10 @@ use Rattle.lg_temp.specs.Abis.{register_of}
 use Rattle.lg_carry.specs.Codes.{Code}
 use Rattle.lg_carry.specs.NodeCode.{CarriesNode}
 use Rattle.lg_carry_rv.specs.Numbers.{number_code}
-use Rattle.lg_carry_rv.specs.Places.{IsInText}
+use Rattle.lg_carry.specs.TextNodes.{IsInText, HasPlaces}
 use Rattle.lg_carry_rv.specs.RvRows.{rv_processor}
 use Rattle.lg_selr_control.specs.Immediates.{immediate}
-use Rattle.lg_selr_control.specs.Standing.{StandsInCode, HasPlaces}
+use Rattle.lg_selr_control.specs.Standing.{StandsInCode}
 use Rattle.lg_selr_control.specs.Branches.{jump_unless}
 
 -- the signed sum does not fit where it is less than the first operand and the second is not negative, or the other way round
@@ -74,10 +74,10 @@ number_sum_branch_node o l a x line = record { op = op.BranchSum o last_operand.
 
 abbrev pub SumBranchesCarry : Type 0
 SumBranchesCarry =
-    (code : List ℕ) (trash : ℕ) (c : Code) (i : ℕ) (o : BranchSumOp) (l : Label) (a b : Reg) (line : ℕ) (S : ℕ → Bool) → HasPlaces c → IsInText c i (sum_branch_node o l a b line)
+    (code : List ℕ) (trash : ℕ) (c : Code) (i : ℕ) (o : BranchSumOp) (l : Label) (a b : Reg) (line : ℕ) (S : ℕ → Bool) → HasPlaces 4 c → IsInText c i (sum_branch_node o l a b line)
     → StandsInCode code trash c i (sum_branch_code (slice_index c.addresses) (c.place i) [] o (register_of Riscv64 a) (register_of Riscv64 b) l) → CarriesNode (rv_processor code trash) c i (sum_branch_node o l a b line) S
 
 abbrev pub NumberSumBranchesCarry : Type 0
 NumberSumBranchesCarry =
-    (code : List ℕ) (trash : ℕ) (c : Code) (i : ℕ) (o : BranchSumOp) (l : Label) (a : Reg) (x : Operand) (v line : ℕ) (S : ℕ → Bool) → immediate x ≡ Some v → v < 2 ^ 64 → HasPlaces c → IsInText c i (number_sum_branch_node o l a x line)
+    (code : List ℕ) (trash : ℕ) (c : Code) (i : ℕ) (o : BranchSumOp) (l : Label) (a : Reg) (x : Operand) (v line : ℕ) (S : ℕ → Bool) → immediate x ≡ Some v → v < 2 ^ 64 → HasPlaces 4 c → IsInText c i (number_sum_branch_node o l a x line)
     → StandsInCode code trash c i (sum_branch_code (slice_index c.addresses) (c.place i) (number_code 1 v) o (register_of Riscv64 a) 1 l) → CarriesNode (rv_processor code trash) c i (number_sum_branch_node o l a x line) S

@@ -1,5 +1,5 @@
 -- What items become: as they are emitted, with 0 in the fields of labels, and as they are once the labels have places.
-use Rattle.std.specs.Prelude.{◌≡◌, ℕ, ◌+◌, ◌*◌, ◌<◌, ℤ, pos, ◌-ℤ◌, List, [], ◌∷◌, ◌++◌, ⊤}
+use Rattle.std.specs.Prelude.{◌≡◌, ℕ, ◌+◌, ◌*◌, ◌<◌, false, ℤ, pos, ◌-ℤ◌, List, [], ◌∷◌, ◌++◌, ⊤}
 use Rattle.lg_rv.specs.declared.instruction.Instr.{Instr}
 use Rattle.lg_rv.specs.declared.instruction.Instr.TheVariants as instr
 use Rattle.lg_rv.specs.declared.instruction.UpperOp.TheVariants.{Lui}
@@ -7,6 +7,9 @@ use Rattle.lg_rv.specs.declared.instruction.ImmOp.TheVariants.{Addi}
 use Rattle.lg_rv.specs.Spelling.{IsInstr}
 use Rattle.lg_buf.specs.declared.fixes.Fix.{Fix}
 use Rattle.lg_buf.specs.declared.fixes.FixKind.TheVariants.{RvJal, RvLuiAddi}
+use Rattle.lg_base.specs.declared.target.Target.TheVariants.{Riscv64}
+use Rattle.lg_carry.specs.Outside.{is_outside}
+use Rattle.lg_carry_rv.specs.Destinations.{WritesWithin}
 use Rattle.lg_carry_rv.specs.Numbers.{high_part, low_part}
 use Rattle.lg_selr_items.specs.declared.items.Item.{Item}
 use Rattle.lg_selr_items.specs.declared.items.Item.TheVariants.{One, Jump, Address}
@@ -67,6 +70,17 @@ IsItem (Address rd label) = rd < 32
 abbrev pub AreItems : List Item → Type 0
 AreItems [] = ⊤
 AreItems (x ∷ xs) = IsItem x × AreItems xs
+
+-- an item writes no register that is outside of the conventions
+abbrev pub StaysWithin : Item → Type 0
+StaysWithin (One i) = WritesWithin i
+StaysWithin (Jump rd label) = is_outside Riscv64 rd ≡ false
+StaysWithin (Address rd label) = is_outside Riscv64 rd ≡ false
+
+-- so does none of a list
+abbrev pub StayWithin : List Item → Type 0
+StayWithin [] = ⊤
+StayWithin (x ∷ xs) = StaysWithin x × StayWithin xs
 
 -- an item names one of so many labels
 abbrev pub NamesOneOf : ℕ → Item → Type 0

@@ -10,10 +10,11 @@ use Rattle.lg_carry.specs.Passages.{IsNodeCode}
 use Rattle.lg_rv.specs.Spelling.{IsInstr}
 use Rattle.lg_cpu.specs.Laws.{AreBytes}
 use Rattle.lg_selr_items.specs.declared.items.Item.{Item}
-use Rattle.lg_selr_items.specs.Items.{words_in, bytes_in, settled}
+use Rattle.lg_selr_items.specs.Items.{words_in, bytes_in, settled, StayWithin}
 use Rattle.lg_selr_items.specs.Patched.{AreSettledAt}
 
--- the code that the processor runs, in which the instructions of these items, with the addresses of the labels, are those of node i
+-- the code that the processor runs, in which the instructions of these items, with the addresses of the labels, are those of node i; they write no
+-- register that is outside of the conventions
 pub record AreOfNode (code : List ℕ) (trash : ℕ) (c : Code) (i : ℕ) (items : List Item) : Type 0 where
   pub small : length code ≤ most_code
   pub bytes : AreBytes code
@@ -23,6 +24,7 @@ pub record AreOfNode (code : List ℕ) (trash : ℕ) (c : Code) (i : ℕ) (items
   pub settled : AreSettledAt (slice_index c.addresses) code (c.place i - code_base) items
   pub next : c.place (i + 1) ≡ c.place i + bytes_in items
   pub few : words_in items ≤ 64
+  pub within : StayWithin items
 
 -- they are the code of the node, of which a branch, jump, call or return has some
 abbrev pub ItemsAreNodeCode : Type 0

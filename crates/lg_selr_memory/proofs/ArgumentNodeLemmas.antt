@@ -19,13 +19,14 @@ use Rattle.lg_temp.specs.Abis.{register_of}
 use Rattle.lg_carry.specs.Codes.{Code}
 use Rattle.lg_carry.specs.NodeCode.{CarriesNode}
 use Rattle.lg_carry_rv.specs.RvRows.{rv_processor}
-use Rattle.lg_carry_rv.specs.Places.{IsInText, IsInCode}
+use Rattle.lg_carry_rv.specs.Places.{IsInCode}
 use Rattle.lg_selr_memory.specs.Accesses.{load_row}
 use Rattle.lg_selr_memory.specs.ArgumentCode.{argument_offset, argument_code}
 use Rattle.lg_selr_memory.specs.ArgumentNodes.{ArgumentsCarry}
 use Rattle.lg_selr_memory.proofs.FormLemmas.{nothing-left, starts-written, starts-argument}
 use Rattle.lg_selr_memory.proofs.GetargLemmas.{getarg-carried, getarg-undefined}
 use Rattle.lg_selr_memory.proofs.MemoryNodeLemmas.{numbered-same, or-false, with_op}
+use Rattle.lg_carry.specs.TextNodes.{IsInText}
 
 module _ (code : List ℕ) (trash : ℕ) (c : Code) (i : ℕ) (t : ValueType) (S : ℕ → Bool) (line : ℕ) (d : Reg) (named : d ≢ Fp) (k : ℕ) where
   abbrev node : Node

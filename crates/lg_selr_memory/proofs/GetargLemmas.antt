@@ -37,7 +37,7 @@ use Rattle.lg_carry.specs.Frames.{at_call, IsSettled}
 use Rattle.lg_carry.proofs.ShapedLemmas.{shaped}
 use Rattle.lg_carry.proofs.StackLemmas.{stacked-running, stacked-high, few-arguments}
 use Rattle.lg_carry_rv.specs.RvRows.{rv_processor}
-use Rattle.lg_carry_rv.specs.Places.{IsInText, IsInCode, stands_inside}
+use Rattle.lg_carry_rv.specs.Places.{IsInCode, stands_inside}
 use Rattle.lg_carry_rv.proofs.ComputationLemmas.{pointwise, put-same, put-other}
 use Rattle.lg_selr_memory.specs.Accesses.{load_row}
 use Rattle.lg_selr_memory.specs.ArgumentCode.{argument_offset}
@@ -47,6 +47,7 @@ use Rattle.lg_selr_memory.proofs.LoadLemmas.{load-act}
 use Rattle.lg_selr_memory.proofs.PartLemmas.{part-loaded, typed-part}
 use Rattle.lg_selr_memory.proofs.StraightLemmas.{inside, low, high}
 use Rattle.lg_selr_memory.proofs.WriteLemmas.{Leaves, IsGone, write-leads}
+use Rattle.lg_carry.specs.TextNodes.{IsInText}
 
 -- where argument k stands, from FP
 abbrev argument_place : ℕ → ℕ → ℕ
@@ -158,7 +159,7 @@ module _ (code : List ℕ) (trash : ℕ) (c : Code) (i : ℕ) (n : Node) (t : Va
         record { at = refl; regs = refl; answer = refl; frame = refl; callers = refl; pushed = refl; mem = refl; mark = refl; data_size = refl; args_size = refl } (IsGone refl) leaves
 
   pub getarg-carried : CarriesNode (rv_processor code trash) c i n S
-  getarg-carried frames returns s out q at st = by (slice_get s.frame.args k) refl
+  getarg-carried frames s returns out q at st = by (slice_get s.frame.args k) refl
     where
       by : (o : Option ℕ) → slice_get s.frame.args k ≡ o → (step c.nodes c.shape c.addresses s ≡ Undefined) ⊎ Leads (rv_processor code trash) c frames (live_behind frames n S s) i (step c.nodes c.shape c.addresses s) out q
       by None e = inl (steps_so s at ∙ ap (λ z. need z (λ y. operate s (operand.Reg d) (Some (typed t y)))) e)
@@ -168,7 +169,7 @@ module _ (code : List ℕ) (trash : ℕ) (c : Code) (i : ℕ) (n : Node) (t : Va
 module _ (code : List ℕ) (trash : ℕ) (c : Code) (i : ℕ) (n : Node) (t : ValueType) (S : ℕ → Bool) (d : Reg) (k : ℕ) (many : 16 ≤ k) (x : IsInText c i n)
     (steps_so : (s : State) → s.at ≡ i → step c.nodes c.shape c.addresses s ≡ need (slice_get s.frame.args k) (λ v. operate s (operand.Reg d) (Some (typed t v)))) where
   pub getarg-undefined : CarriesNode (rv_processor code trash) c i n S
-  getarg-undefined frames returns s out q at st = inl (by (slice_get s.frame.args k) refl)
+  getarg-undefined frames s returns out q at st = inl (by (slice_get s.frame.args k) refl)
     where
       args-few : length s.frame.args ≤ 16
       args-few = (few-arguments c.nodes c.shape s.frame s.callers (shaped c.nodes x.well).few st.state.fits.linked).0

@@ -31,7 +31,7 @@ use Rattle.lg_carry.specs.Stands.{Stands}
 use Rattle.lg_carry.specs.Carries.{leaps, Leads}
 use Rattle.lg_carry.specs.NodeCode.{numbered, live_before, live_behind, CarriesNode}
 use Rattle.lg_carry_rv.specs.RvRows.{rv_processor}
-use Rattle.lg_carry_rv.specs.Places.{IsInText, IsInCode, stands_inside}
+use Rattle.lg_carry_rv.specs.Places.{IsInCode, stands_inside}
 use Rattle.lg_carry_rv.specs.Computations.{computed}
 use Rattle.lg_carry_rv.proofs.ComputationLemmas.{pointwise, put-same, put-other}
 use Rattle.lg_selr_memory.specs.Accesses.{Place, load_row, loading}
@@ -40,6 +40,7 @@ use Rattle.lg_selr_memory.proofs.AccessLemmas.{Makes}
 use Rattle.lg_selr_memory.proofs.EndLemmas.{EndsWith, ends-with}
 use Rattle.lg_selr_memory.proofs.StraightLemmas.{low, high, read-before}
 use Rattle.lg_selr_memory.proofs.WriteLemmas.{Leaves, Stays, write-leads}
+use Rattle.lg_carry.specs.TextNodes.{IsInText}
 
 -- ---- the instruction
 -- a row loads by its type
@@ -121,7 +122,7 @@ module _ (code : List ℕ) (trash : ℕ) (c : Code) (i : ℕ) (n : Node) (t : Va
         record { at = refl; regs = refl; answer = refl; frame = refl; callers = refl; pushed = refl; mem = refl; mark = refl; data_size = refl; args_size = refl } (Stays refl) leaves
 
   pub load-carried : CarriesNode (rv_processor code trash) c i n S
-  load-carried frames returns s out q at st = by (o s) refl
+  load-carried frames s returns out q at st = by (o s) refl
     where
       at-address : (a : ℕ) → o s ≡ Some a → (r : Option ℕ) → steps.read s a (width t) ≡ r → (step c.nodes c.shape c.addresses s ≡ Undefined) ⊎ Leads (rv_processor code trash) c frames (live_behind frames n S s) i (step c.nodes c.shape c.addresses s) out q
       at-address a e None h = inl (steps_so s at ∙ ap (λ z. need z (λ b. load_to s t b (operand.Reg d))) e ∙ ap (λ z. need z (λ y. Goes (on_with_carry (with_reg s (operand.Reg d) (typed t y))) [])) h)

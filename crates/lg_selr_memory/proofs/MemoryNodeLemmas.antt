@@ -27,7 +27,7 @@ use Rattle.lg_temp.specs.Abis.{register_of}
 use Rattle.lg_carry.specs.Codes.{Code}
 use Rattle.lg_carry.specs.NodeCode.{numbered, CarriesNode}
 use Rattle.lg_carry_rv.specs.RvRows.{rv_processor}
-use Rattle.lg_carry_rv.specs.Places.{IsInText, IsInCode}
+use Rattle.lg_carry_rv.specs.Places.{IsInCode}
 use Rattle.lg_carry_rv.proofs.RegisterLemmas.{same-self}
 use Rattle.lg_selr_memory.specs.Accesses.{number, indexed, place_at, load_code, store_code}
 use Rattle.lg_selr_memory.specs.MemoryNodes.{is_label, names_label, HasWords, LoadsCarry, StoresCarry}
@@ -35,6 +35,7 @@ use Rattle.lg_selr_memory.proofs.AccessLemmas.{Makes, is-word, of-register, of-n
 use Rattle.lg_selr_memory.proofs.FormLemmas.{nothing-left, starts-written, starts-read, starts-number}
 use Rattle.lg_selr_memory.proofs.LoadLemmas.{load-carried}
 use Rattle.lg_selr_memory.proofs.StoreLemmas.{store-carried}
+use Rattle.lg_carry.specs.TextNodes.{IsInText}
 
 -- ---- sums
 abbrev sum : Option ℕ → Option ℕ → Option ℕ

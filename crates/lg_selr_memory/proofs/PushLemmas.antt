@@ -36,13 +36,14 @@ use Rattle.lg_carry.proofs.ShapedLemmas.{shaped}
 use Rattle.lg_carry.proofs.StackLemmas.{stacked-running, stacked-high}
 use Rattle.lg_carry.proofs.WordLemmas.{word-kept}
 use Rattle.lg_carry_rv.specs.RvRows.{rv_seen, rv_processor, rv_does}
-use Rattle.lg_carry_rv.specs.Places.{IsInText, IsInCode, stands_inside}
+use Rattle.lg_carry_rv.specs.Places.{IsInCode, stands_inside}
 use Rattle.lg_carry_rv.specs.Computations.{all_compute, computed}
 use Rattle.lg_carry_rv.specs.ComputingNodes.{HoldsRead}
 use Rattle.lg_carry_rv.proofs.ComputationLemmas.{computations-run, pointwise, put-same, put-other}
 use Rattle.lg_selr_memory.proofs.EndLemmas.{EndsWith, ends-with}
 use Rattle.lg_selr_memory.proofs.PutLemmas.{Puts}
 use Rattle.lg_selr_memory.proofs.StraightLemmas.{GoesBehind, inside, low, high, read-before, stays, leads, still}
+use Rattle.lg_carry.specs.TextNodes.{IsInText}
 
 -- ---- an argument more
 -- the members of a list with one more
@@ -135,7 +136,7 @@ module _ (code : List ℕ) (trash : ℕ) (c : Code) (i : ℕ) (n : Node) (S : �
 
   -- ---- into a register
   pub push-in-register : (few : pushed c.nodes.nodes i < 8) → Puts n o is (slice_index (argument_registers Riscv64) (pushed c.nodes.nodes i)) → CarriesNode (rv_processor code trash) c i n S
-  push-in-register few puts frames returns s out q at st = by (o s) refl
+  push-in-register few puts frames s returns out q at st = by (o s) refl
     where
       j : ℕ
       j = pushed c.nodes.nodes i
@@ -245,7 +246,7 @@ module _ (code : List ℕ) (trash : ℕ) (c : Code) (i : ℕ) (n : Node) (S : �
           bytes-same = λ b y. end.bytes_are y b
 
     pub push-on-stack : CarriesNode (rv_processor code trash) c i n S
-    push-on-stack frames returns s out q at st = by (o s) refl
+    push-on-stack frames s returns out q at st = by (o s) refl
       where
         by : (b : Option ℕ) → o s ≡ b → Result frames s out q
         by None e = inl (undefined s at e)

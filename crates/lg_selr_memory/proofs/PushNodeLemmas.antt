@@ -27,7 +27,7 @@ use Rattle.lg_temp.specs.Abis.{register_of}
 use Rattle.lg_carry.specs.Codes.{Code}
 use Rattle.lg_carry.specs.NodeCode.{numbered, CarriesNode}
 use Rattle.lg_carry_rv.specs.RvRows.{rv_processor}
-use Rattle.lg_carry_rv.specs.Places.{IsInText, IsInCode}
+use Rattle.lg_carry_rv.specs.Places.{IsInCode}
 use Rattle.lg_carry_rv.specs.Computations.{computed}
 use Rattle.lg_carry_rv.specs.ComputingNodes.{HoldsRead}
 use Rattle.lg_carry_rv.proofs.ComputationLemmas.{pointwise, put-other, read-put}
@@ -37,12 +37,13 @@ use Rattle.lg_selr_items.proofs.ItemLemmas.{settled-append}
 use Rattle.lg_selr_memory.specs.Accesses.{link}
 use Rattle.lg_selr_memory.specs.MemoryNodes.{HasWords}
 use Rattle.lg_selr_memory.specs.PushCode.{into, stack_push, onto_stack, push_code}
-use Rattle.lg_selr_memory.specs.PushNodes.{NamesCode, PushesCarry}
+use Rattle.lg_selr_memory.specs.PushNodes.{PushesCarry}
 use Rattle.lg_selr_memory.proofs.AccessLemmas.{IsWord, is-word, number-small}
 use Rattle.lg_selr_memory.proofs.FormLemmas.{nothing-left, starts-read}
 use Rattle.lg_selr_memory.proofs.MemoryNodeLemmas.{numbered-same, with_op}
 use Rattle.lg_selr_memory.proofs.PushLemmas.{Prepares, push-in-register, push-on-stack}
 use Rattle.lg_selr_memory.proofs.PutLemmas.{Puts, put-operand, same-some}
+use Rattle.lg_carry.specs.TextNodes.{IsInText, NamesCode}
 
 -- ---- the registers of arguments
 argument-some : (j : ℕ) → j < 8 → (slice_index (argument_registers Riscv64) j ≢ 0) × (slice_index (argument_registers Riscv64) j < 32)

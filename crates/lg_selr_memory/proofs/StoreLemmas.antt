@@ -36,7 +36,7 @@ use Rattle.lg_carry.proofs.KeptLemmas.{registers-kept, arguments-kept}
 use Rattle.lg_carry.proofs.SpillLemmas.{stored-there}
 use Rattle.lg_carry.proofs.StackLemmas.{stacked-running}
 use Rattle.lg_carry_rv.specs.RvRows.{rv_seen, rv_processor, rv_does}
-use Rattle.lg_carry_rv.specs.Places.{IsInText, IsInCode, stands_inside}
+use Rattle.lg_carry_rv.specs.Places.{IsInCode, stands_inside}
 use Rattle.lg_carry_rv.specs.Computations.{computed}
 use Rattle.lg_carry_rv.proofs.ComputationLemmas.{pointwise}
 use Rattle.lg_selr_memory.specs.Accesses.{Place, store_row, storing}
@@ -46,6 +46,7 @@ use Rattle.lg_selr_memory.proofs.EndLemmas.{EndsWith, ends-with}
 use Rattle.lg_selr_memory.proofs.WriteLemmas.{Stays, carry-again}
 use Rattle.lg_selr_memory.proofs.OpenLemmas.{open-mapped}
 use Rattle.lg_selr_memory.proofs.StraightLemmas.{inside, low, high, read-before, stays, leads, still}
+use Rattle.lg_carry.specs.TextNodes.{IsInText}
 
 -- a row stores by its type
 store-act : (t : StoreType) (q : CpuState) (base from : ℕ) (offset : ℤ) (a : ℕ) → add_words (read q.registers base) (word_of offset) ≡ a → (a % store_width t == 0) ≡ true → mapped q.bytes a (store_width t) ≡ true
@@ -151,7 +152,7 @@ module _ (code : List ℕ) (trash : ℕ) (c : Code) (i : ℕ) (n : Node) (t : St
   Result frames s out q = (step c.nodes c.shape c.addresses s ≡ Undefined) ⊎ Leads (rv_processor code trash) c frames (live_behind frames n S s) i (step c.nodes c.shape c.addresses s) out q
 
   pub store-carried : CarriesNode (rv_processor code trash) c i n S
-  store-carried frames returns s out q at st = by (o s) (f s) refl refl
+  store-carried frames s returns out q at st = by (o s) (f s) refl refl
     where
       on : (a v : ℕ) → o s ≡ Some a → f s ≡ Some v → step c.nodes c.shape c.addresses s ≡ store_to s t a v
       on a v e g = steps_so s at ∙ ap (λ z. need z (λ b. need (f s) (λ y. store_to s t b y))) e ∙ ap (λ z. need z (λ y. store_to s t a y)) g

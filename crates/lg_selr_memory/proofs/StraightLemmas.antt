@@ -26,13 +26,14 @@ use Rattle.lg_carry.proofs.BlockLemmas.{blocks-run}
 use Rattle.lg_carry.proofs.NodeBlockLemmas.{node-blocks-lead}
 use Rattle.lg_carry.proofs.ShapedLemmas.{inner, shaped}
 use Rattle.lg_carry_rv.specs.RvRows.{rv_seen, rv_processor, rv_does, rv_rows}
-use Rattle.lg_carry_rv.specs.Places.{IsInText, IsInCode, IsBehindProlog, stands_inside}
+use Rattle.lg_carry_rv.specs.Places.{IsInCode, IsBehindProlog, stands_inside}
 use Rattle.lg_carry_rv.specs.ComputingNodes.{HoldsRead}
 use Rattle.lg_carry_rv.proofs.ComputationLemmas.{spellings-long}
 use Rattle.lg_carry_rv.proofs.ComputingNodeLemmas.{text-keeps, no-return, no-epilog}
 use Rattle.lg_carry_rv.proofs.PlaceLemmas.{nodes-stand-inside}
 use Rattle.lg_carry_rv.proofs.RegisterLemmas.{numbered-at, given}
 use Rattle.lg_carry_rv.proofs.RowLemmas.{are-rows}
+use Rattle.lg_carry.specs.TextNodes.{IsInText}
 
 -- the run goes through these instructions from q, and goes on behind them
 pub record GoesBehind (is : List Instr) (q : Run CpuState) : Type 0 where

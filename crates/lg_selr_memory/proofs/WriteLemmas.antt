@@ -26,9 +26,10 @@ use Rattle.lg_carry.specs.Blocks.{done}
 use Rattle.lg_carry.proofs.AgainLemmas.{write-agrees, is-false}
 use Rattle.lg_carry.proofs.ApartLemmas.{conventions-apart}
 use Rattle.lg_carry_rv.specs.RvRows.{rv_seen, rv_processor, rv_does}
-use Rattle.lg_carry_rv.specs.Places.{IsInText, IsInCode, stands_inside}
+use Rattle.lg_carry_rv.specs.Places.{IsInCode, stands_inside}
 use Rattle.lg_carry_rv.proofs.RegisterLemmas.{stands-for, number-few, only-number}
 use Rattle.lg_selr_memory.proofs.StraightLemmas.{GoesBehind, stays, leads, still}
+use Rattle.lg_carry.specs.TextNodes.{IsInText}
 
 -- a step that sets a register of the state, and else changes the carry alone
 pub record Sets (s to : State) (d v : ℕ) : Type 0 where

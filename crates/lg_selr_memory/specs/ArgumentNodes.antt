@@ -6,8 +6,9 @@ use Rattle.lg_op.specs.declared.op.ValueType.{ValueType}
 use Rattle.lg_carry.specs.Codes.{Code}
 use Rattle.lg_carry.specs.NodeCode.{CarriesNode}
 use Rattle.lg_carry_rv.specs.RvRows.{rv_processor}
-use Rattle.lg_carry_rv.specs.Places.{IsInText, IsInCode}
+use Rattle.lg_carry_rv.specs.Places.{IsInCode}
 use Rattle.lg_selr_memory.specs.ArgumentCode.{argument_code}
+use Rattle.lg_carry.specs.TextNodes.{IsInText}
 
 -- such a node, whatever is live behind it
 abbrev pub ArgumentsCarry : Type 0

@@ -12,8 +12,9 @@ use Rattle.lg_meaning.specs.Steps.{operand_at}
 use Rattle.lg_carry.specs.Codes.{Code}
 use Rattle.lg_carry.specs.NodeCode.{CarriesNode}
 use Rattle.lg_carry_rv.specs.RvRows.{rv_processor}
-use Rattle.lg_carry_rv.specs.Places.{IsInText, IsInCode}
+use Rattle.lg_carry_rv.specs.Places.{IsInCode}
 use Rattle.lg_selr_memory.specs.Accesses.{load_code, store_code}
+use Rattle.lg_carry.specs.TextNodes.{IsInText}
 
 abbrev pub is_label : Operand → Bool
 is_label (operand.Label l) = true

@@ -12,14 +12,11 @@ use Rattle.lg_meaning.specs.Steps.{operand_at}
 use Rattle.lg_carry.specs.Codes.{Code}
 use Rattle.lg_carry.specs.NodeCode.{CarriesNode}
 use Rattle.lg_carry_rv.specs.RvRows.{rv_processor}
-use Rattle.lg_carry_rv.specs.Places.{IsInText, IsInCode}
+use Rattle.lg_carry_rv.specs.Places.{IsInCode}
 use Rattle.lg_selr_items.specs.Items.{settled}
 use Rattle.lg_selr_memory.specs.MemoryNodes.{HasWords}
 use Rattle.lg_selr_memory.specs.PushCode.{push_code}
-
--- the labels that the node names have addresses of the code
-abbrev pub NamesCode : Code → Node → Type 0
-NamesCode c n = (k : ℕ) (l : Label) → operand_at n k ≡ operand.Label l → (code_base ≤ slice_index c.addresses l.0) × (slice_index c.addresses l.0 ≤ code_base + most_code)
+use Rattle.lg_carry.specs.TextNodes.{IsInText, NamesCode}
 
 -- a node that passes argument j, where so many are passed before it
 abbrev pub PushesCarry : Type 0

@@ -1,6 +1,6 @@
 // The assembler: one run over the nodes.
 
-ghost use Rattle.std.specs.Prelude.{◌≡◌, ◌+◌, ◌<◌, ◌≤◌, IsTrue, IsOk, length};
+ghost use Rattle.std.specs.Prelude.{◌≡◌, ◌+◌, ◌%◌, ◌<◌, ◌≤◌, IsTrue, IsOk, length};
 ghost use Rattle.lg_selr.specs.Selected.{IsFrame};
 
 use crate::nodes::{
@@ -35,6 +35,7 @@ fn bind_at(list: &NodeList, index: u32, buf: &mut CodeBuf)
     requires { length buf.old.labels ≡ length list.now.words }
     ensures labels { length buf.new.labels ≡ length buf.old.labels }
     ensures room { buf.new.room ≡ buf.old.room }
+    ensures bytes { buf.new.bytes ≡ buf.old.bytes }
 {
     'labels: for label in 0..list.labels() {
         let here = matches!(list.place(Label(label)), Some(Place::Node(node)) if node == index);
@@ -59,8 +60,10 @@ fn put_node(node: &Node, frame: u32, pushed: u32, labels: u32, buf: &mut CodeBuf
     requires frame { IsFrame frame }
     requires labels { length buf.old.labels ≡ labels }
     requires room { 0 < buf.old.room }
+    requires whole { length buf.old.bytes % 4 ≡ 0 }
     ensures labels { length buf.new.labels ≡ length buf.old.labels }
     ensures room { buf.old.room ≤ buf.new.room + 1 }
+    ensures whole { length buf.new.bytes % 4 ≡ 0 }
 {
     if !stages_well(node, pushed)
         || !node.is_in_form()
@@ -79,6 +82,7 @@ fn put_node(node: &Node, frame: u32, pushed: u32, labels: u32, buf: &mut CodeBuf
 fn put_nodes(unit: &Unit, shape: &Shape, buf: &mut CodeBuf) -> bool
     requires labels { length buf.old.labels ≡ length unit.now.nodes.words }
     requires room { buf.old.room ≡ length unit.now.nodes.nodes }
+    requires whole { length buf.old.bytes % 4 ≡ 0 }
 {
     let nodes = unit.nodes.len();
     let labels = unit.nodes.labels();

@@ -20,7 +20,7 @@ use Rattle.lg_meaning.specs.Steps.{Undefined, on, with_reg, binary_step, carried
 use Rattle.lg_meaning.specs.Texts.{step}
 use Rattle.lg_temp.specs.Abis.{register_of}
 use Rattle.lg_carry.specs.Codes.{Code}
-use Rattle.lg_carry_rv.specs.Places.{IsInText}
+use Rattle.lg_carry.specs.TextNodes.{IsInText}
 use Rattle.lg_carry_rv.specs.Computations.{all_compute, computed}
 use Rattle.lg_carry_rv.specs.ComputingNodes.{HoldsRead, StepsTo, ComputesNode}
 use Rattle.lg_carry_rv.proofs.ComputationLemmas.{all-compute-append}

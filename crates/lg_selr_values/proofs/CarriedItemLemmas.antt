@@ -31,7 +31,7 @@ use Rattle.lg_carry.specs.Codes.{Code}
 use Rattle.lg_carry.specs.NodeCode.{numbered, CarriesNode}
 use Rattle.lg_carry.proofs.TakenLemmas.{none-stood-for, tried-spare}
 use Rattle.lg_carry_rv.specs.RvRows.{rv_processor, can_save}
-use Rattle.lg_carry_rv.specs.Places.{IsInText, IsInCode}
+use Rattle.lg_carry_rv.specs.Places.{IsInCode}
 use Rattle.lg_carry_rv.specs.ComputingNodes.{HoldsRead}
 use Rattle.lg_carry_rv.proofs.ComputingNodeLemmas.{computing-nodes-carry}
 use Rattle.lg_carry_rv.proofs.RegisterLemmas.{stands-for, number-few, numbered-at, same-self}
@@ -46,6 +46,7 @@ use Rattle.lg_selr_values.proofs.CarriedCodeLemmas.{IsOtherThan}
 use Rattle.lg_selr_values.proofs.LoadCodeLemmas.{some-same}
 use Rattle.lg_selr_values.proofs.CarriedNodeLemmas.{IsTemporaryFor, HasTemporary, PutsSecond, second-register, second-loaded, carried-computes-node}
 use Rattle.lg_selr_values.proofs.SettledLemmas.{Settles, settles-ones, settles-append, settles-saved, IsCarried, carried-plain}
+use Rattle.lg_carry.specs.TextNodes.{IsInText}
 
 -- ---- the carry
 second-immediate : (x : Operand) → admits Immediate x ≡ true → second_items x ≡ load_items 1 x

@@ -30,7 +30,7 @@ use Rattle.lg_temp.specs.Abis.{register_of}
 use Rattle.lg_temp.specs.Chosen.{is_chosen}
 use Rattle.lg_carry.specs.Codes.{Code}
 use Rattle.lg_carry.specs.Registers.{HoldsCarry}
-use Rattle.lg_carry_rv.specs.Places.{IsInText}
+use Rattle.lg_carry.specs.TextNodes.{IsInText}
 use Rattle.lg_carry_rv.specs.Computations.{all_compute, computed}
 use Rattle.lg_carry_rv.specs.ComputingNodes.{HoldsRead, StepsTo, ComputesNode}
 use Rattle.lg_carry_rv.proofs.ComputationLemmas.{computed-append, all-compute-append, read-other, put-same, put-other}

@@ -16,7 +16,7 @@ use Rattle.lg_temp.specs.Abis.{register_of}
 use Rattle.lg_carry.specs.Codes.{Code}
 use Rattle.lg_carry.specs.Registers.{HoldsCarry}
 use Rattle.lg_carry.specs.NodeCode.{numbered}
-use Rattle.lg_carry_rv.specs.Places.{IsInText}
+use Rattle.lg_carry.specs.TextNodes.{IsInText}
 use Rattle.lg_carry_rv.specs.ComputingNodes.{HoldsWritten, IsKept}
 use Rattle.lg_carry_rv.proofs.RegisterLemmas.{stands-for, numbered-at, same-self, only-number}
 use Rattle.lg_selr_values.proofs.LoadCodeLemmas.{some-same}

@@ -18,7 +18,7 @@ use Rattle.lg_carry.specs.Spills.{wrapped}
 use Rattle.lg_carry.specs.NodeCode.{numbered, CarriesNode}
 use Rattle.lg_carry_rv.specs.RvRows.{rv_processor, rv_rows, slot_offset}
 use Rattle.lg_carry.specs.Carries.{leaps}
-use Rattle.lg_carry_rv.specs.Places.{IsInText, IsInCode, stands_inside}
+use Rattle.lg_carry_rv.specs.Places.{IsInCode, stands_inside}
 use Rattle.lg_carry_rv.specs.ComputingNodes.{ComputesNode}
 use Rattle.lg_carry_rv.proofs.ComputingNodeLemmas.{plain-nodes-carry}
 use Rattle.lg_selr_items.specs.declared.items.Item.{Item}
@@ -27,6 +27,7 @@ use Rattle.lg_selr_items.specs.Items.{bytes_in, settled, ones}
 use Rattle.lg_selr_items.proofs.ItemLemmas.{settled-append, settled-ones}
 use Rattle.lg_selr_values.specs.ValueItems.{value_needs, body_items, saved_items, value_items}
 use Rattle.lg_selr_values.specs.ValueLaws.{AreWords}
+use Rattle.lg_carry.specs.TextNodes.{IsInText}
 
 -- ---- items
 -- items that become these instructions wherever they stand

@@ -18,7 +18,7 @@ use Rattle.lg_meaning.specs.Texts.{step}
 use Rattle.lg_temp.specs.Abis.{register_of}
 use Rattle.lg_carry.specs.Codes.{Code}
 use Rattle.lg_carry.specs.Registers.{HoldsCarry}
-use Rattle.lg_carry_rv.specs.Places.{IsInText}
+use Rattle.lg_carry.specs.TextNodes.{IsInText}
 use Rattle.lg_carry_rv.specs.Computations.{computed}
 use Rattle.lg_carry_rv.specs.ComputingNodes.{GoesOn, HoldsRead, StepsTo, ComputesNode}
 use Rattle.lg_carry_rv.proofs.ComputationLemmas.{put-other}

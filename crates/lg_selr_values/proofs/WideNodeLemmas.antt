@@ -25,7 +25,7 @@ use Rattle.lg_carry.specs.Codes.{Code}
 use Rattle.lg_carry.specs.NodeCode.{numbered}
 use Rattle.lg_carry.proofs.ApartLemmas.{conventions-apart}
 use Rattle.lg_carry.proofs.StackLemmas.{or-cases}
-use Rattle.lg_carry_rv.specs.Places.{IsInText}
+use Rattle.lg_carry.specs.TextNodes.{IsInText}
 use Rattle.lg_carry_rv.specs.Computations.{all_compute, computed}
 use Rattle.lg_carry_rv.specs.ComputingNodes.{HoldsRead, StepsTo, ComputesNode}
 use Rattle.lg_carry_rv.proofs.ComputationLemmas.{computed-append, all-compute-append, read-other, put-other}

@@ -12,9 +12,10 @@ use Rattle.lg_temp.specs.Choices.{AreFor}
 use Rattle.lg_carry.specs.Codes.{Code}
 use Rattle.lg_carry.specs.NodeCode.{numbered, CarriesNode}
 use Rattle.lg_carry_rv.specs.RvRows.{rv_processor}
-use Rattle.lg_carry_rv.specs.Places.{IsInText, IsInCode}
+use Rattle.lg_carry_rv.specs.Places.{IsInCode}
 use Rattle.lg_selr_items.specs.Items.{settled}
 use Rattle.lg_selr_values.specs.ValueItems.{computes_value, value_needs, value_items}
+use Rattle.lg_carry.specs.TextNodes.{IsInText}
 
 -- a number is a word, and the address of a label is below 2 ^ 30, as all of the memory is
 abbrev pub IsWord : List ℕ → Operand → Type 0

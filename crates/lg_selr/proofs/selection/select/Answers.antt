@@ -64,15 +64,15 @@ returns-clause-carries c = λ went.
     let k = asked c.args.node.now (has c.args.live_after) c.args.staged.arguments c.args.choices.now (length c.args.buf.now.labels) c.as_slice.result.now c.requires.formed c.requires.choices c.requires.staged c.requires.labels c.requires.immediates c.as_slice.ensures.value c.see_numbers.ensures in
     selected-carries c.args.node.now c.args.frame (has c.args.live_after) c.args.staged.arguments c.args.choices.now c.args.buf.now c.append.new.buf c.put_items.new.items k
     (c.put_items.ensures ∙ ap (node_items c.args.node.now c.args.frame c.args.choices.now c.args.staged.arguments) c.here.ensures.value) (subst (λ l. words_in l ≤ 64) c.items.view_is c.items.invariant.1)
-    record { bytes = c.append.ensures.bytes went; fixes = c.append.ensures.fixes went }
+    record { bytes = c.append.ensures.bytes went; fixes = c.append.ensures.fixes went } c.requires.whole
 
 pub returns-clause-aligned : goal.returns-clause-aligned
 returns-clause-aligned c =
     aligned-behind c.append.result c.args.node.now c.args.frame c.args.choices.now c.args.staged.arguments c.args.buf.now c.append.new.buf c.put_items.new.items c.requires.formed
-    (c.put_items.ensures ∙ ap (node_items c.args.node.now c.args.frame c.args.choices.now c.args.staged.arguments) c.here.ensures.value) c.append.ensures.bytes
+    (c.put_items.ensures ∙ ap (node_items c.args.node.now c.args.frame c.args.choices.now c.args.staged.arguments) c.here.ensures.value) c.append.ensures.bytes c.requires.whole
 
 pub returns-clause-whole : goal.returns-clause-whole
-returns-clause-whole c = appended-whole c.append.result c.args.buf.now c.append.new.buf c.put_items.new.items c.append.ensures.bytes
+returns-clause-whole c = appended-whole c.append.result c.args.buf.now c.append.new.buf c.put_items.new.items c.append.ensures.refused c.append.ensures.bytes c.requires.whole
 
 pub returns-clause-begins : goal.returns-clause-begins
 returns-clause-begins c =
@@ -82,4 +82,4 @@ returns-clause-begins c =
 pub returns-clause-lead : goal.returns-clause-lead
 returns-clause-lead c =
     appended-lead c.append.result c.args.node.now c.args.frame c.args.choices.now c.args.staged.arguments c.args.buf.now c.append.new.buf c.put_items.new.items
-    (c.put_items.ensures ∙ ap (node_items c.args.node.now c.args.frame c.args.choices.now c.args.staged.arguments) c.here.ensures.value) c.append.ensures.fixes
+    (c.put_items.ensures ∙ ap (node_items c.args.node.now c.args.frame c.args.choices.now c.args.staged.arguments) c.here.ensures.value) c.append.ensures.fixes c.requires.whole
