@@ -11,7 +11,7 @@ use crate::lowering::lower;
 use lg_base::code::{CodeBytes, Origin, Places};
 use lg_base::refusal::{OutOfMemory, Refusal, RefusalKind, Stop};
 use lg_base::target::Target;
-use lg_buf::{CodeBuf, Finished};
+use lg_buf::CodeBuf;
 use lg_node::{NodeList, Shape};
 use std::alloc::Global;
 
@@ -72,15 +72,12 @@ pub(crate) fn text_bytes(
         }));
     }
     let _end = buf.here();
-    let Finished {
-        bytes,
-        places: tags,
-    } = buf.finish();
-    see_bytes(&bytes);
+    let finished = buf.finish();
+    see_bytes(&finished.bytes);
     Ok(TextBytes {
-        bytes,
+        bytes: finished.bytes,
         places,
-        tags,
+        tags: finished.places,
     })
 }
 

@@ -31,7 +31,7 @@ is-true = refl
 
 pub returns-clause-given : goal.returns-clause-given
 returns-clause-given c =
-    given c.args.target c.args.nodes.now c.args.shape.now c.args.size c.lower.new.places.items c.lower.new.buf c.finish-bytes.result.bytes.items c.finish-bytes.result.places.items
+    given c.args.target c.args.nodes.now c.args.shape.now c.args.size c.lower.new.places.items c.lower.new.buf c.finish-finished.result.bytes.items c.finish-finished.result.places.items
     (c.lower.ensures.lowered (subst IsTrue (sym c.if-not-lower.false) is-true))
     (let w = c.here-end.ensures.within in let z = c.lower.ensures.size in let e = c.in-Ok.ensures.bytes.1 in omega (arith, w, z, e))
-    c.finish-bytes.ensures.bytes c.see_bytes.ensures c.finish-bytes.ensures.places
+    c.finish-finished.ensures.bytes c.see_bytes.ensures c.finish-finished.ensures.places
