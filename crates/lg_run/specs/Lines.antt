@@ -14,7 +14,7 @@ line_of file steps Listed = []
 line_of file steps (Undefined line) = row (codes "lightning: undefined at line " ∷ digits_in Decimal line ∷ codes " after " ∷ digits_in Decimal steps ∷ codes "\n" ∷ [])
 line_of file steps (Refused refusal) =
     row (codes "lightning: " ∷ file ∷ codes ":" ∷ digits_in Decimal refusal.line ∷ codes ": refused " ∷ digits_in Decimal (number_of_kind refusal.kind) ∷ codes " " ∷ name_of_kind refusal.kind ∷ codes "\n" ∷ [])
-line_of file steps Usage = row (codes "lightning: usage: lightning [--mode mean] --target riscv64 FILE\n" ∷ [])
+line_of file steps Usage = row (codes "lightning: usage: lightning [--mode M] [--target T] [--steps N] [--code N] [FILE [ARG]...]\n" ∷ [])
 line_of file steps ReadFault = row (codes "lightning: read fault\n" ∷ [])
 line_of file steps WriteFault = row (codes "lightning: write fault\n" ∷ [])
 line_of file steps StepsOut = row (codes "lightning: steps out after " ∷ digits_in Decimal steps ∷ codes "\n" ∷ [])

@@ -1,6 +1,12 @@
--- The answer of a run of the portable machine.
+-- The run of the portable machine.
+use Rattle.std.specs.Prelude.{ℕ}
+use Rattle.lg_mean.specs.Machines.{state_of}
+use Rattle.lg_mean.specs.Portables.{PortableState}
 use Rattle.lg_mean.specs.declared.run.RunEnd.{RunEnd}
 use Rattle.lg_mean.specs.declared.run.RunEnd.TheVariants as runs_end
+use Rattle.lg_meaning.specs.Means as means
+use Rattle.lg_node.specs.Nodes.{LabelledNodes}
+use Rattle.lg_node.specs.Shapes.{TextShape}
 use Rattle.lg_run.specs.declared.answer.Answer.{Answer}
 use Rattle.lg_run.specs.declared.answer.Answer.TheVariants as answer
 
@@ -9,3 +15,7 @@ answer_of (runs_end.Ended status) = answer.Ended status
 answer_of (runs_end.Undefined line) = answer.Undefined line
 answer_of runs_end.StepsOut = answer.StepsOut
 answer_of runs_end.WriteFault = answer.WriteFault
+
+-- the meaning of nodes from where the machine stands
+abbrev pub meaning_from : LabelledNodes → TextShape → PortableState → ℕ → means.Run
+meaning_from nodes shape p = means.mean_from nodes shape p.labels.addresses (state_of p.machine)

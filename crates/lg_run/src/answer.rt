@@ -3,11 +3,9 @@
 ghost use Rattle.std.specs.Prelude.{◌≡◌};
 ghost use Rattle.lg_run.specs.Statuses.{status_of_answer};
 
-use lg_base::code::CodeBytes;
+use lg_asm::Code;
 use lg_base::fault::FaultKind;
 use lg_base::refusal::Refusal;
-use lg_base::target::Target;
-use lg_node::LabelAddresses;
 
 /// What the top call comes to.
 #[derive(Clone, Copy, Debug, PartialEq, Eq)]
@@ -42,57 +40,13 @@ pub enum Answer {
     OutOfMemory,
 }
 
-/// The code of a text.
-#[derive(Drop)]
-pub struct Code {
-    target: Target,
-    bytes: CodeBytes,
-    labels: LabelAddresses,
-}
-
-impl Code {
-    // The code for RV64 that has these bytes, of a text whose labels have these addresses.
-    pub(crate) fn of_bytes(bytes: CodeBytes, labels: LabelAddresses) -> Code
-        ensures target { result.target ≡ Target.Riscv64 }
-        ensures bytes { result.bytes ≡ bytes }
-        ensures labels { result.labels ≡ labels }
-    {
-        Code {
-            target: Target::Riscv64,
-            bytes,
-            labels,
-        }
-    }
-
-    /// The processor that the code is for.
-    pub fn target(&self) -> Target
-        ensures { result ≡ self.now.target }
-    {
-        self.target
-    }
-
-    /// The bytes of the code, the first of which stands at 0x10000000.
-    pub fn bytes(&self) -> &CodeBytes
-        ensures { result.now ≡ self.now.bytes }
-    {
-        &self.bytes
-    }
-
-    /// The address of each label of the text, in the order of the labels.
-    pub fn labels(&self) -> &LabelAddresses
-        ensures { result.now ≡ self.now.labels }
-    {
-        &self.labels
-    }
-}
-
 /// The answer, the code wherever assembling succeeded, and the number of steps of the run, which is 0 where
 /// nothing ran.
 #[derive(Drop)]
 pub struct Done {
     /// What the call came to.
     pub answer: Answer,
-    /// The code of the text.
+    /// The code that ran, or over the addresses of whose labels the portable meaning ran.
     pub code: Option<Code>,
     /// How many steps the run took, of the processor or of the portable meaning.
     pub steps: u64,

@@ -2,17 +2,12 @@
 //! model of the processor, or the text's portable meaning.
 #![tactic(auto)]
 
-mod addresses;
 pub mod answer;
-mod emit;
-mod first_form;
-mod form;
 pub mod laws;
 mod lines;
 mod mean;
-mod processor;
 mod reading;
 mod run;
 mod source;
 pub mod top;
-mod words;
+mod work;

@@ -112,7 +112,9 @@ pub fn write_line<E: Sink>(
         Answer::Refused(refusal) => write_refused(file, refusal, err),
         Answer::Usage => write_parts(
             err,
-            &[b"lightning: usage: lightning [--mode mean] --target riscv64 FILE\n"],
+            &[
+                b"lightning: usage: lightning [--mode M] [--target T] [--steps N] [--code N] [FILE [ARG]...]\n",
+            ],
         ),
         Answer::ReadFault => write_parts(err, &[b"lightning: read fault\n"]),
         Answer::WriteFault => write_parts(err, &[b"lightning: write fault\n"]),

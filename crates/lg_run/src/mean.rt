@@ -1,12 +1,12 @@
 // Running the portable meaning.
 
-ghost use Rattle.std.specs.Prelude.{◌≡◌, ◌≤◌, None, length};
+ghost use Rattle.std.specs.Prelude.{◌≡◌, ◌<◌, ◌^◌, None};
 ghost use Rattle.lg_meaning.specs.Fits.{Fits};
-ghost use Rattle.lg_meaning.specs.Means.{mean_from};
 ghost use Rattle.lg_mean.specs.Machines.{state_of};
 ghost use Rattle.lg_mean.specs.Programs.{IsTableOf};
-ghost use Rattle.lg_run.specs.Means.{answer_of};
-ghost use Rattle.lg_run.specs.Says.{MeanSays, most_steps};
+ghost use Rattle.lg_run.specs.Changes.{TellsWrites, on_sink};
+ghost use Rattle.lg_run.specs.Means.{answer_of, meaning_from};
+ghost use Rattle.lg_run.specs.Runs.{MeanSays};
 
 use crate::answer::Answer;
 use crate::run::Ran;
@@ -14,9 +14,6 @@ use lg_io::sink::Sink;
 use lg_mean::portable::Portable;
 use lg_mean::run::RunEnd;
 use lg_node::{Shape, Unit};
-
-// The most steps of a run.
-const MOST_STEPS: u64 = 1_000_000_000;
 
 // The answer of a run of the portable machine.
 fn answer_of(end: RunEnd) -> Answer
@@ -32,14 +29,21 @@ fn answer_of(end: RunEnd) -> Answer
 
 /// Runs the portable meaning of a text from the state before its first step, until it ends, a step is undefined, a write fails, or the
 /// most steps were taken.
-pub fn run_meaning<O: Sink>(machine: &mut Portable, unit: &Unit, shape: &Shape, out: &mut O) -> Ran
+pub fn run_meaning<O: Sink>(
+    machine: &mut Portable,
+    unit: &Unit,
+    shape: &Shape,
+    most: u64,
+    out: &mut O,
+) -> Ran
     requires made { IsTableOf unit.now.nodes shape.now machine.old.labels }
     requires fits { Fits unit.now.nodes shape.now (state_of machine.old.machine) }
     requires running { machine.old.over ≡ None }
     requires steps { machine.old.steps ≡ 0 }
-    ensures says { MeanSays unit.now.nodes (mean_from unit.now.nodes shape.now machine.old.labels.addresses (state_of machine.old.machine)) most_steps result.steps (O.taken out.old) (O.taken out.new) (O.faults out.old) (O.faults out.new) result.answer }
+    ensures says { MeanSays unit.now.nodes (meaning_from unit.now.nodes shape.now machine.old) most result.steps (on_sink O.taken O.faults out.old out.new) result.answer }
+    ensures writes { TellsWrites result.answer (on_sink O.taken O.faults out.old out.new) }
 {
-    let end = machine.run(unit, shape, MOST_STEPS, out);
+    let end = machine.run(unit, shape, most, out);
     Ran {
         answer: answer_of(end),
         steps: machine.steps(),

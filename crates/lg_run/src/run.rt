@@ -1,15 +1,16 @@
 // Running code.
 
-ghost use Rattle.std.specs.Prelude.{◌≡◌, ◌≤◌};
-ghost use Rattle.lg_run.specs.Machines.{core_of};
-ghost use Rattle.lg_run.specs.Says.{RunSays, most_steps};
+ghost use Rattle.std.specs.Prelude.{◌≡◌, ◌<◌, ◌^◌};
+ghost use Rattle.lg_cpu.specs.Machines.{shown};
+ghost use Rattle.lg_cpu.specs.declared.answer.CpuStep.{CpuStep};
+ghost use Rattle.lg_run.specs.Changes.{TellsWrites, on_sink};
+ghost use Rattle.lg_run.specs.Cpus.{run_from};
+ghost use Rattle.lg_run.specs.Runs.{RunSays};
 
 use crate::answer::Answer;
-use crate::processor::{Cpu, CpuStep};
+use lg_cpu::answer::CpuStep;
+use lg_cpu::cpu::Cpu;
 use lg_io::sink::Sink;
-
-// The most steps of a run.
-const MOST_STEPS: u64 = 1_000_000_000;
 
 /// What a run came to, and its steps.
 #[derive(Drop)]
@@ -18,13 +19,17 @@ pub struct Ran {
     pub steps: u64,
 }
 
-/// Runs code until it ends or faults, a write fails, or the most steps were taken.
-pub fn run<O: Sink>(code: &[u8], cpu: &mut Cpu, out: &mut O) -> Ran
-    ensures says { RunSays code.now cpu.old.trash (core_of cpu.old) most_steps result.steps (O.taken out.old) (O.taken out.new) (O.faults out.old) (O.faults out.new) result.answer }
-    ensures later { O.faults out.old ≤ O.faults out.new }
+/// Runs a processor that goes on until it ends or faults, a write fails, or the most steps were taken.
+#[inline(never)]
+pub fn run<O: Sink>(cpu: &mut Cpu, most: u64, out: &mut O) -> Ran
+    requires going { (shown cpu.old).answer ≡ CpuStep.Went }
+    requires first { (shown cpu.old).steps ≡ 0 }
+    requires most { most < 2 ^ 64 - 1 }
+    ensures says { RunSays (run_from (shown cpu.old)) most result.steps (on_sink O.taken O.faults out.old out.new) result.answer }
+    ensures writes { TellsWrites result.answer (on_sink O.taken O.faults out.old out.new) }
 {
-    for steps in 0..MOST_STEPS {
-        match cpu.step(code, out) {
+    for steps in 0..most {
+        match cpu.step(out) {
             CpuStep::Went => {}
             CpuStep::Ended(status) => {
                 return Ran {
@@ -49,6 +54,6 @@ pub fn run<O: Sink>(code: &[u8], cpu: &mut Cpu, out: &mut O) -> Ran
     }
     Ran {
         answer: Answer::StepsOut,
-        steps: MOST_STEPS,
+        steps: most,
     }
 }

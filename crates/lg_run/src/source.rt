@@ -2,9 +2,8 @@
 
 ghost use Rattle.std.specs.Prelude.{◌≡◌, ◌≤◌, ◌<◌, length, IfOk, IfSome, Err};
 ghost use Rattle.std.specs.Io.KnownBytes.{Consumes, IsAtEnd};
-ghost use Rattle.lg_io.specs.Counts.{Rose};
-ghost use Rattle.lg_run.specs.Refused.{most_text};
-ghost use Rattle.lg_run.specs.Says.{text_of};
+ghost use Rattle.lg_run.specs.Reads.{IsLongText, ReadTells};
+ghost use Rattle.lg_run.specs.Refused.{IsTextUnder, most_text};
 
 use lg_base::refusal::OutOfMemory;
 use lg_io::texts::Texts;
@@ -40,8 +39,7 @@ fn read_rest<T: Texts>(alloc: Global, piece: &mut [u8], texts: &mut T) -> Result
     ensures bytes { IfOk result (λ v. Consumes (T.left texts.old) (T.left texts.new) v.items × IsAtEnd (T.left texts.new)) }
     ensures small { IfOk result (λ v. length v.items ≤ most_text) }
     ensures long { result ≡ Err ReadStop.TooLong → IfSome (T.left texts.old) (λ left. most_text < length left) }
-    ensures later { T.faults texts.old ≤ T.faults texts.new }
-    ensures fault { result ≡ Err ReadStop.ReadFault → Rose (T.faults texts.old) (T.faults texts.new) }
+    ensures faults { ReadTells (T.faults texts.old) (T.faults texts.new) result }
 {
     let mut text = Vec::new(alloc);
     while text.len() <= MOST_TEXT {
@@ -59,13 +57,12 @@ fn read_rest<T: Texts>(alloc: Global, piece: &mut [u8], texts: &mut T) -> Result
     Err(ReadStop::TooLong)
 }
 
-/// The whole text of a name.
+/// The whole text of a name. A read fault comes exactly where a call of the source failed; no other call is made behind it.
 pub fn read_text<T: Texts>(alloc: Global, name: &str, texts: &mut T) -> Result<Vec<u8>, ReadStop>
-    ensures text { IfOk result (λ v. IfSome (text_of (T.held texts.old) name.now) (λ t. v.items ≡ t)) }
+    ensures text { IfOk result (λ v. IsTextUnder (T.held texts.old) name.now v.items) }
     ensures small { IfOk result (λ v. length v.items ≤ most_text) }
-    ensures long { result ≡ Err ReadStop.TooLong → IfSome (text_of (T.held texts.old) name.now) (λ t. most_text < length t) }
-    ensures later { T.faults texts.old ≤ T.faults texts.new }
-    ensures fault { result ≡ Err ReadStop.ReadFault → Rose (T.faults texts.old) (T.faults texts.new) }
+    ensures long { result ≡ Err ReadStop.TooLong → IsLongText (T.held texts.old) name.now }
+    ensures faults { ReadTells (T.faults texts.old) (T.faults texts.new) result }
 {
     let mut piece = match piece(alloc) {
         Ok(piece) => piece,

@@ -1,6 +1,0 @@
-use Rattle.std.proofs.Common.{refl}
-use Rattle.lg_run.proofs.ProcessorLemmas.{trash_is}
-use Rattle.lg_run.proofs.processor.trash_registers.Goals as goal
-
-pub returns-clause-registers : goal.returns-clause-registers
-returns-clause-registers c = trash_is _ c.args.trash refl refl

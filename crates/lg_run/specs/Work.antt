@@ -1,0 +1,37 @@
+-- What the parts of the call say.
+use Rattle.std.specs.Prelude.{◌≡◌, List, ℕ, Option, Some}
+use Rattle.lg_asm.specs.Agreement.{Assembled}
+use Rattle.lg_command.specs.Commands.{Command}
+use Rattle.lg_command.specs.declared.command.Mode.{Mode}
+use Rattle.lg_io.specs.NamedTexts.{NamedTexts}
+use Rattle.lg_node.specs.declared.unit.Unit.{Unit as TextUnit}
+use Rattle.lg_run.specs.Changes.{TextsChange, SinkChange, TellsReads}
+use Rattle.lg_run.specs.Refused.{IsTextUnder, IsUnitOf}
+use Rattle.lg_run.specs.Says.{AnswerSays, IsStill, ModeSays}
+use Rattle.lg_run.specs.declared.answer.Answer.{Answer}
+use Rattle.lg_run.specs.declared.answer.Answer.TheVariants.{OutOfMemory}
+use Rattle.lg_run.specs.declared.answer.Done.{Done}
+use Rattle.lg_run.specs.declared.run.Ran.{Ran}
+
+-- memory was wanted before the first step, or code, or its meaning, ran so
+abbrev pub StartSays : Mode → Command → Assembled → TextUnit → SinkChange → (steps : ℕ) → Answer → Type 0
+StartSays m c code unit out steps OutOfMemory = IsStill steps out
+StartSays m c code unit out steps answer = ModeSays m c code unit steps out answer
+
+abbrev pub RanSays : Mode → Command → Assembled → TextUnit → SinkChange → Ran → Type 0
+RanSays m c code unit out ran = StartSays m c code unit out ran.steps ran.answer
+
+abbrev pub DoneSays : Command → Option NamedTexts → SinkChange → Done → Type 0
+DoneSays c held out done = AnswerSays c held done.code done.steps out done.answer
+
+-- this was done with a text
+abbrev pub TextDone : Command → List ℕ → SinkChange → Done → Type 0
+TextDone c text out done = (held : Option NamedTexts) → IsTextUnder held c.file text → DoneSays c held out done
+
+-- and with any that has this unit
+abbrev pub UnitDone : Command → TextUnit → SinkChange → Done → Type 0
+UnitDone c unit out done = (text : List ℕ) → IsUnitOf text unit → TextDone c text out done
+
+-- no fault of texts is told
+abbrev pub TellsNoRead : Answer → Type 0
+TellsNoRead answer = (t : TextsChange) → t.faults' ≡ t.faults → TellsReads answer t

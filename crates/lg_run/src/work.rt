@@ -1,0 +1,266 @@
+// What is done with the text that a command names.
+
+ghost use Rattle.std.specs.Prelude.{◌≡◌, ◌≤◌, Ok, Err, length, IfOk, None};
+ghost use Rattle.lg_base.specs.Arguments.{args_of, most_args, texts_of};
+ghost use Rattle.lg_base.specs.declared.refusal.Refusal.{Refusal};
+ghost use Rattle.lg_base.specs.declared.refusal.Stop.{Stop};
+ghost use Rattle.lg_carry.specs.Agreement.{Agrees};
+ghost use Rattle.lg_command.specs.Commands.{IsInRange, shown};
+ghost use Rattle.lg_command.specs.declared.command.Mode.TheVariants as modes;
+ghost use Rattle.lg_cpu.specs.Laws.{AreBytes};
+ghost use Rattle.lg_node.specs.Shapes.{IsChecked};
+ghost use Rattle.lg_tst.specs.Answers.{IsWhole};
+ghost use Rattle.lg_run.specs.Changes.{TellsWrites, on_sink, on_texts};
+ghost use Rattle.lg_run.specs.Refused.{IsBuilt, IsRefusedCode, most_text};
+ghost use Rattle.lg_run.specs.Says.{WorkSays};
+ghost use Rattle.lg_run.specs.Work.{RanSays, TellsNoRead, TextDone, UnitDone};
+
+use crate::answer::{Answer, Done};
+use crate::mean::run_meaning;
+use crate::reading::{Accepted, read_unit};
+use crate::run::{Ran, run};
+use crate::source::{ReadStop, read_text};
+use lg_asm::{Code, assemble};
+use lg_base::args::args_image;
+use lg_base::image::ArgImage;
+use lg_base::refusal::{Refusal, RefusalKind, Stop};
+use lg_base::target::Target;
+use lg_command::{Command, Mode};
+use lg_cpu::cpu::Cpu;
+use lg_io::sink::Sink;
+use lg_io::texts::Texts;
+use lg_mean::portable::Portable;
+use std::alloc::Global;
+
+// What registers hold at first, and behind a call of a host function.
+const TRASH: u64 = 0x5A5A_5A5A_5A5A_5A5A;
+
+/// An answer with no code, and nothing run.
+pub fn without_code(answer: Answer) -> Done
+    ensures { (result.answer ≡ answer) × (result.code ≡ None) × (result.steps ≡ 0) }
+{
+    Done {
+        answer,
+        code: None,
+        steps: 0,
+    }
+}
+
+// Nothing ran, since memory was wanted.
+fn not_run() -> Ran
+    ensures { (result.answer ≡ Answer.OutOfMemory) × (result.steps ≡ 0) }
+{
+    Ran {
+        answer: Answer::OutOfMemory,
+        steps: 0,
+    }
+}
+
+// The answer of what stops a call before it runs.
+fn stopped(stop: Stop) -> Answer
+    ensures refused { (r : Refusal) → stop ≡ Stop.Refused r → result ≡ Answer.Refused r }
+    ensures memory { stop ≡ Stop.OutOfMemory → result ≡ Answer.OutOfMemory }
+{
+    match stop {
+        Stop::Refused(refusal) => Answer::Refused(refusal),
+        Stop::OutOfMemory => Answer::OutOfMemory,
+    }
+}
+
+// A refusal at no line.
+fn refusal(kind: RefusalKind) -> Refusal
+    ensures { result ≡ record { kind = kind; line = 0 } }
+{
+    Refusal { kind, line: 0 }
+}
+
+// The code of an accepted text. A text for a target that is not built is refused.
+fn code_of(alloc: Global, command: &Command<'_>, text: &Accepted) -> Result<Code, Stop>
+    requires range { IsInRange command.now }
+    requires whole { IsWhole text.now.unit }
+    requires checked { IsChecked text.now.unit.nodes (Ok text.now.shape) }
+    ensures built { IfOk result (λ c. IsBuilt command.now.target) }
+    ensures target { IfOk result (λ c. c.target ≡ command.now.target) }
+    ensures nodes { IfOk result (λ c. c.nodes ≡ text.now.unit.nodes) }
+    ensures size { IfOk result (λ c. length c.bytes ≤ command.now.size) }
+    ensures agrees { IfOk result (λ c. Agrees c.bytes c.labels text.now.unit command.now.target) }
+    ensures refused { (r : Refusal) → result ≡ Err (Stop.Refused r) → IsRefusedCode command.now.target (length text.now.unit.nodes.nodes) command.now.size r }
+{
+    match command.target {
+        Target::Riscv64 => assemble(
+            alloc,
+            &text.unit,
+            &text.shape,
+            Target::Riscv64,
+            command.size,
+        ),
+        Target::X86_64 => Err(Stop::Refused(refusal(RefusalKind::NotYet))),
+        Target::Aarch64 => Err(Stop::Refused(refusal(RefusalKind::NotYet))),
+    }
+}
+
+// Runs code.
+fn run_code<O: Sink>(
+    alloc: Global,
+    command: &Command<'_>,
+    args: &ArgImage,
+    text: &Accepted,
+    code: &Code,
+    out: &mut O,
+) -> Ran
+    requires range { IsInRange command.now }
+    requires args { args.now ≡ args_of (texts_of command.now.arguments.items) }
+    requires args_size { length args.now ≤ most_args }
+    requires whole { IsWhole text.now.unit }
+    requires built { IsBuilt command.now.target }
+    requires target { code.now.target ≡ command.now.target }
+    requires size { length code.now.bytes ≤ command.now.size }
+    ensures says { RanSays modes.Run (shown command.now) code.now text.now.unit (on_sink O.taken O.faults out.old out.new) result }
+    ensures writes { TellsWrites result.answer (on_sink O.taken O.faults out.old out.new) }
+{
+    match Cpu::new(
+        alloc,
+        code.target(),
+        code.bytes(),
+        &text.unit.image,
+        args,
+        TRASH,
+    ) {
+        Ok(mut cpu) => run(&mut cpu, command.steps, out),
+        Err(_) => not_run(),
+    }
+}
+
+// Runs the portable meaning over the addresses of the code's labels.
+fn run_mean<O: Sink>(
+    alloc: Global,
+    command: &Command<'_>,
+    args: &ArgImage,
+    text: &Accepted,
+    code: &Code,
+    out: &mut O,
+) -> Ran
+    requires range { IsInRange command.now }
+    requires args { args.now ≡ args_of (texts_of command.now.arguments.items) }
+    requires args_size { length args.now ≤ most_args }
+    requires whole { IsWhole text.now.unit }
+    requires checked { IsChecked text.now.unit.nodes (Ok text.now.shape) }
+    requires agrees { Agrees code.now.bytes code.now.labels text.now.unit command.now.target }
+    ensures says { RanSays modes.Mean (shown command.now) code.now text.now.unit (on_sink O.taken O.faults out.old out.new) result }
+    ensures writes { TellsWrites result.answer (on_sink O.taken O.faults out.old out.new) }
+{
+    let _ = text.unit.nodes.labels();
+    match Portable::new(alloc, &text.unit, &text.shape, code.labels(), args) {
+        Ok(mut machine) => run_meaning(&mut machine, &text.unit, &text.shape, command.steps, out),
+        Err(_) => not_run(),
+    }
+}
+
+// Runs code, or in the mode `mean` its meaning.
+fn run_mode<O: Sink>(
+    alloc: Global,
+    command: &Command<'_>,
+    args: &ArgImage,
+    text: &Accepted,
+    code: &Code,
+    out: &mut O,
+) -> Ran
+    requires range { IsInRange command.now }
+    requires args { args.now ≡ args_of (texts_of command.now.arguments.items) }
+    requires args_size { length args.now ≤ most_args }
+    requires whole { IsWhole text.now.unit }
+    requires checked { IsChecked text.now.unit.nodes (Ok text.now.shape) }
+    requires built { IsBuilt command.now.target }
+    requires target { code.now.target ≡ command.now.target }
+    requires size { length code.now.bytes ≤ command.now.size }
+    requires agrees { Agrees code.now.bytes code.now.labels text.now.unit command.now.target }
+    ensures says { RanSays command.now.mode (shown command.now) code.now text.now.unit (on_sink O.taken O.faults out.old out.new) result }
+    ensures writes { TellsWrites result.answer (on_sink O.taken O.faults out.old out.new) }
+{
+    match command.mode {
+        Mode::Run => run_code(alloc, command, args, text, code, out),
+        Mode::Mean => run_mean(alloc, command, args, text, code, out),
+    }
+}
+
+// The bytes of an argument part are bytes.
+fn see_bytes(bytes: &[u8])
+    ensures { AreBytes bytes.now }
+{
+    let _count = bytes.len();
+}
+
+// Makes code of an accepted text, and does what is asked for.
+fn do_unit<O: Sink>(
+    alloc: Global,
+    command: &Command<'_>,
+    args: &ArgImage,
+    text: &Accepted,
+    out: &mut O,
+) -> Done
+    requires range { IsInRange command.now }
+    requires args { args.now ≡ args_of (texts_of command.now.arguments.items) }
+    requires args_size { length args.now ≤ most_args }
+    requires whole { IsWhole text.now.unit }
+    requires checked { IsChecked text.now.unit.nodes (Ok text.now.shape) }
+    ensures says { UnitDone (shown command.now) text.now.unit (on_sink O.taken O.faults out.old out.new) result }
+    ensures writes { TellsWrites result.answer (on_sink O.taken O.faults out.old out.new) }
+    ensures reads { TellsNoRead result.answer }
+{
+    see_bytes(args.as_slice());
+    match code_of(alloc, command, text) {
+        Ok(code) => {
+            let ran = run_mode(alloc, command, args, text, &code, out);
+            Done {
+                answer: ran.answer,
+                code: Some(code),
+                steps: ran.steps,
+            }
+        }
+        Err(stop) => without_code(stopped(stop)),
+    }
+}
+
+// Reads the unit of a text, and does what is asked for.
+fn do_text<O: Sink>(
+    alloc: Global,
+    command: &Command<'_>,
+    args: &ArgImage,
+    text: &[u8],
+    out: &mut O,
+) -> Done
+    requires range { IsInRange command.now }
+    requires args { args.now ≡ args_of (texts_of command.now.arguments.items) }
+    requires args_size { length args.now ≤ most_args }
+    requires short { length text.now ≤ most_text }
+    ensures says { TextDone (shown command.now) text.now (on_sink O.taken O.faults out.old out.new) result }
+    ensures writes { TellsWrites result.answer (on_sink O.taken O.faults out.old out.new) }
+    ensures reads { TellsNoRead result.answer }
+{
+    match read_unit(alloc, text) {
+        Ok(text) => do_unit(alloc, command, args, &text, out),
+        Err(stop) => without_code(stopped(stop)),
+    }
+}
+
+/// Reads the text of a command's file, and does what is asked for. Words of arguments that are too long are refused first.
+pub fn work<T: Texts, O: Sink>(
+    alloc: Global,
+    command: &Command<'_>,
+    texts: &mut T,
+    out: &mut O,
+) -> Done
+    requires { IsInRange command.now }
+    ensures { let out_change = on_sink O.taken O.faults out.old out.new in WorkSays (shown command.now) (on_texts T.held T.faults texts.old texts.new) out_change result.code result.steps result.answer }
+{
+    let args = match args_image(alloc, &command.arguments) {
+        Ok(args) => args,
+        Err(stop) => return without_code(stopped(stop)),
+    };
+    match read_text(alloc, command.file, texts) {
+        Ok(text) => do_text(alloc, command, &args, &text, out),
+        Err(ReadStop::ReadFault) => without_code(Answer::ReadFault),
+        Err(ReadStop::TooLong) => without_code(Answer::Refused(refusal(RefusalKind::TextTooLong))),
+        Err(ReadStop::OutOfMemory) => without_code(Answer::OutOfMemory),
+    }
+}
