@@ -1,3 +1,10 @@
-pub mod OverLemmas
-pub mod RunLemmas
+pub mod AgreementLemmas
+pub mod CauseLemmas
+pub mod CompleteLemmas
 pub mod MeanLemmas
+pub mod OverLemmas
+pub mod ReadLemmas
+pub mod RefusedLemmas
+pub mod RunLemmas
+pub mod SameLemmas
+pub mod WorkLemmas

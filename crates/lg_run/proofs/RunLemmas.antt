@@ -7,7 +7,7 @@ use Rattle.lg_base.specs.declared.fault.FaultKind.{FaultKind}
 use Rattle.lg_temp.proofs.Steps.{iter-zero, iter-suc}
 use Rattle.lg_cpu.specs.Answers.{answer_of, progress_of}
 use Rattle.lg_cpu.specs.Machines.{CpuSays, SaysAfter, Shown, StepShows, after_step, run_of}
-use Rattle.lg_cpu.specs.RvStep.{effect}
+use Rattle.lg_cpu.specs.Targets.{effect_of}
 use Rattle.lg_cpu.specs.States.{CpuState}
 use Rattle.lg_cpu.specs.Steps.{Effect, Progress, Goes, EndedWith, Faulted, Run, after, machine, on_going, status_of, stepped}
 use Rattle.lg_cpu.specs.declared.answer.CpuStep.{CpuStep}
@@ -21,7 +21,7 @@ use Rattle.lg_run.proofs.OverLemmas as over
 
 -- what the step of a processor does
 abbrev pub effect_at : Shown → Effect CpuState
-effect_at s = effect s.code s.trash s.state
+effect_at s = effect_of s.target s.code s.trash s.state
 
 pub back : (p : Progress) → progress_of (answer_of p) ≡ p
 back Goes = refl
@@ -41,19 +41,20 @@ goes (Faulted kind) e = absurd (over.bad_running e)
 -- where a processor stands after n steps of the run from another, with these bytes written
 pub record IsAt (start here : Shown) (n : ℕ) (out : List ℕ) : Type 0 where
   pub stands : run_of here out ≡ run_from start n
+  pub target : here.target ≡ start.target
   pub code : here.code ≡ start.code
   pub trash : here.trash ≡ start.trash
 
 pub at_start : (start : Shown) → IsAt start start 0 []
-at_start start = record { stands = sym (iter-zero (stepped (effect start.code start.trash)) (run_of start [])); code = refl; trash = refl }
+at_start start = record { stands = sym (iter-zero (stepped (effect_of start.target start.code start.trash)) (run_of start [])); target = refl; code = refl; trash = refl }
 
 -- the next step of the run is the one that the processor takes
 pub next : (start here : Shown) (n : ℕ) (out : List ℕ) → IsAt start here n out → here.answer ≡ cpu.Went
     → run_from start (n + 1) ≡ record { state = (effect_at here).to; progress = (effect_at here).progress; out = out ++ (effect_at here).written }
 next start here n out at going =
-    let f = effect start.code start.trash in
+    let f = effect_of start.target start.code start.trash in
     let one : n + 1 ≡ suc n = omega arith in
-    let same : f here.state ≡ effect_at here = ap₂ (λ code trash. effect code trash here.state) (sym at.code) (sym at.trash) in
+    let same : f here.state ≡ effect_at here = ap (λ t. effect_of t start.code start.trash here.state) (sym at.target) ∙ ap₂ (λ code trash. effect_of here.target code trash here.state) (sym at.code) (sym at.trash) in
     ap (run_from start) one ∙ iter-suc (stepped f) n (run_of start []) ∙ ap (stepped f) (sym at.stands)
     ∙ ap (λ a. on_going (progress_of a) (after (run_of here out) (f here.state)) (run_of here out)) going
     ∙ ap (after (run_of here out)) same
@@ -65,6 +66,7 @@ then_at start here new n out at going is =
     record {
       stands = ap (λ s. run_of s (out ++ e.written)) is
           ∙ ap (λ p. record { state = e.to; progress = p; out = out ++ e.written }) (back e.progress) ∙ sym (next start here n out at going);
+      target = ap (λ s. s.target) is ∙ at.target;
       code = ap (λ s. s.code) is ∙ at.code;
       trash = ap (λ s. s.trash) is ∙ at.trash;
     }
@@ -72,7 +74,7 @@ then_at start here new n out at going is =
 -- a run that goes on has gone on
 pub has_run : (start : Shown) (n k : ℕ) → n ≤ k → HasRun (run_from start) k → HasRun (run_from start) n
 has_run start n k le here =
-    let f = effect start.code start.trash in
+    let f = effect_of start.target start.code start.trash in
     goes (run_from start n).progress (over.going_before (machine f) (machine_is f) (run_of start []) n k le (ap status_of here))
 
 -- ---- what a step says of a run that has come so far

@@ -1,7 +1,7 @@
 -- What the top call says.
 use Rattle.std.specs.Prelude.{◌≡◌, ◌⊎◌, ℕ, ◌≤◌, List, [], length, Option, Some, None, IfSome}
 use Rattle.lg_base.specs.Arguments.{args_of}
-use Rattle.lg_asm.specs.Agreement.{Assembled}
+use Rattle.lg_asm.specs.Assembled.{Assembled}
 use Rattle.lg_carry.specs.Agreement.{Agrees, shape_of_unit}
 use Rattle.lg_command.specs.Commands.{Command, IsCommand, AreNoCommand}
 use Rattle.lg_command.specs.declared.command.Mode.{Mode}

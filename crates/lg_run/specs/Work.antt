@@ -1,6 +1,6 @@
 -- What the parts of the call say.
 use Rattle.std.specs.Prelude.{◌≡◌, List, ℕ, Option, Some}
-use Rattle.lg_asm.specs.Agreement.{Assembled}
+use Rattle.lg_asm.specs.Assembled.{Assembled}
 use Rattle.lg_command.specs.Commands.{Command}
 use Rattle.lg_command.specs.declared.command.Mode.{Mode}
 use Rattle.lg_io.specs.NamedTexts.{NamedTexts}

@@ -1,6 +1,6 @@
 // Running code.
 
-ghost use Rattle.std.specs.Prelude.{◌≡◌, ◌<◌, ◌^◌};
+ghost use Rattle.std.specs.Prelude.{◌≡◌, ◌<◌, ◌-◌, ◌^◌};
 ghost use Rattle.lg_cpu.specs.Machines.{shown};
 ghost use Rattle.lg_cpu.specs.declared.answer.CpuStep.{CpuStep};
 ghost use Rattle.lg_run.specs.Changes.{TellsWrites, on_sink};

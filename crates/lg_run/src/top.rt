@@ -1,6 +1,7 @@
 // The top call.
 
 ghost use Rattle.lg_base.specs.Arguments.{texts_of};
+ghost use Rattle.lg_run.specs.Causes.{Causes};
 ghost use Rattle.lg_run.specs.Changes.{on_sink, on_texts};
 ghost use Rattle.lg_run.specs.Says.{ReportSays, Says};
 
@@ -22,18 +23,15 @@ pub fn report<E: Sink>(file: &str, answer: Answer, steps: u64, err: &mut E) -> A
     }
 }
 
-/// Reads the words of the command, and the text of its file; makes code of the text's unit for the command's target, and runs the code on a
-/// model of the processor, or, with `--mode mean`, the unit's portable meaning over the addresses of the code's labels, for at most
-/// so many steps as the command says. What the run writes goes to `out`, and the line of every answer but a run's end to `err`. All
-/// memory is taken before the first step.
-pub fn lightning<T: Texts, O: Sink, E: Sink>(
+// The top call, with what its answer says.
+fn answer<T: Texts, O: Sink, E: Sink>(
     alloc: Global,
     words: &Vec<String>,
     texts: &mut T,
     out: &mut O,
     err: &mut E,
 ) -> Done
-    ensures says { let texts_change = on_texts T.held T.faults texts.old texts.new in
+    ensures { let texts_change = on_texts T.held T.faults texts.old texts.new in
         let out_change = on_sink O.taken O.faults out.old out.new in
         let err_change = on_sink E.taken E.faults err.old err.new in
         Says (texts_of words.now.items) texts_change out_change err_change result }
@@ -51,4 +49,27 @@ pub fn lightning<T: Texts, O: Sink, E: Sink>(
         Err(WordsStop::Usage) => without_code(report("", Answer::Usage, 0, err)),
         Err(WordsStop::OutOfMemory) => without_code(report("", Answer::OutOfMemory, 0, err)),
     }
+}
+
+/// Reads the words of the command, and the text of its file; makes code of the text's unit for the command's target, and runs the code on a
+/// model of the processor, or, with `--mode mean`, the unit's portable meaning over the addresses of the code's labels, for at most
+/// so many steps as the command says. What the run writes goes to `out`, and the line of every answer but a run's end to `err`. All
+/// memory is taken before the first step.
+pub fn lightning<T: Texts, O: Sink, E: Sink>(
+    alloc: Global,
+    words: &Vec<String>,
+    texts: &mut T,
+    out: &mut O,
+    err: &mut E,
+) -> Done
+    ensures says { let texts_change = on_texts T.held T.faults texts.old texts.new in
+        let out_change = on_sink O.taken O.faults out.old out.new in
+        let err_change = on_sink E.taken E.faults err.old err.new in
+        Says (texts_of words.now.items) texts_change out_change err_change result }
+    ensures causes { let texts_change = on_texts T.held T.faults texts.old texts.new in
+        let out_change = on_sink O.taken O.faults out.old out.new in
+        let err_change = on_sink E.taken E.faults err.old err.new in
+        Causes (texts_of words.now.items) texts_change out_change err_change result }
+{
+    answer(alloc, words, texts, out, err)
 }

@@ -2,7 +2,11 @@
 #![tactic(auto)]
 
 #[cfg(test)]
-mod first_path;
+mod calls;
 #[cfg(test)]
 mod refusals;
+#[cfg(test)]
+mod row;
+#[cfg(test)]
+mod rows;
 pub mod texts;

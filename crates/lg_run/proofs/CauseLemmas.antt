@@ -1,0 +1,165 @@
+-- The causes of answers, from what a call says.
+use Rattle.std.proofs.Common.{◌≡◌, ◌≢◌, ℕ, ◌+◌, ◌<◌, ◌≤◌, inl, inr, List, Option, Some, None, refl, sym, ap, ◌∙◌, subst, arith}
+use Rattle.std.specs.Prelude.{◌⊎◌}
+use Rattle.lg_asm.specs.Assembled.{Assembled}
+use Rattle.lg_base.specs.declared.fault.FaultKind.{FaultKind}
+use Rattle.lg_base.specs.declared.refusal.Refusal.{Refusal}
+use Rattle.lg_command.specs.Commands.{AreNoCommand, Command, HasFault, IsCommand}
+use Rattle.lg_command.specs.declared.command.Mode.{Mode}
+use Rattle.lg_command.specs.declared.command.Mode.TheVariants as mode
+use Rattle.lg_io.specs.Counts.{Rose}
+use Rattle.lg_io.specs.NamedTexts.{NamedTexts}
+use Rattle.lg_run.specs.Causes.{Causes, FaultCause, HasCode, StepsOutCause, UndefinedCause}
+use Rattle.lg_run.specs.Changes.{SinkChange, TextsChange, TellsReads, TellsWrites}
+use Rattle.lg_run.specs.Refused.{IsRefusedCall}
+use Rattle.lg_run.specs.Runs.{HasRun, HasMeant}
+use Rattle.lg_run.specs.Says.{AskedSays, IsCodeOf, IsStill, IsUntouched, ModeSays, NoCommandSays, Ran, ReportSays, Says, code_meaning, code_run, file_in}
+use Rattle.lg_run.specs.declared.answer.Answer.{Answer}
+use Rattle.lg_run.specs.declared.answer.Answer.TheVariants.{Ended, Listed, Undefined, Refused, Usage, ReadFault, WriteFault, StepsOut, Fault, OutOfMemory}
+use Rattle.lg_run.specs.declared.answer.Done.{Done}
+use Rattle.lg_run.proofs.AgreementLemmas.{lasts, undefined_at}
+
+-- ---- counts
+read_inner : (a : Answer) (t : TextsChange) → TellsReads a t → t.faults < t.faults' → a ≡ ReadFault
+read_inner ReadFault t h lt = refl
+read_inner (Ended s) t h lt = absurd (omega (arith, h, lt))
+read_inner Listed t h lt = absurd (omega (arith, h, lt))
+read_inner (Undefined line) t h lt = absurd (omega (arith, h, lt))
+read_inner (Refused r) t h lt = absurd (omega (arith, h, lt))
+read_inner Usage t h lt = absurd (omega (arith, h, lt))
+read_inner WriteFault t h lt = absurd (omega (arith, h, lt))
+read_inner StepsOut t h lt = absurd (omega (arith, h, lt))
+read_inner (Fault kind pc) t h lt = absurd (omega (arith, h, lt))
+read_inner OutOfMemory t h lt = absurd (omega (arith, h, lt))
+
+write_inner : (a : Answer) (s : SinkChange) → TellsWrites a s → s.faults < s.faults' → a ≡ WriteFault
+write_inner WriteFault s h lt = refl
+write_inner (Ended x) s h lt = absurd (omega (arith, h, lt))
+write_inner Listed s h lt = absurd (omega (arith, h, lt))
+write_inner (Undefined line) s h lt = absurd (omega (arith, h, lt))
+write_inner (Refused r) s h lt = absurd (omega (arith, h, lt))
+write_inner Usage s h lt = absurd (omega (arith, h, lt))
+write_inner ReadFault s h lt = absurd (omega (arith, h, lt))
+write_inner StepsOut s h lt = absurd (omega (arith, h, lt))
+write_inner (Fault kind pc) s h lt = absurd (omega (arith, h, lt))
+write_inner OutOfMemory s h lt = absurd (omega (arith, h, lt))
+
+-- ---- the inner answer
+module _ (words : List (List ℕ)) (texts : TextsChange) (out : SinkChange) (code : Option Assembled) (steps : ℕ) where
+  reads_of : (asked : Option Command) (a : Answer) → AskedSays words asked texts out code steps a → TellsReads a texts
+  reads_of None a h = h.2.reads
+  reads_of (Some c) a h = h.1.faults.reads
+
+  writes_of : (asked : Option Command) (a : Answer) → AskedSays words asked texts out code steps a → TellsWrites a out
+  writes_of None a h = h.2.writes
+  writes_of (Some c) a h = h.1.faults.writes
+
+  usage_of : (asked : Option Command) → AskedSays words asked texts out code steps Usage → AreNoCommand words × IsUntouched code steps out
+  usage_of None h = (h.1, h.0)
+  usage_of (Some c) h = absurd h.1.says
+
+  refused_of : (asked : Option Command) (r : Refusal) → AskedSays words asked texts out code steps (Refused r) → ((c : Command) × IsCommand words c × IsRefusedCall c texts.held r) × IsUntouched code steps out
+  refused_of None r h = absurd h.1
+  refused_of (Some c) r h = ((c, h.0, h.1.says.1), h.1.says.0)
+
+  read_of : (asked : Option Command) → AskedSays words asked texts out code steps ReadFault → IsUntouched code steps out
+  read_of None h = absurd h.1
+  read_of (Some c) h = h.1.says
+
+  memory_of : (asked : Option Command) → AskedSays words asked texts out code steps OutOfMemory → IsStill steps out
+  memory_of None h = h.0.still
+  memory_of (Some c) h = h.1.says.0
+
+  -- no command was read where a fault is in the words
+  none_of : (asked : Option Command) (a : Answer) → HasFault words → AskedSays words asked texts out code steps a → (code ≡ None) × ((a ≡ Usage) ⊎ (a ≡ OutOfMemory))
+  none_of (Some c) a fault h = let read = h.0.read in absurd (fault read.app read.is read.faultless)
+  none_of None a fault h = (h.0.none, at a h.1)
+    where
+      at : (b : Answer) → NoCommandSays words b → (b ≡ Usage) ⊎ (b ≡ OutOfMemory)
+      at Usage k = inl refl
+      at OutOfMemory k = inr refl
+      at (Ended s) k = absurd k
+      at Listed k = absurd k
+      at (Undefined line) k = absurd k
+      at (Refused r) k = absurd k
+      at ReadFault k = absurd k
+      at WriteFault k = absurd k
+      at StepsOut k = absurd k
+      at (Fault kind pc) k = absurd k
+
+  -- the rows on runs
+  steps_cause : (c : Command) (m : Mode) (ran : Assembled) (made : IsCodeOf c texts.held ran) → ModeSays m c ran made.unit steps out StepsOut → StepsOutCause m c ran made.unit
+  steps_cause c mode.Run ran made says =
+      let going = subst (HasRun (code_run c ran made.unit)) says.0 says.1 in (going, lasts c texts.held ran made c.steps going)
+  steps_cause c mode.Mean ran made says = subst (HasMeant (code_meaning c ran made.unit)) says.0 says.1
+
+  fault_cause : (c : Command) (m : Mode) (ran : Assembled) (made : IsCodeOf c texts.held ran) (kind : FaultKind) (pc : ℕ) → c.mode ≡ m → ModeSays m c ran made.unit steps out (Fault kind pc) → FaultCause steps c ran made.unit
+  fault_cause c mode.Run ran made kind pc is says = (is, undefined_at c texts.held ran made steps kind says.2)
+  fault_cause c mode.Mean ran made kind pc is says = absurd says
+
+  undefined_cause : (c : Command) (m : Mode) (ran : Assembled) (made : IsCodeOf c texts.held ran) (line : ℕ) → c.mode ≡ m → ModeSays m c ran made.unit steps out (Undefined line) → UndefinedCause steps line c ran made.unit
+  undefined_cause c mode.Run ran made line is says = absurd says
+  undefined_cause c mode.Mean ran made line is says = (is, says.0, says.1, says.2, says.3)
+
+  steps_out_of : (asked : Option Command) → AskedSays words asked texts out code steps StepsOut → HasCode words texts.held code (λ c ran unit. StepsOutCause c.mode c ran unit)
+  steps_out_of None h = absurd h.1
+  steps_out_of (Some c) h = let r = h.1.says in record { command = c; asked = h.0; ran = r.ran; is = r.is; made = r.made; here = steps_cause c c.mode r.ran r.made r.says }
+
+  fault_of : (asked : Option Command) (kind : FaultKind) (pc : ℕ) → AskedSays words asked texts out code steps (Fault kind pc) → HasCode words texts.held code (FaultCause steps)
+  fault_of None kind pc h = absurd h.1
+  fault_of (Some c) kind pc h = let r = h.1.says in record { command = c; asked = h.0; ran = r.ran; is = r.is; made = r.made; here = fault_cause c c.mode r.ran r.made kind pc refl r.says }
+
+  undefined_of : (asked : Option Command) (line : ℕ) → AskedSays words asked texts out code steps (Undefined line) → HasCode words texts.held code (UndefinedCause steps line)
+  undefined_of None line h = absurd h.1
+  undefined_of (Some c) line h = let r = h.1.says in record { command = c; asked = h.0; ran = r.ran; is = r.is; made = r.made; here = undefined_cause c c.mode r.ran r.made line refl r.says }
+
+-- ---- the answer
+-- an answer other than a write fault is the inner one
+inner_is : (file : List ℕ) (steps : ℕ) (err : SinkChange) (inner outer a : Answer) → ReportSays file steps err inner outer → outer ≡ a → (WriteFault ≡ a → ⊥) → inner ≡ a
+inner_is file steps err inner outer a report is other = elim report [
+  | inl h ↦ sym h.0 ∙ is
+  | inr h ↦ absurd (other (sym h.0 ∙ is))
+]
+
+pub causes : (words : List (List ℕ)) (texts : TextsChange) (out err : SinkChange) (done : Done) → Says words texts out err done → Causes words texts out err done
+causes words texts out err done s = record {
+  usage = λ e. (usage_of words texts out done.code done.steps s.asked (here Usage e (λ h. cc))).0;
+  no_command = λ fault. let n = none_of words texts out done.code done.steps s.asked s.inner fault s.says in (
+    n.0,
+    elim s.report [
+      | inl h ↦ elim n.1 [
+        | inl u ↦ inl (h.0 ∙ u)
+        | inr m ↦ inr (inl (h.0 ∙ m))
+      ]
+      | inr h ↦ inr (inr (h.0, h.1))
+    ],
+  );
+  refused = λ r e. (refused_of words texts out done.code done.steps s.asked r (here (Refused r) e (λ h. cc))).0;
+  read_fault = λ e. reads_of words texts out done.code done.steps s.asked ReadFault (here ReadFault e (λ h. cc));
+  write_fault = λ e. elim s.report [
+    | inl h ↦ inl (writes_of words texts out done.code done.steps s.asked WriteFault (subst (AskedSays words s.asked texts out done.code done.steps) (sym h.0 ∙ e) s.says))
+    | inr h ↦ inr h.1
+  ];
+  read_told = λ lt. let inner = read_inner s.inner texts (reads_of words texts out done.code done.steps s.asked s.inner s.says) lt in elim s.report [
+    | inl h ↦ inl (h.0 ∙ inner)
+    | inr h ↦ inr (h.0, h.1)
+  ];
+  out_told = λ lt. let inner = write_inner s.inner out (writes_of words texts out done.code done.steps s.asked s.inner s.says) lt in elim s.report [
+    | inl h ↦ h.0 ∙ inner
+    | inr h ↦ h.0
+  ];
+  err_told = λ lt. elim s.report [
+    | inl h ↦ let same = h.1 in absurd (omega (arith, same, lt))
+    | inr h ↦ h.0
+  ];
+  steps_out = λ e. steps_out_of words texts out done.code done.steps s.asked (here StepsOut e (λ h. cc));
+  fault = λ kind pc e. fault_of words texts out done.code done.steps s.asked kind pc (here (Fault kind pc) e (λ h. cc));
+  undefined = λ line e. undefined_of words texts out done.code done.steps s.asked line (here (Undefined line) e (λ h. cc));
+  usage_still = λ e. (usage_of words texts out done.code done.steps s.asked (here Usage e (λ h. cc))).1;
+  refused_still = λ r e. (refused_of words texts out done.code done.steps s.asked r (here (Refused r) e (λ h. cc))).1;
+  read_still = λ e. read_of words texts out done.code done.steps s.asked (here ReadFault e (λ h. cc));
+  memory_still = λ e. memory_of words texts out done.code done.steps s.asked (here OutOfMemory e (λ h. cc));
+}
+  where
+    here : (a : Answer) → done.answer ≡ a → (WriteFault ≡ a → ⊥) → AskedSays words s.asked texts out done.code done.steps a
+    here a is other = subst (AskedSays words s.asked texts out done.code done.steps) (inner_is (file_in s.asked) done.steps err s.inner done.answer a s.report is other) s.says

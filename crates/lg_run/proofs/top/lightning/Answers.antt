@@ -1,0 +1,8 @@
+use Rattle.lg_run.proofs.CauseLemmas.{causes}
+use Rattle.lg_run.proofs.top.lightning.Goals as goal
+
+pub returns : goal.returns
+returns g c = record {
+  says = c.answer.ensures;
+  causes = causes _ _ _ _ _ c.answer.ensures;
+}

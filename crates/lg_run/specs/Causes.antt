@@ -1,0 +1,76 @@
+-- The causes of answers: an answer comes only where its row says so.
+use Rattle.std.specs.Prelude.{◌≡◌, ◌⊎◌, ℕ, ◌+◌, ◌*◌, ◌/◌, ◌<◌, ◌≤◌, List, length, Option, Some, None}
+use Rattle.lg_asm.specs.Assembled.{Assembled}
+use Rattle.lg_base.specs.Runs.{Bad}
+use Rattle.lg_base.specs.declared.fault.FaultKind.{FaultKind}
+use Rattle.lg_base.specs.declared.refusal.Refusal.{Refusal}
+use Rattle.lg_command.specs.Commands.{AreNoCommand, Command, HasFault, IsCommand}
+use Rattle.lg_command.specs.declared.command.Mode.{Mode}
+use Rattle.lg_command.specs.declared.command.Mode.TheVariants as mode
+use Rattle.lg_io.specs.Counts.{Rose}
+use Rattle.lg_io.specs.NamedTexts.{NamedTexts}
+use Rattle.lg_meaning.specs.Means as means
+use Rattle.lg_meaning.specs.Texts.{line_at}
+use Rattle.lg_node.specs.declared.unit.Unit.{Unit as TextUnit}
+use Rattle.lg_run.specs.Changes.{SinkChange, TextsChange}
+use Rattle.lg_run.specs.Refused.{IsRefusedCall}
+use Rattle.lg_run.specs.Runs.{HasMeant, HasRun}
+use Rattle.lg_run.specs.Says.{IsCodeOf, IsStill, IsUntouched, code_meaning, code_run}
+use Rattle.lg_run.specs.declared.answer.Answer.{Answer}
+use Rattle.lg_run.specs.declared.answer.Answer.TheVariants.{Undefined, Refused, Usage, ReadFault, WriteFault, StepsOut, Fault, OutOfMemory}
+use Rattle.lg_run.specs.declared.answer.Done.{Done}
+
+-- the words ask for a command, there is code of its text's unit, and this holds of them
+pub record HasCode (words : List (List ℕ)) (held : Option NamedTexts) (code : Option Assembled) (holds : Command → Assembled → TextUnit → Type 0) : Type 0 where
+  pub command : Command
+  pub asked : IsCommand words command
+  pub ran : Assembled
+  pub is : code ≡ Some ran
+  pub made : IsCodeOf command held ran
+  pub here : holds command ran made.unit
+
+-- the meaning becomes undefined within so many steps
+abbrev pub IsUndefinedWithin : ℕ → (ℕ → means.Run) → Type 0
+IsUndefinedWithin most meaning = (k : ℕ) × (k ≤ most) × ((meaning k).status ≡ Bad)
+
+-- where the run of code goes on after all its steps: the meaning of so many nodes has not ended within a sixty-fourth of them, unless it
+-- became undefined
+abbrev pub Lasts : (nodes steps : ℕ) → (ℕ → means.Run) → Type 0
+Lasts nodes steps meaning = ((k : ℕ) → k ≤ steps / 64 → HasMeant meaning k) ⊎ IsUndefinedWithin ((steps + 1) * (nodes + 1)) meaning
+
+-- the steps ran out
+abbrev pub StepsOutCause : Mode → Command → Assembled → TextUnit → Type 0
+StepsOutCause mode.Run c code unit = HasRun (code_run c code unit) c.steps × Lasts (length unit.nodes.nodes) c.steps (code_meaning c code unit)
+StepsOutCause mode.Mean c code unit = HasMeant (code_meaning c code unit) c.steps
+
+-- the run of code faulted behind so many steps
+abbrev pub FaultCause : (steps : ℕ) → Command → Assembled → TextUnit → Type 0
+FaultCause steps c code unit = (c.mode ≡ mode.Run) × IsUndefinedWithin ((steps + 2) * (length unit.nodes.nodes + 1)) (code_meaning c code unit)
+
+-- the step of the meaning behind so many is the first that is undefined, at this line
+abbrev pub UndefinedCause : (steps line : ℕ) → Command → Assembled → TextUnit → Type 0
+UndefinedCause steps line c code unit =
+    (c.mode ≡ mode.Mean) × (steps < c.steps) × HasMeant (code_meaning c code unit) steps × ((code_meaning c code unit (steps + 1)).status ≡ Bad)
+    × (line ≡ line_at unit.nodes (code_meaning c code unit steps).state)
+
+pub record Causes (words : List (List ℕ)) (texts : TextsChange) (out err : SinkChange) (done : Done) : Type 0 where
+  -- Usage comes only for words that are no command
+  pub usage : done.answer ≡ Usage → AreNoCommand words
+  -- and where a fault is found in the words, only it, want of memory, or a write fault of a line
+  pub no_command : HasFault words → (done.code ≡ None) × ((done.answer ≡ Usage) ⊎ ((done.answer ≡ OutOfMemory) ⊎ ((done.answer ≡ WriteFault) × Rose err.faults err.faults')))
+  pub refused : (refusal : Refusal) → done.answer ≡ Refused refusal → (c : Command) × IsCommand words c × IsRefusedCall c texts.held refusal
+  -- a fault of the outside is told only where a count rose, and each that rose is told
+  pub read_fault : done.answer ≡ ReadFault → Rose texts.faults texts.faults'
+  pub write_fault : done.answer ≡ WriteFault → Rose out.faults out.faults' ⊎ Rose err.faults err.faults'
+  pub read_told : texts.faults < texts.faults' → (done.answer ≡ ReadFault) ⊎ ((done.answer ≡ WriteFault) × Rose err.faults err.faults')
+  pub out_told : out.faults < out.faults' → done.answer ≡ WriteFault
+  pub err_told : err.faults < err.faults' → done.answer ≡ WriteFault
+  -- the rows on runs
+  pub steps_out : done.answer ≡ StepsOut → HasCode words texts.held done.code (λ c code unit. StepsOutCause c.mode c code unit)
+  pub fault : (kind : FaultKind) (pc : ℕ) → done.answer ≡ Fault kind pc → HasCode words texts.held done.code (FaultCause done.steps)
+  pub undefined : (line : ℕ) → done.answer ≡ Undefined line → HasCode words texts.held done.code (UndefinedCause done.steps line)
+  -- what leaves out as it was
+  pub usage_still : done.answer ≡ Usage → IsUntouched done.code done.steps out
+  pub refused_still : (refusal : Refusal) → done.answer ≡ Refused refusal → IsUntouched done.code done.steps out
+  pub read_still : done.answer ≡ ReadFault → IsUntouched done.code done.steps out
+  pub memory_still : done.answer ≡ OutOfMemory → IsStill done.steps out

@@ -1,0 +1,82 @@
+-- Which answer comes, where no count rose and memory was had.
+use Rattle.std.specs.Prelude.{◌≡◌, ◌≢◌, ◌≤◌, ◌+◌, ◌*◌, ◌⊎◌, ℕ, List, length, Option, Some, IsSome}
+use Rattle.lg_asm.specs.Assembled.{Assembled}
+use Rattle.lg_base.specs.Runs.{Status, Running, Ended, Bad}
+use Rattle.lg_base.specs.declared.fault.FaultKind.{FaultKind}
+use Rattle.lg_base.specs.declared.refusal.Refusal.{Refusal}
+use Rattle.lg_command.specs.Commands.{Command, IsCommand, Takes}
+use Rattle.lg_command.specs.declared.command.Mode.{Mode}
+use Rattle.lg_command.specs.declared.command.Mode.TheVariants as mode
+use Rattle.lg_cpu.specs.Steps.{Progress, Goes, EndedWith, Faulted}
+use Rattle.lg_io.specs.Counts.{Rose}
+use Rattle.lg_io.specs.NamedTexts.{NamedTexts, text_under}
+use Rattle.lg_node.specs.Checks.{IsAccepted}
+use Rattle.lg_node.specs.declared.unit.Unit.{Unit as TextUnit}
+use Rattle.lg_run.specs.Changes.{SinkChange, TextsChange}
+use Rattle.lg_run.specs.Refused.{ArgumentsFit, IsBuilt, IsRefusedCall, IsUnitOf, code_full}
+use Rattle.lg_run.specs.Says.{Says, code_meaning, code_run}
+use Rattle.lg_run.specs.declared.answer.Answer.{Answer}
+use Rattle.lg_run.specs.declared.answer.Answer.TheVariants as answer
+use Rattle.lg_run.specs.declared.answer.Done.{Done}
+
+-- no count rose
+pub record NoneRose (texts : TextsChange) (out err : SinkChange) : Type 0 where
+  pub reads : ¬ Rose texts.faults texts.faults'
+  pub writes : ¬ Rose out.faults out.faults'
+  pub errs : ¬ Rose err.faults err.faults'
+
+-- an answer, or want of memory
+abbrev pub Comes : Answer → Answer → Type 0
+Comes a wanted = (a ≡ wanted) ⊎ (a ≡ answer.OutOfMemory)
+
+-- the answer says where the run of code, or the meaning, stands after the most steps
+abbrev pub AnswersRun : Progress → Answer → Type 0
+AnswersRun Goes a = Comes a answer.StepsOut
+AnswersRun (EndedWith status) a = Comes a (answer.Ended status)
+AnswersRun (Faulted kind) a = (pc : ℕ) × Comes a (answer.Fault kind pc)
+
+abbrev pub AnswersMeaning : Status → Answer → Type 0
+AnswersMeaning Running a = Comes a answer.StepsOut
+AnswersMeaning (Ended status) a = Comes a (answer.Ended status)
+AnswersMeaning Bad a = (line : ℕ) × Comes a (answer.Undefined line)
+
+-- in the mode `run`: the answer says where the run stands; where the meaning ends in time, that end is the answer; and there is no fault
+-- where the meaning is never undefined
+pub record IsCompleteRun (c : Command) (code : Assembled) (unit : TextUnit) (a : Answer) : Type 0 where
+  pub stands : AnswersRun (code_run c code unit c.steps).progress a
+  pub ends : (m status : ℕ) → 64 * m ≤ c.steps → (code_meaning c code unit m).status ≡ Ended status → Comes a (answer.Ended status)
+  pub sound : ((k : ℕ) → (code_meaning c code unit k).status ≢ Bad) → (kind : FaultKind) (pc : ℕ) → a ≢ answer.Fault kind pc
+
+-- in the mode `mean`: the answer says where the meaning stands, and is its end exactly where it ends in time
+pub record IsCompleteMean (c : Command) (code : Assembled) (unit : TextUnit) (a : Answer) : Type 0 where
+  pub stands : AnswersMeaning (code_meaning c code unit c.steps).status a
+  pub ends : (m status : ℕ) → m ≤ c.steps → (code_meaning c code unit m).status ≡ Ended status → Comes a (answer.Ended status)
+  pub only : (status : ℕ) → a ≡ answer.Ended status → (m : ℕ) × (m ≤ c.steps) × ((code_meaning c code unit m).status ≡ Ended status)
+
+abbrev pub IsCompleteIn : Mode → Command → Assembled → TextUnit → Answer → Type 0
+IsCompleteIn mode.Run c code unit a = IsCompleteRun c code unit a
+IsCompleteIn mode.Mean c code unit a = IsCompleteMean c code unit a
+
+-- the text of the file has this unit, which is accepted, its target is built and its code has room
+pub record IsFit (c : Command) (told : NamedTexts) (unit : TextUnit) : Type 0 where
+  pub fits : ArgumentsFit c
+  pub text : List ℕ
+  pub under : text_under told c.file ≡ Some text
+  pub reads : IsUnitOf text unit
+  pub accepted : IsAccepted unit.nodes
+  pub built : IsBuilt c.target
+  pub room : 256 * length unit.nodes.nodes + 256 ≤ c.size
+
+-- what is answered to a command, where the texts are told
+pub record AnswersCommand (c : Command) (told : NamedTexts) (code : Option Assembled) (a : Answer) : Type 0 where
+  -- where there is a cause of refusal, other than that code has no room, that is the answer
+  pub refuses : (refusal : Refusal) → refusal ≢ code_full → IsRefusedCall c (Some told) refusal → Comes a (answer.Refused refusal)
+  -- there is code of a fit unit, which runs as it means
+  pub makes : (unit : TextUnit) → IsFit c told unit → IsSome code ⊎ (a ≡ answer.OutOfMemory)
+  pub runs : (unit : TextUnit) (ran : Assembled) → IsFit c told unit → code ≡ Some ran → IsCompleteIn c.mode c ran unit a
+
+abbrev pub Completeness : Type 0
+Completeness =
+    (words : List (List ℕ)) (texts : TextsChange) (out err : SinkChange) (done : Done) (told : NamedTexts)
+    → Says words texts out err done → NoneRose texts out err → Takes words → texts.held ≡ Some told
+    → (done.answer ≡ answer.OutOfMemory) ⊎ ((c : Command) × IsCommand words c × AnswersCommand c told done.code done.answer)

@@ -1,0 +1,327 @@
+// Calls that are refused, or end otherwise.
+
+use crate::row::{Row, check, meant, plain};
+use crate::texts::{first_letter, kept_registers};
+use lg_io::memory_sink::MemorySink;
+use lg_io::memory_texts::MemoryTexts;
+use lg_run::answer::{Answer, status};
+use lg_run::top::{lightning, report};
+use std::process::Abort;
+use std::test::Fail;
+
+const USAGE: &[u8] =
+    b"lightning: usage: lightning [--mode M] [--target T] [--steps N] [--code N] [FILE [ARG]...]\n";
+
+const READ: &[u8] = b"lightning: read fault\n";
+
+const WRITE: &[u8] = b"lightning: write fault\n";
+
+#[test]
+fn refuses_other_words(rt: HostRuntime) -> Result<(), Fail> {
+    let others: [&[&str]; 14] = [
+        &["lightning", "--mode", "fly", "t.tst"],
+        &["lightning", "--mode", "list", "t.tst"],
+        &["lightning", "--mode", "gen"],
+        &["lightning", "--mode"],
+        &["lightning", "--target", "mips", "t.tst"],
+        &["lightning", "--steps", "0", "t.tst"],
+        &["lightning", "--steps", "1000000000001", "t.tst"],
+        &["lightning", "--steps", "many", "t.tst"],
+        &["lightning", "--code", "255", "t.tst"],
+        &["lightning", "--code", "1048577", "t.tst"],
+        &["lightning", "--seed", "1", "t.tst"],
+        &["lightning", "--stats", "t.tst"],
+        &["lightning", "--help"],
+        &["lightning", "t.tst", "-x"],
+    ];
+    for words in others {
+        check(
+            &rt,
+            &Row {
+                words,
+                ..plain(first_letter(), b"", USAGE, 122)
+            },
+        )?;
+    }
+    Ok(())
+}
+
+#[test]
+fn takes_words(rt: HostRuntime) -> Result<(), Fail> {
+    let others: [&[&str]; 6] = [
+        &["lightning", "t.tst", "--target", "riscv64"],
+        &["lightning", "--target=riscv64", "--mode", "run", "t.tst"],
+        &[
+            "lightning",
+            "--steps",
+            "1000000000000",
+            "--target",
+            "riscv64",
+            "t.tst",
+        ],
+        &[
+            "lightning",
+            "--steps",
+            "+0100",
+            "--target",
+            "riscv64",
+            "t.tst",
+        ],
+        &["lightning", "--code", "256", "--target", "riscv64", "t.tst"],
+        &[
+            "lightning",
+            "--target",
+            "riscv64",
+            "--",
+            "t.tst",
+            "-x",
+            "--mode",
+        ],
+    ];
+    for words in others {
+        check(
+            &rt,
+            &Row {
+                words,
+                ..plain(first_letter(), b"A", b"", 3)
+            },
+        )?;
+    }
+    Ok(())
+}
+
+// The text is accepted, and its target is not built yet.
+#[test]
+fn refuses_targets(rt: HostRuntime) -> Result<(), Fail> {
+    let err = b"lightning: t.tst:0: refused 0 NotYet\n";
+    let others: [&[&str]; 4] = [
+        &["lightning", "t.tst"],
+        &["lightning", "--target", "x86_64", "t.tst"],
+        &["lightning", "--target", "aarch64", "t.tst"],
+        &["lightning", "--mode", "mean", "t.tst"],
+    ];
+    for words in others {
+        check(
+            &rt,
+            &Row {
+                words,
+                ..plain(first_letter(), b"", err, 121)
+            },
+        )?;
+    }
+    let none = b"lightning: t.tst:1: refused 20 NoCode\n";
+    check(
+        &rt,
+        &Row {
+            words: &["lightning", "t.tst"],
+            ..plain(b"", b"", none, 121)
+        },
+    )
+}
+
+#[test]
+fn code_full(rt: HostRuntime) -> Result<(), Fail> {
+    let mut text = Vec::from_slice(rt.alloc(), b".code prolog")?;
+    for _ in 0..64 {
+        text.extend_from_slice(b" prepare pushargi 65 finishi @putchar")?;
+    }
+    text.extend_from_slice(b" ret epilog")?;
+    let err = b"lightning: t.tst:0: refused 18 CodeFull\n";
+    let words = ["lightning", "--target", "riscv64", "--code", "256", "t.tst"];
+    check(
+        &rt,
+        &Row {
+            words: &words,
+            ..plain(&text, b"", err, 121)
+        },
+    )?;
+    check(&rt, &plain(&text, &[b'A'; 64], b"", 0))
+}
+
+// One argument word of 1,048,576 letters; the text is not read.
+#[test]
+fn arguments_too_long(rt: HostRuntime) -> Result<(), Fail> {
+    let letters = vec![in rt.alloc(); b'a'; 1_048_576]?;
+    let long = String::from_utf8(letters)?;
+    let words = ["lightning", "--target", "riscv64", "t.tst", long.as_str()];
+    let err = b"lightning: t.tst:0: refused 21 ArgsTooLong\n";
+    let row = Row {
+        words: &words,
+        failing_reads: &[1],
+        ..plain(first_letter(), b"", err, 121)
+    };
+    check(&rt, &row)
+}
+
+#[test]
+fn refuses_the_largest_texts(rt: HostRuntime) -> Result<(), Fail> {
+    let mut nodes = Vec::from_slice(rt.alloc(), b".code prolog")?;
+    for _ in 0..65_534 {
+        nodes.extend_from_slice(b" ret")?;
+    }
+    let mut most = Vec::from_slice(rt.alloc(), &nodes)?;
+    most.extend_from_slice(b" epilog")?;
+    check(&rt, &plain(&most, b"", b"", 0))?;
+    let too_many = b"lightning: t.tst:2: refused 17 TooManyNodes\n".as_slice();
+    let unknown = b"lightning: t.tst:2: refused 2 UnknownName\n".as_slice();
+    let float = b"lightning: t.tst:2: refused 3 FloatRefused\n".as_slice();
+    for (last, refused) in [
+        (b" ret\nret".as_slice(), too_many),
+        (b" ret\nmovi".as_slice(), too_many),
+        (b" ret\n.align 3".as_slice(), too_many),
+        (b" ret\nnop".as_slice(), unknown),
+        (b" ret\nx_f".as_slice(), float),
+    ] {
+        let mut text = Vec::from_slice(rt.alloc(), &nodes)?;
+        text.extend_from_slice(last)?;
+        check(&rt, &plain(&text, b"", refused, 121))?;
+    }
+    let mut text = vec![in rt.alloc(); b' '; 16_777_216]?;
+    let no_code = b"lightning: t.tst:1: refused 20 NoCode\n";
+    check(&rt, &plain(&text, b"", no_code, 121))?;
+    text.push(b' ')?;
+    let too_long = b"lightning: t.tst:0: refused 16 TextTooLong\n";
+    check(&rt, &plain(&text, b"", too_long, 121))
+}
+
+#[test]
+fn gives_the_addresses_of_labels(rt: HostRuntime) -> Result<(), Fail> {
+    let mut words = Vec::new(rt.alloc());
+    for word in ["lightning", "--target", "riscv64", "t.tst"] {
+        words.push(String::from_str(rt.alloc(), word)?)?;
+    }
+    let mut texts = MemoryTexts::new(rt.alloc(), &[])?;
+    texts.add(
+        "t.tst",
+        b".data 16 a: .c 1 b: .align 8 c: .code prolog ret epilog",
+    )?;
+    let mut out = MemorySink::new(rt.alloc(), 16, &[])?;
+    let mut err = MemorySink::new(rt.alloc(), 16, &[])?;
+    let done = lightning(rt.alloc(), &words, &mut texts, &mut out, &mut err);
+    match &done.code {
+        Some(code) => assert_eq!(rt;
+            code.labels().as_slice(),
+            [0x2000_0000u64, 0x2000_0001, 0x2000_0008].as_slice()
+        ),
+        None => assert!(rt; false),
+    }
+    Ok(())
+}
+
+// A call of the texts fails: that is told, whatever it was, and no other call is made behind it.
+#[test]
+fn says_which_read_fails(rt: HostRuntime) -> Result<(), Fail> {
+    let absent = Row {
+        words: &["lightning", "--target", "riscv64", "absent.tst"],
+        ..plain(first_letter(), b"", READ, 123)
+    };
+    check(&rt, &absent)?;
+    // the text is selected, and read twice; behind that no call is left to fail
+    for call in 1..4 {
+        let failing = Row {
+            failing_reads: &[call],
+            ..plain(first_letter(), b"", READ, 123)
+        };
+        check(&rt, &failing)?;
+    }
+    let behind = Row {
+        failing_reads: &[4],
+        ..plain(first_letter(), b"A", b"", 3)
+    };
+    check(&rt, &behind)?;
+    // a longer text fails in its middle, at its second piece and at its third
+    let mut long = vec![in rt.alloc(); b' '; 140_000]?;
+    long.extend_from_slice(b".code prolog ret epilog")?;
+    for call in 2..6 {
+        let failing = Row {
+            failing_reads: &[call],
+            ..plain(&long, b"", READ, 123)
+        };
+        check(&rt, &failing)?;
+    }
+    check(&rt, &plain(&long, b"", b"", 0))
+}
+
+// Another text is selected, and a select that fails leaves it so: no piece of it is read as the text that was asked for.
+#[test]
+fn reads_no_other_text(rt: HostRuntime) -> Result<(), Fail> {
+    let mut texts = MemoryTexts::new(rt.alloc(), &[2])?;
+    texts.add("other.tst", first_letter())?;
+    texts.add("t.tst", kept_registers())?;
+    assert!(rt; texts.select("other.tst").is_ok());
+    let mut words = Vec::new(rt.alloc());
+    for word in ["lightning", "--target", "riscv64", "t.tst"] {
+        words.push(String::from_str(rt.alloc(), word)?)?;
+    }
+    let mut out = MemorySink::new(rt.alloc(), 16, &[])?;
+    let mut err = MemorySink::new(rt.alloc(), 64, &[])?;
+    let done = lightning(rt.alloc(), &words, &mut texts, &mut out, &mut err);
+    assert_eq!(rt; (status(&done.answer), done.code.is_none()), (123, true));
+    assert_eq!(rt; out.bytes(), b"".as_slice());
+    assert_eq!(rt; err.bytes(), READ);
+    // the same call again finds its text
+    let done = lightning(rt.alloc(), &words, &mut texts, &mut out, &mut err);
+    assert_eq!(rt; status(&done.answer), 0);
+    assert_eq!(rt; out.bytes(), b"Hi!\n".as_slice());
+    Ok(())
+}
+
+// Each byte is a write of its own.
+#[test]
+fn says_which_write_fails(rt: HostRuntime) -> Result<(), Fail> {
+    for (call, out) in [
+        (1, b"".as_slice()),
+        (2, b"H".as_slice()),
+        (3, b"Hi".as_slice()),
+        (4, b"Hi!".as_slice()),
+    ] {
+        let failing = Row {
+            failing_writes: &[call],
+            ..plain(kept_registers(), out, WRITE, 124)
+        };
+        check(&rt, &failing)?;
+        let meaning = Row {
+            failing_writes: &[call],
+            ..meant(kept_registers(), out, WRITE, 124)
+        };
+        check(&rt, &meaning)?;
+    }
+    Ok(())
+}
+
+#[test]
+fn says_write_fault_where_a_line_fails(rt: HostRuntime) -> Result<(), Fail> {
+    // the line has nine pieces, each a write of its own
+    for (call, err) in [
+        (1, b"".as_slice()),
+        (2, b"lightning: ".as_slice()),
+        (3, b"lightning: t.tst".as_slice()),
+        (4, b"lightning: t.tst:".as_slice()),
+        (5, b"lightning: t.tst:1".as_slice()),
+        (6, b"lightning: t.tst:1: refused ".as_slice()),
+        (7, b"lightning: t.tst:1: refused 20".as_slice()),
+        (8, b"lightning: t.tst:1: refused 20 ".as_slice()),
+        (9, b"lightning: t.tst:1: refused 20 NoCode".as_slice()),
+    ] {
+        let line = Row {
+            failing_lines: &[call],
+            ..plain(b"", b"", err, 124)
+        };
+        check(&rt, &line)?;
+    }
+    let both = Row {
+        failing_writes: &[1],
+        failing_lines: &[1],
+        ..plain(first_letter(), b"", b"", 124)
+    };
+    check(&rt, &both)
+}
+
+#[test]
+fn says_that_memory_was_wanted(rt: HostRuntime) -> Result<(), Fail> {
+    let mut err = MemorySink::new(rt.alloc(), 64, &[])?;
+    let answer = report("", Answer::OutOfMemory, 0, &mut err);
+    assert_eq!(rt; status(&answer), 127);
+    assert_eq!(rt; err.bytes(), b"lightning: out of memory\n".as_slice());
+    Ok(())
+}
