@@ -4,6 +4,7 @@ use crate::row::{Row, check, meant, plain};
 use crate::texts::{first_letter, kept_registers};
 use lg_io::memory_sink::MemorySink;
 use lg_io::memory_texts::MemoryTexts;
+use lg_io::texts::Texts;
 use lg_run::answer::{Answer, status};
 use lg_run::top::{lightning, report};
 use std::process::Abort;
@@ -161,7 +162,8 @@ fn refuses_the_largest_texts(rt: HostRuntime) -> Result<(), Fail> {
     }
     let mut most = Vec::from_slice(rt.alloc(), &nodes)?;
     most.extend_from_slice(b" epilog")?;
-    check(&rt, &plain(&most, b"", b"", 0))?;
+    let full = b"lightning: t.tst:0: refused 18 CodeFull\n";
+    check(&rt, &plain(&most, b"", full, 121))?;
     let too_many = b"lightning: t.tst:2: refused 17 TooManyNodes\n".as_slice();
     let unknown = b"lightning: t.tst:2: refused 2 UnknownName\n".as_slice();
     let float = b"lightning: t.tst:2: refused 3 FloatRefused\n".as_slice();

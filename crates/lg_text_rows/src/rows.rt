@@ -5,62 +5,68 @@ use crate::texts::{first_letter, kept_registers, wrapped_sum};
 use std::process::Abort;
 use std::test::Fail;
 
-// A text that prints and ends with status 0: on RV64 it does what it means.
-fn prints(rt: &(impl AllocGlobal + Abort), text: &[u8], out: &[u8]) -> Result<(), Fail> {
-    check(rt, &plain(text, out, b"", 0))?;
-    check(rt, &meant(text, out, b"", 0))
+// A text that writes this and ends with this status: on RV64 it does what it means.
+fn ends(rt: &(impl AllocGlobal + Abort), text: &[u8], out: &[u8], status: u8) -> Result<(), Fail> {
+    check(rt, &plain(text, out, b"", status))?;
+    check(rt, &meant(text, out, b"", status))
 }
 
 #[test]
 fn puts_hello(rt: HostRuntime) -> Result<(), Fail> {
     let text =
         b".data 16 msg: .c \"hello\" .code prolog prepare pushargi msg finishi @puts ret epilog";
-    prints(&rt, text, b"hello\n")
+    ends(&rt, text, b"hello\n", 0)
 }
 
 #[test]
 fn overflow_branches(rt: HostRuntime) -> Result<(), Fail> {
     let text =
         b".data 32 fmt: .c \"%d %lx\\n\" .code prolog\nmovi %v0 0x7fffffffffffffff movi %v1 1 boaddi a %v0 1 movi %v1 0 a: prepare pushargi fmt ellipsis pushargr %v1 pushargr %v0 finishi @printf \nmovi %v0 -1 movi %v1 1 boaddi_u b %v0 1 movi %v1 0 b: prepare pushargi fmt ellipsis pushargr %v1 pushargr %v0 finishi @printf \nmovi %v0 0x7fffffffffffffff movi %v1 1 bxaddi c %v0 1 movi %v1 0 c: prepare pushargi fmt ellipsis pushargr %v1 pushargr %v0 finishi @printf \nret epilog";
-    prints(&rt, text, b"1 8000000000000000\n1 0\n0 8000000000000000\n")
+    ends(
+        &rt,
+        text,
+        b"1 8000000000000000\n1 0\n0 8000000000000000\n",
+        0,
+    )
 }
 
 #[test]
 fn carry_chain(rt: HostRuntime) -> Result<(), Fail> {
     let text =
         b".data 16 fmt: .c \"%lx %lx\\n\" .code prolog movi %v0 -1 movi %v1 0 movi %r0 1 addcr %v0 %v0 %r0 movi %r1 0 addxr %v1 %v1 %r1 prepare pushargi fmt ellipsis pushargr %v1 pushargr %v0 finishi @printf ret epilog";
-    prints(&rt, text, b"1 0\n")
+    ends(&rt, text, b"1 0\n", 0)
 }
 
 #[test]
 fn signed_division(rt: HostRuntime) -> Result<(), Fail> {
     let text =
         b".data 16 fmt: .c \"%ld %ld %lu\\n\" .code prolog movi %r0 -7 divi %v0 %r0 2 remi %v1 %r0 2 divi_u %v2 %r0 2 prepare pushargi fmt ellipsis pushargr %v0 pushargr %v1 pushargr %v2 finishi @printf ret epilog";
-    prints(&rt, text, b"-3 -1 9223372036854775804\n")
+    ends(&rt, text, b"-3 -1 9223372036854775804\n", 0)
 }
 
 #[test]
 fn qdiv_alias(rt: HostRuntime) -> Result<(), Fail> {
     let text =
         b".data 16 fmt: .c \"%ld %ld\\n\" .code prolog movi %r0 3 movi %r1 10 movi %v0 45 subr %r0 %r1 %r0 qdivr %r0 %v0 %v0 %r0 prepare pushargi fmt ellipsis pushargr %r0 pushargr %v0 finishi @printf ret epilog";
-    prints(&rt, text, b"6 3\n")
+    ends(&rt, text, b"6 3\n", 0)
 }
 
 #[test]
 fn eight_arguments(rt: HostRuntime) -> Result<(), Fail> {
     let text =
         b".data 32 fmt: .c \"%d %d %d %d %d %d %d %d\\n\" .code prolog prepare pushargi fmt ellipsis pushargi 1 pushargi 2 pushargi 3 pushargi 4 pushargi 5 pushargi 6 pushargi 7 pushargi 8 finishi @printf ret epilog";
-    prints(&rt, text, b"1 2 3 4 5 6 7 8\n")
+    ends(&rt, text, b"1 2 3 4 5 6 7 8\n", 0)
 }
 
 #[test]
 fn offset_edges(rt: HostRuntime) -> Result<(), Fail> {
     let text =
         b".data 16384 fmt: .c \"%ld %ld\\n\" .align 4096 .size 4096 mid: .size 4097 .code prolog movi %v0 mid movi %r1 0x80 stxi_c 2047 %v0 %r1 ldxi_c %v1 %v0 2047 ldxi_uc %v2 %v0 2047 prepare pushargi fmt ellipsis pushargr %v1 pushargr %v2 finishi @printf  movi %r1 0x80 stxi_c 2048 %v0 %r1 ldxi_c %v1 %v0 2048 ldxi_uc %v2 %v0 2048 prepare pushargi fmt ellipsis pushargr %v1 pushargr %v2 finishi @printf  movi %r1 0x80 stxi_c -2048 %v0 %r1 ldxi_c %v1 %v0 -2048 ldxi_uc %v2 %v0 -2048 prepare pushargi fmt ellipsis pushargr %v1 pushargr %v2 finishi @printf  movi %r1 0x80 stxi_c -2049 %v0 %r1 ldxi_c %v1 %v0 -2049 ldxi_uc %v2 %v0 -2049 prepare pushargi fmt ellipsis pushargr %v1 pushargr %v2 finishi @printf  movi %r1 0x80 stxi_c 4095 %v0 %r1 ldxi_c %v1 %v0 4095 ldxi_uc %v2 %v0 4095 prepare pushargi fmt ellipsis pushargr %v1 pushargr %v2 finishi @printf  movi %r1 0x80 stxi_c 4096 %v0 %r1 ldxi_c %v1 %v0 4096 ldxi_uc %v2 %v0 4096 prepare pushargi fmt ellipsis pushargr %v1 pushargr %v2 finishi @printf  ret epilog";
-    prints(
+    ends(
         &rt,
         text,
         b"-128 128\n-128 128\n-128 128\n-128 128\n-128 128\n-128 128\n",
+        0,
     )
 }
 
@@ -68,14 +74,14 @@ fn offset_edges(rt: HostRuntime) -> Result<(), Fail> {
 fn expressions(rt: HostRuntime) -> Result<(), Fail> {
     let text =
         b".data 16 fmt: .c \"%ld %ld %ld\\n\" .code prolog prepare pushargi fmt ellipsis pushargi $(1 << 4 | 3) pushargi $(-7 / 2) pushargi $(0xffffffffffffffff) finishi @printf ret epilog";
-    prints(&rt, text, b"19 -3 -1\n")
+    ends(&rt, text, b"19 -3 -1\n", 0)
 }
 
 #[test]
 fn printf_forms(rt: HostRuntime) -> Result<(), Fail> {
     let text =
         b".data 40 fmt: .c \"[%5d|%-5d|%05d|%hhd|%x|%c|%%]\\n\" .code prolog prepare pushargi fmt ellipsis pushargi 42 pushargi 42 pushargi -42 pushargi 300 pushargi 255 pushargi 65 finishi @printf ret epilog";
-    prints(&rt, text, b"[   42|42   |-0042|44|ff|A|%]\n")
+    ends(&rt, text, b"[   42|42   |-0042|44|ff|A|%]\n", 0)
 }
 
 #[test]
@@ -83,14 +89,11 @@ fn ends_with_statuses(rt: HostRuntime) -> Result<(), Fail> {
     let none = b".code prolog ret epilog";
     let modulo =
         b".code prolog prepare pushargi 'a' finishi @putchar prepare pushargi 300 finishi @exit ret epilog";
-    for row in [plain, meant] {
-        check(&rt, &row(none, b"", b"", 0))?;
-        check(&rt, &row(modulo, b"a", b"", 44))?;
-        check(&rt, &row(first_letter(), b"A", b"", 3))?;
-        check(&rt, &row(kept_registers(), b"Hi!\n", b"", 0))?;
-        check(&rt, &row(wrapped_sum(), b"", b"", 42))?;
-    }
-    Ok(())
+    ends(&rt, none, b"", 0)?;
+    ends(&rt, modulo, b"a", 44)?;
+    ends(&rt, first_letter(), b"A", 3)?;
+    ends(&rt, kept_registers(), b"Hi!\n", 0)?;
+    ends(&rt, wrapped_sum(), b"", 42)
 }
 
 #[test]
