@@ -25,4 +25,5 @@ pub mod StoreLemmas
 pub mod SumBranchLemmas
 pub mod SumLemmas
 pub mod TwoWayLemmas
+pub mod WithinLemmas
 pub mod WordLemmas

@@ -6,7 +6,7 @@ use Rattle.lg_op.specs.declared.operand.Operand.TheVariants as operand
 use Rattle.lg_op.specs.Nodes.{InForm}
 use Rattle.lg_carry.specs.Carries.{leaps}
 use Rattle.lg_selr_items.specs.declared.items.Item.{Item}
-use Rattle.lg_selr_items.specs.Items.{words_in, fixes_of, AreItems, NameLabels}
+use Rattle.lg_selr_items.specs.Items.{words_in, fixes_of, AreItems, NameLabels, StayWithin}
 use Rattle.lg_selr_control.specs.ControlItems.{control_items, is_control}
 use Rattle.lg_selr_control.specs.ControlLaws.{ends_in_label}
 
@@ -31,3 +31,7 @@ abbrev pub ControlItemsFit : Type 0
 ControlItemsFit =
     (n : Node) (labels frame at : ℕ) → is_control n.op ≡ true → InForm n → AreGiven labels n.operands → ends_in_label n.operands ≡ false
     → AreEmitted labels (leaps n.op) (control_items n.op n.operands frame at)
+
+-- the items write no register that is outside of the conventions
+abbrev pub ControlItemsStay : Type 0
+ControlItemsStay = (n : Node) (frame at : ℕ) → StayWithin (control_items n.op n.operands frame at)

@@ -18,7 +18,7 @@ use Rattle.lg_carry.specs.NodeCode.{CarriesNode}
 use Rattle.lg_carry.specs.TextNodes.{IsInText}
 use Rattle.lg_carry_rv.specs.RvRows.{rv_processor}
 use Rattle.lg_selr_items.specs.declared.items.Item.{Item}
-use Rattle.lg_selr_items.specs.Items.{ones}
+use Rattle.lg_selr_items.specs.Items.{ones, StayWithin}
 use Rattle.lg_selr_values.specs.UnaryCode.{unary_code}
 use Rattle.lg_selr_control.specs.ControlFits.{AreEmitted}
 use Rattle.lg_selr_control.specs.Standing.{StandsInCode}
@@ -52,3 +52,7 @@ RetvalsCarry =
 -- they can be appended to any buffer
 abbrev pub RetvalItemsFit : Type 0
 RetvalItemsFit = (n : Node) (t : ValueType) (labels : ℕ) → n.op ≡ op.Retval t → InForm n → AreEmitted labels false (retval_items t n.operands)
+
+-- and write no register that is outside of the conventions
+abbrev pub RetvalItemsStay : Type 0
+RetvalItemsStay = (t : ValueType) (xs : List Operand) → StayWithin (retval_items t xs)

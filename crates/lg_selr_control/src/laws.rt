@@ -1,9 +1,9 @@
 // The code of the nodes that branch, jump, call and return carries them. The functions do nothing: their contracts are the laws.
 
 ghost use Rattle.lg_selr_control.specs.Alignments.{AlignmentsAlign};
-ghost use Rattle.lg_selr_control.specs.ControlFits.{ControlItemsFit};
+ghost use Rattle.lg_selr_control.specs.ControlFits.{ControlItemsStay, ControlItemsFit};
 ghost use Rattle.lg_selr_control.specs.ControlLaws.{ControlNodesCarry};
-ghost use Rattle.lg_selr_control.specs.Retvals.{RetvalsCarry, RetvalItemsFit};
+ghost use Rattle.lg_selr_control.specs.Retvals.{RetvalItemsStay, RetvalsCarry, RetvalItemsFit};
 
 /// Branches, jumps, calls, returns, `prolog`, `.align`, and nodes without code (`prepare`, `ellipsis`, `arg`, `allocai`) are carried by their
 /// items, once the labels have their addresses.
@@ -29,4 +29,14 @@ pub fn retvals_are_carried()
 /// Its items are in the ranges of their instructions, name no label and have no fix.
 pub fn retval_items_fit()
     ensures { RetvalItemsFit }
+{}
+
+/// The items of these nodes write no register that is outside of the conventions.
+pub fn control_items_stay()
+    ensures { ControlItemsStay }
+{}
+
+/// Nor do those of `retval`.
+pub fn retval_items_stay()
+    ensures { RetvalItemsStay }
 {}

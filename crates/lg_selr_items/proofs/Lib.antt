@@ -1,4 +1,5 @@
 pub mod ItemLemmas
 pub mod NodeLemmas
 pub mod PatchLemmas
+pub mod WithinLemmas
 pub mod WordLemmas

@@ -15,4 +15,5 @@ pub mod PushNodeLemmas
 pub mod PutLemmas
 pub mod StoreLemmas
 pub mod StraightLemmas
+pub mod WithinLemmas
 pub mod WriteLemmas

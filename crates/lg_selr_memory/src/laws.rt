@@ -3,6 +3,7 @@
 ghost use Rattle.lg_selr_memory.specs.ArgumentNodes.{ArgumentsCarry};
 ghost use Rattle.lg_selr_memory.specs.MemoryNodes.{LoadsCarry, StoresCarry};
 ghost use Rattle.lg_selr_memory.specs.PushNodes.{PushesCarry};
+ghost use Rattle.lg_selr_memory.specs.MemoryFits.{MemoryItemsStay};
 
 /// Loads are carried, whatever is live behind them.
 pub fn loads_are_carried()
@@ -22,4 +23,9 @@ pub fn arguments_are_carried()
 /// So are nodes that pass an argument.
 pub fn pushes_are_carried()
     ensures { PushesCarry }
+{}
+
+/// The items write no register that is outside of the conventions.
+pub fn memory_items_stay()
+    ensures { MemoryItemsStay }
 {}

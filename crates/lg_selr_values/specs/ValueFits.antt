@@ -10,7 +10,7 @@ use Rattle.lg_temp.specs.Chosen.{around}
 use Rattle.lg_temp.specs.Choices.{AreFor}
 use Rattle.lg_carry.specs.Blocks.{IsBlock}
 use Rattle.lg_carry_rv.specs.RvRows.{is_straight}
-use Rattle.lg_selr_items.specs.Items.{words_in, settled, AreItems, NameLabels}
+use Rattle.lg_selr_items.specs.Items.{words_in, settled, AreItems, NameLabels, StayWithin}
 use Rattle.lg_selr_values.specs.ValueItems.{value_needs, value_items, HaveSlots}
 
 -- at most one register is chosen; the items are in the ranges of their instructions, of which there are at most 32, and each is followed by the next
@@ -36,3 +36,7 @@ NameBelow labels (x ∷ xs) = NamesBelow labels x × NameBelow labels xs
 -- then so are those of the items
 abbrev pub ValueItemsName : Type 0
 ValueItemsName = (labels : ℕ) (n : Node) (choices : List Choice) → NameBelow labels n.operands → NameLabels labels (value_items n choices)
+
+-- the items write no register that is outside of the conventions
+abbrev pub ValueItemsStay : Type 0
+ValueItemsStay = (n : Node) (live : Reg → Bool) (staged : List Bool) (choices : List Choice) → AreFor (around Riscv64 n live staged) (value_needs n.op) [] (value_needs n.op) choices → StayWithin (value_items n choices)

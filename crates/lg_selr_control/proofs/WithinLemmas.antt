@@ -1,0 +1,168 @@
+-- No item of a node that branches, jumps, calls or returns, of `prolog`, `.align` or `retval` writes a register that is outside of the conventions.
+use Rattle.std.proofs.Common.{ℕ, zero, suc, Bool, true, false, List, [], ◌∷◌, refl}
+use Rattle.std.specs.Prelude.{◌-◌, negsuc, nat_le, if◌then◌else◌}
+use Rattle.lg_base.specs.HostNames.{host_address}
+use Rattle.lg_base.specs.declared.target.Target.TheVariants.{Riscv64}
+use Rattle.lg_carry_rv.specs.Numbers.{low_part, high_part, number_code}
+use Rattle.lg_op.specs.declared.op.BranchSumOp.{BranchSumOp}
+use Rattle.lg_op.specs.declared.op.BranchSumOp.TheVariants as sum
+use Rattle.lg_op.specs.declared.op.Condition.{Condition}
+use Rattle.lg_op.specs.declared.op.Condition.TheVariants as condition
+use Rattle.lg_op.specs.declared.op.ControlOp.{ControlOp}
+use Rattle.lg_op.specs.declared.op.ControlOp.TheVariants as control
+use Rattle.lg_op.specs.declared.op.LastOperand.{LastOperand}
+use Rattle.lg_op.specs.declared.op.LastOperand.TheVariants as last_operand
+use Rattle.lg_op.specs.declared.op.Op.{Op}
+use Rattle.lg_op.specs.declared.op.Op.TheVariants as op
+use Rattle.lg_op.specs.declared.op.PlainOp.{PlainOp}
+use Rattle.lg_op.specs.declared.op.PlainOp.TheVariants as plain
+use Rattle.lg_op.specs.declared.op.ValueType.{ValueType}
+use Rattle.lg_op.specs.declared.operand.Operand.{Operand}
+use Rattle.lg_op.specs.declared.operand.Operand.TheVariants as operand
+use Rattle.lg_op.specs.declared.operand.Reg.{Reg}
+use Rattle.lg_rv.specs.declared.instruction.Instr.TheVariants as instr
+use Rattle.lg_rv.specs.declared.instruction.ImmOp.TheVariants.{Addi, Addiw}
+use Rattle.lg_rv.specs.declared.instruction.UpperOp.TheVariants.{Lui}
+use Rattle.lg_rv.specs.declared.instruction.RegOp.TheVariants.{Sub}
+use Rattle.lg_selr_control.specs.Alignments.{padding, idle, align_code}
+use Rattle.lg_selr_control.specs.Branches.{bits_code}
+use Rattle.lg_selr_control.specs.ControlItems.{second_register, word_items, branch_items, sum_items, jump_items, call_items, result_items, ret_items, register_leap_items, leap_items, align_items, plain_items, control_items}
+use Rattle.lg_selr_control.specs.ControlItems as controls
+use Rattle.lg_selr_control.specs.Immediates.{immediate}
+use Rattle.lg_selr_control.specs.Prologs.{stored_registers, stores_below, fall_code, prolog_code}
+use Rattle.lg_selr_control.specs.Returns.{return_code}
+use Rattle.lg_selr_control.specs.Retvals.{extension, retval_code, retval_items}
+use Rattle.lg_selr_control.specs.SumBranches as sums
+use Rattle.lg_selr_items.specs.Items.{ones, StayWithin}
+use Rattle.lg_selr_values.specs.BinaryCode.{sum_code}
+use Rattle.lg_selr_values.specs.ValueItems.{second_items}
+use Rattle.lg_temp.specs.Abis.{register_of}
+use Rattle.lg_selr_items.proofs.WithinLemmas.{In, portable, Within, join, stay-append, stay-ones, number}
+use Rattle.lg_selr_control.specs.ControlFits.{ControlItemsStay}
+use Rattle.lg_selr_control.specs.Retvals.{RetvalItemsStay}
+use Rattle.lg_selr_values.proofs.WithinLemmas.{one}
+
+-- ---- branches, jumps, calls and returns
+word : (t : ℕ) (x : Operand) → In t → StayWithin (word_items t (immediate x))
+word t (operand.Number v) h = stay-ones (number_code t v) (number t v h)
+word t (operand.Host name) h = stay-ones (number_code t (host_address name)) (number t (host_address name) h)
+word t (operand.Reg r) h = tt
+word t (operand.Label l) h = tt
+word t (operand.Slot k) h = tt
+
+compared : (x : Operand) → StayWithin (controls.second_items x)
+compared (operand.Reg r) = tt
+compared (operand.Number v) = word 1 (operand.Number v) refl
+compared (operand.Host name) = word 1 (operand.Host name) refl
+compared (operand.Label l) = word 1 (operand.Label l) refl
+compared (operand.Slot k) = word 1 (operand.Slot k) refl
+
+bits : (o : Condition) (a b : ℕ) → Within (bits_code o a b)
+bits condition.Ms a b = (refl, tt)
+bits condition.Mc a b = (refl, tt)
+bits o a b = tt
+
+sum-code : (o : BranchSumOp) (a b : ℕ) → In a → Within (sums.sum_code o a b)
+sum-code sum.OverflowAdd a b h = (refl, (refl, (h, (refl, (h, tt)))))
+sum-code sum.OverflowAddU a b h = (refl, (refl, (h, tt)))
+sum-code sum.OverflowSub a b h = (refl, (refl, (h, (refl, (h, tt)))))
+sum-code sum.OverflowSubU a b h = (refl, (h, tt))
+sum-code sum.FitAdd a b h = (refl, (refl, (h, (refl, (h, tt)))))
+sum-code sum.FitAddU a b h = (refl, (refl, (h, tt)))
+sum-code sum.FitSub a b h = (refl, (refl, (h, (refl, (h, tt)))))
+sum-code sum.FitSubU a b h = (refl, (h, tt))
+
+branched : (o : Condition) (xs : List Operand) → StayWithin (branch_items o xs)
+branched o (operand.Label l ∷ operand.Reg a ∷ x ∷ []) =
+    stay-append (controls.second_items x) _ (compared x)
+    (stay-append (ones (bits_code o (register_of Riscv64 a) (second_register x))) _ (stay-ones (bits_code o (register_of Riscv64 a) (second_register x)) (bits o (register_of Riscv64 a) (second_register x))) (tt, (refl, tt)))
+branched o xs = tt
+
+summed : (o : BranchSumOp) (xs : List Operand) → StayWithin (sum_items o xs)
+summed o (operand.Label l ∷ operand.Reg a ∷ x ∷ []) =
+    stay-append (controls.second_items x) _ (compared x)
+    (stay-append (ones (sums.sum_code o (register_of Riscv64 a) (second_register x))) _ (stay-ones (sums.sum_code o (register_of Riscv64 a) (second_register x)) (sum-code o (register_of Riscv64 a) (second_register x) (portable a))) (tt, (refl, tt)))
+summed o xs = tt
+
+jumped : (xs : List Operand) → StayWithin (jump_items xs)
+jumped (operand.Label l ∷ []) = (refl, tt)
+jumped xs = tt
+
+called : (xs : List Operand) → StayWithin (call_items xs)
+called (operand.Label l ∷ []) = (refl, tt)
+called (operand.Host name ∷ []) = (refl, (refl, tt))
+called xs = tt
+
+result : (x : Operand) → StayWithin (result_items x)
+result (operand.Reg r) = (refl, tt)
+result (operand.Label l) = (refl, tt)
+result (operand.Number v) = word 10 (operand.Number v) refl
+result (operand.Host name) = word 10 (operand.Host name) refl
+result (operand.Slot k) = word 10 (operand.Slot k) refl
+
+returns : StayWithin (ones return_code)
+returns = (refl, (refl, (refl, (refl, (refl, (refl, (refl, tt)))))))
+
+returned : (xs : List Operand) → StayWithin (ret_items xs)
+returned (x ∷ []) = stay-append (result_items x) (ones return_code) (result x) returns
+returned xs = tt
+
+leapt : (rd : ℕ) (xs : List Operand) → In rd → StayWithin (register_leap_items rd xs)
+leapt rd (operand.Reg a ∷ []) h = (h, tt)
+leapt rd xs h = tt
+
+leaps : (o : ControlOp) (last : LastOperand) (xs : List Operand) → StayWithin (leap_items o last xs)
+leaps control.Jmp last_operand.Immediate xs = jumped xs
+leaps control.Jmp last_operand.Register xs = leapt 0 xs refl
+leaps control.Call last_operand.Immediate xs = called xs
+leaps control.Call last_operand.Register xs = leapt 1 xs refl
+leaps control.Finish last_operand.Immediate xs = called xs
+leaps control.Finish last_operand.Register xs = leapt 1 xs refl
+leaps control.Ret last xs = returned xs
+leaps control.Pusharg last xs = tt
+
+idles : (k : ℕ) → Within (idle k)
+idles zero = tt
+idles (suc k) = (refl, idles k)
+
+aligned : (at : ℕ) (xs : List Operand) → StayWithin (align_items at xs)
+aligned at (operand.Number n ∷ []) = stay-ones (align_code at n) (idles (padding at n))
+aligned at xs = tt
+
+below : (rs : List ℕ) (k : ℕ) → Within (stores_below rs k)
+below [] k = tt
+below (r ∷ rs) k = (tt, below rs (suc k))
+
+falls : (n : ℕ) → Within (fall_code n)
+falls n = by (nat_le n 2048)
+  where
+    by : (b : Bool) → Within (if b then instr.Imm Addi 2 2 (negsuc (n - 1)) ∷ [] else instr.Upper Lui 1 (high_part n) ∷ instr.Imm Addiw 1 1 (low_part n) ∷ instr.Reg Sub 2 2 1 ∷ [])
+    by true = (refl, tt)
+    by false = (refl, (refl, (refl, tt)))
+
+begins : (frame : ℕ) → Within (prolog_code frame)
+begins frame = join (stores_below stored_registers 0) (instr.Imm Addi 8 2 (negsuc 15) ∷ fall_code frame) (below stored_registers 0) (refl, falls frame)
+
+plainly : (o : PlainOp) (xs : List Operand) (frame at : ℕ) → StayWithin (plain_items o xs frame at)
+plainly plain.Prolog xs frame at = stay-ones (prolog_code frame) (begins frame)
+plainly plain.Epilog xs frame at = returns
+plainly plain.Ret xs frame at = returns
+plainly plain.Align xs frame at = aligned at xs
+plainly o xs frame at = tt
+
+answered : (o : Op) (xs : List Operand) (frame at : ℕ) → StayWithin (control_items o xs frame at)
+answered (op.Branch o last) xs frame at = branched o xs
+answered (op.BranchSum o last) xs frame at = summed o xs
+answered (op.Control o last) xs frame at = leaps o last xs
+answered (op.Plain o) xs frame at = plainly o xs frame at
+answered o xs frame at = tt
+
+retval : (t : ValueType) (xs : List Operand) → StayWithin (retval_items t xs)
+retval t (operand.Reg d ∷ []) = stay-ones (retval_code t d) (one (extension t) (register_of Riscv64 d) 10 (portable d))
+retval t xs = tt
+
+pub control-items-stay : ControlItemsStay
+control-items-stay n frame at = answered n.op n.operands frame at
+
+pub retval-items-stay : RetvalItemsStay
+retval-items-stay t xs = retval t xs

@@ -1,0 +1,101 @@
+-- No item of a load, a store or an argument writes a register that is outside of the conventions.
+use Rattle.std.proofs.Common.{ℕ, zero, suc, Bool, true, false, [], ◌∷◌, ◌++◌, refl}
+use Rattle.std.specs.Prelude.{◌-◌, nat_lt, slice_index, if◌then◌else◌}
+use Rattle.lg_base.specs.Conventions.{argument_registers}
+use Rattle.lg_base.specs.HostNames.{host_address}
+use Rattle.lg_base.specs.declared.target.Target.TheVariants.{Riscv64}
+use Rattle.lg_carry_rv.specs.Numbers.{is_short, low_part, number_code}
+use Rattle.lg_meaning.specs.Steps.{operand_at, slot}
+use Rattle.lg_op.specs.declared.node.Node.{Node}
+use Rattle.lg_op.specs.declared.op.Addressing.{Addressing}
+use Rattle.lg_op.specs.declared.op.Addressing.TheVariants as addressing
+use Rattle.lg_op.specs.declared.op.StoreType.{StoreType}
+use Rattle.lg_op.specs.declared.op.ValueType.{ValueType}
+use Rattle.lg_op.specs.declared.operand.Operand.{Operand}
+use Rattle.lg_op.specs.declared.operand.Operand.TheVariants as operand
+use Rattle.lg_op.specs.declared.operand.Reg.{Reg}
+use Rattle.lg_rv.specs.declared.instruction.Instr.TheVariants as instr
+use Rattle.lg_rv.specs.declared.instruction.RegOp.TheVariants.{Add}
+use Rattle.lg_selr_items.specs.Items.{StayWithin}
+use Rattle.lg_selr_memory.specs.Accesses.{link, place_at, indexed, at_link, load_code, store_code}
+use Rattle.lg_selr_memory.specs.Accesses as accesses
+use Rattle.lg_selr_memory.specs.ArgumentCode.{argument_offset, argument_code}
+use Rattle.lg_selr_memory.specs.PushCode.{into, stack_push, onto_stack, push_code}
+use Rattle.lg_temp.specs.Abis.{register_of}
+use Rattle.lg_selr_items.proofs.WithinLemmas.{In, portable, Within, join, stay-append, stay-ones, number}
+use Rattle.lg_selr_memory.specs.MemoryFits.{MemoryItemsStay}
+
+accessed : (x : Operand) → In (accesses.register x)
+accessed (operand.Reg r) = portable r
+accessed x = refl
+
+argument : (j : ℕ) → In (slice_index (argument_registers Riscv64) j)
+argument zero = refl
+argument (suc zero) = refl
+argument (suc (suc zero)) = refl
+argument (suc (suc (suc zero))) = refl
+argument (suc (suc (suc (suc zero)))) = refl
+argument (suc (suc (suc (suc (suc zero))))) = refl
+argument (suc (suc (suc (suc (suc (suc zero)))))) = refl
+argument (suc (suc (suc (suc (suc (suc (suc zero))))))) = refl
+argument (suc (suc (suc (suc (suc (suc (suc (suc j)))))))) = refl
+
+-- ---- memory and arguments
+index : (a v : ℕ) → Within (indexed a v).code
+index a v = by (is_short v)
+  where
+    by : (b : Bool) → Within (if b then (record { code = []; base = a; offset = low_part v }) else at_link (number_code link v ++ instr.Reg Add link a link ∷ [])).code
+    by true = tt
+    by false = join (number_code link v) _ (number link v refl) (refl, tt)
+
+placed : (at : Addressing) (x y : Operand) → Within (place_at at x y).code
+placed addressing.Register x y = tt
+placed addressing.Immediate x y = number link (accesses.number x) refl
+placed addressing.RegisterRegister x y = (refl, tt)
+placed addressing.RegisterImmediate (operand.Reg r) y = index (register_of Riscv64 r) (accesses.number y)
+placed addressing.RegisterImmediate x y = index (accesses.register y) (accesses.number x)
+
+loads : (t : ValueType) (at : Addressing) (n : Node) → Within (load_code t at n)
+loads t at n = join (place_at at (operand_at n 1) (operand_at n 2)).code _ (placed at (operand_at n 1) (operand_at n 2)) (accessed (operand_at n 0), tt)
+
+stores : (t : StoreType) (at : Addressing) (n : Node) → Within (store_code t at n)
+stores t at n = join (place_at at (operand_at n 0) (operand_at n 1)).code _ (placed at (operand_at n 0) (operand_at n 1)) (tt, tt)
+
+arguments : (t : ValueType) (n : Node) → Within (argument_code t n)
+arguments t n = by (nat_lt (slot (operand_at n 1)) 16)
+  where
+    by : (b : Bool) → Within (if b then instr.Imm (accesses.load_row t) (accesses.register (operand_at n 0)) 8 (argument_offset (slot (operand_at n 1))) ∷ [] else [])
+    by true = (accessed (operand_at n 0), tt)
+    by false = tt
+
+puts : (rd : ℕ) (x : Operand) → In rd → StayWithin (into rd x)
+puts rd (operand.Reg r) h = (h, tt)
+puts rd (operand.Number v) h = stay-ones (number_code rd v) (number rd v h)
+puts rd (operand.Host name) h = stay-ones (number_code rd (host_address name)) (number rd (host_address name) h)
+puts rd (operand.Label l) h = (h, tt)
+puts rd (operand.Slot k) h = tt
+
+stacks : (j : ℕ) (x : Operand) → StayWithin (into link x ++ stack_push j link ∷ [])
+stacks j x = stay-append (into link x) (stack_push j link ∷ []) (puts link x refl) (tt, tt)
+
+stacked : (j : ℕ) (x : Operand) → StayWithin (onto_stack j x)
+stacked j (operand.Reg r) = (tt, tt)
+stacked j (operand.Number v) = stacks j (operand.Number v)
+stacked j (operand.Host name) = stacks j (operand.Host name)
+stacked j (operand.Label l) = stacks j (operand.Label l)
+stacked j (operand.Slot k) = stacks j (operand.Slot k)
+
+pushes : (j : ℕ) (n : Node) → StayWithin (push_code j n)
+pushes j n = by (nat_lt j 8)
+  where
+    by : (b : Bool) → StayWithin (if b then into (slice_index (argument_registers Riscv64) j) (operand_at n 0) else onto_stack j (operand_at n 0))
+    by true = puts (slice_index (argument_registers Riscv64) j) (operand_at n 0) (argument j)
+    by false = stacked j (operand_at n 0)
+
+pub memory-items-stay : MemoryItemsStay
+memory-items-stay = record {
+  loads = λ t at n. stay-ones (load_code t at n) (loads t at n);
+  stores = λ t at n. stay-ones (store_code t at n) (stores t at n);
+  arguments = λ t n. stay-ones (argument_code t n) (arguments t n);
+  pushes = pushes;
+}

@@ -1,0 +1,5 @@
+use Rattle.lg_selr_values.proofs.WithinLemmas.{value-items-stay}
+use Rattle.lg_selr_values.proofs.laws.value_items_stay.Goals as goal
+
+pub returns : goal.returns
+returns c = value-items-stay
