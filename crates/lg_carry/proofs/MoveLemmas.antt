@@ -1,5 +1,5 @@
 -- States agree again behind a node that only moves on.
-use Rattle.std.proofs.Common.{◌≡◌, ℕ, ◌<◌, Bool, true, false, List, [], ◌∷◌, Option, Some, None, refl, sym, ap, ◌∙◌, subst, arith, length}
+use Rattle.std.proofs.Common.{◌≡◌, ℕ, ◌<◌, Bool, true, false, List, [], ◌∷◌, Option, Some, None, refl, sym, ap, ◌∙◌, subst, arith}
 use Rattle.std.specs.Prelude.{◌≤◌, ◌+◌, is_some}
 use Rattle.lg_cells.specs.Cells.{within}
 use Rattle.lg_base.specs.Parts.{data_base, args_base}
@@ -7,14 +7,13 @@ use Rattle.lg_base.specs.Conventions.{portable_register, frame_register, link_re
 use Rattle.lg_base.specs.Layout.{least_frame}
 use Rattle.lg_base.specs.declared.target.Target.{Target}
 use Rattle.lg_meaning.specs.States.{Frame, State}
-use Rattle.lg_operators.specs.declared.carry.Carry.TheVariants as carry
 use Rattle.lg_carry.specs.Processors.{Seen}
 use Rattle.lg_base.specs.CarryFlags.{carry_of}
 use Rattle.lg_carry.specs.Codes.{Code, is_inside}
 use Rattle.lg_carry.specs.Registers.{HoldsRegisters, HoldsCarry, HoldsArguments, HasArguments}
-use Rattle.lg_carry.specs.Frames.{at_call, arriving, IsLinked, MayHoldCaller, IsSettled, IsArriving, IsRunning, HasWords, HaveWords, return_address}
-use Rattle.lg_carry.specs.Stands.{lowest, HasParts, HasMemory, StatesAgree}
-use Rattle.lg_carry.specs.Moves.{Moves, Follows, AgreesBehindMove}
+use Rattle.lg_carry.specs.Frames.{at_call, IsLinked, MayHoldCaller, IsRunning, HasWords, HaveWords, return_address}
+use Rattle.lg_carry.specs.Stands.{lowest}
+use Rattle.lg_carry.specs.Moves.{Follows, AgreesBehindMove}
 
 -- the link is there still
 linked : (o : Option ℕ) (m : ℕ → Option ℕ) (w w' : ℕ → ℕ) (stack address : ℕ) → ((x : ℕ) → o ≡ Some x → w' x ≡ w x) → IsLinked o m w stack address → IsLinked o m w' stack address

@@ -1,5 +1,5 @@
 -- Instructions of a node, one run behind the other, lead where its step leads.
-use Rattle.std.proofs.Common.{◌≡◌, ℕ, zero, suc, ◌+◌, ◌-◌, ◌<◌, ◌≤◌, inl, inr, true, ⊎_elim, List, [], ◌∷◌, ◌++◌, refl, sym, ap, ◌∙◌, subst, arith, length, drop, append_assoc, length-append, append-nil}
+use Rattle.std.proofs.Common.{◌≡◌, ℕ, zero, suc, ◌+◌, ◌-◌, ◌<◌, ◌≤◌, inl, inr, true, ⊎_elim, List, [], ◌∷◌, ◌++◌, refl, sym, ap, ◌∙◌, subst, arith, length, drop, append_assoc, length-append}
 use Rattle.std.proofs.lemmas.Bool.{cases_lt}
 use Rattle.std.specs.List.{All}
 use Rattle.lg_base.specs.Layout.{code_base}
@@ -7,11 +7,10 @@ use Rattle.lg_base.specs.HostNames.{host_by_address}
 use Rattle.lg_base.specs.Runs.{iter}
 use Rattle.lg_temp.proofs.Steps.{iter-plus, iter-suc}
 use Rattle.lg_carry.specs.Processors.{Processor}
-use Rattle.lg_carry.specs.Codes.{Code}
 use Rattle.lg_carry.specs.Rows.{Rows, AreRows}
-use Rattle.lg_carry.specs.Blocks.{spellings, done, RunsBlock}
+use Rattle.lg_carry.specs.Blocks.{spellings, RunsBlock}
 use Rattle.lg_carry.specs.Carries.{BeginsInside, IsHostStep, KeepsOutside, Meets}
-use Rattle.lg_carry.specs.Passages.{IsNodeCode, Passes, PartsPass, PassagesJoin, PassagesLead, HostStepsLead}
+use Rattle.lg_carry.specs.Passages.{PartsPass, PassagesJoin, PassagesLead, HostStepsLead}
 use Rattle.lg_carry.proofs.BlockLemmas.{blocks-run, behind}
 
 -- ---- a part of the code of a node

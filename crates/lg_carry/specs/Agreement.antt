@@ -1,5 +1,5 @@
 -- When the code of a unit agrees with its portable meaning.
-use Rattle.std.specs.Prelude.{◌≡◌, ℕ, ◌^◌, ◌<◌, ◌≤◌, List, [], length}
+use Rattle.std.specs.Prelude.{ℕ, ◌^◌, ◌<◌, ◌≤◌, List, [], length}
 use Rattle.lg_base.specs.Arguments.{most_args}
 use Rattle.lg_base.specs.Runs.{Machine}
 use Rattle.lg_base.specs.declared.target.Target.{Target}

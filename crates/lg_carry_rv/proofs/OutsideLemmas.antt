@@ -1,5 +1,5 @@
 -- The code of a node, of which no instruction writes a register that is outside of the conventions, keeps these registers.
-use Rattle.std.proofs.Common.{◌≡◌, ◌≢◌, ℕ, zero, suc, ◌+◌, ◌-◌, ◌*◌, ◌/◌, ◌%◌, ◌<◌, ◌≤◌, Bool, true, false, List, [], ◌∷◌, ◌++◌, Option, Some, None, refl, sym, ap, ◌∙◌, subst, arith, length, drop, ⊎_elim, append_assoc}
+use Rattle.std.proofs.Common.{◌≡◌, ◌≢◌, ℕ, suc, ◌+◌, ◌-◌, ◌*◌, ◌/◌, ◌%◌, ◌<◌, ◌≤◌, Bool, true, false, List, [], ◌∷◌, ◌++◌, Option, Some, None, refl, sym, ap, ◌∙◌, arith, length, drop, ⊎_elim, append_assoc}
 use Rattle.std.specs.Prelude.{◌==◌, if◌then◌else◌}
 use Rattle.std.specs.List.{All}
 use Rattle.std.proofs.lemmas.Bool.{cases_lt}
@@ -20,7 +20,7 @@ use Rattle.lg_rv.specs.declared.instruction.ImmOp.{ImmOp}
 use Rattle.lg_rv.specs.declared.instruction.ImmOp.TheVariants.{Jalr, Lb, Lh, Lw, Ld, Lbu, Lhu, Lwu, Addi, Slti, Sltiu, Xori, Ori, Andi, Addiw}
 use Rattle.lg_cpu.specs.HostSteps.{put}
 use Rattle.lg_cpu.specs.RvOperators.{is_taken}
-use Rattle.lg_cpu.specs.RvStep.{read, goes, loads, load_at, store_at, store_width, jump_to, branch_to, imm_effect, act, decoded, in_code, fetch, effect_at, effect}
+use Rattle.lg_cpu.specs.RvStep.{read, goes, loads, load_at, store_at, store_width, jump_to, branch_to, imm_effect, act, decoded, in_code, effect_at, effect}
 use Rattle.lg_cpu.specs.States.{CpuState}
 use Rattle.lg_cpu.specs.Steps.{Progress, Goes, EndedWith, Faulted, Effect, Run, after, on_going, faults}
 use Rattle.lg_cpu.proofs.RunLemmas.{stands-executed}

@@ -1,16 +1,13 @@
 -- Where a node stands in an accepted text, and where its code lies.
-use Rattle.std.specs.Prelude.{◌≡◌, ℕ, ◌^◌, ◌<◌, ◌≤◌, ◌||◌, not, Bool, true, false, List, length, slice_get, Some}
+use Rattle.std.specs.Prelude.{◌≡◌, ℕ, ◌^◌, ◌<◌, ◌≤◌, ◌||◌, not, Bool, true, false, List, length, Some}
 use Rattle.lg_base.specs.Layout.{most_code}
 use Rattle.lg_op.specs.declared.op.Op.{Op}
 use Rattle.lg_op.specs.declared.node.Node.{Node}
 use Rattle.lg_node.specs.Functions.{home, is_prolog}
 use Rattle.lg_node.specs.Checks.{may_stand_outside}
-use Rattle.lg_node.specs.Shapes.{IsShapeOf}
-use Rattle.lg_node.specs.ShapeLaws.{IsWellShaped, HasFunctions}
 use Rattle.lg_rv.specs.Spelling.{IsInstr}
 use Rattle.lg_rv.specs.declared.instruction.Instr.{Instr}
 use Rattle.lg_cpu.specs.Laws.{AreBytes}
-use Rattle.lg_meaning.specs.Laws.{IsFormedAt}
 use Rattle.lg_carry.specs.Codes.{Code}
 use Rattle.lg_carry.specs.NodeBlocks.{IsNodeBlock}
 use Rattle.lg_carry.specs.TextNodes.{IsInText}

@@ -1,6 +1,5 @@
 -- No item of a node writes a register that is outside of the conventions.
 use Rattle.std.proofs.Common.{ℕ, Bool, List, []}
-use Rattle.std.specs.Prelude.{◌-◌}
 use Rattle.lg_base.specs.declared.target.Target.TheVariants.{Riscv64}
 use Rattle.lg_op.specs.declared.node.Node.{Node}
 use Rattle.lg_op.specs.declared.op.ControlOp.TheVariants as control

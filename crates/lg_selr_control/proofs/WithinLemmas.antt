@@ -19,7 +19,6 @@ use Rattle.lg_op.specs.declared.op.PlainOp.TheVariants as plain
 use Rattle.lg_op.specs.declared.op.ValueType.{ValueType}
 use Rattle.lg_op.specs.declared.operand.Operand.{Operand}
 use Rattle.lg_op.specs.declared.operand.Operand.TheVariants as operand
-use Rattle.lg_op.specs.declared.operand.Reg.{Reg}
 use Rattle.lg_rv.specs.declared.instruction.Instr.TheVariants as instr
 use Rattle.lg_rv.specs.declared.instruction.ImmOp.TheVariants.{Addi, Addiw}
 use Rattle.lg_rv.specs.declared.instruction.UpperOp.TheVariants.{Lui}
@@ -34,8 +33,6 @@ use Rattle.lg_selr_control.specs.Returns.{return_code}
 use Rattle.lg_selr_control.specs.Retvals.{extension, retval_code, retval_items}
 use Rattle.lg_selr_control.specs.SumBranches as sums
 use Rattle.lg_selr_items.specs.Items.{ones, StayWithin}
-use Rattle.lg_selr_values.specs.BinaryCode.{sum_code}
-use Rattle.lg_selr_values.specs.ValueItems.{second_items}
 use Rattle.lg_temp.specs.Abis.{register_of}
 use Rattle.lg_selr_items.proofs.WithinLemmas.{In, portable, Within, join, stay-append, stay-ones, number}
 use Rattle.lg_selr_control.specs.ControlFits.{ControlItemsStay}

@@ -1,11 +1,8 @@
 -- The nodes that branch, jump, call and return, `prolog`, `.align` and those without code are carried by their items.
-use Rattle.std.specs.Prelude.{◌≡◌, ℕ, Bool, true, false, List, ◌∷◌, slice_index, Some}
+use Rattle.std.specs.Prelude.{◌≡◌, ℕ, Bool, true, false, List, ◌∷◌, slice_index}
 use Rattle.lg_op.specs.declared.node.Node.{Node}
 use Rattle.lg_op.specs.declared.operand.Operand.{Operand}
 use Rattle.lg_op.specs.declared.operand.Operand.TheVariants as operand
-use Rattle.lg_node.specs.declared.function.Function.{Function}
-use Rattle.lg_node.specs.Functions.{frame_of}
-use Rattle.lg_meaning.specs.Steps.{function_here}
 use Rattle.lg_carry.specs.Codes.{Code}
 use Rattle.lg_carry.specs.NodeCode.{CarriesNode}
 use Rattle.lg_carry.specs.TextNodes.{IsInText, IsFrameOf, HasPlaces}

@@ -1,11 +1,9 @@
 -- Where the code of a node stands, and the places of nodes and labels.
-use Rattle.std.specs.Prelude.{◌≡◌, ℕ, ◌+◌, ◌%◌, ◌^◌, ◌<◌, ◌≤◌, List, length, slice_index}
-use Rattle.lg_base.specs.Layout.{code_base, most_code}
-use Rattle.lg_node.specs.declared.place.Place.TheVariants as place
+use Rattle.std.specs.Prelude.{ℕ, ◌^◌, ◌<◌, ◌≤◌, List, length}
+use Rattle.lg_base.specs.Layout.{most_code}
 use Rattle.lg_rv.specs.Spelling.{IsInstr}
 use Rattle.lg_rv.specs.declared.instruction.Instr.{Instr}
 use Rattle.lg_cpu.specs.Laws.{AreBytes}
-use Rattle.lg_meaning.specs.Addresses.{IsBound}
 use Rattle.lg_carry.specs.Codes.{Code}
 use Rattle.lg_carry.specs.Passages.{IsNodeCode}
 use Rattle.lg_carry_rv.specs.RvRows.{rv_rows}

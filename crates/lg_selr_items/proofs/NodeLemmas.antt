@@ -1,5 +1,5 @@
 -- The items of a node as a block of instructions.
-use Rattle.std.proofs.Common.{◌≡◌, ℕ, ◌+◌, ◌-◌, ◌*◌, ◌<◌, ◌≤◌, Bool, true, List, [], ◌∷◌, ◌++◌, length, drop, refl, sym, ap, subst, ◌∙◌, arith, length-append}
+use Rattle.std.proofs.Common.{◌≡◌, ℕ, ◌+◌, ◌-◌, ◌*◌, ◌<◌, true, List, [], ◌∷◌, ◌++◌, length, drop, refl, sym, ap, subst, ◌∙◌, arith}
 use Rattle.std.specs.Prelude.{slice_get, slice_index}
 use Rattle.std.specs.List.{All, AllByRecursion}
 use Rattle.std.proofs.lemmas.List.Elements.{All-from_recursion}
@@ -16,7 +16,7 @@ use Rattle.lg_carry_rv.specs.RvRows.{rv_rows, is_straight}
 use Rattle.lg_rv.specs.Spelling.{spelling, IsInstr}
 use Rattle.lg_selr_items.specs.declared.items.Item.{Item}
 use Rattle.lg_selr_items.specs.declared.items.Item.TheVariants.{One, Jump, Address}
-use Rattle.lg_selr_items.specs.Items.{words_of, words_in, bytes_in, settled, StayWithin}
+use Rattle.lg_selr_items.specs.Items.{words_in, bytes_in, settled, StayWithin}
 use Rattle.lg_selr_items.specs.OfNodes.{AreOfNode}
 
 -- as many instructions as there are words

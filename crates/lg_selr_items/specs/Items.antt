@@ -1,5 +1,5 @@
 -- What items become: as they are emitted, with 0 in the fields of labels, and as they are once the labels have places.
-use Rattle.std.specs.Prelude.{◌≡◌, ℕ, ◌+◌, ◌*◌, ◌<◌, false, ℤ, pos, ◌-ℤ◌, List, [], ◌∷◌, ◌++◌, ⊤}
+use Rattle.std.specs.Prelude.{◌≡◌, ℕ, ◌+◌, ◌*◌, ◌<◌, false, pos, ◌-ℤ◌, List, [], ◌∷◌, ◌++◌, ⊤}
 use Rattle.lg_rv.specs.declared.instruction.Instr.{Instr}
 use Rattle.lg_rv.specs.declared.instruction.Instr.TheVariants as instr
 use Rattle.lg_rv.specs.declared.instruction.UpperOp.TheVariants.{Lui}

@@ -1,6 +1,6 @@
 -- No item of a load, a store or an argument writes a register that is outside of the conventions.
 use Rattle.std.proofs.Common.{ℕ, zero, suc, Bool, true, false, [], ◌∷◌, ◌++◌, refl}
-use Rattle.std.specs.Prelude.{◌-◌, nat_lt, slice_index, if◌then◌else◌}
+use Rattle.std.specs.Prelude.{nat_lt, slice_index, if◌then◌else◌}
 use Rattle.lg_base.specs.Conventions.{argument_registers}
 use Rattle.lg_base.specs.HostNames.{host_address}
 use Rattle.lg_base.specs.declared.target.Target.TheVariants.{Riscv64}
@@ -13,7 +13,6 @@ use Rattle.lg_op.specs.declared.op.StoreType.{StoreType}
 use Rattle.lg_op.specs.declared.op.ValueType.{ValueType}
 use Rattle.lg_op.specs.declared.operand.Operand.{Operand}
 use Rattle.lg_op.specs.declared.operand.Operand.TheVariants as operand
-use Rattle.lg_op.specs.declared.operand.Reg.{Reg}
 use Rattle.lg_rv.specs.declared.instruction.Instr.TheVariants as instr
 use Rattle.lg_rv.specs.declared.instruction.RegOp.TheVariants.{Add}
 use Rattle.lg_selr_items.specs.Items.{StayWithin}

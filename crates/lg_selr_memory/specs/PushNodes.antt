@@ -1,14 +1,10 @@
 -- The nodes that pass an argument of a call are carried by their code.
-use Rattle.std.specs.Prelude.{◌≡◌, ℕ, ◌+◌, ◌≤◌, Bool, List, slice_index}
-use Rattle.lg_base.specs.Layout.{code_base, most_code}
+use Rattle.std.specs.Prelude.{◌≡◌, ℕ, Bool, List, slice_index}
 use Rattle.lg_op.specs.declared.node.Node.{Node}
 use Rattle.lg_op.specs.declared.op.Op.TheVariants as op
 use Rattle.lg_op.specs.declared.op.ControlOp.TheVariants as control
 use Rattle.lg_op.specs.declared.op.LastOperand.{LastOperand}
-use Rattle.lg_op.specs.declared.operand.Label.{Label}
-use Rattle.lg_op.specs.declared.operand.Operand.TheVariants as operand
 use Rattle.lg_node.specs.Preparations.{pushed}
-use Rattle.lg_meaning.specs.Steps.{operand_at}
 use Rattle.lg_carry.specs.Codes.{Code}
 use Rattle.lg_carry.specs.NodeCode.{CarriesNode}
 use Rattle.lg_carry_rv.specs.RvRows.{rv_processor}

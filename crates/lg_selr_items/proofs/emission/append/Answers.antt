@@ -2,7 +2,6 @@ use Rattle.std.proofs.Common.{◌≡◌, ℕ, List, length, ◌++◌, ap, ◌∙
 use Rattle.lg_buf.specs.Buffers.{Buffer}
 use Rattle.lg_carry.specs.Blocks.{spellings}
 use Rattle.lg_rv.specs.Spelling.{spelling}
-use Rattle.lg_selr_items.specs.declared.items.Item.{Item}
 use Rattle.lg_selr_items.specs.Items.{bytes_in, blanks}
 use Rattle.lg_selr_items.proofs.ItemLemmas.{blank_bytes}
 use Rattle.lg_selr_items.proofs.emission.append.Goals as goal
