@@ -1,9 +1,8 @@
 -- What the agreement of code and meaning says of a run.
-use Rattle.std.proofs.Common.{◌≡◌, ◌≢◌, ℕ, ◌+◌, ◌*◌, ◌/◌, ◌<◌, ◌≤◌, inl, inr, length, Option, sym, ap, ◌∙◌, subst, arith, lit<}
-use Rattle.std.specs.Prelude.{◌⊎◌}
+use Rattle.std.proofs.Common.{◌≡◌, ◌≢◌, ℕ, ◌+◌, ◌*◌, ◌≤◌, inl, inr, length, Option, sym, ap, ◌∙◌, arith, lit<}
 use Rattle.lg_asm.specs.Assembled.{Assembled}
 use Rattle.lg_base.specs.Arguments.{args_of}
-use Rattle.lg_base.specs.Runs.{Ended, Running, Bad, iter}
+use Rattle.lg_base.specs.Runs.{Ended, Running}
 use Rattle.lg_base.specs.declared.fault.FaultKind.{FaultKind}
 use Rattle.lg_carry.specs.Agreement.{meaning_from, meaning_of, shape_of_unit}
 use Rattle.lg_command.specs.Commands.{Command}
@@ -13,12 +12,12 @@ use Rattle.lg_cpu.proofs.RunLemmas.{machine_is}
 use Rattle.lg_io.specs.NamedTexts.{NamedTexts}
 use Rattle.lg_meaning.proofs.MeanLemmas.{means_are_machines}
 use Rattle.lg_meaning.specs.Means as means
-use Rattle.lg_temp.specs.Agrees.{AgreesAt, PastIt, SameAt}
+use Rattle.lg_temp.specs.Agrees.{AgreesAt}
 use Rattle.lg_run.specs.Causes.{IsUndefinedWithin, Lasts}
 use Rattle.lg_run.specs.Runs.{HasMeant, HasRun}
 use Rattle.lg_run.specs.Says.{IsCodeOf, code_meaning, code_run, trash_word}
 use Rattle.lg_run.proofs.OverLemmas as over
-use Rattle.lg_run.proofs.SameLemmas.{end_same, ends_with}
+use Rattle.lg_run.proofs.SameLemmas.{ends_with}
 
 module _ (c : Command) (held : Option NamedTexts) (code : Assembled) (made : IsCodeOf c held code) where
   abbrev count : ℕ

@@ -1,5 +1,5 @@
 -- The causes of answers, from what a call says.
-use Rattle.std.proofs.Common.{◌≡◌, ◌≢◌, ℕ, ◌+◌, ◌<◌, ◌≤◌, inl, inr, List, Option, Some, None, refl, sym, ap, ◌∙◌, subst, arith}
+use Rattle.std.proofs.Common.{◌≡◌, ℕ, ◌<◌, inl, inr, List, Option, Some, None, refl, sym, ◌∙◌, subst, arith}
 use Rattle.std.specs.Prelude.{◌⊎◌}
 use Rattle.lg_asm.specs.Assembled.{Assembled}
 use Rattle.lg_base.specs.declared.fault.FaultKind.{FaultKind}
@@ -7,13 +7,11 @@ use Rattle.lg_base.specs.declared.refusal.Refusal.{Refusal}
 use Rattle.lg_command.specs.Commands.{AreNoCommand, Command, HasFault, IsCommand}
 use Rattle.lg_command.specs.declared.command.Mode.{Mode}
 use Rattle.lg_command.specs.declared.command.Mode.TheVariants as mode
-use Rattle.lg_io.specs.Counts.{Rose}
-use Rattle.lg_io.specs.NamedTexts.{NamedTexts}
 use Rattle.lg_run.specs.Causes.{Causes, FaultCause, HasCode, StepsOutCause, UndefinedCause}
 use Rattle.lg_run.specs.Changes.{SinkChange, TextsChange, TellsReads, TellsWrites}
 use Rattle.lg_run.specs.Refused.{IsRefusedCall}
 use Rattle.lg_run.specs.Runs.{HasRun, HasMeant}
-use Rattle.lg_run.specs.Says.{AskedSays, IsCodeOf, IsStill, IsUntouched, ModeSays, NoCommandSays, Ran, ReportSays, Says, code_meaning, code_run, file_in}
+use Rattle.lg_run.specs.Says.{AskedSays, IsCodeOf, IsStill, IsUntouched, ModeSays, NoCommandSays, ReportSays, Says, code_meaning, code_run, file_in}
 use Rattle.lg_run.specs.declared.answer.Answer.{Answer}
 use Rattle.lg_run.specs.declared.answer.Answer.TheVariants.{Ended, Listed, Undefined, Refused, Usage, ReadFault, WriteFault, StepsOut, Fault, OutOfMemory}
 use Rattle.lg_run.specs.declared.answer.Done.{Done}

@@ -1,11 +1,9 @@
 -- Which answer comes, where no count rose.
-use Rattle.std.proofs.Common.{◌≡◌, ◌≢◌, ℕ, ◌+◌, ◌*◌, ◌<◌, ◌≤◌, true, false, inl, inr, List, Option, Some, None, IsSome, refl, sym, ap, ◌∙◌, subst, arith}
+use Rattle.std.proofs.Common.{◌≡◌, ℕ, ◌+◌, ◌*◌, ◌≤◌, true, false, inl, inr, List, Option, Some, None, IsSome, refl, sym, ap, ◌∙◌, subst, arith}
 use Rattle.std.specs.Prelude.{◌⊎◌}
 use Rattle.lg_asm.specs.Assembled.{Assembled}
 use Rattle.lg_base.specs.Runs.{Status, Running, Bad}
 use Rattle.lg_base.specs.Runs as runs
-use Rattle.lg_base.specs.declared.fault.FaultKind.{FaultKind}
-use Rattle.lg_base.specs.declared.refusal.Refusal.{Refusal}
 use Rattle.lg_command.specs.Commands.{Command, IsCommand, Takes}
 use Rattle.lg_command.specs.declared.command.Mode.{Mode}
 use Rattle.lg_command.specs.declared.command.Mode.TheVariants as mode
@@ -15,17 +13,15 @@ use Rattle.lg_io.specs.NamedTexts.{NamedTexts}
 use Rattle.lg_node.specs.declared.unit.Unit.{Unit as TextUnit}
 use Rattle.lg_tst.specs.Units.{unit_of}
 use Rattle.lg_run.specs.Changes.{SinkChange, TellsReads, TellsWrites, TextsChange}
-use Rattle.lg_run.specs.Complete.{AnswersCommand, AnswersMeaning, AnswersRun, Comes, Completeness, IsCompleteIn, IsCompleteMean, IsCompleteRun, IsFit, NoneRose}
-use Rattle.lg_run.specs.Refused.{IsRefusedCall, code_full}
+use Rattle.lg_run.specs.Complete.{AnswersCode, AnswersCommand, AnswersMeaning, AnswersRun, Comes, Completeness, IsCompleteIn, IsCompleteMean, IsCompleteRun, IsFit}
 use Rattle.lg_run.specs.Runs.{HasMeant, MeanSays, RunSays}
-use Rattle.lg_run.specs.Says.{AnswerSays, AskedSays, IsCodeOf, ModeSays, NoCommandSays, Ran, Says, TellsFaults, WorkSays, code_meaning, code_run}
+use Rattle.lg_run.specs.Says.{AnswerSays, AskedSays, CodeSays, IsCodeOf, ModeSays, NoCommandSays, Ran, TellsFaults, code_meaning, code_run}
 use Rattle.lg_run.specs.declared.answer.Answer.{Answer}
 use Rattle.lg_run.specs.declared.answer.Answer.TheVariants.{Ended, Listed, Undefined, Refused, Usage, ReadFault, WriteFault, StepsOut, Fault, OutOfMemory}
-use Rattle.lg_run.specs.declared.answer.Done.{Done}
-use Rattle.lg_run.proofs.AgreementLemmas.{ends_in_time, meant_before, meant_later, run_later, undefined_at}
-use Rattle.lg_run.proofs.OverLemmas.{bad_running, ended_bad, ended_running}
+use Rattle.lg_run.proofs.AgreementLemmas.{ends_in_time, meant_later, run_later, undefined_at}
+use Rattle.lg_run.proofs.OverLemmas.{bad_running, ended_running}
 use Rattle.lg_run.proofs.RefusedLemmas.{call_for_room, call_once}
-use Rattle.lg_run.proofs.SameLemmas.{answer_same, end_same, none_some, ok_same, some_same}
+use Rattle.lg_run.proofs.SameLemmas.{answer_same, none_some, ok_same, some_same}
 
 -- ---- want of memory
 memory_run : (p : Progress) → AnswersRun p OutOfMemory
@@ -195,6 +191,35 @@ module _ (c : Command) (told : NamedTexts) (out : SinkChange) (code : Option Ass
           let full = (call_for_room c told fit.text unit q fit.fits fit.under fit.reads fit.accepted fit.built says.1).1 in
           let enough = fit.room in omega (arith, full, enough)
 
+-- whatever the texts tell
+module _ (c : Command) (held : Option NamedTexts) (out : SinkChange) (code : Option Assembled) (steps : ℕ) where
+  ran_code : (a : Answer) → Ran c held code steps out a → (a ≡ WriteFault → ⊥) → AnswersCode c held code a
+  ran_code a r other = record {
+    long = λ long. let fits = r.made.fits in absurd (omega (arith, long, fits));
+    runs = λ ran there. subst (λ x. (made : IsCodeOf c held x) × IsCompleteIn c.mode c x made.unit a) (some_same (sym r.is ∙ there)) (r.made, complete_in c held r.ran r.made c.mode steps out a r.says other);
+  }
+
+  answers_code : (a : Answer) → AnswerSays c held code steps out a → (a ≡ ReadFault → ⊥) → (a ≡ WriteFault → ⊥) → AnswersCode c held code a
+  answers_code (Ended status) says read write = ran_code (Ended status) says write
+  answers_code StepsOut says read write = ran_code StepsOut says write
+  answers_code (Fault kind pc) says read write = ran_code (Fault kind pc) says write
+  answers_code (Undefined line) says read write = ran_code (Undefined line) says write
+  answers_code WriteFault says read write = absurd (write refl)
+  answers_code ReadFault says read write = absurd (read refl)
+  answers_code Usage says read write = absurd says
+  answers_code Listed says read write = absurd says
+  answers_code OutOfMemory says read write = record {
+    long = λ long. inr refl;
+    runs = λ ran there. let made = subst (CodeSays c held) there says.1 in (made, memory_in c.mode c ran made.unit);
+  }
+  answers_code (Refused q) says read write = record {
+    long = λ long. elim says.1 [
+      | inl h ↦ inl (ap Refused h.0)
+      | inr h ↦ let fits = h.fits in absurd (omega (arith, long, fits))
+    ];
+    runs = λ ran there. absurd (none_some (sym says.0.none ∙ there));
+  }
+
 -- ---- the call
 read_not : (a : Answer) (texts : TextsChange) (out : SinkChange) → TellsFaults texts out a → (¬ Rose texts.faults texts.faults') → a ≡ ReadFault → ⊥
 read_not a texts out tells none is = none (subst (λ x. TellsReads x texts) is tells.reads)
@@ -218,22 +243,25 @@ none_memory words WriteFault takes h = absurd h
 none_memory words StepsOut takes h = absurd h
 none_memory words (Fault kind pc) takes h = absurd h
 
-asked_complete : (words : List (List ℕ)) (texts : TextsChange) (out : SinkChange) (told : NamedTexts) (code : Option Assembled) (steps : ℕ) (inner : Answer) (asked : Option Command)
-    → (¬ Rose texts.faults texts.faults') → (¬ Rose out.faults out.faults') → Takes words → texts.held ≡ Some told → AskedSays words asked texts out code steps inner
-    → (inner ≡ OutOfMemory) ⊎ ((c : Command) × IsCommand words c × AnswersCommand c told code inner)
-asked_complete words texts out told code steps inner None reads writes takes held h = inl (none_memory words inner takes h.1)
-asked_complete words texts out told code steps inner (Some c) reads writes takes held h =
+abbrev Answered : List (List ℕ) → TextsChange → Option Assembled → Answer → Type 0
+Answered words texts code a =
+    (a ≡ OutOfMemory) ⊎ ((c : Command) × IsCommand words c × AnswersCode c texts.held code a × ((told : NamedTexts) → texts.held ≡ Some told → AnswersCommand c told code a))
+
+asked_complete : (words : List (List ℕ)) (texts : TextsChange) (out : SinkChange) (code : Option Assembled) (steps : ℕ) (inner : Answer) (asked : Option Command)
+    → (¬ Rose texts.faults texts.faults') → (¬ Rose out.faults out.faults') → Takes words → AskedSays words asked texts out code steps inner → Answered words texts code inner
+asked_complete words texts out code steps inner None reads writes takes h = inl (none_memory words inner takes h.1)
+asked_complete words texts out code steps inner (Some c) reads writes takes h =
+    let read = read_not inner texts out h.1.faults reads in
+    let write = write_not inner texts out h.1.faults writes in
     inr (
       c,
       h.0,
-      answers c told out code steps inner (subst (λ t. AnswerSays c t code steps out inner) held h.1.says)
-          (read_not inner texts out h.1.faults reads) (write_not inner texts out h.1.faults writes),
+      answers_code c texts.held out code steps inner h.1.says read write,
+      λ told held. answers c told out code steps inner (subst (λ t. AnswerSays c t code steps out inner) held h.1.says) read write,
     )
 
 pub complete : Completeness
-complete words texts out err done told s none takes held = elim s.report [
-  | inl h ↦
-      subst (λ a. (a ≡ OutOfMemory) ⊎ ((c : Command) × IsCommand words c × AnswersCommand c told done.code a)) (sym h.0)
-      (asked_complete words texts out told done.code done.steps s.inner s.asked none.reads none.writes takes held s.says)
+complete words texts out err done s none takes = elim s.report [
+  | inl h ↦ subst (Answered words texts done.code) (sym h.0) (asked_complete words texts out done.code done.steps s.inner s.asked none.reads none.writes takes s.says)
   | inr h ↦ absurd (none.errs h.1)
 ]

@@ -1,6 +1,5 @@
 -- A run of the portable machine says what an answer of the mode `mean` says.
-use Rattle.std.proofs.Common.{◌≡◌, ◌≢◌, ℕ, ◌+◌, ◌-◌, ◌<◌, ◌≤◌, List, [], ◌++◌, take, Option, sym, ap, ◌∙◌, subst, arith, refl}
-use Rattle.lg_base.specs.Runs.{Running}
+use Rattle.std.proofs.Common.{◌≡◌, ℕ, ◌-◌, ◌≤◌, List, [], ◌++◌, take, sym, ap, ◌∙◌, subst, arith}
 use Rattle.lg_node.specs.Nodes.{LabelledNodes}
 use Rattle.lg_node.specs.Shapes.{TextShape}
 use Rattle.lg_meaning.specs.States.{State}

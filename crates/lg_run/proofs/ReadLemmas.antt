@@ -1,5 +1,5 @@
 -- Texts that are too long.
-use Rattle.std.proofs.Common.{◌≡◌, ℕ, zero, suc, ◌<◌, List, [], ◌∷◌, length, Option, Some, None, IfSome, sym, arith}
+use Rattle.std.proofs.Common.{ℕ, zero, suc, ◌<◌, List, [], ◌∷◌, length, Option, Some, None, IfSome, sym, arith}
 use Rattle.lg_io.specs.NamedTexts.{NamedTexts, Selects}
 use Rattle.lg_run.specs.Reads.{IsLongText}
 use Rattle.lg_run.specs.Refused.{most_text}

@@ -1,6 +1,6 @@
 -- A text is refused for one reason.
-use Rattle.std.proofs.Common.{◌≡◌, ℕ, ◌+◌, ◌*◌, ◌<◌, ◌≤◌, inl, inr, List, length, Some, sym, ap, ◌∙◌, subst, arith, ⊎_elim}
-use Rattle.std.specs.Prelude.{◌≢◌, Result, Ok, Err, slice_get}
+use Rattle.std.proofs.Common.{◌≡◌, ℕ, inl, inr, List, length, Some, sym, ap, ◌∙◌, subst, arith, ⊎_elim}
+use Rattle.std.specs.Prelude.{Result, Ok, Err}
 use Rattle.std.proofs.lemmas.Bool.{cases_lt}
 use Rattle.lg_base.specs.declared.refusal.Refusal.{Refusal}
 use Rattle.lg_base.specs.declared.target.Target.{Target}
@@ -11,7 +11,7 @@ use Rattle.lg_node.specs.Nodes.{LabelledNodes}
 use Rattle.lg_node.specs.Checks.{IsAccepted, IsRefused, refusal_at}
 use Rattle.lg_node.specs.declared.unit.Unit.{Unit as TextUnit}
 use Rattle.lg_tst.specs.Units.{unit_of}
-use Rattle.lg_run.specs.Refused.{ArgumentsFit, IsBuilt, IsRefusedAs, IsRefusedCall, IsRefusedCode, IsRefusedText, IsRefusedUnit, IsTextUnder, IsUnitOf, MayBeFull, TextsAreRefusedOnce, code_full, most_text}
+use Rattle.lg_run.specs.Refused.{ArgumentsFit, IsBuilt, IsRefusedAs, IsRefusedCall, IsRefusedCode, IsRefusedText, IsRefusedUnit, IsTextUnder, IsUnitOf, MayBeFull, TextsAreRefusedOnce, code_full}
 use Rattle.lg_run.proofs.SameLemmas.{none_some, some_same}
 
 checked_once : (l : LabelledNodes) (r q : Refusal) → IsRefused l r → IsRefused l q → r ≡ q

@@ -1,15 +1,15 @@
 -- One more step of a run on a processor.
-use Rattle.std.proofs.Common.{◌≡◌, ◌≢◌, ℕ, suc, ◌+◌, ◌<◌, ◌≤◌, List, [], ◌++◌, take, Option, sym, ap, ap₂, ◌∙◌, subst, arith, refl}
+use Rattle.std.proofs.Common.{◌≡◌, ℕ, suc, ◌+◌, ◌<◌, ◌≤◌, List, [], ◌++◌, take, Option, sym, ap, ap₂, ◌∙◌, subst, arith, refl}
 use Rattle.std.specs.Io.KnownBytes.{Appends}
 use Rattle.std.proofs.KnownBytes.{Appends-trans}
-use Rattle.lg_base.specs.Runs.{Running, iter}
+use Rattle.lg_base.specs.Runs.{Running}
 use Rattle.lg_base.specs.declared.fault.FaultKind.{FaultKind}
 use Rattle.lg_temp.proofs.Steps.{iter-zero, iter-suc}
 use Rattle.lg_cpu.specs.Answers.{answer_of, progress_of}
 use Rattle.lg_cpu.specs.Machines.{CpuSays, SaysAfter, Shown, StepShows, after_step, run_of}
 use Rattle.lg_cpu.specs.Targets.{effect_of}
 use Rattle.lg_cpu.specs.States.{CpuState}
-use Rattle.lg_cpu.specs.Steps.{Effect, Progress, Goes, EndedWith, Faulted, Run, after, machine, on_going, status_of, stepped}
+use Rattle.lg_cpu.specs.Steps.{Effect, Progress, Goes, EndedWith, Faulted, after, machine, on_going, status_of, stepped}
 use Rattle.lg_cpu.specs.declared.answer.CpuStep.{CpuStep}
 use Rattle.lg_cpu.specs.declared.answer.CpuStep.TheVariants as cpu
 use Rattle.lg_cpu.proofs.RunLemmas.{machine_is}

@@ -1,7 +1,7 @@
 -- Constructors are told apart, and equal ones hold the same.
 use Rattle.std.proofs.Common.{◌≡◌, ℕ, Some, None}
 use Rattle.std.specs.Prelude.{Result, Ok}
-use Rattle.lg_base.specs.Runs.{Ended, Running, Bad}
+use Rattle.lg_base.specs.Runs.{Ended}
 use Rattle.lg_cpu.specs.Steps.{Progress, Goes, EndedWith, Faulted, status_of}
 use Rattle.lg_run.specs.declared.answer.Answer.TheVariants as answer
 

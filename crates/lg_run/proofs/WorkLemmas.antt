@@ -1,5 +1,5 @@
 -- What the parts of the call say.
-use Rattle.std.proofs.Common.{◌≡◌, ℕ, List, Option, Some, None, length, refl, sym, ap, ◌∙◌, subst}
+use Rattle.std.proofs.Common.{◌≡◌, ℕ, Option, Some, refl, sym, subst}
 use Rattle.std.specs.Prelude.{Ok}
 use Rattle.lg_asm.specs.Assembled.{Assembled}
 use Rattle.lg_base.specs.declared.refusal.Refusal.{Refusal}
@@ -13,10 +13,10 @@ use Rattle.lg_node.specs.Labels.{taken_labels}
 use Rattle.lg_node.specs.Nodes.{LabelledNodes}
 use Rattle.lg_node.specs.Shapes.{IsChecked, TextShape, shape_of}
 use Rattle.lg_node.specs.declared.unit.Unit.{Unit as TextUnit}
-use Rattle.lg_run.specs.Changes.{SinkChange, TextsChange, TellsReads, TellsWrites}
+use Rattle.lg_run.specs.Changes.{SinkChange, TellsWrites}
 use Rattle.lg_run.specs.Refused.{IsRefusedCall}
 use Rattle.lg_run.specs.Runs.{MeanSays, RunSays}
-use Rattle.lg_run.specs.Says.{AnswerSays, CodeSays, IsCodeOf, IsStill, IsUntouched, ModeSays, code_meaning, code_run}
+use Rattle.lg_run.specs.Says.{AnswerSays, CodeSays, IsCodeOf, IsUntouched, ModeSays, code_meaning, code_run}
 use Rattle.lg_run.specs.Work.{StartSays, TellsNoRead}
 use Rattle.lg_run.specs.declared.answer.Answer.{Answer}
 use Rattle.lg_run.specs.declared.answer.Answer.TheVariants.{Ended, Listed, Undefined, Refused, Usage, ReadFault, WriteFault, StepsOut, Fault, OutOfMemory}

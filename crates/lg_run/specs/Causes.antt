@@ -16,7 +16,6 @@ use Rattle.lg_run.specs.Changes.{SinkChange, TextsChange}
 use Rattle.lg_run.specs.Refused.{IsRefusedCall}
 use Rattle.lg_run.specs.Runs.{HasMeant, HasRun}
 use Rattle.lg_run.specs.Says.{IsCodeOf, IsStill, IsUntouched, code_meaning, code_run}
-use Rattle.lg_run.specs.declared.answer.Answer.{Answer}
 use Rattle.lg_run.specs.declared.answer.Answer.TheVariants.{Undefined, Refused, Usage, ReadFault, WriteFault, StepsOut, Fault, OutOfMemory}
 use Rattle.lg_run.specs.declared.answer.Done.{Done}
 

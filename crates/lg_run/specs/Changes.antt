@@ -1,9 +1,9 @@
 -- What a call leaves of the objects that it is given.
-use Rattle.std.specs.Prelude.{◌≡◌, ℕ, List, Option}
+use Rattle.std.specs.Prelude.{◌≡◌, ℕ, List, Option, Result}
 use Rattle.std.specs.Io.KnownBytes.{Appends}
 use Rattle.lg_io.specs.Counts.{Rose}
 use Rattle.lg_io.specs.NamedTexts.{NamedTexts}
-use Rattle.lg_io.specs.Wrote.{AppendsPrefix}
+use Rattle.lg_io.specs.Wrote.{AppendsPrefix, Wrote}
 use Rattle.lg_run.specs.declared.answer.Answer.{Answer}
 use Rattle.lg_run.specs.declared.answer.Answer.TheVariants.{ReadFault, WriteFault}
 
@@ -33,6 +33,10 @@ Took s bytes = Appends s.taken s.taken' bytes
 -- or a part of them, from the first one on
 abbrev pub TookPart : SinkChange → List ℕ → Type 0
 TookPart s bytes = AppendsPrefix s.taken s.taken' bytes
+
+-- a call wrote these bytes: all at Ok, and some at Err, where the count rose
+abbrev pub WroteTo : {T E : Type 0} → SinkChange → Result T E → List ℕ → Type 0
+WroteTo s result bytes = Wrote s.taken s.taken' s.faults s.faults' result bytes
 
 -- a fault of the texts came exactly where that is the answer
 abbrev pub TellsReads : Answer → TextsChange → Type 0

@@ -1,6 +1,7 @@
 -- Which answer comes, where no count rose and memory was had.
-use Rattle.std.specs.Prelude.{◌≡◌, ◌≢◌, ◌≤◌, ◌+◌, ◌*◌, ◌⊎◌, ℕ, List, length, Option, Some, IsSome}
+use Rattle.std.specs.Prelude.{◌≡◌, ◌≢◌, ◌<◌, ◌≤◌, ◌+◌, ◌*◌, ◌⊎◌, ℕ, List, length, Option, Some, IsSome}
 use Rattle.lg_asm.specs.Assembled.{Assembled}
+use Rattle.lg_base.specs.Arguments.{args_of, args_too_long, most_args}
 use Rattle.lg_base.specs.Runs.{Status, Running, Ended, Bad}
 use Rattle.lg_base.specs.declared.fault.FaultKind.{FaultKind}
 use Rattle.lg_base.specs.declared.refusal.Refusal.{Refusal}
@@ -14,7 +15,7 @@ use Rattle.lg_node.specs.Checks.{IsAccepted}
 use Rattle.lg_node.specs.declared.unit.Unit.{Unit as TextUnit}
 use Rattle.lg_run.specs.Changes.{SinkChange, TextsChange}
 use Rattle.lg_run.specs.Refused.{ArgumentsFit, IsBuilt, IsRefusedCall, IsUnitOf, code_full}
-use Rattle.lg_run.specs.Says.{Says, code_meaning, code_run}
+use Rattle.lg_run.specs.Says.{IsCodeOf, Says, code_meaning, code_run}
 use Rattle.lg_run.specs.declared.answer.Answer.{Answer}
 use Rattle.lg_run.specs.declared.answer.Answer.TheVariants as answer
 use Rattle.lg_run.specs.declared.answer.Done.{Done}
@@ -67,7 +68,12 @@ pub record IsFit (c : Command) (told : NamedTexts) (unit : TextUnit) : Type 0 wh
   pub built : IsBuilt c.target
   pub room : 256 * length unit.nodes.nodes + 256 ≤ c.size
 
--- what is answered to a command, where the texts are told
+-- what is answered to a command: arguments that are too long are refused, and code that is there runs as it means
+pub record AnswersCode (c : Command) (held : Option NamedTexts) (code : Option Assembled) (a : Answer) : Type 0 where
+  pub long : most_args < length (args_of c.arguments) → Comes a (answer.Refused args_too_long)
+  pub runs : (ran : Assembled) → code ≡ Some ran → (made : IsCodeOf c held ran) × IsCompleteIn c.mode c ran made.unit a
+
+-- and where the texts are told
 pub record AnswersCommand (c : Command) (told : NamedTexts) (code : Option Assembled) (a : Answer) : Type 0 where
   -- where there is a cause of refusal, other than that code has no room, that is the answer
   pub refuses : (refusal : Refusal) → refusal ≢ code_full → IsRefusedCall c (Some told) refusal → Comes a (answer.Refused refusal)
@@ -77,6 +83,7 @@ pub record AnswersCommand (c : Command) (told : NamedTexts) (code : Option Assem
 
 abbrev pub Completeness : Type 0
 Completeness =
-    (words : List (List ℕ)) (texts : TextsChange) (out err : SinkChange) (done : Done) (told : NamedTexts)
-    → Says words texts out err done → NoneRose texts out err → Takes words → texts.held ≡ Some told
-    → (done.answer ≡ answer.OutOfMemory) ⊎ ((c : Command) × IsCommand words c × AnswersCommand c told done.code done.answer)
+    (words : List (List ℕ)) (texts : TextsChange) (out err : SinkChange) (done : Done)
+    → Says words texts out err done → NoneRose texts out err → Takes words
+    → (done.answer ≡ answer.OutOfMemory) ⊎ ((c : Command) × IsCommand words c × AnswersCode c texts.held done.code done.answer
+    × ((told : NamedTexts) → texts.held ≡ Some told → AnswersCommand c told done.code done.answer))

@@ -39,9 +39,12 @@ abbrev pub IsRefusedCode : Target → (nodes size : ℕ) → Refusal → Type 0
 IsRefusedCode Riscv64 nodes size refusal = (refusal ≡ code_full) × MayBeFull nodes size
 IsRefusedCode target nodes size refusal = refusal ≡ not_yet
 
+abbrev pub IsRefusedAccepted : Command → LabelledNodes → Refusal → Type 0
+IsRefusedAccepted c l refusal = IsRefusedCode c.target (length l.nodes) c.size refusal
+
 -- nodes are refused by the first fault of their checks, or else as code
 abbrev pub IsRefusedUnit : Command → LabelledNodes → Refusal → Type 0
-IsRefusedUnit c l refusal = IsRefused l refusal ⊎ (IsAccepted l × IsRefusedCode c.target (length l.nodes) c.size refusal)
+IsRefusedUnit c l refusal = IsRefused l refusal ⊎ (IsAccepted l × IsRefusedAccepted c l refusal)
 
 -- the first fault of the reading is the reason, or else that of the unit
 abbrev pub IsRefusedAs : Command → Result TextUnit Refusal → Refusal → Type 0

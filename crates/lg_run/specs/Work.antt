@@ -1,5 +1,5 @@
 -- What the parts of the call say.
-use Rattle.std.specs.Prelude.{◌≡◌, List, ℕ, Option, Some}
+use Rattle.std.specs.Prelude.{◌≡◌, List, ℕ, Option}
 use Rattle.lg_asm.specs.Assembled.{Assembled}
 use Rattle.lg_command.specs.Commands.{Command}
 use Rattle.lg_command.specs.declared.command.Mode.{Mode}
@@ -7,7 +7,7 @@ use Rattle.lg_io.specs.NamedTexts.{NamedTexts}
 use Rattle.lg_node.specs.declared.unit.Unit.{Unit as TextUnit}
 use Rattle.lg_run.specs.Changes.{TextsChange, SinkChange, TellsReads}
 use Rattle.lg_run.specs.Refused.{IsTextUnder, IsUnitOf}
-use Rattle.lg_run.specs.Says.{AnswerSays, IsStill, ModeSays}
+use Rattle.lg_run.specs.Says.{AnswerSays, IsStill, ModeSays, WorkSays}
 use Rattle.lg_run.specs.declared.answer.Answer.{Answer}
 use Rattle.lg_run.specs.declared.answer.Answer.TheVariants.{OutOfMemory}
 use Rattle.lg_run.specs.declared.answer.Done.{Done}
@@ -23,6 +23,9 @@ RanSays m c code unit out ran = StartSays m c code unit out ran.steps ran.answer
 
 abbrev pub DoneSays : Command → Option NamedTexts → SinkChange → Done → Type 0
 DoneSays c held out done = AnswerSays c held done.code done.steps out done.answer
+
+abbrev pub WorkDone : Command → TextsChange → SinkChange → Done → Type 0
+WorkDone c texts out done = WorkSays c texts out done.code done.steps done.answer
 
 -- this was done with a text
 abbrev pub TextDone : Command → List ℕ → SinkChange → Done → Type 0

@@ -3,9 +3,10 @@
 ghost use Rattle.lg_run.specs.Complete.{Completeness};
 ghost use Rattle.lg_run.specs.Refused.{TextsAreRefusedOnce};
 
-/// Where clap takes the words, the texts are told, no count of faults rose and memory was had, the answer says where the run of the
-/// code, or the meaning, stands after the most steps: it is the meaning's end where that comes in time, and a refusal where there is a
-/// cause of one; and where the meaning is never undefined, the processor doesn't fault.
+/// Where clap takes the words, no count of faults rose and memory was had, the answer says where the run of the code that is there, or
+/// its meaning, stands after the most steps: it is the meaning's end where that comes in time, and no fault where the meaning is never
+/// undefined. Where the texts are told, there is code of every text that is accepted, built and has room, and a refusal is the answer where
+/// there is a cause of one.
 pub fn completeness()
     ensures { Completeness }
 {}

@@ -1,8 +1,8 @@
 // The lines on err.
 
-ghost use Rattle.std.specs.Prelude.{[], ◌∷◌, codes};
-ghost use Rattle.lg_io.specs.Wrote.{Wrote, row};
-ghost use Rattle.lg_run.specs.Lines.{line_of};
+ghost use Rattle.std.specs.Prelude.{[]};
+ghost use Rattle.lg_run.specs.Changes.{WroteTo, on_sink};
+ghost use Rattle.lg_run.specs.Lines.{line_of, refusal_line};
 
 use crate::answer::Answer;
 use lg_base::fault::FaultKind;
@@ -11,7 +11,7 @@ use lg_io::digits::{Digits, Radix};
 use lg_io::sink::{Sink, SinkFault, write_parts};
 
 fn write_undefined<E: Sink>(line: u32, steps: u64, err: &mut E) -> Result<(), SinkFault>
-    ensures { Wrote (E.taken err.old) (E.taken err.new) (E.faults err.old) (E.faults err.new) result (line_of [] steps (Answer.Undefined line)) }
+    ensures { WroteTo (on_sink E.taken E.faults err.old err.new) result (line_of [] steps (Answer.Undefined line)) }
 {
     let line = Digits::of(u64::from(line), Radix::Decimal);
     let steps = Digits::of(steps, Radix::Decimal);
@@ -35,7 +35,7 @@ fn write_refusal<'a, E: Sink>(
     name: &'a [u8],
     err: &mut E,
 ) -> Result<(), SinkFault>
-    ensures { Wrote (E.taken err.old) (E.taken err.new) (E.faults err.old) (E.faults err.new) result (row (codes "lightning: " ∷ file.entry.now ∷ codes ":" ∷ line.entry.now ∷ codes ": refused " ∷ number.entry.now ∷ codes " " ∷ name.entry.now ∷ codes "\n" ∷ [])) }
+    ensures { WroteTo (on_sink E.taken E.faults err.old err.new) result (refusal_line file.entry.now line.entry.now number.entry.now name.entry.now) }
 {
     write_parts(
         err,
@@ -54,7 +54,7 @@ fn write_refusal<'a, E: Sink>(
 }
 
 fn write_refused<E: Sink>(file: &str, refusal: Refusal, err: &mut E) -> Result<(), SinkFault>
-    ensures { Wrote (E.taken err.old) (E.taken err.new) (E.faults err.old) (E.faults err.new) result (line_of file.now 0 (Answer.Refused refusal)) }
+    ensures { WroteTo (on_sink E.taken E.faults err.old err.new) result (line_of file.now 0 (Answer.Refused refusal)) }
 {
     let line = Digits::of(u64::from(refusal.line), Radix::Decimal);
     let number = Digits::of(u64::from(refusal.kind.number()), Radix::Decimal);
@@ -68,7 +68,7 @@ fn write_refused<E: Sink>(file: &str, refusal: Refusal, err: &mut E) -> Result<(
 }
 
 fn write_steps_out<E: Sink>(steps: u64, err: &mut E) -> Result<(), SinkFault>
-    ensures { Wrote (E.taken err.old) (E.taken err.new) (E.faults err.old) (E.faults err.new) result (line_of [] steps Answer.StepsOut) }
+    ensures { WroteTo (on_sink E.taken E.faults err.old err.new) result (line_of [] steps Answer.StepsOut) }
 {
     let steps = Digits::of(steps, Radix::Decimal);
     write_parts(
@@ -78,7 +78,7 @@ fn write_steps_out<E: Sink>(steps: u64, err: &mut E) -> Result<(), SinkFault>
 }
 
 fn write_fault<E: Sink>(kind: FaultKind, pc: u64, steps: u64, err: &mut E) -> Result<(), SinkFault>
-    ensures { Wrote (E.taken err.old) (E.taken err.new) (E.faults err.old) (E.faults err.new) result (line_of [] steps (Answer.Fault kind pc)) }
+    ensures { WroteTo (on_sink E.taken E.faults err.old err.new) result (line_of [] steps (Answer.Fault kind pc)) }
 {
     let pc = Digits::of(pc, Radix::Hexadecimal);
     let steps = Digits::of(steps, Radix::Decimal);
@@ -103,7 +103,7 @@ pub fn write_line<E: Sink>(
     steps: u64,
     err: &mut E,
 ) -> Result<(), SinkFault>
-    ensures { Wrote (E.taken err.old) (E.taken err.new) (E.faults err.old) (E.faults err.new) result (line_of file.now steps answer) }
+    ensures { WroteTo (on_sink E.taken E.faults err.old err.new) result (line_of file.now steps answer) }
 {
     match answer {
         Answer::Ended(_) => write_parts(err, &[]),

@@ -5,8 +5,7 @@ ghost use Rattle.lg_meaning.specs.Fits.{Fits};
 ghost use Rattle.lg_mean.specs.Machines.{state_of};
 ghost use Rattle.lg_mean.specs.Programs.{IsTableOf};
 ghost use Rattle.lg_run.specs.Changes.{TellsWrites, on_sink};
-ghost use Rattle.lg_run.specs.Means.{answer_of, meaning_from};
-ghost use Rattle.lg_run.specs.Runs.{MeanSays};
+ghost use Rattle.lg_run.specs.Means.{MeantFrom, answer_of};
 
 use crate::answer::Answer;
 use crate::run::Ran;
@@ -40,7 +39,7 @@ pub fn run_meaning<O: Sink>(
     requires fits { Fits unit.now.nodes shape.now (state_of machine.old.machine) }
     requires running { machine.old.over ≡ None }
     requires steps { machine.old.steps ≡ 0 }
-    ensures says { MeanSays unit.now.nodes (meaning_from unit.now.nodes shape.now machine.old) most result.steps (on_sink O.taken O.faults out.old out.new) result.answer }
+    ensures says { MeantFrom unit.now.nodes shape.now machine.old most (on_sink O.taken O.faults out.old out.new) result }
     ensures writes { TellsWrites result.answer (on_sink O.taken O.faults out.old out.new) }
 {
     let end = machine.run(unit, shape, most, out);

@@ -11,9 +11,8 @@ ghost use Rattle.lg_cpu.specs.Laws.{AreBytes};
 ghost use Rattle.lg_node.specs.Shapes.{IsChecked};
 ghost use Rattle.lg_tst.specs.Answers.{IsWhole};
 ghost use Rattle.lg_run.specs.Changes.{TellsWrites, on_sink, on_texts};
-ghost use Rattle.lg_run.specs.Refused.{IsBuilt, IsRefusedCode, most_text};
-ghost use Rattle.lg_run.specs.Says.{WorkSays};
-ghost use Rattle.lg_run.specs.Work.{RanSays, TellsNoRead, TextDone, UnitDone};
+ghost use Rattle.lg_run.specs.Refused.{IsBuilt, IsRefusedAccepted, most_text};
+ghost use Rattle.lg_run.specs.Work.{RanSays, TellsNoRead, TextDone, UnitDone, WorkDone};
 
 use crate::answer::{Answer, Done};
 use crate::mean::run_meaning;
@@ -84,7 +83,7 @@ fn code_of(alloc: Global, command: &Command<'_>, text: &Accepted) -> Result<Code
     ensures nodes { IfOk result (λ c. c.nodes ≡ text.now.unit.nodes) }
     ensures size { IfOk result (λ c. length c.bytes ≤ command.now.size) }
     ensures agrees { IfOk result (λ c. Agrees c.bytes c.labels text.now.unit command.now.target) }
-    ensures refused { (r : Refusal) → result ≡ Err (Stop.Refused r) → IsRefusedCode command.now.target (length text.now.unit.nodes.nodes) command.now.size r }
+    ensures refused { (r : Refusal) → result ≡ Err (Stop.Refused r) → IsRefusedAccepted (shown command.now) text.now.unit.nodes r }
 {
     match command.target {
         Target::Riscv64 => assemble(
@@ -251,7 +250,7 @@ pub fn work<T: Texts, O: Sink>(
     out: &mut O,
 ) -> Done
     requires { IsInRange command.now }
-    ensures { let out_change = on_sink O.taken O.faults out.old out.new in WorkSays (shown command.now) (on_texts T.held T.faults texts.old texts.new) out_change result.code result.steps result.answer }
+    ensures { WorkDone (shown command.now) (on_texts T.held T.faults texts.old texts.new) (on_sink O.taken O.faults out.old out.new) result }
 {
     let args = match args_image(alloc, &command.arguments) {
         Ok(args) => args,

@@ -6,26 +6,27 @@ ghost use Rattle.std.specs.Prelude.{◌≡◌};
 ghost use Rattle.std.specs.Process.{exit_status};
 ghost use Rattle.lg_run.specs.Statuses.{status_of_answer};
 
-use lg_base::refusal::OutOfMemory;
 use lg_io::standard::{StdSink, StdTexts};
 use lg_run::answer::{Answer, status};
 use lg_run::top::{lightning, report};
 use std::process::ExitCode;
 use std::{env, io};
 
-// The words of the process, the program's name first. Where one of them is no text there are none, which is no form of
-// the command.
-fn words(rt: &HostRuntime) -> Result<Vec<String>, OutOfMemory> {
+// The words of the process, the program's name first, or the answer where there are none: words that are no text are of no form of the
+// command.
+fn words(rt: &HostRuntime) -> Result<Vec<String>, Answer> {
     let mut words = Vec::new(rt.alloc());
     match env::args(rt) {
         Ok(args) => {
             for word in args {
-                words.push(word)?;
+                if words.push(word).is_err() {
+                    return Err(Answer::OutOfMemory);
+                }
             }
             Ok(words)
         }
-        Err(fault) if fault.kind() == io::ErrorKind::OutOfMemory => Err(OutOfMemory),
-        Err(_) => Ok(words),
+        Err(fault) if fault.kind() == io::ErrorKind::OutOfMemory => Err(Answer::OutOfMemory),
+        Err(_) => Err(Answer::Usage),
     }
 }
 
@@ -42,7 +43,7 @@ fn main(rt: HostRuntime) -> ExitCode {
     let mut err = StdSink::new(rt.stderr());
     let answer = match words(&rt) {
         Ok(words) => lightning(rt.alloc(), &words, &mut texts, &mut out, &mut err).answer,
-        Err(OutOfMemory) => report("", Answer::OutOfMemory, 0, &mut err),
+        Err(answer) => report("", answer, 0, &mut err),
     };
     exit_code(&answer)
 }

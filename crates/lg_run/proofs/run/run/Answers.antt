@@ -1,10 +1,10 @@
-use Rattle.std.proofs.Common.{◌≡◌, ◌+◌, ◌++◌, [], ap, sym, ◌∙◌, arith, refl}
+use Rattle.std.proofs.Common.{◌+◌, ◌++◌, [], ap, sym, ◌∙◌, arith, refl}
 use Rattle.std.proofs.KnownBytes.{Appends-nil, Appends-trans}
 use Rattle.lg_cpu.specs.Answers.{counted}
 use Rattle.lg_cpu.specs.Machines.{shown}
 use Rattle.lg_cpu.specs.declared.answer.CpuStep.TheVariants as cpu
 use Rattle.lg_run.specs.Changes.{on_sink}
-use Rattle.lg_run.proofs.RunLemmas.{at_start, effect_at, says_ended, says_fault, says_going, says_out, says_write, then_at}
+use Rattle.lg_run.proofs.RunLemmas.{at_start, effect_at, says_ended, says_fault, says_going, says_write, then_at}
 use Rattle.lg_run.proofs.run.run.Goals as goal
 
 pub loop-steps-init : goal.loop-steps-init

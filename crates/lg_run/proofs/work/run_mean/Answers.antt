@@ -1,10 +1,9 @@
-use Rattle.std.proofs.Common.{◌≡◌, ℕ, List, ap, sym, ◌∙◌, subst}
+use Rattle.std.proofs.Common.{◌≡◌, ap, ◌∙◌, subst}
 use Rattle.lg_base.specs.Arguments.{args_of, texts_of}
 use Rattle.lg_command.specs.Commands.{shown}
 use Rattle.lg_meaning.specs.Means as means
 use Rattle.lg_meaning.specs.Starts.{start_state}
 use Rattle.lg_mean.specs.Machines.{state_of}
-use Rattle.lg_carry.specs.Agreement.{shape_of_unit}
 use Rattle.lg_run.specs.Changes.{on_sink}
 use Rattle.lg_run.specs.Means.{meaning_from}
 use Rattle.lg_run.specs.Runs.{MeanSays}
@@ -23,6 +22,6 @@ returns-in-Ok-clause-says g c =
     let start : state_of c.in-Ok.machine.machine ≡ start_state unit.image (args_of (texts_of c.args.command.now.arguments.items)) = made.start ∙ ap (start_state unit.image) c.requires.args in
     let labels : c.in-Ok.machine.labels.addresses ≡ code.labels = made.addresses ∙ c.labels-2.ensures in
     let same : meaning_from unit.nodes shape c.in-Ok.machine ≡ code_meaning command code unit =
-        λ i n. means.mean_from unit.nodes (shape_is unit.nodes shape c.requires.checked i) (labels i) (start i) n in
+    λ i n. means.mean_from unit.nodes (shape_is unit.nodes shape c.requires.checked i) (labels i) (start i) n in
     mean_started command code unit out c.run_meaning.result.steps c.run_meaning.result.answer
     (subst (λ m. MeanSays unit.nodes m command.steps c.run_meaning.result.steps out c.run_meaning.result.answer) same c.run_meaning.ensures.says)
