@@ -1,33 +1,14 @@
 use Rattle.std.proofs.Common.{◌≡◌, ℕ, ◌∙◌, ap, subst}
-use Rattle.lg_asm.specs.Assembled.{Assembled}
-use Rattle.lg_base.specs.Arguments.{texts_of}
-use Rattle.lg_command.specs.Commands.{Command, shown as shown_command}
-use Rattle.lg_command.specs.declared.command.Mode.TheVariants as mode
+use Rattle.lg_command.specs.Commands.{shown as shown_command}
 use Rattle.lg_cpu.specs.Machines.{shown, shown_at_start}
 use Rattle.lg_cpu.specs.States.{CpuState}
 use Rattle.lg_cpu.specs.Steps.{Run}
-use Rattle.lg_node.specs.declared.unit.Unit.{Unit as TextUnit}
-use Rattle.lg_run.specs.Changes.{SinkChange, on_sink}
+use Rattle.lg_run.specs.Changes.{on_sink}
 use Rattle.lg_run.specs.Cpus.{run_from}
 use Rattle.lg_run.specs.Runs.{RunSays}
 use Rattle.lg_run.specs.Says.{code_run, trash_word}
-use Rattle.lg_run.specs.Work.{StartSays}
-use Rattle.lg_run.specs.declared.answer.Answer.{Answer}
-use Rattle.lg_run.specs.declared.answer.Answer.TheVariants.{Ended, Listed, Undefined, Refused, Usage, ReadFault, WriteFault, StepsOut, Fault, OutOfMemory}
+use Rattle.lg_run.proofs.WorkLemmas.{run_started}
 use Rattle.lg_run.proofs.work.run_code.Goals as goal
-
--- what is said of the run of this code
-ran : (c : Command) (code : Assembled) (unit : TextUnit) (out : SinkChange) (steps : ℕ) (answer : Answer) → RunSays (code_run c code unit) c.steps steps out answer → StartSays mode.Run c code unit out steps answer
-ran c code unit out steps (Ended status) h = h
-ran c code unit out steps Listed h = h
-ran c code unit out steps (Undefined line) h = h
-ran c code unit out steps (Refused refusal) h = h
-ran c code unit out steps Usage h = h
-ran c code unit out steps ReadFault h = h
-ran c code unit out steps WriteFault h = h
-ran c code unit out steps StepsOut h = h
-ran c code unit out steps (Fault kind pc) h = h
-ran c code unit out steps OutOfMemory h = absurd h
 
 pub returns-in-Ok-clause-says : goal.returns-in-Ok-clause-says
 returns-in-Ok-clause-says g c =
@@ -40,4 +21,4 @@ returns-in-Ok-clause-says g c =
         ∙ ap (λ a. shown_at_start command.target code.bytes unit.image a trash_word) c.requires.args in
     let runs : run_from (shown c.in-Ok.cpu) ≡ code_run command code unit = ap run_from started in
     let out = on_sink g.O.Sink.taken g.O.Sink.faults c.args.out.now c.run.new.out in
-    ran command code unit out c.run.result.steps c.run.result.answer (subst (λ (f : ℕ → Run CpuState). RunSays f command.steps c.run.result.steps out c.run.result.answer) runs c.run.ensures.says)
+    run_started command code unit out c.run.result.steps c.run.result.answer (subst (λ (f : ℕ → Run CpuState). RunSays f command.steps c.run.result.steps out c.run.result.answer) runs c.run.ensures.says)
