@@ -1,9 +1,23 @@
 // Rows of texts that run.
 
+ghost use Rattle.std.specs.Prelude.{◌≤◌, length};
+
 use crate::row::{Row, begins, check, meant, plain};
 use crate::texts::{first_letter, kept_registers, wrapped_sum};
 use std::process::Abort;
 use std::test::Fail;
+
+// In the table a row is a text, then 1F and what it writes; between rows stands 1E. Each ends with status 0.
+const ROWS: &[u8] =
+    b".data 16 msg: .c \"hello\" .code prolog prepare pushargi msg finishi @puts ret epilog\x1fhello\n\x1e\
+        .data 32 fmt: .c \"%d %lx\\n\" .code prolog\nmovi %v0 0x7fffffffffffffff movi %v1 1 boaddi a %v0 1 movi %v1 0 a: prepare pushargi fmt ellipsis pushargr %v1 pushargr %v0 finishi @printf \nmovi %v0 -1 movi %v1 1 boaddi_u b %v0 1 movi %v1 0 b: prepare pushargi fmt ellipsis pushargr %v1 pushargr %v0 finishi @printf \nmovi %v0 0x7fffffffffffffff movi %v1 1 bxaddi c %v0 1 movi %v1 0 c: prepare pushargi fmt ellipsis pushargr %v1 pushargr %v0 finishi @printf \nret epilog\x1f1 8000000000000000\n1 0\n0 8000000000000000\n\x1e\
+        .data 16 fmt: .c \"%lx %lx\\n\" .code prolog movi %v0 -1 movi %v1 0 movi %r0 1 addcr %v0 %v0 %r0 movi %r1 0 addxr %v1 %v1 %r1 prepare pushargi fmt ellipsis pushargr %v1 pushargr %v0 finishi @printf ret epilog\x1f1 0\n\x1e\
+        .data 16 fmt: .c \"%ld %ld %lu\\n\" .code prolog movi %r0 -7 divi %v0 %r0 2 remi %v1 %r0 2 divi_u %v2 %r0 2 prepare pushargi fmt ellipsis pushargr %v0 pushargr %v1 pushargr %v2 finishi @printf ret epilog\x1f-3 -1 9223372036854775804\n\x1e\
+        .data 16 fmt: .c \"%ld %ld\\n\" .code prolog movi %r0 3 movi %r1 10 movi %v0 45 subr %r0 %r1 %r0 qdivr %r0 %v0 %v0 %r0 prepare pushargi fmt ellipsis pushargr %r0 pushargr %v0 finishi @printf ret epilog\x1f6 3\n\x1e\
+        .data 32 fmt: .c \"%d %d %d %d %d %d %d %d\\n\" .code prolog prepare pushargi fmt ellipsis pushargi 1 pushargi 2 pushargi 3 pushargi 4 pushargi 5 pushargi 6 pushargi 7 pushargi 8 finishi @printf ret epilog\x1f1 2 3 4 5 6 7 8\n\x1e\
+        .data 16384 fmt: .c \"%ld %ld\\n\" .align 4096 .size 4096 mid: .size 4097 .code prolog movi %v0 mid movi %r1 0x80 stxi_c 2047 %v0 %r1 ldxi_c %v1 %v0 2047 ldxi_uc %v2 %v0 2047 prepare pushargi fmt ellipsis pushargr %v1 pushargr %v2 finishi @printf  movi %r1 0x80 stxi_c 2048 %v0 %r1 ldxi_c %v1 %v0 2048 ldxi_uc %v2 %v0 2048 prepare pushargi fmt ellipsis pushargr %v1 pushargr %v2 finishi @printf  movi %r1 0x80 stxi_c -2048 %v0 %r1 ldxi_c %v1 %v0 -2048 ldxi_uc %v2 %v0 -2048 prepare pushargi fmt ellipsis pushargr %v1 pushargr %v2 finishi @printf  movi %r1 0x80 stxi_c -2049 %v0 %r1 ldxi_c %v1 %v0 -2049 ldxi_uc %v2 %v0 -2049 prepare pushargi fmt ellipsis pushargr %v1 pushargr %v2 finishi @printf  movi %r1 0x80 stxi_c 4095 %v0 %r1 ldxi_c %v1 %v0 4095 ldxi_uc %v2 %v0 4095 prepare pushargi fmt ellipsis pushargr %v1 pushargr %v2 finishi @printf  movi %r1 0x80 stxi_c 4096 %v0 %r1 ldxi_c %v1 %v0 4096 ldxi_uc %v2 %v0 4096 prepare pushargi fmt ellipsis pushargr %v1 pushargr %v2 finishi @printf  ret epilog\x1f-128 128\n-128 128\n-128 128\n-128 128\n-128 128\n-128 128\n\x1e\
+        .data 16 fmt: .c \"%ld %ld %ld\\n\" .code prolog prepare pushargi fmt ellipsis pushargi $(1 << 4 | 3) pushargi $(-7 / 2) pushargi $(0xffffffffffffffff) finishi @printf ret epilog\x1f19 -3 -1\n\x1e\
+        .data 40 fmt: .c \"[%5d|%-5d|%05d|%hhd|%x|%c|%%]\\n\" .code prolog prepare pushargi fmt ellipsis pushargi 42 pushargi 42 pushargi -42 pushargi 300 pushargi 255 pushargi 65 finishi @printf ret epilog\x1f[   42|42   |-0042|44|ff|A|%]\n";
 
 // A text that writes this and ends with this status: on RV64 it does what it means.
 fn ends(rt: &(impl AllocGlobal + Abort), text: &[u8], out: &[u8], status: u8) -> Result<(), Fail> {
@@ -11,77 +25,25 @@ fn ends(rt: &(impl AllocGlobal + Abort), text: &[u8], out: &[u8], status: u8) ->
     check(rt, &meant(text, out, b"", status))
 }
 
-#[test]
-fn puts_hello(rt: HostRuntime) -> Result<(), Fail> {
-    let text =
-        b".data 16 msg: .c \"hello\" .code prolog prepare pushargi msg finishi @puts ret epilog";
-    ends(&rt, text, b"hello\n", 0)
+// Where what a row writes begins, behind the byte 1F.
+fn output_place(row: &[u8]) -> usize
+    ensures { result ≤ length row.now }
+{
+    for (place, byte) in row.iter().enumerate() {
+        if *byte == 0x1f {
+            return place + 1;
+        }
+    }
+    row.len()
 }
 
 #[test]
-fn overflow_branches(rt: HostRuntime) -> Result<(), Fail> {
-    let text =
-        b".data 32 fmt: .c \"%d %lx\\n\" .code prolog\nmovi %v0 0x7fffffffffffffff movi %v1 1 boaddi a %v0 1 movi %v1 0 a: prepare pushargi fmt ellipsis pushargr %v1 pushargr %v0 finishi @printf \nmovi %v0 -1 movi %v1 1 boaddi_u b %v0 1 movi %v1 0 b: prepare pushargi fmt ellipsis pushargr %v1 pushargr %v0 finishi @printf \nmovi %v0 0x7fffffffffffffff movi %v1 1 bxaddi c %v0 1 movi %v1 0 c: prepare pushargi fmt ellipsis pushargr %v1 pushargr %v0 finishi @printf \nret epilog";
-    ends(
-        &rt,
-        text,
-        b"1 8000000000000000\n1 0\n0 8000000000000000\n",
-        0,
-    )
-}
-
-#[test]
-fn carry_chain(rt: HostRuntime) -> Result<(), Fail> {
-    let text =
-        b".data 16 fmt: .c \"%lx %lx\\n\" .code prolog movi %v0 -1 movi %v1 0 movi %r0 1 addcr %v0 %v0 %r0 movi %r1 0 addxr %v1 %v1 %r1 prepare pushargi fmt ellipsis pushargr %v1 pushargr %v0 finishi @printf ret epilog";
-    ends(&rt, text, b"1 0\n", 0)
-}
-
-#[test]
-fn signed_division(rt: HostRuntime) -> Result<(), Fail> {
-    let text =
-        b".data 16 fmt: .c \"%ld %ld %lu\\n\" .code prolog movi %r0 -7 divi %v0 %r0 2 remi %v1 %r0 2 divi_u %v2 %r0 2 prepare pushargi fmt ellipsis pushargr %v0 pushargr %v1 pushargr %v2 finishi @printf ret epilog";
-    ends(&rt, text, b"-3 -1 9223372036854775804\n", 0)
-}
-
-#[test]
-fn qdiv_alias(rt: HostRuntime) -> Result<(), Fail> {
-    let text =
-        b".data 16 fmt: .c \"%ld %ld\\n\" .code prolog movi %r0 3 movi %r1 10 movi %v0 45 subr %r0 %r1 %r0 qdivr %r0 %v0 %v0 %r0 prepare pushargi fmt ellipsis pushargr %r0 pushargr %v0 finishi @printf ret epilog";
-    ends(&rt, text, b"6 3\n", 0)
-}
-
-#[test]
-fn eight_arguments(rt: HostRuntime) -> Result<(), Fail> {
-    let text =
-        b".data 32 fmt: .c \"%d %d %d %d %d %d %d %d\\n\" .code prolog prepare pushargi fmt ellipsis pushargi 1 pushargi 2 pushargi 3 pushargi 4 pushargi 5 pushargi 6 pushargi 7 pushargi 8 finishi @printf ret epilog";
-    ends(&rt, text, b"1 2 3 4 5 6 7 8\n", 0)
-}
-
-#[test]
-fn offset_edges(rt: HostRuntime) -> Result<(), Fail> {
-    let text =
-        b".data 16384 fmt: .c \"%ld %ld\\n\" .align 4096 .size 4096 mid: .size 4097 .code prolog movi %v0 mid movi %r1 0x80 stxi_c 2047 %v0 %r1 ldxi_c %v1 %v0 2047 ldxi_uc %v2 %v0 2047 prepare pushargi fmt ellipsis pushargr %v1 pushargr %v2 finishi @printf  movi %r1 0x80 stxi_c 2048 %v0 %r1 ldxi_c %v1 %v0 2048 ldxi_uc %v2 %v0 2048 prepare pushargi fmt ellipsis pushargr %v1 pushargr %v2 finishi @printf  movi %r1 0x80 stxi_c -2048 %v0 %r1 ldxi_c %v1 %v0 -2048 ldxi_uc %v2 %v0 -2048 prepare pushargi fmt ellipsis pushargr %v1 pushargr %v2 finishi @printf  movi %r1 0x80 stxi_c -2049 %v0 %r1 ldxi_c %v1 %v0 -2049 ldxi_uc %v2 %v0 -2049 prepare pushargi fmt ellipsis pushargr %v1 pushargr %v2 finishi @printf  movi %r1 0x80 stxi_c 4095 %v0 %r1 ldxi_c %v1 %v0 4095 ldxi_uc %v2 %v0 4095 prepare pushargi fmt ellipsis pushargr %v1 pushargr %v2 finishi @printf  movi %r1 0x80 stxi_c 4096 %v0 %r1 ldxi_c %v1 %v0 4096 ldxi_uc %v2 %v0 4096 prepare pushargi fmt ellipsis pushargr %v1 pushargr %v2 finishi @printf  ret epilog";
-    ends(
-        &rt,
-        text,
-        b"-128 128\n-128 128\n-128 128\n-128 128\n-128 128\n-128 128\n",
-        0,
-    )
-}
-
-#[test]
-fn expressions(rt: HostRuntime) -> Result<(), Fail> {
-    let text =
-        b".data 16 fmt: .c \"%ld %ld %ld\\n\" .code prolog prepare pushargi fmt ellipsis pushargi $(1 << 4 | 3) pushargi $(-7 / 2) pushargi $(0xffffffffffffffff) finishi @printf ret epilog";
-    ends(&rt, text, b"19 -3 -1\n", 0)
-}
-
-#[test]
-fn printf_forms(rt: HostRuntime) -> Result<(), Fail> {
-    let text =
-        b".data 40 fmt: .c \"[%5d|%-5d|%05d|%hhd|%x|%c|%%]\\n\" .code prolog prepare pushargi fmt ellipsis pushargi 42 pushargi 42 pushargi -42 pushargi 300 pushargi 255 pushargi 65 finishi @printf ret epilog";
-    ends(&rt, text, b"[   42|42   |-0042|44|ff|A|%]\n", 0)
+fn prints(rt: HostRuntime) -> Result<(), Fail> {
+    for row in ROWS.split(|byte| *byte == 0x1e) {
+        let place = output_place(row);
+        ends(&rt, &row[..place.saturating_sub(1)], &row[place..], 0)?;
+    }
+    Ok(())
 }
 
 #[test]
@@ -96,10 +58,12 @@ fn ends_with_statuses(rt: HostRuntime) -> Result<(), Fail> {
     ends(&rt, wrapped_sum(), b"", 42)
 }
 
+// The number of calls that Fibonacci's recursion makes for the number in the first argument.
+const NFIBS: &[u8] =
+    b".data 32\nfmt: .c \"nfibs(%d) = %d\\n\"\n.code\n  jmpi main\nnfibs:\n  prolog\n  arg $in\n  getarg %v0 $in\n  movi %r0 1\n  blei_u out %v0 2\n  subi %r0 %v0 1\n  prepare pushargr %r0 finishi nfibs\n  retval %v1\n  subi %r0 %v0 2\n  prepare pushargr %r0 finishi nfibs\n  retval %r0\n  addr %r0 %r0 %v1\n  addi %r0 %r0 1\nout:\n  retr %r0\n  epilog\nmain:\n  prolog\n  arg $argc\n  arg $argv\n  getarg %r0 $argv\n  ldxi %r0 %r0 8\n  prepare pushargr %r0 finishi @atoi\n  retval_i %v0\n  prepare pushargr %v0 finishi nfibs\n  retval %r0\n  prepare pushargi fmt ellipsis pushargr %v0 pushargr %r0 finishi @printf\n  ret\n  epilog\n";
+
 #[test]
 fn nfibs(rt: HostRuntime) -> Result<(), Fail> {
-    let text =
-        b".data 32\nfmt: .c \"nfibs(%d) = %d\\n\"\n.code\n  jmpi main\nnfibs:\n  prolog\n  arg $in\n  getarg %v0 $in\n  movi %r0 1\n  blei_u out %v0 2\n  subi %r0 %v0 1\n  prepare pushargr %r0 finishi nfibs\n  retval %v1\n  subi %r0 %v0 2\n  prepare pushargr %r0 finishi nfibs\n  retval %r0\n  addr %r0 %r0 %v1\n  addi %r0 %r0 1\nout:\n  retr %r0\n  epilog\nmain:\n  prolog\n  arg $argc\n  arg $argv\n  getarg %r0 $argv\n  ldxi %r0 %r0 8\n  prepare pushargr %r0 finishi @atoi\n  retval_i %v0\n  prepare pushargr %v0 finishi nfibs\n  retval %r0\n  prepare pushargi fmt ellipsis pushargr %v0 pushargr %r0 finishi @printf\n  ret\n  epilog\n";
     let out = b"nfibs(10) = 109\n";
     let words = ["lightning", "--target", "riscv64", "t.tst", "10"];
     let meaning = [
@@ -115,28 +79,30 @@ fn nfibs(rt: HostRuntime) -> Result<(), Fail> {
         &rt,
         &Row {
             words: &words,
-            ..plain(text, out, b"", 0)
+            ..plain(NFIBS, out, b"", 0)
         },
     )?;
     check(
         &rt,
         &Row {
             words: &meaning,
-            ..plain(text, out, b"", 0)
+            ..plain(NFIBS, out, b"", 0)
         },
     )
 }
 
+// Writes how many argument words there are, and the last of three.
+const ARGUMENTS: &[u8] =
+    b".data 8 fmt: .c \"%d %s\\n\" .code prolog arg $argc arg $argv getarg %r0 $argv ldxi %v0 %r0 16 getarg %v1 $argc prepare pushargi fmt ellipsis pushargr %v1 pushargr %v0 finishi @printf ret epilog";
+
 #[test]
 fn arguments(rt: HostRuntime) -> Result<(), Fail> {
-    let text =
-        b".data 8 fmt: .c \"%d %s\\n\" .code prolog arg $argc arg $argv getarg %r0 $argv ldxi %v0 %r0 16 getarg %v1 $argc prepare pushargi fmt ellipsis pushargr %v1 pushargr %v0 finishi @printf ret epilog";
     let words = ["lightning", "--target", "riscv64", "t.tst", "a", "bc"];
     check(
         &rt,
         &Row {
             words: &words,
-            ..plain(text, b"3 bc\n", b"", 0)
+            ..plain(ARGUMENTS, b"3 bc\n", b"", 0)
         },
     )
 }
