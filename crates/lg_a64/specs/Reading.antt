@@ -1,7 +1,8 @@
 -- How a word is read, format by format. What the crate promises of `decode` names none of this: it is
 -- what the private functions of the decoder compute, between the code and the laws.
-use Rattle.std.specs.Prelude.{ℕ, ◌+◌, ◌*◌, ◌/◌, ◌^◌, find, ◌==◌, ◌||◌, if◌then◌else◌, Option, Some, None, option_map}
+use Rattle.std.specs.Prelude.{ℕ, List, ◌+◌, ◌*◌, ◌/◌, ◌^◌, find, ◌==◌, ◌||◌, if◌then◌else◌, Option, Some, None, option_map}
 use Rattle.lg_base.specs.Fields.{part, signed}
+use Rattle.lg_base.specs.WordFronts.{word_front}
 use Rattle.lg_a64.specs.declared.instruction.Instr.{Instr}
 use Rattle.lg_a64.specs.declared.instruction.Instr.TheVariants.{Reg, Imm, Wide, MulAdd, Bitfield, Csinc, Reverse, Scaled, Ldrx, Unscaled, Branch, BranchIf, BranchReg, Nop}
 use Rattle.lg_a64.specs.declared.instruction.RegOp.{RegOp}
@@ -150,3 +151,7 @@ instr_at w top sort =
 
 abbrev pub instr_of : ℕ → Option Instr
 instr_of w = instr_at w (part 24 8 w) (part 21 3 w)
+
+-- the instruction in front of some bytes, and its length
+abbrev pub front_of : List ℕ → Option (Instr × ℕ)
+front_of bytes = word_front instr_of bytes

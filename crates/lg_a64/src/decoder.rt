@@ -3,7 +3,7 @@
 ghost use Rattle.std.specs.Prelude.{◌≡◌, ◌++◌, ℕ, List, length, Some, IfSome, IfNone};
 ghost use Rattle.lg_a64.specs.Spelling.{IsInstr, BeginsWith, spelling};
 ghost use Rattle.lg_base.specs.WordFronts.{word_front};
-ghost use Rattle.lg_a64.specs.Reading.{instr_of, reg_of, imm_of, wide_of, mul_add_of, bitfield_of, csinc_of, reverse_of, scaled_of, ldrx_of, unscaled_of, branch_of, branch_if_of, branch_reg_of, nop_of, reg_fixed, imm_fixed, mul_add_fixed, bitfield_fixed, select_fixed, reverse_fixed, branch_fixed, branch_if_fixed, branch_reg_fixed};
+ghost use Rattle.lg_a64.specs.Reading.{front_of, instr_of, reg_of, imm_of, wide_of, mul_add_of, bitfield_of, csinc_of, reverse_of, scaled_of, ldrx_of, unscaled_of, branch_of, branch_if_of, branch_reg_of, nop_of, reg_fixed, imm_fixed, mul_add_fixed, bitfield_fixed, select_fixed, reverse_fixed, branch_fixed, branch_if_fixed, branch_reg_fixed};
 
 use crate::fields::{
     BranchCond, Hw, Imm9, Imm12, Imm16, Imm19, Imm26, Immr, Imms, Ra, Rd, Rm, Rn, SelectCond,
@@ -20,6 +20,7 @@ use lg_base::number::from_bits;
 /// The instruction that the bytes begin with, and its length, 4. `None` where the first 4 bytes are
 /// no word of the table, or there are fewer than 4.
 pub fn decode(bytes: &[u8]) -> Option<(Instr, u32)>
+    ensures value { result ≡ front_of bytes.now }
     // whatever follows its spelling, an instruction is read as itself
     ensures again { (i : Instr) (more : List ℕ) → IsInstr i → bytes.now ≡ spelling i ++ more → result ≡ Some (i, length (spelling i)) }
     // what is read is spelled by the bytes in front

@@ -2,3 +2,4 @@ pub mod AgainLemmas
 pub mod CheckedLemmas
 pub mod FieldLemmas
 pub mod FrontLemmas
+pub mod SizeLemmas

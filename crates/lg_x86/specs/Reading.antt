@@ -244,3 +244,7 @@ guess_of bytes = if slice_index bytes 0 == 0x66 then sized_of true (drop 1 bytes
 abbrev pub checked : List ℕ → Option Instr → Option (Instr × ℕ)
 checked bytes None = None
 checked bytes (Some i) = if starts_with nat_eq bytes (spelling i) then Some (i, length (spelling i)) else None
+
+-- the instruction that the bytes begin with, and the length of its spelling
+abbrev pub front_of : List ℕ → Option (Instr × ℕ)
+front_of bytes = checked bytes (guess_of bytes)

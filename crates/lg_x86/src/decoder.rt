@@ -3,7 +3,7 @@
 
 ghost use Rattle.std.specs.Prelude.{◌≡◌, ◌++◌, ℕ, List, length, Some, IfSome, IfNone, if◌then◌else◌};
 ghost use Rattle.lg_x86.specs.Spelling.{IsInstr, BeginsWith, spelling};
-ghost use Rattle.lg_x86.specs.Reading.{checked, guess_of, sized_of, code_of, short_at, escaped_at, mark_in, has_registers, rm_reg_of, imm_of, reg_rm_of, load_of, store_of, lea_of, movi_of, movs_of, unary_of, shift_of, bswap_of, stack_of, jump_if_short_of, jump_if_near_of, set_of, jump_short_of, jump_near_of, jump_reg_of, bare_of};
+ghost use Rattle.lg_x86.specs.Reading.{checked, front_of, guess_of, sized_of, code_of, short_at, escaped_at, mark_in, has_registers, rm_reg_of, imm_of, reg_rm_of, load_of, store_of, lea_of, movi_of, movs_of, unary_of, shift_of, bswap_of, stack_of, jump_if_short_of, jump_if_near_of, set_of, jump_short_of, jump_near_of, jump_reg_of, bare_of};
 
 use crate::encoder::encode;
 use crate::fields::{
@@ -24,6 +24,7 @@ pub fn decode(bytes: &[u8]) -> Option<(Instr, u32)>
     // what is read is spelled by the bytes in front
     ensures front { IfSome result (λ found. BeginsWith bytes.now found.0 × (found.1 ≡ length (spelling found.0))) }
     ensures none { IfNone result ((i : Instr) → BeginsWith bytes.now i → ⊥) }
+    ensures value { result ≡ front_of bytes.now }
 {
     decode_front(bytes)
 }

@@ -1,0 +1,7 @@
+pub mod SpellingLemmas
+pub mod BackLemmas
+pub mod ListingLemmas
+pub mod TextLemmas
+pub mod WriteLemmas
+pub mod NextLemmas
+pub mod AllLemmas

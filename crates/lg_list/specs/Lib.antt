@@ -1,0 +1,10 @@
+pub mod Operands
+pub mod Texts
+pub mod Riscv64
+pub mod Instructions
+pub mod Lines
+pub mod Listing
+pub mod Back
+pub mod Aarch64
+pub mod X86_64
+pub mod NextLabels

@@ -1,0 +1,192 @@
+// Writing a listing.
+
+ghost use Rattle.std.specs.Prelude.{◌≡◌, ◌<◌, ◌≤◌, ◌+◌, ◌*◌, ◌^◌, ◌++◌, IfSome, IfNone, ℕ, List, length, map, slice_index};
+ghost use Rattle.lg_node.specs.Labels.{is_at};
+ghost use Rattle.lg_list.specs.NextLabels.{NextAt, NoneAt};
+ghost use Rattle.lg_io.specs.Wrote.{Wrote};
+ghost use Rattle.lg_list.specs.Instructions.{instructions};
+ghost use Rattle.lg_list.specs.Lines.{rendered, label_line};
+ghost use Rattle.lg_list.specs.Lines.Entry.{Label, Node, Code};
+ghost use Rattle.lg_base.specs.Layout.{code_base, most_code};
+ghost use Rattle.lg_list.specs.Listing.{labels_at, bytes_between, node_entries, nodes_from, listing, Placed, AreAddressed};
+ghost use Rattle.lg_list.specs.Back.{IsListable};
+
+use crate::instruction::decode;
+use crate::line::Line;
+use crate::lines::{first_line, node_line};
+use lg_base::code::{CodeBytes, Places};
+use lg_base::target::Target;
+use lg_io::sink::{Sink, SinkFault, write_all, write_parts};
+use lg_node::{LabelAddresses, NodeList, Place};
+
+// The address of the first byte of the code.
+const CODE_BASE: u32 = 0x1000_0000;
+
+fn write_label<O: Sink>(at: u32, word: &[u8], out: &mut O) -> Result<(), SinkFault>
+    ensures { Wrote (O.taken out.old) (O.taken out.new) (O.faults out.old) (O.faults out.new) result (label_line at word.now) }
+{
+    let mut line = Line::new();
+    line.push_hex(&at.to_be_bytes());
+    write_parts(out, &[line.as_slice(), b" ", word, b":\n"])
+}
+
+// The nodes of code, where each stands in it, and the addresses of its labels.
+#[derive(Clone, Copy)]
+struct Nodes<'a> {
+    list: &'a NodeList,
+    places: &'a Places,
+    labels: &'a LabelAddresses,
+}
+
+// Writes the labels that are bound at a node, or behind the last.
+fn write_labels<O: Sink>(nodes: Nodes<'_>, index: u32, out: &mut O) -> Result<(), SinkFault>
+    requires addressed { AreAddressed nodes.list.now.places nodes.places.now.items nodes.labels.now }
+    requires small { slice_index nodes.places.now.items index ≤ most_code }
+    ensures { Wrote (O.taken out.old) (O.taken out.new) (O.faults out.old) (O.faults out.new) result (rendered (code_base + slice_index nodes.entry.places.now.items index) (labels_at index nodes.entry.list.now.words nodes.entry.list.now.places)) }
+{
+    let mut from = 0;
+    while let Some(label) = next_label(nodes.list, index, from) {
+        let address = nodes.labels.get(label.0) as u32;
+        match write_label(address, nodes.list.word(label), out) {
+            Ok(()) => from = label.0 + 1,
+            Err(fault) => return Err(fault),
+        }
+    }
+    Ok(())
+}
+
+// The first label from a number on that is bound at a node. It stands for two calls of the list of nodes.
+fn next_label(nodes: &NodeList, index: u32, from: u32) -> Option<lg_node::Label>
+    ensures found { IfSome result (λ l. NextAt nodes.now.places index from l.0) }
+    ensures none { IfNone result (NoneAt nodes.now.places index from) }
+    ensures paired { length nodes.now.places ≡ length nodes.now.words }
+    ensures few { length nodes.now.words < 2 ^ 32 }
+{
+    for number in from..nodes.labels() {
+        let label = lg_node::Label(number);
+        if is_at(index, nodes.place(label)) {
+            return Some(label);
+        }
+    }
+    None
+}
+
+// Whether a label is bound at a node.
+fn is_at(index: u32, place: Option<Place>) -> bool
+    ensures { result ≡ is_at index place }
+{
+    match place {
+        Some(Place::Node(node)) => node == index,
+        _ => false,
+    }
+}
+
+// Writes the instructions of bytes from an address on.
+fn write_instructions<O: Sink>(
+    target: Target,
+    at: u32,
+    bytes: &[u8],
+    out: &mut O,
+) -> Result<(), SinkFault>
+    requires { at + length bytes.now < 2 ^ 32 }
+    ensures { Wrote (O.taken out.old) (O.taken out.new) (O.faults out.old) (O.faults out.new) result (rendered at (map Code (instructions target bytes.now))) }
+{
+    let mut done = 0;
+    while done < bytes.len() {
+        match decode(target, &bytes[done..]) {
+            None => return Ok(()),
+            Some((instruction, length)) => {
+                let line = instruction.line(at + done as u32);
+                match write_all(out, line.as_slice()) {
+                    Ok(()) => done += length as usize,
+                    Err(fault) => return Err(fault),
+                }
+            }
+        }
+    }
+    Ok(())
+}
+
+// The bytes of a node.
+fn node_bytes<'a>(code: &'a CodeBytes, places: &Places, index: u32) -> &'a [u8]
+    requires index { index + 1 < 2 ^ 32 }
+    requires places { (nodes : ℕ) × (index < nodes) × Placed places.now.items nodes (length code.now.items) }
+    ensures bytes { result.now ≡ bytes_between code.now.items places.now.items index }
+    ensures short { length result.now ≤ most_code }
+{
+    let start = places.get(index) as usize;
+    let end = places.get(index + 1) as usize;
+    &code.as_slice()[start..end]
+}
+
+// The address of a node, or of the end.
+fn node_address(places: &Places, index: u32) -> u32
+    requires places { (nodes : ℕ) × (len : ℕ) × (index ≤ nodes) × Placed places.now.items nodes len }
+    ensures address { result ≡ code_base + slice_index places.now.items index }
+    ensures small { slice_index places.now.items index ≤ most_code }
+{
+    CODE_BASE + places.get(index)
+}
+
+// Writes the lines of a node, whose bytes stand from an address on.
+fn write_node<O: Sink>(
+    target: Target,
+    nodes: Nodes<'_>,
+    index: u32,
+    at: u32,
+    bytes: &[u8],
+    out: &mut O,
+) -> Result<(), SinkFault>
+    requires index { index < length nodes.list.now.nodes }
+    requires addressed { AreAddressed nodes.list.now.places nodes.places.now.items nodes.labels.now }
+    requires small { slice_index nodes.places.now.items index ≤ most_code }
+    requires at { at ≡ code_base + slice_index nodes.places.now.items index }
+    requires room { length bytes.now ≤ most_code }
+    ensures { Wrote (O.taken out.old) (O.taken out.new) (O.faults out.old) (O.faults out.new) result (rendered at (node_entries target bytes.now nodes.entry.list.now index)) }
+{
+    let node = nodes.list.node(index);
+    let own = node_line(node.line, node.op);
+    match write_labels(nodes, index, out) {
+        Ok(()) => {}
+        Err(fault) => return Err(fault),
+    }
+    match write_all(out, own.as_slice()) {
+        Ok(()) => {}
+        Err(fault) => return Err(fault),
+    }
+    write_instructions(target, at, bytes, out)
+}
+
+/// Writes the listing of code for a target: its bytes, the nodes that they were made of, the place of each node in the bytes, the last of which
+/// is the end, and the addresses of the labels. After a fault some of the listing was written, from its first byte on.
+pub fn list<O: Sink>(
+    target: Target,
+    code: &CodeBytes,
+    nodes: &NodeList,
+    places: &Places,
+    labels: &LabelAddresses,
+    out: &mut O,
+) -> Result<(), SinkFault>
+    requires { IsListable target code.now.items places.now.items nodes.now labels.now }
+    ensures { Wrote (O.taken out.old) (O.taken out.new) (O.faults out.old) (O.faults out.new) result (listing target code.now.items places.now.items nodes.now) }
+{
+    let line = first_line(target, code.len());
+    match write_all(out, line.as_slice()) {
+        Ok(()) => {}
+        Err(fault) => return Err(fault),
+    }
+    let all = Nodes {
+        list: nodes,
+        places,
+        labels,
+    };
+    for index in 0..nodes.len() {
+        let at = node_address(places, index);
+        let bytes = node_bytes(code, places, index);
+        match write_node(target, all, index, at, bytes, out) {
+            Ok(()) => {}
+            Err(fault) => return Err(fault),
+        }
+    }
+    write_labels(all, nodes.len(), out)
+}
