@@ -1,4 +1,5 @@
 pub mod Buffers
 pub mod FixFields
+pub mod Ownership
 pub mod Fixing
 pub mod Stores

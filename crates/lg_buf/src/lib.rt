@@ -5,6 +5,7 @@
 mod buffer;
 mod fixes;
 mod patches;
+mod region;
 mod store;
 mod words;
 

@@ -1,9 +1,10 @@
-// Bytes in room that is taken once. Only the model and the calls of the first block know what the room is.
+// Bytes in room that is taken once. Only the model, the drop and the calls of the first block know what the room is.
 
 ghost use Rattle.std.specs.Prelude.{◌≡◌, ◌+◌, ◌<◌, ◌≤◌, ◌^◌, [], ◌∷◌, ◌++◌, length, slice_index, slice_set, IfOk};
 ghost use Rattle.lg_base.specs.WordFronts.{word_at};
 ghost use Rattle.lg_buf.specs.Stores.{ChangesOnly};
 
+use crate::region::{Lease, Region};
 use lg_base::code::CodeBytes;
 use lg_base::field::Field;
 use lg_base::refusal::OutOfMemory;
@@ -11,31 +12,64 @@ use std::alloc::Global;
 use std::marker::Model;
 
 /// Bytes, of which there can be a certain number. In a contract it is a `StoredBytes`.
-#[derive(Drop)]
 pub(crate) struct Store {
-    bytes: Vec<u8>,
+    alloc: Global,
+    region: Region,
+    lease: Lease<Global>,
+    len: u32,
     size: u32,
+    out: CodeBytes,
 }
 
 impl Model for Store {
-    ghost use Rattle.std.specs.Prelude.{◌≤◌, vec_len, vec_capacity};
-    ghost use Rattle.lg_buf.specs.Stores.{StoredBytes};
+    ghost use Rattle.std.specs.Prelude.{◌≡◌, length};
+    ghost use Rattle.lg_buf.specs.Stores.{StoredBytes, IsRoomFor};
 
     ghost Value = { StoredBytes };
 
-    ghost view = { λ s. record { items = s.bytes.items; size = s.size } };
+    ghost view = { λ s. record { items = s.region.bytes; size = s.size } };
 
-    ghost invariant = { λ s. (vec_len s.bytes ≤ s.size) × (s.size ≤ vec_capacity s.bytes) };
+    ghost invariant = { λ s.
+        (s.len ≡ length s.region.bytes)
+        × (s.region.size ≡ s.size)
+        × (s.lease.alloc ≡ s.alloc)
+        × (s.lease.ptr ≡ s.region.ptr)
+        × (s.lease.size ≡ s.region.size)
+        × IsRoomFor s.size s.out };
+}
+
+impl Drop for Store {
+    fn drop(self) {
+        let Store {
+            alloc,
+            region,
+            lease,
+            len: _,
+            size: _,
+            out: _,
+        } = self;
+        region.free(lease, &alloc);
+    }
 }
 
 impl Store {
-    /// No bytes, with room for `size` of them.
+    /// No bytes, with room for `size` of them. It also takes the room of what `into_bytes` hands out.
     pub(crate) fn new(alloc: Global, size: u32) -> Result<Store, OutOfMemory>
         ensures items { IfOk result (λ s. s.items ≡ []) }
         ensures size { IfOk result (λ s. s.size ≡ size) }
     {
-        let bytes = Vec::with_capacity(alloc, size as usize)?;
-        Ok(Store { bytes, size })
+        let out = CodeBytes::with_room(alloc, size)?;
+        let Some((region, lease)) = Region::new(&alloc, size as usize) else {
+            return Err(OutOfMemory);
+        };
+        Ok(Store {
+            alloc,
+            region,
+            lease,
+            len: 0,
+            size,
+            out,
+        })
     }
 
     /// How many bytes there are.
@@ -46,7 +80,7 @@ impl Store {
     {
         // the size fits 32 bits
         let _size = self.size;
-        self.bytes.len() as u32
+        self.len
     }
 
     /// Appends bytes. There is room left for them.
@@ -55,7 +89,10 @@ impl Store {
         ensures items { self.new.items ≡ self.old.items ++ piece.now }
         ensures size { self.new.size ≡ self.old.size }
     {
-        let _ = self.bytes.extend_from_slice(piece);
+        // the size fits 32 bits
+        let _size = self.size;
+        self.region.write(self.len as usize, piece);
+        self.len += piece.len() as u32;
     }
 
     /// Rereads the byte of a place, which is below `len`.
@@ -64,7 +101,7 @@ impl Store {
         ensures byte { result ≡ slice_index self.old.items place }
         ensures same { self.new ≡ self.old }
     {
-        self.bytes[place as usize]
+        self.region.get(place as usize)
     }
 
     /// Rewrites the byte of a place, which is below `len`.
@@ -73,7 +110,24 @@ impl Store {
         ensures items { self.new.items ≡ slice_set self.old.items place byte }
         ensures size { self.new.size ≡ self.old.size }
     {
-        self.bytes[place as usize] = byte;
+        self.region.set(place as usize, byte);
+    }
+
+    /// Hands out the bytes, and gives their region back.
+    pub(crate) fn into_bytes(self) -> CodeBytes
+        ensures { result.items ≡ self.items }
+    {
+        let Store {
+            alloc,
+            mut region,
+            lease,
+            len,
+            size: _,
+            mut out,
+        } = self;
+        copy_out(&mut region, len, &mut out);
+        region.free(lease, &alloc);
+        out
     }
 }
 
@@ -113,13 +167,16 @@ impl Store {
         self.set(place + 2, Field::<16, 8>::get(word) as u8);
         self.set(place + 3, Field::<24, 8>::get(word) as u8);
     }
+}
 
-    /// Hands out the bytes.
-    pub(crate) fn into_bytes(self) -> CodeBytes
-        ensures { result.items ≡ self.items }
-    {
-        // the size fits 32 bits
-        let _size = self.size;
-        CodeBytes::from_vec(self.bytes)
+// Appends the bytes of a region to a list that has room for them.
+fn copy_out(region: &mut Region, len: u32, out: &mut CodeBytes)
+    requires len { len ≡ length region.old.bytes }
+    requires room { len ≤ out.old.room }
+    ensures items { out.new.items ≡ out.old.items ++ region.old.bytes }
+    ensures region { region.new ≡ region.old }
+{
+    'bytes: for place in 0..len {
+        out.push(region.get(place as usize));
     }
 }
