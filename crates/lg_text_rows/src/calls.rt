@@ -1,6 +1,6 @@
 // Calls that are refused, or end otherwise.
 
-use crate::row::{Row, check, meant, plain};
+use crate::row::{Row, call, check, meant, plain};
 use crate::texts::{first_letter, kept_registers};
 use lg_io::memory_sink::MemorySink;
 use lg_io::memory_texts::MemoryTexts;
@@ -257,13 +257,13 @@ fn reads_no_other_text(rt: HostRuntime) -> Result<(), Fail> {
     }
     let mut out = MemorySink::new(rt.alloc(), 16, &[])?;
     let mut err = MemorySink::new(rt.alloc(), 64, &[])?;
-    let done = lightning(rt.alloc(), &words, &mut texts, &mut out, &mut err);
-    assert_eq!(rt; (status(&done.answer), done.code.is_none()), (123, true));
+    let told = call(rt.alloc(), &words, &mut texts, &mut out, &mut err);
+    assert_eq!(rt; (told.status, told.has_code), (123, false));
     assert_eq!(rt; out.bytes(), b"".as_slice());
     assert_eq!(rt; err.bytes(), READ);
     // the same call again finds its text
-    let done = lightning(rt.alloc(), &words, &mut texts, &mut out, &mut err);
-    assert_eq!(rt; status(&done.answer), 0);
+    let told = call(rt.alloc(), &words, &mut texts, &mut out, &mut err);
+    assert_eq!(rt; told.status, 0);
     assert_eq!(rt; out.bytes(), b"Hi!\n".as_slice());
     Ok(())
 }

@@ -2,10 +2,10 @@
 
 ghost use Rattle.std.specs.Prelude.{◌≤◌, length};
 
+use crate::row::call;
 use lg_io::memory_sink::MemorySink;
 use lg_io::memory_texts::MemoryTexts;
-use lg_run::answer::status;
-use lg_run::top::lightning;
+use std::alloc::Global;
 use std::process::Abort;
 use std::test::Fail;
 
@@ -196,22 +196,27 @@ fn text_place(row: &[u8]) -> usize
     row.len()
 }
 
+// The line on the standard error for a row.
+fn line_of(alloc: Global, told: &[u8]) -> Result<Vec<u8>, Fail> {
+    let mut line = Vec::from_slice(alloc, b"lightning: t.tst:")?;
+    line.extend_from_slice(told)?;
+    line.push(b'\n')?;
+    Ok(line)
+}
+
 fn check(rt: &(impl AllocGlobal + Abort), words: &Vec<String>, row: &[u8]) -> Result<(), Fail> {
     let place = text_place(row);
+    let line = line_of(rt.alloc(), &row[..place.saturating_sub(1)])?;
     let mut texts = MemoryTexts::new(rt.alloc(), &[])?;
     texts.add("t.tst", &row[place..])?;
     let mut out = MemorySink::new(rt.alloc(), 64, &[])?;
     let mut err = MemorySink::new(rt.alloc(), 64, &[])?;
-    let done = lightning(rt.alloc(), words, &mut texts, &mut out, &mut err);
-    let mut line = Vec::from_slice(rt.alloc(), b"lightning: t.tst:")?;
-    line.extend_from_slice(&row[..place.saturating_sub(1)])?;
-    line.push(b'\n')?;
-    assert_eq!(rt; err.bytes(), line.as_slice(), "{row:?}");
+    let told = call(rt.alloc(), words, &mut texts, &mut out, &mut err);
+    assert_eq!(rt; err.bytes(), line.as_slice());
     assert_eq!(rt; out.bytes(), b"".as_slice());
-    assert_eq!(rt;
-        (status(&done.answer), done.code.is_none(), done.steps),
-        (121, true, 0)
-    );
+    assert_eq!(rt; told.status, 121);
+    assert_eq!(rt; told.has_code, false);
+    assert_eq!(rt; told.steps, 0);
     Ok(())
 }
 

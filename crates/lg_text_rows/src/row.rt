@@ -2,8 +2,9 @@
 
 use lg_io::memory_sink::MemorySink;
 use lg_io::memory_texts::MemoryTexts;
-use lg_run::answer::status;
+use lg_run::answer::{Done, status};
 use lg_run::top::lightning;
+use std::alloc::Global;
 use std::process::Abort;
 use std::test::Fail;
 
@@ -49,6 +50,33 @@ pub fn meant<'a>(text: &'a [u8], out: &'a [u8], err: &'a [u8], status: u8) -> Ro
     }
 }
 
+/// What a call came to.
+#[derive(Clone, Copy)]
+pub struct Told {
+    pub status: u8,
+    pub has_code: bool,
+    pub steps: u64,
+}
+
+fn what_is_told(done: Done) -> Told {
+    Told {
+        status: status(&done.answer),
+        has_code: done.code.is_some(),
+        steps: done.steps,
+    }
+}
+
+/// The top call over memory. What it promises is for proofs, and of no use in a test.
+pub fn call(
+    alloc: Global,
+    words: &Vec<String>,
+    texts: &mut MemoryTexts,
+    out: &mut MemorySink,
+    err: &mut MemorySink,
+) -> Told {
+    what_is_told(lightning(alloc, words, texts, out, err))
+}
+
 // The words of a call.
 fn words_of(rt: &(impl AllocGlobal + Abort), row: &Row<'_>) -> Result<Vec<String>, Fail> {
     let mut words = Vec::new(rt.alloc());
@@ -65,10 +93,10 @@ pub fn check(rt: &(impl AllocGlobal + Abort), row: &Row<'_>) -> Result<(), Fail>
     texts.add("t.tst", row.text)?;
     let mut out = MemorySink::new(rt.alloc(), 256, row.failing_writes)?;
     let mut err = MemorySink::new(rt.alloc(), 256, row.failing_lines)?;
-    let done = lightning(rt.alloc(), &words, &mut texts, &mut out, &mut err);
+    let told = call(rt.alloc(), &words, &mut texts, &mut out, &mut err);
     assert_eq!(rt; err.bytes(), row.err);
     assert_eq!(rt; out.bytes(), row.out);
-    assert_eq!(rt; status(&done.answer), row.status);
+    assert_eq!(rt; told.status, row.status);
     Ok(())
 }
 
@@ -79,7 +107,7 @@ pub fn begins(rt: &(impl AllocGlobal + Abort), row: &Row<'_>) -> Result<(), Fail
     texts.add("t.tst", row.text)?;
     let mut out = MemorySink::new(rt.alloc(), 256, &[])?;
     let mut err = MemorySink::new(rt.alloc(), 256, &[])?;
-    let _done = lightning(rt.alloc(), &words, &mut texts, &mut out, &mut err);
+    let _told = call(rt.alloc(), &words, &mut texts, &mut out, &mut err);
     assert!(rt; out.bytes().starts_with(row.out));
     Ok(())
 }

@@ -58,6 +58,26 @@ fn ends_with_statuses(rt: HostRuntime) -> Result<(), Fail> {
     ends(&rt, wrapped_sum(), b"", 42)
 }
 
+// What a text ends with is the word that it gives to exit, modulo 256.
+#[test]
+fn exits_with_words(rt: HostRuntime) -> Result<(), Fail> {
+    let quotient =
+        b".code prolog movi %r0 -7 divi %v0 %r0 2 prepare pushargr %v0 finishi @exit ret epilog";
+    let remainder =
+        b".code prolog movi %r0 -7 remi %v0 %r0 2 prepare pushargr %v0 finishi @exit ret epilog";
+    let both =
+        b".code prolog movi %r0 7 movi %v0 45 qdivr %r0 %v0 %v0 %r0 prepare pushargr %r0 finishi @exit ret epilog";
+    let carry =
+        b".code prolog movi %v0 -1 movi %v1 0 movi %r0 1 addcr %v0 %v0 %r0 movi %r1 0 addxr %v1 %v1 %r1 prepare pushargr %v1 finishi @exit ret epilog";
+    let character =
+        b".code prolog prepare pushargi 65 finishi @putchar retval_c %v0 prepare pushargr %v0 finishi @exit ret epilog";
+    ends(&rt, quotient, b"", 253)?;
+    ends(&rt, remainder, b"", 255)?;
+    ends(&rt, both, b"", 6)?;
+    ends(&rt, carry, b"", 1)?;
+    ends(&rt, character, b"A", 65)
+}
+
 // The number of calls that Fibonacci's recursion makes for the number in the first argument.
 const NFIBS: &[u8] =
     b".data 32\nfmt: .c \"nfibs(%d) = %d\\n\"\n.code\n  jmpi main\nnfibs:\n  prolog\n  arg $in\n  getarg %v0 $in\n  movi %r0 1\n  blei_u out %v0 2\n  subi %r0 %v0 1\n  prepare pushargr %r0 finishi nfibs\n  retval %v1\n  subi %r0 %v0 2\n  prepare pushargr %r0 finishi nfibs\n  retval %r0\n  addr %r0 %r0 %v1\n  addi %r0 %r0 1\nout:\n  retr %r0\n  epilog\nmain:\n  prolog\n  arg $argc\n  arg $argv\n  getarg %r0 $argv\n  ldxi %r0 %r0 8\n  prepare pushargr %r0 finishi @atoi\n  retval_i %v0\n  prepare pushargr %v0 finishi nfibs\n  retval %r0\n  prepare pushargi fmt ellipsis pushargr %v0 pushargr %r0 finishi @printf\n  ret\n  epilog\n";
