@@ -1,10 +1,12 @@
-// Work that is timed from outside. `names N` looks up each name of the instruction table N times; `text N` reads and checks a text of N
-// instructions, at most 65,000; `code N TIMES` assembles it for RV64 as well, so many times, from its bytes to code; `cpu N` runs N instructions of a loop on the modelled RV64IM processor; `steps N` follows the portable
-// meaning of a loop for N steps. Without words it does a little of each.
+// Work that is timed from outside. `names N` looks up each name of the instruction table N times; `text N` reads and checks
+// a text of N instructions, at most 65,000; `code N TIMES` assembles it for RV64 as well, so many times, from its bytes to
+// code; `emit N` emits 64 MiB in pieces of N bytes; `cpu N` runs N instructions of a loop on the modelled RV64IM processor;
+// `steps N` follows the portable meaning of a loop for N steps. Without words it does a little of each.
 #![tactic(auto)]
 
 mod meaning;
 mod names;
+mod pieces;
 mod processor;
 mod texts;
 
@@ -41,6 +43,14 @@ fn make_code(rt: &HostRuntime, instructions: u32, times: u32) -> io::Result<()> 
     }
 }
 
+// Emits so many bytes in pieces of so many.
+fn emit(rt: &HostRuntime, size: u32, length: u32) -> io::Result<()> {
+    match pieces::fill(rt.alloc(), size, length) {
+        Ok(count) => println!(rt; "{count} pieces"),
+        Err(OutOfMemory) => println!(rt; "out of memory"),
+    }
+}
+
 // Runs so many instructions on the processor.
 fn run(rt: &HostRuntime, instructions: u32) -> io::Result<()> {
     match processor::run(rt.alloc(), instructions) {
@@ -72,6 +82,7 @@ fn main(rt: HostRuntime) -> io::Result<()> {
                 "names" => look_up(&rt, times),
                 "text" => read(&rt, times),
                 "code" => make_code(&rt, times, again),
+                "emit" => emit(&rt, 0x400_0000, times),
                 "cpu" => run(&rt, times),
                 "steps" => follow(&rt, times),
                 _ => println!(rt; "no such work"),
@@ -81,6 +92,7 @@ fn main(rt: HostRuntime) -> io::Result<()> {
             look_up(&rt, 1)?;
             read(&rt, 64)?;
             make_code(&rt, 64, 1)?;
+            emit(&rt, 1024, 4)?;
             run(&rt, 1000)?;
             follow(&rt, 1000)
         }
