@@ -9,7 +9,7 @@ use Rattle.lg_base.specs.declared.target.Target.{Target}
 use Rattle.lg_base.specs.declared.target.Target.TheVariants.{Riscv64}
 use Rattle.lg_carry.specs.Agreement.{Agrees}
 use Rattle.lg_carry.specs.Carries.{Carries}
-use Rattle.lg_carry.specs.Codes.{Code}
+use Rattle.lg_carry.specs.FinalNodes.{Code}
 use Rattle.lg_carry.specs.Stands.{Stands}
 use Rattle.lg_carry.specs.Targets.{processor_of}
 use Rattle.lg_cpu.specs.Laws.{AreBytes}

@@ -7,7 +7,7 @@ use Rattle.lg_base.specs.declared.target.Target.{Target}
 use Rattle.lg_base.specs.declared.target.Target.TheVariants.{X86_64, Aarch64, Riscv64}
 use Rattle.lg_meaning.specs.States.{Frame}
 use Rattle.lg_carry.specs.Frames.{at_call, MayKeepCaller}
-use Rattle.lg_carry.specs.Laws.{RegistersAreKept, ArgumentsAreKept, StackArgumentsAreKept, FrameIsKept, FramesAreKept, RunningFrameIsKept}
+use Rattle.lg_carry.specs.Kept.{RegistersAreKept, ArgumentsAreKept, StackArgumentsAreKept, FrameIsKept, FramesAreKept, RunningFrameIsKept}
 use Rattle.lg_carry.proofs.WordLemmas.{word-kept}
 
 -- a target has six to eight registers of arguments

@@ -1,6 +1,5 @@
-pub mod AcrossLemmas
-pub mod AgainLemmas
-pub mod ApartLemmas
+pub mod AgreeAcrossFramesLemmas
+pub mod AgreeInFrameLemmas
 pub mod BlockLemmas
 pub mod FallLemmas
 pub mod KeptLemmas
@@ -10,9 +9,10 @@ pub mod NodeBlockLemmas
 pub mod NodeCodeLemmas
 pub mod PassageLemmas
 pub mod RankLemmas
-pub mod ShapedLemmas
+pub mod RegistersApartLemmas
 pub mod SpillChoiceLemmas
 pub mod SpillLemmas
 pub mod StackLemmas
-pub mod TakenLemmas
+pub mod TemporariesApartLemmas
+pub mod TextShapeLemmas
 pub mod WordLemmas

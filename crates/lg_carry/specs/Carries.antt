@@ -13,7 +13,7 @@ use Rattle.lg_meaning.specs.Steps.{Outcome, Goes, Ends, Undefined}
 use Rattle.lg_meaning.specs.Texts.{step}
 use Rattle.lg_meaning.specs.Fits.{is_call}
 use Rattle.lg_carry.specs.Processors.{Seen, Processor}
-use Rattle.lg_carry.specs.Codes.{Code}
+use Rattle.lg_carry.specs.FinalNodes.{Code}
 use Rattle.lg_carry.specs.Outside.{is_outside}
 use Rattle.lg_carry.specs.Stands.{Stands}
 

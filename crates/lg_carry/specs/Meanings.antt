@@ -6,10 +6,10 @@ use Rattle.lg_meaning.specs.Means as mean
 use Rattle.lg_meaning.specs.Starts.{start_state}
 use Rattle.lg_temp.specs.Agrees.{AgreesAt}
 use Rattle.lg_carry.specs.Processors.{Processor}
-use Rattle.lg_carry.specs.Codes.{Code}
+use Rattle.lg_carry.specs.FinalNodes.{Code}
 use Rattle.lg_carry.specs.Stands.{Stands}
 use Rattle.lg_carry.specs.Carries.{Carries}
-use Rattle.lg_carry.specs.Across.{IsStart}
+use Rattle.lg_carry.specs.AgreeAcrossFrames.{IsStart}
 
 -- the state at the start of a run is one
 abbrev pub StartsAre : Type 0

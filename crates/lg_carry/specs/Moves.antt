@@ -6,7 +6,7 @@ use Rattle.lg_operators.specs.declared.carry.Carry.TheVariants as carry
 use Rattle.lg_meaning.specs.States.{Frame, State}
 use Rattle.lg_meaning.specs.Fits.{Fits}
 use Rattle.lg_carry.specs.Processors.{Seen, IsSeen}
-use Rattle.lg_carry.specs.Codes.{Code, is_inside}
+use Rattle.lg_carry.specs.FinalNodes.{Code, is_inside}
 use Rattle.lg_carry.specs.Stands.{StatesAgree}
 
 -- the portable state changes by its node alone, where the carry and the result are gone: behind a `prolog` it stays there, and before the first one too

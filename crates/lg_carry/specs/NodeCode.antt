@@ -13,7 +13,7 @@ use Rattle.lg_meaning.specs.Steps.{Goes, Undefined, called}
 use Rattle.lg_meaning.specs.Texts.{step}
 use Rattle.lg_meaning.specs.Fits.{is_call}
 use Rattle.lg_carry.specs.Processors.{Processor}
-use Rattle.lg_carry.specs.Codes.{Code}
+use Rattle.lg_carry.specs.FinalNodes.{Code}
 use Rattle.lg_carry.specs.Frames.{at_call}
 use Rattle.lg_carry.specs.Stands.{Stands}
 use Rattle.lg_carry.specs.Carries.{Leads, Carries}

@@ -9,7 +9,7 @@ use Rattle.lg_base.specs.declared.host_name.HostName.{HostName}
 use Rattle.lg_meaning.specs.States.{Frame, State}
 use Rattle.lg_meaning.specs.Steps.{Outcome}
 use Rattle.lg_carry.specs.Processors.{IsSeen, Processor}
-use Rattle.lg_carry.specs.Codes.{Code}
+use Rattle.lg_carry.specs.FinalNodes.{Code}
 use Rattle.lg_carry.specs.Rows.{Rows}
 use Rattle.lg_carry.specs.Blocks.{spellings, done, GoesThrough, IsBlock}
 use Rattle.lg_carry.specs.Carries.{leaps_at, calls_at, BeginsInside, KeepsOutside, Meets, Leads}

@@ -8,7 +8,7 @@ use Rattle.lg_meaning.specs.Steps.{Goes, Ends, Undefined}
 use Rattle.lg_meaning.specs.Texts.{step}
 use Rattle.lg_temp.specs.Agrees.{AgreesAt}
 use Rattle.lg_carry.specs.Processors.{Processor}
-use Rattle.lg_carry.specs.Codes.{Code}
+use Rattle.lg_carry.specs.FinalNodes.{Code}
 use Rattle.lg_carry.specs.Stands.{Stands}
 use Rattle.lg_carry.specs.Carries.{leaps_at, Carries}
 

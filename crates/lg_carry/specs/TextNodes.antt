@@ -13,7 +13,7 @@ use Rattle.lg_meaning.specs.Addresses.{IsBound}
 use Rattle.lg_meaning.specs.Laws.{IsFormedAt}
 use Rattle.lg_meaning.specs.Steps.{function_here, operand_at}
 use Rattle.lg_carry.specs.Carries.{calls_at}
-use Rattle.lg_carry.specs.Codes.{Code}
+use Rattle.lg_carry.specs.FinalNodes.{Code}
 
 -- the text is accepted, and node i is this one and has the operands of its operation
 pub record IsInText (c : Code) (i : ℕ) (n : Node) : Type 0 where

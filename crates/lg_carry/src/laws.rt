@@ -1,13 +1,13 @@
 // What holds of the states that stand for each other, on every target. The functions do nothing: their contracts are the laws.
 
-ghost use Rattle.lg_carry.specs.Across.{AgreesAtCall, AgreesBehindProlog, AgreesBehindReturn, AgreesAtStart};
-ghost use Rattle.lg_carry.specs.Again.{AgreesAgain, AgreesBehindQuiet, AgreesBehindPush, AgreesBehindStore, AgreesBehindHost, AgreesBehindWrite};
-ghost use Rattle.lg_carry.specs.Apart.{ConventionsAreApart};
+ghost use Rattle.lg_carry.specs.AgreeAcrossFrames.{AgreesAtCall, AgreesBehindProlog, AgreesBehindReturn, AgreesAtStart};
+ghost use Rattle.lg_carry.specs.AgreeInFrame.{AgreesAgain, AgreesBehindQuiet, AgreesBehindPush, AgreesBehindStore, AgreesBehindHost, AgreesBehindWrite};
+ghost use Rattle.lg_carry.specs.RegistersApart.{ConventionsAreApart};
 ghost use Rattle.lg_carry.specs.Blocks.{BlocksRun};
 ghost use Rattle.std.specs.Prelude.{ℕ, Bool};
 ghost use Rattle.lg_base.specs.Runs.{Machine};
 ghost use Rattle.lg_meaning.specs.States.{State};
-ghost use Rattle.lg_carry.specs.Codes.{Code};
+ghost use Rattle.lg_carry.specs.FinalNodes.{Code};
 ghost use Rattle.lg_carry.specs.Meanings.{StartsAre, CodeAgrees};
 ghost use Rattle.lg_carry.specs.Moves.{AgreesBehindMove};
 ghost use Rattle.lg_carry.specs.NodeBlocks.{NodeBlocksLead};
@@ -16,11 +16,11 @@ ghost use Rattle.lg_carry.specs.Passages.{PartsPass, PassagesJoin, PassagesLead,
 ghost use Rattle.lg_carry.specs.Processors.{Processor};
 ghost use Rattle.lg_carry.specs.Ranks.{NodesFall, IsCarried, CarriedRunsAgree};
 ghost use Rattle.lg_carry.specs.Rows.{Rows, AreRows};
-ghost use Rattle.lg_carry.specs.Shaped.{WellShapedIsShaped};
+ghost use Rattle.lg_carry.specs.TextShape.{WellShapedIsShaped};
 ghost use Rattle.lg_carry.specs.SpillChoices.{ChoicesAreInOrder, SpilledAreUnwritten};
-ghost use Rattle.lg_carry.specs.Taken.{NoneIsStoodFor, NoneIsStaged, TriedAreSpare};
+ghost use Rattle.lg_carry.specs.TemporariesApart.{NoneIsStoodFor, NoneIsStaged, TriedAreSpare};
 ghost use Rattle.lg_carry.specs.Spills.{AreSpills, SavesRestore};
-ghost use Rattle.lg_carry.specs.Laws.{RegistersAreKept, ArgumentsAreKept, StackArgumentsAreKept, FrameIsKept, FramesAreKept, RunningFrameIsKept};
+ghost use Rattle.lg_carry.specs.Kept.{RegistersAreKept, ArgumentsAreKept, StackArgumentsAreKept, FrameIsKept, FramesAreKept, RunningFrameIsKept};
 
 /// The registers of a set are held while they are kept.
 pub fn registers_are_kept()

@@ -35,7 +35,7 @@ use Rattle.lg_temp.specs.declared.choice.Choice.{Choice}
 use Rattle.lg_temp.specs.declared.choice.Choice.TheVariants.{Free, Own, Spill}
 use Rattle.lg_temp.specs.Abis.{register_of}
 use Rattle.lg_temp.specs.Chosen.{Around, around, order, stands_in, staged_in, is_chosen, is_busy}
-use Rattle.lg_carry.specs.Codes.{Code, is_inside}
+use Rattle.lg_carry.specs.FinalNodes.{Code, is_inside}
 use Rattle.lg_carry.specs.Places.{AreStacked}
 use Rattle.lg_carry.specs.Registers.{HoldsCarry}
 use Rattle.lg_carry.specs.Stands.{lowest, StatesAgree, Stands}
@@ -46,15 +46,15 @@ use Rattle.lg_carry.specs.Blocks.{spellings, done, RunsBlock}
 use Rattle.lg_carry.specs.Spills.{IsFramePointer, in_slots, HasRoom, Leaves, wrapped, AreInOrder, lost}
 use Rattle.lg_carry.specs.Frames.{at_call}
 use Rattle.std.proofs.lemmas.Option.{slice_get_within}
-use Rattle.lg_carry.proofs.AgainLemmas.{settled, quiet-agrees, is-false}
-use Rattle.lg_carry.proofs.ApartLemmas.{conventions-apart}
+use Rattle.lg_carry.proofs.AgreeInFrameLemmas.{settled, quiet-agrees, is-false}
+use Rattle.lg_carry.proofs.RegistersApartLemmas.{conventions-apart}
 use Rattle.lg_carry.proofs.BlockLemmas.{blocks-run}
 use Rattle.lg_carry.proofs.NodeBlockLemmas.{node-blocks-lead}
-use Rattle.lg_carry.proofs.ShapedLemmas.{inner, shaped}
+use Rattle.lg_carry.proofs.TextShapeLemmas.{inner, shaped}
 use Rattle.lg_carry.proofs.SpillLemmas.{saves-restore}
 use Rattle.lg_carry.proofs.SpillChoiceLemmas.{choices-in-order}
 use Rattle.lg_carry.proofs.StackLemmas.{stacked-running, stacked-high}
-use Rattle.lg_carry.proofs.TakenLemmas.{none-stood-for, none-staged, tried-spare}
+use Rattle.lg_carry.proofs.TemporariesApartLemmas.{none-stood-for, none-staged, tried-spare}
 use Rattle.lg_carry_rv.specs.RvRows.{rv_seen, rv_processor, rv_does, rv_rows}
 use Rattle.lg_carry_rv.specs.Places.{IsInCode, IsBehindProlog, stands_inside}
 use Rattle.lg_carry_rv.specs.Computations.{computed}

@@ -11,10 +11,10 @@ use Rattle.lg_cpu.specs.RvStep.{read}
 use Rattle.lg_meaning.specs.States.{Frame, State, reg, number}
 use Rattle.lg_temp.specs.Abis.{register_of}
 use Rattle.lg_carry.specs.Processors.{Seen}
-use Rattle.lg_carry.specs.Codes.{Code, is_inside}
+use Rattle.lg_carry.specs.FinalNodes.{Code, is_inside}
 use Rattle.lg_carry.specs.Stands.{StatesAgree}
 use Rattle.lg_carry.specs.NodeCode.{numbered}
-use Rattle.lg_carry.proofs.AgainLemmas.{settled}
+use Rattle.lg_carry.proofs.AgreeInFrameLemmas.{settled}
 
 -- the register that stands for a portable one
 pub stands-for : (d : Reg) → d ≢ Fp → register_of Riscv64 d ≡ portable_register Riscv64 (number d)

@@ -18,7 +18,7 @@ use Rattle.lg_temp.specs.declared.choice.Choice.{Choice}
 use Rattle.lg_temp.specs.Abis.{register_of}
 use Rattle.lg_temp.specs.Chosen.{around, is_chosen}
 use Rattle.lg_temp.specs.Choices.{AreFor}
-use Rattle.lg_carry.specs.Codes.{Code}
+use Rattle.lg_carry.specs.FinalNodes.{Code}
 use Rattle.lg_carry.specs.Registers.{HoldsCarry, HoldsResult}
 use Rattle.lg_carry.specs.Carries.{leaps}
 use Rattle.lg_carry.specs.NodeCode.{numbered, CarriesNode}

@@ -8,7 +8,7 @@ use Rattle.lg_node.specs.Checks.{may_stand_outside}
 use Rattle.lg_rv.specs.Spelling.{IsInstr}
 use Rattle.lg_rv.specs.declared.instruction.Instr.{Instr}
 use Rattle.lg_cpu.specs.Laws.{AreBytes}
-use Rattle.lg_carry.specs.Codes.{Code}
+use Rattle.lg_carry.specs.FinalNodes.{Code}
 use Rattle.lg_carry.specs.NodeBlocks.{IsNodeBlock}
 use Rattle.lg_carry.specs.TextNodes.{IsInText}
 use Rattle.lg_carry_rv.specs.RvRows.{rv_rows}

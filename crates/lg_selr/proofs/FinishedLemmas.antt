@@ -6,7 +6,7 @@ use Rattle.std.proofs.lemmas.List.{drop_at}
 use Rattle.lg_base.specs.Layout.{code_base}
 use Rattle.lg_buf.specs.Buffers.{Buffer}
 use Rattle.lg_carry.specs.Blocks.{spellings}
-use Rattle.lg_carry.specs.Codes.{Code}
+use Rattle.lg_carry.specs.FinalNodes.{Code}
 use Rattle.lg_rv.specs.Spelling.{spelling}
 use Rattle.lg_selr.specs.Selected.{IsFinished}
 use Rattle.lg_selr_items.specs.declared.items.Item.{Item}

@@ -19,7 +19,7 @@ use Rattle.lg_op.specs.declared.operand.Operand.{Operand}
 use Rattle.lg_op.specs.declared.operand.Operand.TheVariants as operand
 use Rattle.lg_op.specs.declared.operand.Reg.{Reg}
 use Rattle.lg_carry.specs.Carries.{leaps, leaps_at}
-use Rattle.lg_carry.specs.Codes.{Code}
+use Rattle.lg_carry.specs.FinalNodes.{Code}
 use Rattle.lg_carry.specs.NodeCode.{numbered, CarriesNode}
 use Rattle.lg_node.specs.Preparations.{pushed}
 use Rattle.lg_carry_rv.specs.Places.{IsInCode}

@@ -6,7 +6,7 @@ use Rattle.lg_base.specs.declared.target.Target.TheVariants.{Riscv64}
 use Rattle.lg_buf.specs.declared.fixes.Fix.{Fix}
 use Rattle.lg_buf.specs.Buffers.{Buffer, AreDone}
 use Rattle.lg_buf.specs.Fixing.{IsWithin, Fits}
-use Rattle.lg_carry.specs.Codes.{Code}
+use Rattle.lg_carry.specs.FinalNodes.{Code}
 use Rattle.lg_carry.specs.NodeCode.{numbered, CarriesNode}
 use Rattle.lg_carry.specs.TextNodes.{IsInText, IsFrameOf, HasPlaces, NamesCode}
 use Rattle.lg_carry_rv.specs.RvRows.{rv_processor}

@@ -19,7 +19,7 @@ use Rattle.lg_cpu.specs.States.{CpuState}
 use Rattle.lg_cpu.specs.RvStep.{sets}
 use Rattle.lg_meaning.specs.Steps.{Goes, on}
 use Rattle.lg_meaning.specs.Texts.{text, step_at, step}
-use Rattle.lg_carry.specs.Codes.{Code, is_inside}
+use Rattle.lg_carry.specs.FinalNodes.{Code, is_inside}
 use Rattle.lg_carry.specs.Stands.{StatesAgree}
 use Rattle.lg_carry.specs.Carries.{leaps_at, Leads}
 use Rattle.lg_carry.specs.NodeCode.{live_before, live_behind, CarriesNode}

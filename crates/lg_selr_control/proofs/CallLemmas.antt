@@ -26,8 +26,8 @@ use Rattle.lg_meaning.specs.Steps.{Goes, Undefined, need, when, quiet, called, s
 use Rattle.lg_meaning.specs.Texts.{text, step_at, step}
 use Rattle.lg_meaning.specs.Fits.{is_call}
 use Rattle.lg_meaning.proofs.FunctionFacts.{IsAt, function_at_home}
-use Rattle.lg_carry.specs.Across.{entered}
-use Rattle.lg_carry.specs.Codes.{Code, is_inside}
+use Rattle.lg_carry.specs.AgreeAcrossFrames.{entered}
+use Rattle.lg_carry.specs.FinalNodes.{Code, is_inside}
 use Rattle.lg_carry.specs.Frames.{at_call}
 use Rattle.lg_carry.specs.Registers.{HoldsArguments, HasArguments}
 use Rattle.lg_carry.specs.Stands.{lowest, StatesAgree, Stands}
@@ -35,11 +35,11 @@ use Rattle.lg_carry.specs.Carries.{Leads}
 use Rattle.lg_carry.specs.NodeCode.{numbered, live_before, live_behind, is_return, ReturnsTo, CarriesNode}
 use Rattle.lg_live.specs.Uses.{is_written}
 use Rattle.lg_carry.specs.Passages.{Passes}
-use Rattle.lg_carry.proofs.AcrossLemmas.{call-agrees}
-use Rattle.lg_carry.proofs.AgainLemmas.{settled}
-use Rattle.lg_carry.proofs.ApartLemmas.{conventions-apart}
+use Rattle.lg_carry.proofs.AgreeAcrossFramesLemmas.{call-agrees}
+use Rattle.lg_carry.proofs.AgreeInFrameLemmas.{settled}
+use Rattle.lg_carry.proofs.RegistersApartLemmas.{conventions-apart}
 use Rattle.lg_carry.proofs.PassageLemmas.{passages-lead}
-use Rattle.lg_carry.proofs.ShapedLemmas.{shaped}
+use Rattle.lg_carry.proofs.TextShapeLemmas.{shaped}
 use Rattle.lg_carry_rv.specs.RvRows.{rv_processor, rv_seen}
 use Rattle.lg_carry_rv.proofs.SlotLemmas.{pc-next}
 use Rattle.lg_carry.specs.TextNodes.{IsInText, HasPlaces}

@@ -14,7 +14,7 @@ use Rattle.lg_cpu.specs.Steps.{Run, Effect, after, status_of}
 use Rattle.lg_cpu.specs.States.{CpuState}
 use Rattle.lg_cpu.specs.RvStep.{goes, act}
 use Rattle.lg_carry.specs.Blocks.{done, GoesThrough, IsBlock}
-use Rattle.lg_carry.specs.Codes.{Code}
+use Rattle.lg_carry.specs.FinalNodes.{Code}
 use Rattle.lg_carry.specs.Passages.{Passes}
 use Rattle.lg_carry.proofs.PassageLemmas.{parts-pass}
 use Rattle.lg_carry_rv.specs.RvRows.{rv_processor, rv_rows, rv_does, is_straight}

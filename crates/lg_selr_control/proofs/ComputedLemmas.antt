@@ -8,7 +8,7 @@ use Rattle.lg_rv.specs.Spelling.{IsInstr}
 use Rattle.lg_cpu.specs.Steps.{Run}
 use Rattle.lg_cpu.specs.States.{CpuState}
 use Rattle.lg_carry.specs.Blocks.{done}
-use Rattle.lg_carry.specs.Codes.{Code}
+use Rattle.lg_carry.specs.FinalNodes.{Code}
 use Rattle.lg_carry.specs.Passages.{Passes}
 use Rattle.lg_carry.proofs.PassageLemmas.{parts-pass}
 use Rattle.lg_carry_rv.specs.Computations.{computes, all_compute, computed}

@@ -27,7 +27,7 @@ use Rattle.lg_meaning.specs.Texts.{step}
 use Rattle.lg_meaning.specs.Fits.{is_call}
 use Rattle.lg_meaning.proofs.HostFacts.{Writes, host_writes}
 use Rattle.lg_meaning.proofs.OpenFacts.{open_grown, open_given}
-use Rattle.lg_carry.specs.Codes.{Code, is_inside}
+use Rattle.lg_carry.specs.FinalNodes.{Code, is_inside}
 use Rattle.lg_carry.specs.Frames.{at_call, IsSettled}
 use Rattle.lg_carry.specs.Places.{AreStacked}
 use Rattle.lg_carry.specs.Processors.{IsSeen}
@@ -37,10 +37,10 @@ use Rattle.lg_carry.specs.Carries.{calls_at, Meets, Leads}
 use Rattle.lg_carry.specs.NodeCode.{numbered, live_before, live_behind}
 use Rattle.lg_live.specs.Uses.{is_written}
 use Rattle.lg_carry.specs.Passages.{Passes}
-use Rattle.lg_carry.proofs.AgainLemmas.{settled, host-agrees}
-use Rattle.lg_carry.proofs.ApartLemmas.{conventions-apart}
+use Rattle.lg_carry.proofs.AgreeInFrameLemmas.{settled, host-agrees}
+use Rattle.lg_carry.proofs.RegistersApartLemmas.{conventions-apart}
 use Rattle.lg_carry.proofs.PassageLemmas.{host-steps-lead}
-use Rattle.lg_carry.proofs.ShapedLemmas.{shaped}
+use Rattle.lg_carry.proofs.TextShapeLemmas.{shaped}
 use Rattle.lg_carry.proofs.StackLemmas.{stacked-running, stacked-high}
 use Rattle.lg_carry_rv.specs.RvRows.{rv_processor, rv_seen}
 use Rattle.lg_carry_rv.proofs.RowLemmas.{went}

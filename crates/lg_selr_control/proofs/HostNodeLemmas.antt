@@ -19,14 +19,14 @@ use Rattle.lg_meaning.specs.Steps.{call_host}
 use Rattle.lg_meaning.specs.Steps.{Undefined as NoStep}
 use Rattle.lg_meaning.specs.Texts.{text, step_at, step}
 use Rattle.lg_meaning.specs.Fits.{is_call}
-use Rattle.lg_carry.specs.Codes.{Code, is_inside}
+use Rattle.lg_carry.specs.FinalNodes.{Code, is_inside}
 use Rattle.lg_carry.specs.Registers.{HoldsArguments, HasArguments}
 use Rattle.lg_carry.specs.Stands.{lowest, Stands}
 use Rattle.lg_carry.specs.Carries.{Leads}
 use Rattle.lg_carry.specs.NodeCode.{numbered, live_before, live_behind, CarriesNode}
 use Rattle.lg_live.specs.Uses.{is_written}
 use Rattle.lg_carry.specs.Passages.{Passes}
-use Rattle.lg_carry.proofs.ShapedLemmas.{shaped}
+use Rattle.lg_carry.proofs.TextShapeLemmas.{shaped}
 use Rattle.lg_carry_rv.specs.Numbers.{high_part, low_part}
 use Rattle.lg_carry_rv.specs.RvRows.{rv_processor}
 use Rattle.lg_carry_rv.proofs.SlotLemmas.{pc-next}

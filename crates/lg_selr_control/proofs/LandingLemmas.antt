@@ -12,7 +12,7 @@ use Rattle.lg_node.specs.Functions.{home}
 use Rattle.lg_meaning.specs.Steps.{later, landing, last_landing, is_behind, is_target, jump_target, begins, is_entry_label, entry_target, function_here, Text}
 use Rattle.lg_meaning.specs.Texts.{text}
 use Rattle.lg_meaning.proofs.NodeFacts.{function_found}
-use Rattle.lg_carry.specs.Codes.{Code, is_inside}
+use Rattle.lg_carry.specs.FinalNodes.{Code, is_inside}
 use Rattle.lg_carry.specs.TextNodes.{IsInText}
 use Rattle.lg_selr_control.proofs.JumpLemmas.{inner-is}
 

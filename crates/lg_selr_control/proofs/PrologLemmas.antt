@@ -21,17 +21,17 @@ use Rattle.lg_cpu.specs.RvStep.{sets}
 use Rattle.lg_meaning.specs.States.{Frame, State}
 use Rattle.lg_meaning.specs.Steps.{Goes, on, begun, need, quiet, function_here}
 use Rattle.lg_meaning.specs.Texts.{text, step_at, step}
-use Rattle.lg_carry.specs.Codes.{Code, is_inside}
+use Rattle.lg_carry.specs.FinalNodes.{Code, is_inside}
 use Rattle.lg_carry.specs.Frames.{at_call, MayKeepCaller, MayHoldCaller, HasWords, IsArriving, IsRunning}
 use Rattle.lg_carry.specs.Registers.{HasWord}
 use Rattle.lg_carry.specs.Stands.{StatesAgree, Stands}
 use Rattle.lg_carry.specs.Carries.{Leads}
 use Rattle.lg_carry.specs.NodeCode.{live_before, live_behind}
 use Rattle.lg_carry.specs.Passages.{Passes}
-use Rattle.lg_carry.proofs.AcrossLemmas.{prolog-agrees, frame-room}
-use Rattle.lg_carry.proofs.ApartLemmas.{conventions-apart}
+use Rattle.lg_carry.proofs.AgreeAcrossFramesLemmas.{prolog-agrees, frame-room}
+use Rattle.lg_carry.proofs.RegistersApartLemmas.{conventions-apart}
 use Rattle.lg_carry.proofs.PassageLemmas.{passages-lead}
-use Rattle.lg_carry.proofs.ShapedLemmas.{shaped}
+use Rattle.lg_carry.proofs.TextShapeLemmas.{shaped}
 use Rattle.lg_carry.proofs.StackLemmas.{stacked, stacked-high}
 use Rattle.lg_carry_rv.specs.Numbers.{high_part, low_part}
 use Rattle.lg_carry_rv.specs.RvRows.{rv_processor, rv_seen, is_straight}

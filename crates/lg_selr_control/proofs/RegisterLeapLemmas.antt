@@ -24,7 +24,7 @@ use Rattle.lg_meaning.specs.Steps.{Goes, Undefined, need, to, quiet, is_target, 
 use Rattle.lg_meaning.specs.Texts.{text, step_at, step}
 use Rattle.lg_meaning.specs.Fits.{is_call}
 use Rattle.lg_temp.specs.Abis.{register_of}
-use Rattle.lg_carry.specs.Codes.{Code, is_inside}
+use Rattle.lg_carry.specs.FinalNodes.{Code, is_inside}
 use Rattle.lg_carry.specs.Registers.{HoldsArguments, HasArguments}
 use Rattle.lg_carry.specs.Stands.{lowest, StatesAgree, Stands}
 use Rattle.lg_carry.specs.Carries.{Leads}
@@ -32,7 +32,7 @@ use Rattle.lg_carry.specs.NodeCode.{numbered, live_before, live_behind, ReturnsT
 use Rattle.lg_carry.specs.Passages.{Passes}
 use Rattle.lg_carry.proofs.MoveLemmas.{move-agrees}
 use Rattle.lg_carry.proofs.PassageLemmas.{passages-lead}
-use Rattle.lg_carry.proofs.ShapedLemmas.{shaped}
+use Rattle.lg_carry.proofs.TextShapeLemmas.{shaped}
 use Rattle.lg_carry.specs.TextNodes.{IsInText, HasPlaces}
 use Rattle.lg_carry_rv.specs.RvRows.{rv_processor, rv_seen}
 use Rattle.lg_carry_rv.proofs.SlotLemmas.{pc-next}

@@ -26,8 +26,8 @@ use Rattle.lg_meaning.specs.States.{Frame, State}
 use Rattle.lg_meaning.specs.Fits.{AreLinked}
 use Rattle.lg_meaning.specs.Steps.{Goes, leave, back_to, node_step}
 use Rattle.lg_meaning.specs.Texts.{text, step_at, step}
-use Rattle.lg_carry.specs.Codes.{Code, is_inside}
-use Rattle.lg_carry.specs.Across.{returned}
+use Rattle.lg_carry.specs.FinalNodes.{Code, is_inside}
+use Rattle.lg_carry.specs.AgreeAcrossFrames.{returned}
 use Rattle.lg_carry.specs.Frames.{at_call, IsSettled, return_address}
 use Rattle.lg_carry.specs.Places.{AreStacked}
 use Rattle.lg_carry.specs.Registers.{HasWord, HoldsResult}
@@ -35,10 +35,10 @@ use Rattle.lg_carry.specs.Stands.{lowest, StatesAgree, Stands}
 use Rattle.lg_carry.specs.Carries.{Meets, Leads, calls_at}
 use Rattle.lg_carry.specs.NodeCode.{live_before, live_behind, is_return, CarriesNode}
 use Rattle.lg_carry.specs.Passages.{Passes}
-use Rattle.lg_carry.proofs.AcrossLemmas.{return-agrees}
-use Rattle.lg_carry.proofs.AgainLemmas.{settled}
+use Rattle.lg_carry.proofs.AgreeAcrossFramesLemmas.{return-agrees}
+use Rattle.lg_carry.proofs.AgreeInFrameLemmas.{settled}
 use Rattle.lg_carry.proofs.PassageLemmas.{passages-lead}
-use Rattle.lg_carry.proofs.ShapedLemmas.{shaped}
+use Rattle.lg_carry.proofs.TextShapeLemmas.{shaped}
 use Rattle.lg_carry.proofs.StackLemmas.{stacked-running, stacked-high}
 use Rattle.lg_carry_rv.specs.RvRows.{rv_processor, rv_seen}
 use Rattle.lg_carry.specs.TextNodes.{IsInText, HasPlaces}

@@ -21,10 +21,10 @@ use Rattle.lg_meaning.specs.Laws.{IsFormedAt}
 use Rattle.lg_meaning.proofs.KeepLemmas.{steps_fit}
 use Rattle.lg_meaning.proofs.NodeFacts.{inside_one}
 use Rattle.lg_carry.specs.Blocks.{spellings}
-use Rattle.lg_carry.specs.Codes.{Code, is_inside}
+use Rattle.lg_carry.specs.FinalNodes.{Code, is_inside}
 use Rattle.lg_carry.specs.Passages.{Passes}
 use Rattle.lg_carry.proofs.PassageLemmas.{parts-pass, passages-join}
-use Rattle.lg_carry.proofs.ShapedLemmas.{shaped}
+use Rattle.lg_carry.proofs.TextShapeLemmas.{shaped}
 use Rattle.lg_carry_rv.specs.RvRows.{rv_processor, rv_rows}
 use Rattle.lg_carry_rv.proofs.RowLemmas.{went, are-rows}
 use Rattle.lg_carry.specs.TextNodes.{IsInText}

@@ -15,7 +15,7 @@ use Rattle.lg_rv.specs.declared.instruction.RegOp.TheVariants.{Sub}
 use Rattle.lg_rv.specs.declared.instruction.StoreOp.TheVariants.{Sd}
 use Rattle.lg_rv.specs.declared.instruction.UpperOp.TheVariants.{Lui}
 use Rattle.lg_meaning.specs.Steps.{function_here}
-use Rattle.lg_carry.specs.Codes.{Code}
+use Rattle.lg_carry.specs.FinalNodes.{Code}
 use Rattle.lg_carry.specs.NodeCode.{CarriesNode}
 use Rattle.lg_carry_rv.specs.Numbers.{high_part, low_part}
 use Rattle.lg_carry_rv.specs.RvRows.{rv_processor}

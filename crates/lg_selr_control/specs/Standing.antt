@@ -4,7 +4,7 @@ use Rattle.lg_base.specs.Layout.{most_code}
 use Rattle.lg_rv.specs.Spelling.{IsInstr}
 use Rattle.lg_rv.specs.declared.instruction.Instr.{Instr}
 use Rattle.lg_cpu.specs.Laws.{AreBytes}
-use Rattle.lg_carry.specs.Codes.{Code}
+use Rattle.lg_carry.specs.FinalNodes.{Code}
 use Rattle.lg_carry.specs.Passages.{IsNodeCode}
 use Rattle.lg_carry_rv.specs.RvRows.{rv_rows}
 

@@ -7,7 +7,7 @@ use Rattle.std.proofs.lemmas.Bool.Decides.{nat_tests}
 use Rattle.lg_base.specs.Layout.{code_base}
 use Rattle.lg_carry.specs.Blocks.{spellings, IsBlock}
 use Rattle.lg_carry.specs.Carries.{leaps_at}
-use Rattle.lg_carry.specs.Codes.{Code}
+use Rattle.lg_carry.specs.FinalNodes.{Code}
 use Rattle.lg_carry.specs.Passages.{IsNodeCode}
 use Rattle.lg_carry_rv.specs.Destinations.{WritesWithin}
 use Rattle.lg_carry_rv.specs.Places.{IsInCode}

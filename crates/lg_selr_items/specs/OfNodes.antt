@@ -3,7 +3,7 @@ use Rattle.std.specs.Prelude.{◌≡◌, ℕ, ◌+◌, ◌-◌, ◌%◌, ◌^◌
 use Rattle.lg_base.specs.Layout.{code_base, most_code}
 use Rattle.lg_carry.specs.Blocks.{IsBlock}
 use Rattle.lg_carry.specs.Carries.{leaps_at}
-use Rattle.lg_carry.specs.Codes.{Code}
+use Rattle.lg_carry.specs.FinalNodes.{Code}
 use Rattle.lg_carry_rv.specs.Places.{IsInCode}
 use Rattle.lg_carry_rv.specs.RvRows.{rv_rows, is_straight}
 use Rattle.lg_carry.specs.Passages.{IsNodeCode}

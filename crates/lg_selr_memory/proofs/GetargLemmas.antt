@@ -26,15 +26,15 @@ use Rattle.lg_meaning.specs.States.{Frame, State}
 use Rattle.lg_meaning.specs.Steps.{Goes, Undefined, need, on, with_reg, operate}
 use Rattle.lg_meaning.specs.Texts.{step}
 use Rattle.lg_temp.specs.Abis.{register_of}
-use Rattle.lg_carry.specs.Codes.{Code, is_inside}
+use Rattle.lg_carry.specs.FinalNodes.{Code, is_inside}
 use Rattle.lg_carry.specs.Places.{AreStacked}
 use Rattle.lg_carry.specs.Registers.{HasWord}
 use Rattle.lg_carry.specs.Stands.{Stands, lowest}
 use Rattle.lg_carry.specs.Carries.{leaps, Leads}
 use Rattle.lg_carry.specs.NodeCode.{numbered, live_before, live_behind, CarriesNode}
-use Rattle.lg_carry.proofs.AgainLemmas.{settled}
+use Rattle.lg_carry.proofs.AgreeInFrameLemmas.{settled}
 use Rattle.lg_carry.specs.Frames.{at_call, IsSettled}
-use Rattle.lg_carry.proofs.ShapedLemmas.{shaped}
+use Rattle.lg_carry.proofs.TextShapeLemmas.{shaped}
 use Rattle.lg_carry.proofs.StackLemmas.{stacked-running, stacked-high, few-arguments}
 use Rattle.lg_carry_rv.specs.RvRows.{rv_processor}
 use Rattle.lg_carry_rv.specs.Places.{IsInCode, stands_inside}

@@ -24,7 +24,7 @@ use Rattle.lg_meaning.specs.States.{State, reg, value}
 use Rattle.lg_meaning.specs.Steps.{need, load_to, store_to}
 use Rattle.lg_meaning.specs.Texts.{text, step_at, step}
 use Rattle.lg_temp.specs.Abis.{register_of}
-use Rattle.lg_carry.specs.Codes.{Code}
+use Rattle.lg_carry.specs.FinalNodes.{Code}
 use Rattle.lg_carry.specs.NodeCode.{numbered, CarriesNode}
 use Rattle.lg_carry_rv.specs.RvRows.{rv_processor}
 use Rattle.lg_carry_rv.specs.Places.{IsInCode}

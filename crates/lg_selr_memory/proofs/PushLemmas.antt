@@ -21,7 +21,7 @@ use Rattle.lg_node.specs.Preparations.{pushed}
 use Rattle.lg_meaning.specs.States.{Frame, State}
 use Rattle.lg_meaning.specs.Steps.{Goes, Undefined, need, on, quiet}
 use Rattle.lg_meaning.specs.Texts.{step}
-use Rattle.lg_carry.specs.Codes.{Code, is_inside}
+use Rattle.lg_carry.specs.FinalNodes.{Code, is_inside}
 use Rattle.lg_carry.specs.Frames.{at_call, IsSettled}
 use Rattle.lg_carry.specs.Places.{AreStacked}
 use Rattle.lg_carry.specs.Registers.{HasWord, HoldsArguments, HasArguments}
@@ -29,10 +29,10 @@ use Rattle.lg_carry.specs.Stands.{StatesAgree, Stands, lowest}
 use Rattle.lg_carry.specs.Carries.{leaps, Leads}
 use Rattle.lg_carry.specs.NodeCode.{numbered, live_before, live_behind, CarriesNode}
 use Rattle.lg_carry.specs.Blocks.{done}
-use Rattle.lg_carry.proofs.AgainLemmas.{settled, push-agrees}
-use Rattle.lg_carry.proofs.ApartLemmas.{conventions-apart}
+use Rattle.lg_carry.proofs.AgreeInFrameLemmas.{settled, push-agrees}
+use Rattle.lg_carry.proofs.RegistersApartLemmas.{conventions-apart}
 use Rattle.lg_carry.proofs.KeptLemmas.{registers-kept}
-use Rattle.lg_carry.proofs.ShapedLemmas.{shaped}
+use Rattle.lg_carry.proofs.TextShapeLemmas.{shaped}
 use Rattle.lg_carry.proofs.StackLemmas.{stacked-running, stacked-high}
 use Rattle.lg_carry.proofs.WordLemmas.{word-kept}
 use Rattle.lg_carry_rv.specs.RvRows.{rv_seen, rv_processor, rv_does}

@@ -23,15 +23,15 @@ use Rattle.lg_cpu.specs.RvStep.{read, goes, act}
 use Rattle.lg_meaning.specs.States.{Frame, State, is_open}
 use Rattle.lg_meaning.specs.Steps.{Goes, Undefined, need, on_with_carry, store_to}
 use Rattle.lg_meaning.specs.Texts.{step}
-use Rattle.lg_carry.specs.Codes.{Code}
-use Rattle.lg_carry.specs.Again.{Writes}
+use Rattle.lg_carry.specs.FinalNodes.{Code}
+use Rattle.lg_carry.specs.AgreeInFrame.{Writes}
 use Rattle.lg_carry.specs.Places.{AreStacked}
 use Rattle.lg_carry.specs.Stands.{StatesAgree, Stands, HasParts, HasMemory, lowest}
 use Rattle.lg_carry.specs.Carries.{leaps, Leads}
 use Rattle.lg_carry.specs.NodeCode.{numbered, live_before, live_behind, CarriesNode}
 use Rattle.lg_carry.specs.Blocks.{done}
-use Rattle.lg_carry.proofs.AgainLemmas.{store-agrees}
-use Rattle.lg_carry.proofs.ApartLemmas.{conventions-apart}
+use Rattle.lg_carry.proofs.AgreeInFrameLemmas.{store-agrees}
+use Rattle.lg_carry.proofs.RegistersApartLemmas.{conventions-apart}
 use Rattle.lg_carry.proofs.KeptLemmas.{registers-kept, arguments-kept}
 use Rattle.lg_carry.proofs.SpillLemmas.{stored-there}
 use Rattle.lg_carry.proofs.StackLemmas.{stacked-running}

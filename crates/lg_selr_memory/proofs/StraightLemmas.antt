@@ -15,16 +15,16 @@ use Rattle.lg_cpu.specs.States.{CpuState}
 use Rattle.lg_meaning.specs.States.{Frame, State, number}
 use Rattle.lg_meaning.specs.Steps.{Goes, Undefined}
 use Rattle.lg_meaning.specs.Texts.{step}
-use Rattle.lg_carry.specs.Codes.{Code, is_inside}
+use Rattle.lg_carry.specs.FinalNodes.{Code, is_inside}
 use Rattle.lg_carry.specs.Stands.{StatesAgree, Stands}
 use Rattle.lg_carry.specs.Carries.{leaps, Leads}
 use Rattle.lg_carry.specs.NodeCode.{numbered, live_before, live_behind}
 use Rattle.lg_carry.specs.Blocks.{spellings, done, GoesThrough, RunsBlock}
-use Rattle.lg_carry.specs.Again.{StaysInFrame}
+use Rattle.lg_carry.specs.AgreeInFrame.{StaysInFrame}
 use Rattle.lg_carry.specs.Frames.{at_call}
 use Rattle.lg_carry.proofs.BlockLemmas.{blocks-run}
 use Rattle.lg_carry.proofs.NodeBlockLemmas.{node-blocks-lead}
-use Rattle.lg_carry.proofs.ShapedLemmas.{inner, shaped}
+use Rattle.lg_carry.proofs.TextShapeLemmas.{inner, shaped}
 use Rattle.lg_carry_rv.specs.RvRows.{rv_seen, rv_processor, rv_does, rv_rows}
 use Rattle.lg_carry_rv.specs.Places.{IsInCode, IsBehindProlog, stands_inside}
 use Rattle.lg_carry_rv.specs.ComputingNodes.{HoldsRead}

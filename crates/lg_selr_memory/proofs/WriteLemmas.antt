@@ -17,14 +17,14 @@ use Rattle.lg_meaning.specs.States.{Frame, State, number}
 use Rattle.lg_meaning.specs.Steps.{Goes, Undefined, with_word}
 use Rattle.lg_meaning.specs.Texts.{step}
 use Rattle.lg_temp.specs.Abis.{register_of}
-use Rattle.lg_carry.specs.Codes.{Code}
+use Rattle.lg_carry.specs.FinalNodes.{Code}
 use Rattle.lg_carry.specs.Registers.{HoldsCarry}
 use Rattle.lg_carry.specs.Stands.{StatesAgree, Stands}
 use Rattle.lg_carry.specs.Carries.{leaps, Leads}
 use Rattle.lg_carry.specs.NodeCode.{numbered, live_before, live_behind}
 use Rattle.lg_carry.specs.Blocks.{done}
-use Rattle.lg_carry.proofs.AgainLemmas.{write-agrees, is-false}
-use Rattle.lg_carry.proofs.ApartLemmas.{conventions-apart}
+use Rattle.lg_carry.proofs.AgreeInFrameLemmas.{write-agrees, is-false}
+use Rattle.lg_carry.proofs.RegistersApartLemmas.{conventions-apart}
 use Rattle.lg_carry_rv.specs.RvRows.{rv_seen, rv_processor, rv_does}
 use Rattle.lg_carry_rv.specs.Places.{IsInCode, stands_inside}
 use Rattle.lg_carry_rv.proofs.RegisterLemmas.{stands-for, number-few, only-number}

@@ -5,7 +5,7 @@ use Rattle.lg_op.specs.declared.op.Op.TheVariants as op
 use Rattle.lg_op.specs.declared.op.ControlOp.TheVariants as control
 use Rattle.lg_op.specs.declared.op.LastOperand.{LastOperand}
 use Rattle.lg_node.specs.Preparations.{pushed}
-use Rattle.lg_carry.specs.Codes.{Code}
+use Rattle.lg_carry.specs.FinalNodes.{Code}
 use Rattle.lg_carry.specs.NodeCode.{CarriesNode}
 use Rattle.lg_carry_rv.specs.RvRows.{rv_processor}
 use Rattle.lg_carry_rv.specs.Places.{IsInCode}

@@ -27,9 +27,9 @@ use Rattle.lg_temp.specs.declared.choice.Choice.{Choice}
 use Rattle.lg_temp.specs.Abis.{register_of}
 use Rattle.lg_temp.specs.Chosen.{around, stands_in, is_chosen, taken_by}
 use Rattle.lg_temp.specs.Choices.{AreFor}
-use Rattle.lg_carry.specs.Codes.{Code}
+use Rattle.lg_carry.specs.FinalNodes.{Code}
 use Rattle.lg_carry.specs.NodeCode.{numbered, CarriesNode}
-use Rattle.lg_carry.proofs.TakenLemmas.{none-stood-for, tried-spare}
+use Rattle.lg_carry.proofs.TemporariesApartLemmas.{none-stood-for, tried-spare}
 use Rattle.lg_carry_rv.specs.RvRows.{rv_processor, can_save}
 use Rattle.lg_carry_rv.specs.Places.{IsInCode}
 use Rattle.lg_carry_rv.specs.ComputingNodes.{HoldsRead}

@@ -13,7 +13,7 @@ use Rattle.lg_meaning.specs.States.{State, value}
 use Rattle.lg_meaning.specs.Steps.{Undefined, on_with_carry, with_reg}
 use Rattle.lg_meaning.specs.Texts.{step}
 use Rattle.lg_temp.specs.Abis.{register_of}
-use Rattle.lg_carry.specs.Codes.{Code}
+use Rattle.lg_carry.specs.FinalNodes.{Code}
 use Rattle.lg_carry.specs.TextNodes.{IsInText}
 use Rattle.lg_carry_rv.specs.Computations.{computed}
 use Rattle.lg_carry_rv.specs.ComputingNodes.{HoldsRead, StepsTo, ComputesNode}

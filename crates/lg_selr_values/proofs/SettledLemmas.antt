@@ -13,7 +13,7 @@ use Rattle.lg_temp.specs.declared.choice.Choice.{Choice}
 use Rattle.lg_temp.specs.declared.choice.Choice.TheVariants.{Free, Own, Spill}
 use Rattle.lg_temp.specs.Chosen.{Around, around}
 use Rattle.lg_temp.specs.Choices.{AreFor}
-use Rattle.lg_carry.specs.Codes.{Code}
+use Rattle.lg_carry.specs.FinalNodes.{Code}
 use Rattle.lg_carry.specs.Spills.{wrapped}
 use Rattle.lg_carry.specs.NodeCode.{numbered, CarriesNode}
 use Rattle.lg_carry_rv.specs.RvRows.{rv_processor, rv_rows, slot_offset}

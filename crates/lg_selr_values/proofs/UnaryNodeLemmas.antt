@@ -16,7 +16,7 @@ use Rattle.lg_meaning.specs.States.{State, reg, number}
 use Rattle.lg_meaning.specs.Steps.{Undefined, on, on_with_carry, with_reg, with_word}
 use Rattle.lg_meaning.specs.Texts.{step}
 use Rattle.lg_temp.specs.Abis.{register_of}
-use Rattle.lg_carry.specs.Codes.{Code}
+use Rattle.lg_carry.specs.FinalNodes.{Code}
 use Rattle.lg_carry.specs.Registers.{HoldsCarry}
 use Rattle.lg_carry.specs.TextNodes.{IsInText}
 use Rattle.lg_carry_rv.specs.Computations.{computed}

@@ -21,9 +21,9 @@ use Rattle.lg_meaning.specs.States.{State, reg, value, number}
 use Rattle.lg_meaning.specs.Steps.{Undefined, on, with_reg, with_word}
 use Rattle.lg_meaning.specs.Texts.{step}
 use Rattle.lg_temp.specs.Abis.{register_of}
-use Rattle.lg_carry.specs.Codes.{Code}
+use Rattle.lg_carry.specs.FinalNodes.{Code}
 use Rattle.lg_carry.specs.NodeCode.{numbered}
-use Rattle.lg_carry.proofs.ApartLemmas.{conventions-apart}
+use Rattle.lg_carry.proofs.RegistersApartLemmas.{conventions-apart}
 use Rattle.lg_carry.proofs.StackLemmas.{or-cases}
 use Rattle.lg_carry.specs.TextNodes.{IsInText}
 use Rattle.lg_carry_rv.specs.Computations.{all_compute, computed}

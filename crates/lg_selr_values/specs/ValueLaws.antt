@@ -9,7 +9,7 @@ use Rattle.lg_node.specs.Preparations.{pushed}
 use Rattle.lg_temp.specs.declared.choice.Choice.{Choice}
 use Rattle.lg_temp.specs.Chosen.{around}
 use Rattle.lg_temp.specs.Choices.{AreFor}
-use Rattle.lg_carry.specs.Codes.{Code}
+use Rattle.lg_carry.specs.FinalNodes.{Code}
 use Rattle.lg_carry.specs.NodeCode.{numbered, CarriesNode}
 use Rattle.lg_carry_rv.specs.RvRows.{rv_processor}
 use Rattle.lg_carry_rv.specs.Places.{IsInCode}

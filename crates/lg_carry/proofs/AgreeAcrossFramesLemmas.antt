@@ -14,15 +14,15 @@ use Rattle.lg_meaning.specs.States.{Frame, in_locals, in_any_locals, is_open, St
 use Rattle.lg_meaning.specs.Steps.{called, on, begun, kept, function_here}
 use Rattle.lg_meaning.specs.Fits.{AreLinked, IsTopOf}
 use Rattle.lg_base.specs.CarryFlags.{carry_of}
-use Rattle.lg_carry.specs.Codes.{is_inside}
+use Rattle.lg_carry.specs.FinalNodes.{is_inside}
 use Rattle.lg_carry.specs.Registers.{HasArguments, HoldsCarry, HoldsArguments}
 use Rattle.lg_carry.specs.Frames.{at_call, KeepsCaller, MayKeepCaller, HaveWords, IsArriving, IsRunning, IsLinked, arriving}
 use Rattle.lg_carry.specs.Places.{AreStacked, InWords}
 use Rattle.lg_carry.specs.Stands.{lowest, HasParts}
-use Rattle.lg_carry.specs.Across.{AgreesAtCall, AgreesBehindProlog, AgreesBehindReturn, AgreesAtStart}
+use Rattle.lg_carry.specs.AgreeAcrossFrames.{AgreesAtCall, AgreesBehindProlog, AgreesBehindReturn, AgreesAtStart}
 use Rattle.lg_carry.proofs.KeptLemmas.{registers-some, stack_arguments-kept, frame-kept, frames-kept}
 use Rattle.lg_carry.proofs.StackLemmas.{stacked, few-arguments, stacked-running, words-above, within-where, or-cases, locals-above, open-where}
-use Rattle.lg_carry.proofs.AgainLemmas.{settled, running, is-false}
+use Rattle.lg_carry.proofs.AgreeInFrameLemmas.{settled, running, is-false}
 use Rattle.std.proofs.lemmas.Option.{slice_get_within}
 use Rattle.lg_node.specs.Nodes.{LabelledNodes}
 use Rattle.lg_node.specs.Shapes.{TextShape}

@@ -13,12 +13,12 @@ use Rattle.lg_meaning.specs.States.{Frame, State}
 use Rattle.lg_meaning.specs.Steps.{started, called, on, begun, resumed, function_here}
 use Rattle.lg_meaning.specs.Fits.{Fits}
 use Rattle.lg_carry.specs.Processors.{Seen, IsSeen}
-use Rattle.lg_carry.specs.Codes.{Code, is_inside}
+use Rattle.lg_carry.specs.FinalNodes.{Code, is_inside}
 use Rattle.lg_carry.specs.Registers.{HasWord, HoldsResult, HoldsArguments, HasArguments}
 use Rattle.lg_carry.specs.Frames.{at_call, arriving, IsLinked, IsSettled}
 use Rattle.lg_carry.specs.Places.{ArePassedFew}
 use Rattle.lg_carry.specs.Stands.{lowest, HasParts, HasMemory, StatesAgree}
-use Rattle.lg_carry.specs.Again.{Holds}
+use Rattle.lg_carry.specs.AgreeInFrame.{Holds}
 
 -- the step leads to a state that fits, and to the place of its node
 pub record Arrives (c : Code) (t : State) (u : Seen) : Type 0 where

@@ -6,13 +6,13 @@ use Rattle.std.specs.Prelude.{is_some}
 use Rattle.lg_base.specs.Layout.{frame_pointer, least_frame}
 use Rattle.lg_base.specs.declared.target.Target.{Target}
 use Rattle.lg_meaning.specs.States.{Frame, State, is_open}
-use Rattle.lg_carry.specs.Codes.{is_inside, Code}
+use Rattle.lg_carry.specs.FinalNodes.{is_inside, Code}
 use Rattle.lg_carry.specs.Registers.{HasArguments, HoldsArguments}
 use Rattle.lg_carry.specs.Frames.{at_call, IsSettled, IsRunning, HaveWords}
 use Rattle.lg_carry.specs.Places.{AreStacked, InWords}
 use Rattle.lg_carry.specs.Spills.{in_slots}
 use Rattle.lg_carry.specs.Stands.{lowest, HasParts, HasMemory, StatesAgree}
-use Rattle.lg_carry.specs.Again.{AgreesAgain, is_spoilt, StaysInFrame, Holds, ChangesNothing, AgreesBehindQuiet, Pushes, AgreesBehindPush, Writes, AgreesBehindStore, AgreesBehindHost, AgreesBehindWrite}
+use Rattle.lg_carry.specs.AgreeInFrame.{AgreesAgain, is_spoilt, StaysInFrame, Holds, ChangesNothing, AgreesBehindQuiet, Pushes, AgreesBehindPush, Writes, AgreesBehindStore, AgreesBehindHost, AgreesBehindWrite}
 use Rattle.lg_carry.proofs.KeptLemmas.{stack_arguments-kept, frames-kept, running-kept, arguments-kept}
 use Rattle.lg_carry.proofs.StackLemmas.{stacked, few-arguments, stacked-running, words-above, within-where, or-cases, locals-above, locals-apart, locals-off, open-where, slot-where}
 use Rattle.lg_carry.specs.Processors.{Seen}
