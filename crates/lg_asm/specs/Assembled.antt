@@ -21,7 +21,7 @@ use Rattle.lg_node.specs.Nodes.{LabelledNodes}
 use Rattle.lg_node.specs.Preparations.{pushed}
 use Rattle.lg_node.specs.Shapes.{TextShape, IsChecked, IsShapeOf}
 use Rattle.lg_op.specs.declared.node.Node.{Node}
-use Rattle.lg_asm.specs.Lowered.{every_before, code_of, ArePlaces}
+use Rattle.lg_asm.specs.Lowered.{every_before, code_of, ArePlaces, AreOf, AreNodesWhole}
 use Rattle.lg_asm.specs.PlainChoices.{spills_in}
 
 -- the target, the bytes, the nodes with their shape, the places of the nodes and of the end, the addresses of the labels, the index of the text's
@@ -47,14 +47,16 @@ pub record ArePushed (nodes : List Node) (xs : List ℕ) (count : ℕ) : Type 0 
   pub each : (i : ℕ) → i < count → slice_index xs i ≡ pushed nodes i
   pub few : (i : ℕ) → i < count → slice_index xs i ≤ 16
 
--- the nodes are accepted and are those of the text; they stand at their places, the labels have their addresses, and each node is carried, with all
--- registers live
+-- the nodes are accepted and are those of the text; they stand at their places, between which are whole instructions; a label that is bound at a node
+-- has the address of its place, and each node is carried, with all registers live
 pub record IsCode (c : Assembled) : Type 0 where
   pub checked : IsChecked c.nodes (Ok c.shape)
   pub small : length c.bytes ≤ 1048576
   pub are_bytes : AreBytes c.bytes
   pub ordered : ArePlaces c.nodes c.places (length c.bytes)
   pub addresses : AreAddresses c.nodes (length c.bytes) c.labels
+  pub addressed : AreOf c.nodes c.places c.labels
+  pub instructions : AreNodesWhole c.target (length c.nodes.nodes) c.places c.bytes
   pub carried : (trash i : ℕ) → trash < 2 ^ 64 → i < length c.nodes.nodes → Carries (processor_of c.target c.bytes trash) (code_of c.nodes c.shape c.labels c.places) every_before i
   pub identity : IsIdentity (length c.nodes.nodes) c.origin
   pub saved : c.spills ≡ spills_in c.target c.nodes.nodes (length c.nodes.nodes)

@@ -1,9 +1,11 @@
 -- What `select` appends carries the node once the buffer is finished.
-use Rattle.std.proofs.Common.{◌≡◌, ℕ, ◌+◌, ◌≤◌, Bool, true, false, List, ◌++◌, length, refl, ap, ◌∙◌, subst, arith, rules, length-append}
-use Rattle.std.specs.Prelude.{◌*◌, ◌%◌, IsTrue, [], ◌∷◌}
+use Rattle.std.proofs.Common.{◌≡◌, ℕ, ◌+◌, ◌-◌, ◌<◌, ◌≤◌, ◌^◌, Bool, true, false, List, ◌++◌, length, take, drop, refl, ap, ◌∙◌, sym, subst, arith, rules, length-append}
+use Rattle.std.proofs.Math.Seq.{take-append_seam}
+use Rattle.std.specs.Prelude.{◌*◌, ◌%◌, IsTrue, [], ◌∷◌, slice_index}
+use Rattle.lg_base.specs.Layout.{code_base}
 use Rattle.lg_buf.specs.Buffers.{Buffer}
 use Rattle.lg_carry.specs.Blocks.{spellings}
-use Rattle.lg_rv.specs.Spelling.{spelling}
+use Rattle.lg_rv.specs.Spelling.{spelling, IsInstr}
 use Rattle.lg_op.specs.Forms.{is_alignment, forms_of, admit}
 use Rattle.lg_op.specs.Nodes.{InForm}
 use Rattle.lg_op.specs.declared.op.Op.{Op}
@@ -14,7 +16,7 @@ use Rattle.lg_op.specs.declared.operand.Operand.TheVariants as operand
 use Rattle.lg_op.specs.declared.node.Node.{Node}
 use Rattle.lg_op.specs.declared.operand.Reg.{Reg}
 use Rattle.lg_selr.specs.Items.{node_items}
-use Rattle.lg_selr.specs.Selected.{IsAligned, IsCarriedWhenFinished}
+use Rattle.lg_selr.specs.Selected.{IsAligned, IsCarriedWhenFinished, AreWhole, AreWholeWhenFinished, part_of}
 use Rattle.lg_selr.proofs.FinishedLemmas.{AreAppended, are-of-node}
 use Rattle.lg_selr.proofs.NodeFits.{IsAsked, items-fit}
 use Rattle.lg_selr.proofs.NodeLemmas.{items-carry}
@@ -23,8 +25,10 @@ use Rattle.lg_selr.proofs.WithinLemmas.{items-within}
 use Rattle.lg_selr_control.specs.Alignments.{align_code}
 use Rattle.lg_selr_control.proofs.AlignLemmas.{alignments-align}
 use Rattle.lg_selr_items.specs.declared.items.Item.{Item}
-use Rattle.lg_selr_items.specs.Items.{words_in, bytes_in, blanks, ones}
+use Rattle.lg_selr_items.specs.Items.{words_in, bytes_in, blanks, ones, settled}
+use Rattle.lg_selr_items.specs.Patched.{AreSettledAt}
 use Rattle.lg_selr_items.proofs.ItemLemmas.{blank_bytes, words-ones}
+use Rattle.lg_selr_items.proofs.NodeLemmas.{settled-bytes}
 use Rattle.lg_base.specs.declared.target.Target.TheVariants.{Riscv64}
 use Rattle.lg_selr_values.specs.ValueItems.{value_needs}
 use Rattle.lg_temp.specs.Chosen.{around}
@@ -42,6 +46,32 @@ selected-carries node frame live staged choices old new items asked e few append
     items-carry code trash c i frame live staged choices (length old.labels) place node.op node.operands node.line
     record { node = n; chosen = asked.chosen; first = asked.first; named = asked.named; takes = asked.takes; words = asked.words; address = f.here }
     (are-of-node old new code trash c i mine word a fit.instrs (items-within node live asked.chosen.set frame choices staged place (choices-are-for (around Riscv64 node live asked.chosen.set) (value_needs node.op) choices asked.chosen.chosen)) short whole f)
+
+-- and its bytes are whole instructions
+pub selected-whole : (node : Node) (frame : ℕ) (live : Reg → Bool) (staged : List Bool) (choices : List Choice) (old new : Buffer) (items : List Item) → IsAsked node live staged choices (length old.labels)
+    → items ≡ node_items node frame choices staged (length old.bytes) → words_in items ≤ 64 → AreAppended old new items → length old.bytes % 4 ≡ 0 → AreWholeWhenFinished spelling IsInstr old new
+selected-whole node frame live staged choices old new items asked e few appended whole code c i f =
+    let place : ℕ = length old.bytes in
+    let mine : List Item = node_items node frame choices staged place in
+    let fit = items-fit frame live staged choices (length old.labels) place node.op node.operands node.line asked in
+    let a : AreAppended old new mine = subst (AreAppended old new) e appended in
+    let short : words_in mine ≤ 64 = subst (λ l. words_in l ≤ 64) e few in
+    let zero_word : 0 < 2 ^ 64 = omega arith in
+    let of = are-of-node old new code 0 c i mine zero_word a fit.instrs
+    (items-within node live asked.chosen.set frame choices staged place (choices-are-for (around Riscv64 node live asked.chosen.set) (value_needs node.op) choices asked.chosen.chosen)) short whole f in
+    settled-whole code (slice_index c.addresses) place (length new.bytes - place) mine
+    (subst (λ p. AreSettledAt (slice_index c.addresses) code p mine) (let h = f.here in omega (arith, h)) of.settled)
+    (let h = f.here in let n = f.next in let s = of.next in omega (arith, h, n, s))
+  where
+    settled-whole : (code : List ℕ) (to : ℕ → ℕ) (p n : ℕ) (xs : List Item) → AreSettledAt to code p xs → n ≡ bytes_in xs → AreWhole spelling IsInstr (part_of code p n)
+    settled-whole code to p n xs s size = record {
+      instructions = settled to (code_base + p) xs;
+      fit = s.fit;
+      bytes_are =
+          let is : List ℕ = spellings spelling (settled to (code_base + p) xs) in
+          let long : n ≡ length is = size ∙ sym (settled-bytes to (code_base + p) xs) in
+          ap (λ (k : ℕ). take k (drop p code)) long ∙ (ap (λ (ys : List ℕ). take (length is) ys) s.bytes ∙ take-append_seam is s.rest);
+    }
 
 -- ---- how much was appended
 is-true : IsTrue true

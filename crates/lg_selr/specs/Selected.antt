@@ -1,11 +1,12 @@
 -- What is asked of a node and its buffer, and what the code that is appended does once the buffer is finished.
-use Rattle.std.specs.Prelude.{◌≡◌, ℕ, ◌+◌, ◌-◌, ◌%◌, ◌^◌, ◌<◌, ◌≤◌, ◌||◌, Bool, true, false, List, [], ◌∷◌, ◌++◌, length, drop, replicate, slice_index, slice_index_or, Option, Some, ⊤}
+use Rattle.std.specs.Prelude.{◌≡◌, ℕ, ◌+◌, ◌-◌, ◌%◌, ◌^◌, ◌<◌, ◌≤◌, ◌||◌, Bool, true, false, List, [], ◌∷◌, ◌++◌, length, take, drop, replicate, slice_index, slice_index_or, Option, Some, ⊤}
 use Rattle.std.specs.List.{All, list_any}
 use Rattle.lg_base.specs.Layout.{code_base, most_code}
 use Rattle.lg_base.specs.declared.target.Target.TheVariants.{Riscv64}
 use Rattle.lg_buf.specs.declared.fixes.Fix.{Fix}
 use Rattle.lg_buf.specs.Buffers.{Buffer, AreDone}
 use Rattle.lg_buf.specs.Fixing.{IsWithin, Fits}
+use Rattle.lg_carry.specs.Blocks.{spellings}
 use Rattle.lg_carry.specs.FinalNodes.{Code}
 use Rattle.lg_carry.specs.NodeCode.{numbered, CarriesNode}
 use Rattle.lg_carry.specs.TextNodes.{IsInText, IsFrameOf, HasPlaces, NamesCode}
@@ -24,6 +25,7 @@ use Rattle.lg_op.specs.declared.op.PlainOp.TheVariants as plain
 use Rattle.lg_op.specs.declared.operand.Operand.{Operand}
 use Rattle.lg_op.specs.declared.operand.Operand.TheVariants as operand
 use Rattle.lg_op.specs.declared.operand.Reg.{Reg}
+use Rattle.lg_rv.specs.Spelling.{spelling}
 use Rattle.lg_selr_items.specs.Patched.{IsApartFrom, HaveAddresses}
 use Rattle.lg_selr_values.specs.ValueItems.{value_needs}
 use Rattle.lg_temp.specs.declared.choice.Choice.{Choice}
@@ -131,6 +133,21 @@ pub record IsNodeOf (unit : ℕ) (node : Node) (frame : ℕ) (staged : List Bool
 abbrev pub IsCarriedWhenFinished : Node → ℕ → (Reg → Bool) → List Bool → Buffer → Buffer → Type 0
 IsCarriedWhenFinished node frame live staged old new =
     (code : List ℕ) (trash : ℕ) (c : Code) (i : ℕ) → trash < 2 ^ 64 → IsFinished old new code c i → IsNodeOf 4 node frame staged c i → CarriesNode (rv_processor code trash) c i node (numbered live)
+
+-- bytes are whole instructions: the spellings, in a row, of some that fit
+pub record AreWhole {I : Type 0} (spelling : I → List ℕ) (fits : I → Type 0) (bytes : List ℕ) : Type 0 where
+  pub instructions : List I
+  pub fit : All fits instructions
+  pub bytes_are : bytes ≡ spellings spelling instructions
+
+-- so many bytes from a place on
+abbrev pub part_of : List ℕ → ℕ → ℕ → List ℕ
+part_of code place count = take count (drop place code)
+
+-- wherever the buffer is finished, the bytes that were appended are whole instructions
+abbrev pub AreWholeWhenFinished : {I : Type 0} → (I → List ℕ) → (I → Type 0) → Buffer → Buffer → Type 0
+AreWholeWhenFinished spelling fits old new =
+    (code : List ℕ) (c : Code) (i : ℕ) → IsFinished old new code c i → AreWhole spelling fits (part_of code (length old.bytes) (length new.bytes - length old.bytes))
 
 -- behind an `.align` the place is a multiple of its number
 abbrev pub IsAligned : Node → ℕ → Type 0

@@ -6,7 +6,8 @@ ghost use Rattle.lg_node.specs.Functions.{is_prolog};
 ghost use Rattle.lg_selr_values.specs.ValueFits.{NameBelow};
 ghost use Rattle.lg_op.specs.Nodes.{InForm};
 ghost use Rattle.lg_live.specs.RegSets.{has};
-ghost use Rattle.lg_selr.specs.Selected.{IsFrame, AreChosen, AreFirst, is_pusharg, TakesLabelsWell, IsAligned, IsCarriedWhenFinished, IsFixOf};
+ghost use Rattle.lg_selr.specs.Selected.{IsFrame, AreChosen, AreFirst, is_pusharg, TakesLabelsWell, IsAligned, IsCarriedWhenFinished, AreWholeWhenFinished, IsFixOf};
+ghost use Rattle.lg_rv.specs.Spelling.{spelling, IsInstr};
 
 use crate::items::{put_items, see_numbers};
 use lg_buf::CodeBuf;
@@ -24,8 +25,9 @@ use lg_temp::choice::{Choices, Staged};
 /// whole instructions, and does so behind the node.
 ///
 /// Behind an `.align` the place is a multiple of its number, and a `prolog` has bytes. Each new fix lies behind what the buffer held, names a label
-/// of the node, and reaches every instruction within 1 MiB. Once the fixes of the buffer are patched, the code carries the node where the registers
-/// of `live_after` are live behind it: no step of it but one of a host function changes a register that is outside of the conventions.
+/// of the node, and reaches every instruction within 1 MiB. Once the fixes of the buffer are patched, the code is whole instructions, and carries
+/// the node where the registers of `live_after` are live behind it: no step of it but one of a host function changes a register that is outside of
+/// the conventions.
 #[must_use]
 pub fn select(
     node: &Node,
@@ -53,6 +55,7 @@ pub fn select(
     ensures whole { length buf.new.bytes % 4 ≡ 0 }
     ensures begins { IsTrue result → is_prolog node.now.op ≡ true → length buf.old.bytes < length buf.new.bytes }
     ensures lead { IsTrue result → All (IsFixOf 4 (length buf.old.bytes) node.now) (drop (length buf.old.fixes) buf.new.fixes) }
+    ensures instructions { IsTrue result → AreWholeWhenFinished spelling IsInstr buf.old buf.new }
     ensures carries { IsTrue result → IsCarriedWhenFinished node.now frame (has live_after) staged.arguments buf.old buf.new }
 {
     see_numbers(node.operands.as_slice());

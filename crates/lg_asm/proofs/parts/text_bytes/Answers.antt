@@ -23,6 +23,7 @@ given target l shape size places buf bytes tags low few done are is = record {
   ordered = subst (ArePlaces l places) (sym done.long) low.ordered;
   count = ap length is ∙ (length-map buf.labels place_or_zero ∙ low.count);
   tagged = λ x i e. ap (λ t. slice_index t x) is ∙ tag-at buf.labels x (slice_index places i) (low.labels x i e);
+  instructions = λ addresses of. low.instructions bytes addresses are done of;
   carries = λ addresses trash i word of lt. low.carries bytes addresses trash word are done of i lt;
 }
 
