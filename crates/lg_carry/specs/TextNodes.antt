@@ -1,10 +1,12 @@
 -- A node of an accepted text, and the places of nodes and labels.
-use Rattle.std.specs.Prelude.{◌≡◌, ℕ, ◌+◌, ◌%◌, ◌≤◌, ◌⊎◌, true, length, slice_get, slice_index, Some}
+use Rattle.std.specs.Prelude.{◌≡◌, ℕ, ◌+◌, ◌%◌, ◌<◌, ◌≤◌, ◌⊎◌, ◌||◌, not, Bool, true, false, length, slice_get, slice_index, Some}
 use Rattle.lg_base.specs.Layout.{code_base, most_code}
 use Rattle.lg_op.specs.declared.node.Node.{Node}
+use Rattle.lg_op.specs.declared.op.Op.{Op}
 use Rattle.lg_op.specs.declared.operand.Label.{Label}
 use Rattle.lg_op.specs.declared.operand.Operand.TheVariants as operand
-use Rattle.lg_node.specs.Functions.{frame_of}
+use Rattle.lg_node.specs.Checks.{may_stand_outside}
+use Rattle.lg_node.specs.Functions.{home, is_prolog, frame_of}
 use Rattle.lg_node.specs.Shapes.{IsShapeOf}
 use Rattle.lg_node.specs.ShapeLaws.{IsWellShaped, HasFunctions}
 use Rattle.lg_node.specs.declared.function.Function.{Function}
@@ -22,6 +24,19 @@ pub record IsInText (c : Code) (i : ℕ) (n : Node) : Type 0 where
   pub functions : HasFunctions c.nodes
   pub formed : IsFormedAt c.nodes i
   pub here : slice_get c.nodes.nodes i ≡ Some n
+
+-- the node stands in a function, behind its `prolog`
+pub record IsBehindProlog (c : Code) (i : ℕ) : Type 0 where
+  pub entry : ℕ
+  pub home : home c.nodes.nodes i ≡ Some entry
+  pub behind : entry < i
+
+-- every operation but `prolog`, `.align` and `jmpi` stands there
+abbrev pub stands_inside : Op → Bool
+stands_inside op = not (is_prolog op || may_stand_outside op false)
+
+abbrev pub NodesStandInside : Type 0
+NodesStandInside = (c : Code) (i : ℕ) (n : Node) → IsInText c i n → stands_inside n.op ≡ true → IsBehindProlog c i
 
 -- the frame is that of the function in which the node stands, where it stands in one
 abbrev pub IsFrameOf : Code → ℕ → ℕ → Type 0

@@ -3,7 +3,6 @@
 ghost use Rattle.lg_carry_rv.specs.Computations.{ComputationsRun};
 ghost use Rattle.lg_carry_rv.specs.ComputingNodes.{ComputingNodesCarry, PlainNodesCarry};
 ghost use Rattle.lg_carry_rv.specs.Numbers.{NumbersAreLoaded};
-ghost use Rattle.lg_carry_rv.specs.Places.{NodesStandInside};
 ghost use Rattle.lg_carry_rv.specs.RvRows.{InstructionsAreRows, InstructionsAreSpills};
 
 /// The instruction whose spelling stands at the program counter is executed, and the next one follows.
@@ -24,11 +23,6 @@ pub fn computations_run()
 /// At most 8 instructions load any number into a register, and change no other.
 pub fn numbers_are_loaded()
     ensures { NumbersAreLoaded }
-{}
-
-/// Every node but `prolog`, `.align` and `jmpi` stands in a function, behind its `prolog`.
-pub fn nodes_stand_inside()
-    ensures { NodesStandInside }
 {}
 
 /// A node is carried by code that only computes, where the registers that it computes are those of the portable step. Temporaries are saved

@@ -29,7 +29,7 @@ use Rattle.lg_carry.specs.Rows.{Rows}
 use Rattle.lg_carry.specs.Stands.{Stands}
 use Rattle.lg_sel_nodes.specs.Isas.{IsIsa}
 use Rattle.lg_sel_nodes.specs.Leaps.{HasPlaces, IsThere, second_word, BranchesLead, last_of, branch_node, IsSecond, BranchesCarry}
-use Rattle.lg_sel_nodes.specs.Places.{IsInText, IsFrameOf}
+use Rattle.lg_carry.specs.TextNodes.{IsInText, IsFrameOf}
 use Rattle.lg_sel_nodes.specs.Stretches.{behind, Way}
 use Rattle.lg_sel_nodes.proofs.LeapLemmas.{bound-at, Lands, jump-lands, in-some, behind-prolog, next-inside, in-nodes, node-stands, there, way-leads}
 use Rattle.lg_sel_nodes.proofs.LiveLemmas.{unwritten, still-live}

@@ -38,7 +38,7 @@ use Rattle.lg_carry.proofs.TextShapeLemmas.{shaped}
 use Rattle.lg_carry.proofs.StackLemmas.{stacked-running, within-where}
 use Rattle.lg_cells.specs.Cells.{within}
 use Rattle.lg_sel_nodes.specs.Leaps.{HasPlaces, IsThere, CallsLead, call_node, finish_node, CallsCarry, FinishesCarry}
-use Rattle.lg_sel_nodes.specs.Places.{IsInText, IsFrameOf}
+use Rattle.lg_carry.specs.TextNodes.{IsInText, IsFrameOf}
 use Rattle.lg_sel_nodes.specs.Stretches.{HasFrame, StaysOutside, behind, Arrival}
 use Rattle.lg_sel_nodes.proofs.LeapLemmas.{bound-at, outer-is, stands-inside, node-stands, node-passes, there}
 use Rattle.lg_sel_nodes.proofs.LiveLemmas.{still-live}

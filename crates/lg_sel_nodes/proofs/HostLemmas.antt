@@ -43,7 +43,7 @@ use Rattle.lg_carry.proofs.PassageLemmas.{host-steps-lead}
 use Rattle.lg_carry.proofs.TextShapeLemmas.{shaped}
 use Rattle.lg_carry.proofs.StackLemmas.{stacked-high, open-where, locals-above, within-where}
 use Rattle.lg_sel_nodes.specs.Leaps.{HasPlaces, HostArrival, HostCallsLead, HasArrived, host_answer, Answers, EntersHosts, host_call_node, host_finish_node, HostCallsCarry, HostFinishesCarry}
-use Rattle.lg_sel_nodes.specs.Places.{IsInText, IsFrameOf}
+use Rattle.lg_carry.specs.TextNodes.{IsInText, IsFrameOf}
 use Rattle.lg_sel_nodes.specs.Stretches.{StaysOutside, behind, Arrival}
 use Rattle.lg_sel_nodes.proofs.ArgumentLemmas.{arguments-begin}
 use Rattle.lg_sel_nodes.proofs.CallLemmas.{stays-frame, above-off, before, tower, frame, held-frame}

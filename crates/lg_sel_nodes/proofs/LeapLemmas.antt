@@ -33,7 +33,7 @@ use Rattle.lg_carry.proofs.PassageLemmas.{passages-lead}
 use Rattle.lg_carry.proofs.TextShapeLemmas.{shaped}
 use Rattle.lg_sel_nodes.specs.Isas.{IsIsa}
 use Rattle.lg_sel_nodes.specs.Leaps.{HasPlaces, IsThere}
-use Rattle.lg_sel_nodes.specs.Places.{IsInText}
+use Rattle.lg_carry.specs.TextNodes.{IsInText}
 use Rattle.lg_sel_nodes.specs.Stretches.{StandsAt, StaysOutside, PassesIn, Way}
 use Rattle.lg_sel_nodes.proofs.StraightLemmas.{text-keeps}
 

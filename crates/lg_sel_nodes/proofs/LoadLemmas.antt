@@ -30,7 +30,7 @@ use Rattle.lg_carry.specs.Spills.{Does, in_slots, with_register}
 use Rattle.lg_carry.proofs.RegistersApartLemmas.{conventions-apart}
 use Rattle.lg_sel_nodes.specs.Accesses.{Address, Index, address_word, IsAddress, IsReadable, LoadsDo, HasCode, load_node, IndexedLoadsCarry}
 use Rattle.lg_sel_nodes.specs.Isas.{IsIsa}
-use Rattle.lg_sel_nodes.specs.Places.{IsInText, IsFrameOf, stands_inside}
+use Rattle.lg_carry.specs.TextNodes.{IsInText, IsFrameOf, stands_inside}
 use Rattle.lg_sel_nodes.specs.Straight.{spoils, from_to, HoldsRead, StepsTo, ComputesNode}
 use Rattle.lg_sel_nodes.proofs.ByteLemmas.{loaded-more, loaded-small}
 use Rattle.lg_sel_nodes.proofs.OperandLemmas.{immediate-value}

@@ -39,7 +39,7 @@ use Rattle.lg_carry.proofs.SpillLemmas.{stored-there}
 use Rattle.lg_carry.proofs.StackLemmas.{within-where}
 use Rattle.lg_sel_nodes.specs.Accesses.{Address, Index, address_word, IsAddress}
 use Rattle.lg_sel_nodes.specs.Isas.{IsIsa}
-use Rattle.lg_sel_nodes.specs.Places.{IsInText, IsFrameOf, stands_inside}
+use Rattle.lg_carry.specs.TextNodes.{IsInText, IsFrameOf, stands_inside}
 use Rattle.lg_sel_nodes.specs.Stores.{IsWritable, StoresDo, HasStoreCode, store_node, IndexedStoresCarry}
 use Rattle.lg_sel_nodes.specs.Straight.{IsKept, spoils, from_to, HoldsRead}
 use Rattle.lg_sel_nodes.proofs.ByteLemmas.{stored-holds, stored-same}

@@ -59,11 +59,11 @@ use Rattle.lg_carry.proofs.SpillChoiceLemmas.{choices-in-order}
 use Rattle.lg_carry.proofs.StackLemmas.{stacked-running, stacked-high, slot-where, open-where, locals-off}
 use Rattle.lg_carry.proofs.TemporariesApartLemmas.{none-stood-for, none-staged, tried-spare}
 use Rattle.lg_sel_nodes.specs.Isas.{IsIsa}
-use Rattle.lg_sel_nodes.specs.Places.{IsInText, IsFrameOf, IsBehindProlog, stands_inside}
+use Rattle.lg_carry.specs.TextNodes.{IsInText, IsFrameOf, IsBehindProlog, stands_inside}
 use Rattle.lg_sel_nodes.specs.Stretches.{HasFrame}
 use Rattle.lg_node.specs.Labels.{is_inner}
 use Rattle.lg_sel_nodes.specs.Straight.{is_taken, spoils, HoldsRead, IsKept, from_to, StepsTo, ComputesNode, NeedWell, ComputingNodesCarry, PlainNodesCarry}
-use Rattle.lg_sel_nodes.proofs.PlaceLemmas.{nodes-stand-inside}
+use Rattle.lg_carry.proofs.PlaceLemmas.{nodes-stand-inside}
 use Rattle.lg_sel_nodes.proofs.RegisterLemmas.{stands-for, number-few, numbered-at, given}
 use Rattle.lg_sel_nodes.proofs.TemporaryLemmas.{IsTemporary, IsOffered, temporary, keep-taken, unspoilt, lost-taken, either}
 

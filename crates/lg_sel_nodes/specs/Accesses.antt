@@ -22,7 +22,7 @@ use Rattle.lg_carry.specs.Rows.{Rows}
 use Rattle.lg_carry.specs.Blocks.{spellings}
 use Rattle.lg_carry.specs.Spills.{Does, in_slots, with_register}
 use Rattle.lg_sel_nodes.specs.Immediates.{immediate}
-use Rattle.lg_sel_nodes.specs.Places.{IsInText, IsFrameOf}
+use Rattle.lg_carry.specs.TextNodes.{IsInText, IsFrameOf}
 use Rattle.lg_sel_nodes.specs.Straight.{spoils, from_to}
 use Rattle.lg_sel_nodes.specs.Stretches.{HasFrame}
 

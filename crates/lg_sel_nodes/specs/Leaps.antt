@@ -32,7 +32,7 @@ use Rattle.lg_carry.specs.Passages.{IsNodeCode}
 use Rattle.lg_carry.specs.Processors.{IsSeen, Processor}
 use Rattle.lg_carry.specs.Rows.{Rows}
 use Rattle.lg_sel_nodes.specs.Immediates.{immediate}
-use Rattle.lg_sel_nodes.specs.Places.{IsInText, IsFrameOf}
+use Rattle.lg_carry.specs.TextNodes.{IsInText, IsFrameOf}
 use Rattle.lg_sel_nodes.specs.Stretches.{HasFrame, StandsAt, behind, Way, Arrival}
 
 -- ---- places

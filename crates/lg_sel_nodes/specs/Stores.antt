@@ -20,7 +20,7 @@ use Rattle.lg_carry.specs.Rows.{Rows}
 use Rattle.lg_carry.specs.Spills.{Does, in_slots}
 use Rattle.lg_sel_nodes.specs.Accesses.{Address, Index, address_word, IsAddress}
 use Rattle.lg_sel_nodes.specs.Immediates.{immediate}
-use Rattle.lg_sel_nodes.specs.Places.{IsInText, IsFrameOf}
+use Rattle.lg_carry.specs.TextNodes.{IsInText, IsFrameOf}
 use Rattle.lg_sel_nodes.specs.Straight.{spoils, from_to}
 use Rattle.lg_sel_nodes.specs.Stretches.{HasFrame}
 

@@ -31,7 +31,7 @@ use Rattle.lg_carry.specs.NodeCode.{numbered, CarriesNode}
 use Rattle.lg_carry.specs.Spills.{Work, Does, in_slots, wrapped, spilled}
 use Rattle.lg_carry.specs.Stands.{HasMemory}
 use Rattle.lg_carry.specs.TemporariesApart.{IsSpare}
-use Rattle.lg_sel_nodes.specs.Places.{IsInText, IsFrameOf, stands_inside}
+use Rattle.lg_carry.specs.TextNodes.{IsInText, IsFrameOf, stands_inside}
 use Rattle.lg_sel_nodes.specs.Stretches.{HasFrame}
 
 -- ---- registers that the code of a node may leave with any word

@@ -13,7 +13,6 @@ ghost use Rattle.lg_sel_nodes.specs.Leaps.{HostCallsLead, HostCallsCarry, HostFi
 ghost use Rattle.lg_op.specs.declared.op.ValueType.{ValueType};
 ghost use Rattle.lg_sel_nodes.specs.Accesses.{Address, LoadsDo, HasCode, IndexedLoadsCarry};
 ghost use Rattle.lg_op.specs.declared.op.StoreType.{StoreType};
-ghost use Rattle.lg_sel_nodes.specs.Places.{NodesStandInside};
 ghost use Rattle.lg_sel_nodes.specs.Stores.{StoresDo, HasStoreCode, IndexedStoresCarry};
 ghost use Rattle.lg_sel_nodes.specs.Straight.{ComputingNodesCarry, PlainNodesCarry};
 
@@ -37,11 +36,6 @@ pub trait Isa {
     /// The instructions are those of the processor.
     ghost is_isa: { IsIsa rows scratch fits };
 }
-
-/// Every node but `prolog`, `.align` and `jmpi` stands in a function, behind its `prolog`.
-pub fn nodes_stand_inside()
-    ensures { NodesStandInside }
-{}
 
 /// A node is carried by code that goes straight on, where the registers that it leaves are those of the portable step. Temporaries are saved and
 /// restored where no register is free.
