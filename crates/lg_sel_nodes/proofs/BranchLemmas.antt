@@ -31,14 +31,14 @@ use Rattle.lg_sel_nodes.specs.Isas.{IsIsa}
 use Rattle.lg_sel_nodes.specs.Leaps.{HasPlaces, IsThere, second_word, BranchesLead, last_of, branch_node, IsSecond, BranchesCarry}
 use Rattle.lg_carry.specs.TextNodes.{IsInText, IsFrameOf}
 use Rattle.lg_sel_nodes.specs.Stretches.{behind, Way}
-use Rattle.lg_sel_nodes.proofs.LeapLemmas.{bound-at, Lands, jump-lands, in-some, behind-prolog, next-inside, in-nodes, node-stands, there, way-leads}
+use Rattle.lg_sel_nodes.proofs.LeapLemmas.{bound-at, Lands, jump-lands, in-some, behind-prolog, next-inside, in-nodes, node-stands, to-label, there-behind, way-leads}
 use Rattle.lg_sel_nodes.proofs.LiveLemmas.{unwritten, still-live}
 use Rattle.lg_sel_nodes.proofs.OperandLemmas.{named-here, named-later, read-is-live}
 use Rattle.lg_sel_nodes.proofs.RegisterLemmas.{given}
 use Rattle.lg_sel_nodes.proofs.StraightLemmas.{text-keeps, frame-held}
 
 module _ {Q I : Type 0} (R : Rows Q I) (scratch : ℕ → Bool) (fits : I → Type 0) (isa : IsIsa R scratch fits) (code : ℕ → Condition → Reg → Operand → ℕ → ℕ → List I) (lead : BranchesLead R scratch fits code)
-    (c : Code) (i : ℕ) (o : Condition) (l : Label) (a : Reg) (third : Operand) (line frame : ℕ) (S : ℕ → Bool) (second : IsSecond third) (w : HasPlaces R.is_place c) (t : IsInText c i (branch_node o l a third line)) (is-frame : IsFrameOf c i frame)
+    (c : Code) (i : ℕ) (o : Condition) (l : Label) (a : Reg) (third : Operand) (line frame : ℕ) (S : ℕ → Bool) (second : IsSecond third) (w : HasPlaces R c) (t : IsInText c i (branch_node o l a third line)) (is-frame : IsFrameOf c i frame)
     (k : IsNodeCode R fits c i (code frame o a third (c.place i) (slice_index c.addresses l.0))) where
   abbrev n : Node
   n = branch_node o l a third line
@@ -97,18 +97,18 @@ module _ {Q I : Type 0} (R : Rows Q I) (scratch : ℕ → Bool) (fits : I → Ty
     taken x y ea eb small goes' = by (holds o x y) refl
       where
         next : IsThere R.is_place high
-        next = subst (IsThere R.is_place) place-next (there R.is_place c w (i + 1) (let lt = in-nodes c i n t in omega (arith, lt)))
+        next = there-behind R fits isa.rows c w i is (in-nodes c i n t) k
 
         way : (holds o x y ≡ true → IsThere R.is_place (slice_index c.addresses l.0)) → Way R.processor scratch (c.place i) high W (if holds o x y then slice_index c.addresses l.0 else high) q
         way at-label = lead frame o a third x y (c.place i) (slice_index c.addresses l.0) q (frame-held target c i live s (R.processor.seen q) (live_before n S) at before st.state frame is-frame) (node-stands R fits c i is k) at-label next st.runs here ea eb small
 
         bound : slice_index c.addresses l.0 ≡ c.place lands.node
-        bound = w.bound l.0 lands.node (bound-at c.nodes.places l (place.Node lands.node) lands.place)
+        bound = w.nodes.bound l.0 lands.node (bound-at c.nodes.places l (place.Node lands.node) lands.place)
 
         jumps : holds o x y ≡ true → step c.nodes c.shape c.addresses s ≡ Goes (to s lands.node) [] → Leads R.processor c live (live_behind live n S s) i (step c.nodes c.shape c.addresses s) out q
         jumps e goes'' =
             let within = (text-keeps c i n t s (to s lands.node) [] at (omega (arith, st.state.seen.low, st.state.mark)) (omega (arith, st.state.seen.high, st.state.mark)) st.state.fits goes'').inside in
-            let at-label : IsThere R.is_place (slice_index c.addresses l.0) = subst (IsThere R.is_place) (sym bound) (there R.is_place c w lands.node (omega (arith, within))) in
+            let at-label : IsThere R.is_place (slice_index c.addresses l.0) = to-label R c w l lands.node lands.place (omega (arith, within)) in
             goes-to lands.node (lands.side ∙ inside) goes'' (subst (λ z. Way R.processor scratch (c.place i) high W z q) (ap (λ b. if b then slice_index c.addresses l.0 else high) e ∙ bound) (way (λ z. at-label)))
 
         by : (b : Bool) → holds o x y ≡ b → Leads R.processor c live (live_behind live n S s) i (step c.nodes c.shape c.addresses s) out q

@@ -40,7 +40,7 @@ use Rattle.lg_cells.specs.Cells.{within}
 use Rattle.lg_sel_nodes.specs.Leaps.{HasPlaces, IsThere, CallsLead, call_node, finish_node, CallsCarry, FinishesCarry}
 use Rattle.lg_carry.specs.TextNodes.{IsInText, IsFrameOf}
 use Rattle.lg_sel_nodes.specs.Stretches.{HasFrame, StaysOutside, behind, Arrival}
-use Rattle.lg_sel_nodes.proofs.LeapLemmas.{bound-at, outer-is, stands-inside, node-stands, node-passes, there}
+use Rattle.lg_sel_nodes.proofs.LeapLemmas.{bound-at, outer-is, stands-inside, node-stands, node-passes, to-label}
 use Rattle.lg_sel_nodes.proofs.LiveLemmas.{still-live}
 use Rattle.lg_sel_nodes.proofs.StraightLemmas.{text-keeps, frame-held}
 
@@ -120,18 +120,18 @@ module _ {Q I : Type 0} (R : Rows Q I) (c : Code) (i : ℕ) (n : Node) (S : ℕ 
           (subst (λ b. Stands R.processor c live s' (out ++ []) u (if b then live (at_call s.frame) else S)) (sym (stays-frame n.op calls)) record { runs = arr.runs; wrote = ap R.processor.machine.out (sym arr.passes.leads) ∙ arr.passes.silent arr.steps (omega arith) ∙ st.wrote ∙ sym (append-nil out); state = agree })))
 
 -- ---- by its label
-module _ {Q I : Type 0} (R : Rows Q I) (fits : I → Type 0) (code : ℕ → ℕ → List I) (lead : CallsLead R fits code) (c : Code) (i : ℕ) (n : Node) (l : Label) (S : ℕ → Bool) (w : HasPlaces R.is_place c) (t : IsInText c i n) (size : ℕ) (is-frame : IsFrameOf c i size)
+module _ {Q I : Type 0} (R : Rows Q I) (fits : I → Type 0) (code : ℕ → ℕ → List I) (lead : CallsLead R fits code) (c : Code) (i : ℕ) (n : Node) (l : Label) (S : ℕ → Bool) (w : HasPlaces R c) (t : IsInText c i n) (size : ℕ) (is-frame : IsFrameOf c i size)
     (k : IsNodeCode R fits c i (code (c.place i) (slice_index c.addresses l.0))) (inside : is_inside c i ≡ true) (calls : is_call n.op ≡ true) (unwritten : (v : ℕ) → v < 3 → numbered (is_written n) (v + 3) ≡ false) (target-is : IsEntry c.nodes (place_of c.nodes.places l))
     (live : Frame → ℕ → Bool) (s : State) (returns : ReturnsTo live n S s) (out : List ℕ) (q : Q) (at : s.at ≡ i) (st : Stands R.processor c live s out q (live_before n S))
     (args : List ℕ) (few-args : length args ≤ 16) (held : HoldsArguments R.processor.target (R.processor.seen q).registers args) (stacked : HasArguments R.processor.target (R.processor.seen q).bytes (lowest s.frame) args) where
   bound : slice_index c.addresses l.0 ≡ c.place target-is.node
-  bound = w.bound l.0 target-is.node (bound-at c.nodes.places l (place.Node target-is.node) target-is.place)
+  bound = w.nodes.bound l.0 target-is.node (bound-at c.nodes.places l (place.Node target-is.node) target-is.place)
 
   pub label-called : step c.nodes c.shape c.addresses s ≡ call_node_step (text c.nodes c.shape c.addresses) s args target-is.node
       → (step c.nodes c.shape c.addresses s ≡ Undefined) ⊎ Leads R.processor c live (live_behind live n S s) i (step c.nodes c.shape c.addresses s) out q
   label-called steps =
       let within = home_within c.nodes.nodes target-is.node target-is.node target-is.entry in
-      let at-label : IsThere R.is_place (slice_index c.addresses l.0) = subst (IsThere R.is_place) (sym bound) (there R.is_place c w target-is.node (omega (arith, within))) in
+      let at-label : IsThere R.is_place (slice_index c.addresses l.0) = to-label R c w l target-is.node target-is.place (omega (arith, within)) in
       let pointer = (frame R c i n S inside live s out q at st).stack in
       let code-here = behind R (c.place i) (code (c.place i) (slice_index c.addresses l.0)) in
       let arr = subst (λ z. Arrival R.processor (c.place i) code-here z code-here (slice_index c.addresses l.0) q) pointer (lead size (c.place i) (slice_index c.addresses l.0) q (held-frame R c i n S inside live s out q at st size is-frame) (node-stands R fits c i (code (c.place i) (slice_index c.addresses l.0)) k) at-label st.runs (st.state.here ∙ ap c.place at)) in

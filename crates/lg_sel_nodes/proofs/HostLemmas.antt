@@ -133,7 +133,7 @@ kept-frame Riscv64 = refl
 
 -- ---- the step of a host function
 -- the code of a call node has arrived at the entry of a host function
-module _ {Q I : Type 0} (R : Rows Q I) (ready : HostName → (ℕ → ℕ) → Bool) (hosts : EntersHosts R.processor ready) (c : Code) (i : ℕ) (n : Node) (S : ℕ → Bool) (w : HasPlaces R.is_place c) (t : IsInText c i n) (inside : is_inside c i ≡ true) (next : is_inside c (i + 1) ≡ true)
+module _ {Q I : Type 0} (R : Rows Q I) (ready : HostName → (ℕ → ℕ) → Bool) (hosts : EntersHosts R.processor ready) (c : Code) (i : ℕ) (n : Node) (S : ℕ → Bool) (w : HasPlaces R c) (t : IsInText c i n) (inside : is_inside c i ≡ true) (next : is_inside c (i + 1) ≡ true)
     (outside : StaysOutside R.processor c i) (calls : is_call n.op ≡ true) (unwritten : (v : ℕ) → v < 3 → numbered (is_written n) (v + 3) ≡ false)
     (live : Frame → ℕ → Bool) (s : State) (out : List ℕ) (q : Q) (at : s.at ≡ i) (st : Stands R.processor c live s out q (live_before n S))
     (args : List ℕ) (few-args : length args ≤ 16) (held : HoldsArguments R.processor.target (R.processor.seen q).registers args) (stacked : HasArguments R.processor.target (R.processor.seen q).bytes (lowest s.frame) args)
@@ -303,7 +303,7 @@ module _ {Q I : Type 0} (R : Rows Q I) (ready : HostName → (ℕ → ℕ) → B
     answers : Leads R.processor c live (live_behind live n S s) i (step c.nodes c.shape c.addresses s) out q
     answers = leads (Goes s' xs) goes'
         (subst (λ b. Stands R.processor c live s' (out ++ xs) u' (if b then live (at_call s.frame) else S)) (sym (stays-frame n.op calls)) record {
-          runs = ans.runs (w.low (i + 1) (let lt = slice_get_within c.nodes.nodes i n t.here in omega (arith, lt)));
+          runs = ans.runs (w.nodes.low (i + 1) (let lt = slice_get_within c.nodes.nodes i n t.here in omega (arith, lt)));
           wrote = ans.out ∙ ap (λ z. z ++ xs) wrote;
           state = agree;
         })

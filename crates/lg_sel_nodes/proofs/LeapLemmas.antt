@@ -1,7 +1,9 @@
 -- Where labels lead, and how a run that comes to the place of a node leads there.
-use Rattle.std.proofs.Common.{◌≡◌, ◌≢◌, ℕ, ◌+◌, ◌<◌, ◌≤◌, Bool, true, false, List, [], ◌++◌, Option, Some, None, refl, sym, ap, ◌∙◌, subst, arith, length, append-nil}
+use Rattle.std.proofs.Common.{◌≡◌, ◌≢◌, ℕ, ◌+◌, ◌<◌, ◌≤◌, ◌%◌, inl, Bool, true, false, List, [], ◌∷◌, ◌++◌, Option, Some, None, refl, sym, ap, ◌∙◌, subst, arith, length, append-nil, length-append}
 use Rattle.std.specs.Prelude.{slice_get, slice_index, if◌then◌else◌}
 use Rattle.std.specs.Option.{option_flatten}
+use Rattle.std.specs.List.{All}
+use Rattle.std.proofs.lemmas.List.Elements.{All-head, All-tail}
 use Rattle.std.proofs.lemmas.Option.{slice_get_within}
 use Rattle.lg_base.specs.Conventions.{argument_registers, portable_register, frame_register, stack_register}
 use Rattle.lg_base.specs.Runs.{iter}
@@ -26,15 +28,16 @@ use Rattle.lg_carry.specs.NodeCode.{live_behind, is_return}
 use Rattle.lg_carry.specs.Passages.{IsNodeCode, Passes}
 use Rattle.lg_carry.specs.Processors.{Processor}
 use Rattle.lg_carry.specs.Registers.{HoldsRegisters, HoldsArguments}
-use Rattle.lg_carry.specs.Rows.{Rows}
+use Rattle.lg_carry.specs.Rows.{Rows, AreRows}
+use Rattle.lg_carry.specs.Blocks.{spellings}
 use Rattle.lg_carry.proofs.AgreeInFrameLemmas.{quiet-agrees, is-false}
 use Rattle.lg_carry.proofs.RegistersApartLemmas.{conventions-apart}
 use Rattle.lg_carry.proofs.PassageLemmas.{passages-lead}
 use Rattle.lg_carry.proofs.TextShapeLemmas.{shaped}
 use Rattle.lg_sel_nodes.specs.Isas.{IsIsa}
 use Rattle.lg_sel_nodes.specs.Leaps.{HasPlaces, IsThere}
-use Rattle.lg_carry.specs.TextNodes.{IsInText}
-use Rattle.lg_sel_nodes.specs.Stretches.{StandsAt, StaysOutside, PassesIn, Way}
+use Rattle.lg_carry.specs.TextNodes.{IsInText, IsTarget}
+use Rattle.lg_sel_nodes.specs.Stretches.{StandsAt, StaysOutside, behind, PassesIn, Way}
 use Rattle.lg_sel_nodes.proofs.StraightLemmas.{text-keeps}
 
 -- ---- where a label is bound
@@ -102,8 +105,29 @@ node-passes P c i m high q u outside e h =
     let begins : (j : ℕ) → j < m → BeginsInside c i (P.seen (iter P.machine.step j q)) = λ j lt. let z = h.inside j lt in (z.0, omega (arith, z.1, e)) in
     record { leads = h.leads; inside = begins; outside = λ j lt. outside (iter P.machine.step j q) (begins j lt); silent = h.silent; keeps = h.keeps }
 
-pub there : (is_place : ℕ → Bool) (c : Code) → HasPlaces is_place c → (k : ℕ) → k ≤ length c.nodes.nodes → IsThere is_place (c.place k)
-there is_place c w k le = record { low = w.low k le; high = w.high k le; place = w.places k le }
+-- the place of a node to which the code may jump
+pub there : {Q I : Type 0} (R : Rows Q I) (c : Code) → HasPlaces R c → (k : ℕ) → k ≤ length c.nodes.nodes → IsTarget c k → IsThere R.is_place (c.place k)
+there R c w k le t = record { low = w.nodes.low k le; high = w.nodes.high k le; place = w.units (c.place k) (w.nodes.aligned k le t) }
+
+-- a label that is bound at a node leads there
+pub to-label : {Q I : Type 0} (R : Rows Q I) (c : Code) → HasPlaces R c → (l : Label) (k : ℕ) → place_of c.nodes.places l ≡ Some (place.Node k) → k ≤ length c.nodes.nodes → IsThere R.is_place (slice_index c.addresses l.0)
+to-label R c w l k e le =
+    let bound = bound-at c.nodes.places l (place.Node k) e in
+    subst (IsThere R.is_place) (sym (w.nodes.bound l.0 k bound)) (there R c w k le (inl (l.0, bound)))
+
+-- an instruction may stand behind others
+place-behind : {Q I : Type 0} (R : Rows Q I) (fits : I → Type 0) → AreRows R fits → (is : List I) (pc : ℕ) → All fits is → R.is_place pc ≡ true → R.is_place (pc + length (spellings R.spelling is)) ≡ true
+place-behind R fits rows [] pc fit e = let z : pc ≡ pc + 0 = omega arith in subst (λ x. R.is_place x ≡ true) z e
+place-behind R fits rows (x ∷ is) pc fit e =
+    let size = length-append (R.spelling x) (spellings R.spelling is) in
+    let z : pc + length (R.spelling x) + length (spellings R.spelling is) ≡ pc + length (spellings R.spelling (x ∷ is)) = omega (arith, size) in
+    subst (λ p. R.is_place p ≡ true) z (place-behind R fits rows is (pc + length (R.spelling x)) (All-tail fits x is fit) (rows.places pc x (All-head fits x is fit) e))
+
+-- so it may behind the code of a node
+pub there-behind : {Q I : Type 0} (R : Rows Q I) (fits : I → Type 0) → AreRows R fits → (c : Code) → HasPlaces R c → (i : ℕ) (is : List I) → i < length c.nodes.nodes → IsNodeCode R fits c i is → IsThere R.is_place (behind R (c.place i) is)
+there-behind R fits rows c w i is lt k =
+    let low = w.nodes.low (i + 1) (omega (arith, lt)) in let high = w.nodes.high (i + 1) (omega (arith, lt)) in let next = k.next in
+    record { low = omega (arith, low, next); high = omega (arith, high, next); place = place-behind R fits rows is (c.place i) k.fit k.place }
 
 -- ---- a run that comes to the place of a node
 module _ {Q I : Type 0} (R : Rows Q I) (scratch : ℕ → Bool) (fits : I → Type 0) (isa : IsIsa R scratch fits) (c : Code) (i : ℕ) (n : Node) (t : IsInText c i n)

@@ -33,15 +33,15 @@ use Rattle.lg_carry.specs.Processors.{IsSeen, Processor}
 use Rattle.lg_carry.specs.Rows.{Rows}
 use Rattle.lg_sel_nodes.specs.Immediates.{immediate}
 use Rattle.lg_carry.specs.TextNodes.{IsInText, IsFrameOf}
+use Rattle.lg_carry.specs.TextNodes as text_nodes
 use Rattle.lg_sel_nodes.specs.Stretches.{HasFrame, StandsAt, behind, Way, Arrival}
 
 -- ---- places
--- nodes stand in the code part where an instruction may, and a label that is bound at a node has the address of its place
-pub record HasPlaces (is_place : ℕ → Bool) (c : Code) : Type 0 where
-  pub low : (i : ℕ) → i ≤ length c.nodes.nodes → code_base ≤ c.place i
-  pub high : (i : ℕ) → i ≤ length c.nodes.nodes → c.place i ≤ code_base + most_code
-  pub places : (i : ℕ) → i ≤ length c.nodes.nodes → is_place (c.place i) ≡ true
-  pub bound : (label i : ℕ) → IsBound c.nodes label (place.Node i) → slice_index c.addresses label ≡ c.place i
+-- an instruction may stand at each multiple of a unit, and the nodes to which the code may jump stand at such
+pub record HasPlaces {Q I : Type 0} (R : Rows Q I) (c : Code) : Type 0 where
+  pub unit : ℕ
+  pub units : (pc : ℕ) → pc % unit ≡ 0 → R.is_place pc ≡ true
+  pub nodes : text_nodes.HasPlaces unit c
 
 -- an address to which code may lead
 pub record IsThere (is_place : ℕ → Bool) (to : ℕ) : Type 0 where
@@ -80,7 +80,7 @@ IsSecond x = (v : ℕ) × (immediate x ≡ Some v) × (v < 2 ^ 64)
 
 abbrev pub BranchesCarry : {Q I : Type 0} → Rows Q I → (ℕ → Bool) → (I → Type 0) → (ℕ → Condition → Reg → Operand → ℕ → ℕ → List I) → Type 0
 BranchesCarry {Q} {I} R scratch fits code =
-    (c : Code) (i : ℕ) (o : Condition) (l : Label) (a : Reg) (x : Operand) (line frame : ℕ) (S : ℕ → Bool) → IsSecond x → HasPlaces R.is_place c
+    (c : Code) (i : ℕ) (o : Condition) (l : Label) (a : Reg) (x : Operand) (line frame : ℕ) (S : ℕ → Bool) → IsSecond x → HasPlaces R c
     → IsInText c i (branch_node o l a x line) → IsFrameOf c i frame
     → IsNodeCode R fits c i (code frame o a x (c.place i) (slice_index c.addresses l.0)) → CarriesNode R.processor c i (branch_node o l a x line) S
 
@@ -120,26 +120,26 @@ host_finish_node name line = record { op = op.Control control.Finish last_operan
 -- a node that calls a function is carried
 abbrev pub CallsCarry : {Q I : Type 0} → Rows Q I → (I → Type 0) → (ℕ → ℕ → List I) → Type 0
 CallsCarry {Q} {I} R fits code =
-    (c : Code) (i : ℕ) (l : Label) (line : ℕ) (S : ℕ → Bool) → HasPlaces R.is_place c → IsInText c i (call_node l line) → (frame : ℕ) → IsFrameOf c i frame
+    (c : Code) (i : ℕ) (l : Label) (line : ℕ) (S : ℕ → Bool) → HasPlaces R c → IsInText c i (call_node l line) → (frame : ℕ) → IsFrameOf c i frame
     → IsNodeCode R fits c i (code (c.place i) (slice_index c.addresses l.0))
     → CarriesNode R.processor c i (call_node l line) S
 
 abbrev pub FinishesCarry : {Q I : Type 0} → Rows Q I → (I → Type 0) → (ℕ → ℕ → List I) → Type 0
 FinishesCarry {Q} {I} R fits code =
-    (c : Code) (i : ℕ) (l : Label) (line : ℕ) (S : ℕ → Bool) → HasPlaces R.is_place c → IsInText c i (finish_node l line) → (frame : ℕ) → IsFrameOf c i frame
+    (c : Code) (i : ℕ) (l : Label) (line : ℕ) (S : ℕ → Bool) → HasPlaces R c → IsInText c i (finish_node l line) → (frame : ℕ) → IsFrameOf c i frame
     → IsNodeCode R fits c i (code (c.place i) (slice_index c.addresses l.0))
     → CarriesNode R.processor c i (finish_node l line) S
 
 -- so is one that calls a host function
 abbrev pub HostCallsCarry : {Q I : Type 0} → Rows Q I → (I → Type 0) → (HostName → List I) → Type 0
 HostCallsCarry {Q} {I} R fits code =
-    (c : Code) (i : ℕ) (name : HostName) (line : ℕ) (S : ℕ → Bool) → HasPlaces R.is_place c → IsInText c i (host_call_node name line) → (frame : ℕ)
+    (c : Code) (i : ℕ) (name : HostName) (line : ℕ) (S : ℕ → Bool) → HasPlaces R c → IsInText c i (host_call_node name line) → (frame : ℕ)
     → IsFrameOf c i frame → IsNodeCode R fits c i (code name)
     → CarriesNode R.processor c i (host_call_node name line) S
 
 abbrev pub HostFinishesCarry : {Q I : Type 0} → Rows Q I → (I → Type 0) → (HostName → List I) → Type 0
 HostFinishesCarry {Q} {I} R fits code =
-    (c : Code) (i : ℕ) (name : HostName) (line : ℕ) (S : ℕ → Bool) → HasPlaces R.is_place c → IsInText c i (host_finish_node name line) → (frame : ℕ)
+    (c : Code) (i : ℕ) (name : HostName) (line : ℕ) (S : ℕ → Bool) → HasPlaces R c → IsInText c i (host_finish_node name line) → (frame : ℕ)
     → IsFrameOf c i frame → IsNodeCode R fits c i (code name)
     → CarriesNode R.processor c i (host_finish_node name line) S
 
