@@ -1,0 +1,4 @@
+pub mod LandingLemmas
+pub mod RegisterLeapLemmas
+pub mod SilentLemmas
+pub mod WalkLemmas

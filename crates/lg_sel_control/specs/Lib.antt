@@ -1,0 +1,3 @@
+pub mod RegisterLeaps
+pub mod SilentNodes
+pub mod Walks

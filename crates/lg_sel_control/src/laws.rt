@@ -1,0 +1,75 @@
+// When the code of nodes that move on carries them, on every target. The functions do nothing: their contracts are the laws.
+
+ghost use Rattle.std.specs.Prelude.{ℕ, Bool, List};
+ghost use Rattle.lg_base.specs.declared.host_name.HostName.{HostName};
+ghost use Rattle.lg_op.specs.declared.operand.Reg.{Reg};
+ghost use Rattle.lg_sel_nodes.specs.Leaps.{EntersHosts};
+ghost use Rattle.lg_sel_control.specs.RegisterLeaps.{RegisterJumpsWalk, RegisterCallsLead, RegisterHostCallsLead, RegisterLeapsCarry, jmpr_node, callr_node, finishr_node};
+ghost use Rattle.lg_sel_control.specs.SilentNodes.{SilentNodesCarry};
+ghost use Rattle.lg_sel_control.specs.Walks.{JumpsWalk, JumpsCarry, AlignmentsWalk, AlignmentsCarry};
+
+use lg_sel_nodes::laws::Isa;
+
+/// A node without code is carried by none.
+pub fn silent_nodes_are_carried<T: Isa>()
+    ensures { SilentNodesCarry T.rows T.fits }
+{}
+
+/// A target that jumps.
+pub trait Jumps: Isa {
+    /// The code of a jump, which stands at an address, to another one.
+    ghost jump: { ℕ → ℕ → List Self.Instruction };
+
+    /// It leads there, and changes nothing.
+    ghost jumps_walk: { JumpsWalk Self.rows Self.fits jump };
+}
+
+/// A jump to a label is carried by such code, also before the first `prolog`.
+pub fn jumps_are_carried<T: Jumps>()
+    ensures { JumpsCarry T.rows T.fits T.jump }
+{}
+
+/// A target that aligns its code.
+pub trait Alignments: Isa {
+    /// The code that leads from an address to a multiple of a number.
+    ghost align: { ℕ → ℕ → List Self.Instruction };
+
+    /// It leads behind itself, and changes nothing.
+    ghost alignments_walk: { AlignmentsWalk Self.rows Self.fits align };
+}
+
+/// An `.align` is carried by such code, also before the first `prolog`.
+pub fn alignments_are_carried<T: Alignments>()
+    ensures { AlignmentsCarry T.rows T.fits T.align }
+{}
+
+/// A target that jumps and calls by a register.
+pub trait RegisterLeaps: Isa {
+    /// The code of a jump, in a frame of so many bytes, to the word of a register.
+    ghost jump: { ℕ → Reg → List Self.Instruction };
+
+    /// It leads there, and changes nothing.
+    ghost jumps_walk: { RegisterJumpsWalk Self.rows Self.fits jump };
+
+    /// The code of a call of the word of a register.
+    ghost call: { ℕ → Reg → List Self.Instruction };
+
+    /// It arrives there.
+    ghost calls_lead: { RegisterCallsLead Self.rows Self.fits call };
+
+    /// Whether registers are as a host function asks for them, besides the arguments.
+    ghost ready: { HostName → (ℕ → ℕ) → Bool };
+
+    /// It arrives at the entry of a host function too.
+    ghost host_calls_lead: { RegisterHostCallsLead Self.rows ready Self.fits call };
+
+    /// What the step at an entry does.
+    ghost enters_hosts: { EntersHosts Self.rows.processor ready };
+}
+
+/// Jumps and calls by a register are carried by such code.
+pub fn register_leaps_are_carried<T: RegisterLeaps>()
+    ensures jumps { RegisterLeapsCarry T.rows T.fits T.jump jmpr_node }
+    ensures calls { RegisterLeapsCarry T.rows T.fits T.call callr_node }
+    ensures finishes { RegisterLeapsCarry T.rows T.fits T.call finishr_node }
+{}
