@@ -6,6 +6,7 @@ use Rattle.lg_base.specs.Layout.{code_base}
 use Rattle.lg_buf.specs.Buffers.{Buffer}
 use Rattle.lg_carry.specs.Blocks.{spellings}
 use Rattle.lg_rv.specs.Spelling.{spelling, IsInstr}
+use Rattle.lg_rv.specs.declared.instruction.Instr.{Instr}
 use Rattle.lg_op.specs.Forms.{is_alignment, forms_of, admit}
 use Rattle.lg_op.specs.Nodes.{InForm}
 use Rattle.lg_op.specs.declared.op.Op.{Op}
@@ -25,8 +26,8 @@ use Rattle.lg_selr.proofs.WithinLemmas.{items-within}
 use Rattle.lg_selr_control.specs.Alignments.{align_code}
 use Rattle.lg_selr_control.proofs.AlignLemmas.{alignments-align}
 use Rattle.lg_selr_items.specs.declared.items.Item.{Item}
+use Rattle.lg_sel_items.specs.Holes.{IsSettled}
 use Rattle.lg_selr_items.specs.Items.{words_in, bytes_in, blanks, ones, settled}
-use Rattle.lg_selr_items.specs.Patched.{AreSettledAt}
 use Rattle.lg_selr_items.proofs.ItemLemmas.{blank_bytes, words-ones}
 use Rattle.lg_selr_items.proofs.NodeLemmas.{settled-bytes}
 use Rattle.lg_base.specs.declared.target.Target.TheVariants.{Riscv64}
@@ -59,28 +60,30 @@ selected-whole node frame live staged choices old new items asked e few appended
     let zero_word : 0 < 2 ^ 64 = omega arith in
     let of = are-of-node old new code 0 c i mine zero_word a fit.instrs
     (items-within node live asked.chosen.set frame choices staged place (choices-are-for (around Riscv64 node live asked.chosen.set) (value_needs node.op) choices asked.chosen.chosen)) short whole f in
-    settled-whole code (slice_index c.addresses) place (length new.bytes - place) mine
-    (subst (λ p. AreSettledAt (slice_index c.addresses) code p mine) (let h = f.here in omega (arith, h)) of.settled)
-    (let h = f.here in let n = f.next in let s = of.next in omega (arith, h, n, s))
+    let is = settled (slice_index c.addresses) (c.place i) mine in
+    let from : c.place i - code_base ≡ place = let h = f.here in omega (arith, h) in
+    let size = settled-bytes (slice_index c.addresses) (c.place i) mine fit.instrs in
+    subst (λ p. AreWhole spelling IsInstr (part_of code p (length new.bytes - place))) from
+    (settled-whole code (c.place i - code_base) (c.place i - code_base + length (blanks mine)) (length new.bytes - place) is of.of_node.settled_at
+    (let h = f.here in let n = f.next in let s = of.of_node.next in omega (arith, h, n, s, size)))
   where
-    settled-whole : (code : List ℕ) (to : ℕ → ℕ) (p n : ℕ) (xs : List Item) → AreSettledAt to code p xs → n ≡ bytes_in xs → AreWhole spelling IsInstr (part_of code p n)
-    settled-whole code to p n xs s size = record {
-      instructions = settled to (code_base + p) xs;
+    settled-whole : (code : List ℕ) (p behind n : ℕ) (is : List Instr) → IsSettled spelling IsInstr code p behind is → n ≡ length (spellings spelling is) → AreWhole spelling IsInstr (part_of code p n)
+    settled-whole code p behind n is s size = record {
+      instructions = is;
       fit = s.fit;
       bytes_are =
-          let is : List ℕ = spellings spelling (settled to (code_base + p) xs) in
-          let long : n ≡ length is = size ∙ sym (settled-bytes to (code_base + p) xs) in
-          ap (λ (k : ℕ). take k (drop p code)) long ∙ (ap (λ (ys : List ℕ). take (length is) ys) s.bytes ∙ take-append_seam is s.rest);
+          let xs : List ℕ = spellings spelling is in
+          ap (λ (k : ℕ). take k (drop p code)) size ∙ (ap (λ (ys : List ℕ). take (length xs) ys) s.stands ∙ take-append_seam xs (drop behind code));
     }
 
 -- ---- how much was appended
 is-true : IsTrue true
 is-true = search rules
 
-pub short-appended : (b : Bool) (old new : Buffer) (items : List Item) → (b ≡ false → new ≡ old) → (IsTrue b → new.bytes ≡ old.bytes ++ spellings spelling (blanks items)) → words_in items ≤ 64
+pub short-appended : (b : Bool) (old new : Buffer) (items : List Item) → (b ≡ false → new ≡ old) → (IsTrue b → new.bytes ≡ old.bytes ++ blanks items) → words_in items ≤ 64
     → length new.bytes ≤ length old.bytes + 256
 short-appended true old new items refused went few =
-    let e = ap length (went is-true) ∙ length-append old.bytes (spellings spelling (blanks items)) in
+    let e = ap length (went is-true) ∙ length-append old.bytes (blanks items) in
     let size = blank_bytes items in omega (arith, e, size, few)
 short-appended false old new items refused went few = let e = ap (λ (b : Buffer). length b.bytes) (refused refl) in omega (arith, e)
 
@@ -90,13 +93,13 @@ one-fixed false old new fixes refused went few = let e = ap (λ (b : Buffer). b.
 
 -- ---- alignments
 pub aligned-behind : (b : Bool) (node : Node) (frame : ℕ) (choices : List Choice) (staged : List Bool) (old new : Buffer) (items : List Item) → InForm node → items ≡ node_items node frame choices staged (length old.bytes)
-    → (IsTrue b → new.bytes ≡ old.bytes ++ spellings spelling (blanks items)) → length old.bytes % 4 ≡ 0 → IsTrue b → IsAligned node (length new.bytes)
+    → (IsTrue b → new.bytes ≡ old.bytes ++ blanks items) → length old.bytes % 4 ≡ 0 → IsTrue b → IsAligned node (length new.bytes)
 aligned-behind b node frame choices staged old new items formed e bytes even went n is xs =
     let place : ℕ = length old.bytes in
     let made : Op → List Operand → List Item = λ o ys. node_items record { op = o; operands = ys; line = node.line } frame choices staged place in
     let same : items ≡ ones (align_code place n) = e ∙ (λ j. made (is j) (xs j)) in
     let admitted : admit (forms_of (op.Plain plain.Align)) (operand.Number n ∷ []) ≡ true = subst (λ (p : Op × List Operand). admit (forms_of p.0) p.1 ≡ true) (λ j. (is j, xs j)) formed.forms in
-    let long = ap length (bytes went) ∙ length-append old.bytes (spellings spelling (blanks items)) in
+    let long = ap length (bytes went) ∙ length-append old.bytes (blanks items) in
     let size = blank_bytes items ∙ ap bytes_in same in
     let words = words-ones (align_code place n) in
     let total : length new.bytes ≡ place + 4 * length (align_code place n) = omega (arith, long, size, words) in

@@ -26,7 +26,7 @@ use Rattle.lg_op.specs.declared.operand.Operand.{Operand}
 use Rattle.lg_op.specs.declared.operand.Operand.TheVariants as operand
 use Rattle.lg_op.specs.declared.operand.Reg.{Reg}
 use Rattle.lg_rv.specs.Spelling.{spelling}
-use Rattle.lg_selr_items.specs.Patched.{IsApartFrom, HaveAddresses}
+use Rattle.lg_sel_items.specs.Holes.{IsApartFrom, HaveAddresses}
 use Rattle.lg_selr_values.specs.ValueItems.{value_needs}
 use Rattle.lg_temp.specs.declared.choice.Choice.{Choice}
 use Rattle.lg_temp.specs.Chosen.{around, choices_of}

@@ -7,8 +7,9 @@ ghost use Rattle.lg_selr.specs.Selected.{IsFrame, AreFirst, is_pusharg, IsWord, 
 ghost use Rattle.lg_selr_values.specs.ValueItems.{HaveSlots};
 
 use lg_op::{ControlOp, Node, Op, Operand, PlainOp};
+use lg_sel_items::Items;
 use lg_selr_control::{put_control, put_retval};
-use lg_selr_items::Items;
+use lg_selr_items::Item;
 use lg_selr_memory::{put_argument, put_getarg, put_load, put_store};
 use lg_selr_values::value_items;
 use lg_temp::choice::{Choices, Staged};
@@ -20,7 +21,7 @@ pub(crate) fn put_items(
     choices: &Choices,
     staged: &Staged,
     place: u32,
-    items: &mut Items,
+    items: &mut Items<Item>,
 )
     requires formed { InForm node.now }
     requires frame { IsFrame frame }

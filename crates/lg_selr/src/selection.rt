@@ -13,7 +13,7 @@ use crate::items::{put_items, see_numbers};
 use lg_buf::CodeBuf;
 use lg_live::reg_set::RegSet;
 use lg_op::Node;
-use lg_selr_items::{Items, append};
+use lg_sel_items::{Items, append};
 use lg_temp::choice::{Choices, Staged};
 
 /// Appends the code of a node to a buffer, or answers false and changes nothing, which it does only where fewer than 256 bytes are free.

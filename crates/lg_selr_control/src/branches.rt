@@ -8,7 +8,8 @@ ghost use Rattle.lg_selr_items.specs.Items.{words_in, ones};
 use crate::operands::{put_second, second_register};
 use lg_op::{Condition, Label, Operand};
 use lg_rv::{BranchOp, Instr, RegOp};
-use lg_selr_items::{Items, register_of, row};
+use lg_sel_items::Items;
+use lg_selr_items::{Item, register_of, row};
 
 // The branch that is taken where a condition fails.
 fn failing(condition: Condition) -> BranchOp
@@ -48,7 +49,7 @@ fn right_of(condition: Condition, a: u8, b: u8) -> u8
 
 // Appends the conjunction of two registers, into x1, where the condition asks for it.
 #[tactic(auto, using(lg_selr_items::proofs::ItemLemmas::words_append))]
-fn put_bits(condition: Condition, a: u8, b: u8, items: &mut Items)
+fn put_bits(condition: Condition, a: u8, b: u8, items: &mut Items<Item>)
     requires { words_in items.old < 60 }
     ensures items { items.new ≡ items.old ++ ones (bits_code condition a b) }
     ensures few { words_in items.new ≤ words_in items.old + 1 }
@@ -61,7 +62,7 @@ fn put_bits(condition: Condition, a: u8, b: u8, items: &mut Items)
 
 // Appends a branch over a jump to a label.
 #[tactic(auto, using(lg_selr_items::proofs::ItemLemmas::words_append))]
-pub(crate) fn put_jump_unless(op: BranchOp, rs1: u8, rs2: u8, label: Label, items: &mut Items)
+pub(crate) fn put_jump_unless(op: BranchOp, rs1: u8, rs2: u8, label: Label, items: &mut Items<Item>)
     requires { words_in items.old ≤ 60 }
     ensures { items.new ≡ items.old ++ jump_unless_items op rs1 rs2 label }
 {
@@ -71,11 +72,14 @@ pub(crate) fn put_jump_unless(op: BranchOp, rs1: u8, rs2: u8, label: Label, item
         rs2,
         offset: 8,
     });
-    items.jump(0, label.0);
+    items.push(Item::Jump {
+        rd: 0,
+        label: label.0,
+    });
 }
 
 // Appends the items of a branch to none.
-pub(crate) fn put_branch(condition: Condition, operands: &[Operand], items: &mut Items)
+pub(crate) fn put_branch(condition: Condition, operands: &[Operand], items: &mut Items<Item>)
     requires { items.old ≡ [] }
     ensures { items.new ≡ branch_items condition operands.now }
 {

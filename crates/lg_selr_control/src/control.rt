@@ -9,13 +9,14 @@ use crate::frames::put_plain;
 use crate::leaps::put_leap;
 use crate::sums::put_sum_branch;
 use lg_op::{Node, Op};
-use lg_selr_items::Items;
+use lg_sel_items::Items;
+use lg_selr_items::Item;
 
 /// Appends the items of a node that branches, jumps, calls or returns, of a `prolog`, an `.align` or a node without code, to none.
 ///
 /// `frame` is the size of the frame of the node's function in bytes, and `at` the address at which the node's code begins. The node has the
 /// operands of its operation.
-pub fn put_control(node: &Node, frame: u32, at: u32, items: &mut Items)
+pub fn put_control(node: &Node, frame: u32, at: u32, items: &mut Items<Item>)
     requires empty { items.old ≡ [] }
     requires formed { InForm node.now }
     requires some { 0 < frame }

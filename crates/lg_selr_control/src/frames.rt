@@ -13,7 +13,8 @@ ghost use Rattle.lg_op.specs.Forms.{admit, plain_forms};
 
 use lg_op::{Operand, PlainOp};
 use lg_rv::{ImmOp, Instr, RegOp, StoreOp, UpperOp};
-use lg_selr_items::{Items, high_part, imm, low_part, row};
+use lg_sel_items::Items;
+use lg_selr_items::{Item, high_part, imm, low_part, row};
 
 // A word of the frame is stored by the stack pointer.
 fn store(reg: u8, imm: i32) -> Instr
@@ -73,7 +74,7 @@ fn long_fall(size: u32) -> [Instr; 3]
 }
 
 // Appends the fall of the stack pointer.
-fn put_fall(size: u32, items: &mut Items)
+fn put_fall(size: u32, items: &mut Items<Item>)
     requires some { 0 < size }
     requires small { size < 0x4000_0000 }
     requires room { words_in items.old ≤ 60 }
@@ -88,7 +89,7 @@ fn put_fall(size: u32, items: &mut Items)
 
 // Appends the code of a `prolog` to none.
 #[tactic(auto, using(lg_selr_items::proofs::ItemLemmas::words_append))]
-fn put_prolog(size: u32, items: &mut Items)
+fn put_prolog(size: u32, items: &mut Items<Item>)
     requires empty { items.old ≡ [] }
     requires some { 0 < size }
     requires small { size < 0x4000_0000 }
@@ -115,7 +116,7 @@ fn return_code() -> [Instr; 7]
 }
 
 // Appends a return.
-pub(crate) fn put_return(items: &mut Items)
+pub(crate) fn put_return(items: &mut Items<Item>)
     requires { words_in items.old ≤ 50 }
     ensures { items.new ≡ items.old ++ ones return_code }
 {
@@ -124,7 +125,7 @@ pub(crate) fn put_return(items: &mut Items)
 
 // Appends so many instructions that do nothing.
 #[tactic(auto, using(lg_selr_items::proofs::ItemLemmas::words_append))]
-fn put_idle(count: u32, items: &mut Items)
+fn put_idle(count: u32, items: &mut Items<Item>)
     requires { words_in items.old + count ≤ 64 }
     ensures { items.new ≡ items.old ++ ones (idle count) }
 {
@@ -144,7 +145,7 @@ fn padding(at: u32, alignment: u32) -> u32
 }
 
 // Appends the items of `.align` to none.
-fn put_align(at: u32, operands: &[Operand], items: &mut Items)
+fn put_align(at: u32, operands: &[Operand], items: &mut Items<Item>)
     requires empty { items.old ≡ [] }
     requires formed { admit (form.Alignment ∷ []) operands.now ≡ true }
     ensures { items.new ≡ align_items at operands.now }
@@ -156,7 +157,13 @@ fn put_align(at: u32, operands: &[Operand], items: &mut Items)
 }
 
 // Appends the items of an operation without a family to none.
-pub(crate) fn put_plain(op: PlainOp, operands: &[Operand], frame: u32, at: u32, items: &mut Items)
+pub(crate) fn put_plain(
+    op: PlainOp,
+    operands: &[Operand],
+    frame: u32,
+    at: u32,
+    items: &mut Items<Item>,
+)
     requires empty { items.old ≡ [] }
     requires formed { admit (plain_forms op) operands.now ≡ true }
     requires some { 0 < frame }

@@ -10,7 +10,8 @@ use crate::operands::put_word;
 use lg_base::host_name::HostName;
 use lg_op::{ControlOp, LastOperand, Operand};
 use lg_rv::{ImmOp, Instr, UpperOp};
-use lg_selr_items::{Items, high_part, imm, low_part, register_of};
+use lg_sel_items::Items;
+use lg_selr_items::{Item, high_part, imm, low_part, register_of};
 
 // The call of a host function: the address of its entry goes into the link, and the jump there links.
 fn host_code(name: HostName) -> [Instr; 2]
@@ -26,30 +27,36 @@ fn host_code(name: HostName) -> [Instr; 2]
 }
 
 // Appends the items of `jmpi` to none.
-fn put_jump(operands: &[Operand], items: &mut Items)
+fn put_jump(operands: &[Operand], items: &mut Items<Item>)
     requires { items.old ≡ [] }
     ensures { items.new ≡ jump_items operands.now }
 {
     match operands {
-        [Operand::Label(label)] => items.jump(0, label.0),
+        [Operand::Label(label)] => items.push(Item::Jump {
+            rd: 0,
+            label: label.0,
+        }),
         _ => {}
     }
 }
 
 // Appends the items of `calli` and `finishi` to none.
-fn put_call(operands: &[Operand], items: &mut Items)
+fn put_call(operands: &[Operand], items: &mut Items<Item>)
     requires { items.old ≡ [] }
     ensures { items.new ≡ call_items operands.now }
 {
     match operands {
-        [Operand::Label(label)] => items.jump(1, label.0),
+        [Operand::Label(label)] => items.push(Item::Jump {
+            rd: 1,
+            label: label.0,
+        }),
         [Operand::Host(name)] => items.all(&host_code(*name)),
         _ => {}
     }
 }
 
 // Appends the items of `jmpr`, `callr` and `finishr` to none: a jump to the word of a register, which puts the address behind it into rd.
-fn put_register_leap(rd: u8, operands: &[Operand], items: &mut Items)
+fn put_register_leap(rd: u8, operands: &[Operand], items: &mut Items<Item>)
     requires { items.old ≡ [] }
     ensures { items.new ≡ register_leap_items rd operands.now }
 {
@@ -60,20 +67,23 @@ fn put_register_leap(rd: u8, operands: &[Operand], items: &mut Items)
 }
 
 // Puts the word of a result into x10.
-fn put_result(operand: Operand, items: &mut Items)
+fn put_result(operand: Operand, items: &mut Items<Item>)
     requires { items.old ≡ [] }
     ensures items { items.new ≡ result_items operand }
     ensures few { words_in items.new ≤ 8 }
 {
     match operand {
         Operand::Reg(reg) => items.one(imm(ImmOp::Addi, 10, register_of(reg), 0)),
-        Operand::Label(label) => items.address(10, label.0),
+        Operand::Label(label) => items.push(Item::Address {
+            rd: 10,
+            label: label.0,
+        }),
         other => put_word(10, other, items),
     }
 }
 
 // Appends the items of `retr` and `reti` to none.
-fn put_ret(operands: &[Operand], items: &mut Items)
+fn put_ret(operands: &[Operand], items: &mut Items<Item>)
     requires { items.old ≡ [] }
     ensures { items.new ≡ ret_items operands.now }
 {
@@ -87,7 +97,12 @@ fn put_ret(operands: &[Operand], items: &mut Items)
 }
 
 // Appends the items of a jump, a call or a return to none.
-pub(crate) fn put_leap(op: ControlOp, last: LastOperand, operands: &[Operand], items: &mut Items)
+pub(crate) fn put_leap(
+    op: ControlOp,
+    last: LastOperand,
+    operands: &[Operand],
+    items: &mut Items<Item>,
+)
     requires { items.old ≡ [] }
     ensures { items.new ≡ leap_items op last operands.now }
 {

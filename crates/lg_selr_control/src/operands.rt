@@ -6,7 +6,8 @@ ghost use Rattle.lg_selr_control.specs.Immediates.{immediate};
 ghost use Rattle.lg_selr_items.specs.Items.{words_in};
 
 use lg_op::Operand;
-use lg_selr_items::{Items, register_of};
+use lg_sel_items::Items;
+use lg_selr_items::{Item, put_number, register_of};
 
 // The register in which an operand is once `put_second` has put it there.
 pub(crate) fn second_register(operand: Operand) -> u8
@@ -19,7 +20,7 @@ pub(crate) fn second_register(operand: Operand) -> u8
 }
 
 // Puts a word that stands for itself into a register, which is not x0.
-pub(crate) fn put_word(rd: u8, operand: Operand, items: &mut Items)
+pub(crate) fn put_word(rd: u8, operand: Operand, items: &mut Items<Item>)
     requires empty { items.old ≡ [] }
     requires some { rd ≢ 0 }
     requires register { rd < 32 }
@@ -27,14 +28,14 @@ pub(crate) fn put_word(rd: u8, operand: Operand, items: &mut Items)
     ensures few { words_in items.new ≤ 8 }
 {
     match operand {
-        Operand::Number(value) => items.number(rd, value),
-        Operand::Host(name) => items.number(rd, name.address()),
+        Operand::Number(value) => put_number(rd, value, items),
+        Operand::Host(name) => put_number(rd, name.address(), items),
         _ => {}
     }
 }
 
 // Puts an operand that is no register into x1.
-pub(crate) fn put_second(operand: Operand, items: &mut Items)
+pub(crate) fn put_second(operand: Operand, items: &mut Items<Item>)
     requires empty { items.old ≡ [] }
     ensures items { items.new ≡ second_items operand }
     ensures few { words_in items.new ≤ 8 }

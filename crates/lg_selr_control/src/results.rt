@@ -5,7 +5,8 @@ ghost use Rattle.lg_selr_control.specs.Retvals.{retval_items};
 
 use lg_op::{Operand, ValueType};
 use lg_rv::{ImmOp, Instr, ShiftOp};
-use lg_selr_items::{Items, imm, register_of, shift};
+use lg_sel_items::Items;
+use lg_selr_items::{Item, imm, register_of, shift};
 
 // The result moved to the left and back, which extends its low bits.
 fn shifted(back: ShiftOp, rd: u8, amount: u8) -> [Instr; 2]
@@ -18,7 +19,7 @@ fn shifted(back: ShiftOp, rd: u8, amount: u8) -> [Instr; 2]
 }
 
 /// Appends the items of a `retval` of a type to none.
-pub fn put_retval(value: ValueType, operands: &[Operand], items: &mut Items)
+pub fn put_retval(value: ValueType, operands: &[Operand], items: &mut Items<Item>)
     requires { items.old ≡ [] }
     ensures { items.new ≡ retval_items value operands.now }
 {

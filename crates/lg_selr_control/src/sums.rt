@@ -9,7 +9,8 @@ use crate::branches::put_jump_unless;
 use crate::operands::{put_second, second_register};
 use lg_op::{BranchSumOp, Operand};
 use lg_rv::{BranchOp, ImmOp, Instr, RegOp};
-use lg_selr_items::{Items, imm, register_of, row};
+use lg_sel_items::Items;
+use lg_selr_items::{Item, imm, register_of, row};
 
 // Adds, and x31 tells whether the signed sum does not fit.
 fn signed_sum(a: u8, b: u8) -> [Instr; 5]
@@ -57,7 +58,7 @@ fn unsigned_difference(a: u8, b: u8) -> [Instr; 2]
 
 // Appends the sum or the difference of a branch.
 #[tactic(auto, using(lg_selr_items::proofs::ItemLemmas::words_append))]
-fn put_sum(op: BranchSumOp, a: u8, b: u8, items: &mut Items)
+fn put_sum(op: BranchSumOp, a: u8, b: u8, items: &mut Items<Item>)
     requires { words_in items.old < 50 }
     ensures items { items.new ≡ items.old ++ ones (sum_code op a b) }
     ensures few { words_in items.new ≤ words_in items.old + 5 }
@@ -85,7 +86,7 @@ fn staying(op: BranchSumOp) -> BranchOp
 }
 
 // Appends the items of such a branch to none.
-pub(crate) fn put_sum_branch(op: BranchSumOp, operands: &[Operand], items: &mut Items)
+pub(crate) fn put_sum_branch(op: BranchSumOp, operands: &[Operand], items: &mut Items<Item>)
     requires { items.old ≡ [] }
     ensures { items.new ≡ sum_items op operands.now }
 {

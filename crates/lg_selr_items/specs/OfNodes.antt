@@ -1,17 +1,18 @@
 -- Code of which some items are those of a node.
-use Rattle.std.specs.Prelude.{◌≡◌, ℕ, ◌+◌, ◌-◌, ◌%◌, ◌^◌, ◌<◌, ◌≤◌, true, List, length, slice_get, slice_index}
-use Rattle.lg_base.specs.Layout.{code_base, most_code}
+use Rattle.std.specs.Prelude.{◌≡◌, ℕ, ◌^◌, ◌<◌, ◌≤◌, true, List, length, slice_get, slice_index}
+use Rattle.lg_base.specs.Layout.{most_code}
 use Rattle.lg_carry.specs.Blocks.{IsBlock}
 use Rattle.lg_carry.specs.Carries.{leaps_at}
 use Rattle.lg_carry.specs.FinalNodes.{Code}
+use Rattle.lg_carry.specs.Passages.{IsNodeCode}
+use Rattle.lg_carry_rv.specs.Destinations.{WritesWithin}
 use Rattle.lg_carry_rv.specs.Places.{IsInCode}
 use Rattle.lg_carry_rv.specs.RvRows.{rv_rows, is_straight}
-use Rattle.lg_carry.specs.Passages.{IsNodeCode}
 use Rattle.lg_rv.specs.Spelling.{IsInstr}
 use Rattle.lg_cpu.specs.Laws.{AreBytes}
+use Rattle.lg_sel_items.specs.NodeItems as node_items
 use Rattle.lg_selr_items.specs.declared.items.Item.{Item}
-use Rattle.lg_selr_items.specs.Items.{words_in, bytes_in, settled, StayWithin}
-use Rattle.lg_selr_items.specs.Patched.{AreSettledAt}
+use Rattle.lg_selr_items.specs.Items.{rv_holes, IsItem, words_in, settled}
 
 -- the code that the processor runs, in which the instructions of these items, with the addresses of the labels, are those of node i; they write no
 -- register that is outside of the conventions
@@ -19,12 +20,7 @@ pub record AreOfNode (code : List ℕ) (trash : ℕ) (c : Code) (i : ℕ) (items
   pub small : length code ≤ most_code
   pub bytes : AreBytes code
   pub word : trash < 2 ^ 64
-  pub low : code_base ≤ c.place i
-  pub whole : c.place i % 4 ≡ 0
-  pub settled : AreSettledAt (slice_index c.addresses) code (c.place i - code_base) items
-  pub next : c.place (i + 1) ≡ c.place i + bytes_in items
-  pub few : words_in items ≤ 64
-  pub within : StayWithin items
+  pub of_node : node_items.AreOfNode rv_holes (rv_rows code trash) IsInstr WritesWithin IsItem c i items
 
 -- they are the code of the node, of which a branch, jump, call or return has some
 abbrev pub ItemsAreNodeCode : Type 0

@@ -1,15 +1,13 @@
-// Items, and lists of them.
+// What the code of a node is made of on RV64.
 
-ghost use Rattle.std.specs.Prelude.{◌≡◌, ◌+◌, ◌<◌, ◌≤◌, pos, [], ◌∷◌, ◌++◌, length};
+ghost use Rattle.std.specs.Prelude.{◌≡◌, ◌+◌, ◌≤◌, pos, ◌++◌, length};
 ghost use Rattle.lg_carry_rv.specs.Numbers.{is_short, is_half, low_part, high_part, half_code, long_code, number_code};
 ghost use Rattle.lg_selr_items.specs.Items.{words_in, ones};
 
 use crate::rows::{imm, shift};
 use lg_rv::{ImmOp, Instr, ShiftOp, UpperOp};
-use smallvec::SmallVec;
-use std::alloc::Global;
+use lg_sel_items::Items;
 use std::default::Default;
-use std::marker::Model;
 
 /// What the code of a node is made of. Registers are 0 to 31, and labels those of the buffer, by their numbers.
 #[derive(Clone, Copy, Debug)]
@@ -31,106 +29,17 @@ impl Default for Item {
     }
 }
 
-/// The code of a node: a list of items, of at most 64 instructions, held inline. It takes no memory.
-///
-/// In a contract it is the list. `words_in` of a list is the number of its instructions, of which an `Address` has two.
-#[derive(Drop)]
-pub struct Items {
-    list: SmallVec<Item, 64>,
-}
-
-impl Model for Items {
-    ghost use Rattle.std.specs.Prelude.{◌≡◌, ◌≤◌, List};
-    ghost use Rattle.lg_selr_items.specs.declared.items.Item.{Item};
-    ghost use Rattle.lg_selr_items.specs.Items.{words_in};
-
-    ghost Value = { List Item };
-
-    ghost view = { λ i. i.list.items };
-
-    ghost invariant = { λ i. (i.list.capacity ≡ 64) × (words_in i.list.items ≤ 64) };
-}
-
-impl Items {
-    /// No items. The allocator is that of the buffer; nothing is taken from it.
-    pub fn new(alloc: Global) -> Items
-        ensures { result ≡ [] }
-    {
-        Items {
-            list: SmallVec::new(alloc),
-        }
-    }
-
-    /// Appends an item. There is room for its instructions.
-    pub fn push(&mut self, item: Item)
-        requires { words_in (self.old ++ item ∷ []) ≤ 64 }
-        ensures { self.new ≡ self.old ++ item ∷ [] }
-    {
-        self.list.push_reserved(item);
-    }
-
-    /// Appends an instruction. There is room for it.
-    #[tactic(auto, using(crate::proofs::ItemLemmas::words_append))]
-    pub fn one(&mut self, instr: Instr)
-        requires { words_in self.old < 64 }
-        ensures { self.new ≡ self.old ++ Item.One instr ∷ [] }
-    {
-        self.push(Item::One(instr));
-    }
-
-    /// Appends a jump to a label, which leaves the address behind it in a register. There is room for it.
-    #[tactic(auto, using(crate::proofs::ItemLemmas::words_append))]
-    pub fn jump(&mut self, rd: u8, label: u32)
-        requires { words_in self.old < 64 }
-        ensures { self.new ≡ self.old ++ Item.Jump rd label ∷ [] }
-    {
-        self.push(Item::Jump { rd, label });
-    }
-
-    /// Appends the address of a label, into a register. There is room for two instructions.
-    #[tactic(auto, using(crate::proofs::ItemLemmas::words_append))]
-    pub fn address(&mut self, rd: u8, label: u32)
-        requires { words_in self.old < 63 }
-        ensures { self.new ≡ self.old ++ Item.Address rd label ∷ [] }
-    {
-        self.push(Item::Address { rd, label });
-    }
-
-    /// Appends instructions. There is room for them.
-    #[tactic(auto, using(crate::proofs::ItemLemmas::words_append))]
-    pub fn all(&mut self, instrs: &[Instr])
-        requires { words_in self.old + length instrs.now ≤ 64 }
-        ensures { self.new ≡ self.old ++ ones instrs.now }
-    {
-        match instrs {
-            [] => {}
-            [instr, rest @ ..] => {
-                self.one(*instr);
-                self.all(rest);
-            }
-        }
-    }
-
-    /// Appends the code that loads a number, a word of 64 bits, into a register: 1, 2 or 8 instructions. There is room for them.
-    pub fn number(&mut self, rd: u8, value: u64)
-        requires { words_in self.old + length (number_code rd value) ≤ 64 }
-        ensures { self.new ≡ self.old ++ ones (number_code rd value) }
-    {
-        if is_short(value) {
-            self.one(imm(ImmOp::Addi, rd, 0, low_part(value)));
-        } else if is_half(value) {
-            self.all(&half_code(rd, value));
-        } else {
-            self.all(&long_code(rd, value));
-        }
-    }
-
-    /// The items.
-    pub fn as_slice(&self) -> &[Item]
-        ensures value { result.now ≡ self.now }
-        ensures few { words_in result.now ≤ 64 }
-    {
-        self.list.as_slice()
+/// Appends the code that loads a number, a word of 64 bits, into a register: 1, 2 or 8 instructions. There is room for them.
+pub fn put_number(rd: u8, value: u64, items: &mut Items<Item>)
+    requires { words_in items.old + length (number_code rd value) ≤ 64 }
+    ensures { items.new ≡ items.old ++ ones (number_code rd value) }
+{
+    if is_short(value) {
+        items.one(imm(ImmOp::Addi, rd, 0, low_part(value)));
+    } else if is_half(value) {
+        items.all(&half_code(rd, value));
+    } else {
+        items.all(&long_code(rd, value));
     }
 }
 

@@ -1,17 +1,16 @@
 // What holds of the items of a node. The functions do nothing: their contracts are the laws.
 
-ghost use Rattle.lg_selr_items.specs.Items.{WordsAppend};
+ghost use Rattle.lg_selr_items.specs.Items.{RvHoles, WordsAppend};
 ghost use Rattle.lg_selr_items.specs.OfNodes.{ItemsAreInCode, ItemsAreNodeCode};
-ghost use Rattle.lg_selr_items.specs.Patched.{ItemsAreSettled};
 
 /// The instructions of two lists of items in a row are those of the one and then those of the other.
 pub fn words_append()
     ensures { WordsAppend }
 {}
 
-/// Where the fixes of a buffer are patched, items that stand in it become instructions with the addresses of the labels.
-pub fn items_are_settled()
-    ensures { ItemsAreSettled }
+/// Where its fixes are patched, an item becomes its instructions with the addresses of the labels.
+pub fn items_have_holes()
+    ensures { RvHoles }
 {}
 
 /// The items of a node are its code.

@@ -7,6 +7,5 @@ mod items;
 pub mod laws;
 mod rows;
 
-pub use emission::append;
-pub use items::{Item, Items, high_part, is_short, low_part};
+pub use items::{Item, high_part, is_short, low_part, put_number};
 pub use rows::{imm, register_of, row, shift};

@@ -7,7 +7,8 @@ ghost use Rattle.lg_selr_memory.specs.Accesses.{load_row, store_row, link, at_re
 use crate::operands::{number, operand, register};
 use lg_op::{Addressing, Node, Operand, StoreType, ValueType};
 use lg_rv::{ImmOp, Instr, RegOp, StoreOp};
-use lg_selr_items::{Items, is_short, low_part, row};
+use lg_sel_items::Items;
+use lg_selr_items::{Item, is_short, low_part, put_number, row};
 
 // The link holds nothing that is needed behind a `prolog`.
 const LINK: u8 = 1;
@@ -58,7 +59,7 @@ fn at_register(register: u8) -> Base
 }
 
 // The sum of a register and a number.
-fn put_indexed(register: u8, value: u64, items: &mut Items) -> Base
+fn put_indexed(register: u8, value: u64, items: &mut Items<Item>) -> Base
     requires { items.old ≡ [] }
     ensures code { items.new ≡ ones (indexed register value).code }
     ensures register { result.register ≡ (indexed register value).base }
@@ -70,13 +71,13 @@ fn put_indexed(register: u8, value: u64, items: &mut Items) -> Base
             offset: low_part(value),
         };
     }
-    items.number(LINK, value);
+    put_number(LINK, value, items);
     items.one(row(RegOp::Add, LINK, register, LINK));
     at_register(LINK)
 }
 
 // The address that operands give: what computes it is appended.
-fn put_address(at: Addressing, first: Operand, second: Operand, items: &mut Items) -> Base
+fn put_address(at: Addressing, first: Operand, second: Operand, items: &mut Items<Item>) -> Base
     requires { items.old ≡ [] }
     ensures code { items.new ≡ ones (place_at at first second).code }
     ensures register { result.register ≡ (place_at at first second).base }
@@ -85,7 +86,7 @@ fn put_address(at: Addressing, first: Operand, second: Operand, items: &mut Item
     match at {
         Addressing::Register => at_register(register(first)),
         Addressing::Immediate => {
-            items.number(LINK, number(first));
+            put_number(LINK, number(first), items);
             at_register(LINK)
         }
         Addressing::RegisterRegister => {
@@ -112,7 +113,7 @@ fn load(t: ValueType, rd: u8, base: Base) -> Instr
 }
 
 /// Appends the code of a load to no items: 1 to 10 instructions. The operands are those of the load's row in the instruction table.
-pub fn put_load(t: ValueType, at: Addressing, node: &Node, items: &mut Items)
+pub fn put_load(t: ValueType, at: Addressing, node: &Node, items: &mut Items<Item>)
     requires { items.old ≡ [] }
     ensures { items.new ≡ ones (load_code t at node.now) }
 {
@@ -121,7 +122,7 @@ pub fn put_load(t: ValueType, at: Addressing, node: &Node, items: &mut Items)
 }
 
 /// Appends the code of a store to no items: 1 to 10 instructions. The operands are those of the store's row in the instruction table.
-pub fn put_store(t: StoreType, at: Addressing, node: &Node, items: &mut Items)
+pub fn put_store(t: StoreType, at: Addressing, node: &Node, items: &mut Items<Item>)
     requires { items.old ≡ [] }
     ensures { items.new ≡ ones (store_code t at node.now) }
 {

@@ -13,21 +13,25 @@ use crate::accesses::load_row;
 use crate::operands::{operand, register};
 use lg_op::{Node, Operand, ValueType};
 use lg_rv::{ImmOp, Instr, StoreOp};
-use lg_selr_items::{Items, imm, register_of};
+use lg_sel_items::Items;
+use lg_selr_items::{Item, imm, put_number, register_of};
 
 // The link holds nothing that is needed behind a `prolog`.
 const LINK: u8 = 1;
 
 // The word of an operand into a register.
-fn put_into(rd: u8, operand: Operand, items: &mut Items)
+fn put_into(rd: u8, operand: Operand, items: &mut Items<Item>)
     requires { items.old ≡ [] }
     ensures { items.new ≡ into rd operand }
 {
     match operand {
         Operand::Reg(reg) => items.one(imm(ImmOp::Addi, rd, register_of(reg), 0)),
-        Operand::Number(value) => items.number(rd, value),
-        Operand::Host(name) => items.number(rd, name.address()),
-        Operand::Label(label) => items.address(rd, label.0),
+        Operand::Number(value) => put_number(rd, value, items),
+        Operand::Host(name) => put_number(rd, name.address(), items),
+        Operand::Label(label) => items.push(Item::Address {
+            rd: rd,
+            label: label.0,
+        }),
         Operand::Slot(_) => {}
     }
 }
@@ -45,7 +49,7 @@ fn stack_push(index: u32, register: u8) -> Instr
     }
 }
 
-fn put_onto_stack(index: u32, operand: Operand, items: &mut Items)
+fn put_onto_stack(index: u32, operand: Operand, items: &mut Items<Item>)
     requires few { index < 16 }
     requires empty { items.old ≡ [] }
     ensures { items.new ≡ onto_stack index operand }
@@ -61,7 +65,7 @@ fn put_onto_stack(index: u32, operand: Operand, items: &mut Items)
 
 /// Appends the code of a node that passes an argument to no items: 1 to 9 instructions. The argument's number counts from 0, and is
 /// below 16.
-pub fn put_argument(index: u32, node: &Node, items: &mut Items)
+pub fn put_argument(index: u32, node: &Node, items: &mut Items<Item>)
     requires few { index < 16 }
     requires empty { items.old ≡ [] }
     ensures { items.new ≡ push_code index node.now }
@@ -98,7 +102,7 @@ fn slot(operand: Operand) -> u32
 
 /// Appends the code of a node that reads an argument of its function to no items: one instruction, or none where no function has so
 /// many arguments.
-pub fn put_getarg(t: ValueType, node: &Node, items: &mut Items)
+pub fn put_getarg(t: ValueType, node: &Node, items: &mut Items<Item>)
     requires { items.old ≡ [] }
     ensures { items.new ≡ ones (argument_code t node.now) }
 {

@@ -6,10 +6,11 @@ ghost use Rattle.lg_selr_values.specs.BinaryCode.{register_code, is_addend, load
 
 use lg_op::BinaryOp;
 use lg_rv::{ImmOp, RegOp, ShiftOp};
-use lg_selr_items::{Items, imm, low_part, row, shift};
+use lg_sel_items::Items;
+use lg_selr_items::{Item, imm, low_part, put_number, row, shift};
 
 /// Appends the code of `d = a op b`, at most 2 instructions, for which there is room. Of an operation that sets the carry nothing is appended.
-pub fn register_code(op: BinaryOp, d: u8, a: u8, b: u8, items: &mut Items)
+pub fn register_code(op: BinaryOp, d: u8, a: u8, b: u8, items: &mut Items<Item>)
     requires { words_in items.old + 2 ≤ 64 }
     ensures { items.new ≡ items.old ++ ones (register_code op d a b) }
 {
@@ -51,16 +52,16 @@ fn is_addend(value: u64) -> bool
 
 // Appends the code of `d = a op value` over the link, at most 10 instructions, for which there is room.
 #[tactic(auto, using(crate::proofs::EmissionLemmas::ones_twice))]
-fn loaded_code(op: BinaryOp, d: u8, a: u8, value: u64, items: &mut Items)
+fn loaded_code(op: BinaryOp, d: u8, a: u8, value: u64, items: &mut Items<Item>)
     requires { words_in items.old + 10 ≤ 64 }
     ensures { items.new ≡ items.old ++ ones (loaded_code op d a value) }
 {
-    items.number(1, value);
+    put_number(1, value, items);
     register_code(op, d, a, 1, items);
 }
 
 // Appends the code of a sum or difference with a number that an instruction holds. There is room for 2 instructions.
-fn addend_code(op: BinaryOp, d: u8, a: u8, value: u64, items: &mut Items)
+fn addend_code(op: BinaryOp, d: u8, a: u8, value: u64, items: &mut Items<Item>)
     requires { words_in items.old + 2 ≤ 64 }
     ensures { items.new ≡ items.old ++ ones (addend_code op d a value) }
 {
@@ -76,7 +77,7 @@ fn addend_code(op: BinaryOp, d: u8, a: u8, value: u64, items: &mut Items)
 }
 
 // Appends the code of a sum or difference with a number, at most 10 instructions, for which there is room.
-fn sum_code(op: BinaryOp, d: u8, a: u8, value: u64, items: &mut Items)
+fn sum_code(op: BinaryOp, d: u8, a: u8, value: u64, items: &mut Items<Item>)
     requires { words_in items.old + 10 ≤ 64 }
     ensures { items.new ≡ items.old ++ ones (sum_code op d a value) }
 {
@@ -89,7 +90,7 @@ fn sum_code(op: BinaryOp, d: u8, a: u8, value: u64, items: &mut Items)
 
 /// Appends the code of `d = a op value`, at most 10 instructions, for which there is room. Of an operation that sets the carry only the
 /// value is put into the link.
-pub fn number_form_code(op: BinaryOp, d: u8, a: u8, value: u64, items: &mut Items)
+pub fn number_form_code(op: BinaryOp, d: u8, a: u8, value: u64, items: &mut Items<Item>)
     requires { words_in items.old + 10 ≤ 64 }
     ensures { items.new ≡ items.old ++ ones (number_form_code op d a value) }
 {

@@ -6,10 +6,11 @@ ghost use Rattle.lg_selr_values.specs.UnaryCode.{more_bytes_code, swapped_code, 
 
 use lg_op::UnaryOp;
 use lg_rv::{ImmOp, RegOp, ShiftOp};
-use lg_selr_items::{Items, imm, row, shift};
+use lg_sel_items::Items;
+use lg_selr_items::{Item, imm, row, shift};
 
 // Appends the code that puts so many further bytes of the link behind those of `d`: 4 instructions for each, for which there is room.
-fn more_bytes_code(d: u8, n: u32, items: &mut Items)
+fn more_bytes_code(d: u8, n: u32, items: &mut Items<Item>)
     requires { words_in items.old + 4 * n ≤ 64 }
     ensures { items.new ≡ items.old ++ ones (more_bytes_code d n) }
 {
@@ -27,7 +28,7 @@ fn more_bytes_code(d: u8, n: u32, items: &mut Items)
 // Appends the code that puts the low byte of `a` and so many further bytes into `d`, in the other order. There is room for 2 instructions and
 // 4 for each further byte.
 #[tactic(auto, using(crate::proofs::EmissionLemmas::ones_twice))]
-fn swapped_code(d: u8, a: u8, n: u32, items: &mut Items)
+fn swapped_code(d: u8, a: u8, n: u32, items: &mut Items<Item>)
     requires { words_in items.old + 2 + 4 * n ≤ 64 }
     ensures { items.new ≡ items.old ++ ones (swapped_code d a n) }
 {
@@ -36,7 +37,7 @@ fn swapped_code(d: u8, a: u8, n: u32, items: &mut Items)
 }
 
 /// Appends the code of `d = op a`, at most 30 instructions, for which there is room.
-pub fn unary_code(op: UnaryOp, d: u8, a: u8, items: &mut Items)
+pub fn unary_code(op: UnaryOp, d: u8, a: u8, items: &mut Items<Item>)
     requires { words_in items.old + 30 ≤ 64 }
     ensures { items.new ≡ items.old ++ ones (unary_code op d a) }
 {

@@ -11,7 +11,8 @@ use crate::unary::unary_code;
 use crate::wide::{carried_code, wide_code};
 use lg_op::{BinaryOp, Label, Node, Op, Operand, PlainOp, Reg, WideOp};
 use lg_rv::{ImmOp, Instr, StoreOp};
-use lg_selr_items::{Items, imm, register_of};
+use lg_sel_items::Items;
+use lg_selr_items::{Item, imm, put_number, register_of};
 use lg_temp::choice::{Choice, Choices};
 
 // The register of an operand that is one, and else 0.
@@ -46,21 +47,24 @@ fn is_carried(op: BinaryOp) -> bool
 
 // Appends the code that puts the word of an immediate into a register: at most 8 instructions, for which there is room. Of a register
 // nothing is appended.
-fn load_items(rd: u8, x: Operand, items: &mut Items)
+fn load_items(rd: u8, x: Operand, items: &mut Items<Item>)
     requires { words_in items.old + 8 ≤ 64 }
     ensures { items.new ≡ items.old ++ load_items rd x }
 {
     match x {
-        Operand::Number(value) => items.number(rd, value),
-        Operand::Host(name) => items.number(rd, name.address()),
-        Operand::Label(Label(label)) => items.address(rd, label),
+        Operand::Number(value) => put_number(rd, value, items),
+        Operand::Host(name) => put_number(rd, name.address(), items),
+        Operand::Label(Label(label)) => items.push(Item::Address {
+            rd: rd,
+            label: label,
+        }),
         Operand::Reg(_) | Operand::Slot(_) => {}
     }
 }
 
 // Appends the code of `d = a op x`: at most 10 instructions, for which there is room.
 #[tactic(auto, using(crate::proofs::EmissionLemmas::load_words))]
-fn binary_items(op: BinaryOp, d: u8, a: u8, x: Operand, items: &mut Items)
+fn binary_items(op: BinaryOp, d: u8, a: u8, x: Operand, items: &mut Items<Item>)
     requires { words_in items.old + 10 ≤ 64 }
     ensures { items.new ≡ items.old ++ binary_items op d a x }
 {
@@ -76,7 +80,7 @@ fn binary_items(op: BinaryOp, d: u8, a: u8, x: Operand, items: &mut Items)
 
 // Appends the code that puts the second word of an operation that sets the carry into the link: at most 8 instructions, for which there is
 // room.
-fn second_items(x: Operand, items: &mut Items)
+fn second_items(x: Operand, items: &mut Items<Item>)
     requires { words_in items.old + 8 ≤ 64 }
     ensures { items.new ≡ items.old ++ second_items x }
 {
@@ -89,7 +93,7 @@ fn second_items(x: Operand, items: &mut Items)
 }
 
 // Appends the code of `d = a op x`, which sets the carry, where `u` is a temporary: at most 13 instructions, for which there is room.
-fn carried_items(op: BinaryOp, u: u8, d: u8, a: u8, x: Operand, items: &mut Items)
+fn carried_items(op: BinaryOp, u: u8, d: u8, a: u8, x: Operand, items: &mut Items<Item>)
     requires { words_in items.old + 13 ≤ 64 }
     ensures { items.new ≡ items.old ++ carried_items op u d a x }
 {
@@ -99,7 +103,7 @@ fn carried_items(op: BinaryOp, u: u8, d: u8, a: u8, x: Operand, items: &mut Item
 
 // Appends the code of `d, e = a op x`: at most 11 instructions, for which there is room.
 #[tactic(auto, using(crate::proofs::EmissionLemmas::load_words))]
-fn wide_items(op: WideOp, d: u8, e: u8, a: u8, x: Operand, items: &mut Items)
+fn wide_items(op: WideOp, d: u8, e: u8, a: u8, x: Operand, items: &mut Items<Item>)
     requires { words_in items.old + 11 ≤ 64 }
     ensures { items.new ≡ items.old ++ wide_items op d e a x }
 {
@@ -113,7 +117,7 @@ fn wide_items(op: WideOp, d: u8, e: u8, a: u8, x: Operand, items: &mut Items)
 }
 
 // Appends the code of an operation on two words: at most 13 instructions, for which there is room.
-fn operation_items(op: BinaryOp, u: u8, d: u8, a: u8, x: Operand, items: &mut Items)
+fn operation_items(op: BinaryOp, u: u8, d: u8, a: u8, x: Operand, items: &mut Items<Item>)
     requires { words_in items.old + 13 ≤ 64 }
     ensures { items.new ≡ items.old ++ operation_items op u d a x }
 {
@@ -125,7 +129,7 @@ fn operation_items(op: BinaryOp, u: u8, d: u8, a: u8, x: Operand, items: &mut It
 }
 
 // Appends the code of an operation with its operands, where `u` is the temporary: at most 30 instructions, for which there is room.
-fn body_items(op: Op, operands: &[Operand], u: u8, items: &mut Items)
+fn body_items(op: Op, operands: &[Operand], u: u8, items: &mut Items<Item>)
     requires { words_in items.old + 30 ≤ 64 }
     ensures { items.new ≡ items.old ++ body_items op operands.now u }
 {
@@ -178,7 +182,7 @@ fn restore(reg: u8, slot: u32) -> Instr
 }
 
 // Appends the code of a node with a temporary, which is saved and restored or not: at most 32 instructions, for which there is room.
-fn chosen_items(node: &Node, choice: &Choice, items: &mut Items)
+fn chosen_items(node: &Node, choice: &Choice, items: &mut Items<Item>)
     requires slots { HaveSlots (choice.now ∷ []) }
     requires room { words_in items.old + 32 ≤ 64 }
     ensures { items.new ≡ items.old ++ value_items node.now (choice.now ∷ []) }
@@ -196,7 +200,7 @@ fn chosen_items(node: &Node, choice: &Choice, items: &mut Items)
 
 /// Appends the code of a node that computes a value, or two: at most 32 instructions, for which there is room. Of every other node no code
 /// is appended but saves and restores. There is a choice at most.
-pub fn value_items(node: &Node, choices: &Choices, items: &mut Items)
+pub fn value_items(node: &Node, choices: &Choices, items: &mut Items<Item>)
     requires few { length choices.now ≤ 1 }
     requires slots { HaveSlots choices.now }
     requires room { words_in items.old + 32 ≤ 64 }

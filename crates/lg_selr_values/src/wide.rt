@@ -7,10 +7,11 @@ ghost use Rattle.lg_selr_values.specs.WideCode.{waited_code, wide_code};
 
 use lg_op::{BinaryOp, WideOp};
 use lg_rv::{ImmOp, RegOp};
-use lg_selr_items::{Items, imm, row};
+use lg_sel_items::Items;
+use lg_selr_items::{Item, imm, row};
 
 // Appends the code of `s = a second b` and `t = a first b`, where `s` may be `a` or `b`: 3 instructions, for which there is room.
-fn waited_code(first: RegOp, second: RegOp, t: u8, s: u8, a: u8, b: u8, items: &mut Items)
+fn waited_code(first: RegOp, second: RegOp, t: u8, s: u8, a: u8, b: u8, items: &mut Items<Item>)
     requires { words_in items.old + 3 ≤ 64 }
     ensures { items.new ≡ items.old ++ ones (waited_code first second t s a b) }
 {
@@ -20,7 +21,7 @@ fn waited_code(first: RegOp, second: RegOp, t: u8, s: u8, a: u8, b: u8, items: &
 }
 
 /// Appends the code that makes two words of `a` and `b`, the first into `d` and the second into `e`: 3 instructions, for which there is room.
-pub fn wide_code(op: WideOp, d: u8, e: u8, a: u8, b: u8, items: &mut Items)
+pub fn wide_code(op: WideOp, d: u8, e: u8, a: u8, b: u8, items: &mut Items<Item>)
     requires { words_in items.old + 3 ≤ 64 }
     ensures { items.new ≡ items.old ++ ones (wide_code op d e a b) }
 {
@@ -34,7 +35,7 @@ pub fn wide_code(op: WideOp, d: u8, e: u8, a: u8, b: u8, items: &mut Items)
 
 /// Appends the code of an operation that sets the carry, on `a` and the word in the link, into `d`, where `u` is a temporary: at most 5
 /// instructions, for which there is room. Of every other operation nothing is appended.
-pub fn carried_code(op: BinaryOp, u: u8, d: u8, a: u8, items: &mut Items)
+pub fn carried_code(op: BinaryOp, u: u8, d: u8, a: u8, items: &mut Items<Item>)
     requires { words_in items.old + 5 ≤ 64 }
     ensures { items.new ≡ items.old ++ ones (carried_code op u d a) }
 {

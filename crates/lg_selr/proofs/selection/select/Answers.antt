@@ -1,4 +1,4 @@
-use Rattle.std.proofs.Common.{◌≡◌, ℕ, ◌≤◌, Bool, true, List, length, sym, ap, subst, ◌∙◌, arith}
+use Rattle.std.proofs.Common.{◌≡◌, ℕ, ◌≤◌, Bool, true, List, length, sym, ap, subst, ◌∙◌, arith, rules}
 use Rattle.lg_live.specs.RegSets.{has}
 use Rattle.lg_op.specs.Nodes.{InForm}
 use Rattle.lg_op.specs.declared.node.Node.{Node}
@@ -11,7 +11,8 @@ use Rattle.lg_selr.proofs.FixLemmas.{appended-lead, appended-whole, appended-beg
 use Rattle.lg_selr.proofs.NodeFits.{IsAsked, AreEmittable, choices-fit, items-fit}
 use Rattle.lg_selr.proofs.selection.select.Goals as goal
 use Rattle.lg_selr_items.specs.declared.items.Item.{Item}
-use Rattle.lg_selr_items.specs.Items.{words_in, fixes_of}
+use Rattle.lg_selr_items.specs.Items.{words_in, blanks, fixes_of}
+use Rattle.lg_selr_items.proofs.ItemLemmas.{blank_bytes}
 use Rattle.lg_selr_values.specs.ValueFits.{NameBelow}
 use Rattle.lg_temp.specs.declared.choice.Choice.{Choice}
 
@@ -25,30 +26,33 @@ asked : (n : Node) (live : Reg → Bool) (staged : List Bool) (choices : List Ch
     → TakesLabelsWell n → xs ≡ n.operands → HaveWords xs → IsAsked n live staged choices labels
 asked n live staged choices labels xs formed chosen first named takes e words = record { formed = formed; chosen = chosen; first = first; named = named; takes = takes; words = subst HaveWords e words }
 
+-- 64 instructions have at most 256 bytes
+at-most-256 : (items : List Item) → words_in items ≤ 64 → length (blanks items) ≤ 256
+at-most-256 items few = let size = blank_bytes items in omega (arith, few, size)
+
 -- the items are those of the node, and can be appended
 emittable : (n : Node) (frame : ℕ) (live : Reg → Bool) (staged : List Bool) (choices : List Choice) (labels place here : ℕ) (items : List Item) → IsAsked n live staged choices labels
     → items ≡ node_items n frame choices staged here → here ≡ place → AreEmittable labels items
 emittable n frame live staged choices labels place here items k e same =
     subst (AreEmittable labels) (sym (e ∙ ap (node_items n frame choices staged) same)) (items-fit frame live staged choices labels place n.op n.operands n.line k)
 
-pub append-requires-clause-instrs : goal.append-requires-clause-instrs
-append-requires-clause-instrs c =
+pub append-requires : goal.append-requires
+append-requires c =
     let k = asked c.args.node.now (has c.args.live_after) c.args.staged.arguments c.args.choices.now (length c.args.buf.now.labels) c.as_slice.result.now c.requires.formed c.requires.choices c.requires.staged c.requires.labels c.requires.immediates c.as_slice.ensures.value c.see_numbers.ensures in
     let fit = emittable c.args.node.now c.args.frame (has c.args.live_after) c.args.staged.arguments c.args.choices.now (length c.args.buf.now.labels) (length c.args.buf.now.bytes) c.here.result c.put_items.new.items k c.put_items.ensures c.here.ensures.value in
-    fit.instrs
-
-pub append-requires-clause-labels : goal.append-requires-clause-labels
-append-requires-clause-labels c =
-    let k = asked c.args.node.now (has c.args.live_after) c.args.staged.arguments c.args.choices.now (length c.args.buf.now.labels) c.as_slice.result.now c.requires.formed c.requires.choices c.requires.staged c.requires.labels c.requires.immediates c.as_slice.ensures.value c.see_numbers.ensures in
-    let fit = emittable c.args.node.now c.args.frame (has c.args.live_after) c.args.staged.arguments c.args.choices.now (length c.args.buf.now.labels) (length c.args.buf.now.bytes) c.here.result c.put_items.new.items k c.put_items.ensures c.here.ensures.value in
-    fit.names
-
-pub append-requires-clause-room : goal.append-requires-clause-room
-append-requires-clause-room c =
-    let k = asked c.args.node.now (has c.args.live_after) c.args.staged.arguments c.args.choices.now (length c.args.buf.now.labels) c.as_slice.result.now c.requires.formed c.requires.choices c.requires.staged c.requires.labels c.requires.immediates c.as_slice.ensures.value c.see_numbers.ensures in
-    let fit = emittable c.args.node.now c.args.frame (has c.args.live_after) c.args.staged.arguments c.args.choices.now (length c.args.buf.now.labels) (length c.args.buf.now.bytes) c.here.result c.put_items.new.items k c.put_items.ensures c.here.ensures.value in
+    let instrs = fit.instrs in
+    let names = fit.names in
+    let short = at-most-256 c.put_items.new.items (subst (λ l. words_in l ≤ 64) c.items.view_is c.items.invariant.1) in
     let one = fit.fixed (length c.args.buf.now.bytes) in
-    let room = c.requires.room in omega (arith, one, room)
+    let room : length (fixes_of (length c.args.buf.now.bytes) c.put_items.new.items) ≤ c.args.buf.now.room = let r = c.requires.room in omega (arith, one, r) in
+    search rules
+
+pub returns-clause-refused : goal.returns-clause-refused
+returns-clause-refused c =
+    let short = at-most-256 c.put_items.new.items (subst (λ l. words_in l ≤ 64) c.items.view_is c.items.invariant.1) in
+    let fits = c.append.ensures.fits in
+    let same = c.append.ensures.refused in
+    search rules
 
 pub returns-clause-short : goal.returns-clause-short
 returns-clause-short c = short-appended c.append.result c.args.buf.now c.append.new.buf c.put_items.new.items c.append.ensures.refused c.append.ensures.bytes (subst (λ l. words_in l ≤ 64) c.items.view_is c.items.invariant.1)

@@ -6,7 +6,7 @@ use Rattle.lg_selr_values.proofs.binary.loaded_code.Goals as goal
 
 pub register_code-requires : goal.register_code-requires
 register_code-requires c =
-    let e = ap words_in c.number.ensures in
+    let e = ap words_in c.put_number.ensures in
     let w = words_more c.args.items.now (number_code 1 c.args.value) in
     let f = number_few 1 c.args.value in
     omega (arith, e, w, f)
