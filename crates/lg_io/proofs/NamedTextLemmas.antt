@@ -1,5 +1,5 @@
 -- The first text of a name, and reading from a text.
-use Rattle.std.proofs.Common.{◌≡◌, ℕ, suc, ◌+◌, ◌-◌, ◌<◌, ◌≤◌, List, [], ◌∷◌, ◌++◌, Some, true, length, get_or, take, drop, min, drop-cons, refl, sym, ap, ◌∙◌, arith}
+use Rattle.std.proofs.Common.{◌≡◌, ℕ, suc, ◌+◌, ◌-◌, ◌<◌, List, [], ◌∷◌, ◌++◌, Some, true, length, get_or, take, drop, min, drop-cons, refl, sym, ap, ◌∙◌, arith}
 use Rattle.std.specs.Str.{bytes_eq}
 use Rattle.std.proofs.lemmas.List.{get_or_read, take_at, drop-drop, drop_all, take-append-drop, length-take, length-drop}
 use Rattle.lg_io.specs.NamedTexts.{NamedTexts, text_under}

@@ -1,5 +1,5 @@
 -- Texts in memory: what they answer and become.
-use Rattle.std.specs.Prelude.{ℕ, ◌||◌, min, Bool, List, [], ◌++◌, length, take, drop, Option, Some, None, unwrap_or, is_none, Result, Ok, Err, map, slice_get, string_bytes, if◌then◌else◌}
+use Rattle.std.specs.Prelude.{ℕ, ◌||◌, min, Bool, List, [], ◌++◌, length, take, drop, unwrap_or, is_none, Result, Ok, Err, if◌then◌else◌}
 use Rattle.lg_io.specs.Calls.{Calls, fails_next, counted}
 use Rattle.lg_io.specs.NamedTexts.{NamedTexts, text_under}
 use Rattle.lg_io.specs.declared.texts.TextFault.{TextFault}

@@ -4,6 +4,8 @@ ghost use Rattle.std.specs.Prelude.{◌≡◌, ◌<◌, ◌≤◌, ℕ, List, []
 ghost use Rattle.std.specs.Io.KnownBytes.{WriteAppends, ReadConsumes};
 ghost use Rattle.lg_io.specs.Counts.{HasCause, next_count};
 ghost use Rattle.lg_io.specs.NamedTexts.{NamedTexts, Selects};
+ghost use Rattle.lg_io.specs.StandardSinks.{source_under};
+ghost use Rattle.lg_io.specs.StandardSinks.Source.{NoText};
 
 use crate::sink::{Sink, SinkFault};
 use crate::texts::{TextFault, Texts};
@@ -83,17 +85,17 @@ pub struct StdTexts<'a, R: Files + Input> {
 }
 
 impl<'a, R: Files + Input> Model for StdTexts<'a, R> {
-    ghost use Rattle.lg_io.specs.StandardSinks.{ReaderState, left_of};
+    ghost use Rattle.lg_io.specs.StandardSinks.{ReaderState, left_of, source_of};
 
     ghost Value = { ReaderState };
 
-    ghost view = { λ texts. record { left = left_of R.File.remaining R.Reader.remaining texts.selected; faults = texts.faults } };
+    ghost view = { λ texts. record { left = left_of R.File.remaining R.Reader.remaining texts.selected; source = source_of texts.selected; faults = texts.faults } };
 }
 
 impl<'a, R: Files + Input> StdTexts<'a, R> {
     /// No text is selected.
     pub fn new(rt: &'a R) -> StdTexts<'a, R>
-        ensures { result ≡ record { left = Some []; faults = 0 } }
+        ensures { result ≡ record { left = Some []; source = NoText; faults = 0 } }
     {
         StdTexts {
             rt,
@@ -122,6 +124,7 @@ impl<'a, R: Files + Input> Texts for StdTexts<'a, R> {
         ensures held { ◌≡◌ {A = Option NamedTexts} None None }
         ensures left { OnOk result (Selects None self.new.left name.now) }
         ensures err { OnErr result (self.new.left ≡ self.old.left) }
+        ensures source { self.new.source ≡ (if is_ok result then source_under name.now else self.old.source) }
         ensures cause { HasCause self.old.faults self.new.faults result }
         ensures count { self.new.faults ≡ (if is_ok result then self.old.faults else next_count self.old.faults) }
     {
@@ -146,6 +149,7 @@ impl<'a, R: Files + Input> Texts for StdTexts<'a, R> {
         ensures held { ◌≡◌ {A = Option NamedTexts} None None }
         ensures bound { IfOk result (λ n. n ≤ length into.old) }
         ensures bytes { ReadConsumes self.old.left self.new.left result into.new }
+        ensures source { self.new.source ≡ self.old.source }
         ensures cause { HasCause self.old.faults self.new.faults result }
         ensures count { self.new.faults ≡ (if is_ok result then self.old.faults else next_count self.old.faults) }
     {
