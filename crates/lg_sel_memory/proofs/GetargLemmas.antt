@@ -1,0 +1,215 @@
+-- A node that reads an argument of its function is carried.
+use Rattle.std.proofs.Common.{◌≡◌, ◌≢◌, ℕ, ◌+◌, ◌-◌, ◌%◌, ◌^◌, ◌<◌, ◌≤◌, ◌⊎◌, inl, Bool, true, false, List, [], ◌∷◌, Option, Some, None, refl, sym, ap, ◌∙◌, arith, subst, length}
+use Rattle.std.specs.Prelude.{◌==◌, nat_lt, if◌then◌else◌, slice_get}
+use Rattle.std.proofs.lemmas.Option.{slice_get_within}
+use Rattle.lg_base.specs.Conventions.{argument_registers, argument_word, stack_register}
+use Rattle.lg_base.specs.Layout.{frame_pointer, home_word, stack_argument}
+use Rattle.lg_base.specs.declared.target.Target.{Target}
+use Rattle.lg_op.specs.Forms.{admit, forms_of}
+use Rattle.lg_op.specs.declared.form.Form.TheVariants as form
+use Rattle.lg_op.specs.declared.node.Node.{Node}
+use Rattle.lg_op.specs.declared.op.Op.TheVariants as op
+use Rattle.lg_op.specs.declared.op.ValueType.{ValueType}
+use Rattle.lg_op.specs.declared.op.ValueType.TheVariants as value_type
+use Rattle.lg_op.specs.declared.operand.Operand.TheVariants as operand
+use Rattle.lg_op.specs.declared.operand.Reg.{Reg}
+use Rattle.lg_op.specs.declared.operand.Reg.TheVariants.{Fp}
+use Rattle.lg_live.specs.Registers.{is_same}
+use Rattle.lg_live.specs.Uses.{is_written}
+use Rattle.lg_operators.specs.Operators.{width, typed}
+use Rattle.lg_meaning.specs.States.{Frame, State}
+use Rattle.lg_meaning.specs.Steps.{Undefined, need, on, with_reg, operate}
+use Rattle.lg_meaning.specs.Texts.{step}
+use Rattle.lg_temp.specs.Abis.{register_of}
+use Rattle.lg_carry.specs.Carries.{Leads}
+use Rattle.lg_carry.specs.FinalNodes.{Code, is_inside}
+use Rattle.lg_carry.specs.Frames.{at_call, IsSettled}
+use Rattle.lg_carry.specs.NodeBlocks.{IsNodeBlock}
+use Rattle.lg_carry.specs.NodeCode.{live_before, live_behind, CarriesNode}
+use Rattle.lg_carry.specs.Places.{AreStacked}
+use Rattle.lg_carry.specs.Registers.{HasWord}
+use Rattle.lg_carry.specs.Rows.{Rows}
+use Rattle.lg_carry.specs.Spills.{Does, in_slots, with_register}
+use Rattle.lg_carry.specs.Stands.{Stands, lowest}
+use Rattle.lg_carry.specs.TextNodes.{IsInText, IsFrameOf}
+use Rattle.lg_carry.proofs.AgreeInFrameLemmas.{settled, is-false}
+use Rattle.lg_carry.proofs.KeptLemmas.{registers-few}
+use Rattle.lg_carry.proofs.StackLemmas.{stacked-high, few-arguments, within-where}
+use Rattle.lg_carry.proofs.TextShapeLemmas.{shaped}
+use Rattle.lg_carry.proofs.WordLemmas.{loaded-same}
+use Rattle.lg_sel_nodes.specs.Isas.{IsIsa}
+use Rattle.lg_sel_nodes.specs.Straight.{spoils, from_to, HoldsRead, StepsTo}
+use Rattle.lg_sel_nodes.proofs.StraightLemmas.{AreHarmless, none-harmless, computes, inside, tower, read-before}
+use Rattle.lg_sel_memory.specs.Arguments.{ArgumentCode, argument_place, ArgumentsDo, HasArgumentCode, argument_of, ArgumentsCarry}
+use Rattle.lg_sel_memory.specs.Loads.{IsReadable}
+use Rattle.lg_sel_memory.proofs.FormLemmas.{nothing-left, starts-written, starts-argument}
+use Rattle.lg_sel_memory.proofs.PartLemmas.{width-few, part-loaded, part-less, typed-part}
+use Rattle.lg_sel_memory.proofs.ReadLemmas.{numbered-same, or-false, with_op, stepped}
+use Rattle.lg_sel_memory.proofs.WriteLemmas.{writes-word}
+use Rattle.lg_sel_nodes.proofs.ByteLemmas.{loaded-small}
+
+-- ---- the argument's place
+-- it is a multiple of 8, and none of its bytes is in a spill slot
+record IsApart (sp a : ℕ) : Type 0 where
+  whole : a % 8 ≡ 0
+  off : (x : ℕ) → a ≤ x → x < a + 8 → in_slots (frame_pointer sp) x ≡ false
+
+home-apart : (sp k : ℕ) → k < 8 → sp % 16 ≡ 0 → 272 ≤ sp → IsApart sp (home_word (frame_pointer sp) k)
+home-apart sp k few even low = record {
+  whole = omega (arith, few, even, low);
+  off = λ x le lt. is-false (in_slots (frame_pointer sp) x) (λ on. let z = within-where (frame_pointer sp - 128) 40 x on in omega (arith, z.0, z.1, le, lt, few, low));
+}
+
+stack-apart : (sp j : ℕ) → sp % 16 ≡ 0 → 272 ≤ sp → IsApart sp (stack_argument sp j)
+stack-apart sp j even low = record {
+  whole = omega (arith, even);
+  off = λ x le lt. is-false (in_slots (frame_pointer sp) x) (λ on. let z = within-where (frame_pointer sp - 128) 40 x on in omega (arith, z.0, z.1, le, lt, low));
+}
+
+width-whole : (a : ℕ) (t : ValueType) → a % 8 ≡ 0 → (a % width t == 0) ≡ true
+width-whole a value_type.Char e = grind (arith, e)
+width-whole a value_type.UnsignedChar e = grind (arith, e)
+width-whole a value_type.Short e = grind (arith, e)
+width-whole a value_type.UnsignedShort e = grind (arith, e)
+width-whole a value_type.Int e = grind (arith, e)
+width-whole a value_type.UnsignedInt e = grind (arith, e)
+width-whole a value_type.Long e = grind (arith, e)
+
+-- ---- the node
+module _ {Q I : Type 0} (R : Rows Q I) (scratch : ℕ → Bool) (fits : I → Type 0) (isa : IsIsa R scratch fits) (code : ArgumentCode I) (lead : ArgumentsDo R scratch code) (some : HasArgumentCode R code)
+    (c : Code) (i : ℕ) (t : ValueType) (frame : ℕ) (is-frame : IsFrameOf c i frame) (S : ℕ → Bool) (line : ℕ) (d : Reg) (named : d ≢ Fp) (k : ℕ) where
+  abbrev n : Node
+  n = record { op = op.Getarg t; operands = operand.Reg d ∷ operand.Slot k ∷ []; line = line }
+
+  abbrev target : Target
+  target = R.processor.target
+
+  steps-so : IsInText c i n → (s : State) → s.at ≡ i → step c.nodes c.shape c.addresses s ≡ need (slice_get s.frame.args k) (λ v. operate s (operand.Reg d) (Some (typed t v)))
+  steps-so x s at = stepped c i n s x at
+
+  module _ (few : k < 16) (x : IsInText c i n) (y : IsNodeBlock R fits c i (code frame t d k)) where
+    abbrev is : List I
+    is = code frame t d k
+
+    h : AreHarmless R c i n S []
+    h = none-harmless R scratch fits isa c i n S
+
+    module _ (frames : Frame → ℕ → Bool) (s : State) (out : List ℕ) (q : Q) (at : s.at ≡ i) (st : Stands R.processor c frames s out q (live_before n S)) (v : ℕ) (given : slice_get s.frame.args k ≡ Some v) where
+      abbrev w : ℕ → ℕ
+      w = (R.processor.seen q).registers
+
+      behind : is_inside c s.at ≡ true
+      behind = inside R scratch fits isa c i n S [] is refl refl x y (some frame t d k few) h frames s q at st.runs st.state
+
+      stack : AreStacked (lowest s.frame) (s.frame ∷ s.callers)
+      stack = tower R scratch fits isa c i n S [] is refl refl x y (some frame t d k few) h frames s q at st.runs st.state
+
+      reads : HoldsRead target n frame s (R.processor.seen q)
+      reads = read-before R scratch fits isa c i n S [] is refl refl x y (some frame t d k few) h frames s q at st.runs st.state frame is-frame
+
+      rests : IsSettled target c.place (R.processor.seen q).bytes w s.frame s.callers (frames (at_call s.frame))
+      rests = settled target (is_inside c s.at) c.place (R.processor.seen q).bytes w s.frame s.callers (frames (at_call s.frame)) behind st.state.frame
+
+      ends : (s.frame.sp % 16 ≡ 0) × (272 ≤ s.frame.sp)
+      ends = ((stacked-high s.frame.sp s.callers stack.3).0, omega (arith, stack.0, stack.1))
+
+      -- the frame of the code ends where that of the state does
+      same-end : w (stack_register target) + frame ≡ s.frame.sp
+      same-end =
+          let p = reads.in_frame.pointer in let f = reads.pointer in let e : frame_pointer (w (stack_register target) + frame) ≡ frame_pointer s.frame.sp = sym p ∙ f in
+          let large = reads.in_frame.large in let low = ends.1 in omega (arith, e, large, low)
+
+      abbrev a : ℕ
+      a = argument_place target s.frame.sp k
+
+      there : HasWord (R.processor.seen q).bytes a v × IsApart s.frame.sp a
+      there = by (nat_lt k (length (argument_registers target))) refl
+        where
+          by : (b : Bool) → nat_lt k (length (argument_registers target)) ≡ b
+              → HasWord (R.processor.seen q).bytes (if b then home_word (frame_pointer s.frame.sp) k else stack_argument s.frame.sp (argument_word target k)) v
+              × IsApart s.frame.sp (if b then home_word (frame_pointer s.frame.sp) k else stack_argument s.frame.sp (argument_word target k))
+          by true e =
+              let lt : k < length (argument_registers target) = grind (arith, e) in
+              (rests.words.homes k v lt given, home-apart s.frame.sp k (let r = registers-few target in omega (arith, lt, r)) ends.0 ends.1)
+          by false e =
+              let ge : length (argument_registers target) ≤ k = grind (arith, e) in
+              (st.state.incoming.is k v ge given, stack-apart s.frame.sp (argument_word target k) ends.0 ends.1)
+
+      abbrev part : ℕ
+      part = v % 256 ^ width t
+
+      readable : IsReadable (R.processor.seen q) (frame_pointer s.frame.sp) a (width t) part
+      readable m same =
+          let wide = width-few t in
+          loaded-same (R.processor.seen q).bytes m a (width t) (λ j le lt. same j (there.1.off j le (omega (arith, lt, wide))))
+          ∙ part-loaded (R.processor.seen q).bytes a v t st.state.seen.bytes there.0
+
+      small : v < 2 ^ 64
+      small = loaded-small (R.processor.seen q).bytes st.state.seen.bytes a 8 v there.0
+
+      does : Does R (from_to (R.processor.seen q) (with_register w (register_of target d) (typed t v)) (R.processor.seen q).bytes (R.processor.seen q).flags) is (frame_pointer s.frame.sp) 0 (spoils scratch [])
+      does =
+          let p = reads.pointer in
+          subst (λ z. Does R (from_to (R.processor.seen q) (with_register w (register_of target d) z) (R.processor.seen q).bytes (R.processor.seen q).flags) is (frame_pointer s.frame.sp) 0 (spoils scratch [])) (typed-part t v small)
+          (subst (λ p'. Does R (from_to (R.processor.seen q) (with_register w (register_of target d) (typed t part)) (R.processor.seen q).bytes (R.processor.seen q).flags) is p' 0 (spoils scratch [])) p
+          (lead frame t d k q a part named few reads.in_frame (ap (λ z. argument_place target z k) same-end) (width-whole a t there.1.whole)
+          (subst (λ p'. IsReadable (R.processor.seen q) p' a (width t) part) (sym p) readable) (part-less v t)))
+
+      steps-to : StepsTo R scratch c n [] is s (R.processor.seen q)
+      steps-to = writes-word R scratch c n is s (R.processor.seen q) d named (on (with_reg s (operand.Reg d) (typed t v))) (typed t v)
+          (λ r. numbered-same (is_written n) (is_same d) (λ m. or-false (is_same d m)) r)
+          (steps-so x s at ∙ ap (λ z. need z (λ y. operate s (operand.Reg d) (Some (typed t y)))) given)
+          record { at = refl; frame = refl; callers = refl; pushed = refl; mem = refl; mark = refl; data_size = refl; args_size = refl; answer = refl }
+          refl (λ u e. tt) does
+
+      pub goes-there : (step c.nodes c.shape c.addresses s ≡ Undefined) ⊎ Leads R.processor c frames (live_behind frames n S s) i (step c.nodes c.shape c.addresses s) out q
+      goes-there = computes R scratch fits isa c i n S [] is refl refl x y (some frame t d k few) h frames s q at st.runs st.state steps-to out st.wrote
+
+    pub getarg-carried : CarriesNode R.processor c i n S
+    getarg-carried frames s returns out q at st = by (slice_get s.frame.args k) refl
+      where
+        by : (o : Option ℕ) → slice_get s.frame.args k ≡ o → (step c.nodes c.shape c.addresses s ≡ Undefined) ⊎ Leads R.processor c frames (live_behind frames n S s) i (step c.nodes c.shape c.addresses s) out q
+        by None e = inl (steps-so x s at ∙ ap (λ z. need z (λ y. operate s (operand.Reg d) (Some (typed t y)))) e)
+        by (Some v) e = goes-there frames s out q at st v e
+
+  -- no function has an argument beyond the sixteenth
+  getarg-undefined : 16 ≤ k → IsInText c i n → CarriesNode R.processor c i n S
+  getarg-undefined many x frames s returns out q at st = inl (by (slice_get s.frame.args k) refl)
+    where
+      args-few : length s.frame.args ≤ 16
+      args-few = (few-arguments c.nodes c.shape s.frame s.callers (shaped c.nodes x.well).few st.state.fits.linked).0
+
+      by : (o : Option ℕ) → slice_get s.frame.args k ≡ o → step c.nodes c.shape c.addresses s ≡ Undefined
+      by None e = steps-so x s at ∙ ap (λ z. need z (λ y. operate s (operand.Reg d) (Some (typed t y)))) e
+      by (Some v) e = let lt = slice_get_within s.frame.args k v e in absurd (omega (arith, lt, args-few, many))
+
+  pub getarg-law : IsInText c i n → IsNodeBlock R fits c i (argument_of code frame t n) → CarriesNode R.processor c i n S
+  getarg-law x y = by (nat_lt k 16) refl y
+    where
+      few : nat_lt k 16 ≡ true → k < 16
+      few e = grind (arith, e)
+
+      many : nat_lt k 16 ≡ false → 16 ≤ k
+      many e = grind (arith, e)
+
+      by : (b : Bool) → nat_lt k 16 ≡ b → IsNodeBlock R fits c i (if b then code frame t d k else []) → CarriesNode R.processor c i n S
+      by true e y = getarg-carried (few e) x y
+      by false e y = getarg-undefined (many e) x
+
+abbrev IsCarried : {Q I : Type 0} → Rows Q I → (I → Type 0) → Code → ℕ → (ℕ → Bool) → (Node → List I) → Node → Type 0
+IsCarried R fits c i S code m = IsInText c i m → IsNodeBlock R fits c i (code m) → CarriesNode R.processor c i m S
+
+pub arguments-carry : {Q I : Type 0} (R : Rows Q I) (scratch : ℕ → Bool) (fits : I → Type 0) → IsIsa R scratch fits → (code : ArgumentCode I) → ArgumentsDo R scratch code → HasArgumentCode R code → ArgumentsCarry R fits code
+arguments-carry R scratch fits isa code lead some c i n t frame S e x is-frame y = subst (IsCarried R fits c i S (argument_of code frame t)) (ap (with_op n) (sym e)) with-op x y
+  where
+    formed : admit (forms_of (op.Getarg t)) n.operands ≡ true
+    formed = ap (λ o. admit (forms_of o) n.operands) (sym e) ∙ (x.formed n x.here).forms
+
+    with-op : IsCarried R fits c i S (argument_of code frame t) (with_op n (op.Getarg t))
+    with-op =
+        let d = starts-written (form.Argument ∷ []) n.operands formed in
+        let k = starts-argument [] d.rest d.admitted in
+        let xs-are : n.operands ≡ operand.Reg d.register ∷ operand.Slot k.number ∷ [] =
+        d.is ∙ ap (λ ys. operand.Reg d.register ∷ ys) (k.is ∙ ap (λ ys. operand.Slot k.number ∷ ys) (nothing-left k.rest k.admitted)) in
+        subst (λ xs. IsCarried R fits c i S (argument_of code frame t) record { op = op.Getarg t; operands = xs; line = n.line }) (sym xs-are)
+        (getarg-law R scratch fits isa code lead some c i t frame is-frame S n.line d.register d.named k.number)

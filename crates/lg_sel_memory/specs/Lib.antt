@@ -1,0 +1,6 @@
+pub mod Accesses
+pub mod Arguments
+pub mod Loads
+pub mod Operands
+pub mod Pushes
+pub mod Stores

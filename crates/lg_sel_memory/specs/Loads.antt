@@ -1,0 +1,62 @@
+-- Loads: what a target's code of them does, and that nodes with this code are carried.
+use Rattle.std.specs.Prelude.{◌≡◌, ◌≢◌, ℕ, ◌%◌, ◌^◌, ◌<◌, ◌==◌, Bool, true, false, List, [], length, Option, Some}
+use Rattle.lg_base.specs.Conventions.{frame_register}
+use Rattle.lg_base.specs.Spaces.{loaded}
+use Rattle.lg_op.specs.declared.node.Node.{Node}
+use Rattle.lg_op.specs.declared.op.Addressing.{Addressing}
+use Rattle.lg_op.specs.declared.op.Op.TheVariants as op
+use Rattle.lg_op.specs.declared.op.ValueType.{ValueType}
+use Rattle.lg_op.specs.declared.operand.Reg.{Reg}
+use Rattle.lg_op.specs.declared.operand.Reg.TheVariants.{Fp}
+use Rattle.lg_operators.specs.Operators.{width, typed}
+use Rattle.lg_meaning.specs.Steps.{operand_at}
+use Rattle.lg_temp.specs.Abis.{register_of}
+use Rattle.lg_carry.specs.Blocks.{spellings}
+use Rattle.lg_carry.specs.FinalNodes.{Code}
+use Rattle.lg_carry.specs.NodeBlocks.{IsNodeBlock}
+use Rattle.lg_carry.specs.NodeCode.{CarriesNode}
+use Rattle.lg_carry.specs.Processors.{Seen}
+use Rattle.lg_carry.specs.Rows.{Rows}
+use Rattle.lg_carry.specs.Spills.{Does, in_slots, with_register}
+use Rattle.lg_carry.specs.TextNodes.{IsInText, IsFrameOf}
+use Rattle.lg_sel_nodes.specs.Straight.{spoils, from_to}
+use Rattle.lg_sel_nodes.specs.Stretches.{HasFrame}
+use Rattle.lg_sel_memory.specs.Accesses.{Address, address_of, address_word, IsAddress}
+use Rattle.lg_sel_memory.specs.Operands.{named, names_label, HasWords}
+
+-- the code of a load by a type into a register, in a frame of so many bytes
+abbrev pub LoadCode : Type 0 → Type 0
+LoadCode I = ℕ → ValueType → Reg → Address → List I
+
+-- a number is read there, whatever the spill slots hold
+abbrev pub IsReadable : Seen → ℕ → ℕ → ℕ → ℕ → Type 0
+IsReadable q fp a w v = (bytes : ℕ → Option ℕ) → ((j : ℕ) → in_slots fp j ≡ false → bytes j ≡ q.bytes j) → loaded bytes a w ≡ Some v
+
+-- code leaves what is read at an address in a register, and changes no other but scratch registers
+abbrev pub Reads : {Q I : Type 0} → Rows Q I → (ℕ → Bool) → ValueType → Reg → Q → ℕ → List I → Type 0
+Reads {Q} R scratch t d q v code =
+    Does R
+    (from_to (R.processor.seen q) (with_register (R.processor.seen q).registers (register_of R.processor.target d) (typed t v)) (R.processor.seen q).bytes
+    (R.processor.seen q).flags)
+    code ((R.processor.seen q).registers (frame_register R.processor.target)) 0 (spoils scratch [])
+
+-- the code of a load does so with its address, which is a multiple of its width
+abbrev pub LoadsDo : {Q I : Type 0} → Rows Q I → (ℕ → Bool) → LoadCode I → Type 0
+LoadsDo {Q} R scratch code =
+    (frame : ℕ) (t : ValueType) (d : Reg) (at : Address) (q : Q) (a v : ℕ) → d ≢ Fp → IsAddress at → HasFrame R.processor.target frame (R.processor.seen q)
+    → address_word R.processor.target (R.processor.seen q).registers at ≡ a → (a % width t == 0) ≡ true
+    → IsReadable (R.processor.seen q) ((R.processor.seen q).registers (frame_register R.processor.target)) a (width t) v → v < 256 ^ width t
+    → Reads R scratch t d q v (code frame t d at)
+
+abbrev pub HasCode : {Q I : Type 0} → Rows Q I → LoadCode I → Type 0
+HasCode R code = (frame : ℕ) (t : ValueType) (d : Reg) (at : Address) → 0 < length (spellings R.spelling (code frame t d at))
+
+-- the code of a node that loads
+abbrev pub load_of : {I : Type 0} → LoadCode I → ℕ → ValueType → Addressing → Node → List I
+load_of code frame t at n = code frame t (named (operand_at n 0)) (address_of at (operand_at n 1) (operand_at n 2))
+
+-- a load that names no label is carried by it, whatever is live behind it
+abbrev pub LoadsCarry : {Q I : Type 0} → Rows Q I → (I → Type 0) → LoadCode I → Type 0
+LoadsCarry R fits code =
+    (c : Code) (i : ℕ) (n : Node) (t : ValueType) (at : Addressing) (frame : ℕ) (S : ℕ → Bool) → n.op ≡ op.Load t at → names_label n ≡ false → HasWords n
+    → IsInText c i n → IsFrameOf c i frame → IsNodeBlock R fits c i (load_of code frame t at n) → CarriesNode R.processor c i n S

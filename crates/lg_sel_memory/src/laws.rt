@@ -1,0 +1,58 @@
+// What holds of loads, stores and arguments on every target. The functions do nothing: their contracts are the laws.
+
+ghost use Rattle.lg_sel_memory.specs.Arguments.{ArgumentCode, ArgumentsDo, HasArgumentCode, ArgumentsCarry};
+ghost use Rattle.lg_sel_memory.specs.Loads.{LoadCode, LoadsDo, HasCode, LoadsCarry};
+ghost use Rattle.lg_sel_memory.specs.Stores.{StoreCode, StoresDo, HasStoreCode, StoresCarry};
+
+use lg_sel_nodes::laws::Isa;
+
+/// A target that loads.
+pub trait Loads: Isa {
+    /// The code of a load from an address into a register, in a frame of so many bytes.
+    ghost load: { LoadCode Self.Instruction };
+
+    /// It leaves what is read in the register, and changes no other but scratch registers.
+    ghost loads_do: { LoadsDo Self.rows Self.scratch load };
+
+    /// It has some bytes.
+    ghost load_has_code: { HasCode Self.rows load };
+}
+
+/// A load is carried by such code, however it names its address.
+pub fn loads_are_carried<T: Loads>()
+    ensures { LoadsCarry T.rows T.fits T.load }
+{}
+
+/// A target that stores.
+pub trait Stores: Isa {
+    /// The code of a store of a register to an address, in a frame of so many bytes.
+    ghost store: { StoreCode Self.Instruction };
+
+    /// It stores the register, and changes no register but scratch registers.
+    ghost stores_do: { StoresDo Self.rows Self.scratch store };
+
+    /// It has some bytes.
+    ghost store_has_code: { HasStoreCode Self.rows store };
+}
+
+/// A store is carried by such code, however it names its address.
+pub fn stores_are_carried<T: Stores>()
+    ensures { StoresCarry T.rows T.fits T.store }
+{}
+
+/// A target that reads arguments of its functions.
+pub trait Arguments: Isa {
+    /// The code that reads an argument into a register, in a frame of so many bytes.
+    ghost argument: { ArgumentCode Self.Instruction };
+
+    /// It leaves the argument's low bytes in the register, and changes no other but scratch registers.
+    ghost arguments_do: { ArgumentsDo Self.rows Self.scratch argument };
+
+    /// It has some bytes.
+    ghost argument_has_code: { HasArgumentCode Self.rows argument };
+}
+
+/// A node that reads an argument is carried by such code.
+pub fn arguments_are_carried<T: Arguments>()
+    ensures { ArgumentsCarry T.rows T.fits T.argument }
+{}
