@@ -3,6 +3,7 @@ pub mod GetargLemmas
 pub mod LoadLemmas
 pub mod MemoryNodeLemmas
 pub mod PartLemmas
+pub mod PushLemmas
 pub mod ReadLemmas
 pub mod StoreLemmas
 pub mod WriteLemmas

@@ -25,10 +25,10 @@ use Rattle.lg_carry.proofs.RegistersApartLemmas.{conventions-apart}
 use Rattle.lg_sel_nodes.specs.Straight.{spoils, from_to, GoesOn, StepsTo}
 use Rattle.lg_sel_nodes.proofs.RegisterLemmas.{stands-for, number-few, only-number, same-self, numbered-at}
 
-with-same : (w : ℕ → ℕ) (d v : ℕ) → with_register w d v d ≡ v
+pub with-same : (w : ℕ → ℕ) (d v : ℕ) → with_register w d v d ≡ v
 with-same w d v = grind arith
 
-with-other : (w : ℕ → ℕ) (d v x : ℕ) → x ≢ d → with_register w d v x ≡ w x
+pub with-other : (w : ℕ → ℕ) (d v x : ℕ) → x ≢ d → with_register w d v x ≡ w x
 with-other w d v x ne = grind (arith, ne)
 
 module _ {Q I : Type 0} (R : Rows Q I) (scratch : ℕ → Bool) (c : Code) (n : Node) (body : List I) (s : State) (q : Seen) (d : Reg) (named : d ≢ Fp) (to : State) (v : ℕ)

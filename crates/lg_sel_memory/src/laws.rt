@@ -2,6 +2,7 @@
 
 ghost use Rattle.lg_sel_memory.specs.Arguments.{ArgumentCode, ArgumentsDo, HasArgumentCode, ArgumentsCarry};
 ghost use Rattle.lg_sel_memory.specs.Loads.{LoadCode, LoadsDo, HasCode, LoadsCarry};
+ghost use Rattle.lg_sel_memory.specs.Pushes.{PushCode, PushesDo, HasPushCode, PushesCarry};
 ghost use Rattle.lg_sel_memory.specs.Stores.{StoreCode, StoresDo, HasStoreCode, StoresCarry};
 
 use lg_sel_nodes::laws::Isa;
@@ -55,4 +56,21 @@ pub trait Arguments: Isa {
 /// A node that reads an argument is carried by such code.
 pub fn arguments_are_carried<T: Arguments>()
     ensures { ArgumentsCarry T.rows T.fits T.argument }
+{}
+
+/// A target that passes arguments.
+pub trait Pushes: Isa {
+    /// The code that passes an operand as an argument of a call, in a frame of so many bytes.
+    ghost push: { PushCode Self.Instruction };
+
+    /// It puts the operand's word where the argument goes, and changes no register besides but scratch registers.
+    ghost pushes_do: { PushesDo Self.rows Self.scratch push };
+
+    /// It has some bytes.
+    ghost push_has_code: { HasPushCode Self.rows push };
+}
+
+/// A node that passes an argument is carried by such code.
+pub fn pushes_are_carried<T: Pushes>()
+    ensures { PushesCarry T.rows T.fits T.push }
 {}

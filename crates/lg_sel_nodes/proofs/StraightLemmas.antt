@@ -270,7 +270,7 @@ module _ {Q I : Type 0} (R : Rows Q I) (scratch : ℕ → Bool) (fits : I → Ty
     stands : drop ((R.processor.seen q).pc - code_base) R.code ≡ spellings R.spelling is ++ k.code.more
     stands = ap (λ p. drop (p - code_base) R.code) here ∙ k.code.stands
 
-    room : HasRoom R is q
+    pub room : HasRoom R is q
     room = record {
       low = omega (arith, here, k.code.low);
       high = in-room R.code (spellings R.spelling is) k.code.more (R.processor.seen q).pc (omega (arith, here, k.code.low)) (some-wrapped R choices body some) stands isa.rows.small;
