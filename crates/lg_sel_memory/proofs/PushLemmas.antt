@@ -1,12 +1,12 @@
 -- A node that passes an argument of a call is carried.
-use Rattle.std.proofs.Common.{◌≡◌, ◌≢◌, ℕ, zero, suc, ◌+◌, ◌-◌, ◌*◌, ◌%◌, ◌^◌, ◌<◌, ◌≤◌, ◌⊎◌, inl, inr, Bool, true, false, List, [], ◌∷◌, ◌++◌, Option, Some, None, refl, sym, ap, ◌∙◌, subst, arith, length, ⊎_elim}
-use Rattle.std.specs.Prelude.{◌==◌, ◌||◌, nat_lt, if◌then◌else◌, is_some, slice_get, slice_index}
+use Rattle.std.proofs.Common.{◌≡◌, ◌≢◌, ℕ, zero, suc, ◌+◌, ◌-◌, ◌*◌, ◌^◌, ◌<◌, ◌≤◌, ◌⊎◌, inl, inr, Bool, true, false, List, [], ◌∷◌, ◌++◌, Option, Some, None, refl, sym, ap, ◌∙◌, subst, arith, length, ⊎_elim}
+use Rattle.std.specs.Prelude.{◌==◌, ◌||◌, if◌then◌else◌, is_some, slice_get, slice_index}
 use Rattle.std.proofs.lemmas.Bool.{cases_lt}
-use Rattle.lg_base.specs.Conventions.{argument_registers, argument_word, frame_register, stack_register, link_register, carry_register, portable_register}
+use Rattle.lg_base.specs.Conventions.{argument_registers, argument_word, frame_register, stack_register, portable_register}
 use Rattle.lg_base.specs.HostNames.{host_address}
 use Rattle.lg_base.specs.Layout.{code_base, most_code, frame_pointer, stack_argument}
 use Rattle.lg_base.specs.Parts.{stack_base}
-use Rattle.lg_base.specs.Spaces.{loaded, stored}
+use Rattle.lg_base.specs.Spaces.{stored}
 use Rattle.lg_base.specs.declared.target.Target.{Target}
 use Rattle.lg_base.proofs.SpaceLemmas.{stored-out, loaded-stored, mapped-all}
 use Rattle.lg_cells.specs.Cells.{within}
@@ -25,13 +25,12 @@ use Rattle.lg_op.specs.declared.operand.Operand.TheVariants as operand
 use Rattle.lg_op.specs.declared.operand.Reg.{Reg}
 use Rattle.lg_op.specs.declared.operand.Reg.TheVariants.{Fp}
 use Rattle.lg_live.specs.Uses.{is_read, is_written}
-use Rattle.lg_meaning.specs.States.{Frame, State, reg, value}
+use Rattle.lg_meaning.specs.States.{Frame, State, value}
 use Rattle.lg_meaning.specs.Steps.{Goes, Undefined, need, on, quiet, operand_at}
 use Rattle.lg_meaning.specs.Texts.{step}
 use Rattle.lg_temp.specs.Abis.{register_of}
 use Rattle.lg_temp.specs.declared.choice.Choice.{Choice}
 use Rattle.lg_temp.specs.declared.choice.Choice.TheVariants.{Free}
-use Rattle.lg_carry.specs.AgreeInFrame.{Pushes}
 use Rattle.lg_carry.specs.Blocks.{done, spellings}
 use Rattle.lg_carry.specs.Carries.{Leads}
 use Rattle.lg_carry.specs.FinalNodes.{Code, is_inside}
@@ -42,22 +41,22 @@ use Rattle.lg_carry.specs.Places.{AreStacked}
 use Rattle.lg_carry.specs.Processors.{Seen}
 use Rattle.lg_carry.specs.Registers.{HasWord, HoldsArguments, HasArguments}
 use Rattle.lg_carry.specs.Rows.{Rows}
-use Rattle.lg_carry.specs.Spills.{Does, Leaves, HasRoom, in_slots, lost, spilled, with_register, wrapped}
+use Rattle.lg_carry.specs.Spills.{Does, in_slots, spilled, with_register}
 use Rattle.lg_carry.specs.Stands.{StatesAgree, Stands, lowest}
 use Rattle.lg_carry.specs.TemporariesApart.{IsSpare}
 use Rattle.lg_carry.specs.TextNodes.{IsInText, IsFrameOf, NamesCode}
 use Rattle.lg_carry.proofs.AgreeInFrameLemmas.{settled, is-false, push-agrees}
-use Rattle.lg_carry.proofs.KeptLemmas.{registers-some, registers-few}
+use Rattle.lg_carry.proofs.KeptLemmas.{registers-some}
 use Rattle.lg_carry.proofs.RegistersApartLemmas.{conventions-apart}
 use Rattle.lg_carry.proofs.StackLemmas.{stacked-high, within-where}
 use Rattle.lg_carry.proofs.WordLemmas.{word-kept}
 use Rattle.lg_sel_nodes.specs.Isas.{IsIsa}
 use Rattle.lg_sel_nodes.specs.Straight.{is_taken, spoils, from_to, HoldsRead}
 use Rattle.lg_sel_nodes.proofs.RegisterLemmas.{same-self}
-use Rattle.lg_sel_nodes.proofs.StraightLemmas.{AreHarmless, none-harmless, inside, tower, is-fp, room, read-before, still, stays, leads, end-at, kept-portable, kept-argument, bytes-off, flag-is}
+use Rattle.lg_sel_nodes.proofs.StraightLemmas.{AreHarmless, none-harmless, inside, tower, is-fp, room, read-before, still, stays, leads, kept-portable, kept-argument, bytes-off}
 use Rattle.lg_sel_nodes.proofs.TemporaryLemmas.{either}
-use Rattle.lg_sel_memory.specs.Operands.{number, HasWords, operand_word}
-use Rattle.lg_sel_memory.specs.Pushes.{PushCode, is_in_register, outgoing_word, with_argument, with_outgoing, IsPassed, PushesDo, HasPushCode, PushesCarry}
+use Rattle.lg_sel_memory.specs.Operands.{HasWords, operand_word}
+use Rattle.lg_sel_memory.specs.Pushes.{PushCode, is_in_register, outgoing_word, IsPassed, PushesDo, HasPushCode, PushesCarry}
 use Rattle.lg_sel_memory.specs.Stores.{IsWritable}
 use Rattle.lg_sel_memory.proofs.FormLemmas.{nothing-left, starts-read}
 use Rattle.lg_sel_memory.proofs.ReadLemmas.{same-some, numbered-same, numbered-none, number-small, with_op, stepped}

@@ -1,5 +1,0 @@
-use Rattle.lg_sel_nodes.proofs.StoreLemmas.{indexed-stores-carry}
-use Rattle.lg_sel_nodes.proofs.laws.indexed_stores_are_carried.Goals as goal
-
-pub returns : goal.returns
-returns g c = let T = g.T.Isa in indexed-stores-carry T.rows T.scratch T.fits T.is_isa g.T.Stores.store g.met.T.Stores.stores_do g.met.T.Stores.store_has_code
