@@ -7,7 +7,6 @@ use Rattle.std.proofs.lemmas.Bool.Decides.{nat_tests}
 use Rattle.lg_base.specs.Layout.{code_base}
 use Rattle.lg_buf.specs.Buffers.{Buffer}
 use Rattle.lg_carry.specs.FinalNodes.{Code}
-use Rattle.lg_carry_rv.specs.RvRows.{rv_rows}
 use Rattle.lg_rv.specs.Spelling.{spelling, IsInstr}
 use Rattle.lg_selr.specs.Selected.{IsFinished}
 use Rattle.lg_selr_items.specs.declared.items.Item.{Item}

@@ -40,7 +40,7 @@ use Rattle.lg_carry.specs.Passages.{Passes}
 use Rattle.lg_carry.proofs.RegistersApartLemmas.{conventions-apart}
 use Rattle.lg_carry_rv.specs.RvRows.{rv_processor, rv_seen}
 use Rattle.lg_carry.specs.TextNodes.{IsInText, HasPlaces}
-use Rattle.lg_selr_control.specs.Immediates.{immediate}
+use Rattle.lg_sel_nodes.specs.Immediates.{immediate}
 use Rattle.lg_selr_control.specs.Standing.{StandsInCode}
 use Rattle.lg_selr_control.specs.Branches.{failing, left_of, right_of, bits_code, branch_code, branch_node, number_branch_node, BranchesCarry, NumberBranchesCarry}
 use Rattle.lg_carry_rv.specs.Numbers.{number_code}
@@ -48,10 +48,11 @@ use Rattle.lg_carry_rv.proofs.NumberCodeLemmas.{numbers-are-loaded}
 use Rattle.lg_carry_rv.proofs.RegisterLemmas.{given, register-apart}
 use Rattle.lg_selr_control.proofs.ChainLemmas.{RunsAt, next-at, begins-at}
 use Rattle.lg_selr_control.proofs.ComputedLemmas.{computed-passes}
-use Rattle.lg_selr_control.proofs.JumpLemmas.{Lands, jump-lands}
-use Rattle.lg_selr_control.proofs.LiveLemmas.{unwritten, still-live}
-use Rattle.lg_selr_control.proofs.OperandLemmas.{named-here, named-later, read-is-live, immediate-value}
-use Rattle.lg_selr_control.proofs.StandingLemmas.{behind-prolog, next-inside, in-some, none-passed, one-passes, then-passes}
+use Rattle.lg_sel_nodes.proofs.LeapLemmas.{Lands, jump-lands}
+use Rattle.lg_sel_nodes.proofs.LiveLemmas.{unwritten, still-live}
+use Rattle.lg_sel_nodes.proofs.OperandLemmas.{named-here, named-later, read-is-live, immediate-value}
+use Rattle.lg_sel_nodes.proofs.LeapLemmas.{behind-prolog, next-inside, in-some}
+use Rattle.lg_selr_control.proofs.StandingLemmas.{none-passed, one-passes, then-passes}
 use Rattle.lg_selr_control.proofs.TwoWayLemmas.{two-ways-lead}
 use Rattle.lg_selr_control.proofs.WordLemmas.{put-same, put-other}
 

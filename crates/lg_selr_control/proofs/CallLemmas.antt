@@ -1,175 +1,209 @@
--- Calls of labels are carried.
-use Rattle.std.proofs.Common.{◌≡◌, ◌≢◌, ℕ, zero, suc, ◌+◌, ◌-◌, ◌<◌, ◌≤◌, ◌⊎◌, inl, inr, Bool, true, false, List, [], ◌∷◌, ◌++◌, Some, refl, sym, ap, ◌∙◌, subst, arith, length, append-nil}
-use Rattle.std.specs.Prelude.{pos, ◌-ℤ◌, nat_le, slice_get, slice_index, if◌then◌else◌}
-use Rattle.lg_base.specs.Conventions.{argument_registers, portable_register}
+-- Calls on RV64: `jal` and `jalr` link, and a host function returns to the link.
+use Rattle.std.proofs.Common.{◌≡◌, ◌≢◌, ℕ, ◌+◌, ◌*◌, ◌/◌, ◌%◌, ◌^◌, ◌<◌, ◌≤◌, Bool, true, false, List, [], ◌∷◌, refl, sym, ap, ◌∙◌, subst, arith, length, append-nil}
+use Rattle.std.specs.Prelude.{◌==◌, ◌&&◌, not, nat_lt, pos, ◌-ℤ◌, if◌then◌else◌}
+use Rattle.lg_base.specs.Conventions.{is_kept}
+use Rattle.lg_base.specs.Fields.{word_of}
+use Rattle.lg_base.specs.HostNames.{host_address}
+use Rattle.lg_base.specs.Layout.{most_code}
 use Rattle.lg_base.specs.Runs.{Running}
-use Rattle.lg_base.specs.Words.{add_words}
+use Rattle.lg_base.specs.Spaces.{readable}
+use Rattle.lg_base.specs.Words.{add_words, sign_32}
+use Rattle.lg_base.specs.declared.fault.FaultKind.TheVariants.{Align, Host as HostFault}
+use Rattle.lg_base.specs.declared.host_name.HostName.{HostName}
+use Rattle.lg_base.specs.declared.host_name.HostName.TheVariants as host
 use Rattle.lg_base.specs.declared.target.Target.TheVariants.{Riscv64}
-use Rattle.lg_op.specs.declared.op.Op.{Op}
-use Rattle.lg_op.specs.declared.op.Op.TheVariants as op
-use Rattle.lg_op.specs.declared.op.ControlOp.TheVariants as control
-use Rattle.lg_op.specs.declared.operand.Label.{Label}
-use Rattle.lg_op.specs.declared.node.Node.{Node}
-use Rattle.lg_node.specs.declared.function.Function.{Function}
-use Rattle.lg_node.specs.declared.place.Place.TheVariants as place
-use Rattle.lg_node.specs.Functions.{home, frame_of}
-use Rattle.lg_node.specs.Labels.{place_of}
-use Rattle.lg_node.specs.ShapeLaws.{IsEntry}
-use Rattle.lg_node.proofs.FunctionLaws.{home_within}
+use Rattle.lg_host.specs.Host.{Host, Gives, Exits, memory, host_of}
+use Rattle.lg_op.specs.declared.operand.Reg.{Reg}
+use Rattle.lg_temp.specs.Abis.{register_of}
+use Rattle.lg_rv.specs.Spelling.{IsInstr}
 use Rattle.lg_rv.specs.declared.instruction.Instr.TheVariants as instr
-use Rattle.lg_cpu.specs.Steps.{Run, Effect, after, status_of}
-use Rattle.lg_cpu.specs.HostSteps.{put}
+use Rattle.lg_rv.specs.declared.instruction.ImmOp.TheVariants.{Jalr}
+use Rattle.lg_cpu.specs.Laws.{AreBytes, IsSound}
+use Rattle.lg_cpu.specs.Steps.{Run, Effect, after, arrived, faults, status_of}
+use Rattle.lg_cpu.specs.HostSteps.{put, clobbered, behind_call, argument_words}
 use Rattle.lg_cpu.specs.States.{CpuState}
-use Rattle.lg_cpu.specs.RvStep.{goes, act}
-use Rattle.lg_meaning.specs.States.{Frame, State}
-use Rattle.lg_meaning.specs.Steps.{Goes, Undefined, need, when, quiet, called, started, enter, call_node as call_node_step, node_in}
-use Rattle.lg_meaning.specs.Texts.{text, step_at, step}
-use Rattle.lg_meaning.specs.Fits.{is_call}
-use Rattle.lg_meaning.proofs.FunctionFacts.{IsAt, function_at_home}
-use Rattle.lg_carry.specs.AgreeAcrossFrames.{entered}
-use Rattle.lg_carry.specs.FinalNodes.{Code, is_inside}
-use Rattle.lg_carry.specs.Frames.{at_call}
-use Rattle.lg_carry.specs.Registers.{HoldsArguments, HasArguments}
-use Rattle.lg_carry.specs.Stands.{lowest, StatesAgree, Stands}
-use Rattle.lg_carry.specs.Carries.{Leads}
-use Rattle.lg_carry.specs.NodeCode.{numbered, live_before, live_behind, is_return, ReturnsTo, CarriesNode}
-use Rattle.lg_live.specs.Uses.{is_written}
-use Rattle.lg_carry.specs.Passages.{Passes}
-use Rattle.lg_carry.proofs.AgreeAcrossFramesLemmas.{call-agrees}
-use Rattle.lg_carry.proofs.AgreeInFrameLemmas.{settled}
-use Rattle.lg_carry.proofs.RegistersApartLemmas.{conventions-apart}
-use Rattle.lg_carry.proofs.PassageLemmas.{passages-lead}
-use Rattle.lg_carry.proofs.TextShapeLemmas.{shaped}
-use Rattle.lg_carry_rv.specs.RvRows.{rv_processor, rv_seen}
-use Rattle.lg_carry_rv.proofs.SlotLemmas.{pc-next}
-use Rattle.lg_carry.specs.TextNodes.{IsInText, HasPlaces}
-use Rattle.lg_selr_control.specs.Standing.{StandsInCode}
-use Rattle.lg_selr_control.specs.Calls.{call_node, finish_node, call_code, CallsCarry, FinishesCarry}
-use Rattle.lg_selr_control.proofs.ChainLemmas.{RunsAt, begins-at}
-use Rattle.lg_selr_control.proofs.JumpLemmas.{jumps-there, bound-at, outer-is}
-use Rattle.lg_selr_control.proofs.LiveLemmas.{still-live}
-use Rattle.lg_selr_control.proofs.StandingLemmas.{stands-inside, goes-fits, one-passes}
+use Rattle.lg_cpu.specs.RvStep.{goes, sets, jump_to, act, effect, effect_at, host_effect}
+use Rattle.lg_cpu.proofs.SoundLemmas.{stays-sound}
+use Rattle.lg_carry_rv.specs.Numbers.{high_part, low_part}
+use Rattle.lg_carry_rv.specs.RvRows.{rv_processor, rv_rows}
+use Rattle.lg_carry_rv.proofs.RowLemmas.{went}
+use Rattle.lg_carry_rv.proofs.SlotLemmas.{pc-next, goes-on}
+use Rattle.lg_selr_control.specs.HostCalls.{host_code, rv_ready}
+use Rattle.lg_selr_control.proofs.ChainLemmas.{Chain, chain-end, chain-more}
+use Rattle.lg_selr_control.proofs.StretchLemmas.{aligned, read-of, stands-high, one-passed, all-passed, arrived-with}
+use Rattle.lg_selr_control.proofs.WalkLemmas.{jumps-there, lands-there}
 use Rattle.lg_selr_control.proofs.WordLemmas.{runs-there, put-same, put-other}
-use Rattle.lg_meaning.specs.Addresses.{IsBound}
+use Rattle.lg_sel_nodes.specs.Leaps.{CallsLead, HostCallsLead, HasArrived, host_answer, Answers, EntersHosts}
+use Rattle.lg_sel_nodes.specs.Stretches.{StandsAt, behind, PassesIn, Arrival}
+use Rattle.lg_sel_control.specs.RegisterLeaps.{RegisterCallsLead, RegisterHostCallsLead}
+use Rattle.lg_selr_control.specs.Calls.{call_code}
+use Rattle.lg_selr_control.specs.RegisterLeaps.{register_call_code}
 
--- a call is no return
-pub stays-frame : (o : Op) → is_call o ≡ true → is_return o ≡ false
-stays-frame (op.Control control.Call last) e = refl
-stays-frame (op.Control control.Finish last) e = refl
-stays-frame o e = cc
+entry-address : (name : HostName) → add_words (sign_32 (high_part (host_address name) * 4096)) (word_of (low_part (host_address name))) / 2 * 2 ≡ host_address name
+entry-address host.Printf = refl
+entry-address host.Puts = refl
+entry-address host.Putchar = refl
+entry-address host.Exit = refl
+entry-address host.Abort = refl
+entry-address host.Atoi = refl
+entry-address host.Malloc = refl
+entry-address host.Calloc = refl
+entry-address host.Free = refl
+entry-address host.Memcpy = refl
+entry-address host.Memset = refl
+entry-address host.Strlen = refl
+entry-address host.Strcmp = refl
 
--- ---- into a function
--- the node of a call of a function stands behind a `prolog`, and its code ends in its bytes; from q the link is the place behind the node, and
--- the run goes on at the place of the function
-module _ (code : List ℕ) (trash : ℕ) (c : Code) (i : ℕ) (n : Node) (S : ℕ → Bool) (w : HasPlaces 4 c) (t : IsInText c i n) (inside : is_inside c i ≡ true) (calls : is_call n.op ≡ true) (unwritten : (v : ℕ) → v < 3 → numbered (is_written n) (v + 3) ≡ false)
-    (live : Frame → ℕ → Bool) (s : State) (returns : ReturnsTo live n S s) (out : List ℕ) (q u : Run CpuState) (at : s.at ≡ i) (st : Stands (rv_processor code trash) c live s out q (live_before n S))
-    (args : List ℕ) (held : HoldsArguments Riscv64 q.state.registers args) (stacked : HasArguments Riscv64 q.state.bytes (lowest s.frame) args) (m : ℕ) (pass : Passes (rv_processor code trash) c i m q u) (few : m ≤ 64) (some : 0 < m)
-    (kept : (r : ℕ) → r ≢ 1 → u.state.registers r ≡ q.state.registers r) (bytes : u.state.bytes ≡ q.state.bytes) (mark : u.state.mark ≡ q.state.mark) (link : u.state.registers 1 ≡ c.place (i + 1)) where
-  -- at the place of a function that begins
-  pub enters : (k : ℕ) → home c.nodes.nodes k ≡ Some k → u.state.pc ≡ c.place k → status_of u.progress ≡ Running → step c.nodes c.shape c.addresses s ≡ call_node_step (text c.nodes c.shape c.addresses) s args k
-      → (step c.nodes c.shape c.addresses s ≡ Undefined) ⊎ Leads (rv_processor code trash) c live (live_behind live n S s) i (step c.nodes c.shape c.addresses s) out q
-  enters k entry there runs steps = by (nat_le (0x3FF00010 + frame_of at-home.0) (s.frame.sp - s.frame.size)) refl
+entry-even : (name : HostName) → (host_address name % 4 == 0) ≡ true
+entry-even host.Printf = refl
+entry-even host.Puts = refl
+entry-even host.Putchar = refl
+entry-even host.Exit = refl
+entry-even host.Abort = refl
+entry-even host.Atoi = refl
+entry-even host.Malloc = refl
+entry-even host.Calloc = refl
+entry-even host.Free = refl
+entry-even host.Memcpy = refl
+entry-even host.Memset = refl
+entry-even host.Strlen = refl
+entry-even host.Strcmp = refl
+
+entry-runs : (name : HostName) → status_of (arrived (host_address name)) ≡ Running
+entry-runs host.Printf = refl
+entry-runs host.Puts = refl
+entry-runs host.Putchar = refl
+entry-runs host.Exit = refl
+entry-runs host.Abort = refl
+entry-runs host.Atoi = refl
+entry-runs host.Malloc = refl
+entry-runs host.Calloc = refl
+entry-runs host.Free = refl
+entry-runs host.Memcpy = refl
+entry-runs host.Memset = refl
+entry-runs host.Strlen = refl
+entry-runs host.Strcmp = refl
+
+pub entry-near : (name : HostName) → host_address name < 2 ^ 62
+entry-near host.Printf = omega arith
+entry-near host.Puts = omega arith
+entry-near host.Putchar = omega arith
+entry-near host.Exit = omega arith
+entry-near host.Abort = omega arith
+entry-near host.Atoi = omega arith
+entry-near host.Malloc = omega arith
+entry-near host.Calloc = omega arith
+entry-near host.Free = omega arith
+entry-near host.Memcpy = omega arith
+entry-near host.Memset = omega arith
+entry-near host.Strlen = omega arith
+entry-near host.Strcmp = omega arith
+
+module _ (code : List ℕ) (trash : ℕ) (small : length code ≤ most_code) (bytes : AreBytes code) (word : trash < 2 ^ 64) where
+  -- ---- a call of a function
+  pub calls-lead : CallsLead (rv_rows code trash) IsInstr call_code
+  calls-lead frame from to q f k there runs at =
+      let jump = instr.Jal 1 (pos to -ℤ pos from) in
+      let e : Effect CpuState = goes to (put q.state.registers 1 (add_words q.state.pc 4)) q.state.bytes q.state.mark in
+      let high = stands-high code trash small bytes word from jump [] k in
+      let does : act jump q.state ≡ e =
+      ap (λ p. act (instr.Jal 1 (pos to -ℤ pos p)) q.state) (sym at) ∙ jumps-there q.state 1 to (omega (arith, high, at)) (let h = there.high in omega (arith, h)) (aligned to there.place) in
+      let behind-it : ℕ = behind (rv_rows code trash) from (call_code from to) in
+      arrived-with code trash small bytes word from behind-it behind-it to 1 q (after q e)
+      (subst (λ z. PassesIn (rv_processor code trash) from behind-it 1 q (after q z)) does (one-passed code trash small bytes word from [] jump [] q k runs (at ∙ omega arith)))
+      (omega arith) (omega arith) (runs-there to there.low) refl (put-same q.state.registers 1 _ ∙ pc-next q.state.pc (omega (arith, high, at)) ∙ omega (arith, at))
+      (λ x ne. put-other q.state.registers 1 _ x ne) refl refl
+
+  -- ---- a call of the word of a register
+  register-arrival : (frame from to : ℕ) (a : Reg) (q : Run CpuState) → StandsAt (rv_rows code trash) IsInstr from (register_call_code frame a) → to < 2 ^ 62 → to % 4 ≡ 0 → status_of (arrived to) ≡ Running
+      → status_of q.progress ≡ Running → q.state.pc ≡ from → q.state.registers (register_of Riscv64 a) ≡ to
+      → Arrival (rv_processor code trash) from (behind (rv_rows code trash) from (register_call_code frame a)) (q.state.registers 2) (behind (rv_rows code trash) from (register_call_code frame a)) to q
+  register-arrival frame from to a q k near even there runs at is =
+      let jump = instr.Imm Jalr 1 (register_of Riscv64 a) (pos 0) in
+      let e : Effect CpuState = goes to (put q.state.registers 1 (add_words q.state.pc 4)) q.state.bytes q.state.mark in
+      let high = stands-high code trash small bytes word from jump [] k in
+      let does : act jump q.state ≡ e = lands-there q.state 1 (register_of Riscv64 a) to (read-of q.state.registers a ∙ is) near even in
+      let behind-it : ℕ = behind (rv_rows code trash) from (register_call_code frame a) in
+      arrived-with code trash small bytes word from behind-it behind-it to 1 q (after q e)
+      (subst (λ z. PassesIn (rv_processor code trash) from behind-it 1 q (after q z)) does (one-passed code trash small bytes word from [] jump [] q k runs (at ∙ omega arith)))
+      (omega arith) (omega arith) there refl (put-same q.state.registers 1 _ ∙ pc-next q.state.pc (omega (arith, high, at)) ∙ omega (arith, at))
+      (λ x ne. put-other q.state.registers 1 _ x ne) refl refl
+
+  pub register-calls-lead : RegisterCallsLead (rv_rows code trash) IsInstr register_call_code
+  register-calls-lead frame from to a q f k there runs at is =
+      register-arrival frame from to a q k (let h = there.high in omega (arith, h)) (aligned to there.place) (runs-there to there.low) runs at is
+
+  pub register-host-calls-lead : RegisterHostCallsLead (rv_rows code trash) rv_ready IsInstr register_call_code
+  register-host-calls-lead frame from name a q f k runs at is = record {
+    ready_is = refl;
+    arrival = register-arrival frame from (host_address name) a q k (entry-near name) (aligned (host_address name) (entry-even name)) (entry-runs name) runs at is;
+  }
+
+  -- ---- a call of a host function
+  pub host-calls-lead : HostCallsLead (rv_rows code trash) rv_ready IsInstr host_code
+  host-calls-lead frame from name q f k runs at =
+      let a = host_address name in
+      let v1 = sign_32 (high_part a * 4096) in
+      let high = stands-high code trash small bytes word from (instr.Upper _ 1 (high_part a)) (instr.Imm _ 1 1 (low_part a) ∷ []) k in
+      let low = k.low in
+      let q1 : Run CpuState = after q (sets q.state 1 v1) in
+      let pc1 : q1.state.pc ≡ from + 4 = pc-next q.state.pc (omega (arith, high, at)) ∙ omega (arith, at) in
+      let runs1 : status_of q1.progress ≡ Running = goes-on q.state.pc (omega (arith, low, at)) (omega (arith, high, at)) in
+      let e : Effect CpuState = goes a (put q1.state.registers 1 (add_words q1.state.pc 4)) q1.state.bytes q1.state.mark in
+      let u : Run CpuState = after q1 e in
+      let chain : Chain (host_code name) q u = chain-more _ _ q u (sets q.state 1 v1) runs refl
+      (chain-more _ _ q1 u e runs1 (ap (jump_to q1.state 1) (entry-address name) ∙ ap (λ b. if b then e else faults q1.state Align) (entry-even name)) (chain-end u)) in
+      let behind-it : ℕ = behind (rv_rows code trash) from (host_code name) in record {
+        ready_is = refl;
+        arrival = arrived-with code trash small bytes word from behind-it behind-it a 2 q u
+            (all-passed code trash small bytes word from (host_code name) q u k at (refl, tt) chain)
+            (omega arith) (omega arith) (entry-runs name) refl (put-same q1.state.registers 1 _ ∙ pc-next q1.state.pc (omega (arith, high, pc1)) ∙ omega (arith, pc1))
+            (λ x ne. put-other q1.state.registers 1 _ x ne ∙ put-other q.state.registers 1 _ x ne) refl refl;
+      }
+
+  -- ---- the step of a host function
+  does : (q : Run CpuState) (name : HostName) (stack back : ℕ) (h : Host) → HasArrived (rv_processor code trash) rv_ready stack back name q → host_answer (rv_processor code trash) name stack q ≡ h
+      → (rv_processor code trash).machine.step q ≡ after q (host_effect h trash q.state)
+  does q name stack back h arr e =
+      let m = memory q.state.bytes (readable q.state.bytes) q.state.mark in
+      let even : (q.state.registers 2 % 16 == 0) ≡ true = let z = arr.whole in ap (λ x. x % 16 == 0) arr.pointer ∙ rw z refl in
+      let same : effect code trash q.state ≡ host_effect h trash q.state =
+      ap (λ o. effect_at o code trash q.state) arr.entry
+      ∙ ap (λ b. if b then host_effect (host_of name (argument_words Riscv64 q.state.registers q.state.bytes (q.state.registers 2)) true m) trash q.state else faults q.state HostFault) even
+      ∙ ap (λ x. host_effect (host_of name (argument_words Riscv64 q.state.registers q.state.bytes x) true m) trash q.state) arr.pointer
+      ∙ ap (λ x. host_effect x trash q.state) e in
+      went q (effect code trash q.state) arr.runs ∙ ap (after q) same
+
+  not-result : (x : ℕ) → is_kept Riscv64 x ≡ true → x ≢ 10
+  not-result x e z = let f : is_kept Riscv64 10 ≡ true = subst (λ y. is_kept Riscv64 y ≡ true) z e in cc
+
+  kept-behind : (w : ℕ → ℕ) (v x : ℕ) → is_kept Riscv64 x ≡ true → behind_call Riscv64 32 w trash v x ≡ w x
+  kept-behind w v x e = put-other (clobbered Riscv64 32 w trash) 10 v x (not-result x e) ∙ ap (λ b. if nat_lt x 32 && not b then trash else w x) e ∙ off (nat_lt x 32)
     where
-      at-home : (f : Function) × IsAt c.nodes c.shape k k f
-      at-home = function_at_home c.nodes c.shape t.functions t.shape.functions k k entry
+      off : (b : Bool) → (if b && false then trash else w x) ≡ w x
+      off true = refl
+      off false = refl
 
-      found : step c.nodes c.shape c.addresses s ≡ enter s args at-home.0
-      found = steps ∙ ap (λ o. need o (enter s args)) at-home.1.here
-
-      by : (b : Bool) → nat_le (0x3FF00010 + frame_of at-home.0) (s.frame.sp - s.frame.size) ≡ b → (step c.nodes c.shape c.addresses s ≡ Undefined) ⊎ Leads (rv_processor code trash) c live (live_behind live n S s) i (step c.nodes c.shape c.addresses s) out q
-      by false e = inl (found ∙ ap (λ b. when b (quiet (started (record s { frame = called s args; callers = s.frame ∷ s.callers }) at-home.0.entry))) e)
-      by true e =
-          let to = at-home.0.entry in
-          let s' = entered s args to in
-          let goes' : step c.nodes c.shape c.addresses s ≡ Goes s' [] = found ∙ ap (λ b. when b (quiet (started (record s { frame = called s args; callers = s.frame ∷ s.callers }) at-home.0.entry))) e in
-          let apart = conventions-apart Riscv64 in
-          let before : is_inside c s.at ≡ true = ap (is_inside c) at ∙ inside in
-          let frame = settled Riscv64 (is_inside c s.at) c.place q.state.bytes q.state.registers s.frame s.callers (live (at_call s.frame)) before st.state.frame in
-          let agree : StatesAgree Riscv64 c live s' (rv_seen u) S = call-agrees Riscv64 c live s args to (rv_seen q) (rv_seen u) (live_before n S) S st.state
-          record {
-            before = before;
-            needed = λ v lt l. still-live n S (v + 3) (unwritten v lt) (sym (returns args calls (v + 3)) ∙ l);
-            kept = λ v lt. kept (portable_register Riscv64 (v + 3)) ((apart.link 1 refl).portable (v + 3) (omega (arith, lt)));
-            pointer = kept 8 (λ z. cc);
-            stack = kept 2 (λ z. cc) ∙ frame.stack;
-            link = link ∙ ap (λ j. c.place (j + 1)) (sym at);
-            arguments = record { is = λ j x lt z. kept (slice_index (argument_registers Riscv64) j) ((apart.link 1 refl).argument j lt) ∙ held.is j x lt z };
-            outgoing = subst (λ g. HasArguments Riscv64 g (lowest s.frame) args) (sym bytes) stacked;
-            bytes = λ a z. ap (λ g. g a) bytes;
-          }
-          (ap (is_inside c) at-home.1.entry ∙ outer-is (home c.nodes.nodes k) k entry)
-          record {
-            few = (shaped c.nodes t.well).few;
-            fits = goes-fits c i n t s s' [] at (omega (arith, st.state.seen.low, st.state.mark)) (omega (arith, st.state.seen.high, st.state.mark)) st.state.fits goes';
-            seen = pass.keeps st.state.seen;
-            here = there ∙ ap c.place (sym at-home.1.entry);
-            mark = mark ∙ st.state.mark;
-          } in
-          inr (subst (λ o. Leads (rv_processor code trash) c live (live_behind live n S s) i o out q) (sym goes')
-          (passages-lead (rv_processor code trash) c live (live_behind live n S s) i m (Goes s' []) out q u pass few (λ z. absurd (omega (arith, z, some))) (λ z. some) st.wrote
-          (subst (λ b. Stands (rv_processor code trash) c live s' (out ++ []) u (if b then live (at_call s.frame) else S)) (sym (stays-frame n.op calls)) record { runs = runs; wrote = ap (λ z. z.out) (sym pass.leads) ∙ pass.silent m (omega arith) ∙ st.wrote ∙ sym (append-nil out); state = agree })))
-
--- ---- by a jump that links
-module _ (code : List ℕ) (trash : ℕ) (c : Code) (i : ℕ) (n : Node) (l : Label) (S : ℕ → Bool) (w : HasPlaces 4 c) (t : IsInText c i n) (k : StandsInCode code trash c i (call_code (slice_index c.addresses) (c.place i) l)) (inside : is_inside c i ≡ true) (calls : is_call n.op ≡ true)
-    (unwritten : (v : ℕ) → v < 3 → numbered (is_written n) (v + 3) ≡ false) (target : IsEntry c.nodes (place_of c.nodes.places l))
-    (live : Frame → ℕ → Bool) (s : State) (returns : ReturnsTo live n S s) (out : List ℕ) (q : Run CpuState) (at : s.at ≡ i) (st : Stands (rv_processor code trash) c live s out q (live_before n S))
-    (args : List ℕ) (held : HoldsArguments Riscv64 q.state.registers args) (stacked : HasArguments Riscv64 q.state.bytes (lowest s.frame) args) where
-  here : q.state.pc ≡ c.place i
-  here = st.state.here ∙ ap c.place at
-
-  begins : RunsAt (c.place i) 1 0 q
-  begins = begins-at code trash c i n (call_code (slice_index c.addresses) (c.place i) l) q w t k st.runs here
-
-  within : target.node < length c.nodes.nodes
-  within = home_within c.nodes.nodes target.node target.node target.entry
-
-  abbrev e : Effect CpuState
-  e = goes (c.place target.node) (put q.state.registers 1 (add_words q.state.pc 4)) q.state.bytes q.state.mark
-
-  does : act (instr.Jal 1 (pos (slice_index c.addresses l.0) -ℤ pos (c.place i))) q.state ≡ e
-  does =
-      let high = w.high target.node (omega (arith, within)) in
-      let bound : IsBound c.nodes l.0 (place.Node target.node) = bound-at c.nodes.places l (place.Node target.node) target.place in
-      ap (λ p. act (instr.Jal 1 (pos (slice_index c.addresses l.0) -ℤ pos p)) q.state) (sym here)
-      ∙ ap (λ p. act (instr.Jal 1 (pos p -ℤ pos q.state.pc)) q.state) (w.bound l.0 target.node bound)
-      ∙ jumps-there q.state 1 (c.place target.node) (omega (arith, begins.high, here)) (omega (arith, high)) (w.aligned target.node (omega (arith, within)) (inl (l.0, bound)))
-
-  pass : Passes (rv_processor code trash) c i 1 q (after q e)
-  pass = subst (λ z. Passes (rv_processor code trash) c i 1 q (after q z)) does (one-passes code trash c i [] (instr.Jal 1 (pos (slice_index c.addresses l.0) -ℤ pos (c.place i))) [] q k st.runs (here ∙ omega arith))
-
-  pub label-called : step c.nodes c.shape c.addresses s ≡ call_node_step (text c.nodes c.shape c.addresses) s args target.node
-      → (step c.nodes c.shape c.addresses s ≡ Undefined) ⊎ Leads (rv_processor code trash) c live (live_behind live n S s) i (step c.nodes c.shape c.addresses s) out q
-  label-called steps = enters code trash c i n S w t inside calls unwritten live s returns out q (after q e) at st args held stacked 1 pass (omega arith) (omega arith)
-      (λ r ne. put-other q.state.registers 1 _ r ne) refl refl (put-same q.state.registers 1 _ ∙ pc-next q.state.pc (omega (arith, begins.high, here)) ∙ omega (arith, here, k.node.next))
-      target.node target.entry refl (runs-there (c.place target.node) (w.low target.node (omega (arith, within)))) steps
-
-module _ (code : List ℕ) (trash : ℕ) (c : Code) (i : ℕ) (l : Label) (line : ℕ) (S : ℕ → Bool) (w : HasPlaces 4 c) where
-  calls-carried : IsInText c i (call_node l line) → StandsInCode code trash c i (call_code (slice_index c.addresses) (c.place i) l) → CarriesNode (rv_processor code trash) c i (call_node l line) S
-  calls-carried t k live s returns out q at st =
-      let target = t.well.calls i (call_node l line) l [] t.here refl refl in
-      label-called code trash c i (call_node l line) l S w t k (stands-inside c i (call_node l line) t refl refl) refl saved target live s returns out q at st [] record { is = λ j x lt z. cc } record { is = λ j x lt z. cc }
-      (ap (λ x. step_at (text c.nodes c.shape c.addresses) x s) (ap (slice_get c.nodes.nodes) at ∙ t.here) ∙ ap (λ o. call_node_step (text c.nodes c.shape c.addresses) s [] (node_in o)) target.place)
-    where
-      saved : (v : ℕ) → v < 3 → numbered (is_written (call_node l line)) (v + 3) ≡ false
-      saved zero lt = refl
-      saved (suc zero) lt = refl
-      saved (suc (suc zero)) lt = refl
-      saved (suc (suc (suc v))) lt = absurd (omega (arith, lt))
-
-  finishes-carried : IsInText c i (finish_node l line) → StandsInCode code trash c i (call_code (slice_index c.addresses) (c.place i) l) → CarriesNode (rv_processor code trash) c i (finish_node l line) S
-  finishes-carried t k live s returns out q at st =
-      let target = t.well.calls i (finish_node l line) l [] t.here refl refl in
-      label-called code trash c i (finish_node l line) l S w t k (stands-inside c i (finish_node l line) t refl refl) refl saved target live s returns out q at st s.pushed st.state.pushed st.state.outgoing
-      (ap (λ x. step_at (text c.nodes c.shape c.addresses) x s) (ap (slice_get c.nodes.nodes) at ∙ t.here) ∙ ap (λ o. call_node_step (text c.nodes c.shape c.addresses) s s.pushed (node_in o)) target.place)
-    where
-      saved : (v : ℕ) → v < 3 → numbered (is_written (finish_node l line)) (v + 3) ≡ false
-      saved zero lt = refl
-      saved (suc zero) lt = refl
-      saved (suc (suc zero)) lt = refl
-      saved (suc (suc (suc v))) lt = absurd (omega (arith, lt))
-
-pub calls-carry : CallsCarry
-calls-carry code trash c i l line S w t k = calls-carried code trash c i l line S w t k
-
-pub finishes-carry : FinishesCarry
-finishes-carry code trash c i l line S w t k = finishes-carried code trash c i l line S w t k
+  pub enters-hosts : EntersHosts (rv_processor code trash) rv_ready
+  enters-hosts = record {
+    gives = λ q name stack back v d to xs arr e.
+        let z = does q name stack back (Gives v d to xs) arr e in
+        let u : Run CpuState = after q (host_effect (Gives v d to xs) trash q.state) in
+        let sound : IsSound u.state = subst (λ (r : Run CpuState). IsSound r.state) (sym (went q (effect code trash q.state) arr.runs) ∙ z) (stays-sound code trash q.state bytes word record { pc = arr.small; words = arr.seen.words; bytes = arr.seen.bytes; mark = arr.seen.high }) in
+        subst (λ r. Answers (rv_processor code trash) stack back v d to xs q r) (sym z) record {
+          runs = λ low. ap (λ x. status_of (arrived x)) arr.link ∙ runs-there back low;
+          out = refl;
+          here = arr.link;
+          pointer = arr.pointer;
+          result = refl;
+          kept = λ x k ne. kept-behind q.state.registers v x k;
+          memory_is = λ a. refl;
+          mark = refl;
+          words = sound.words;
+          small = sound.bytes;
+          high = sound.mark;
+        };
+    exits = λ q name stack back status arr e.
+        let z = does q name stack back (Exits status) arr e in
+        (ap (λ (r : Run CpuState). status_of r.progress) z, ap (λ (r : Run CpuState). r.out) z ∙ append-nil q.out);
+  }

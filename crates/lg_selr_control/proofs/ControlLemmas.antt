@@ -28,7 +28,7 @@ use Rattle.lg_carry.specs.FinalNodes.{Code}
 use Rattle.lg_carry.specs.NodeCode.{CarriesNode}
 use Rattle.lg_carry_rv.specs.Numbers.{number_code}
 use Rattle.lg_carry.specs.TextNodes.{IsInText, HasPlaces, IsFrameOf}
-use Rattle.lg_carry_rv.specs.RvRows.{rv_processor}
+use Rattle.lg_carry_rv.specs.RvRows.{rv_processor, rv_rows}
 use Rattle.lg_selr_items.specs.Items.{bytes_in, settled, ones}
 use Rattle.lg_selr_items.proofs.ItemLemmas.{settled-append, settled-ones, words-ones, ones-append}
 use Rattle.lg_selr_control.specs.Standing.{StandsInCode}
@@ -36,20 +36,28 @@ use Rattle.lg_selr_control.specs.Branches.{jump_unless, failing, left_of, right_
 use Rattle.lg_selr_control.specs.SumBranches.{sum_code, staying}
 use Rattle.lg_selr_control.specs.Returns.{return_code}
 use Rattle.lg_selr_control.specs.Prologs.{prolog_code}
+use Rattle.lg_rv.specs.Spelling.{IsInstr}
+use Rattle.lg_sel_nodes.specs.Leaps as leaps
+use Rattle.lg_sel_nodes.proofs.CallLemmas.{calls-carry, finishes-carry}
+use Rattle.lg_sel_nodes.proofs.HostLemmas.{host-calls-carry, host-finishes-carry}
+use Rattle.lg_sel_control.proofs.RegisterLeapLemmas.{register-jumps-carry, register-calls-carry, register-finishes-carry}
+use Rattle.lg_sel_control.proofs.SilentLemmas.{silent-nodes-carry}
+use Rattle.lg_sel_control.proofs.WalkLemmas.{jumps-carry, alignments-carry}
 use Rattle.lg_selr_control.specs.Alignments.{align_code}
+use Rattle.lg_selr_control.specs.Calls.{call_code}
+use Rattle.lg_selr_control.specs.HostCalls.{host_code, rv_ready}
+use Rattle.lg_selr_control.specs.Jumps.{jump_code}
+use Rattle.lg_selr_control.specs.RegisterLeaps.{register_jump_code, register_call_code}
+use Rattle.lg_selr_control.specs.Targets.{IsRv}
+use Rattle.lg_selr_control.proofs.CallLemmas.{entry-near}
+use Rattle.lg_selr_control.proofs.TargetLemmas.{is-target, has-places}
 use Rattle.lg_selr_control.specs.ControlItems.{jump_unless_items, control_items, is_control}
 use Rattle.lg_selr_values.specs.ValueLaws.{AreWords}
 use Rattle.lg_selr_control.specs.ControlLaws.{ends_in_label, ControlNodesCarry}
-use Rattle.lg_selr_control.proofs.AlignLemmas.{alignments-carry}
 use Rattle.lg_selr_control.proofs.BranchLemmas.{branches-carry, number-branches-carry}
-use Rattle.lg_selr_control.proofs.CallLemmas.{calls-carry, finishes-carry}
-use Rattle.lg_selr_control.proofs.HostNodeLemmas.{is-entry, host-calls-carry, host-finishes-carry}
-use Rattle.lg_selr_control.proofs.JumpLemmas.{jumps-carry}
 use Rattle.lg_selr_control.proofs.PrologLemmas.{prologs-carry}
-use Rattle.lg_selr_control.proofs.RegisterLeapLemmas.{register-jumps-carry, register-calls-carry, register-finishes-carry}
 use Rattle.lg_selr_control.proofs.ResultLemmas.{retrs-carry, retis-carry, reti-labels-carry}
 use Rattle.lg_selr_control.proofs.ReturnLemmas.{rets-carry, epilogs-carry}
-use Rattle.lg_selr_control.proofs.SilentLemmas.{silent-nodes-carry}
 use Rattle.lg_selr_control.proofs.SumBranchLemmas.{sum-branches-carry, number-sum-branches-carry}
 
 -- ---- the instructions of items
@@ -84,7 +92,7 @@ never-sum true false e = cc
 never-sum false b e = cc
 
 pub host-small : (name : HostName) → host_address name < 2 ^ 64
-host-small name = let x = (is-entry name).small in omega (arith, x.0)
+host-small name = let x = entry-near name in omega (arith, x)
 
 -- ---- the nodes
 module _ (code : List ℕ) (trash : ℕ) (c : Code) (i frame line : ℕ) (S : ℕ → Bool) (w : HasPlaces 4 c) (is-frame : IsFrameOf c i frame) where
@@ -96,6 +104,13 @@ module _ (code : List ℕ) (trash : ℕ) (c : Code) (i frame line : ℕ) (S : �
 
   abbrev items-of : Op → List Operand → List Instr
   items-of o xs = settled to (c.place i) (control_items o xs frame (c.place i))
+
+  -- the code is that of a target
+  rv : {is : List Instr} → StandsInCode code trash c i is → IsRv code trash
+  rv k = is-target code trash k.small k.bytes k.word
+
+  places : leaps.HasPlaces (rv_rows code trash) c
+  places = has-places code trash c w
 
   -- a list of instructions in place of the items
   as-code : (is js : List Instr) → is ≡ js → StandsInCode code trash c i is → StandsInCode code trash c i js
@@ -137,37 +152,37 @@ module _ (code : List ℕ) (trash : ℕ) (c : Code) (i frame line : ℕ) (S : �
 
   jump : (xs : List Operand) → admit (forms_of (op.Control control.Jmp last_operand.Immediate)) xs ≡ true → IsInText c i (node (op.Control control.Jmp last_operand.Immediate) xs) → StandsInCode code trash c i (items-of (op.Control control.Jmp last_operand.Immediate) xs)
       → CarriesNode (rv_processor code trash) c i (node (op.Control control.Jmp last_operand.Immediate) xs) S
-  jump (operand.Label l ∷ []) h t k = jumps-carry code trash c i l line S w t k
+  jump (operand.Label l ∷ []) h t k = jumps-carry (rv_rows code trash) IsInstr (rv k).rows jump_code (rv k).jumps c i l line S places t k.node
   jump xs h t k = absurd (differ h)
 
   call : (xs : List Operand) → admit (forms_of (op.Control control.Call last_operand.Immediate)) xs ≡ true → IsInText c i (node (op.Control control.Call last_operand.Immediate) xs) → StandsInCode code trash c i (items-of (op.Control control.Call last_operand.Immediate) xs)
       → CarriesNode (rv_processor code trash) c i (node (op.Control control.Call last_operand.Immediate) xs) S
-  call (operand.Label l ∷ []) h t k = calls-carry code trash c i l line S w t k
-  call (operand.Host name ∷ []) h t k = host-calls-carry code trash c i name line S w t k
+  call (operand.Label l ∷ []) h t k = calls-carry (rv_rows code trash) IsInstr call_code (rv k).calls c i l line S places t frame is-frame k.node
+  call (operand.Host name ∷ []) h t k = host-calls-carry (rv_rows code trash) rv_ready IsInstr (rv k).hosts host_code (rv k).host_calls c i name line S places t frame is-frame k.node
   call xs h t k = absurd (differ h)
 
   finish : (xs : List Operand) → admit (forms_of (op.Control control.Finish last_operand.Immediate)) xs ≡ true → IsInText c i (node (op.Control control.Finish last_operand.Immediate) xs) → StandsInCode code trash c i (items-of (op.Control control.Finish last_operand.Immediate) xs)
       → CarriesNode (rv_processor code trash) c i (node (op.Control control.Finish last_operand.Immediate) xs) S
-  finish (operand.Label l ∷ []) h t k = finishes-carry code trash c i l line S w t k
-  finish (operand.Host name ∷ []) h t k = host-finishes-carry code trash c i name line S w t k
+  finish (operand.Label l ∷ []) h t k = finishes-carry (rv_rows code trash) IsInstr call_code (rv k).calls c i l line S places t frame is-frame k.node
+  finish (operand.Host name ∷ []) h t k = host-finishes-carry (rv_rows code trash) rv_ready IsInstr (rv k).hosts host_code (rv k).host_calls c i name line S places t frame is-frame k.node
   finish xs h t k = absurd (differ h)
 
   -- jumps and calls of the word of a register
   register-jump : (xs : List Operand) → admit (forms_of (op.Control control.Jmp last_operand.Register)) xs ≡ true → IsInText c i (node (op.Control control.Jmp last_operand.Register) xs) → StandsInCode code trash c i (items-of (op.Control control.Jmp last_operand.Register) xs)
       → CarriesNode (rv_processor code trash) c i (node (op.Control control.Jmp last_operand.Register) xs) S
-  register-jump (operand.Reg a ∷ []) h t k = register-jumps-carry code trash c i a line S w t k
+  register-jump (operand.Reg a ∷ []) h t k = register-jumps-carry (rv_rows code trash) IsInstr (rv k).rows register_jump_code (rv k).register_jumps c i a line frame S places t is-frame k.node
   register-jump (x ∷ y ∷ ys) h t k = absurd (never (admits form.Read x) h)
   register-jump xs h t k = absurd (differ h)
 
   register-call : (xs : List Operand) → admit (forms_of (op.Control control.Call last_operand.Register)) xs ≡ true → IsInText c i (node (op.Control control.Call last_operand.Register) xs) → StandsInCode code trash c i (items-of (op.Control control.Call last_operand.Register) xs)
       → CarriesNode (rv_processor code trash) c i (node (op.Control control.Call last_operand.Register) xs) S
-  register-call (operand.Reg a ∷ []) h t k = register-calls-carry code trash c i a line S w t k
+  register-call (operand.Reg a ∷ []) h t k = register-calls-carry (rv_rows code trash) rv_ready IsInstr (rv k).hosts register_call_code (rv k).register_calls (rv k).register_host_calls c i a line frame S places t is-frame k.node
   register-call (x ∷ y ∷ ys) h t k = absurd (never (admits form.Read x) h)
   register-call xs h t k = absurd (differ h)
 
   register-finish : (xs : List Operand) → admit (forms_of (op.Control control.Finish last_operand.Register)) xs ≡ true → IsInText c i (node (op.Control control.Finish last_operand.Register) xs) → StandsInCode code trash c i (items-of (op.Control control.Finish last_operand.Register) xs)
       → CarriesNode (rv_processor code trash) c i (node (op.Control control.Finish last_operand.Register) xs) S
-  register-finish (operand.Reg a ∷ []) h t k = register-finishes-carry code trash c i a line S w t k
+  register-finish (operand.Reg a ∷ []) h t k = register-finishes-carry (rv_rows code trash) rv_ready IsInstr (rv k).hosts register_call_code (rv k).register_calls (rv k).register_host_calls c i a line frame S places t is-frame k.node
   register-finish (x ∷ y ∷ ys) h t k = absurd (never (admits form.Read x) h)
   register-finish xs h t k = absurd (differ h)
 
@@ -182,7 +197,7 @@ module _ (code : List ℕ) (trash : ℕ) (c : Code) (i frame line : ℕ) (S : �
   ret last xs h v t k = absurd (differ h)
 
   align : (xs : List Operand) → admit (forms_of (op.Plain plain.Align)) xs ≡ true → IsInText c i (node (op.Plain plain.Align) xs) → StandsInCode code trash c i (items-of (op.Plain plain.Align) xs) → CarriesNode (rv_processor code trash) c i (node (op.Plain plain.Align) xs) S
-  align (operand.Number n ∷ []) h t k = alignments-carry code trash c i n line S w t (as-code _ _ (settled-ones to (c.place i) (align_code (c.place i) n)) k)
+  align (operand.Number n ∷ []) h t k = alignments-carry (rv_rows code trash) IsInstr (rv k).rows align_code (rv k).alignments c i n line S places t (as-code _ _ (settled-ones to (c.place i) (align_code (c.place i) n)) k).node
   align (operand.Number n ∷ y ∷ ys) h t k = absurd (never (is_alignment n) h)
   align xs h t k = absurd (differ h)
 
@@ -215,10 +230,10 @@ module _ (code : List ℕ) (trash : ℕ) (c : Code) (i frame line : ℕ) (S : �
   by-op (op.Plain plain.Epilog) xs h v e t k = with-none (op.Plain plain.Epilog) xs (none xs (formed (op.Plain plain.Epilog) xs t)) t k (λ t' k'. epilogs-carry code trash c i line S w t' k')
   by-op (op.Plain plain.Ret) xs h v e t k = with-none (op.Plain plain.Ret) xs (none xs (formed (op.Plain plain.Ret) xs t)) t k (λ t' k'. rets-carry code trash c i line S w t' k')
   by-op (op.Plain plain.Align) xs h v e t k = align xs (formed (op.Plain plain.Align) xs t) t k
-  by-op (op.Plain plain.Prepare) xs h v e t k = silent-nodes-carry code trash c i (node (op.Plain plain.Prepare) xs) S refl t k
-  by-op (op.Plain plain.Ellipsis) xs h v e t k = silent-nodes-carry code trash c i (node (op.Plain plain.Ellipsis) xs) S refl t k
-  by-op (op.Plain plain.Arg) xs h v e t k = silent-nodes-carry code trash c i (node (op.Plain plain.Arg) xs) S refl t k
-  by-op (op.Plain plain.Allocai) xs h v e t k = silent-nodes-carry code trash c i (node (op.Plain plain.Allocai) xs) S refl t k
+  by-op (op.Plain plain.Prepare) xs h v e t k = silent-nodes-carry (rv_rows code trash) IsInstr (rv k).rows c i (node (op.Plain plain.Prepare) xs) S refl t k.node
+  by-op (op.Plain plain.Ellipsis) xs h v e t k = silent-nodes-carry (rv_rows code trash) IsInstr (rv k).rows c i (node (op.Plain plain.Ellipsis) xs) S refl t k.node
+  by-op (op.Plain plain.Arg) xs h v e t k = silent-nodes-carry (rv_rows code trash) IsInstr (rv k).rows c i (node (op.Plain plain.Arg) xs) S refl t k.node
+  by-op (op.Plain plain.Allocai) xs h v e t k = silent-nodes-carry (rv_rows code trash) IsInstr (rv k).rows c i (node (op.Plain plain.Allocai) xs) S refl t k.node
   by-op o xs h v e t k = absurd (differ h)
 
 pub control-nodes-carry : ControlNodesCarry

@@ -39,9 +39,11 @@ use Rattle.lg_carry.specs.TextNodes.{IsInText, HasPlaces}
 use Rattle.lg_selr_control.specs.Standing.{StandsInCode}
 use Rattle.lg_selr_control.specs.Prologs.{prolog_node, stored_registers, fall_code, prolog_code, PrologsCarry}
 use Rattle.lg_selr_control.proofs.ChainLemmas.{RunsAt, next-at, Chain, chain-more, chain-passes, straight-block, begins-at}
-use Rattle.lg_selr_control.proofs.JumpLemmas.{outer-is}
-use Rattle.lg_selr_control.proofs.LiveLemmas.{unwritten, still-live}
-use Rattle.lg_selr_control.proofs.StandingLemmas.{next-inside, goes-fits, spelled-size}
+use Rattle.lg_sel_nodes.proofs.LeapLemmas.{outer-is}
+use Rattle.lg_sel_nodes.proofs.LiveLemmas.{unwritten, still-live}
+use Rattle.lg_sel_nodes.proofs.LeapLemmas.{next-inside}
+use Rattle.lg_sel_nodes.proofs.StraightLemmas.{text-keeps}
+use Rattle.lg_selr_control.proofs.StandingLemmas.{spelled-size}
 use Rattle.lg_selr_control.proofs.StoreLemmas.{word_below, with_stored, run_stored, stored-chain, stored-at, stored-registers, stored-mark, stored-bytes, stored-off, stored-word}
 use Rattle.lg_selr_control.proofs.WordLemmas.{put-other}
 use Rattle.lg_selr_control.proofs.StackFallLemmas.{Falls, falls}
@@ -211,7 +213,7 @@ module _ (code : List ℕ) (trash : ℕ) (c : Code) (i line : ℕ) (f : Function
       }
       record {
         few = (shaped c.nodes t.well).few;
-        fits = goes-fits c i n t s s' [] at (omega (arith, st.state.seen.low, st.state.mark)) (omega (arith, st.state.seen.high, st.state.mark)) st.state.fits goes';
+        fits = text-keeps c i n t s s' [] at (omega (arith, st.state.seen.low, st.state.mark)) (omega (arith, st.state.seen.high, st.state.mark)) st.state.fits goes';
         seen = pass.keeps st.state.seen;
         here = fall.at.here ∙ omega (arith, k.node.next, spelled-size (prolog_code size)) ∙ ap (λ j. c.place (j + 1)) (sym at);
         mark = fall.mark ∙ stored-mark sp low high.1 high.0 stored_registers 0 q ∙ st.state.mark;

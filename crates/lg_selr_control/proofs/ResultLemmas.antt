@@ -33,9 +33,9 @@ use Rattle.lg_selr_control.specs.Returns.{return_code, retr_node, reti_node, ret
 use Rattle.lg_carry_rv.proofs.RegisterLemmas.{given}
 use Rattle.lg_selr_control.proofs.ChainLemmas.{RunsAt, begins-at}
 use Rattle.lg_selr_control.proofs.ComputedLemmas.{computed-passes}
-use Rattle.lg_selr_control.proofs.OperandLemmas.{named-here, read-is-live, immediate-value}
+use Rattle.lg_sel_nodes.proofs.OperandLemmas.{named-here, read-is-live, immediate-value}
 use Rattle.lg_selr_control.proofs.ReturnLemmas.{returns-lead}
-use Rattle.lg_selr_control.proofs.StandingLemmas.{stands-inside}
+use Rattle.lg_sel_nodes.proofs.LeapLemmas.{stands-inside}
 use Rattle.lg_selr_control.proofs.WordLemmas.{put-same}
 
 -- a return with a word, which computing instructions in front put into x10

@@ -1,5 +1,5 @@
 -- Returns are carried.
-use Rattle.std.proofs.Common.{◌≡◌, ℕ, zero, suc, ◌+◌, ◌-◌, ◌*◌, ◌/◌, ◌%◌, ◌^◌, ◌<◌, ◌≤◌, inr, Bool, true, false, List, [], ◌∷◌, ◌++◌, Option, Some, None, refl, sym, ap, ◌∙◌, subst, arith, length, append-nil}
+use Rattle.std.proofs.Common.{◌≡◌, ℕ, zero, suc, ◌+◌, ◌-◌, ◌*◌, ◌%◌, ◌^◌, ◌<◌, ◌≤◌, inr, Bool, true, false, List, [], ◌∷◌, ◌++◌, Option, Some, None, refl, sym, ap, ◌∙◌, subst, arith, length, append-nil}
 use Rattle.std.specs.Prelude.{◌==◌, ℤ, pos, negsuc, slice_get, if◌then◌else◌, is_some}
 use Rattle.lg_base.specs.Conventions.{portable_register}
 use Rattle.lg_base.specs.Fields.{word_of}
@@ -21,7 +21,7 @@ use Rattle.lg_base.specs.declared.fault.FaultKind.TheVariants.{Align}
 use Rattle.lg_cpu.specs.Steps.{Run, after, arrived, faults, status_of}
 use Rattle.lg_cpu.specs.HostSteps.{put}
 use Rattle.lg_cpu.specs.States.{CpuState}
-use Rattle.lg_cpu.specs.RvStep.{read, goes, sets, loads, load_at, jump_to, act}
+use Rattle.lg_cpu.specs.RvStep.{read, goes, sets, loads, load_at, act}
 use Rattle.lg_meaning.specs.States.{Frame, State}
 use Rattle.lg_meaning.specs.Fits.{AreLinked}
 use Rattle.lg_meaning.specs.Steps.{Goes, leave, back_to, node_step}
@@ -45,7 +45,10 @@ use Rattle.lg_carry.specs.TextNodes.{IsInText, HasPlaces}
 use Rattle.lg_selr_control.specs.Standing.{StandsInCode}
 use Rattle.lg_selr_control.specs.Returns.{return_code, ret_node, epilog_node, RetsCarry, EpilogsCarry}
 use Rattle.lg_selr_control.proofs.ChainLemmas.{RunsAt, next-at, Chain, chain-end, chain-more, chain-passes, block-of, begins-at}
-use Rattle.lg_selr_control.proofs.StandingLemmas.{stands-inside, goes-fits, none-passed, then-passes}
+use Rattle.lg_sel_nodes.proofs.LeapLemmas.{stands-inside}
+use Rattle.lg_sel_nodes.proofs.StraightLemmas.{text-keeps}
+use Rattle.lg_selr_control.proofs.StandingLemmas.{none-passed, then-passes}
+use Rattle.lg_selr_control.proofs.WalkLemmas.{lands-there}
 use Rattle.lg_selr_control.proofs.WordLemmas.{runs-there}
 
 -- ---- words of the frame
@@ -78,14 +81,6 @@ stack-address sp low high = grind (arith, low, high)
 
 pointer-address : (sp : ℕ) → 0x3FF00010 + 272 ≤ sp → sp ≤ 0x40000000 → add_words (sp - 16) 0 ≡ sp - 16
 pointer-address sp low high = grind (arith, low, high)
-
--- a jump to a word
-pub even-there : (to : ℕ) → to < 2 ^ 62 → to % 4 ≡ 0 → add_words to 0 / 2 * 2 ≡ to
-even-there to lt even = grind (arith, lt, even)
-
-pub lands-there : (q : CpuState) (rd base to : ℕ) → read q.registers base ≡ to → to < 2 ^ 62 → to % 4 ≡ 0 → act (instr.Imm Jalr rd base (pos 0)) q ≡ goes to (put q.registers rd (add_words q.pc 4)) q.bytes q.mark
-lands-there q rd base to at lt even =
-    ap (λ x. jump_to q rd (add_words x 0 / 2 * 2)) at ∙ ap (jump_to q rd) (even-there to lt even) ∙ ap (λ b. if b then goes to (put q.registers rd (add_words q.pc 4)) q.bytes q.mark else faults q Align) (let e : (to % 4 == 0) ≡ true = rw even refl in e)
 
 -- the straight ones of a return
 abbrev six : List Instr
@@ -247,7 +242,7 @@ module _ (code : List ℕ) (trash : ℕ) (c : Code) (i : ℕ) (n : Node) (front 
       }
       record {
         few = (shaped c.nodes t.well).few;
-        fits = goes-fits c i n t s t' [] at (omega (arith, st.state.seen.low, st.state.mark)) (omega (arith, st.state.seen.high, st.state.mark)) st.state.fits goes';
+        fits = text-keeps c i n t s t' [] at (omega (arith, st.state.seen.low, st.state.mark)) (omega (arith, st.state.seen.high, st.state.mark)) st.state.fits goes';
         seen = pass.keeps st.state.seen;
         here = place;
         mark = h.mark ∙ st.state.mark;

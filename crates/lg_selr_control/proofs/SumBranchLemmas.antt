@@ -41,16 +41,17 @@ use Rattle.lg_carry.specs.TextNodes.{IsInText, HasPlaces}
 use Rattle.lg_carry_rv.specs.RvRows.{rv_processor, rv_seen}
 use Rattle.lg_carry_rv.proofs.NumberCodeLemmas.{numbers-are-loaded}
 use Rattle.lg_carry_rv.proofs.RegisterLemmas.{stands-for, number-few, register-nonzero, register-apart, only-number, given}
-use Rattle.lg_selr_control.specs.Immediates.{immediate}
+use Rattle.lg_sel_nodes.specs.Immediates.{immediate}
 use Rattle.lg_selr_control.specs.Standing.{StandsInCode}
 use Rattle.lg_selr_control.specs.SumBranches.{sum_code, staying, sum_branch_code, sum_branch_node, number_sum_branch_node, SumBranchesCarry, NumberSumBranchesCarry}
 use Rattle.lg_selr_control.proofs.BranchLemmas.{Prepared, read-kept, number-prepared}
 use Rattle.lg_selr_control.proofs.ChainLemmas.{RunsAt, begins-at}
 use Rattle.lg_selr_control.proofs.ComputedLemmas.{computed-passes}
-use Rattle.lg_selr_control.proofs.JumpLemmas.{Lands, jump-lands}
-use Rattle.lg_selr_control.proofs.LiveLemmas.{still-live}
-use Rattle.lg_selr_control.proofs.OperandLemmas.{named-here, named-later, read-is-live, immediate-value}
-use Rattle.lg_selr_control.proofs.StandingLemmas.{behind-prolog, next-inside, in-some, none-passed, then-passes}
+use Rattle.lg_sel_nodes.proofs.LeapLemmas.{Lands, jump-lands}
+use Rattle.lg_sel_nodes.proofs.LiveLemmas.{still-live}
+use Rattle.lg_sel_nodes.proofs.OperandLemmas.{named-here, named-later, read-is-live, immediate-value}
+use Rattle.lg_sel_nodes.proofs.LeapLemmas.{behind-prolog, next-inside, in-some}
+use Rattle.lg_selr_control.proofs.StandingLemmas.{none-passed, then-passes}
 use Rattle.lg_selr_control.proofs.SumLemmas.{sums, sum-computes}
 use Rattle.lg_selr_control.proofs.TwoWayLemmas.{two-ways-lead}
 

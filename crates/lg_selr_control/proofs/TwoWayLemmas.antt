@@ -36,8 +36,10 @@ use Rattle.lg_carry.specs.TextNodes.{IsInText, HasPlaces}
 use Rattle.lg_selr_control.specs.Standing.{StandsInCode}
 use Rattle.lg_selr_control.specs.Branches.{jump_unless}
 use Rattle.lg_selr_control.proofs.ChainLemmas.{RunsAt, next-at}
-use Rattle.lg_selr_control.proofs.JumpLemmas.{jumps-there, bound-at, Lands}
-use Rattle.lg_selr_control.proofs.StandingLemmas.{goes-fits, one-passes, then-passes, spelled-size, even-next}
+use Rattle.lg_sel_nodes.proofs.LeapLemmas.{bound-at, Lands}
+use Rattle.lg_selr_control.proofs.WalkLemmas.{jumps-there}
+use Rattle.lg_sel_nodes.proofs.StraightLemmas.{text-keeps}
+use Rattle.lg_selr_control.proofs.StandingLemmas.{one-passes, then-passes, spelled-size, even-next}
 use Rattle.lg_selr_control.proofs.WordLemmas.{runs-there, put-other, portable-some, argument-some}
 use Rattle.lg_meaning.specs.Addresses.{IsBound}
 
@@ -138,7 +140,7 @@ module _ (code : List ℕ) (trash : ℕ) (c : Code) (i : ℕ) (n : Node) (w : Ha
         let agree : StatesAgree Riscv64 c live (to s0 k') (rv_seen u) S' = quiet-agrees Riscv64 c live s (to s0 k') (rv_seen q) (rv_seen u) S S' st.state
         record {
           few = (shaped c.nodes t.well).few;
-          fits = goes-fits c i n t s (to s0 k') [] here (omega (arith, st.state.seen.low, st.state.mark)) (omega (arith, st.state.seen.high, st.state.mark)) st.state.fits goes';
+          fits = text-keeps c i n t s (to s0 k') [] here (omega (arith, st.state.seen.low, st.state.mark)) (omega (arith, st.state.seen.high, st.state.mark)) st.state.fits goes';
           seen = way.passes.keeps st.state.seen;
           here = way.here;
           before = ap (is_inside c) here ∙ inside;
@@ -168,7 +170,7 @@ module _ (code : List ℕ) (trash : ℕ) (c : Code) (i : ℕ) (n : Node) (w : Ha
         leads-to lands.node (lands.side ∙ inside) goes' (jumps lands.node bound within h)
       where
         within : lands.node < length c.nodes.nodes
-        within = (goes-fits c i n t s (to s0 lands.node) [] here (omega (arith, st.state.seen.low, st.state.mark)) (omega (arith, st.state.seen.high, st.state.mark)) st.state.fits goes').inside
+        within = (text-keeps c i n t s (to s0 lands.node) [] here (omega (arith, st.state.seen.low, st.state.mark)) (omega (arith, st.state.seen.high, st.state.mark)) st.state.fits goes').inside
     two-ways-lead false goes' h =
         let e : s.at + 1 ≡ i + 1 = ap (λ j. j + 1) here in
         leads-to (s.at + 1) (ap (is_inside c) e ∙ next) goes' (subst (λ j. Way code trash c i j q r) (sym e) (skips h))

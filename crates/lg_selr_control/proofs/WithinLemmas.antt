@@ -27,7 +27,7 @@ use Rattle.lg_selr_control.specs.Alignments.{padding, idle, align_code}
 use Rattle.lg_selr_control.specs.Branches.{bits_code}
 use Rattle.lg_selr_control.specs.ControlItems.{second_register, word_items, branch_items, sum_items, jump_items, call_items, result_items, ret_items, register_leap_items, leap_items, align_items, plain_items, control_items}
 use Rattle.lg_selr_control.specs.ControlItems as controls
-use Rattle.lg_selr_control.specs.Immediates.{immediate}
+use Rattle.lg_sel_nodes.specs.Immediates.{immediate}
 use Rattle.lg_selr_control.specs.Prologs.{stored_registers, stores_below, fall_code, prolog_code}
 use Rattle.lg_selr_control.specs.Returns.{return_code}
 use Rattle.lg_selr_control.specs.Retvals.{extension, retval_code, retval_items}

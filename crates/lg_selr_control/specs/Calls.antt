@@ -1,34 +1,8 @@
 -- `calli` and `finishi` of a label: a jump to the place of its `prolog` that links.
-use Rattle.std.specs.Prelude.{ℕ, Bool, pos, ◌-ℤ◌, List, [], ◌∷◌, slice_index}
-use Rattle.lg_op.specs.declared.op.Op.TheVariants as op
-use Rattle.lg_op.specs.declared.op.ControlOp.TheVariants as control
-use Rattle.lg_op.specs.declared.op.LastOperand.TheVariants as last_operand
-use Rattle.lg_op.specs.declared.operand.Label.{Label}
-use Rattle.lg_op.specs.declared.operand.Operand.TheVariants as operand
-use Rattle.lg_op.specs.declared.node.Node.{Node}
+use Rattle.std.specs.Prelude.{ℕ, pos, ◌-ℤ◌, List, [], ◌∷◌}
 use Rattle.lg_rv.specs.declared.instruction.Instr.{Instr}
 use Rattle.lg_rv.specs.declared.instruction.Instr.TheVariants as instr
-use Rattle.lg_carry.specs.FinalNodes.{Code}
-use Rattle.lg_carry.specs.NodeCode.{CarriesNode}
-use Rattle.lg_carry_rv.specs.RvRows.{rv_processor}
-use Rattle.lg_carry.specs.TextNodes.{IsInText, HasPlaces}
-use Rattle.lg_selr_control.specs.Standing.{StandsInCode}
 
-abbrev pub call_node : Label → ℕ → Node
-call_node l line = record { op = op.Control control.Call last_operand.Immediate; operands = operand.Label l ∷ []; line = line }
-
-abbrev pub finish_node : Label → ℕ → Node
-finish_node l line = record { op = op.Control control.Finish last_operand.Immediate; operands = operand.Label l ∷ []; line = line }
-
-abbrev pub call_code : (ℕ → ℕ) → ℕ → Label → List Instr
-call_code to at l = instr.Jal 1 (pos (to l.0) -ℤ pos at) ∷ []
-
-abbrev pub CallsCarry : Type 0
-CallsCarry =
-    (code : List ℕ) (trash : ℕ) (c : Code) (i : ℕ) (l : Label) (line : ℕ) (S : ℕ → Bool) → HasPlaces 4 c → IsInText c i (call_node l line) → StandsInCode code trash c i (call_code (slice_index c.addresses) (c.place i) l)
-    → CarriesNode (rv_processor code trash) c i (call_node l line) S
-
-abbrev pub FinishesCarry : Type 0
-FinishesCarry =
-    (code : List ℕ) (trash : ℕ) (c : Code) (i : ℕ) (l : Label) (line : ℕ) (S : ℕ → Bool) → HasPlaces 4 c → IsInText c i (finish_node l line) → StandsInCode code trash c i (call_code (slice_index c.addresses) (c.place i) l)
-    → CarriesNode (rv_processor code trash) c i (finish_node l line) S
+-- from an address to another one
+abbrev pub call_code : ℕ → ℕ → List Instr
+call_code from to = instr.Jal 1 (pos to -ℤ pos from) ∷ []

@@ -25,7 +25,7 @@ use Rattle.lg_selr_items.specs.Items.{ones}
 use Rattle.lg_selr_control.specs.Alignments.{align_code}
 use Rattle.lg_selr_control.specs.Branches.{failing, left_of, right_of, bits_code}
 use Rattle.lg_selr_control.specs.HostCalls.{host_code}
-use Rattle.lg_selr_control.specs.Immediates.{immediate}
+use Rattle.lg_sel_nodes.specs.Immediates.{immediate}
 use Rattle.lg_selr_control.specs.Prologs.{prolog_code}
 use Rattle.lg_selr_control.specs.RegisterLeaps.{register_leap_code}
 use Rattle.lg_selr_control.specs.Returns.{return_code}

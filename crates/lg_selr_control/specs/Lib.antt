@@ -5,12 +5,11 @@ pub mod ControlFits
 pub mod ControlItems
 pub mod ControlLaws
 pub mod HostCalls
-pub mod Immediates
 pub mod Jumps
 pub mod Prologs
 pub mod RegisterLeaps
 pub mod Returns
 pub mod Retvals
-pub mod SilentNodes
 pub mod Standing
 pub mod SumBranches
+pub mod Targets

@@ -21,7 +21,7 @@ use Rattle.lg_carry.specs.NodeCode.{CarriesNode}
 use Rattle.lg_carry_rv.specs.Numbers.{number_code, high_part, low_part}
 use Rattle.lg_carry_rv.specs.RvRows.{rv_processor}
 use Rattle.lg_carry.specs.TextNodes.{IsInText, HasPlaces}
-use Rattle.lg_selr_control.specs.Immediates.{immediate}
+use Rattle.lg_sel_nodes.specs.Immediates.{immediate}
 use Rattle.lg_selr_control.specs.Standing.{StandsInCode}
 
 -- x8 is FP, x1 the link, x2 the stack pointer; x9, x18 and x19 stand for V0, V1 and V2

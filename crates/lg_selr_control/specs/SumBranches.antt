@@ -22,7 +22,7 @@ use Rattle.lg_carry.specs.NodeCode.{CarriesNode}
 use Rattle.lg_carry_rv.specs.Numbers.{number_code}
 use Rattle.lg_carry.specs.TextNodes.{IsInText, HasPlaces}
 use Rattle.lg_carry_rv.specs.RvRows.{rv_processor}
-use Rattle.lg_selr_control.specs.Immediates.{immediate}
+use Rattle.lg_sel_nodes.specs.Immediates.{immediate}
 use Rattle.lg_selr_control.specs.Standing.{StandsInCode}
 use Rattle.lg_selr_control.specs.Branches.{jump_unless}
 

@@ -3,7 +3,13 @@
 ghost use Rattle.lg_selr_control.specs.Alignments.{AlignmentsAlign};
 ghost use Rattle.lg_selr_control.specs.ControlFits.{ControlItemsStay, ControlItemsFit};
 ghost use Rattle.lg_selr_control.specs.ControlLaws.{ControlNodesCarry};
+ghost use Rattle.lg_selr_control.specs.Targets.{IsTarget};
 ghost use Rattle.lg_selr_control.specs.Retvals.{RetvalItemsStay, RetvalsCarry, RetvalItemsFit};
+
+/// Jumps, calls and `.align` of RV64 do what the laws of every target ask of them.
+pub fn is_target()
+    ensures { IsTarget }
+{}
 
 /// Branches, jumps, calls, returns, `prolog`, `.align`, and nodes without code (`prepare`, `ellipsis`, `arg`, `allocai`) are carried by their
 /// items, once the labels have their addresses.

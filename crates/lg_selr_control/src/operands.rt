@@ -2,7 +2,7 @@
 
 ghost use Rattle.std.specs.Prelude.{◌≡◌, ◌≢◌, ◌<◌, ◌≤◌, []};
 ghost use Rattle.lg_selr_control.specs.ControlItems.{second_register, second_items, word_items};
-ghost use Rattle.lg_selr_control.specs.Immediates.{immediate};
+ghost use Rattle.lg_sel_nodes.specs.Immediates.{immediate};
 ghost use Rattle.lg_selr_items.specs.Items.{words_in};
 
 use lg_op::Operand;

@@ -1,0 +1,28 @@
+-- RV64IM is a target: what its code does wherever it stands.
+use Rattle.std.proofs.Common.{ℕ, List, refl}
+use Rattle.lg_carry.specs.FinalNodes.{Code}
+use Rattle.lg_carry.specs.TextNodes.{HasPlaces}
+use Rattle.lg_carry_rv.specs.RvRows.{rv_rows}
+use Rattle.lg_carry_rv.proofs.RowLemmas.{are-rows}
+use Rattle.lg_sel_nodes.specs.Leaps as leaps
+use Rattle.lg_selr_control.specs.Targets.{IsTarget}
+use Rattle.lg_selr_control.proofs.AlignLemmas.{alignments-walk}
+use Rattle.lg_selr_control.proofs.CallLemmas.{calls-lead, register-calls-lead, register-host-calls-lead, host-calls-lead, enters-hosts}
+use Rattle.lg_selr_control.proofs.WalkLemmas.{jumps-walk, register-jumps-walk}
+
+pub is-target : IsTarget
+is-target code trash small bytes word = record {
+  rows = are-rows code trash small bytes word;
+  jumps = jumps-walk code trash small bytes word;
+  alignments = alignments-walk code trash small bytes word;
+  register_jumps = register-jumps-walk code trash small bytes word;
+  calls = calls-lead code trash small bytes word;
+  host_calls = host-calls-lead code trash small bytes word;
+  register_calls = register-calls-lead code trash small bytes word;
+  register_host_calls = register-host-calls-lead code trash small bytes word;
+  hosts = enters-hosts code trash small bytes word;
+}
+
+-- an instruction may stand at each multiple of four
+pub has-places : (code : List ℕ) (trash : ℕ) (c : Code) → HasPlaces 4 c → leaps.HasPlaces (rv_rows code trash) c
+has-places code trash c w = record { unit = 4; units = λ pc e. rw e refl; nodes = w }
