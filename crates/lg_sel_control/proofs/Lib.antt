@@ -1,4 +1,5 @@
 pub mod LandingLemmas
 pub mod RegisterLeapLemmas
 pub mod SilentLemmas
+pub mod SumBranchLemmas
 pub mod WalkLemmas

@@ -1,3 +1,4 @@
 pub mod RegisterLeaps
 pub mod SilentNodes
+pub mod SumBranches
 pub mod Walks

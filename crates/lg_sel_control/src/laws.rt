@@ -2,10 +2,13 @@
 
 ghost use Rattle.std.specs.Prelude.{ℕ, Bool, List};
 ghost use Rattle.lg_base.specs.declared.host_name.HostName.{HostName};
+ghost use Rattle.lg_op.specs.declared.op.BranchSumOp.{BranchSumOp};
+ghost use Rattle.lg_op.specs.declared.operand.Operand.{Operand};
 ghost use Rattle.lg_op.specs.declared.operand.Reg.{Reg};
 ghost use Rattle.lg_sel_nodes.specs.Leaps.{EntersHosts};
 ghost use Rattle.lg_sel_control.specs.RegisterLeaps.{RegisterJumpsWalk, RegisterCallsLead, RegisterHostCallsLead, RegisterLeapsCarry, jmpr_node, callr_node, finishr_node};
 ghost use Rattle.lg_sel_control.specs.SilentNodes.{SilentNodesCarry};
+ghost use Rattle.lg_sel_control.specs.SumBranches.{SumBranchesLead, SumBranchesCarry};
 ghost use Rattle.lg_sel_control.specs.Walks.{JumpsWalk, JumpsCarry, AlignmentsWalk, AlignmentsCarry};
 
 use lg_sel_nodes::laws::Isa;
@@ -72,4 +75,18 @@ pub fn register_leaps_are_carried<T: RegisterLeaps>()
     ensures jumps { RegisterLeapsCarry T.rows T.fits T.jump jmpr_node }
     ensures calls { RegisterLeapsCarry T.rows T.fits T.call callr_node }
     ensures finishes { RegisterLeapsCarry T.rows T.fits T.call finishr_node }
+{}
+
+/// A target that branches on sums and differences.
+pub trait SumBranches: Isa {
+    /// The code of such a branch on a register and a second operand, in a frame of so many bytes, which stands at an address and leads to another one.
+    ghost branch: { ℕ → BranchSumOp → Reg → Operand → ℕ → ℕ → List Self.Instruction };
+
+    /// It leaves the sum or difference in the register, and leads there where the operation asks for it, and else behind itself.
+    ghost branches_lead: { SumBranchesLead Self.rows Self.scratch Self.fits branch };
+}
+
+/// A branch that adds or subtracts is carried by such code.
+pub fn sum_branches_are_carried<T: SumBranches>()
+    ensures { SumBranchesCarry T.rows T.scratch T.fits T.branch }
 {}
