@@ -32,7 +32,8 @@ use Rattle.lg_carry_rv.specs.RvRows.{rv_processor, rv_rows}
 use Rattle.lg_selr_items.specs.Items.{bytes_in, settled, ones}
 use Rattle.lg_selr_items.proofs.ItemLemmas.{settled-append, settled-ones, words-ones, ones-append}
 use Rattle.lg_selr_control.specs.Standing.{StandsInCode}
-use Rattle.lg_selr_control.specs.Branches.{jump_unless, failing, left_of, right_of, bits_code}
+use Rattle.lg_selr_control.specs.Branches.{failing, left_of, right_of, bits_code}
+use Rattle.lg_selr_control.specs.TwoWays.{jump_over, second_code, branch_code, sum_branch_code, rv_scratch}
 use Rattle.lg_selr_control.specs.SumBranches.{sum_code, staying}
 use Rattle.lg_selr_control.specs.Returns.{return_code}
 use Rattle.lg_selr_control.specs.Prologs.{prolog_code}
@@ -51,18 +52,18 @@ use Rattle.lg_selr_control.specs.RegisterLeaps.{register_jump_code, register_cal
 use Rattle.lg_selr_control.specs.Targets.{IsRv}
 use Rattle.lg_selr_control.proofs.CallLemmas.{entry-near}
 use Rattle.lg_selr_control.proofs.TargetLemmas.{is-target, has-places}
-use Rattle.lg_selr_control.specs.ControlItems.{jump_unless_items, control_items, is_control}
+use Rattle.lg_selr_control.specs.ControlItems.{second_register, jump_unless_items, control_items, is_control}
 use Rattle.lg_selr_values.specs.ValueLaws.{AreWords}
 use Rattle.lg_selr_control.specs.ControlLaws.{ends_in_label, ControlNodesCarry}
-use Rattle.lg_selr_control.proofs.BranchLemmas.{branches-carry, number-branches-carry}
+use Rattle.lg_sel_nodes.proofs.BranchLemmas.{branches-carry}
 use Rattle.lg_selr_control.proofs.PrologLemmas.{prologs-carry}
 use Rattle.lg_selr_control.proofs.ResultLemmas.{retrs-carry, retis-carry, reti-labels-carry}
 use Rattle.lg_selr_control.proofs.ReturnLemmas.{rets-carry, epilogs-carry}
-use Rattle.lg_selr_control.proofs.SumBranchLemmas.{sum-branches-carry, number-sum-branches-carry}
+use Rattle.lg_sel_control.proofs.SumBranchLemmas.{sum-branches-carry}
 
 -- ---- the instructions of items
 -- a branch over a jump, behind two lists of instructions
-unless-settled : (to : ℕ → ℕ) (at : ℕ) (xs ys : List Instr) (o : BranchOp) (a b : ℕ) (l : Label) → settled to at (ones xs ++ (ones ys ++ jump_unless_items o a b l)) ≡ jump_unless to at (xs ++ ys) o a b l
+unless-settled : (to : ℕ → ℕ) (at : ℕ) (xs ys : List Instr) (o : BranchOp) (a b : ℕ) (l : Label) → settled to at (ones xs ++ (ones ys ++ jump_unless_items o a b l)) ≡ jump_over (xs ++ ys) o a b at (to l.0)
 unless-settled to at xs ys o a b l =
     let rest = jump_unless_items o a b l in
     let front = xs ++ ys in
@@ -122,11 +123,14 @@ module _ (code : List ℕ) (trash : ℕ) (c : Code) (i frame line : ℕ) (S : �
   branch : (o : Condition) (last : LastOperand) (xs : List Operand) → admit (forms_of (op.Branch o last)) xs ≡ true → AreWords c.addresses xs → ends_in_label xs ≡ false → IsInText c i (node (op.Branch o last) xs)
       → StandsInCode code trash c i (items-of (op.Branch o last) xs) → CarriesNode (rv_processor code trash) c i (node (op.Branch o last) xs) S
   branch o last_operand.Register (operand.Label l ∷ operand.Reg a ∷ operand.Reg b ∷ []) h v e t k =
-      branches-carry code trash c i o l a b line S w t (as-code _ _ (unless-settled to (c.place i) [] (bits_code o (register_of Riscv64 a) (register_of Riscv64 b)) (failing o) (left_of o (register_of Riscv64 a) (register_of Riscv64 b)) (right_of o (register_of Riscv64 a) (register_of Riscv64 b)) l) k)
+      branches-carry (rv_rows code trash) rv_scratch IsInstr (rv k).isa branch_code (rv k).branches c i o l a (operand.Reg b) line frame S tt places t is-frame
+      (as-code _ _ (unless-settled to (c.place i) (second_code (operand.Reg b)) (bits_code o (register_of Riscv64 a) (second_register (operand.Reg b))) (failing o) (left_of o (register_of Riscv64 a) (second_register (operand.Reg b))) (right_of o (register_of Riscv64 a) (second_register (operand.Reg b))) l) k).node
   branch o last_operand.Immediate (operand.Label l ∷ operand.Reg a ∷ operand.Number x ∷ []) h v e t k =
-      number-branches-carry code trash c i o l a (operand.Number x) x line S refl v.1.1.0 w t (as-code _ _ (unless-settled to (c.place i) (number_code 1 x) (bits_code o (register_of Riscv64 a) 1) (failing o) (left_of o (register_of Riscv64 a) 1) (right_of o (register_of Riscv64 a) 1) l) k)
+      branches-carry (rv_rows code trash) rv_scratch IsInstr (rv k).isa branch_code (rv k).branches c i o l a (operand.Number x) line frame S (x, refl, v.1.1.0) places t is-frame
+      (as-code _ _ (unless-settled to (c.place i) (second_code (operand.Number x)) (bits_code o (register_of Riscv64 a) (second_register (operand.Number x))) (failing o) (left_of o (register_of Riscv64 a) (second_register (operand.Number x))) (right_of o (register_of Riscv64 a) (second_register (operand.Number x))) l) k).node
   branch o last_operand.Immediate (operand.Label l ∷ operand.Reg a ∷ operand.Host name ∷ []) h v e t k =
-      number-branches-carry code trash c i o l a (operand.Host name) (host_address name) line S refl (host-small name) w t (as-code _ _ (unless-settled to (c.place i) (number_code 1 (host_address name)) (bits_code o (register_of Riscv64 a) 1) (failing o) (left_of o (register_of Riscv64 a) 1) (right_of o (register_of Riscv64 a) 1) l) k)
+      branches-carry (rv_rows code trash) rv_scratch IsInstr (rv k).isa branch_code (rv k).branches c i o l a (operand.Host name) line frame S (host_address name, refl, host-small name) places t is-frame
+      (as-code _ _ (unless-settled to (c.place i) (second_code (operand.Host name)) (bits_code o (register_of Riscv64 a) (second_register (operand.Host name))) (failing o) (left_of o (register_of Riscv64 a) (second_register (operand.Host name))) (right_of o (register_of Riscv64 a) (second_register (operand.Host name))) l) k).node
   branch o last_operand.Immediate (operand.Label l ∷ operand.Reg a ∷ operand.Label m ∷ []) h v e t k = absurd (differs e)
   branch o last (operand.Label l ∷ operand.Reg a ∷ x ∷ y ∷ ys) h v e t k = absurd (never (admits (last_form last) x) h)
   branch o last xs h v e t k = absurd (differ h)
@@ -134,11 +138,14 @@ module _ (code : List ℕ) (trash : ℕ) (c : Code) (i frame line : ℕ) (S : �
   sum-branch : (o : BranchSumOp) (last : LastOperand) (xs : List Operand) → admit (forms_of (op.BranchSum o last)) xs ≡ true → AreWords c.addresses xs → ends_in_label xs ≡ false → IsInText c i (node (op.BranchSum o last) xs)
       → StandsInCode code trash c i (items-of (op.BranchSum o last) xs) → CarriesNode (rv_processor code trash) c i (node (op.BranchSum o last) xs) S
   sum-branch o last_operand.Register (operand.Label l ∷ operand.Reg a ∷ operand.Reg b ∷ []) h v e t k =
-      sum-branches-carry code trash c i o l a b line S w t (as-code _ _ (unless-settled to (c.place i) [] (sum_code o (register_of Riscv64 a) (register_of Riscv64 b)) (staying o) 31 0 l) k)
+      sum-branches-carry (rv_rows code trash) rv_scratch IsInstr (rv k).isa sum_branch_code (rv k).sum_branches c i o l a (operand.Reg b) line frame S tt places t is-frame
+      (as-code _ _ (unless-settled to (c.place i) (second_code (operand.Reg b)) (sum_code o (register_of Riscv64 a) (second_register (operand.Reg b))) (staying o) 31 0 l) k).node
   sum-branch o last_operand.Immediate (operand.Label l ∷ operand.Reg a ∷ operand.Number x ∷ []) h v e t k =
-      number-sum-branches-carry code trash c i o l a (operand.Number x) x line S refl v.1.1.0 w t (as-code _ _ (unless-settled to (c.place i) (number_code 1 x) (sum_code o (register_of Riscv64 a) 1) (staying o) 31 0 l) k)
+      sum-branches-carry (rv_rows code trash) rv_scratch IsInstr (rv k).isa sum_branch_code (rv k).sum_branches c i o l a (operand.Number x) line frame S (x, refl, v.1.1.0) places t is-frame
+      (as-code _ _ (unless-settled to (c.place i) (second_code (operand.Number x)) (sum_code o (register_of Riscv64 a) (second_register (operand.Number x))) (staying o) 31 0 l) k).node
   sum-branch o last_operand.Immediate (operand.Label l ∷ operand.Reg a ∷ operand.Host name ∷ []) h v e t k =
-      number-sum-branches-carry code trash c i o l a (operand.Host name) (host_address name) line S refl (host-small name) w t (as-code _ _ (unless-settled to (c.place i) (number_code 1 (host_address name)) (sum_code o (register_of Riscv64 a) 1) (staying o) 31 0 l) k)
+      sum-branches-carry (rv_rows code trash) rv_scratch IsInstr (rv k).isa sum_branch_code (rv k).sum_branches c i o l a (operand.Host name) line frame S (host_address name, refl, host-small name) places t is-frame
+      (as-code _ _ (unless-settled to (c.place i) (second_code (operand.Host name)) (sum_code o (register_of Riscv64 a) (second_register (operand.Host name))) (staying o) 31 0 l) k).node
   sum-branch o last_operand.Immediate (operand.Label l ∷ operand.Reg a ∷ operand.Label m ∷ []) h v e t k = absurd (differs e)
   sum-branch o last (operand.Label l ∷ operand.Reg a ∷ x ∷ y ∷ ys) h v e t k = absurd (never-sum (admits form.Update (operand.Reg a)) (admits (last_form last) x) h)
   sum-branch o last (operand.Label l ∷ operand.Reg a ∷ []) h v e t k = absurd (never (admits form.Update (operand.Reg a)) h)

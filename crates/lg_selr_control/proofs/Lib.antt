@@ -5,6 +5,7 @@ pub mod ChainLemmas
 pub mod ComputedLemmas
 pub mod ControlLemmas
 pub mod FitLemmas
+pub mod IsaLemmas
 pub mod PrologLemmas
 pub mod ResultLemmas
 pub mod ReturnLemmas

@@ -7,12 +7,18 @@ use Rattle.lg_carry_rv.proofs.RowLemmas.{are-rows}
 use Rattle.lg_sel_nodes.specs.Leaps as leaps
 use Rattle.lg_selr_control.specs.Targets.{IsTarget}
 use Rattle.lg_selr_control.proofs.AlignLemmas.{alignments-walk}
+use Rattle.lg_selr_control.proofs.BranchLemmas.{branches-lead}
 use Rattle.lg_selr_control.proofs.CallLemmas.{calls-lead, register-calls-lead, register-host-calls-lead, host-calls-lead, enters-hosts}
+use Rattle.lg_selr_control.proofs.IsaLemmas.{is-isa}
+use Rattle.lg_selr_control.proofs.SumBranchLemmas.{sum-branches-lead}
 use Rattle.lg_selr_control.proofs.WalkLemmas.{jumps-walk, register-jumps-walk}
 
 pub is-target : IsTarget
 is-target code trash small bytes word = record {
   rows = are-rows code trash small bytes word;
+  isa = is-isa code trash small bytes word;
+  branches = branches-lead code trash small bytes word;
+  sum_branches = sum-branches-lead code trash small bytes word;
   jumps = jumps-walk code trash small bytes word;
   alignments = alignments-walk code trash small bytes word;
   register_jumps = register-jumps-walk code trash small bytes word;

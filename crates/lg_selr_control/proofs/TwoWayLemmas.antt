@@ -1,176 +1,178 @@
--- A branch over a jump leads to the label of the jump, or to the next node.
-use Rattle.std.proofs.Common.{◌≡◌, ◌≢◌, ℕ, suc, ◌+◌, ◌*◌, ◌%◌, ◌^◌, ◌<◌, ◌≤◌, Bool, true, false, List, [], ◌∷◌, ◌++◌, Option, refl, sym, ap, ◌∙◌, subst, arith, length, length-append, append_assoc, append-nil, inl}
-use Rattle.std.specs.Prelude.{◌==◌, not, pos, ◌-ℤ◌, slice_index, if◌then◌else◌}
-use Rattle.std.proofs.lemmas.Option.{slice_get_within}
-use Rattle.lg_base.specs.Conventions.{argument_registers, portable_register}
+-- A branch over a jump leads to two ways: behind itself, or where the jump leads.
+use Rattle.std.proofs.Common.{◌≡◌, ◌≢◌, ℕ, ◌+◌, ◌*◌, ◌^◌, ◌<◌, ◌≤◌, Bool, true, false, List, [], ◌∷◌, ◌++◌, Some, refl, sym, ap, ◌∙◌, subst, arith, length, length-append, append_assoc}
+use Rattle.std.specs.Prelude.{not, pos, ◌-ℤ◌, if◌then◌else◌}
+use Rattle.lg_base.specs.HostNames.{host_address}
+use Rattle.lg_base.specs.Layout.{code_base, most_code}
 use Rattle.lg_base.specs.Runs.{Running}
 use Rattle.lg_base.specs.Words.{add_words}
 use Rattle.lg_base.specs.declared.fault.FaultKind.TheVariants.{Align}
 use Rattle.lg_base.specs.declared.target.Target.TheVariants.{Riscv64}
-use Rattle.lg_op.specs.declared.operand.Label.{Label}
-use Rattle.lg_op.specs.declared.node.Node.{Node}
-use Rattle.lg_node.specs.declared.place.Place.TheVariants as place
+use Rattle.lg_op.specs.declared.operand.Operand.{Operand}
+use Rattle.lg_op.specs.declared.operand.Operand.TheVariants as operand
+use Rattle.lg_rv.specs.Spelling.{IsInstr}
 use Rattle.lg_rv.specs.declared.instruction.BranchOp.{BranchOp}
 use Rattle.lg_rv.specs.declared.instruction.Instr.{Instr}
 use Rattle.lg_rv.specs.declared.instruction.Instr.TheVariants as instr
+use Rattle.lg_cpu.specs.Laws.{AreBytes}
 use Rattle.lg_cpu.specs.Steps.{Run, Effect, after, faults, status_of}
 use Rattle.lg_cpu.specs.HostSteps.{put}
 use Rattle.lg_cpu.specs.RvOperators.{is_taken}
 use Rattle.lg_cpu.specs.States.{CpuState}
 use Rattle.lg_cpu.specs.RvStep.{read, goes, branch_to, act}
-use Rattle.lg_meaning.specs.States.{Frame, State}
-use Rattle.lg_meaning.specs.Steps.{Goes, to}
-use Rattle.lg_meaning.specs.Texts.{step}
-use Rattle.lg_carry.specs.FinalNodes.{Code, is_inside}
-use Rattle.lg_carry.specs.Frames.{at_call}
-use Rattle.lg_carry.specs.Registers.{HoldsRegisters, HoldsArguments}
-use Rattle.lg_carry.specs.Stands.{StatesAgree, Stands}
-use Rattle.lg_carry.specs.Carries.{Leads}
-use Rattle.lg_carry.specs.NodeCode.{live_behind, is_return}
-use Rattle.lg_carry.specs.Passages.{Passes}
-use Rattle.lg_carry.proofs.AgreeInFrameLemmas.{quiet-agrees}
-use Rattle.lg_carry.proofs.PassageLemmas.{passages-lead}
-use Rattle.lg_carry.proofs.TextShapeLemmas.{shaped}
-use Rattle.lg_carry_rv.specs.RvRows.{rv_processor, rv_seen}
-use Rattle.lg_carry.specs.TextNodes.{IsInText, HasPlaces}
-use Rattle.lg_selr_control.specs.Standing.{StandsInCode}
-use Rattle.lg_selr_control.specs.Branches.{jump_unless}
-use Rattle.lg_selr_control.proofs.ChainLemmas.{RunsAt, next-at}
-use Rattle.lg_sel_nodes.proofs.LeapLemmas.{bound-at, Lands}
+use Rattle.lg_temp.specs.Abis.{register_of}
+use Rattle.lg_carry.specs.Blocks.{done}
+use Rattle.lg_carry_rv.specs.Computations.{all_compute, computed, RunsComputations}
+use Rattle.lg_carry_rv.specs.Numbers.{number_code}
+use Rattle.lg_carry_rv.specs.RvRows.{rv_processor, rv_rows, rv_does}
+use Rattle.lg_carry_rv.proofs.ComputationLemmas.{computations-run}
+use Rattle.lg_carry_rv.proofs.NumberCodeLemmas.{numbers-are-loaded}
+use Rattle.lg_carry_rv.proofs.RowLemmas.{are-rows}
+use Rattle.lg_carry_rv.proofs.SlotLemmas.{pc-next, goes-on}
+use Rattle.lg_sel_nodes.specs.Leaps.{IsThere, second_word}
+use Rattle.lg_sel_nodes.specs.Stretches.{StandsAt, behind, PassesIn, Way}
+use Rattle.lg_sel_nodes.proofs.StretchLemmas.{part-passes, passages-join}
+use Rattle.lg_selr_control.specs.ControlItems.{second_register}
+use Rattle.lg_selr_control.specs.TwoWays.{jump_over, second_code, rv_scratch}
+use Rattle.lg_selr_control.proofs.ChainLemmas.{straight-block}
+use Rattle.lg_selr_control.proofs.ComputedLemmas.{all-straight, same-words}
+use Rattle.lg_selr_control.proofs.StandingLemmas.{spelled-size}
+use Rattle.lg_selr_control.proofs.StretchLemmas.{aligned, read-of, one-passed}
 use Rattle.lg_selr_control.proofs.WalkLemmas.{jumps-there}
-use Rattle.lg_sel_nodes.proofs.StraightLemmas.{text-keeps}
-use Rattle.lg_selr_control.proofs.StandingLemmas.{one-passes, then-passes, spelled-size, even-next}
-use Rattle.lg_selr_control.proofs.WordLemmas.{runs-there, put-other, portable-some, argument-some}
-use Rattle.lg_meaning.specs.Addresses.{IsBound}
+use Rattle.lg_selr_control.proofs.WordLemmas.{runs-there, put-same, put-other}
 
--- steps from q through r in the bytes of node i that lead to the place of a node, and change nothing behind r
-pub record Way (code : List ℕ) (trash : ℕ) (c : Code) (i to : ℕ) (q r : Run CpuState) : Type 0 where
-  pub end : Run CpuState
-  pub steps : ℕ
-  pub passes : Passes (rv_processor code trash) c i steps q end
-  pub few : steps ≤ 64
-  pub some : 0 < steps
-  pub runs : status_of end.progress ≡ Running
-  pub here : end.state.pc ≡ c.place to
-  pub registers : (x : ℕ) → x ≢ 0 → end.state.registers x ≡ r.state.registers x
-  pub bytes : end.state.bytes ≡ r.state.bytes
-  pub mark : end.state.mark ≡ r.state.mark
+-- ---- the second operand
+-- the second operand is put into its register, and nothing but x1 changes
+pub record IsMade (x : Operand) (y : ℕ) (w : ℕ → ℕ) : Type 0 where
+  pub computes : all_compute (second_code x) ≡ true
+  pub value : read (computed (second_code x) w) (second_register x) ≡ y
+  pub others : (z : ℕ) → z ≢ 1 → computed (second_code x) w z ≡ w z
+  pub few : length (second_code x) ≤ 8
+
+number-made : (v y : ℕ) (w : ℕ → ℕ) → v ≡ y → v < 2 ^ 64 → (all_compute (number_code 1 v) ≡ true) × (computed (number_code 1 v) w 1 ≡ y) × ((z : ℕ) → z ≢ 1 → computed (number_code 1 v) w z ≡ w z) × (length (number_code 1 v) ≤ 8)
+number-made v y w e lt =
+    let loads = numbers-are-loaded 1 v (λ z. cc) (omega arith) lt in
+    (loads.computes, loads.value w 1 ∙ put-same w 1 v ∙ e, λ z ne. loads.value w z ∙ put-other w 1 v z ne, loads.few)
+
+some-is : (v y : ℕ) → Some v ≡ Some y → v ≡ y
+some-is v y e = cc
+
+pub second-made : (x : Operand) (y : ℕ) (w : ℕ → ℕ) → second_word Riscv64 w x ≡ Some y → y < 2 ^ 64 → IsMade x y w
+second-made (operand.Reg b) y w e lt = record { computes = refl; value = read-of w b ∙ some-is (w (register_of Riscv64 b)) y e; others = λ z ne. refl; few = omega arith }
+second-made (operand.Number v) y w e lt = let s = some-is v y e in let m = number-made v y w s (subst (λ z. z < 2 ^ 64) (sym s) lt) in record { computes = m.0; value = m.1; others = m.2; few = m.3 }
+second-made (operand.Host name) y w e lt = let s = some-is (host_address name) y e in let m = number-made (host_address name) y w s (subst (λ z. z < 2 ^ 64) (sym s) lt) in record { computes = m.0; value = m.1; others = m.2; few = m.3 }
+second-made (operand.Label l) y w e lt = cc
+second-made (operand.Slot k) y w e lt = cc
 
 eight-on : (pc : ℕ) → pc < 2 ^ 62 → add_words pc 8 ≡ pc + 8
 eight-on pc h = grind (arith, h)
 
-module _ (code : List ℕ) (trash : ℕ) (c : Code) (i : ℕ) (n : Node) (w : HasPlaces 4 c) (t : IsInText c i n) (front : List Instr) (o : BranchOp) (a b : ℕ) (l : Label) (k : StandsInCode code trash c i (jump_unless (slice_index c.addresses) (c.place i) front o a b l))
-    (few : length front ≤ 62) (q r : Run CpuState) (pass : Passes (rv_processor code trash) c i (length front) q r) (at : RunsAt (c.place i) (length front + 2) (length front) r) where
-  abbrev branch : Instr
-  branch = instr.Branch o a b (pos 8)
+pub off-scratch : (x : ℕ) → rv_scratch x ≡ false → (x ≢ 0) × (x ≢ 1)
+off-scratch x e = (λ z. absurd (grind (arith, e, z)), λ z. absurd (grind (arith, e, z)))
+
+-- ---- the branch, where what stands before it computes
+module _ (code : List ℕ) (trash : ℕ) (small : length code ≤ most_code) (bytes : AreBytes code) (word : trash < 2 ^ 64)
+    (front : List Instr) (o : BranchOp) (a b from to : ℕ) (q : Run CpuState) (k : StandsAt (rv_rows code trash) IsInstr from (jump_over front o a b from to))
+    (all : all_compute front ≡ true) (few : length front ≤ 60) (runs : status_of q.progress ≡ Running) (at : q.state.pc ≡ from) (goes-there : Bool)
+    (there : goes-there ≡ true → IsThere (rv_rows code trash).is_place to) (next : IsThere (rv_rows code trash).is_place (behind (rv_rows code trash) from (jump_over front o a b from to)))
+    (taken : is_taken o (read (computed front q.state.registers) a) (read (computed front q.state.registers) b) ≡ not goes-there)
+    (W : ℕ → ℕ) (kept : (z : ℕ) → z ≢ 1 → z ≢ 31 → computed front q.state.registers z ≡ W z) where
+  abbrev skip : Instr
+  skip = instr.Branch o a b (pos 8)
 
   abbrev jump : Instr
-  jump = instr.Jal 0 (pos (slice_index c.addresses l.0) -ℤ pos (c.place i + (4 * length front + 4)))
+  jump = instr.Jal 0 (pos to -ℤ pos (from + (4 * length front + 4)))
 
-  abbrev taken : Bool
-  taken = is_taken o (read r.state.registers a) (read r.state.registers b)
+  abbrev high : ℕ
+  high = behind (rv_rows code trash) from (jump_over front o a b from to)
 
-  next-place : c.place (i + 1) ≡ r.state.pc + 8
-  next-place = let size = spelled-size (front ++ (branch ∷ jump ∷ [])) in let n = length-append front (branch ∷ jump ∷ []) in k.node.next ∙ omega (arith, size, n, at.here)
+  size : high ≡ from + 4 * length front + 8
+  size = let l = spelled-size (jump_over front o a b from to) in let m = length-append front (skip ∷ jump ∷ []) in omega (arith, l, m)
 
-  in-nodes : i < length c.nodes.nodes
-  in-nodes = slice_get_within c.nodes.nodes i n t.here
+  low : code_base ≤ from
+  low = k.low
 
-  -- where the branch is taken, the next node follows
-  pub skips : taken ≡ true → Way code trash c i (i + 1) q r
-  skips h =
-      let e : Effect CpuState = goes (c.place (i + 1)) r.state.registers r.state.bytes r.state.mark in
-      let there : add_words r.state.pc 8 ≡ c.place (i + 1) = eight-on r.state.pc (omega (arith, at.here, at.high)) ∙ sym next-place in
-      let even : (c.place (i + 1) % 4 == 0) ≡ true = rw (even-next code trash c i (front ++ (branch ∷ jump ∷ [])) k) refl in
-      let does : act branch r.state ≡ e = ap (branch_to r.state (add_words r.state.pc 8)) h ∙ ap (λ p. branch_to r.state p true) there ∙ ap (λ z. if z then goes (c.place (i + 1)) r.state.registers r.state.bytes r.state.mark else faults r.state Align) even in
+  top : high ≤ code_base + most_code
+  top = next.high
+
+  m : RunsComputations front q
+  m = computations-run front q all runs (omega (arith, low, at)) (omega (arith, top, size, at))
+
+  abbrev r : Run CpuState
+  r = done rv_does front q
+
+  pass : PassesIn (rv_processor code trash) from high (length front) q r
+  pass = part-passes (rv_rows code trash) IsInstr (are-rows code trash small bytes word) from [] front (skip ∷ jump ∷ []) q k (at ∙ omega arith) (straight-block front (all-straight front all)) m.through
+
+  here : r.state.pc ≡ from + 4 * length front
+  here = m.behind ∙ omega (arith, at)
+
+  registers-are : r.state.registers ≡ computed front q.state.registers
+  registers-are = same-words r.state.registers (computed front q.state.registers) m.registers
+
+  held : (z : ℕ) → rv_scratch z ≡ false → Some 31 ≢ Some z → r.state.registers z ≡ W z
+  held z off ne = ap (λ f. f z) registers-are ∙ kept z (off-scratch z off).1 (λ e. ne (ap Some (sym e)))
+
+  bytes-are : r.state.bytes ≡ q.state.bytes
+  bytes-are = λ j z. m.bytes z j
+
+  taken-is : is_taken o (read r.state.registers a) (read r.state.registers b) ≡ not goes-there
+  taken-is = ap (λ (f : ℕ → ℕ). is_taken o (read f a) (read f b)) registers-are ∙ taken
+
+  skipped : goes-there ≡ false → Way (rv_processor code trash) rv_scratch from high W high q
+  skipped h =
+      let e : Effect CpuState = goes high r.state.registers r.state.bytes r.state.mark in
+      let to-high : add_words r.state.pc 8 ≡ high = eight-on r.state.pc (omega (arith, here, top, size)) ∙ omega (arith, here, size) in
+      let does : act skip r.state ≡ e = ap (branch_to r.state (add_words r.state.pc 8)) (taken-is ∙ ap not h) ∙ ap (λ p. branch_to r.state p true) to-high
+      ∙ ap (λ z. if z then goes high r.state.registers r.state.bytes r.state.mark else faults r.state Align) next.place in
       record {
         end = after r e;
         steps = length front + 1;
-        passes = then-passes code trash c i (length front) 1 q r (after r e) pass (subst (λ z. Passes (rv_processor code trash) c i 1 r (after r z)) does (one-passes code trash c i front branch (jump ∷ []) r k at.runs at.here));
+        passes = passages-join (rv_processor code trash) from high (length front) 1 q r (after r e) pass
+            (subst (λ z. PassesIn (rv_processor code trash) from high 1 r (after r z)) does (one-passed code trash small bytes word from front skip (jump ∷ []) r k m.runs here));
         few = omega (arith, few);
         some = omega arith;
-        runs = runs-there (c.place (i + 1)) (w.low (i + 1) (omega (arith, in-nodes)));
+        runs = runs-there high next.low;
         here = refl;
-        registers = λ x ne. refl;
-        bytes = refl;
-        mark = refl;
+        registers = held;
+        bytes = bytes-are;
+        mark = m.mark;
       }
 
-  -- where it is not, the jump goes to the label
-  pub jumps : (node : ℕ) → IsBound c.nodes l.0 (place.Node node) → node < length c.nodes.nodes → taken ≡ false → Way code trash c i node q r
-  jumps node bound within h =
-      let target : slice_index c.addresses l.0 ≡ c.place node = w.bound l.0 node bound in
-      let r1 = after r (goes (add_words r.state.pc 4) r.state.registers r.state.bytes r.state.mark) in
-      let a1 : RunsAt (c.place i) (length front + 2) (suc (length front)) r1 = next-at (c.place i) (length front + 2) (length front) r r.state.registers r.state.bytes r.state.mark (omega arith) at in
-      let e : Effect CpuState = goes (c.place node) (put r1.state.registers 0 (add_words r1.state.pc 4)) r1.state.bytes r1.state.mark in
-      let high = w.high node (omega (arith, within)) in
-      let does1 : act branch r.state ≡ goes (add_words r.state.pc 4) r.state.registers r.state.bytes r.state.mark = ap (branch_to r.state (add_words r.state.pc 8)) h in
-      let from : c.place i + (4 * length front + 4) ≡ r1.state.pc = omega (arith, a1.here) in
-      let does2 : act jump r1.state ≡ e =
-      ap (λ p. act (instr.Jal 0 (pos (slice_index c.addresses l.0) -ℤ pos p)) r1.state) from
-      ∙ ap (λ p. act (instr.Jal 0 (pos p -ℤ pos r1.state.pc)) r1.state) target
-      ∙ jumps-there r1.state 0 (c.place node) (omega (arith, a1.here, a1.high)) (omega (arith, high)) (w.aligned node (omega (arith, within)) (inl (l.0, bound))) in
-      let size : length (front ++ (branch ∷ [])) ≡ length front + 1 = length-append front (branch ∷ []) in
-      let k' : StandsInCode code trash c i ((front ++ (branch ∷ [])) ++ (jump ∷ [])) = subst (λ z. StandsInCode code trash c i z) (sym (append_assoc front (branch ∷ []) (jump ∷ []))) k in
+  jumped : goes-there ≡ true → Way (rv_processor code trash) rv_scratch from high W to q
+  jumped h =
+      let target = there h in
+      let r1 : Run CpuState = after r (goes (add_words r.state.pc 4) r.state.registers r.state.bytes r.state.mark) in
+      let runs1 : status_of r1.progress ≡ Running = goes-on r.state.pc (omega (arith, here, low)) (omega (arith, here, top, size)) in
+      let here1 : r1.state.pc ≡ from + (4 * length front + 4) = pc-next r.state.pc (omega (arith, here, top, size)) ∙ omega (arith, here) in
+      let e : Effect CpuState = goes to (put r1.state.registers 0 (add_words r1.state.pc 4)) r1.state.bytes r1.state.mark in
+      let does1 : act skip r.state ≡ goes (add_words r.state.pc 4) r.state.registers r.state.bytes r.state.mark = ap (branch_to r.state (add_words r.state.pc 8)) (taken-is ∙ ap not h) in
+      let does2 : act jump r1.state ≡ e = ap (λ p. act (instr.Jal 0 (pos to -ℤ pos p)) r1.state) (sym here1)
+      ∙ jumps-there r1.state 0 to (omega (arith, here1, top, size)) (let t = target.high in omega (arith, t)) (aligned to target.place) in
+      let split : length (front ++ (skip ∷ [])) ≡ length front + 1 = length-append front (skip ∷ []) in
+      let again : (front ++ (skip ∷ [])) ++ (jump ∷ []) ≡ front ++ (skip ∷ jump ∷ []) = append_assoc front (skip ∷ []) (jump ∷ []) in
+      let k' : StandsAt (rv_rows code trash) IsInstr from ((front ++ (skip ∷ [])) ++ (jump ∷ [])) = subst (StandsAt (rv_rows code trash) IsInstr from) (sym again) k in
+      let last : PassesIn (rv_processor code trash) from high 1 r1 (after r1 (act jump r1.state)) =
+      subst (λ z. PassesIn (rv_processor code trash) from (behind (rv_rows code trash) from z) 1 r1 (after r1 (act jump r1.state))) again
+      (one-passed code trash small bytes word from (front ++ (skip ∷ [])) jump [] r1 k' runs1 (omega (arith, here1, split))) in
       record {
         end = after r1 e;
         steps = length front + 1 + 1;
-        passes = then-passes code trash c i (length front + 1) 1 q r1 (after r1 e)
-            (then-passes code trash c i (length front) 1 q r r1 pass (subst (λ z. Passes (rv_processor code trash) c i 1 r (after r z)) does1 (one-passes code trash c i front branch (jump ∷ []) r k at.runs at.here)))
-            (subst (λ z. Passes (rv_processor code trash) c i 1 r1 (after r1 z)) does2 (one-passes code trash c i (front ++ (branch ∷ [])) jump [] r1 k' a1.runs (omega (arith, a1.here, size))));
+        passes = passages-join (rv_processor code trash) from high (length front + 1) 1 q r1 (after r1 e)
+            (passages-join (rv_processor code trash) from high (length front) 1 q r r1 pass
+            (subst (λ z. PassesIn (rv_processor code trash) from high 1 r (after r z)) does1 (one-passed code trash small bytes word from front skip (jump ∷ []) r k m.runs here)))
+            (subst (λ z. PassesIn (rv_processor code trash) from high 1 r1 (after r1 z)) does2 last);
         few = omega (arith, few);
         some = omega arith;
-        runs = runs-there (c.place node) (w.low node (omega (arith, within)));
+        runs = runs-there to target.low;
         here = refl;
-        registers = λ x ne. put-other r1.state.registers 0 (add_words r1.state.pc 4) x ne;
-        bytes = refl;
-        mark = refl;
+        registers = λ z off ne. put-other r1.state.registers 0 (add_words r1.state.pc 4) z (off-scratch z off).0 ∙ held z off ne;
+        bytes = bytes-are;
+        mark = m.mark;
       }
 
-  -- ---- the node: it goes to the label or on, with these registers
-  module _ (S S' : ℕ → Bool) (plain : is_return n.op ≡ false) (inside : is_inside c i ≡ true) (next : is_inside c (i + 1) ≡ true) (lands : Lands c i l) (live : Frame → ℕ → Bool) (s : State) (out : List ℕ) (here : s.at ≡ i)
-      (st : Stands (rv_processor code trash) c live s out q S) (regs : ℕ → Option ℕ) (held : HoldsRegisters Riscv64 r.state.registers regs S') (passed : HoldsArguments Riscv64 r.state.registers s.pushed)
-      (pointer : r.state.registers 8 ≡ q.state.registers 8) (stack : r.state.registers 2 ≡ q.state.registers 2) (bytes : r.state.bytes ≡ q.state.bytes) (mark : r.state.mark ≡ q.state.mark) where
-    abbrev s0 : State
-    s0 = record s { regs = regs }
-
-    leads-to : (k' : ℕ) → is_inside c k' ≡ true → step c.nodes c.shape c.addresses s ≡ Goes (to s0 k') [] → Way code trash c i k' q r → Leads (rv_processor code trash) c live (live_behind live n S' s) i (step c.nodes c.shape c.addresses s) out q
-    leads-to k' there goes' way =
-        let u = way.end in
-        let agree : StatesAgree Riscv64 c live (to s0 k') (rv_seen u) S' = quiet-agrees Riscv64 c live s (to s0 k') (rv_seen q) (rv_seen u) S S' st.state
-        record {
-          few = (shaped c.nodes t.well).few;
-          fits = text-keeps c i n t s (to s0 k') [] here (omega (arith, st.state.seen.low, st.state.mark)) (omega (arith, st.state.seen.high, st.state.mark)) st.state.fits goes';
-          seen = way.passes.keeps st.state.seen;
-          here = way.here;
-          before = ap (is_inside c) here ∙ inside;
-          behind = there;
-          frame = refl;
-          callers = refl;
-          pointer = way.registers 8 (λ z. cc) ∙ pointer;
-          stack = way.registers 2 (λ z. cc) ∙ stack;
-          mark = way.mark ∙ mark ∙ st.state.mark;
-        }
-        record { mem = refl; data_size = refl; args_size = refl; pushed = refl; bytes = λ x e. ap (λ m. m x) way.bytes ∙ ap (λ m. m x) bytes }
-        record {
-          registers = record { is = λ x v lt m e. way.registers (portable_register Riscv64 x) (portable-some x lt) ∙ held.is x v lt m e };
-          carry = tt;
-          result = record { is = λ v e. cc };
-          pushed = record { is = λ j v lt e. way.registers (slice_index (argument_registers Riscv64) j) (argument-some j lt) ∙ passed.is j v lt e };
-        } in
-        subst (λ x. Leads (rv_processor code trash) c live (live_behind live n S' s) i x out q) (sym goes')
-        (passages-lead (rv_processor code trash) c live (live_behind live n S' s) i way.steps (Goes (to s0 k') []) out q u way.passes way.few (λ z. absurd (omega (arith, z, way.some))) (λ z. way.some) st.wrote
-        (subst (λ x. Stands (rv_processor code trash) c live (to s0 k') (out ++ []) u (if x then live (at_call s.frame) else S')) (sym plain)
-        record { runs = way.runs; wrote = ap (λ z. z.out) (sym way.passes.leads) ∙ way.passes.silent way.steps (omega arith) ∙ st.wrote ∙ sym (append-nil out); state = agree }))
-
-    pub two-ways-lead : (goes-there : Bool) → step c.nodes c.shape c.addresses s ≡ Goes (to s0 (if goes-there then lands.node else s.at + 1)) [] → taken ≡ not goes-there
-        → Leads (rv_processor code trash) c live (live_behind live n S' s) i (step c.nodes c.shape c.addresses s) out q
-    two-ways-lead true goes' h =
-        let bound : IsBound c.nodes l.0 (place.Node lands.node) = bound-at c.nodes.places l (place.Node lands.node) lands.place in
-        leads-to lands.node (lands.side ∙ inside) goes' (jumps lands.node bound within h)
-      where
-        within : lands.node < length c.nodes.nodes
-        within = (text-keeps c i n t s (to s0 lands.node) [] here (omega (arith, st.state.seen.low, st.state.mark)) (omega (arith, st.state.seen.high, st.state.mark)) st.state.fits goes').inside
-    two-ways-lead false goes' h =
-        let e : s.at + 1 ≡ i + 1 = ap (λ j. j + 1) here in
-        leads-to (s.at + 1) (ap (is_inside c) e ∙ next) goes' (subst (λ j. Way code trash c i j q r) (sym e) (skips h))
+  pub two-ways : Way (rv_processor code trash) rv_scratch from high W (if goes-there then to else high) q
+  two-ways = by goes-there refl
+    where
+      by : (c : Bool) → goes-there ≡ c → Way (rv_processor code trash) rv_scratch from high W (if goes-there then to else high) q
+      by true e = subst (λ z. Way (rv_processor code trash) rv_scratch from high W z q) (sym (ap (λ c. if c then to else high) e)) (jumped e)
+      by false e = subst (λ z. Way (rv_processor code trash) rv_scratch from high W z q) (sym (ap (λ c. if c then to else high) e)) (skipped e)

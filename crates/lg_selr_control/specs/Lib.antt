@@ -13,3 +13,4 @@ pub mod Retvals
 pub mod Standing
 pub mod SumBranches
 pub mod Targets
+pub mod TwoWays

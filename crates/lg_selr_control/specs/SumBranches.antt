@@ -1,30 +1,13 @@
 -- The branches that add and subtract: x31 tells whether the exact result does not fit, and a branch skips the jump to the label.
-use Rattle.std.specs.Prelude.{◌≡◌, ℕ, Some, ◌^◌, ◌<◌, Bool, pos, List, [], ◌∷◌, ◌++◌, slice_index}
-use Rattle.lg_base.specs.declared.target.Target.TheVariants.{Riscv64}
+use Rattle.std.specs.Prelude.{ℕ, pos, List, [], ◌∷◌}
 use Rattle.lg_op.specs.declared.op.BranchSumOp.{BranchSumOp}
 use Rattle.lg_op.specs.declared.op.BranchSumOp.TheVariants as sum
-use Rattle.lg_op.specs.declared.op.LastOperand.TheVariants as last_operand
-use Rattle.lg_op.specs.declared.op.Op.TheVariants as op
-use Rattle.lg_op.specs.declared.operand.Label.{Label}
-use Rattle.lg_op.specs.declared.operand.Operand.{Operand}
-use Rattle.lg_op.specs.declared.operand.Operand.TheVariants as operand
-use Rattle.lg_op.specs.declared.operand.Reg.{Reg}
-use Rattle.lg_op.specs.declared.node.Node.{Node}
 use Rattle.lg_rv.specs.declared.instruction.BranchOp.{BranchOp}
 use Rattle.lg_rv.specs.declared.instruction.BranchOp.TheVariants.{Beq, Bne}
 use Rattle.lg_rv.specs.declared.instruction.ImmOp.TheVariants.{Addi, Slti}
 use Rattle.lg_rv.specs.declared.instruction.Instr.{Instr}
 use Rattle.lg_rv.specs.declared.instruction.Instr.TheVariants as instr
 use Rattle.lg_rv.specs.declared.instruction.RegOp.TheVariants as row
-use Rattle.lg_temp.specs.Abis.{register_of}
-use Rattle.lg_carry.specs.FinalNodes.{Code}
-use Rattle.lg_carry.specs.NodeCode.{CarriesNode}
-use Rattle.lg_carry_rv.specs.Numbers.{number_code}
-use Rattle.lg_carry.specs.TextNodes.{IsInText, HasPlaces}
-use Rattle.lg_carry_rv.specs.RvRows.{rv_processor}
-use Rattle.lg_sel_nodes.specs.Immediates.{immediate}
-use Rattle.lg_selr_control.specs.Standing.{StandsInCode}
-use Rattle.lg_selr_control.specs.Branches.{jump_unless}
 
 -- the signed sum does not fit where it is less than the first operand and the second is not negative, or the other way round
 abbrev pub signed_sum_code : ℕ → ℕ → List Instr
@@ -62,22 +45,3 @@ staying sum.FitAdd = Bne
 staying sum.FitAddU = Bne
 staying sum.FitSub = Bne
 staying sum.FitSubU = Bne
-
-abbrev pub sum_branch_code : (ℕ → ℕ) → ℕ → List Instr → BranchSumOp → ℕ → ℕ → Label → List Instr
-sum_branch_code to at front o a b l = jump_unless to at (front ++ sum_code o a b) (staying o) 31 0 l
-
-abbrev pub sum_branch_node : BranchSumOp → Label → Reg → Reg → ℕ → Node
-sum_branch_node o l a b line = record { op = op.BranchSum o last_operand.Register; operands = operand.Label l ∷ operand.Reg a ∷ operand.Reg b ∷ []; line = line }
-
-abbrev pub number_sum_branch_node : BranchSumOp → Label → Reg → Operand → ℕ → Node
-number_sum_branch_node o l a x line = record { op = op.BranchSum o last_operand.Immediate; operands = operand.Label l ∷ operand.Reg a ∷ x ∷ []; line = line }
-
-abbrev pub SumBranchesCarry : Type 0
-SumBranchesCarry =
-    (code : List ℕ) (trash : ℕ) (c : Code) (i : ℕ) (o : BranchSumOp) (l : Label) (a b : Reg) (line : ℕ) (S : ℕ → Bool) → HasPlaces 4 c → IsInText c i (sum_branch_node o l a b line)
-    → StandsInCode code trash c i (sum_branch_code (slice_index c.addresses) (c.place i) [] o (register_of Riscv64 a) (register_of Riscv64 b) l) → CarriesNode (rv_processor code trash) c i (sum_branch_node o l a b line) S
-
-abbrev pub NumberSumBranchesCarry : Type 0
-NumberSumBranchesCarry =
-    (code : List ℕ) (trash : ℕ) (c : Code) (i : ℕ) (o : BranchSumOp) (l : Label) (a : Reg) (x : Operand) (v line : ℕ) (S : ℕ → Bool) → immediate x ≡ Some v → v < 2 ^ 64 → HasPlaces 4 c → IsInText c i (number_sum_branch_node o l a x line)
-    → StandsInCode code trash c i (sum_branch_code (slice_index c.addresses) (c.place i) (number_code 1 v) o (register_of Riscv64 a) 1 l) → CarriesNode (rv_processor code trash) c i (number_sum_branch_node o l a x line) S
