@@ -1,5 +1,6 @@
 pub mod LandingLemmas
 pub mod RegisterLeapLemmas
+pub mod ReturnLemmas
 pub mod SilentLemmas
 pub mod SumBranchLemmas
 pub mod WalkLemmas

@@ -1,4 +1,5 @@
 pub mod RegisterLeaps
+pub mod Returns
 pub mod SilentNodes
 pub mod SumBranches
 pub mod Walks

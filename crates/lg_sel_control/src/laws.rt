@@ -7,6 +7,7 @@ ghost use Rattle.lg_op.specs.declared.operand.Operand.{Operand};
 ghost use Rattle.lg_op.specs.declared.operand.Reg.{Reg};
 ghost use Rattle.lg_sel_nodes.specs.Leaps.{EntersHosts};
 ghost use Rattle.lg_sel_control.specs.RegisterLeaps.{RegisterJumpsWalk, RegisterCallsLead, RegisterHostCallsLead, RegisterLeapsCarry, jmpr_node, callr_node, finishr_node};
+ghost use Rattle.lg_sel_control.specs.Returns.{Returned, ReturnsLead, ReturnsCarry};
 ghost use Rattle.lg_sel_control.specs.SilentNodes.{SilentNodesCarry};
 ghost use Rattle.lg_sel_control.specs.SumBranches.{SumBranchesLead, SumBranchesCarry};
 ghost use Rattle.lg_sel_control.specs.Walks.{JumpsWalk, JumpsCarry, AlignmentsWalk, AlignmentsCarry};
@@ -89,4 +90,18 @@ pub trait SumBranches: Isa {
 /// A branch that adds or subtracts is carried by such code.
 pub fn sum_branches_are_carried<T: SumBranches>()
     ensures { SumBranchesCarry T.rows T.scratch T.fits T.branch }
+{}
+
+/// A target that returns.
+pub trait Returns: Isa {
+    /// The code of a return, in a frame of so many bytes, with a word or none.
+    ghost ret: { ℕ → Returned → List Self.Instruction };
+
+    /// It leaves the frame.
+    ghost returns_lead: { ReturnsLead Self.rows Self.fits ret };
+}
+
+/// Returns are carried by such code.
+pub fn returns_are_carried<T: Returns>()
+    ensures { ReturnsCarry T.rows T.fits T.ret }
 {}
