@@ -1,4 +1,5 @@
 pub mod LandingLemmas
+pub mod PrologLemmas
 pub mod RegisterLeapLemmas
 pub mod ReturnLemmas
 pub mod SilentLemmas

@@ -1,3 +1,4 @@
+pub mod Prologs
 pub mod RegisterLeaps
 pub mod Returns
 pub mod SilentNodes

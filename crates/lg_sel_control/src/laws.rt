@@ -6,6 +6,7 @@ ghost use Rattle.lg_op.specs.declared.op.BranchSumOp.{BranchSumOp};
 ghost use Rattle.lg_op.specs.declared.operand.Operand.{Operand};
 ghost use Rattle.lg_op.specs.declared.operand.Reg.{Reg};
 ghost use Rattle.lg_sel_nodes.specs.Leaps.{EntersHosts};
+ghost use Rattle.lg_sel_control.specs.Prologs.{PrologsLead, PrologsCarry};
 ghost use Rattle.lg_sel_control.specs.RegisterLeaps.{RegisterJumpsWalk, RegisterCallsLead, RegisterHostCallsLead, RegisterLeapsCarry, jmpr_node, callr_node, finishr_node};
 ghost use Rattle.lg_sel_control.specs.Returns.{Returned, ReturnsLead, ReturnsCarry};
 ghost use Rattle.lg_sel_control.specs.SilentNodes.{SilentNodesCarry};
@@ -104,4 +105,18 @@ pub trait Returns: Isa {
 /// Returns are carried by such code.
 pub fn returns_are_carried<T: Returns>()
     ensures { ReturnsCarry T.rows T.fits T.ret }
+{}
+
+/// A target that makes frames.
+pub trait Prologs: Isa {
+    /// The code of a `prolog` that makes a frame of so many bytes.
+    ghost prolog: { ℕ → List Self.Instruction };
+
+    /// It makes the frame, where a call has arrived.
+    ghost prologs_lead: { PrologsLead Self.rows Self.fits prolog };
+}
+
+/// A `prolog` is carried by such code.
+pub fn prologs_are_carried<T: Prologs>()
+    ensures { PrologsCarry T.rows T.fits T.prolog }
 {}
