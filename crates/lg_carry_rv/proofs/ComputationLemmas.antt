@@ -1,5 +1,5 @@
 -- Instructions that only compute: what they do, and lists of them.
-use Rattle.std.proofs.Common.{◌≡◌, ◌≢◌, ℕ, ◌+◌, ◌*◌, Bool, true, false, List, [], ◌∷◌, ◌++◌, Option, refl, ap, ◌∙◌, arith, length, append-nil}
+use Rattle.std.proofs.Common.{◌≡◌, ◌≢◌, ℕ, ◌+◌, ◌*◌, Bool, true, false, List, [], ◌∷◌, ◌++◌, refl, ap, ◌∙◌, arith, length, append-nil}
 use Rattle.std.specs.Prelude.{◌==◌, ◌&&◌, if◌then◌else◌}
 use Rattle.lg_base.specs.Runs.{Running}
 use Rattle.lg_base.specs.Words.{add_words}
@@ -13,10 +13,8 @@ use Rattle.lg_cpu.specs.Steps.{after, status_of}
 use Rattle.lg_cpu.specs.HostSteps.{put}
 use Rattle.lg_cpu.specs.States.{CpuState}
 use Rattle.lg_cpu.specs.RvStep.{read, goes, sets, imm_effect, act}
-use Rattle.lg_base.specs.declared.flags.Flags.TheVariants.{NoFlags}
 use Rattle.lg_carry.specs.Blocks.{spellings}
-use Rattle.lg_carry.specs.Spills.{Does}
-use Rattle.lg_carry_rv.specs.RvRows.{rv_does, rv_rows, is_straight}
+use Rattle.lg_carry_rv.specs.RvRows.{rv_does, is_straight}
 use Rattle.lg_carry_rv.specs.Computations.{imm_computes, imm_value, computes, all_compute, computed_by, computed, ComputationsRun}
 use Rattle.lg_carry_rv.proofs.RowLemmas.{went}
 use Rattle.lg_carry_rv.proofs.SlotLemmas.{pc-next, goes-on}
@@ -122,22 +120,4 @@ computations-run (i ∷ is) q h runs low high =
       bytes = λ a. m.bytes a ∙ ap (λ s. s.state.bytes a) e;
       mark = m.mark ∙ ap (λ s. s.state.mark) e;
       out = m.out ∙ ap (λ s. s.out) e ∙ append-nil q.out;
-    }
-
--- so code that only computes does what it computes, and spoils no slot
-pub computations-do : (code : List ℕ) (trash : ℕ) (is : List Instr) (W : ℕ → ℕ) (T : ℕ → Bool) (registers : ℕ → ℕ) (bytes : ℕ → Option ℕ) (mark fp n : ℕ) → all_compute is ≡ true
-    → ((r : ℕ) → T r ≡ false → computed is registers r ≡ W r)
-    → Does (rv_rows code trash) record { registers = registers; bytes = bytes; mark = mark; flags = NoFlags; end_registers = W; end_bytes = bytes; end_mark = mark; end_flags = NoFlags } is fp n T
-computations-do code trash is W T registers bytes mark fp n h is-W q looks room =
-    let long = spellings-long is in
-    let m = computations-run is q h looks.runs room.low (omega (arith, room.high, long)) in
-    record {
-      through = m.through;
-      runs = m.runs;
-      behind = m.behind ∙ omega (arith, long);
-      registers = λ r free. m.registers r ∙ ap (λ w. computed is w r) (pointwise q.state.registers registers looks.has_registers) ∙ is-W r free;
-      bytes = λ a off. m.bytes a ∙ looks.has_bytes a off;
-      slots = λ a on. m.bytes a;
-      has_mark = m.mark ∙ looks.has_mark;
-      has_flags = refl;
     }

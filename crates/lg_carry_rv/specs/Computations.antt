@@ -1,5 +1,5 @@
 -- Instructions that only compute: each writes a word that it makes of registers into a register, and the next one follows.
-use Rattle.std.specs.Prelude.{◌≡◌, ℕ, ◌+◌, ◌*◌, ◌≤◌, ◌&&◌, Bool, true, false, List, [], ◌∷◌, length}
+use Rattle.std.specs.Prelude.{◌≡◌, ℕ, ◌+◌, ◌*◌, ◌≤◌, Bool, true, false, List, [], ◌∷◌, length}
 use Rattle.lg_base.specs.Fields.{word_of}
 use Rattle.lg_base.specs.Layout.{code_base, most_code}
 use Rattle.lg_base.specs.Runs.{Running}
@@ -16,6 +16,7 @@ use Rattle.lg_cpu.specs.RvOperators.{reg_value, shift_value}
 use Rattle.lg_cpu.specs.States.{CpuState}
 use Rattle.lg_cpu.specs.RvStep.{read}
 use Rattle.lg_carry.specs.Blocks.{done, GoesThrough}
+use Rattle.lg_sel_values.specs.Computers as computer
 use Rattle.lg_carry_rv.specs.RvRows.{rv_does}
 
 -- the rows with a number that load nothing and do not jump
@@ -49,8 +50,7 @@ computes (Reg op rd rs1 rs2) = true
 computes i = false
 
 abbrev pub all_compute : List Instr → Bool
-all_compute [] = true
-all_compute (i ∷ is) = computes i && all_compute is
+all_compute is = computer.all_compute computes is
 
 -- what one makes of the registers
 abbrev pub computed_by : Instr → (ℕ → ℕ) → ℕ → ℕ
@@ -77,4 +77,5 @@ pub record RunsComputations (is : List Instr) (q : Run CpuState) : Type 0 where
 
 abbrev pub ComputationsRun : Type 0
 ComputationsRun =
-    (is : List Instr) (q : Run CpuState) → all_compute is ≡ true → status_of q.progress ≡ Running → code_base ≤ q.state.pc → q.state.pc + 4 * length is ≤ code_base + most_code → RunsComputations is q
+    (is : List Instr) (q : Run CpuState) → all_compute is ≡ true → status_of q.progress ≡ Running → code_base ≤ q.state.pc
+    → q.state.pc + 4 * length is ≤ code_base + most_code → RunsComputations is q

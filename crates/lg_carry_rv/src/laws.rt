@@ -1,8 +1,8 @@
 // What holds of the instructions of RV64IM, for the code of nodes. The functions do nothing: their contracts are the laws.
 
 ghost use Rattle.lg_carry_rv.specs.Computations.{ComputationsRun};
-ghost use Rattle.lg_carry_rv.specs.ComputingNodes.{ComputingNodesCarry, PlainNodesCarry};
 ghost use Rattle.lg_carry_rv.specs.Numbers.{NumbersAreLoaded};
+ghost use Rattle.lg_carry_rv.specs.RvComputers.{InstructionsAreIsa, InstructionsCompute};
 ghost use Rattle.lg_carry_rv.specs.RvRows.{InstructionsAreRows, InstructionsAreSpills};
 
 /// The instruction whose spelling stands at the program counter is executed, and the next one follows.
@@ -15,6 +15,16 @@ pub fn instructions_are_spills()
     ensures { InstructionsAreSpills }
 {}
 
+/// They are those of a target: each register that is tried can be saved, and x0 and the link hold nothing that is needed behind a `prolog`.
+pub fn instructions_are_isa()
+    ensures { InstructionsAreIsa }
+{}
+
+/// Those that only compute make registers of registers, and the next one follows.
+pub fn instructions_compute()
+    ensures { InstructionsCompute }
+{}
+
 /// Instructions that only compute go through one after the other, and leave the registers that they compute.
 pub fn computations_run()
     ensures { ComputationsRun }
@@ -23,15 +33,4 @@ pub fn computations_run()
 /// At most 8 instructions load any number into a register, and change no other.
 pub fn numbers_are_loaded()
     ensures { NumbersAreLoaded }
-{}
-
-/// A node is carried by code that only computes, where the registers that it computes are those of the portable step. Temporaries are saved
-/// and restored where no register is free.
-pub fn computing_nodes_are_carried()
-    ensures { ComputingNodesCarry }
-{}
-
-/// So is one without temporaries, whatever is live and whatever is staged.
-pub fn plain_nodes_are_carried()
-    ensures { PlainNodesCarry }
 {}

@@ -18,7 +18,8 @@ use Rattle.lg_op.specs.declared.op.PlainOp.TheVariants as plain
 use Rattle.lg_op.specs.declared.operand.Reg.{Reg}
 use Rattle.lg_op.specs.declared.operand.Reg.TheVariants.{Fp}
 use Rattle.lg_op.specs.declared.node.Node.{Node}
-use Rattle.lg_node.specs.Functions.{home, is_epilog, is_epilog_at}
+use Rattle.lg_node.specs.Functions.{home, is_epilog, is_epilog_at, frame_of}
+use Rattle.lg_node.specs.declared.function.Function.{Function}
 use Rattle.lg_node.specs.Preparations.{pushed}
 use Rattle.lg_live.specs.Uses.{is_read, is_written}
 use Rattle.lg_meaning.specs.States.{Frame, State, number, in_any_locals, is_open}
@@ -431,6 +432,14 @@ module _ {Q I : Type 0} (R : Rows Q I) (scratch : ℕ → Bool) (fits : I → Ty
 
       pub computes : (out : List ℕ) → R.processor.machine.out q ≡ out → (step c.nodes c.shape c.addresses s ≡ Undefined) ⊎ Leads R.processor c frames (live_behind frames n S s) i (step c.nodes c.shape c.addresses s) out q
       computes out wrote = leads p.end (R.processor.seen q).bytes p.flags p.does p.keeps p.to p.goes p.on.at out wrote agree
+
+-- the size of the frame of a node
+pub frame-here : (c : Code) (i : ℕ) → (frame : ℕ) × IsFrameOf c i frame
+frame-here c i = by (function_here c.shape.functions i) refl
+  where
+    by : (o : Option Function) → function_here c.shape.functions i ≡ o → (frame : ℕ) × IsFrameOf c i frame
+    by None e = (0, λ f g. let z : None ≡ Some f = sym e ∙ g in cc)
+    by (Some f) e = (frame_of f, λ g h. let z : Some f ≡ Some g = sym e ∙ h in let y : f ≡ g = cc in ap frame_of y)
 
 -- ---- nodes
 module _ {Q I : Type 0} (R : Rows Q I) (scratch : ℕ → Bool) (fits : I → Type 0) (isa : IsIsa R scratch fits) where

@@ -20,12 +20,13 @@ use Rattle.lg_meaning.specs.Texts.{step}
 use Rattle.lg_temp.specs.Abis.{register_of}
 use Rattle.lg_carry.specs.FinalNodes.{Code}
 use Rattle.lg_carry_rv.specs.Computations.{computed}
-use Rattle.lg_carry_rv.specs.ComputingNodes.{HoldsRead, StepsTo, ComputesNode}
+use Rattle.lg_carry_rv.specs.RvComputers.{rv_scratch, rv_computer, IsComputed}
 use Rattle.lg_carry.specs.TextNodes.{IsInText}
-use Rattle.lg_carry_rv.proofs.ComputingNodeLemmas.{plain-nodes-carry}
+use Rattle.lg_carry_rv.proofs.ComputerLemmas.{held-at, into}
 use Rattle.lg_carry_rv.proofs.RegisterLemmas.{register-nonzero, register-apart, register-small}
 use Rattle.lg_selr_values.specs.UnaryCode.{unary_code}
-use Rattle.lg_selr_values.proofs.ResultLemmas.{or-false, step-is, OneGiven, one-given, holds-one, kept-apart}
+use Rattle.lg_sel_values.proofs.OneWordLemmas.{retval-nodes-compute}
+use Rattle.lg_selr_values.proofs.ComputedNodeLemmas.{plain-carries}
 use Rattle.lg_selr_values.proofs.UnaryCodeLemmas.{unary-computed, unary-keeps, unary-computes, unary-some}
 use Rattle.lg_selr_items.specs.Items.{AreItems, ones}
 use Rattle.lg_selr_control.specs.ControlFits.{AreEmitted}
@@ -53,41 +54,22 @@ written-named V1 h = λ z. cc
 written-named V2 h = λ z. cc
 written-named Fp h = cc
 
-module _ (c : Code) (i : ℕ) (t : ValueType) (d : Reg) (line : ℕ) (named : d ≢ Fp) (x : IsInText c i (retval_node t d line)) where
-  abbrev n : Node
-  n = retval_node t d line
-
-  abbrev rd : ℕ
-  rd = register_of Riscv64 d
-
-  abbrev to : State → ℕ → State
-  to s v = on (with_reg s (operand.Reg d) (typed t v))
-
-  writes : (q : Reg) → is_written n q ≡ is_same d q
-  writes q = or-false (is_same d q)
-
-  computes-retval : ComputesNode c i n [] (retval_code t d)
-  computes-retval = record {
-    some = unary-some (extension t) rd 10;
-    computes = unary-computes (extension t) rd 10;
-    keeps = λ w r k. unary-keeps rd (register-nonzero d) (register-apart d).0 (register-apart d).1 (extension t) 10 w r (kept-apart n d named writes [] r k) k.link k.carry;
-    steps = λ s w at h. by s w h (one-given s.answer (to s) (step c.nodes c.shape c.addresses s) (step-is c i n s x at));
-  }
-    where
-      by : (s : State) (w : ℕ → ℕ) → HoldsRead n s w → (step c.nodes c.shape c.addresses s ≡ Undefined) ⊎ OneGiven s.answer (to s) (step c.nodes c.shape c.addresses s) → (step c.nodes c.shape c.addresses s ≡ Undefined) ⊎ StepsTo c n s (computed (retval_code t d) w)
-      by s w h (inl e) = inl e
-      by s w h (inr g) = inr record {
-        to = to s g.x;
-        goes = g.goes;
-        on = record { at = refl; frame = refl; callers = refl; pushed = refl; mem = refl; mark = refl; data_size = refl; args_size = refl; answer = refl };
-        holds = holds-one n d named writes s (to s g.x) (typed t g.x) (computed (retval_code t d) w) refl
-            (unary-computed rd (register-nonzero d) (register-apart d).0 (register-apart d).1 (extension t) 10 w h.words ∙ ap (unary_value (extension t)) (h.result.is g.x g.first) ∙ extends t g.x) tt;
-      }
+computes-retval : (c : Code) (i : ℕ) (t : ValueType) (d : Reg) (line : ℕ) → d ≢ Fp → IsInText c i (retval_node t d line) → IsComputed c i (retval_node t d line) [] (retval_code t d)
+computes-retval c i t d line named x code trash =
+    let rd = register_of Riscv64 d in
+    let body = retval_code t d in
+    retval-nodes-compute (rv_computer code trash) rv_scratch c i t d line [] body named x
+    (into code trash (d ∷ []) [] body record {
+      some = unary-some (extension t) rd 10;
+      computes = unary-computes (extension t) rd 10;
+      keeps = λ w r apart taken link carry. unary-keeps rd (register-nonzero d) (register-apart d).0 (register-apart d).1 (extension t) 10 w r apart.0 link carry;
+    })
+    (λ w words. held-at body w rd _ (unary-computed rd (register-nonzero d) (register-apart d).0 (register-apart d).1 (extension t) 10 w.registers words ∙ extends t (w.registers 10)))
 
 pub retvals-carry : RetvalsCarry
 retvals-carry code trash c i t d line S x k =
     let named = written-named d (x.formed (retval_node t d line) x.here).forms in
-    plain-nodes-carry code trash c i (retval_node t d line) S (retval_code t d) refl refl x
+    plain-carries code trash c i (retval_node t d line) refl refl x S (retval_code t d)
     record {
       small = k.small;
       bytes = k.bytes;

@@ -1,6 +1,6 @@
 -- Nodes that set the carry are carried by their items.
 use Rattle.std.proofs.Common.{◌≡◌, ◌≢◌, ℕ, ◌<◌, Bool, true, false, List, [], ◌∷◌, ◌++◌, Some, refl, sym, ap, ◌∙◌, subst, arith}
-use Rattle.std.specs.Prelude.{◌==◌, ◌||◌, pos, if◌then◌else◌, slice_index, slice_index_or}
+use Rattle.std.specs.Prelude.{◌||◌, pos, if◌then◌else◌, slice_index, slice_index_or}
 use Rattle.lg_base.specs.declared.target.Target.TheVariants.{Riscv64}
 use Rattle.lg_op.specs.Forms.{admits}
 use Rattle.lg_op.specs.declared.form.Form.TheVariants.{Immediate}
@@ -24,21 +24,23 @@ use Rattle.lg_rv.specs.declared.instruction.ImmOp.TheVariants.{Addi}
 use Rattle.lg_meaning.specs.States.{State, value, number}
 use Rattle.lg_temp.specs.declared.choice.Need.TheVariants.{Any}
 use Rattle.lg_temp.specs.declared.choice.Choice.{Choice}
+use Rattle.lg_temp.specs.declared.choice.Choice.TheVariants.{Free, Own, Spill}
 use Rattle.lg_temp.specs.Abis.{register_of}
-use Rattle.lg_temp.specs.Chosen.{around, stands_in, is_chosen, taken_by}
-use Rattle.lg_temp.specs.Choices.{AreFor}
+use Rattle.lg_temp.specs.Chosen.{Around, around, stands_in, taken_by}
+use Rattle.lg_temp.specs.Choices.{IsTaken, AreFor}
+use Rattle.lg_sel_nodes.specs.Straight.{is_taken}
 use Rattle.lg_carry.specs.FinalNodes.{Code}
 use Rattle.lg_carry.specs.NodeCode.{numbered, CarriesNode}
 use Rattle.lg_carry.proofs.TemporariesApartLemmas.{none-stood-for, tried-spare}
 use Rattle.lg_carry_rv.specs.RvRows.{rv_processor, can_save}
 use Rattle.lg_carry_rv.specs.Places.{IsInCode}
-use Rattle.lg_carry_rv.specs.ComputingNodes.{HoldsRead}
-use Rattle.lg_carry_rv.proofs.ComputingNodeLemmas.{computing-nodes-carry}
-use Rattle.lg_carry_rv.proofs.RegisterLemmas.{stands-for, number-few, numbered-at, same-self}
-use Rattle.lg_carry_rv.proofs.TemporaryLemmas.{temporary, tried-saved}
+use Rattle.lg_sel_values.specs.Computers.{Held, HeldRead}
+use Rattle.lg_selr_values.proofs.ComputedNodeLemmas.{computed-carries}
+use Rattle.lg_carry_rv.proofs.RegisterLemmas.{read-of, stands-for, number-few, numbered-at, same-self}
+use Rattle.lg_carry_rv.proofs.IsaLemmas.{tried-saved}
 use Rattle.lg_selr_items.specs.Items.{settled, ones}
 use Rattle.lg_selr_values.specs.CarriedCode.{carried_code}
-use Rattle.lg_selr_values.specs.ValueNodes.{binary_node}
+use Rattle.lg_sel_values.specs.ValueNodes.{binary_node}
 use Rattle.lg_selr_values.specs.ValueItems.{value_needs, load_items, binary_items, second_items, carried_items, body_items, value_items}
 use Rattle.lg_selr_values.specs.ValueLaws.{IsWord, AreWords}
 use Rattle.lg_selr_values.proofs.ImmediateLemmas.{is-load}
@@ -59,7 +61,7 @@ pub record HasSecond (c : Code) (n : Node) (x : Operand) : Type 0 where
   pub settles : Settles (slice_index c.addresses) (second_items x) code
   pub word : (ℕ → ℕ) → ℕ
   pub puts : PutsSecond code word
-  pub gives : (s : State) (w : ℕ → ℕ) (k : ℕ) → HoldsRead n s w → value c.addresses s x ≡ Some k → word w ≡ k
+  pub gives : (s : State) (w : Held) (k : ℕ) → HeldRead Riscv64 n s w → value c.addresses s x ≡ Some k → word w.registers ≡ k
 
 pub register-second : (c : Code) (o : BinaryOp) (d a b : Reg) (line : ℕ) → HasSecond c (binary_node o last_operand.Register d a (operand.Reg b) line) (operand.Reg b)
 register-second c o d a b line = record {
@@ -67,7 +69,7 @@ register-second c o d a b line = record {
   settles = record { become = λ at. refl };
   word = λ w. read w (register_of Riscv64 b);
   puts = second-register (register_of Riscv64 b);
-  gives = λ s w k h e. h.registers b k (λ ne. ap (λ z. (z || is_same a b) || false) (same-self b ne)) e;
+  gives = λ s w k h e. read-of w.registers b ∙ h.registers b k (λ ne. ap (λ z. (z || is_same a b) || false) (same-self b ne)) e;
 }
 
 pub immediate-second : (c : Code) (o : BinaryOp) (d a : Reg) (x : Operand) (line : ℕ) → admits Immediate x ≡ true → IsWord c.addresses x → HasSecond c (binary_node o last_operand.Immediate d a x line) x
@@ -109,15 +111,17 @@ either false c e = (refl, e)
 saved-nonzero : (x : ℕ) → can_save x ≡ true → x ≢ 0
 saved-nonzero x h = λ e. absurd (grind (arith, h, e))
 
-same-number : (r : ℕ) → ((r == r) || false) ≡ true
-same-number r = grind arith
+-- a register for a need that names none
+is-tried : (a : Around) (choice : Choice) → AreFor a (Any ∷ []) [] (Any ∷ []) (choice ∷ []) → IsTaken a (Any ∷ []) [] (taken_by choice)
+is-tried a (Free r) h = h.0.0
+is-tried a (Own r) h = absurd h.0
+is-tried a (Spill r k) h = h.0.0
 
 is-temporary : (n : Node) (d a : Reg) (live : Reg → Bool) (staged : List Bool) (choice : Choice) → d ≢ Fp → is_written n d ≡ true → (a ≢ Fp → is_read n a ≡ true) → AreFor (around Riscv64 n live staged) (Any ∷ []) [] (Any ∷ []) (choice ∷ [])
     → IsTemporaryFor d a (taken_by choice)
 is-temporary n d a live staged choice named writes reads chosen =
-    let place = around Riscv64 n live staged in
     let u = taken_by choice in
-    let m = temporary place (Any ∷ []) (Any ∷ []) [] (choice ∷ []) (is_chosen (choice ∷ [])) u tt chosen (same-number u) in
+    let m = is-tried (around Riscv64 n live staged) choice chosen in
     let own = either (stands_in Riscv64 (is_read n) u) (stands_in Riscv64 (is_written n) u) m.own in
     let spare = tried-spare Riscv64 u m.tried in
     record {
@@ -140,8 +144,10 @@ is-temporary n d a live staged choice named writes reads chosen =
     by V1 e u apart off = of V1 u e (λ w. cc) off
     by V2 e u apart off = of V2 u e (λ w. cc) off
 
-not-taken : (choice : Choice) (r : ℕ) → is_chosen (choice ∷ []) r ≡ false → r ≢ taken_by choice
-not-taken choice r h = λ e. absurd (grind (arith, h, e))
+not-taken : (a : Around) (choice : Choice) (r : ℕ) → AreFor a (Any ∷ []) [] (Any ∷ []) (choice ∷ []) → is_taken (choice ∷ []) r ≡ false → r ≢ taken_by choice
+not-taken a (Free x) r h off = λ e. absurd (grind (arith, off, e))
+not-taken a (Own x) r h off = absurd h.0
+not-taken a (Spill x k) r h off = λ e. absurd (grind (arith, off, e))
 
 module _ (o : BinaryOp) (last : LastOperand) (d a : Reg) (x : Operand) (line : ℕ) (carries : is_carried o ≡ true) (needs : value_needs (op.Binary o last) ≡ Any ∷ [])
     (temp : (u : ℕ) → IsTemporaryFor d a u → HasTemporary o d a u) (other : (u r : ℕ) → r ≢ u → IsOtherThan o u r) (named : d ≢ Fp)
@@ -159,8 +165,8 @@ module _ (o : BinaryOp) (last : LastOperand) (d a : Reg) (x : Operand) (line : �
       let u = taken_by choice in
       let body = f.code ++ carried_code o u (register_of Riscv64 d) (register_of Riscv64 a) in
       let items = settles-saved (slice_index c.addresses) code trash (choice ∷ []) (body_items n.op n.operands u) body (carry-items (slice_index c.addresses) o u (register_of Riscv64 d) (register_of Riscv64 a) x f.code carries f.settles) in
-      computing-nodes-carry code trash c i n live staged (Any ∷ []) (choice ∷ []) body refl refl tt (omega arith) chosen pushes t (subst (IsInCode code trash c i) (items.become (c.place i)) k)
-      (carried-computes-node c i o last d a x line carries named t (choice ∷ []) u (temp u (is-temporary n d a live staged choice named writes reads chosen)) (λ r e. other u r (not-taken choice r e)) f.code f.word f.puts f.gives)
+      computed-carries code trash c i n refl refl t live staged (Any ∷ []) (choice ∷ []) body (λ y e. cc) (omega arith) chosen pushes (subst (IsInCode code trash c i) (items.become (c.place i)) k)
+      (carried-computes-node c i o last d a x line carries named t (choice ∷ []) u (temp u (is-temporary n d a live staged choice named writes reads chosen)) (λ r e. other u r (not-taken (around Riscv64 n live staged) choice r chosen e)) f.code f.word f.puts f.gives)
 
   pub temporary-carried : IsCarried n
   temporary-carried code trash c i live staged choices words chosen pushes t k = one-chosen code trash c i live staged choices words (subst (λ ns. AreFor (around Riscv64 n live staged) ns [] ns choices) needs chosen) pushes t k

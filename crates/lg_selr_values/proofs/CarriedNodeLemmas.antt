@@ -1,45 +1,44 @@
 -- Nodes that set the carry.
-use Rattle.std.proofs.Common.{◌≡◌, ◌≢◌, ℕ, ◌^◌, ◌<◌, ◌⊎◌, inl, inr, Bool, true, false, List, [], ◌∷◌, ◌++◌, Some, None, refl, sym, ap, ◌∙◌, subst, arith, length}
-use Rattle.std.specs.Prelude.{pos, if◌then◌else◌}
+use Rattle.std.proofs.Common.{◌≡◌, ◌≢◌, ℕ, ◌^◌, ◌<◌, Bool, true, false, List, [], ◌∷◌, ◌++◌, Some, None, refl, sym, ap, ◌∙◌, subst, arith, length}
+use Rattle.std.specs.Prelude.{pos}
+use Rattle.lg_base.specs.CarryFlags.{carry_of}
 use Rattle.lg_base.specs.Words.{word_of_test}
 use Rattle.lg_base.specs.declared.target.Target.TheVariants.{Riscv64}
 use Rattle.lg_op.specs.declared.op.BinaryOp.{BinaryOp}
 use Rattle.lg_op.specs.declared.op.BinaryOp.TheVariants as binary
 use Rattle.lg_op.specs.declared.op.LastOperand.{LastOperand}
-use Rattle.lg_op.specs.declared.op.LastOperand.TheVariants as last_operand
 use Rattle.lg_op.specs.declared.node.Node.{Node}
 use Rattle.lg_op.specs.declared.operand.Reg.{Reg}
 use Rattle.lg_op.specs.declared.operand.Reg.TheVariants.{Fp}
 use Rattle.lg_op.specs.declared.operand.Operand.{Operand}
-use Rattle.lg_op.specs.declared.operand.Operand.TheVariants as operand
 use Rattle.lg_operators.specs.declared.carry.Carry.{Carry}
 use Rattle.lg_operators.specs.declared.carry.Carry.TheVariants as carry
-use Rattle.lg_operators.specs.Operators.{binary_value, is_carried, carry_in, carried_value, carried_out}
-use Rattle.lg_live.specs.Registers.{is_same}
-use Rattle.lg_live.specs.Uses.{is_read, is_written}
+use Rattle.lg_operators.specs.Operators.{is_carried, carry_in, carried_value, carried_out}
 use Rattle.lg_rv.specs.declared.instruction.Instr.{Instr}
 use Rattle.lg_rv.specs.declared.instruction.Instr.TheVariants.{Imm}
 use Rattle.lg_rv.specs.declared.instruction.ImmOp.TheVariants.{Addi}
 use Rattle.lg_cpu.specs.HostSteps.{put}
 use Rattle.lg_cpu.specs.RvStep.{read}
-use Rattle.lg_meaning.specs.States.{State, reg, value}
-use Rattle.lg_meaning.specs.Steps.{Undefined, bit_word, carried_to, binary_step, carried_step}
-use Rattle.lg_meaning.specs.Texts.{step}
+use Rattle.lg_meaning.specs.States.{State, value}
+use Rattle.lg_meaning.specs.Steps.{bit_word}
 use Rattle.lg_temp.specs.declared.choice.Choice.{Choice}
 use Rattle.lg_temp.specs.Abis.{register_of}
-use Rattle.lg_temp.specs.Chosen.{is_chosen}
+use Rattle.lg_sel_nodes.specs.Straight.{is_taken}
 use Rattle.lg_carry.specs.FinalNodes.{Code}
 use Rattle.lg_carry.specs.Registers.{HoldsCarry}
 use Rattle.lg_carry.specs.TextNodes.{IsInText}
 use Rattle.lg_carry_rv.specs.Computations.{all_compute, computed}
-use Rattle.lg_carry_rv.specs.ComputingNodes.{HoldsRead, StepsTo, ComputesNode}
+use Rattle.lg_carry_rv.specs.RvComputers.{rv_scratch, held_by, rv_computer, IsComputed}
+use Rattle.lg_carry_rv.proofs.ComputerLemmas.{held-at, into, carry-again}
+use Rattle.lg_sel_values.specs.Computers.{Held, HeldRead}
+use Rattle.lg_sel_values.specs.Computers as computer
 use Rattle.lg_carry_rv.proofs.ComputationLemmas.{computed-append, all-compute-append, read-other, put-same, put-other}
-use Rattle.lg_carry_rv.proofs.RegisterLemmas.{register-apart, register-nonzero, same-self}
+use Rattle.lg_carry_rv.proofs.RegisterLemmas.{register-apart, register-nonzero, read-of}
 use Rattle.lg_selr_values.specs.CarriedCode.{carried_code}
-use Rattle.lg_selr_values.specs.ValueNodes.{binary_node}
+use Rattle.lg_sel_values.specs.ValueNodes.{binary_node}
 use Rattle.lg_selr_values.proofs.LoadCodeLemmas.{some-same, read-small, LoadsWord, longer}
 use Rattle.lg_selr_values.proofs.CarriedCodeLemmas.{IsOtherThan, addc-holds, subc-holds, addx-holds, subx-holds, carried-keeps, carried-computes}
-use Rattle.lg_selr_values.proofs.ResultLemmas.{or-false, or-middle, step-is, TwoGiven, two-given, holds-one, kept-apart}
+use Rattle.lg_sel_values.proofs.OneResultLemmas.{carried-nodes-compute}
 use Rattle.lg_selr_values.proofs.UnaryCodeLemmas.{add-none}
 
 -- ---- the temporary
@@ -114,13 +113,10 @@ pub second-loaded : (load : List Instr) (v : ℕ) → LoadsWord load 1 v → Put
 second-loaded load v l = record { computes = l.computes; value = λ w words. l.value w; keeps = λ w r ne. ap (λ u. u r) (l.value w) ∙ put-other w 1 v r ne; some = l.some; small = λ w words. l.small }
 
 -- ---- the nodes
-only-carried : (c : Code) (o : BinaryOp) (s : State) (n : Node) → is_carried o ≡ true → (if is_carried o then carried_step c.addresses n o s else binary_step c.addresses n (binary_value o) s) ≡ carried_step c.addresses n o s
-only-carried c o s n h = ap (λ z. if z then carried_step c.addresses n o s else binary_step c.addresses n (binary_value o) s) h
-
 module _ (c : Code) (i : ℕ) (o : BinaryOp) (last : LastOperand) (d a : Reg) (x : Operand) (line : ℕ) (carries : is_carried o ≡ true) (named : d ≢ Fp) (t : IsInText c i (binary_node o last d a x line))
-    (choices : List Choice) (u : ℕ) (temp : HasTemporary o d a u) (chosen : (r : ℕ) → is_chosen choices r ≡ false → IsOtherThan o u r)
+    (choices : List Choice) (u : ℕ) (temp : HasTemporary o d a u) (other : (r : ℕ) → is_taken choices r ≡ false → IsOtherThan o u r)
     (second : List Instr) (y : (ℕ → ℕ) → ℕ) (puts : PutsSecond second y)
-    (gives : (s : State) (w : ℕ → ℕ) (k : ℕ) → HoldsRead (binary_node o last d a x line) s w → value c.addresses s x ≡ Some k → y w ≡ k) where
+    (gives : (s : State) (w : Held) (k : ℕ) → HeldRead Riscv64 (binary_node o last d a x line) s w → value c.addresses s x ≡ Some k → y w.registers ≡ k) where
   abbrev n : Node
   n = binary_node o last d a x line
 
@@ -133,56 +129,32 @@ module _ (c : Code) (i : ℕ) (o : BinaryOp) (last : LastOperand) (d a : Reg) (x
   abbrev body : List Instr
   body = second ++ carried_code o u to from
 
-  abbrev reached : State → ℕ → ℕ → Bool → State
-  reached s m k bit = carried_to s (operand.Reg d) (carried_value o m k (bit_word bit)) (carried_out o m k (bit_word bit))
-
-  abbrev Given : State → Type 0
-  Given s = TwoGiven (reg s a) (value c.addresses s x) (λ m k. carry_in o s.carry) (reached s) (step c.nodes c.shape c.addresses s)
-
-  writes : (q : Reg) → is_written n q ≡ is_same d q
-  writes q = by last
-    where
-      by : (l : LastOperand) → is_written (binary_node o l d a x line) q ≡ is_same d q
-      by last_operand.Register = or-false (is_same d q)
-      by last_operand.Immediate = or-false (is_same d q)
-
-  reads-first : a ≢ Fp → is_read n a ≡ true
-  reads-first ne = or-middle _ (is_same a a) false (same-self a ne)
-
   before : (w : ℕ → ℕ) → ((r : ℕ) → w r < 2 ^ 64) → computed body w ≡ computed (carried_code o u to from) (put w 1 (y w))
   before w words = computed-append second (carried_code o u to from) w ∙ ap (computed (carried_code o u to from)) (puts.value w words)
 
-  carry-kept : (k : Carry) (w v : ℕ → ℕ) → v 31 ≡ w 31 → HoldsCarry Riscv64 w None k → HoldsCarry Riscv64 v None k
-  carry-kept carry.Undefined w v e h = tt
-  carry-kept (carry.Sum b) w v e h = e ∙ h
-  carry-kept (carry.Difference b) w v e h = e ∙ h
+  made : (s : State) (w : Held) (m k : ℕ) (bit : Bool) → HeldRead Riscv64 n s w → w.registers from ≡ m → value c.addresses s x ≡ Some k → carry_in o s.carry ≡ Some bit → HoldsResult o to m k (bit_word bit) (computed body w.registers)
+  made s w m k bit h em ek eb =
+      let w0 = w.registers in
+      let w1 = put w0 1 (y w0) in
+      let first : read w0 from ≡ m = read-of w0 a ∙ em in
+      let ex : read w1 from ≡ m = read-other w0 1 (y w0) from (register-apart a).0 ∙ first in
+      let ey : w1 1 ≡ k = put-same w0 1 (y w0) ∙ gives s w k h ek in
+      let xs : m < 2 ^ 64 = subst (λ z. z < 2 ^ 64) first (read-small w0 from h.words) in
+      let ys : k < 2 ^ 64 = subst (λ z. z < 2 ^ 64) (gives s w k h ek) (puts.small w0 h.words) in
+      subst (HoldsResult o to m k (bit_word bit)) (sym (before w0 h.words))
+      (code-holds u d a w1 m k xs ys ex ey o s.carry bit temp carries eb (carry-again s.carry w0 w1 (carry_of w.flags) None (put-other w0 1 (y w0) 31 (λ z. absurd (omega (arith, z)))) h.carry))
 
-  made : (s : State) (w : ℕ → ℕ) → HoldsRead n s w → (g : Given s) → HoldsResult o to g.x g.y (bit_word g.v) (computed body w)
-  made s w h g =
-      let w1 = put w 1 (y w) in
-      let first : read w from ≡ g.x = h.registers a g.x reads-first g.first in
-      let ex : read w1 from ≡ g.x = read-other w 1 (y w) from (register-apart a).0 ∙ first in
-      let ey : w1 1 ≡ g.y = put-same w 1 (y w) ∙ gives s w g.y h g.second in
-      let xs : g.x < 2 ^ 64 = subst (λ z. z < 2 ^ 64) first (read-small w from h.words) in
-      let ys : g.y < 2 ^ 64 = subst (λ z. z < 2 ^ 64) (gives s w g.y h g.second) (puts.small w h.words) in
-      subst (HoldsResult o to g.x g.y (bit_word g.v)) (sym (before w h.words))
-      (code-holds u d a w1 g.x g.y xs ys ex ey o s.carry g.v temp carries g.third (carry-kept s.carry w w1 (put-other w 1 (y w) 31 (λ z. absurd (omega (arith, z)))) h.carry))
-
-  pub carried-computes-node : ComputesNode c i n choices body
-  carried-computes-node = record {
-    some = longer second (carried_code o u to from) puts.some;
-    computes = all-compute-append second (carried_code o u to from) puts.computes (carried-computes o u to from);
-    keeps = λ w r k. ap (λ z. z r) (computed-append second (carried_code o u to from) w) ∙ carried-keeps o u to from (computed second w) r (chosen r k.chosen) (kept-apart n d named writes choices r k) k.link k.carry ∙ puts.keeps w r k.link;
-    steps = λ s w at h. by s w h (two-given (reg s a) (value c.addresses s x) (λ m k. carry_in o s.carry) (reached s) (step c.nodes c.shape c.addresses s) (step-is c i n s t at ∙ only-carried c o s n carries));
-  }
-    where
-      by : (s : State) (w : ℕ → ℕ) → HoldsRead n s w → (step c.nodes c.shape c.addresses s ≡ Undefined) ⊎ Given s → (step c.nodes c.shape c.addresses s ≡ Undefined) ⊎ StepsTo c n s (computed body w)
-      by s w h (inl e) = inl e
-      by s w h (inr g) =
-          let m = made s w h g in
-          inr record {
-            to = reached s g.x g.y g.v;
-            goes = g.goes;
-            on = record { at = refl; frame = refl; callers = refl; pushed = refl; mem = refl; mark = refl; data_size = refl; args_size = refl; answer = refl };
-            holds = holds-one n d named writes s (reached s g.x g.y g.v) (carried_value o g.x g.y (bit_word g.v)) (computed body w) refl m.value m.carry;
-          }
+  pub carried-computes-node : IsComputed c i n choices body
+  carried-computes-node code trash = carried-nodes-compute (rv_computer code trash) rv_scratch c i o last d a x line choices body carries named t
+      (into code trash (d ∷ []) choices body record {
+        some = longer second (carried_code o u to from) puts.some;
+        computes = all-compute-append second (carried_code o u to from) puts.computes (carried-computes o u to from);
+        keeps = λ w r apart taken link carry. ap (λ z. z r) (computed-append second (carried_code o u to from) w) ∙ carried-keeps o u to from (computed second w) r (other r taken) apart.0 link carry ∙ puts.keeps w r link;
+      })
+      (λ s w m k bit h em ek eb.
+      let e = made s w m k bit h em ek eb in
+      let end = computer.computed held_by body w in
+      record {
+        value = held-at body w to (carried_value o m k (bit_word bit)) e.value;
+        carry = carry-again (carried_out o m k (bit_word bit)) (computed body w.registers) end.registers None (carry_of end.flags) (held-at body w 31 (computed body w.registers 31) refl) e.carry;
+      })

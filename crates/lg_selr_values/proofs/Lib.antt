@@ -3,14 +3,13 @@ pub mod BinaryNodeLemmas
 pub mod CarriedCodeLemmas
 pub mod CarriedItemLemmas
 pub mod CarriedNodeLemmas
+pub mod ComputedNodeLemmas
 pub mod EmissionLemmas
 pub mod FitLemmas
 pub mod FormLemmas
 pub mod ImmediateLemmas
 pub mod LoadCodeLemmas
-pub mod MoviNodeLemmas
 pub mod PlainItemLemmas
-pub mod ResultLemmas
 pub mod SettledLemmas
 pub mod StraightLemmas
 pub mod UnaryCodeLemmas

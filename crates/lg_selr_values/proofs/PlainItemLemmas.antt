@@ -23,11 +23,11 @@ use Rattle.lg_selr_items.specs.Items.{ones}
 use Rattle.lg_selr_values.specs.BinaryCode.{register_code, number_form_code}
 use Rattle.lg_selr_values.specs.UnaryCode.{unary_code}
 use Rattle.lg_selr_values.specs.WideCode.{wide_code}
-use Rattle.lg_selr_values.specs.ValueNodes.{binary_node, wide_node, unary_node, movi_node}
+use Rattle.lg_sel_values.specs.ValueNodes.{binary_node, wide_node, unary_node, movi_node}
 use Rattle.lg_selr_values.specs.ValueItems.{value_needs, load_items, binary_items, carried_items, wide_items}
 use Rattle.lg_selr_values.proofs.ImmediateLemmas.{is-load}
 use Rattle.lg_selr_values.proofs.BinaryNodeLemmas.{registers-compute, number-computed, loaded-computed}
-use Rattle.lg_selr_values.proofs.MoviNodeLemmas.{movi-computes}
+use Rattle.lg_selr_values.proofs.UnaryNodeLemmas.{movi-computes}
 use Rattle.lg_selr_values.proofs.UnaryNodeLemmas.{unary-node-computes}
 use Rattle.lg_selr_values.proofs.WideNodeLemmas.{wide-registers, wide-loaded}
 use Rattle.lg_selr_values.proofs.SettledLemmas.{Settles, settles-ones, settles-append, IsCarried, carried-plain}

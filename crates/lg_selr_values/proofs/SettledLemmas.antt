@@ -18,9 +18,10 @@ use Rattle.lg_carry.specs.Spills.{wrapped}
 use Rattle.lg_carry.specs.NodeCode.{numbered, CarriesNode}
 use Rattle.lg_carry_rv.specs.RvRows.{rv_processor, rv_rows, slot_offset}
 use Rattle.lg_carry.specs.Carries.{leaps}
-use Rattle.lg_carry_rv.specs.Places.{IsInCode, stands_inside}
-use Rattle.lg_carry_rv.specs.ComputingNodes.{ComputesNode}
-use Rattle.lg_carry_rv.proofs.ComputingNodeLemmas.{plain-nodes-carry}
+use Rattle.lg_carry.specs.TextNodes.{stands_inside}
+use Rattle.lg_carry_rv.specs.Places.{IsInCode}
+use Rattle.lg_carry_rv.specs.RvComputers.{IsComputed}
+use Rattle.lg_selr_values.proofs.ComputedNodeLemmas.{plain-carries}
 use Rattle.lg_selr_items.specs.declared.items.Item.{Item}
 use Rattle.lg_selr_items.specs.declared.items.Item.TheVariants.{One}
 use Rattle.lg_selr_items.specs.Items.{bytes_in, settled, ones}
@@ -66,10 +67,10 @@ none-chosen a (choice ∷ choices) h = absurd h
 pub record IsBuilt (c : Code) (i : ℕ) (n : Node) : Type 0 where
   pub body : List Instr
   pub settles : Settles (slice_index c.addresses) (body_items n.op n.operands 0) body
-  pub computes : ComputesNode c i n [] body
+  pub computes : IsComputed c i n [] body
 
 pub carried-plain : (n : Node) → stands_inside n.op ≡ true → leaps n.op ≡ false → value_needs n.op ≡ [] → ((c : Code) (i : ℕ) → IsInText c i n → AreWords c.addresses n.operands → IsBuilt c i n) → IsCarried n
 carried-plain n inside falls none build code trash c i live staged choices words chosen pushes t k =
     let empty : choices ≡ [] = none-chosen (around Riscv64 n live staged) choices (subst (λ ns. AreFor (around Riscv64 n live staged) ns [] ns choices) none chosen) in
     let b = build c i t words in
-    plain-nodes-carry code trash c i n (numbered live) b.body inside falls t (subst (IsInCode code trash c i) (ap (λ cs. settled (slice_index c.addresses) (c.place i) (value_items n cs)) empty ∙ b.settles.become (c.place i)) k) b.computes
+    plain-carries code trash c i n inside falls t (numbered live) b.body (subst (IsInCode code trash c i) (ap (λ cs. settled (slice_index c.addresses) (c.place i) (value_items n cs)) empty ∙ b.settles.become (c.place i)) k) b.computes

@@ -22,7 +22,7 @@ use Rattle.lg_temp.specs.Chosen.{Around, around, order}
 use Rattle.lg_temp.specs.Choices.{AreFor}
 use Rattle.lg_carry_rv.specs.Numbers.{number_code}
 use Rattle.lg_carry_rv.specs.RvRows.{can_save, slot_offset}
-use Rattle.lg_carry_rv.proofs.TemporaryLemmas.{tried-saved}
+use Rattle.lg_carry_rv.proofs.IsaLemmas.{tried-saved}
 use Rattle.lg_selr_items.specs.declared.items.Item.{Item}
 use Rattle.lg_selr_items.specs.Items.{settled, ones, NameLabels}
 use Rattle.lg_selr_items.proofs.ItemLemmas.{items-append, names-append, names-ones}

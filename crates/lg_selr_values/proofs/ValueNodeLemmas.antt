@@ -20,7 +20,7 @@ use Rattle.lg_live.specs.Registers.{is_same}
 use Rattle.lg_live.specs.Uses.{is_read, is_written}
 use Rattle.lg_meaning.specs.States.{value}
 use Rattle.lg_carry_rv.proofs.RegisterLemmas.{same-self}
-use Rattle.lg_selr_values.specs.ValueNodes.{binary_node, wide_node, unary_node, movi_node}
+use Rattle.lg_sel_values.specs.ValueNodes.{binary_node, wide_node, unary_node, movi_node}
 use Rattle.lg_selr_values.specs.ValueItems.{computes_value}
 use Rattle.lg_selr_values.specs.ValueLaws.{ValueNodesCarry}
 use Rattle.lg_selr_values.proofs.FormLemmas.{is-target, is-source, two-operands, three-operands, four-operands}
@@ -29,7 +29,7 @@ use Rattle.lg_op.specs.Nodes.{InForm, IsApart}
 use Rattle.lg_selr_values.proofs.SettledLemmas.{IsCarried}
 use Rattle.lg_selr_values.proofs.PlainItemLemmas.{unary-carried, movi-carried, registers-carried, immediate-carried, wide-registers-carried, wide-immediate-carried}
 use Rattle.lg_selr_values.proofs.CarriedItemLemmas.{HasForm, register-second, immediate-second, sum-carried, temporary-carried}
-use Rattle.lg_selr_values.proofs.ResultLemmas.{or-false, or-middle}
+use Rattle.lg_sel_values.proofs.ResultLemmas.{or-false, or-middle}
 
 true-false : (b : Bool) → (b ≡ true) ⊎ (b ≡ false)
 true-false true = inl refl

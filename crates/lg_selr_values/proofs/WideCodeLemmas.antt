@@ -16,6 +16,7 @@ use Rattle.lg_cpu.specs.RvStep.{read}
 use Rattle.lg_carry_rv.specs.Computations.{all_compute, computed}
 use Rattle.lg_carry_rv.proofs.ComputationLemmas.{read-other, put-same, put-other}
 use Rattle.lg_selr_values.specs.WideCode.{wide_code}
+use Rattle.lg_sel_values.specs.Values.{HoldsPair}
 use Rattle.lg_selr_values.proofs.LoadCodeLemmas.{read-small, some-same}
 
 -- ---- words
@@ -72,11 +73,6 @@ otherwise : (b : Bool) (x y : ℕ) → b ≡ false → (if b then x else y) ≡ 
 otherwise b x y e = ap (λ c. if c then x else y) e
 
 -- ---- the code
--- both registers hold the words of a pair
-pub record HoldsPair (d e : ℕ) (p : ℕ × ℕ) (u : ℕ → ℕ) : Type 0 where
-  pub first : u d ≡ p.0
-  pub second : u e ≡ p.1
-
 module _ (d e a b : ℕ) (d1 : d ≢ 1) (e1 : e ≢ 1) (de : d ≢ e) (a1 : a ≢ 1) (b1 : b ≢ 1) (w : ℕ → ℕ) where
   abbrev x : ℕ
   x = read w a

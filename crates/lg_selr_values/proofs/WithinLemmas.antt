@@ -5,7 +5,6 @@ use Rattle.std.specs.List.{list_any}
 use Rattle.std.proofs.lemmas.Bool.Decides.{nat_tests}
 use Rattle.lg_base.specs.HostNames.{host_address}
 use Rattle.lg_base.specs.declared.target.Target.TheVariants.{Riscv64}
-use Rattle.lg_carry_rv.specs.ComputingNodes.{AreAny}
 use Rattle.lg_carry_rv.specs.Numbers.{number_code}
 use Rattle.lg_op.specs.declared.node.Node.{Node}
 use Rattle.lg_op.specs.declared.op.BinaryOp.{BinaryOp}
@@ -65,6 +64,12 @@ tried r h = member (order Riscv64) r (refl, (refl, (refl, (refl, (refl, (refl, (
 abbrev Taken : List Choice → Type 0
 Taken [] = ⊤
 Taken (choice ∷ choices) = In (taken_by choice) × Taken choices
+
+-- needs that name no register
+abbrev AreAny : List Need → Type 0
+AreAny [] = ⊤
+AreAny (Any ∷ needs) = AreAny needs
+AreAny (Only r ∷ needs) = ⊥
 
 taken : (n : Node) (live : Reg → Bool) (set : List Bool) (needs left : List Need) (made choices : List Choice) → AreAny left → AreFor (around Riscv64 n live set) needs made left choices → Taken choices
 taken n live set needs [] made [] k f = tt

@@ -4,5 +4,4 @@ pub mod UnaryCode
 pub mod ValueFits
 pub mod ValueItems
 pub mod ValueLaws
-pub mod ValueNodes
 pub mod WideCode

@@ -2,7 +2,7 @@
 use Rattle.std.proofs.Common.{◌≡◌, ◌≢◌, ℕ, ◌<◌, ◌⊎◌, inl, inr, Bool, true, false, List, [], Option, Some, None, refl, sym, ap, ◌∙◌, arith}
 use Rattle.std.specs.Prelude.{◌||◌, slice_get}
 use Rattle.lg_base.specs.Conventions.{portable_register}
-use Rattle.lg_base.specs.declared.target.Target.TheVariants.{Riscv64}
+use Rattle.lg_base.specs.declared.target.Target.{Target}
 use Rattle.lg_op.specs.declared.node.Node.{Node}
 use Rattle.lg_op.specs.declared.operand.Reg.{Reg}
 use Rattle.lg_op.specs.declared.operand.Reg.TheVariants.{Fp}
@@ -13,13 +13,14 @@ use Rattle.lg_meaning.specs.Steps.{Outcome, Goes, Undefined, need, quiet, with_w
 use Rattle.lg_meaning.specs.Texts.{text, step_at, step}
 use Rattle.lg_temp.specs.declared.choice.Choice.{Choice}
 use Rattle.lg_temp.specs.Abis.{register_of}
+use Rattle.lg_base.specs.CarryFlags.{carry_of}
 use Rattle.lg_carry.specs.FinalNodes.{Code}
 use Rattle.lg_carry.specs.Registers.{HoldsCarry}
 use Rattle.lg_carry.specs.NodeCode.{numbered}
 use Rattle.lg_carry.specs.TextNodes.{IsInText}
-use Rattle.lg_carry_rv.specs.ComputingNodes.{HoldsWritten, IsKept}
-use Rattle.lg_carry_rv.proofs.RegisterLemmas.{stands-for, numbered-at, same-self, only-number}
-use Rattle.lg_selr_values.proofs.LoadCodeLemmas.{some-same}
+use Rattle.lg_sel_nodes.specs.Straight.{HoldsWritten, IsKept}
+use Rattle.lg_sel_nodes.proofs.RegisterLemmas.{stands-for, numbered-at, same-self, only-number, some-same}
+use Rattle.lg_sel_values.specs.Computers.{Held}
 
 pub or-false : (b : Bool) → (b || false) ≡ b
 or-false true = refl
@@ -63,11 +64,11 @@ two-given (Some x) None f g o e = inl e
 two-given (Some x) (Some y) f g o e = third-given x y (f x y) f g o refl e
 
 -- ---- one register is written
-module _ (n : Node) (d : Reg) (named : d ≢ Fp) (writes : (q : Reg) → is_written n q ≡ is_same d q) where
+module _ (target : Target) (n : Node) (d : Reg) (named : d ≢ Fp) (writes : (q : Reg) → is_written n q ≡ is_same d q) where
   set-is : is_written n ≡ is_same d
   set-is = λ i. λ q. writes q i
 
-  pub holds-one : (s t : State) (v : ℕ) (u : ℕ → ℕ) → t.regs ≡ with_word s.regs (number d) v → u (register_of Riscv64 d) ≡ v → HoldsCarry Riscv64 u None t.carry → HoldsWritten n s t u
+  pub holds-one : (s t : State) (v : ℕ) (u : Held) → t.regs ≡ with_word s.regs (number d) v → u.registers (register_of target d) ≡ v → HoldsCarry target u.registers (carry_of u.flags) t.carry → HoldsWritten target n s t u.registers u.flags
   holds-one s t v u regs value carry = record { written = written; others = others; carry = carry }
     where
       same : (a b : ℕ) → a ≡ b → with_word s.regs b v a ≡ Some v
@@ -76,11 +77,11 @@ module _ (n : Node) (d : Reg) (named : d ≢ Fp) (writes : (q : Reg) → is_writ
       apart : (a b : ℕ) → a ≢ b → with_word s.regs b v a ≡ s.regs a
       apart a b ne = grind (arith, ne)
 
-      written : (r x : ℕ) → r < 6 → numbered (is_written n) r ≡ true → t.regs r ≡ Some x → u (portable_register Riscv64 r) ≡ x
+      written : (r x : ℕ) → r < 6 → numbered (is_written n) r ≡ true → t.regs r ≡ Some x → u.registers (portable_register target r) ≡ x
       written r x lt on e =
           let z : r ≡ number d = only-number d r (ap (λ set. numbered set r) (sym set-is) ∙ on) in
           let w : v ≡ x = some-same v x (sym (ap (λ f. f r) regs ∙ same r (number d) z) ∙ e) in
-          ap (λ k. u (portable_register Riscv64 k)) z ∙ ap u (sym (stands-for d named)) ∙ value ∙ w
+          ap (λ k. u.registers (portable_register target k)) z ∙ ap u.registers (sym (stands-for target d named)) ∙ value ∙ w
 
       others : (r : ℕ) → r < 6 → numbered (is_written n) r ≡ false → t.regs r ≡ s.regs r
       others r lt off = ap (λ f. f r) regs ∙ apart r (number d) (λ z. clash (ap (numbered (is_written n)) z ∙ numbered-at (is_written n) d named ∙ writes d ∙ same-self d named) off)
@@ -88,5 +89,5 @@ module _ (n : Node) (d : Reg) (named : d ≢ Fp) (writes : (q : Reg) → is_writ
           clash : {b : Bool} → b ≡ true → b ≡ false → ⊥
           clash e h = cc
 
-  pub kept-apart : (choices : List Choice) (x : ℕ) → IsKept n choices x → x ≢ register_of Riscv64 d
-  kept-apart choices x k = k.written d named (writes d ∙ same-self d named)
+  pub kept-apart : (scratch : ℕ → Bool) (choices : List Choice) (x : ℕ) → IsKept target scratch n choices x → x ≢ register_of target d
+  kept-apart scratch choices x k = k.written d named (writes d ∙ same-self d named)

@@ -1,0 +1,3 @@
+pub mod Computers
+pub mod ValueNodes
+pub mod Values
