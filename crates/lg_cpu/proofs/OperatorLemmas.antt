@@ -24,16 +24,16 @@ test_word : (b : Bool) → word_of_test b < 2 ^ 64
 test_word true = omega arith
 test_word false = omega arith
 
-quotient_word : (a b : ℕ) → a < 2 ^ 64 → a / b < 2 ^ 64
+pub quotient_word : (a b : ℕ) → a < 2 ^ 64 → a / b < 2 ^ 64
 quotient_word a b h = let le : a / b ≤ a = div-le_self a b in omega (arith, le, h)
 
 remainder_word : (a b : ℕ) → a < 2 ^ 64 → a % b < 2 ^ 64
 remainder_word a b h = let le : a % b ≤ a = mod-le a b in omega (arith, le, h)
 
-magnitude_word : (a : ℕ) → a < 2 ^ 64 → magnitude a < 2 ^ 64
+pub magnitude_word : (a : ℕ) → a < 2 ^ 64 → magnitude a < 2 ^ 64
 magnitude_word a h = grind (arith, h)
 
-with_sign_word : (negative : Bool) (n : ℕ) → n < 2 ^ 64 → with_sign negative n < 2 ^ 64
+pub with_sign_word : (negative : Bool) (n : ℕ) → n < 2 ^ 64 → with_sign negative n < 2 ^ 64
 with_sign_word true n h = low_word (2 ^ 64 - n)
 with_sign_word false n h = h
 
@@ -53,13 +53,13 @@ divided_signed_word a b h = choice_word (b == 0) (2 ^ 64 - 1) (quotient_signed a
 left_over_signed_word : (a b : ℕ) → a < 2 ^ 64 → left_over_signed a b < 2 ^ 64
 left_over_signed_word a b h = choice_word (b == 0) a (remainder_signed a b) h (with_sign_word (is_negative a) (magnitude a % magnitude b) (remainder_word (magnitude a) (magnitude b) (magnitude_word a h)))
 
-shifted_signed_word : (a n : ℕ) → a < 2 ^ 64 → shifted_right_signed a n < 2 ^ 64
+pub shifted_signed_word : (a n : ℕ) → a < 2 ^ 64 → shifted_right_signed a n < 2 ^ 64
 shifted_signed_word a n h = choice_word (nat_lt a (2 ^ 63)) (a / 2 ^ n) (complement (complement a / 2 ^ n)) (quotient_word a (2 ^ n) h) (omega arith)
 
-high_word : (n : ℕ) → n % 2 ^ 128 / 2 ^ 64 < 2 ^ 64
+pub high_word : (n : ℕ) → n % 2 ^ 128 / 2 ^ 64 < 2 ^ 64
 high_word n = grind arith
 
-high_product_word : (a b : ℕ) → a < 2 ^ 64 → b < 2 ^ 64 → high_product a b < 2 ^ 64
+pub high_product_word : (a b : ℕ) → a < 2 ^ 64 → b < 2 ^ 64 → high_product a b < 2 ^ 64
 high_product_word a b h k =
     let small : a * b < 2 ^ 64 * 2 ^ 64 = mul-lt a b (2 ^ 64) (2 ^ 64) h k in
     let p = a * b in

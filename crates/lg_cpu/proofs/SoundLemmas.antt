@@ -31,7 +31,8 @@ use Rattle.lg_cpu.specs.Steps.{Effect, faults}
 use Rattle.lg_cpu.specs.HostSteps.{stack_words, read_before, argument_words, put, clobbered, behind_call}
 use Rattle.lg_cpu.specs.RvOperators.{reg_value, is_taken}
 use Rattle.lg_cpu.specs.States.{CpuState}
-use Rattle.lg_cpu.specs.RvStep.{read, goes, sets, extended_by, loads, load_at, store_at, store_width, jump_to, branch_to, imm_effect, act, decoded, in_code, fetch, host_effect, enter_host, effect_at}
+use Rattle.lg_cpu.specs.Loads.{extended_by}
+use Rattle.lg_cpu.specs.RvStep.{read, goes, sets, loads, load_at, store_at, store_width, jump_to, branch_to, imm_effect, act, decoded, in_code, fetch, host_effect, enter_host, effect_at}
 use Rattle.lg_cpu.specs.Laws.{IsSound, AreBytes, StaysSound}
 use Rattle.lg_cpu.proofs.OperatorLemmas.{low_word, sign_32_word, choice_word, reg_word, shift_word, sign_1_word, sign_2_word, sign_4_word}
 

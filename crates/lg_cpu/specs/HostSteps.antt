@@ -1,9 +1,18 @@
--- Steps at the entries of host functions: the arguments that a call finds, and the registers behind it.
-use Rattle.std.specs.Prelude.{ℕ, zero, suc, ◌-◌, ◌==◌, ◌&&◌, not, nat_lt, List, [], ◌∷◌, ◌++◌, length, map, Option, Some, None, if◌then◌else◌}
+-- Steps at the entries of host functions: the arguments that a call finds, what it comes to, and the registers behind it.
+use Rattle.std.specs.Prelude.{ℕ, zero, suc, ◌-◌, ◌==◌, ◌&&◌, not, true, nat_lt, List, [], ◌∷◌, ◌++◌, length, map, Option, Some, None, if◌then◌else◌}
 use Rattle.lg_base.specs.Words.{add_words}
-use Rattle.lg_base.specs.Spaces.{loaded}
+use Rattle.lg_base.specs.Spaces.{loaded, readable}
 use Rattle.lg_base.specs.Conventions.{argument_registers, result_register, is_kept}
+use Rattle.lg_base.specs.declared.fault.FaultKind.TheVariants.{Host}
+use Rattle.lg_base.specs.declared.flags.Flags.{Flags}
+use Rattle.lg_base.specs.declared.host_name.HostName.{HostName}
 use Rattle.lg_base.specs.declared.target.Target.{Target}
+use Rattle.lg_host.specs.Blocks.{over}
+use Rattle.lg_host.specs.Host.{memory, host_of}
+use Rattle.lg_host.specs.Host.{Host as Answer}
+use Rattle.lg_host.specs.Host.{Gives, Exits, Undefined}
+use Rattle.lg_cpu.specs.States.{CpuState}
+use Rattle.lg_cpu.specs.Steps.{Effect, EndedWith, arrived, faults}
 
 -- a word, where it can be read, and further ones
 abbrev pub read_before : Option ℕ → List ℕ → List ℕ
@@ -33,3 +42,22 @@ clobbered target n registers trash r = if nat_lt r n && not (is_kept target r) t
 -- trash word
 abbrev pub behind_call : Target → ℕ → (ℕ → ℕ) → ℕ → ℕ → ℕ → ℕ
 behind_call target n registers trash answer = put (clobbered target n registers trash) (result_register target) answer
+
+-- those of a state, with stack words from an address on
+abbrev pub arguments_of : Target → ℕ → CpuState → List ℕ
+arguments_of target stack q = argument_words target q.registers q.bytes stack
+
+-- what the function of an entry comes to, whose stack arguments lie from an address on
+abbrev pub answer_at : Target → HostName → ℕ → CpuState → Answer
+answer_at target name stack q = host_of name (arguments_of target stack q) true (memory q.bytes (readable q.bytes) q.mark)
+
+-- behind it: where it answers, control returns to an address, and the registers, by the answer, and the flags are these
+abbrev pub returned : Answer → ℕ → (ℕ → ℕ → ℕ) → Flags → CpuState → Effect CpuState
+returned (Gives value changes mark bytes) back registers flags q =
+    record {
+      to = record { pc = back; registers = registers value; flags = flags; bytes = over changes q.bytes; mark = mark };
+      progress = arrived back;
+      written = bytes;
+    }
+returned (Exits status) back registers flags q = record { to = q; progress = EndedWith status; written = [] }
+returned Undefined back registers flags q = faults q Host

@@ -1,6 +1,9 @@
+pub mod A64Operators
+pub mod A64Step
 pub mod Answers
 pub mod HostSteps
 pub mod Laws
+pub mod Loads
 pub mod Machines
 pub mod RvOperators
 pub mod RvStep

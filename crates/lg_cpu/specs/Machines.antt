@@ -13,35 +13,65 @@ use Rattle.lg_base.specs.declared.flags.Flags.TheVariants.{NoFlags}
 use Rattle.lg_cpu.specs.HostSteps.{put}
 use Rattle.lg_cpu.specs.States.{CpuState}
 use Rattle.lg_cpu.specs.Targets.{effect_of, start_of, run_at}
+use Rattle.lg_cpu.specs.declared.aarch64.Aarch64.{Aarch64}
+use Rattle.lg_cpu.specs.declared.board.Board.{Board}
+use Rattle.lg_cpu.specs.declared.processor.Processor.{Processor}
+use Rattle.lg_cpu.specs.declared.processor.Processor.TheVariants as processor
 use Rattle.lg_cpu.specs.declared.riscv64.Riscv64.{Riscv64}
 use Rattle.lg_cpu.specs.declared.cpu.Cpu.{Cpu}
 use Rattle.lg_cpu.specs.declared.answer.CpuStep.{CpuStep}
 use Rattle.lg_cpu.specs.declared.answer.CpuStep.TheVariants as cpu
 
--- ---- the RV64IM processor
-
-abbrev pub state_of : Riscv64 → CpuState
-state_of p = record { pc = p.pc; registers = slice_index p.registers; flags = NoFlags; bytes = byte_at p.board.memory; mark = p.board.heap }
+-- ---- the processor of a target
 
 -- what no step changes
 pub record Fixed : Type 0 where
+  pub target : Target
   pub code : List ℕ
   pub trash : ℕ
 
-abbrev pub fixed_of : Riscv64 → Fixed
-fixed_of p = record { code = p.board.code.items; trash = p.board.trash }
+-- what is seen of it: its state, and that
+pub record Inner : Type 0 where
+  pub state : CpuState
+  pub fixed : Fixed
+
+abbrev pub inner_of : Target → CpuState → Board → Inner
+inner_of target state board = record { state = state; fixed = record { target = target; code = board.code.items; trash = board.trash } }
+
+abbrev pub a64_state : Aarch64 → CpuState
+a64_state p = record { pc = p.pc; registers = slice_index p.registers; flags = p.flags; bytes = byte_at p.board.memory; mark = p.board.heap }
+
+abbrev pub a64_inner : Aarch64 → Inner
+a64_inner p = inner_of target.Aarch64 (a64_state p) p.board
+
+abbrev pub rv_state : Riscv64 → CpuState
+rv_state p = record { pc = p.pc; registers = slice_index p.registers; flags = NoFlags; bytes = byte_at p.board.memory; mark = p.board.heap }
+
+abbrev pub rv_inner : Riscv64 → Inner
+rv_inner p = inner_of target.Riscv64 (rv_state p) p.board
+
+abbrev pub inner : Processor → Inner
+inner (processor.Aarch64 p) = a64_inner p
+inner (processor.Riscv64 p) = rv_inner p
+
+abbrev pub with_state : Inner → CpuState → Inner
+with_state p state = record p { state = state }
+
+-- what its step does
+abbrev pub effect_in : Inner → Effect CpuState
+effect_in p = effect_of p.fixed.target p.fixed.code p.fixed.trash p.state
 
 -- a step that writes nothing has this effect
-abbrev pub Does : Effect CpuState → Riscv64 → Riscv64 → CpuStep → Type 0
-Does e old new answer = (answer ≡ answer_of e.progress) × (state_of new ≡ e.to) × (fixed_of new ≡ fixed_of old) × (e.written ≡ [])
+abbrev pub Does : Effect CpuState → Inner → Inner → CpuStep → Type 0
+Does e old new answer = (answer ≡ answer_of e.progress) × (new.state ≡ e.to) × (new.fixed ≡ old.fixed) × (e.written ≡ [])
 
 -- a step has this effect, and no write failed; taken and count are those of the sink, before and after
-abbrev pub Comes : Effect CpuState → Riscv64 → Riscv64 → Option (List ℕ) → Option (List ℕ) → ℕ → ℕ → CpuStep → Type 0
-Comes e old new taken taken' count count' answer = (answer ≡ answer_of e.progress) × (state_of new ≡ e.to) × (fixed_of new ≡ fixed_of old) × Appends taken taken' e.written × (count' ≡ count)
+abbrev pub Comes : Effect CpuState → Inner → Inner → Option (List ℕ) → Option (List ℕ) → ℕ → ℕ → CpuStep → Type 0
+Comes e old new taken taken' count count' answer = (answer ≡ answer_of e.progress) × (new.state ≡ e.to) × (new.fixed ≡ old.fixed) × Appends taken taken' e.written × (count' ≡ count)
 
 -- and where a write fails nothing but the sink changes
-abbrev pub StepSays : Effect CpuState → Riscv64 → Riscv64 → Option (List ℕ) → Option (List ℕ) → ℕ → ℕ → CpuStep → Type 0
-StepSays e old new taken taken' count count' cpu.WriteFault = (state_of new ≡ state_of old) × (fixed_of new ≡ fixed_of old) × Rose count count' × AppendsPrefix taken taken' e.written
+abbrev pub StepSays : Effect CpuState → Inner → Inner → Option (List ℕ) → Option (List ℕ) → ℕ → ℕ → CpuStep → Type 0
+StepSays e old new taken taken' count count' cpu.WriteFault = (new.state ≡ old.state) × (new.fixed ≡ old.fixed) × Rose count count' × AppendsPrefix taken taken' e.written
 StepSays e old new taken taken' count count' answer = Comes e old new taken taken' count count' answer
 
 -- ---- the public processor
@@ -56,15 +86,11 @@ pub record Shown : Type 0 where
   pub answer : CpuStep
   pub steps : ℕ
 
+abbrev pub shown_of : Inner → CpuStep → ℕ → Shown
+shown_of p answer steps = record { target = p.fixed.target; code = p.fixed.code; trash = p.fixed.trash; state = p.state; answer = answer; steps = steps }
+
 abbrev pub shown : Cpu → Shown
-shown c = record {
-  target = target.Riscv64;
-  code = (fixed_of c.processor).code;
-  trash = (fixed_of c.processor).trash;
-  state = state_of c.processor;
-  answer = c.answer;
-  steps = c.steps;
-}
+shown c = shown_of (inner c.processor) c.answer c.steps
 
 -- before its first step
 abbrev pub shown_at_start : Target → (code image args : List ℕ) → ℕ → Shown
@@ -102,11 +128,17 @@ abbrev pub IsRunOf : (image args out : List ℕ) → Shown → Type 0
 IsRunOf image args out s = run_of s out ≡ run_at s.target s.code image args s.trash (steps_made s.answer s.steps)
 
 -- a register is set, the run goes on elsewhere, bytes are stored
+abbrev pub with_register : CpuState → ℕ → ℕ → CpuState
+with_register q number value = record q { registers = put q.registers number value }
+
+abbrev pub with_bytes : CpuState → (ℕ → Option ℕ) → CpuState
+with_bytes q bytes = record q { bytes = bytes }
+
 abbrev pub after_set : Shown → ℕ → ℕ → Shown
-after_set s number value = record s { state = record { pc = s.state.pc; registers = put s.state.registers number value; flags = s.state.flags; bytes = s.state.bytes; mark = s.state.mark } }
+after_set s number value = record s { state = with_register s.state number value }
 
 abbrev pub after_jump : Shown → ℕ → Shown
-after_jump s pc = record s { state = record { pc = pc; registers = s.state.registers; flags = s.state.flags; bytes = s.state.bytes; mark = s.state.mark }; answer = answer_of (arrived pc) }
+after_jump s pc = record s { state = record s.state { pc = pc }; answer = answer_of (arrived pc) }
 
 abbrev pub after_store : Shown → ℕ → ℕ → ℕ → Shown
-after_store s address width value = record s { state = record { pc = s.state.pc; registers = s.state.registers; flags = s.state.flags; bytes = stored s.state.bytes address width value; mark = s.state.mark } }
+after_store s address width value = record s { state = with_bytes s.state (stored s.state.bytes address width value) }

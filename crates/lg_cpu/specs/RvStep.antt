@@ -1,20 +1,16 @@
 -- The RV64IM processor: what a step of it does, whatever the bytes are (RISC-V unprivileged ISA). A fetch, a jump and an
 -- access that are not at a multiple of their widths fault with Align, which counts before every other fault.
-use Rattle.std.specs.Prelude.{ℕ, ◌+◌, ◌-◌, ◌*◌, ◌/◌, ◌%◌, ◌==◌, ◌&&◌, Bool, true, false, nat_le, nat_lt, List, [], length, drop, Option, Some, None, if◌then◌else◌}
+use Rattle.std.specs.Prelude.{ℕ, ◌+◌, ◌-◌, ◌*◌, ◌/◌, ◌%◌, ◌==◌, ◌&&◌, Bool, true, false, nat_le, nat_lt, List, length, drop, Option, Some, None, if◌then◌else◌}
 use Rattle.lg_base.specs.Fields.{word_of}
 use Rattle.lg_base.specs.Words.{add_words, sign_32}
-use Rattle.lg_base.specs.Wide.{sign_part_of}
-use Rattle.lg_base.specs.Spaces.{mapped, loaded, stored, readable}
-use Rattle.lg_base.specs.Parts.{args_base, heap_base}
+use Rattle.lg_base.specs.Spaces.{mapped, loaded, stored}
+use Rattle.lg_base.specs.Parts.{args_base}
 use Rattle.lg_base.specs.Layout.{stop_address, code_base, stack_end}
 use Rattle.lg_base.specs.HostNames.{host_by_address}
 use Rattle.lg_base.specs.declared.target.Target.TheVariants as target
 use Rattle.lg_base.specs.declared.fault.FaultKind.TheVariants.{Fetch, Decode, Memory, Align, Host}
 use Rattle.lg_base.specs.declared.host_name.HostName.{HostName}
-use Rattle.lg_host.specs.Blocks.{over}
-use Rattle.lg_host.specs.Host.{memory, host_of}
 use Rattle.lg_host.specs.Host.{Host as Answer}
-use Rattle.lg_host.specs.Host.{Gives, Exits, Undefined}
 use Rattle.lg_rv.specs.declared.instruction.Instr.{Instr}
 use Rattle.lg_rv.specs.declared.instruction.Instr.TheVariants.{Upper, Jal, Branch, Imm, Shift, Store, Reg}
 use Rattle.lg_rv.specs.declared.instruction.UpperOp.TheVariants.{Lui, Auipc}
@@ -25,11 +21,10 @@ use Rattle.lg_rv.specs.declared.instruction.StoreOp.TheVariants.{Sb, Sh, Sw, Sd}
 use Rattle.lg_rv.specs.declared.instruction.RegOp.TheVariants.{Add, Slt, Sltu, Xor, Or, And, Addw}
 use Rattle.lg_rv.specs.Reading.{front_of}
 use Rattle.lg_base.specs.declared.flags.Flags.TheVariants.{NoFlags}
-use Rattle.lg_cpu.specs.States.{CpuState}
-use Rattle.lg_cpu.specs.Steps.{Effect, EndedWith, arrived, faults}
-use Rattle.lg_cpu.specs.HostSteps.{argument_words, put, behind_call}
-use Rattle.lg_base.specs.Arguments.{argument_count}
-use Rattle.lg_cpu.specs.Starts.{start_bytes}
+use Rattle.lg_cpu.specs.Loads.{extended_by}
+use Rattle.lg_cpu.specs.States.{CpuState, arrives}
+use Rattle.lg_cpu.specs.Steps.{Effect, faults}
+use Rattle.lg_cpu.specs.HostSteps.{put, behind_call, answer_at, returned}
 use Rattle.lg_cpu.specs.RvOperators.{reg_value, shift_value, is_taken}
 
 -- register 0 reads as 0
@@ -40,16 +35,11 @@ read registers r = if r == 0 then 0 else registers r
 
 -- the run goes on at an address, or has ended there
 abbrev pub goes : ℕ → (ℕ → ℕ) → (ℕ → Option ℕ) → ℕ → Effect CpuState
-goes pc registers bytes mark =
-    record { to = record { pc = pc; registers = registers; flags = NoFlags; bytes = bytes; mark = mark }; progress = arrived pc; written = [] }
+goes pc registers bytes mark = arrives pc registers NoFlags bytes mark
 
 -- a register gets a value, and the next instruction follows
 abbrev pub sets : CpuState → ℕ → ℕ → Effect CpuState
 sets q to value = goes (add_words q.pc 4) (put q.registers to value) q.bytes q.mark
-
--- what a load puts into a register: the number in so many bytes, extended by its sign or with zeros
-abbrev pub extended_by : Bool → ℕ → ℕ → ℕ
-extended_by signed width value = if signed then sign_part_of value width else value
 
 abbrev pub loads : CpuState → ℕ → ℕ → Bool → Option ℕ → Effect CpuState
 loads q to width signed None = faults q Memory
@@ -130,20 +120,13 @@ fetch code q =
 
 -- what a host function comes to; control returns to the link, register 1
 abbrev pub host_effect : Answer → ℕ → CpuState → Effect CpuState
-host_effect (Gives value changes mark bytes) trash q =
-    record {
-      to = record { pc = q.registers 1; registers = behind_call target.Riscv64 32 q.registers trash value; flags = NoFlags; bytes = over changes q.bytes; mark = mark };
-      progress = arrived (q.registers 1);
-      written = bytes;
-    }
-host_effect (Exits status) trash q = record { to = q; progress = EndedWith status; written = [] }
-host_effect Undefined trash q = faults q Host
+host_effect answer trash q = returned answer (q.registers 1) (behind_call target.Riscv64 32 q.registers trash) NoFlags q
 
 -- at a host entry the stack pointer, register 2, is a multiple of 16
 abbrev pub enter_host : HostName → ℕ → CpuState → Effect CpuState
 enter_host name trash q =
     if q.registers 2 % 16 == 0
-    then host_effect (host_of name (argument_words target.Riscv64 q.registers q.bytes (q.registers 2)) true (memory q.bytes (readable q.bytes) q.mark)) trash q
+    then host_effect (answer_at target.Riscv64 name (q.registers 2) q) trash q
     else faults q Host
 
 -- ---- the step
@@ -168,6 +151,6 @@ start_registers count trash r =
     else if nat_lt r 32 then trash
     else 0
 
-abbrev pub start_state : List ℕ → List ℕ → ℕ → CpuState
-start_state image args trash =
-    record { pc = code_base; registers = start_registers (argument_count args) trash; flags = NoFlags; bytes = start_bytes image args; mark = heap_base }
+-- over the bytes of a memory and a heap mark
+abbrev pub begins : (count trash : ℕ) → (ℕ → Option ℕ) → ℕ → CpuState
+begins count trash bytes mark = record { pc = code_base; registers = start_registers count trash; flags = NoFlags; bytes = bytes; mark = mark }

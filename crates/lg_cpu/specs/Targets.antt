@@ -1,12 +1,14 @@
 -- The processors by their targets, and the run of code.
-use Rattle.std.specs.Prelude.{ℕ, List, []}
+use Rattle.std.specs.Prelude.{ℕ, List, [], Option}
+use Rattle.lg_base.specs.Arguments.{argument_count}
 use Rattle.lg_base.specs.Layout.{code_base}
 use Rattle.lg_base.specs.Parts.{heap_base}
 use Rattle.lg_base.specs.Runs.{Machine, iter}
 use Rattle.lg_base.specs.declared.fault.FaultKind.TheVariants.{Decode}
 use Rattle.lg_base.specs.declared.flags.Flags.TheVariants.{NoFlags}
 use Rattle.lg_base.specs.declared.target.Target.{Target}
-use Rattle.lg_base.specs.declared.target.Target.TheVariants.{Riscv64}
+use Rattle.lg_base.specs.declared.target.Target.TheVariants.{X86_64, Aarch64, Riscv64}
+use Rattle.lg_cpu.specs.A64Step as a64
 use Rattle.lg_cpu.specs.RvStep as rv
 use Rattle.lg_cpu.specs.Starts.{start_bytes}
 use Rattle.lg_cpu.specs.States.{CpuState}
@@ -14,13 +16,19 @@ use Rattle.lg_cpu.specs.Steps.{Effect, Run, Goes, faults, machine}
 
 -- what a step does, over this code and with this word in what nothing has set; the processor of a target that is not built knows no instruction
 abbrev pub effect_of : Target → List ℕ → ℕ → CpuState → Effect CpuState
+effect_of Aarch64 code trash s = a64.effect code trash s
 effect_of Riscv64 code trash s = rv.effect code trash s
 effect_of target code trash s = faults s Decode
 
--- the state at the start of a run, over the bytes of the data part and of the argument part
+-- the state at the start of a run with so many arguments, over the bytes of a memory and a heap mark
+abbrev pub begins : Target → (count trash : ℕ) → (ℕ → Option ℕ) → ℕ → CpuState
+begins Aarch64 count trash bytes mark = a64.begins count trash bytes mark
+begins Riscv64 count trash bytes mark = rv.begins count trash bytes mark
+begins target count trash bytes mark = record { pc = code_base; registers = λ r. trash; flags = NoFlags; bytes = bytes; mark = mark }
+
+-- and over the bytes of the data part and of the argument part
 abbrev pub start_of : Target → (image args : List ℕ) → (trash : ℕ) → CpuState
-start_of Riscv64 image args trash = rv.start_state image args trash
-start_of target image args trash = record { pc = code_base; registers = λ r. trash; flags = NoFlags; bytes = start_bytes image args; mark = heap_base }
+start_of target image args trash = begins target (argument_count args) trash (start_bytes image args) heap_base
 
 abbrev pub machine_of : Target → List ℕ → ℕ → Machine (Run CpuState)
 machine_of target code trash = machine (effect_of target code trash)
@@ -32,3 +40,13 @@ run_from target image args trash = record { state = start_of target image args t
 -- the run of code after n steps
 abbrev pub run_at : Target → (code image args : List ℕ) → (trash n : ℕ) → Run CpuState
 run_at target code image args trash n = iter (machine_of target code trash).step n (run_from target image args trash)
+
+-- how many registers a processor has, and what one reads as
+abbrev pub register_count : Target → ℕ
+register_count X86_64 = 16
+register_count Aarch64 = 32
+register_count Riscv64 = 32
+
+abbrev pub reads : Target → (ℕ → ℕ) → ℕ → ℕ
+reads Riscv64 registers r = rv.read registers r
+reads target registers r = registers r

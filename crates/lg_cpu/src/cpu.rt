@@ -1,16 +1,16 @@
 // The processor that a run is made on.
 
-ghost use Rattle.std.specs.Prelude.{◌≡◌, ◌<◌, ◌≤◌, ◌⊎◌, ◌+◌, ◌-◌, ◌^◌, length, IfOk, if◌then◌else◌};
+ghost use Rattle.std.specs.Prelude.{◌≡◌, ◌<◌, ◌≤◌, ◌⊎◌, ◌+◌, ◌-◌, ◌^◌, length, nat_lt, IfOk, if◌then◌else◌};
 ghost use Rattle.lg_base.specs.Layout.{most_code};
 ghost use Rattle.lg_base.specs.Arguments.{most_args};
 ghost use Rattle.lg_base.specs.Spaces.{loaded, mapped};
 ghost use Rattle.lg_base.specs.declared.target.Target.{Target};
-ghost use Rattle.lg_cpu.specs.RvStep.{read, effect};
 ghost use Rattle.lg_cpu.specs.Answers.{is_counted};
+ghost use Rattle.lg_cpu.specs.Targets.{reads, register_count};
 
 use crate::answer::CpuStep;
 use crate::board::Board;
-use crate::riscv64::Riscv64;
+use crate::processor::Processor;
 use lg_base::args::argument_count;
 use lg_base::code::CodeBytes;
 use lg_base::image::{ArgImage, DataImage};
@@ -24,7 +24,7 @@ use std::alloc::Global;
 /// A processor with its memory and its code, before or behind any number of steps.
 #[derive(Drop)]
 pub struct Cpu {
-    processor: Riscv64,
+    processor: Processor,
     answer: CpuStep,
     steps: u64,
 }
@@ -40,12 +40,12 @@ fn is_counted(answer: CpuStep) -> bool
 }
 
 impl Cpu {
-    ghost use Rattle.lg_cpu.specs.Machines.{shown, shown_at_start, CpuSays, StepShows, after_set, after_jump, after_store};
+    ghost use Rattle.lg_cpu.specs.Machines.{shown, shown_at_start, CpuSays, StepShows, inner, effect_in, after_set, after_jump, after_store};
 
     /// A processor before its first step: at the first address of the code, with the data part and the argument part in
     /// memory and zeros elsewhere. It finds the number of the argument part's strings and the part's address in the registers
-    /// of the first two arguments, and the trash word in every register that no convention sets. The target is RV64, which is
-    /// the one that is built; the code has at most 67,108,864 bytes, the data part at most 16,777,216, and the argument part
+    /// of the first two arguments, and the trash word in every register that no convention sets. The target is AArch64 or RV64,
+    /// which are those that are built; the code has at most 67,108,864 bytes, the data part at most 16,777,216, and the argument part
     /// at most 1,048,576. No other call takes memory.
     pub fn new(
         alloc: Global,
@@ -55,7 +55,7 @@ impl Cpu {
         args: &ArgImage,
         trash: u64,
     ) -> Result<Cpu, OutOfMemory>
-        requires built { target ≡ Target.Riscv64 }
+        requires built { (target ≡ Target.Aarch64) ⊎ (target ≡ Target.Riscv64) }
         requires code { length code.now.items ≤ most_code }
         requires image { length image.now ≤ 0x1000000 }
         requires args { length args.now ≤ most_args }
@@ -67,8 +67,9 @@ impl Cpu {
             heap: HeapMark::new(),
             trash,
         };
+        let processor = Processor::new(target, board, argument_count(args.as_slice()));
         Ok(Cpu {
-            processor: Riscv64::new(board, argument_count(args.as_slice())),
+            processor,
             answer: CpuStep::Went,
             steps: 0,
         })
@@ -78,7 +79,7 @@ impl Cpu {
     pub fn pc(&self) -> u64
         ensures { result ≡ (shown self.now).state.pc }
     {
-        self.processor.pc
+        self.processor.pc()
     }
 
     /// How many instructions and host steps went or ended.
@@ -106,7 +107,8 @@ impl Cpu {
     // Takes a step of a run that is not over.
     fn go_on<O: Sink>(&mut self, out: &mut O) -> CpuStep
         requires { self.old.steps < 2 ^ 64 - 1 }
-        ensures says { StepShows (effect (shown self.old).code (shown self.old).trash (shown self.old).state) (shown self.old) (shown self.new) (O.taken out.old) (O.taken out.new) (O.faults out.old) (O.faults out.new) result }
+        ensures says { StepShows (effect_in (inner self.old.processor)) (shown self.old) (shown self.new)
+            (O.taken out.old) (O.taken out.new) (O.faults out.old) (O.faults out.new) result }
         ensures later { O.faults out.old ≤ O.faults out.new }
     {
         let answer = self.processor.step(out);
@@ -120,17 +122,19 @@ impl Cpu {
     /// What a register reads as. Its number is below 32.
     pub fn register(&self, number: u8) -> u64
         requires { number < 32 }
-        ensures { result ≡ read (shown self.now).state.registers number }
+        ensures { result ≡ reads (shown self.now).target (shown self.now).state.registers number }
     {
         self.processor.read(number)
     }
 
-    /// Sets a register, the number of which is below 32, and changes nothing else. Register 0 reads as 0 all the same.
+    /// Sets a register, the number of which is below 32, where the processor has one of the number, and changes nothing else. Register 0 of
+    /// RV64 reads as 0 all the same.
     pub fn set_register(&mut self, number: u8, value: u64)
         requires { number < 32 }
-        ensures { shown self.new ≡ after_set (shown self.old) number value }
+        ensures { shown self.new ≡ (
+            if nat_lt number (register_count (shown self.old).target) then after_set (shown self.old) number value else shown self.old) }
     {
-        self.processor.registers[number as usize] = value;
+        self.processor.set_register(number, value);
     }
 
     /// Goes on at an address, whether the run was over or not; at the stop address it has ended. Nothing else changes.
@@ -145,7 +149,7 @@ impl Cpu {
         requires { length code.items ≤ most_code }
         ensures { shown self.new ≡ record (shown self.old) { code = code.items } }
     {
-        self.processor.board.code = code;
+        self.processor.set_code(code);
     }
 
     /// The number in `width` bytes of the memory from an address on, the lowest byte first. None exactly where not all bytes
@@ -154,7 +158,7 @@ impl Cpu {
         requires { (width ≡ 1) ⊎ (width ≡ 2) ⊎ (width ≡ 4) ⊎ (width ≡ 8) }
         ensures { result ≡ loaded (shown self.now).state.bytes address width }
     {
-        self.processor.board.memory.load(address, width)
+        self.processor.load(address, width)
     }
 
     /// Writes the low `width` bytes of a number into the memory from an address on, the lowest byte first, and changes
@@ -164,6 +168,6 @@ impl Cpu {
         ensures done { result ≡ mapped (shown self.old).state.bytes address width }
         ensures changed { shown self.new ≡ (if result then after_store (shown self.old) address width value else shown self.old) }
     {
-        self.processor.board.memory.store(address, width, value)
+        self.processor.store(address, width, value)
     }
 }

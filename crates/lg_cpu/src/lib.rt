@@ -1,9 +1,11 @@
 //! The processors as models: registers, memory, and steps that fetch, decode and execute bytes.
 #![tactic(auto)]
 
+mod aarch64;
 pub mod answer;
 mod arguments;
 mod board;
 pub mod cpu;
 pub mod laws;
+mod processor;
 mod riscv64;

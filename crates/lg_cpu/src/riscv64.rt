@@ -45,8 +45,9 @@ fn store_width(op: StoreOp) -> u32
 impl Riscv64 {
     ghost use Rattle.lg_base.specs.Fields.{word_of};
     ghost use Rattle.lg_rv.specs.Spelling.{IsInstr};
-    ghost use Rattle.lg_cpu.specs.RvStep.{read, goes, sets, load_at, store_at, jump_to, branch_to, imm_effect, act, fetch};
-    ghost use Rattle.lg_cpu.specs.Machines.{state_of, fixed_of, Does};
+    ghost use Rattle.lg_cpu.specs.RvStep.{read, sets, load_at, store_at, jump_to, branch_to, imm_effect, act, fetch};
+    ghost use Rattle.lg_cpu.specs.States.{goes_on};
+    ghost use Rattle.lg_cpu.specs.Machines.{rv_state, rv_inner, Does};
 
     // What a register reads as.
     pub(crate) fn read(&self, register: u8) -> u64
@@ -62,7 +63,7 @@ impl Riscv64 {
 
     // Goes on at an address.
     pub(crate) fn go(&mut self, pc: u64) -> CpuStep
-        ensures { Does (goes pc (state_of self.old).registers (state_of self.old).bytes (state_of self.old).mark) self.old self.new result }
+        ensures { Does (goes_on (rv_state self.old) pc) (rv_inner self.old) (rv_inner self.new) result }
     {
         self.pc = pc;
         if pc == STOP {
@@ -75,7 +76,7 @@ impl Riscv64 {
     // Sets a register, and goes on at the next instruction.
     fn set(&mut self, register: u8, value: u64) -> CpuStep
         requires { register < 32 }
-        ensures { Does (sets (state_of self.old) register value) self.old self.new result }
+        ensures { Does (sets (rv_state self.old) register value) (rv_inner self.old) (rv_inner self.new) result }
     {
         self.registers[register as usize] = value;
         self.go(self.pc.wrapping_add(4))
@@ -85,7 +86,7 @@ impl Riscv64 {
     fn load(&mut self, register: u8, address: u64, width: u32, signed: bool) -> CpuStep
         requires register { register < 32 }
         requires width { (width ≡ 1) ⊎ (width ≡ 2) ⊎ (width ≡ 4) ⊎ (width ≡ 8) }
-        ensures { Does (load_at (state_of self.old) register address width signed) self.old self.new result }
+        ensures { Does (load_at (rv_state self.old) register address width signed) (rv_inner self.old) (rv_inner self.new) result }
     {
         if address % u64::from(width) != 0 {
             return CpuStep::Fault(FaultKind::Align);
@@ -106,7 +107,7 @@ impl Riscv64 {
     // Stores the low bytes of a word.
     fn store(&mut self, address: u64, width: u32, value: u64) -> CpuStep
         requires { (width ≡ 1) ⊎ (width ≡ 2) ⊎ (width ≡ 4) ⊎ (width ≡ 8) }
-        ensures { Does (store_at (state_of self.old) address width value) self.old self.new result }
+        ensures { Does (store_at (rv_state self.old) address width value) (rv_inner self.old) (rv_inner self.new) result }
     {
         if address % u64::from(width) != 0 {
             return CpuStep::Fault(FaultKind::Align);
@@ -121,7 +122,7 @@ impl Riscv64 {
     // Jumps, and links.
     fn jump(&mut self, link: u8, target: u64) -> CpuStep
         requires { link < 32 }
-        ensures { Does (jump_to (state_of self.old) link target) self.old self.new result }
+        ensures { Does (jump_to (rv_state self.old) link target) (rv_inner self.old) (rv_inner self.new) result }
     {
         if target % 4 != 0 {
             return CpuStep::Fault(FaultKind::Align);
@@ -132,7 +133,7 @@ impl Riscv64 {
 
     // Branches.
     fn branch(&mut self, target: u64, taken: bool) -> CpuStep
-        ensures { Does (branch_to (state_of self.old) target taken) self.old self.new result }
+        ensures { Does (branch_to (rv_state self.old) target taken) (rv_inner self.old) (rv_inner self.new) result }
     {
         if !taken {
             return self.go(self.pc.wrapping_add(4));
@@ -146,7 +147,7 @@ impl Riscv64 {
     // Executes an instruction with a number of 12 bits.
     fn act_imm(&mut self, op: ImmOp, rd: u8, a: u64, n: u64) -> CpuStep
         requires { rd < 32 }
-        ensures { Does (imm_effect op rd a n (state_of self.old)) self.old self.new result }
+        ensures { Does (imm_effect op rd a n (rv_state self.old)) (rv_inner self.old) (rv_inner self.new) result }
     {
         let sum = a.wrapping_add(n);
         match op {
@@ -171,7 +172,7 @@ impl Riscv64 {
     // Executes an instruction with a number of 20 bits.
     fn act_upper(&mut self, op: UpperOp, rd: u8, imm: u32) -> CpuStep
         requires { IsInstr (Instr.Upper op rd imm) }
-        ensures { Does (act (Instr.Upper op rd imm) (state_of self.old)) self.old self.new result }
+        ensures { Does (act (Instr.Upper op rd imm) (rv_state self.old)) (rv_inner self.old) (rv_inner self.new) result }
     {
         let upper = sign_extend_32(u64::from(imm) * 4096);
         match op {
@@ -183,7 +184,7 @@ impl Riscv64 {
     // Executes an instruction.
     fn act(&mut self, instr: Instr) -> CpuStep
         requires { IsInstr instr }
-        ensures { Does (act instr (state_of self.old)) self.old self.new result }
+        ensures { Does (act instr (rv_state self.old)) (rv_inner self.old) (rv_inner self.new) result }
     {
         match instr {
             Instr::Upper { op, rd, imm } => self.act_upper(op, rd, imm),
@@ -219,7 +220,7 @@ impl Riscv64 {
 
     // Fetches an instruction and executes it.
     pub(crate) fn fetch(&mut self) -> CpuStep
-        ensures { Does (fetch self.old.board.code.items (state_of self.old)) self.old self.new result }
+        ensures { Does (fetch self.old.board.code.items (rv_state self.old)) (rv_inner self.old) (rv_inner self.new) result }
     {
         if self.pc % 4 != 0 {
             return CpuStep::Fault(FaultKind::Align);

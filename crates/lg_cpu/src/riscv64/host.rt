@@ -1,10 +1,9 @@
 // Steps at the entries of host functions.
 
-ghost use Rattle.std.specs.Prelude.{◌≡◌, ◌≤◌, ℕ, [], ◌∷◌, slice_index};
-ghost use Rattle.lg_base.specs.Parts.{byte_at};
-ghost use Rattle.lg_base.specs.Conventions.{is_kept};
+ghost use Rattle.std.specs.Prelude.{◌≡◌, ◌≤◌, ℕ, map, slice_index};
+ghost use Rattle.lg_base.specs.Conventions.{argument_registers, is_kept};
 ghost use Rattle.lg_base.specs.declared.target.Target.{Target};
-ghost use Rattle.lg_cpu.specs.HostSteps.{argument_words, behind_call};
+ghost use Rattle.lg_cpu.specs.HostSteps.{arguments_of, behind_call};
 
 use crate::answer::CpuStep;
 use crate::arguments::Arguments;
@@ -41,7 +40,7 @@ fn registers_behind_call(registers: &[u64; 32], trash: u64, answer: u64) -> [u64
 
 // The arguments in registers.
 fn register_arguments(registers: &[u64; 32]) -> Arguments
-    ensures { result ≡ slice_index registers.now 10 ∷ slice_index registers.now 11 ∷ slice_index registers.now 12 ∷ slice_index registers.now 13 ∷ slice_index registers.now 14 ∷ slice_index registers.now 15 ∷ slice_index registers.now 16 ∷ slice_index registers.now 17 ∷ [] }
+    ensures { result ≡ map (slice_index registers.now) (argument_registers Target.Riscv64) }
 {
     let r = registers;
     Arguments::first(
@@ -53,12 +52,12 @@ fn register_arguments(registers: &[u64; 32]) -> Arguments
 }
 
 impl Riscv64 {
-    ghost use Rattle.lg_cpu.specs.RvStep.{goes, enter_host, effect};
-    ghost use Rattle.lg_cpu.specs.Machines.{state_of, Does, StepSays};
+    ghost use Rattle.lg_cpu.specs.RvStep.{goes, enter_host};
+    ghost use Rattle.lg_cpu.specs.Machines.{rv_state, rv_inner, effect_in, Does, StepSays};
 
     // The arguments of the convention.
     fn arguments(&self) -> Arguments
-        ensures { result ≡ argument_words Target.Riscv64 (slice_index self.now.registers) (byte_at self.now.board.memory) (slice_index self.now.registers 2) }
+        ensures { result ≡ arguments_of Target.Riscv64 (slice_index self.now.registers 2) (rv_state self.now) }
     {
         let mut arguments = register_arguments(&self.registers);
         arguments.read_stack(&self.board.memory, self.registers[2]);
@@ -67,7 +66,8 @@ impl Riscv64 {
 
     // Returns from a host function that answered this.
     fn leave_host(&mut self, answer: u64) -> CpuStep
-        ensures { Does (goes (slice_index self.old.registers 1) (behind_call Target.Riscv64 32 (slice_index self.old.registers) self.old.board.trash answer) (state_of self.old).bytes (state_of self.old).mark) self.old self.new result }
+        ensures { Does (goes (slice_index self.old.registers 1) (behind_call Target.Riscv64 32 (slice_index self.old.registers) self.old.board.trash answer)
+            (rv_state self.old).bytes (rv_state self.old).mark) (rv_inner self.old) (rv_inner self.new) result }
     {
         let link = self.registers[1];
         self.registers = registers_behind_call(&self.registers, self.board.trash, answer);
@@ -76,7 +76,8 @@ impl Riscv64 {
 
     // Runs a host function.
     fn enter_host<O: Sink>(&mut self, name: HostName, out: &mut O) -> CpuStep
-        ensures says { StepSays (enter_host name self.old.board.trash (state_of self.old)) self.old self.new (O.taken out.old) (O.taken out.new) (O.faults out.old) (O.faults out.new) result }
+        ensures says { StepSays (enter_host name self.old.board.trash (rv_state self.old)) (rv_inner self.old) (rv_inner self.new)
+            (O.taken out.old) (O.taken out.new) (O.faults out.old) (O.faults out.new) result }
         ensures later { O.faults out.old ≤ O.faults out.new }
     {
         if self.registers[2] % 16 != 0 {
@@ -100,7 +101,8 @@ impl Riscv64 {
 
     /// Takes one step, whether the run is over or not.
     pub fn step<O: Sink>(&mut self, out: &mut O) -> CpuStep
-        ensures says { StepSays (effect self.old.board.code.items self.old.board.trash (state_of self.old)) self.old self.new (O.taken out.old) (O.taken out.new) (O.faults out.old) (O.faults out.new) result }
+        ensures says { StepSays (effect_in (rv_inner self.old)) (rv_inner self.old) (rv_inner self.new)
+            (O.taken out.old) (O.taken out.new) (O.faults out.old) (O.faults out.new) result }
         ensures later { O.faults out.old ≤ O.faults out.new }
     {
         match HostName::from_address(self.pc) {

@@ -32,14 +32,13 @@ fn registers_at_start(count: u64, trash: u64) -> [u64; 32]
 }
 
 impl Riscv64 {
-    ghost use Rattle.lg_base.specs.Layout.{code_base};
     ghost use Rattle.lg_base.specs.Parts.{byte_at};
-    ghost use Rattle.lg_base.specs.declared.flags.Flags.TheVariants.{NoFlags};
-    ghost use Rattle.lg_cpu.specs.Machines.{state_of};
+    ghost use Rattle.lg_cpu.specs.RvStep.{begins};
+    ghost use Rattle.lg_cpu.specs.Machines.{rv_state};
 
     /// The processor before its first step, with the number of arguments.
     pub fn new(board: Board, count: u64) -> Riscv64
-        ensures state { state_of result ≡ record { pc = code_base; registers = start_registers count board.trash; flags = NoFlags; bytes = byte_at board.memory; mark = board.heap } }
+        ensures state { rv_state result ≡ begins count board.trash (byte_at board.memory) board.heap }
         ensures board { result.board ≡ board }
     {
         Riscv64 {

@@ -1,0 +1,116 @@
+// Steps at the entries of host functions.
+
+ghost use Rattle.std.specs.Prelude.{◌≡◌, ◌≤◌, ℕ, map, slice_index};
+ghost use Rattle.lg_base.specs.Conventions.{argument_registers, is_kept};
+ghost use Rattle.lg_base.specs.declared.target.Target.{Target};
+ghost use Rattle.lg_cpu.specs.HostSteps.{arguments_of, behind_call};
+
+use crate::aarch64::Aarch64;
+use crate::aarch64::start::trash_flags;
+use crate::answer::CpuStep;
+use crate::arguments::Arguments;
+use lg_base::fault::FaultKind;
+use lg_base::host_name::HostName;
+use lg_host::call::call;
+use lg_host::host_end::HostEnd;
+use lg_io::sink::Sink;
+
+// Whether a call keeps a register.
+fn keeps(register: usize) -> bool
+    ensures { result ≡ is_kept Target.Aarch64 register }
+{
+    match register {
+        19..=29 | 31 => true,
+        _ => false,
+    }
+}
+
+// The registers behind a call of a host function that answered this.
+fn registers_behind_call(registers: &[u64; 32], trash: u64, answer: u64) -> [u64; 32]
+    ensures { slice_index result ≡ behind_call Target.Aarch64 32 (slice_index registers.now) trash answer }
+{
+    let mut behind = *registers;
+    for register in 0..32 {
+        if !keeps(register) {
+            behind[register] = trash;
+        }
+    }
+    behind[0] = answer;
+    behind
+}
+
+// The arguments in registers.
+fn register_arguments(registers: &[u64; 32]) -> Arguments
+    ensures { result ≡ map (slice_index registers.now) (argument_registers Target.Aarch64) }
+{
+    let r = registers;
+    Arguments::first(
+        [
+            r[0], r[1], r[2], r[3], r[4], r[5], r[6], r[7], 0, 0, 0, 0, 0, 0, 0, 0,
+        ],
+        8,
+    )
+}
+
+impl Aarch64 {
+    ghost use Rattle.lg_cpu.specs.A64Step.{trash_flags, enter_host};
+    ghost use Rattle.lg_cpu.specs.States.{arrives};
+    ghost use Rattle.lg_cpu.specs.Machines.{a64_state, a64_inner, effect_in, Does, StepSays};
+
+    // The arguments of the convention.
+    fn arguments(&self) -> Arguments
+        ensures { result ≡ arguments_of Target.Aarch64 (slice_index self.now.registers 31) (a64_state self.now) }
+    {
+        let mut arguments = register_arguments(&self.registers);
+        arguments.read_stack(&self.board.memory, self.registers[31]);
+        arguments
+    }
+
+    // Returns from a host function that answered this.
+    fn leave_host(&mut self, answer: u64) -> CpuStep
+        ensures { Does (arrives (slice_index self.old.registers 30) (behind_call Target.Aarch64 32 (slice_index self.old.registers) self.old.board.trash answer)
+            (trash_flags self.old.board.trash) (a64_state self.old).bytes (a64_state self.old).mark) (a64_inner self.old) (a64_inner self.new) result }
+    {
+        let link = self.registers[30];
+        self.flags = trash_flags(self.board.trash);
+        self.registers = registers_behind_call(&self.registers, self.board.trash, answer);
+        self.go(link)
+    }
+
+    // Runs a host function.
+    fn enter_host<O: Sink>(&mut self, name: HostName, out: &mut O) -> CpuStep
+        ensures says { StepSays (enter_host name self.old.board.trash (a64_state self.old)) (a64_inner self.old) (a64_inner self.new)
+            (O.taken out.old) (O.taken out.new) (O.faults out.old) (O.faults out.new) result }
+        ensures later { O.faults out.old ≤ O.faults out.new }
+    {
+        if self.registers[31] % 16 != 0 {
+            return CpuStep::Fault(FaultKind::Host);
+        }
+        let arguments = self.arguments();
+        match call(
+            name,
+            arguments.as_slice(),
+            true,
+            &mut self.board.memory,
+            &mut self.board.heap,
+            out,
+        ) {
+            HostEnd::Value(answer) => self.leave_host(answer),
+            HostEnd::Exit(status) => CpuStep::Ended(status),
+            HostEnd::Undefined => CpuStep::Fault(FaultKind::Host),
+            HostEnd::WriteFault => CpuStep::WriteFault,
+        }
+    }
+
+    /// Takes one step, whether the run is over or not.
+    pub fn step<O: Sink>(&mut self, out: &mut O) -> CpuStep
+        ensures says { StepSays (effect_in (a64_inner self.old)) (a64_inner self.old) (a64_inner self.new)
+            (O.taken out.old) (O.taken out.new) (O.faults out.old) (O.faults out.new) result }
+        ensures later { O.faults out.old ≤ O.faults out.new }
+    {
+        match HostName::from_address(self.pc) {
+            Some(name) => self.enter_host(name, out),
+            None => self.fetch(),
+        }
+    }
+}

@@ -1,0 +1,64 @@
+// The processor at the start of a run.
+
+ghost use Rattle.std.specs.Prelude.{◌≡◌, ◌≤◌, length, slice_index, if◌then◌else◌, nat_lt};
+ghost use Rattle.lg_cpu.specs.A64Step.{start_registers, trash_flags};
+
+use crate::aarch64::{Aarch64, CODE, STOP};
+use crate::board::Board;
+use lg_base::flags::Flags;
+
+// the first address of the argument part, and the address behind the stack
+const ARGS: u64 = 0x2800_0000;
+
+const STACK_END: u64 = 0x4000_0000;
+
+// The trash word in each register.
+fn trash_registers(trash: u64) -> [u64; 32]
+    ensures registers { slice_index result ≡ (λ r. if nat_lt r 32 then trash else 0) }
+    ensures long { length result ≡ 32 }
+{
+    [trash; 32]
+}
+
+// The low four bits of the trash word: N, Z, C and V.
+pub(crate) fn trash_flags(trash: u64) -> Flags
+    ensures { result ≡ trash_flags trash }
+{
+    Flags::Nzcv(
+        trash / 8 % 2 == 1,
+        trash / 4 % 2 == 1,
+        trash / 2 % 2 == 1,
+        trash % 2 == 1,
+    )
+}
+
+// The registers at the start of a run with so many arguments.
+fn registers_at_start(count: u64, trash: u64) -> [u64; 32]
+    ensures { slice_index result ≡ start_registers count trash }
+{
+    let mut registers = trash_registers(trash);
+    registers[1] = ARGS;
+    registers[0] = count;
+    registers[31] = STACK_END;
+    registers[30] = STOP;
+    registers
+}
+
+impl Aarch64 {
+    ghost use Rattle.lg_base.specs.Parts.{byte_at};
+    ghost use Rattle.lg_cpu.specs.A64Step.{begins};
+    ghost use Rattle.lg_cpu.specs.Machines.{a64_state};
+
+    /// The processor before its first step, with the number of arguments.
+    pub fn new(board: Board, count: u64) -> Aarch64
+        ensures state { a64_state result ≡ begins count board.trash (byte_at board.memory) board.heap }
+        ensures board { result.board ≡ board }
+    {
+        Aarch64 {
+            pc: CODE,
+            flags: trash_flags(board.trash),
+            registers: registers_at_start(count, board.trash),
+            board,
+        }
+    }
+}

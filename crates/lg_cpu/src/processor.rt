@@ -1,0 +1,135 @@
+// The processor of a target.
+
+ghost use Rattle.std.specs.Prelude.{◌≡◌, ◌<◌, ◌≤◌, ◌⊎◌, if◌then◌else◌, nat_lt};
+
+use crate::aarch64::Aarch64;
+use crate::answer::CpuStep;
+use crate::board::Board;
+use crate::riscv64::Riscv64;
+use lg_base::code::CodeBytes;
+use lg_base::target::Target;
+use lg_io::sink::Sink;
+
+/// A processor with what it works on.
+#[derive(Drop)]
+pub enum Processor {
+    /// AArch64.
+    Aarch64(Aarch64),
+    /// RV64IM.
+    Riscv64(Riscv64),
+}
+
+impl Processor {
+    ghost use Rattle.lg_base.specs.Parts.{byte_at};
+    ghost use Rattle.lg_base.specs.Spaces.{loaded, mapped, stored};
+    ghost use Rattle.lg_base.specs.declared.target.Target.{Target};
+    ghost use Rattle.lg_cpu.specs.Answers.{answer_of};
+    ghost use Rattle.lg_cpu.specs.Steps.{arrived};
+    ghost use Rattle.lg_cpu.specs.Targets.{begins, reads, register_count};
+    ghost use Rattle.lg_cpu.specs.Machines.{inner, inner_of, effect_in, with_state, with_register, with_bytes, StepSays};
+
+    /// The processor of a target before its first step, with the number of arguments.
+    pub fn new(target: Target, board: Board, count: u64) -> Processor
+        requires built { (target ≡ Target.Aarch64) ⊎ (target ≡ Target.Riscv64) }
+        ensures { inner result ≡ inner_of target (begins target count board.trash (byte_at board.memory) board.heap) board }
+    {
+        match target {
+            Target::Aarch64 => Processor::Aarch64(Aarch64::new(board, count)),
+            _ => Processor::Riscv64(Riscv64::new(board, count)),
+        }
+    }
+
+    /// Takes one step, whether the run is over or not.
+    pub fn step<O: Sink>(&mut self, out: &mut O) -> CpuStep
+        ensures says { StepSays (effect_in (inner self.old)) (inner self.old) (inner self.new)
+            (O.taken out.old) (O.taken out.new) (O.faults out.old) (O.faults out.new) result }
+        ensures later { O.faults out.old ≤ O.faults out.new }
+    {
+        match self {
+            Processor::Aarch64(p) => p.step(out),
+            Processor::Riscv64(p) => p.step(out),
+        }
+    }
+
+    /// The program counter.
+    pub fn pc(&self) -> u64
+        ensures { result ≡ (inner self.now).state.pc }
+    {
+        match self {
+            Processor::Aarch64(p) => p.pc,
+            Processor::Riscv64(p) => p.pc,
+        }
+    }
+
+    /// What a register reads as.
+    pub fn read(&self, number: u8) -> u64
+        requires { number < 32 }
+        ensures { result ≡ reads (inner self.now).fixed.target (inner self.now).state.registers number }
+    {
+        match self {
+            Processor::Aarch64(p) => p.registers[number as usize],
+            Processor::Riscv64(p) => p.read(number),
+        }
+    }
+
+    /// Sets a register, where the processor has one of the number.
+    pub fn set_register(&mut self, number: u8, value: u64)
+        requires { number < 32 }
+        ensures { inner self.new ≡ (
+            if nat_lt number (register_count (inner self.old).fixed.target)
+            then with_state (inner self.old) (with_register (inner self.old).state number value)
+            else inner self.old) }
+    {
+        match self {
+            Processor::Aarch64(p) => p.registers[number as usize] = value,
+            Processor::Riscv64(p) => p.registers[number as usize] = value,
+        }
+    }
+
+    /// Goes on at an address.
+    pub fn go(&mut self, pc: u64) -> CpuStep
+        ensures answer { result ≡ answer_of (arrived pc) }
+        ensures state { inner self.new ≡ with_state (inner self.old) (record (inner self.old).state { pc = pc }) }
+    {
+        match self {
+            Processor::Aarch64(p) => p.go(pc),
+            Processor::Riscv64(p) => p.go(pc),
+        }
+    }
+
+    /// Replaces the code.
+    pub fn set_code(&mut self, code: CodeBytes)
+        ensures { inner self.new ≡ record (inner self.old) { fixed = record (inner self.old).fixed { code = code.items } } }
+    {
+        match self {
+            Processor::Aarch64(p) => p.board.code = code,
+            Processor::Riscv64(p) => p.board.code = code,
+        }
+    }
+
+    /// A number in memory.
+    pub fn load(&self, address: u64, width: u32) -> Option<u64>
+        requires { (width ≡ 1) ⊎ (width ≡ 2) ⊎ (width ≡ 4) ⊎ (width ≡ 8) }
+        ensures { result ≡ loaded (inner self.now).state.bytes address width }
+    {
+        match self {
+            Processor::Aarch64(p) => p.board.memory.load(address, width),
+            Processor::Riscv64(p) => p.board.memory.load(address, width),
+        }
+    }
+
+    /// Writes a number into memory, where all its bytes lie in one part.
+    pub fn store(&mut self, address: u64, width: u32, value: u64) -> bool
+        requires { (width ≡ 1) ⊎ (width ≡ 2) ⊎ (width ≡ 4) ⊎ (width ≡ 8) }
+        ensures done { result ≡ mapped (inner self.old).state.bytes address width }
+        ensures changed { inner self.new ≡ (
+            if result
+            then with_state (inner self.old) (with_bytes (inner self.old).state (stored (inner self.old).state.bytes address width value))
+            else inner self.old) }
+    {
+        match self {
+            Processor::Aarch64(p) => p.board.memory.store(address, width, value),
+            Processor::Riscv64(p) => p.board.memory.store(address, width, value),
+        }
+    }
+}
