@@ -5,6 +5,7 @@ mod FaultLemmas
 mod FollowLemmas
 mod OperatorLemmas
 pub mod RunLemmas
+mod SaysLemmas
 pub mod SoundLemmas
 mod StartLemmas
 pub mod StepLemmas

@@ -11,3 +11,5 @@ pub mod Starts
 pub mod States
 pub mod Steps
 pub mod Targets
+pub mod X86Operators
+pub mod X86Step

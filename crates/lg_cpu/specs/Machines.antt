@@ -1,5 +1,5 @@
 -- What the code of the processors answers and leaves.
-use Rattle.std.specs.Prelude.{◌≡◌, ℕ, ◌+◌, List, [], Option, slice_index}
+use Rattle.std.specs.Prelude.{◌≡◌, ℕ, ◌+◌, Bool, true, false, List, [], Option, slice_index}
 use Rattle.std.specs.Io.KnownBytes.{Appends}
 use Rattle.lg_base.specs.Parts.{byte_at}
 use Rattle.lg_base.specs.declared.target.Target.{Target}
@@ -18,6 +18,11 @@ use Rattle.lg_cpu.specs.declared.board.Board.{Board}
 use Rattle.lg_cpu.specs.declared.processor.Processor.{Processor}
 use Rattle.lg_cpu.specs.declared.processor.Processor.TheVariants as processor
 use Rattle.lg_cpu.specs.declared.riscv64.Riscv64.{Riscv64}
+use Rattle.lg_cpu.specs.declared.x86_64.X86_64.{X86_64}
+use Rattle.lg_cpu.specs.X86Step.{Scene, scene_of, goes, goes_with}
+use Rattle.lg_base.specs.declared.fault.FaultKind.{FaultKind}
+use Rattle.lg_x86.specs.declared.instruction.Instr.{Instr}
+use Rattle.lg_x86.specs.declared.instruction.Instr.TheVariants.{Load, Store, Stack, JumpIfShort, JumpIfNear, JumpShort, JumpNear, JumpReg, Bare}
 use Rattle.lg_cpu.specs.declared.cpu.Cpu.{Cpu}
 use Rattle.lg_cpu.specs.declared.answer.CpuStep.{CpuStep}
 use Rattle.lg_cpu.specs.declared.answer.CpuStep.TheVariants as cpu
@@ -50,7 +55,17 @@ rv_state p = record { pc = p.pc; registers = slice_index p.registers; flags = No
 abbrev pub rv_inner : Riscv64 → Inner
 rv_inner p = inner_of target.Riscv64 (rv_state p) p.board
 
+abbrev pub x86_state : X86_64 → CpuState
+x86_state p = record { pc = p.pc; registers = slice_index p.registers; flags = p.flags; bytes = byte_at p.board.memory; mark = p.board.heap }
+
+abbrev pub x86_scene : X86_64 → Scene
+x86_scene p = scene_of (x86_state p)
+
+abbrev pub x86_inner : X86_64 → Inner
+x86_inner p = inner_of target.X86_64 (x86_state p) p.board
+
 abbrev pub inner : Processor → Inner
+inner (processor.X86_64 p) = x86_inner p
 inner (processor.Aarch64 p) = a64_inner p
 inner (processor.Riscv64 p) = rv_inner p
 
@@ -142,3 +157,25 @@ after_jump s pc = record s { state = record s.state { pc = pc }; answer = answer
 
 abbrev pub after_store : Shown → ℕ → ℕ → ℕ → Shown
 after_store s address width value = record s { state = with_bytes s.state (stored s.state.bytes address width value) }
+
+-- ---- the x86-64 processor, by scenes
+-- an instruction leads to an address and a scene
+abbrev pub Leads : ℕ → Scene → X86_64 → X86_64 → CpuStep → Type 0
+Leads next s old new answer = Does (goes next s (x86_state old).mark) (x86_inner old) (x86_inner new) answer
+
+-- or faults where there is none
+abbrev pub Makes : ℕ → FaultKind → Option Scene → X86_64 → X86_64 → CpuStep → Type 0
+Makes next kind made old new answer = Does (goes_with (x86_state old) next kind made) (x86_inner old) (x86_inner new) answer
+
+-- the instructions on memory, on the stack, and those that go elsewhere
+abbrev pub is_rest : Instr → Bool
+is_rest (Load op reg base disp) = true
+is_rest (Store op base disp reg) = true
+is_rest (Stack op reg) = true
+is_rest (JumpIfShort cond distance) = true
+is_rest (JumpIfNear cond distance) = true
+is_rest (JumpShort distance) = true
+is_rest (JumpNear op distance) = true
+is_rest (JumpReg op rm) = true
+is_rest (Bare op) = true
+is_rest i = false

@@ -1,30 +1,28 @@
 -- The processors by their targets, and the run of code.
 use Rattle.std.specs.Prelude.{ℕ, List, [], Option}
 use Rattle.lg_base.specs.Arguments.{argument_count}
-use Rattle.lg_base.specs.Layout.{code_base}
 use Rattle.lg_base.specs.Parts.{heap_base}
 use Rattle.lg_base.specs.Runs.{Machine, iter}
-use Rattle.lg_base.specs.declared.fault.FaultKind.TheVariants.{Decode}
-use Rattle.lg_base.specs.declared.flags.Flags.TheVariants.{NoFlags}
 use Rattle.lg_base.specs.declared.target.Target.{Target}
 use Rattle.lg_base.specs.declared.target.Target.TheVariants.{X86_64, Aarch64, Riscv64}
 use Rattle.lg_cpu.specs.A64Step as a64
 use Rattle.lg_cpu.specs.RvStep as rv
 use Rattle.lg_cpu.specs.Starts.{start_bytes}
 use Rattle.lg_cpu.specs.States.{CpuState}
-use Rattle.lg_cpu.specs.Steps.{Effect, Run, Goes, faults, machine}
+use Rattle.lg_cpu.specs.Steps.{Effect, Run, Goes, machine}
+use Rattle.lg_cpu.specs.X86Step as x86
 
--- what a step does, over this code and with this word in what nothing has set; the processor of a target that is not built knows no instruction
+-- what a step does, over this code and with this word in what nothing has set
 abbrev pub effect_of : Target → List ℕ → ℕ → CpuState → Effect CpuState
+effect_of X86_64 code trash s = x86.effect code trash s
 effect_of Aarch64 code trash s = a64.effect code trash s
 effect_of Riscv64 code trash s = rv.effect code trash s
-effect_of target code trash s = faults s Decode
 
 -- the state at the start of a run with so many arguments, over the bytes of a memory and a heap mark
 abbrev pub begins : Target → (count trash : ℕ) → (ℕ → Option ℕ) → ℕ → CpuState
+begins X86_64 count trash bytes mark = x86.begins count trash bytes mark
 begins Aarch64 count trash bytes mark = a64.begins count trash bytes mark
 begins Riscv64 count trash bytes mark = rv.begins count trash bytes mark
-begins target count trash bytes mark = record { pc = code_base; registers = λ r. trash; flags = NoFlags; bytes = bytes; mark = mark }
 
 -- and over the bytes of the data part and of the argument part
 abbrev pub start_of : Target → (image args : List ℕ) → (trash : ℕ) → CpuState

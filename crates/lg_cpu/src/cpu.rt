@@ -4,7 +4,6 @@ ghost use Rattle.std.specs.Prelude.{◌≡◌, ◌<◌, ◌≤◌, ◌⊎◌, �
 ghost use Rattle.lg_base.specs.Layout.{most_code};
 ghost use Rattle.lg_base.specs.Arguments.{most_args};
 ghost use Rattle.lg_base.specs.Spaces.{loaded, mapped};
-ghost use Rattle.lg_base.specs.declared.target.Target.{Target};
 ghost use Rattle.lg_cpu.specs.Answers.{is_counted};
 ghost use Rattle.lg_cpu.specs.Targets.{reads, register_count};
 
@@ -44,8 +43,7 @@ impl Cpu {
 
     /// A processor before its first step: at the first address of the code, with the data part and the argument part in
     /// memory and zeros elsewhere. It finds the number of the argument part's strings and the part's address in the registers
-    /// of the first two arguments, and the trash word in every register that no convention sets. The target is AArch64 or RV64,
-    /// which are those that are built; the code has at most 67,108,864 bytes, the data part at most 16,777,216, and the argument part
+    /// of the first two arguments, and the trash word in every register that no convention sets. The code has at most 67,108,864 bytes, the data part at most 16,777,216, and the argument part
     /// at most 1,048,576. No other call takes memory.
     pub fn new(
         alloc: Global,
@@ -55,7 +53,6 @@ impl Cpu {
         args: &ArgImage,
         trash: u64,
     ) -> Result<Cpu, OutOfMemory>
-        requires built { (target ≡ Target.Aarch64) ⊎ (target ≡ Target.Riscv64) }
         requires code { length code.now.items ≤ most_code }
         requires image { length image.now ≤ 0x1000000 }
         requires args { length args.now ≤ most_args }

@@ -9,3 +9,4 @@ pub mod cpu;
 pub mod laws;
 mod processor;
 mod riscv64;
+mod x86_64;

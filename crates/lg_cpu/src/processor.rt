@@ -6,6 +6,7 @@ use crate::aarch64::Aarch64;
 use crate::answer::CpuStep;
 use crate::board::Board;
 use crate::riscv64::Riscv64;
+use crate::x86_64::X86_64;
 use lg_base::code::CodeBytes;
 use lg_base::target::Target;
 use lg_io::sink::Sink;
@@ -13,6 +14,8 @@ use lg_io::sink::Sink;
 /// A processor with what it works on.
 #[derive(Drop)]
 pub enum Processor {
+    /// x86-64.
+    X86_64(X86_64),
     /// AArch64.
     Aarch64(Aarch64),
     /// RV64IM.
@@ -20,6 +23,8 @@ pub enum Processor {
 }
 
 impl Processor {
+    ghost use Rattle.std.specs.Prelude.{true};
+    ghost use Rattle.lg_base.specs.Layout.{return_word, stack_end};
     ghost use Rattle.lg_base.specs.Parts.{byte_at};
     ghost use Rattle.lg_base.specs.Spaces.{loaded, mapped, stored};
     ghost use Rattle.lg_base.specs.declared.target.Target.{Target};
@@ -30,12 +35,13 @@ impl Processor {
 
     /// The processor of a target before its first step, with the number of arguments.
     pub fn new(target: Target, board: Board, count: u64) -> Processor
-        requires built { (target ≡ Target.Aarch64) ⊎ (target ≡ Target.Riscv64) }
+        requires stack { mapped (byte_at board.memory) (return_word stack_end) 8 ≡ true }
         ensures { inner result ≡ inner_of target (begins target count board.trash (byte_at board.memory) board.heap) board }
     {
         match target {
+            Target::X86_64 => Processor::X86_64(X86_64::new(board, count)),
             Target::Aarch64 => Processor::Aarch64(Aarch64::new(board, count)),
-            _ => Processor::Riscv64(Riscv64::new(board, count)),
+            Target::Riscv64 => Processor::Riscv64(Riscv64::new(board, count)),
         }
     }
 
@@ -46,6 +52,7 @@ impl Processor {
         ensures later { O.faults out.old ≤ O.faults out.new }
     {
         match self {
+            Processor::X86_64(p) => p.step(out),
             Processor::Aarch64(p) => p.step(out),
             Processor::Riscv64(p) => p.step(out),
         }
@@ -56,6 +63,7 @@ impl Processor {
         ensures { result ≡ (inner self.now).state.pc }
     {
         match self {
+            Processor::X86_64(p) => p.pc,
             Processor::Aarch64(p) => p.pc,
             Processor::Riscv64(p) => p.pc,
         }
@@ -67,6 +75,7 @@ impl Processor {
         ensures { result ≡ reads (inner self.now).fixed.target (inner self.now).state.registers number }
     {
         match self {
+            Processor::X86_64(p) => p.register(number),
             Processor::Aarch64(p) => p.registers[number as usize],
             Processor::Riscv64(p) => p.read(number),
         }
@@ -81,6 +90,7 @@ impl Processor {
             else inner self.old) }
     {
         match self {
+            Processor::X86_64(p) => p.set_register(number, value),
             Processor::Aarch64(p) => p.registers[number as usize] = value,
             Processor::Riscv64(p) => p.registers[number as usize] = value,
         }
@@ -92,6 +102,7 @@ impl Processor {
         ensures state { inner self.new ≡ with_state (inner self.old) (record (inner self.old).state { pc = pc }) }
     {
         match self {
+            Processor::X86_64(p) => p.go(pc),
             Processor::Aarch64(p) => p.go(pc),
             Processor::Riscv64(p) => p.go(pc),
         }
@@ -102,6 +113,7 @@ impl Processor {
         ensures { inner self.new ≡ record (inner self.old) { fixed = record (inner self.old).fixed { code = code.items } } }
     {
         match self {
+            Processor::X86_64(p) => p.board.code = code,
             Processor::Aarch64(p) => p.board.code = code,
             Processor::Riscv64(p) => p.board.code = code,
         }
@@ -113,6 +125,7 @@ impl Processor {
         ensures { result ≡ loaded (inner self.now).state.bytes address width }
     {
         match self {
+            Processor::X86_64(p) => p.board.memory.load(address, width),
             Processor::Aarch64(p) => p.board.memory.load(address, width),
             Processor::Riscv64(p) => p.board.memory.load(address, width),
         }
@@ -128,6 +141,7 @@ impl Processor {
             else inner self.old) }
     {
         match self {
+            Processor::X86_64(p) => p.board.memory.store(address, width, value),
             Processor::Aarch64(p) => p.board.memory.store(address, width, value),
             Processor::Riscv64(p) => p.board.memory.store(address, width, value),
         }

@@ -1,0 +1,514 @@
+// The x86-64 processor.
+
+ghost use Rattle.std.specs.Prelude.{◌≡◌, ◌<◌, ◌≤◌, ◌⊎◌, ◌+◌, length, nat_lt, slice_index};
+ghost use Rattle.lg_cpu.specs.Loads.{extended_by};
+ghost use Rattle.lg_cpu.specs.X86Step.{store_width, load_width, load_value};
+
+mod flags;
+mod host;
+mod operators;
+mod start;
+
+use self::flags::{
+    alu_flags, carry_for, condition, negation_flags, no_flags, product_flags, reg_rm_flags,
+    shift_flags,
+};
+use self::operators::{
+    alu_of, alu_value, high_signed, is_kept_by, needs_high, needs_high_signed, reg_rm_value,
+    shift_value, sign_word,
+};
+use crate::answer::CpuStep;
+use crate::board::Board;
+use lg_base::fault::FaultKind;
+use lg_base::flags::Flags;
+use lg_base::number::sign_extended;
+use lg_base::wide::{div_wide_u, div_wide_words, mul_high_u, sign_part, swap_bytes};
+use lg_x86::{
+    BareOp, Cond, Instr, JumpNearOp, JumpRegOp, LoadOp, RmRegOp, ShiftOp, StackOp, StoreOp,
+    UnaryOp, decode,
+};
+
+// the stop address, and the first address of code
+const STOP: u64 = 0x0FE0_0000;
+
+const CODE: u64 = 0x1000_0000;
+
+/// The program counter, the registers and the flags, and what the processor works on.
+#[derive(Drop)]
+pub struct X86_64 {
+    pub pc: u64,
+    pub(crate) registers: [u64; 16],
+    pub(crate) flags: Flags,
+    pub(crate) board: Board,
+}
+
+fn store_width(op: StoreOp) -> u32
+    ensures width { result ≡ store_width op }
+    ensures known { (result ≡ 1) ⊎ (result ≡ 2) ⊎ (result ≡ 4) ⊎ (result ≡ 8) }
+{
+    match op {
+        StoreOp::St64 => 8,
+        StoreOp::St32 => 4,
+        StoreOp::St16 => 2,
+        StoreOp::St8 => 1,
+    }
+}
+
+// The number in so many bytes, extended by its sign or with zeros.
+fn extended(value: u64, width: u32, signed: bool) -> u64
+    requires { (width ≡ 1) ⊎ (width ≡ 2) ⊎ (width ≡ 4) ⊎ (width ≡ 8) }
+    ensures { result ≡ extended_by signed width value }
+{
+    if signed {
+        sign_part(value, width)
+    } else {
+        value
+    }
+}
+
+impl X86_64 {
+    ghost use Rattle.std.specs.Prelude.{ℕ, true, Some, None, if◌then◌else◌};
+    ghost use Rattle.lg_base.specs.Fields.{word_of};
+    ghost use Rattle.lg_base.specs.Spaces.{loaded};
+    ghost use Rattle.lg_base.specs.Wide.{quotient_wide, quotient_wide_signed};
+    ghost use Rattle.lg_base.specs.Words.{add_words};
+    ghost use Rattle.lg_base.specs.declared.fault.FaultKind.{FaultKind};
+    ghost use Rattle.lg_x86.specs.Spelling.{IsInstr};
+    ghost use Rattle.lg_x86.specs.declared.instruction.Instr.{Instr};
+    ghost use Rattle.lg_cpu.specs.States.{goes_on};
+    ghost use Rattle.lg_cpu.specs.X86Operators.{bit, condition};
+    ghost use Rattle.lg_cpu.specs.X86Step.{with_register, with_flags, with_wide, combined_with, combined, loads, sets_loaded, stores, shifted, sets_quotient, one_register};
+    ghost use Rattle.lg_cpu.specs.X86Step.{pops, pushes, sets_byte, goes_where, returns, does, fetch};
+    ghost use Rattle.lg_cpu.specs.Machines as machines;
+    ghost use Rattle.lg_cpu.specs.Machines.{x86_scene, x86_state, x86_inner, with_state, is_rest, Does, Leads, Makes};
+
+    // What a register reads as; there are 16.
+    pub(crate) fn register(&self, number: u8) -> u64
+        ensures { result ≡ slice_index self.now.registers number }
+    {
+        if number < 16 {
+            self.registers[number as usize]
+        } else {
+            0
+        }
+    }
+
+    // Sets a register, where there is one of the number.
+    pub(crate) fn set_register(&mut self, number: u8, value: u64)
+        ensures { x86_inner self.new ≡ (
+            if nat_lt number 16
+            then with_state (x86_inner self.old) (machines.with_register (x86_state self.old) number value)
+            else x86_inner self.old) }
+    {
+        if number < 16 {
+            self.registers[number as usize] = value;
+        }
+    }
+
+    // Goes on at an address.
+    pub(crate) fn go(&mut self, pc: u64) -> CpuStep
+        ensures { Does (goes_on (x86_state self.old) pc) (x86_inner self.old) (x86_inner self.new) result }
+    {
+        self.pc = pc;
+        if pc == STOP {
+            CpuStep::Ended(0)
+        } else {
+            CpuStep::Went
+        }
+    }
+
+    // Sets a register and the flags, and goes on at an address.
+    fn set(&mut self, next: u64, register: u8, value: u64, flags: Flags) -> CpuStep
+        requires { register < 16 }
+        ensures { Leads next (with_register (x86_scene self.old) register value flags) self.old self.new result }
+    {
+        self.registers[register as usize] = value;
+        self.flags = flags;
+        self.go(next)
+    }
+
+    // Sets the flags, and goes on at an address.
+    fn set_flags(&mut self, next: u64, flags: Flags) -> CpuStep
+        ensures { Leads next (with_flags (x86_scene self.old) flags) self.old self.new result }
+    {
+        self.flags = flags;
+        self.go(next)
+    }
+
+    // Combines a register and a word, with a carry.
+    fn combine_with(&mut self, next: u64, op: RmRegOp, rm: u8, b: u64, carry: bool) -> CpuStep
+        requires { rm < 16 }
+        ensures { Leads next (combined_with op rm b (bit carry) (x86_scene self.old)) self.old self.new result }
+    {
+        let a = self.registers[rm as usize];
+        let flags = alu_flags(op, self.flags, a, b, carry);
+        if is_kept_by(op) {
+            self.set_flags(next, flags)
+        } else {
+            self.set(next, rm, alu_value(op, a, b, carry), flags)
+        }
+    }
+
+    // And with the carry that the row reads.
+    fn combine(&mut self, next: u64, op: RmRegOp, rm: u8, b: u64) -> CpuStep
+        requires { rm < 16 }
+        ensures { Makes next FaultKind.Flag (combined op rm b (x86_scene self.old)) self.old self.new result }
+    {
+        match carry_for(op, self.flags.carry()) {
+            Some(carry) => self.combine_with(next, op, rm, b, carry),
+            None => CpuStep::Fault(FaultKind::Flag),
+        }
+    }
+
+    // Loads a number, or takes the address.
+    fn load(&mut self, next: u64, op: LoadOp, register: u8, address: u64) -> CpuStep
+        requires { register < 16 }
+        ensures { Makes next FaultKind.Memory (loads op register address (x86_scene self.old)) self.old self.new result }
+    {
+        match op {
+            LoadOp::Lea => self.set(next, register, address, self.flags),
+            LoadOp::Ld64 => self.load_wide(next, LoadOp::Ld64, 8, false, register, address),
+            LoadOp::Ld32u => self.load_wide(next, LoadOp::Ld32u, 4, false, register, address),
+            LoadOp::Ld32s => self.load_wide(next, LoadOp::Ld32s, 4, true, register, address),
+            LoadOp::Ld8u => self.load_wide(next, LoadOp::Ld8u, 1, false, register, address),
+            LoadOp::Ld16u => self.load_wide(next, LoadOp::Ld16u, 2, false, register, address),
+            LoadOp::Ld8s => self.load_wide(next, LoadOp::Ld8s, 1, true, register, address),
+            LoadOp::Ld16s => self.load_wide(next, LoadOp::Ld16s, 2, true, register, address),
+        }
+    }
+
+    // Loads so many bytes, extended by their sign or with zeros.
+    fn load_wide(
+        &mut self,
+        next: u64,
+        op: LoadOp,
+        width: u32,
+        signed: bool,
+        register: u8,
+        address: u64,
+    ) -> CpuStep
+        requires register { register < 16 }
+        requires width { (width ≡ 1) ⊎ (width ≡ 2) ⊎ (width ≡ 4) ⊎ (width ≡ 8) }
+        requires is_width { width ≡ load_width op }
+        requires value { (v : ℕ) → load_value op v ≡ extended_by signed width v }
+        ensures { Makes next FaultKind.Memory (sets_loaded op register (x86_scene self.old) (loaded (x86_state self.old).bytes address width))
+            self.old self.new result }
+    {
+        match self.board.memory.load(address, width) {
+            Some(value) => self.set(next, register, extended(value, width, signed), self.flags),
+            None => CpuStep::Fault(FaultKind::Memory),
+        }
+    }
+
+    // Stores the low bytes of a word.
+    fn store(&mut self, next: u64, address: u64, width: u32, value: u64) -> CpuStep
+        requires { (width ≡ 1) ⊎ (width ≡ 2) ⊎ (width ≡ 4) ⊎ (width ≡ 8) }
+        ensures { Makes next FaultKind.Memory (stores (x86_scene self.old) (x86_scene self.old).registers address width value) self.old self.new result }
+    {
+        if self.board.memory.store(address, width, value) {
+            self.go(next)
+        } else {
+            CpuStep::Fault(FaultKind::Memory)
+        }
+    }
+
+    // Sets rax and rdx, and the flags.
+    fn set_wide(&mut self, next: u64, high: u64, low: u64, flags: Flags) -> CpuStep
+        ensures { Leads next (with_wide (x86_scene self.old) high low flags) self.old self.new result }
+    {
+        self.registers[0] = low;
+        self.registers[2] = high;
+        self.flags = flags;
+        self.go(next)
+    }
+
+    fn shift(&mut self, next: u64, op: ShiftOp, rm: u8, count: u32) -> CpuStep
+        requires register { rm < 16 }
+        requires count { count < 64 }
+        ensures { Leads next (shifted op rm count (x86_scene self.old)) self.old self.new result }
+    {
+        let a = self.registers[rm as usize];
+        self.set(
+            next,
+            rm,
+            shift_value(op, a, count),
+            shift_flags(op, self.flags, a, count),
+        )
+    }
+
+    // Divides rdx and rax, unsigned.
+    fn divide_unsigned(&mut self, next: u64, by: u64) -> CpuStep
+        ensures { Makes next FaultKind.Divide (sets_quotient (x86_scene self.old)
+            (quotient_wide ((x86_state self.old).registers 2) ((x86_state self.old).registers 0) by)) self.old self.new result }
+    {
+        match div_wide_u(self.registers[2], self.registers[0], by) {
+            Some((quotient, remainder)) => self.set_wide(next, remainder, quotient, no_flags()),
+            None => CpuStep::Fault(FaultKind::Divide),
+        }
+    }
+
+    // Divides rdx and rax, signed.
+    fn divide_signed(&mut self, next: u64, by: u64) -> CpuStep
+        ensures { Makes next FaultKind.Divide (sets_quotient (x86_scene self.old)
+            (quotient_wide_signed ((x86_state self.old).registers 2) ((x86_state self.old).registers 0) by)) self.old self.new result }
+    {
+        match div_wide_words(self.registers[2], self.registers[0], by) {
+            Some((quotient, remainder)) => self.set_wide(next, remainder, quotient, no_flags()),
+            None => CpuStep::Fault(FaultKind::Divide),
+        }
+    }
+
+    // Executes an instruction on one register.
+    fn act_unary(&mut self, next: u64, op: UnaryOp, rm: u8) -> CpuStep
+        requires { rm < 16 }
+        ensures { Makes next FaultKind.Divide (one_register op rm (x86_scene self.old)) self.old self.new result }
+    {
+        let a = self.registers[rm as usize];
+        let low = self.registers[0];
+        let count = (self.registers[1] % 64) as u32;
+        match op {
+            UnaryOp::Not => self.set(next, rm, !a, self.flags),
+            UnaryOp::Neg => self.set(next, rm, 0u64.wrapping_sub(a), negation_flags(a)),
+            UnaryOp::Mul => self.set_wide(
+                next,
+                mul_high_u(low, a),
+                low.wrapping_mul(a),
+                product_flags(needs_high(low, a)),
+            ),
+            UnaryOp::Imul1 => self.set_wide(
+                next,
+                high_signed(low, a),
+                low.wrapping_mul(a),
+                product_flags(needs_high_signed(low, a)),
+            ),
+            UnaryOp::Div => self.divide_unsigned(next, a),
+            UnaryOp::Idiv => self.divide_signed(next, a),
+            UnaryOp::Shl => self.shift(next, ShiftOp::Shli, rm, count),
+            UnaryOp::Shr => self.shift(next, ShiftOp::Shri, rm, count),
+            UnaryOp::Sar => self.shift(next, ShiftOp::Sari, rm, count),
+        }
+    }
+
+    // Pushes a word, and goes on at an address.
+    fn push(&mut self, next: u64, value: u64) -> CpuStep
+        ensures { Makes next FaultKind.Memory (pushes value (x86_scene self.old)) self.old self.new result }
+    {
+        let stack = self.registers[4].wrapping_sub(8);
+        if self.board.memory.store(stack, 8, value) {
+            self.registers[4] = stack;
+            self.go(next)
+        } else {
+            CpuStep::Fault(FaultKind::Memory)
+        }
+    }
+
+    // Pops a word into a register.
+    fn pop(&mut self, next: u64, register: u8) -> CpuStep
+        requires { register < 16 }
+        ensures { Makes next FaultKind.Memory (pops register (x86_scene self.old)
+            (loaded (x86_state self.old).bytes ((x86_state self.old).registers 4) 8)) self.old self.new result }
+    {
+        let stack = self.registers[4];
+        match self.board.memory.load(stack, 8) {
+            Some(value) => {
+                self.set_stack(stack.wrapping_add(8));
+                self.set(next, register, value, self.flags)
+            }
+            None => CpuStep::Fault(FaultKind::Memory),
+        }
+    }
+
+    fn set_stack(&mut self, stack: u64)
+        ensures { x86_inner self.new ≡ with_state (x86_inner self.old) (machines.with_register (x86_state self.old) 4 stack) }
+    {
+        self.registers[4] = stack;
+    }
+
+    // Returns to the word at rsp.
+    fn ret(&mut self) -> CpuStep
+        ensures { Does (returns (x86_state self.old) (loaded (x86_state self.old).bytes ((x86_state self.old).registers 4) 8))
+            (x86_inner self.old) (x86_inner self.new) result }
+    {
+        let stack = self.registers[4];
+        match self.board.memory.load(stack, 8) {
+            Some(target) => {
+                self.registers[4] = stack.wrapping_add(8);
+                self.go(target)
+            }
+            None => CpuStep::Fault(FaultKind::Memory),
+        }
+    }
+
+    // Sets the low byte of a register where a condition holds, and clears it where it does not.
+    fn set_byte(&mut self, next: u64, cond: Cond, rm: u8) -> CpuStep
+        requires { rm < 16 }
+        ensures { Makes next FaultKind.Flag (sets_byte rm (x86_scene self.old) (condition cond (x86_scene self.old).flags)) self.old self.new result }
+    {
+        match condition(cond, self.flags) {
+            Some(holds) => {
+                let value = self.registers[rm as usize] / 256 * 256 + u64::from(holds);
+                self.set(next, rm, value, self.flags)
+            }
+            None => CpuStep::Fault(FaultKind::Flag),
+        }
+    }
+
+    // Jumps where a condition holds.
+    fn jump_if(&mut self, next: u64, cond: Cond, distance: i32) -> CpuStep
+        ensures { Does (goes_where (x86_state self.old) next (add_words next (word_of distance)) (condition cond (x86_state self.old).flags))
+            (x86_inner self.old) (x86_inner self.new) result }
+    {
+        match condition(cond, self.flags) {
+            Some(true) => self.go(next.wrapping_add(sign_extended(distance))),
+            Some(false) => self.go(next),
+            None => CpuStep::Fault(FaultKind::Flag),
+        }
+    }
+
+    // Jumps or calls by a distance.
+    fn jump_near(&mut self, next: u64, op: JumpNearOp, distance: i32) -> CpuStep
+        ensures { Does (does (Instr.JumpNear op distance) next (x86_state self.old)) (x86_inner self.old) (x86_inner self.new) result }
+    {
+        let target = next.wrapping_add(sign_extended(distance));
+        match op {
+            JumpNearOp::Jmp32 => self.go(target),
+            JumpNearOp::Call32 => self.push(target, next),
+        }
+    }
+
+    // Jumps or calls to the address in a register.
+    fn jump_register(&mut self, next: u64, op: JumpRegOp, rm: u8) -> CpuStep
+        requires { rm < 16 }
+        ensures { Does (does (Instr.JumpReg op rm) next (x86_state self.old)) (x86_inner self.old) (x86_inner self.new) result }
+    {
+        let target = self.registers[rm as usize];
+        match op {
+            JumpRegOp::Jmpr => self.go(target),
+            JumpRegOp::Callr => self.push(target, next),
+        }
+    }
+
+    fn act_bare(&mut self, next: u64, op: BareOp) -> CpuStep
+        ensures { Does (does (Instr.Bare op) next (x86_state self.old)) (x86_inner self.old) (x86_inner self.new) result }
+    {
+        match op {
+            BareOp::Cqo => self.set(next, 2, sign_word(self.registers[0]), self.flags),
+            BareOp::Ret => self.ret(),
+            BareOp::Nop => self.go(next),
+        }
+    }
+
+    fn act_stack(&mut self, next: u64, op: StackOp, register: u8) -> CpuStep
+        requires { register < 16 }
+        ensures { Does (does (Instr.Stack op register) next (x86_state self.old)) (x86_inner self.old) (x86_inner self.new) result }
+    {
+        match op {
+            StackOp::Push => self.push(next, self.registers[register as usize]),
+            StackOp::Pop => self.pop(next, register),
+        }
+    }
+
+    // Executes an instruction that makes a register of registers and numbers.
+    fn act_registers(&mut self, next: u64, instr: Instr) -> CpuStep
+        requires fits { IsInstr instr }
+        ensures { Does (does instr next (x86_state self.old)) (x86_inner self.old) (x86_inner self.new) result }
+    {
+        match instr {
+            Instr::RmReg { op, rm, reg } => self.combine(
+                next,
+                op,
+                rm,
+                self.registers[reg as usize],
+            ),
+            Instr::Imm { op, rm, imm } => self.combine(next, alu_of(op), rm, sign_extended(imm)),
+            Instr::RegRm { op, reg, rm } => self.set(
+                next,
+                reg,
+                reg_rm_value(
+                    op,
+                    self.registers[reg as usize],
+                    self.registers[rm as usize],
+                ),
+                reg_rm_flags(
+                    op,
+                    self.flags,
+                    self.registers[reg as usize],
+                    self.registers[rm as usize],
+                ),
+            ),
+            Instr::Lea2 { reg, base, index } => self.set(
+                next,
+                reg,
+                self.registers[base as usize].wrapping_add(self.registers[index as usize]),
+                self.flags,
+            ),
+            Instr::Movi32 { reg, imm } => self.set(next, reg, u64::from(imm), self.flags),
+            Instr::Movs32 { rm, imm } => self.set(next, rm, sign_extended(imm), self.flags),
+            Instr::Movi64 { reg, imm } => self.set(next, reg, imm, self.flags),
+            Instr::Unary { op, rm } => self.act_unary(next, op, rm),
+            Instr::Shift { op, rm, count } => self.shift(next, op, rm, u32::from(count)),
+            Instr::Bswap { reg } => self.set(
+                next,
+                reg,
+                swap_bytes(self.registers[reg as usize], 8),
+                self.flags,
+            ),
+            Instr::Set { cond, rm } => self.set_byte(next, cond, rm),
+            other => self.act_rest(next, other),
+        }
+    }
+
+    // Executes any other instruction.
+    fn act_rest(&mut self, next: u64, instr: Instr) -> CpuStep
+        requires fits { IsInstr instr }
+        requires rest { is_rest instr ≡ true }
+        ensures { Does (does instr next (x86_state self.old)) (x86_inner self.old) (x86_inner self.new) result }
+    {
+        match instr {
+            Instr::Load {
+                op,
+                reg,
+                base,
+                disp,
+            } => self.load(
+                next,
+                op,
+                reg,
+                self.registers[base as usize].wrapping_add(sign_extended(disp)),
+            ),
+            Instr::Store {
+                op,
+                base,
+                disp,
+                reg,
+            } => self.store(
+                next,
+                self.registers[base as usize].wrapping_add(sign_extended(disp)),
+                store_width(op),
+                self.registers[reg as usize],
+            ),
+            Instr::Stack { op, reg } => self.act_stack(next, op, reg),
+            Instr::JumpIfShort { cond, distance } => self.jump_if(next, cond, distance),
+            Instr::JumpIfNear { cond, distance } => self.jump_if(next, cond, distance),
+            Instr::JumpShort { distance } => self.go(next.wrapping_add(sign_extended(distance))),
+            Instr::JumpNear { op, distance } => self.jump_near(next, op, distance),
+            Instr::JumpReg { op, rm } => self.jump_register(next, op, rm),
+            Instr::Bare { op } => self.act_bare(next, op),
+            _ => CpuStep::Fault(FaultKind::Decode),
+        }
+    }
+
+    // Fetches an instruction and executes it.
+    pub(crate) fn fetch(&mut self) -> CpuStep
+        ensures { Does (fetch self.old.board.code.items (x86_state self.old)) (x86_inner self.old) (x86_inner self.new) result }
+    {
+        let code = self.board.code.as_slice();
+        if self.pc < CODE || self.pc - CODE >= code.len() as u64 {
+            return CpuStep::Fault(FaultKind::Fetch);
+        }
+        match decode(&code[(self.pc - CODE) as usize..]) {
+            Some((instr, len)) => self.act_registers(self.pc.wrapping_add(u64::from(len)), instr),
+            None => CpuStep::Fault(FaultKind::Decode),
+        }
+    }
+}

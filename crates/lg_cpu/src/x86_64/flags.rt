@@ -1,0 +1,253 @@
+// What the instructions make of the flags.
+
+ghost use Rattle.std.specs.Prelude.{◌≡◌, ◌<◌, ◌≢◌};
+ghost use Rattle.lg_base.specs.Words.{carry_out, borrow_out, differ};
+ghost use Rattle.lg_cpu.specs.X86Operators.{overflow_of, zero_of, sign_of, no_flags, flags_of, bit, carry_for, overflows_sum, overflows_difference};
+ghost use Rattle.lg_cpu.specs.X86Operators.{sum_flags, difference_flags, bit_flags, alu_flags, product_flags, reg_rm_flags, negation_flags};
+ghost use Rattle.lg_cpu.specs.X86Operators.{last_out, shift_overflow, shift_flags, turned, both, either, condition};
+
+use crate::x86_64::operators::{HALF, alu_value, needs_high_signed, shift_value};
+use lg_base::flags::Flags;
+use lg_x86::{Cond, RegRmOp, RmRegOp, ShiftOp};
+
+// OF, ZF and SF, where they are defined; the flags of other processors read as undefined.
+fn overflow_of(flags: Flags) -> Option<bool>
+    ensures { result ≡ overflow_of flags }
+{
+    match flags {
+        Flags::Rflags(_, overflow, _, _) => overflow,
+        _ => None,
+    }
+}
+
+fn zero_of(flags: Flags) -> Option<bool>
+    ensures { result ≡ zero_of flags }
+{
+    match flags {
+        Flags::Rflags(_, _, zero, _) => zero,
+        _ => None,
+    }
+}
+
+fn sign_of(flags: Flags) -> Option<bool>
+    ensures { result ≡ sign_of flags }
+{
+    match flags {
+        Flags::Rflags(_, _, _, sign) => sign,
+        _ => None,
+    }
+}
+
+/// No flag is defined.
+pub fn no_flags() -> Flags
+    ensures { result ≡ no_flags }
+{
+    Flags::Rflags(None, None, None, None)
+}
+
+// ZF and SF by a result.
+fn flags_of(carry: Option<bool>, overflow: Option<bool>, result_word: u64) -> Flags
+    ensures { result ≡ flags_of carry overflow result_word }
+{
+    Flags::Rflags(
+        carry,
+        overflow,
+        Some(result_word == 0),
+        Some(result_word >= HALF),
+    )
+}
+
+/// The carry that a row reads; a row that reads none takes 0.
+pub fn carry_for(op: RmRegOp, carry: Option<bool>) -> Option<bool>
+    ensures { result ≡ carry_for op carry }
+{
+    match op {
+        RmRegOp::Adc | RmRegOp::Sbb => carry,
+        _ => Some(false),
+    }
+}
+
+fn carry_out(a: u64, b: u64, carry: bool) -> bool
+    ensures { result ≡ carry_out a b (bit carry) }
+{
+    a as u128 + b as u128 + u128::from(carry) >= 0x1_0000_0000_0000_0000
+}
+
+fn borrow_out(a: u64, b: u64, carry: bool) -> bool
+    ensures { result ≡ borrow_out a b (bit carry) }
+{
+    (a as u128) < b as u128 + u128::from(carry)
+}
+
+fn overflows_sum(a: u64, b: u64, sum: u64) -> bool
+    ensures { result ≡ overflows_sum a b sum }
+{
+    if (a >= HALF) != (b >= HALF) {
+        false
+    } else {
+        (a >= HALF) != (sum >= HALF)
+    }
+}
+
+fn overflows_difference(a: u64, b: u64, difference: u64) -> bool
+    ensures { result ≡ overflows_difference a b difference }
+{
+    if (a >= HALF) != (b >= HALF) {
+        (a >= HALF) != (difference >= HALF)
+    } else {
+        false
+    }
+}
+
+fn sum_flags(a: u64, b: u64, carry: bool, sum: u64) -> Flags
+    ensures { result ≡ sum_flags a b (bit carry) sum }
+{
+    flags_of(
+        Some(carry_out(a, b, carry)),
+        Some(overflows_sum(a, b, sum)),
+        sum,
+    )
+}
+
+fn difference_flags(a: u64, b: u64, carry: bool, difference: u64) -> Flags
+    ensures { result ≡ difference_flags a b (bit carry) difference }
+{
+    flags_of(
+        Some(borrow_out(a, b, carry)),
+        Some(overflows_difference(a, b, difference)),
+        difference,
+    )
+}
+
+fn bit_flags(bits: u64) -> Flags
+    ensures { result ≡ bit_flags bits }
+{
+    flags_of(Some(false), Some(false), bits)
+}
+
+/// The flags behind a row.
+pub fn alu_flags(op: RmRegOp, flags: Flags, a: u64, b: u64, carry: bool) -> Flags
+    ensures { result ≡ alu_flags op flags a b (bit carry) }
+{
+    let value = alu_value(op, a, b, carry);
+    match op {
+        RmRegOp::Add => sum_flags(a, b, false, value),
+        RmRegOp::Adc => sum_flags(a, b, carry, value),
+        RmRegOp::Sbb => difference_flags(a, b, carry, value),
+        RmRegOp::Sub | RmRegOp::Cmp => difference_flags(a, b, false, value),
+        RmRegOp::And | RmRegOp::Or | RmRegOp::Xor | RmRegOp::Test => bit_flags(value),
+        RmRegOp::Mov => flags,
+    }
+}
+
+/// CF and OF say whether the high half of a product is needed.
+pub fn product_flags(needed: bool) -> Flags
+    ensures { result ≡ product_flags needed }
+{
+    Flags::Rflags(Some(needed), Some(needed), None, None)
+}
+
+pub fn reg_rm_flags(op: RegRmOp, flags: Flags, a: u64, b: u64) -> Flags
+    ensures { result ≡ reg_rm_flags op flags a b }
+{
+    match op {
+        RegRmOp::Imul => product_flags(needs_high_signed(a, b)),
+        _ => flags,
+    }
+}
+
+pub fn negation_flags(a: u64) -> Flags
+    ensures { result ≡ negation_flags a }
+{
+    flags_of(Some(a != 0), Some(a == HALF), 0u64.wrapping_sub(a))
+}
+
+// The last bit that is shifted out.
+fn last_out(op: ShiftOp, a: u64, count: u32) -> bool
+    requires some { count ≢ 0 }
+    requires few { count < 64 }
+    ensures { result ≡ last_out op a count }
+{
+    match op {
+        ShiftOp::Shli => (a >> (64 - count)) % 2 == 1,
+        ShiftOp::Shri | ShiftOp::Sari => (a >> (count - 1)) % 2 == 1,
+    }
+}
+
+fn shift_overflow(op: ShiftOp, a: u64) -> bool
+    ensures { result ≡ shift_overflow op a }
+{
+    match op {
+        ShiftOp::Shli => (shift_value(op, a, 1) >= HALF) != last_out(op, a, 1),
+        ShiftOp::Shri => a >= HALF,
+        ShiftOp::Sari => false,
+    }
+}
+
+pub fn shift_flags(op: ShiftOp, flags: Flags, a: u64, count: u32) -> Flags
+    requires { count < 64 }
+    ensures { result ≡ shift_flags op flags a count }
+{
+    if count == 0 {
+        return flags;
+    }
+    let overflow = if count == 1 {
+        Some(shift_overflow(op, a))
+    } else {
+        None
+    };
+    flags_of(
+        Some(last_out(op, a, count)),
+        overflow,
+        shift_value(op, a, count),
+    )
+}
+
+fn turned(a: Option<bool>) -> Option<bool>
+    ensures { result ≡ turned a }
+{
+    match a {
+        Some(a) => Some(!a),
+        None => None,
+    }
+}
+
+fn either(a: Option<bool>, b: Option<bool>) -> Option<bool>
+    ensures { result ≡ both either a b }
+{
+    match (a, b) {
+        (Some(a), Some(b)) => Some(a || b),
+        _ => None,
+    }
+}
+
+fn differ(a: Option<bool>, b: Option<bool>) -> Option<bool>
+    ensures { result ≡ both differ a b }
+{
+    match (a, b) {
+        (Some(a), Some(b)) => Some(a != b),
+        _ => None,
+    }
+}
+
+/// Whether a condition holds, and None where a flag that it names is undefined.
+pub fn condition(cond: Cond, flags: Flags) -> Option<bool>
+    ensures { result ≡ condition cond flags }
+{
+    match cond {
+        Cond::Overflow => overflow_of(flags),
+        Cond::NoOverflow => turned(overflow_of(flags)),
+        Cond::Below => flags.carry(),
+        Cond::AboveOrEqual => turned(flags.carry()),
+        Cond::Equal => zero_of(flags),
+        Cond::NotEqual => turned(zero_of(flags)),
+        Cond::BelowOrEqual => either(flags.carry(), zero_of(flags)),
+        Cond::Above => turned(either(flags.carry(), zero_of(flags))),
+        Cond::Sign => sign_of(flags),
+        Cond::NoSign => turned(sign_of(flags)),
+        Cond::Less => differ(sign_of(flags), overflow_of(flags)),
+        Cond::GreaterOrEqual => turned(differ(sign_of(flags), overflow_of(flags))),
+        Cond::LessOrEqual => either(zero_of(flags), differ(sign_of(flags), overflow_of(flags))),
+        Cond::Greater => turned(either(zero_of(flags), differ(sign_of(flags), overflow_of(flags)))),
+    }
+}

@@ -1,0 +1,154 @@
+// Steps at the entries of host functions.
+
+ghost use Rattle.std.specs.Prelude.{◌≡◌, ◌≤◌, ℕ, map, length, slice_index, Some};
+ghost use Rattle.lg_base.specs.Conventions.{argument_registers, is_kept};
+ghost use Rattle.lg_base.specs.Words.{add_words};
+ghost use Rattle.lg_base.specs.declared.target.Target.{Target};
+ghost use Rattle.lg_cpu.specs.HostSteps.{arguments_of, behind_call, put};
+ghost use Rattle.lg_cpu.specs.X86Step.{takes_al};
+
+use crate::answer::CpuStep;
+use crate::arguments::Arguments;
+use crate::x86_64::X86_64;
+use crate::x86_64::flags::no_flags;
+use lg_base::fault::FaultKind;
+use lg_base::host_name::HostName;
+use lg_host::call::call;
+use lg_host::host_end::HostEnd;
+use lg_io::sink::Sink;
+
+// Whether a call keeps a register.
+fn keeps(register: usize) -> bool
+    ensures { result ≡ is_kept Target.X86_64 register }
+{
+    match register {
+        3 | 4 | 5 | 12..=15 => true,
+        _ => false,
+    }
+}
+
+// The registers behind a call of a host function that answered this.
+fn registers_behind_call(registers: &[u64; 16], trash: u64, answer: u64) -> [u64; 16]
+    ensures registers { slice_index result ≡ behind_call Target.X86_64 16 (slice_index registers.now) trash answer }
+    ensures long { length result ≡ 16 }
+{
+    let mut behind = *registers;
+    for register in 0..16 {
+        if !keeps(register) {
+            behind[register] = trash;
+        }
+    }
+    behind[0] = answer;
+    behind
+}
+
+// And behind the return, with this stack pointer.
+fn registers_behind_return(registers: &[u64; 16], trash: u64, answer: u64, stack: u64) -> [u64; 16]
+    ensures { slice_index result ≡ put (behind_call Target.X86_64 16 (slice_index registers.now) trash answer) 4 stack }
+{
+    let mut behind = registers_behind_call(registers, trash, answer);
+    behind[4] = stack;
+    behind
+}
+
+// The arguments in registers.
+fn register_arguments(registers: &[u64; 16]) -> Arguments
+    ensures { result ≡ map (slice_index registers.now) (argument_registers Target.X86_64) }
+{
+    let r = registers;
+    Arguments::first(
+        [
+            r[7], r[6], r[2], r[1], r[8], r[9], 0, 0, 0, 0, 0, 0, 0, 0, 0, 0,
+        ],
+        6,
+    )
+}
+
+// Whether al is as a host function wants it.
+fn takes_al(name: HostName, a: u64) -> bool
+    ensures { result ≡ takes_al name a }
+{
+    match name {
+        HostName::Printf => a % 256 <= 8,
+        _ => true,
+    }
+}
+
+impl X86_64 {
+    ghost use Rattle.lg_cpu.specs.States.{arrives};
+    ghost use Rattle.lg_cpu.specs.X86Operators.{no_flags};
+    ghost use Rattle.lg_cpu.specs.X86Step.{popped, enter_with, enter_host};
+    ghost use Rattle.lg_cpu.specs.Machines.{x86_state, x86_inner, effect_in, Does, StepSays};
+
+    // The arguments of the convention; those of the stack lie behind the return address.
+    fn arguments(&self) -> Arguments
+        ensures { result ≡ arguments_of Target.X86_64 (add_words (slice_index self.now.registers 4) 8) (x86_state self.now) }
+    {
+        let mut arguments = register_arguments(&self.registers);
+        arguments.read_stack(&self.board.memory, self.registers[4].wrapping_add(8));
+        arguments
+    }
+
+    // Returns from a host function that answered this.
+    fn leave_host(&mut self, link: u64, answer: u64) -> CpuStep
+        ensures { Does (arrives link (popped (slice_index self.old.registers) self.old.board.trash answer) no_flags
+            (x86_state self.old).bytes (x86_state self.old).mark) (x86_inner self.old) (x86_inner self.new) result }
+    {
+        let stack = self.registers[4].wrapping_add(8);
+        self.registers = registers_behind_return(&self.registers, self.board.trash, answer, stack);
+        self.flags = no_flags();
+        self.go(link)
+    }
+
+    // Runs a host function that returns to this address.
+    fn enter_with<O: Sink>(&mut self, name: HostName, link: u64, out: &mut O) -> CpuStep
+        ensures says { StepSays (enter_with name self.old.board.trash (x86_state self.old) (Some link)) (x86_inner self.old) (x86_inner self.new)
+            (O.taken out.old) (O.taken out.new) (O.faults out.old) (O.faults out.new) result }
+        ensures later { O.faults out.old ≤ O.faults out.new }
+    {
+        let arguments = self.arguments();
+        match call(
+            name,
+            arguments.as_slice(),
+            true,
+            &mut self.board.memory,
+            &mut self.board.heap,
+            out,
+        ) {
+            HostEnd::Value(answer) => self.leave_host(link, answer),
+            HostEnd::Exit(status) => CpuStep::Ended(status),
+            HostEnd::Undefined => CpuStep::Fault(FaultKind::Host),
+            HostEnd::WriteFault => CpuStep::WriteFault,
+        }
+    }
+
+    // Runs a host function.
+    fn enter_host<O: Sink>(&mut self, name: HostName, out: &mut O) -> CpuStep
+        ensures says { StepSays (enter_host name self.old.board.trash (x86_state self.old)) (x86_inner self.old) (x86_inner self.new)
+            (O.taken out.old) (O.taken out.new) (O.faults out.old) (O.faults out.new) result }
+        ensures later { O.faults out.old ≤ O.faults out.new }
+    {
+        if self.registers[4] % 16 != 8 {
+            return CpuStep::Fault(FaultKind::Host);
+        }
+        if !takes_al(name, self.registers[0]) {
+            return CpuStep::Fault(FaultKind::Host);
+        }
+        match self.board.memory.load(self.registers[4], 8) {
+            Some(link) => self.enter_with(name, link, out),
+            None => CpuStep::Fault(FaultKind::Host),
+        }
+    }
+
+    /// Takes one step, whether the run is over or not.
+    pub fn step<O: Sink>(&mut self, out: &mut O) -> CpuStep
+        ensures says { StepSays (effect_in (x86_inner self.old)) (x86_inner self.old) (x86_inner self.new)
+            (O.taken out.old) (O.taken out.new) (O.faults out.old) (O.faults out.new) result }
+        ensures later { O.faults out.old ≤ O.faults out.new }
+    {
+        match HostName::from_address(self.pc) {
+            Some(name) => self.enter_host(name, out),
+            None => self.fetch(),
+        }
+    }
+}
