@@ -1,120 +1,38 @@
--- A step that faults leaves everything as it was.
-use Rattle.std.proofs.Common.{ℕ, ◌-◌, ◌/◌, ◌*◌, ◌%◌, Bool, true, false, List, drop, Option, Some, None, refl}
+-- A step that faults leaves everything as it was: what the processors share.
+use Rattle.std.proofs.Common.{ℕ, Bool, true, false, List, Option, refl}
 use Rattle.std.specs.Prelude.{◌==◌, if◌then◌else◌}
-use Rattle.lg_base.specs.Fields.{word_of}
-use Rattle.lg_base.specs.Layout.{stop_address, code_base}
-use Rattle.lg_base.specs.Spaces.{mapped, loaded, stored, readable}
-use Rattle.lg_base.specs.Words.{add_words}
-use Rattle.lg_base.specs.HostNames.{host_by_address}
-use Rattle.lg_base.specs.declared.host_name.HostName.{HostName}
-use Rattle.lg_base.specs.declared.target.Target.TheVariants as target
+use Rattle.lg_base.specs.Layout.{stop_address}
 use Rattle.lg_base.specs.declared.fault.FaultKind.{FaultKind}
-use Rattle.lg_base.specs.declared.fault.FaultKind.TheVariants.{Align, Memory, Fetch, Host}
-use Rattle.lg_host.specs.Host.{Host as Answer, Gives, Exits, Undefined, host_of, memory}
-use Rattle.lg_rv.specs.Reading.{front_of}
-use Rattle.lg_rv.specs.declared.instruction.Instr.{Instr}
-use Rattle.lg_rv.specs.declared.instruction.Instr.TheVariants.{Upper, Jal, Branch, Imm, Shift, Store, Reg}
-use Rattle.lg_rv.specs.declared.instruction.UpperOp.TheVariants.{Lui, Auipc}
-use Rattle.lg_rv.specs.declared.instruction.ImmOp.{ImmOp}
-use Rattle.lg_rv.specs.declared.instruction.ImmOp.TheVariants.{Jalr, Lb, Lh, Lw, Ld, Lbu, Lhu, Lwu, Addi, Slti, Sltiu, Xori, Ori, Andi, Addiw}
+use Rattle.lg_base.specs.declared.flags.Flags.{Flags}
+use Rattle.lg_host.specs.Host.{Host as Answer, Gives, Exits, Undefined}
 use Rattle.lg_cpu.specs.Steps.{Effect, Goes, EndedWith, arrived, faults}
-use Rattle.lg_cpu.specs.HostSteps.{argument_words, put}
-use Rattle.lg_cpu.specs.RvOperators.{is_taken}
-use Rattle.lg_cpu.specs.States.{CpuState}
-use Rattle.lg_cpu.specs.RvStep.{read, goes, sets, loads, load_at, store_at, store_width, jump_to, branch_to, imm_effect, act, decoded, in_code, fetch, host_effect, enter_host, effect_at}
-use Rattle.lg_cpu.specs.Laws.{OnFault, IsUnchanged, FaultsChangeNothing}
+use Rattle.lg_cpu.specs.HostSteps.{returned}
+use Rattle.lg_cpu.specs.States.{CpuState, arrives}
+use Rattle.lg_cpu.specs.Laws.{OnFault, IsUnchanged}
 
 -- the effect is no fault, or changes nothing
-abbrev Quiet : CpuState → Effect CpuState → Type 0
+abbrev pub Quiet : CpuState → Effect CpuState → Type 0
 Quiet q e = OnFault e.progress (IsUnchanged q e)
 
 -- a run that arrives somewhere does not fault
-quiet_arrived : (pc : ℕ) (P : Type 0) → OnFault (arrived pc) P
+pub quiet_arrived : (pc : ℕ) (P : Type 0) → OnFault (arrived pc) P
 quiet_arrived pc P = by (pc == stop_address)
   where
     by : (b : Bool) → OnFault (if b then EndedWith 0 else Goes) P
     by true = tt
     by false = tt
 
-quiet_goes : (q : CpuState) (pc : ℕ) (registers : ℕ → ℕ) (bytes : ℕ → Option ℕ) (mark : ℕ) → Quiet q (goes pc registers bytes mark)
-quiet_goes q pc registers bytes mark = quiet_arrived pc _
+pub quiet_arrives : (q : CpuState) (pc : ℕ) (registers : ℕ → ℕ) (flags : Flags) (bytes : ℕ → Option ℕ) (mark : ℕ) → Quiet q (arrives pc registers flags bytes mark)
+quiet_arrives q pc registers flags bytes mark = quiet_arrived pc _
 
-quiet_faults : (q : CpuState) (kind : FaultKind) → Quiet q (faults q kind)
+pub quiet_faults : (q : CpuState) (kind : FaultKind) → Quiet q (faults q kind)
 quiet_faults q kind = (refl, refl)
 
-quiet_choice : (q : CpuState) (b : Bool) (e f : Effect CpuState) → Quiet q e → Quiet q f → Quiet q (if b then e else f)
+pub quiet_choice : (q : CpuState) (b : Bool) (e f : Effect CpuState) → Quiet q e → Quiet q f → Quiet q (if b then e else f)
 quiet_choice q true e f h k = h
 quiet_choice q false e f h k = k
 
-quiet_sets : (q : CpuState) (to value : ℕ) → Quiet q (sets q to value)
-quiet_sets q to value = quiet_arrived (add_words q.pc 4) _
-
-quiet_loads : (q : CpuState) (to width : ℕ) (signed : Bool) (o : Option ℕ) → Quiet q (loads q to width signed o)
-quiet_loads q to width signed None = quiet_faults q Memory
-quiet_loads q to width signed (Some value) = quiet_sets q to _
-
-quiet_load : (q : CpuState) (to address width : ℕ) (signed : Bool) → Quiet q (load_at q to address width signed)
-quiet_load q to address width signed = quiet_choice q (address % width == 0) _ _ (quiet_loads q to width signed (loaded q.bytes address width)) (quiet_faults q Align)
-
-quiet_store : (q : CpuState) (address width value : ℕ) → Quiet q (store_at q address width value)
-quiet_store q address width value =
-    quiet_choice q (address % width == 0) _ _ (quiet_choice q (mapped q.bytes address width) _ _ (quiet_goes q (add_words q.pc 4) q.registers (stored q.bytes address width value) q.mark) (quiet_faults q Memory)) (quiet_faults q Align)
-
-quiet_jump : (q : CpuState) (link target : ℕ) → Quiet q (jump_to q link target)
-quiet_jump q link target = quiet_choice q (target % 4 == 0) _ _ (quiet_goes q target (put q.registers link (add_words q.pc 4)) q.bytes q.mark) (quiet_faults q Align)
-
-quiet_branch : (q : CpuState) (target : ℕ) (taken : Bool) → Quiet q (branch_to q target taken)
-quiet_branch q target true = quiet_choice q (target % 4 == 0) _ _ (quiet_goes q target q.registers q.bytes q.mark) (quiet_faults q Align)
-quiet_branch q target false = quiet_goes q (add_words q.pc 4) q.registers q.bytes q.mark
-
-quiet_imm : (op : ImmOp) (rd a n : ℕ) (q : CpuState) → Quiet q (imm_effect op rd a n q)
-quiet_imm Jalr rd a n q = quiet_jump q rd (add_words a n / 2 * 2)
-quiet_imm Lb rd a n q = quiet_load q rd (add_words a n) 1 true
-quiet_imm Lh rd a n q = quiet_load q rd (add_words a n) 2 true
-quiet_imm Lw rd a n q = quiet_load q rd (add_words a n) 4 true
-quiet_imm Ld rd a n q = quiet_load q rd (add_words a n) 8 false
-quiet_imm Lbu rd a n q = quiet_load q rd (add_words a n) 1 false
-quiet_imm Lhu rd a n q = quiet_load q rd (add_words a n) 2 false
-quiet_imm Lwu rd a n q = quiet_load q rd (add_words a n) 4 false
-quiet_imm Addi rd a n q = quiet_sets q rd _
-quiet_imm Slti rd a n q = quiet_sets q rd _
-quiet_imm Sltiu rd a n q = quiet_sets q rd _
-quiet_imm Xori rd a n q = quiet_sets q rd _
-quiet_imm Ori rd a n q = quiet_sets q rd _
-quiet_imm Andi rd a n q = quiet_sets q rd _
-quiet_imm Addiw rd a n q = quiet_sets q rd _
-
-quiet_act : (i : Instr) (q : CpuState) → Quiet q (act i q)
-quiet_act (Upper Lui rd imm) q = quiet_sets q rd _
-quiet_act (Upper Auipc rd imm) q = quiet_sets q rd _
-quiet_act (Jal rd offset) q = quiet_jump q rd (add_words q.pc (word_of offset))
-quiet_act (Branch op rs1 rs2 offset) q = quiet_branch q (add_words q.pc (word_of offset)) (is_taken op (read q.registers rs1) (read q.registers rs2))
-quiet_act (Imm op rd rs1 imm) q = quiet_imm op rd (read q.registers rs1) (word_of imm) q
-quiet_act (Shift op rd rs1 amount) q = quiet_sets q rd _
-quiet_act (Store op rs1 rs2 imm) q = quiet_store q (add_words (read q.registers rs1) (word_of imm)) (store_width op) (read q.registers rs2)
-quiet_act (Reg op rd rs1 rs2) q = quiet_sets q rd _
-
-quiet_decoded : (o : Option (Instr × ℕ)) (q : CpuState) → Quiet q (decoded o q)
-quiet_decoded None q = (refl, refl)
-quiet_decoded (Some (i, len)) q = quiet_act i q
-
-quiet_fetch : (code : List ℕ) (q : CpuState) → Quiet q (fetch code q)
-quiet_fetch code q = quiet_choice q (q.pc % 4 == 0) _ _ (quiet_choice q (in_code code q.pc) _ _ (quiet_decoded (front_of (drop (q.pc - code_base) code)) q) (quiet_faults q Fetch)) (quiet_faults q Align)
-
-quiet_answer : (h : Answer) (trash : ℕ) (q : CpuState) → Quiet q (host_effect h trash q)
-quiet_answer (Gives value changes mark bytes) trash q = quiet_arrived (q.registers 1) _
-quiet_answer (Exits status) trash q = tt
-quiet_answer Undefined trash q = (refl, refl)
-
-quiet_host : (name : HostName) (trash : ℕ) (q : CpuState) → Quiet q (enter_host name trash q)
-quiet_host name trash q =
-    quiet_choice q (q.registers 2 % 16 == 0) _ _
-    (quiet_answer (host_of name (argument_words target.Riscv64 q.registers q.bytes (q.registers 2)) true (memory q.bytes (readable q.bytes) q.mark)) trash q)
-    (quiet_faults q Host)
-
-quiet_at : (o : Option HostName) (code : List ℕ) (trash : ℕ) (q : CpuState) → Quiet q (effect_at o code trash q)
-quiet_at None code trash q = quiet_fetch code q
-quiet_at (Some name) code trash q = quiet_host name trash q
-
-pub faults-unchanged : FaultsChangeNothing
-faults-unchanged code trash q = quiet_at (host_by_address q.pc) code trash q
+pub quiet_returned : (h : Answer) (back : ℕ) (registers : ℕ → ℕ → ℕ) (flags : Flags) (q : CpuState) → Quiet q (returned h back registers flags q)
+quiet_returned (Gives value changes mark bytes) back registers flags q = quiet_arrived back _
+quiet_returned (Exits status) back registers flags q = tt
+quiet_returned Undefined back registers flags q = (refl, refl)

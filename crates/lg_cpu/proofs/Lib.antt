@@ -1,11 +1,20 @@
+mod A64FaultLemmas
 mod A64OperatorLemmas
+pub mod A64RunLemmas
+pub mod A64SoundLemmas
 mod ArgumentLemmas
 mod CallLemmas
 mod FaultLemmas
 mod FollowLemmas
 mod OperatorLemmas
 pub mod RunLemmas
+mod RvFaultLemmas
 mod SaysLemmas
 pub mod SoundLemmas
 mod StartLemmas
 pub mod StepLemmas
+mod TargetLemmas
+mod WordLemmas
+mod X86FaultLemmas
+pub mod X86RunLemmas
+pub mod X86SoundLemmas

@@ -13,7 +13,7 @@ use Rattle.lg_rv.specs.Spelling.{word_of, spelling, IsInstr}
 use Rattle.lg_rv.proofs.AgainLemmas.{read_again, word_fits}
 use Rattle.lg_cpu.specs.Steps.{Progress, Goes, EndedWith, Faulted, Effect, Run, after, on_going, stepped, status_of, machine, faults}
 use Rattle.lg_cpu.specs.RvStep.{decoded, in_code, effect_at, effect}
-use Rattle.lg_cpu.specs.Laws.{ExecutesWhatStands, RunsAreMachines}
+use Rattle.lg_cpu.specs.Laws.{ExecutesWhatStands}
 
 stays : {S : Type 0} (f : S → Effect S) (r : Run S) (p : Progress) → r.progress ≡ p → status_of p ≢ Running → stepped f r ≡ r
 stays f r Goes e h = absurd (h refl)
@@ -31,24 +31,24 @@ machine_is f = record {
   writes = λ r. writes f r r.progress refl;
 }
 
-pub runs-machines : RunsAreMachines
+pub runs-machines : (code : List ℕ) (trash : ℕ) → IsMachine (machine (effect code trash))
 runs-machines code trash = machine_is (effect code trash)
 
 -- ---- what stands in the code
 -- no host entry stands in the code
-no_host : (pc : ℕ) → code_base ≤ pc → host_by_address pc ≡ None
+pub no_host : (pc : ℕ) → code_base ≤ pc → host_by_address pc ≡ None
 no_host pc low = grind (arith, low)
 
-inside : (code more four : List ℕ) (pc : ℕ) → code_base ≤ pc → length four ≡ 4 → drop (pc - code_base) code ≡ four ++ more → in_code code pc ≡ true
-inside code more four pc low long e =
+pub inside : (code more front : List ℕ) (pc : ℕ) → code_base ≤ pc → 0 < length front → drop (pc - code_base) code ≡ front ++ more → in_code code pc ≡ true
+inside code more front pc low some e =
     let rest : length (drop (pc - code_base) code) ≡ length code - (pc - code_base) = length-drop (pc - code_base) code in
-    let both : length (drop (pc - code_base) code) ≡ 4 + length more = ap length e ∙ length-append four more ∙ ap (λ n. n + length more) long in
-    let below : pc < code_base + length code = omega (arith, low, rest, both) in
+    let both : length (drop (pc - code_base) code) ≡ length front + length more = ap length e ∙ length-append front more in
+    let below : pc < code_base + length code = omega (arith, low, some, rest, both) in
     grind (arith, low, below)
 
 pub stands-executed : ExecutesWhatStands
 stands-executed code more trash q i ok low aligned e =
-    let here = inside code more (spelling i) q.pc low refl e in
+    let here = inside code more (spelling i) q.pc low (omega arith) e in
     ap (λ o. effect_at o code trash q) (no_host q.pc low)
     ∙ ap (λ b. if b then (if in_code code q.pc then decoded (front_of (drop (q.pc - code_base) code)) q else faults q Fetch) else faults q Align) (eq-eqb (q.pc % 4) 0 aligned)
     ∙ ap (λ b. if b then decoded (front_of (drop (q.pc - code_base) code)) q else faults q Fetch) here

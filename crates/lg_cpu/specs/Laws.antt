@@ -1,5 +1,5 @@
--- What holds of every step of the RV64IM processor.
-use Rattle.std.specs.Prelude.{◌≡◌, ◌≢◌, ℕ, ◌-◌, ◌%◌, ◌^◌, ◌<◌, ◌≤◌, List, [], ◌++◌, drop, slice_index, Option, Some, ⊤}
+-- What holds of every step of the processors.
+use Rattle.std.specs.Prelude.{◌≡◌, ◌≢◌, ℕ, ◌-◌, ◌%◌, ◌^◌, ◌<◌, ◌≤◌, List, [], ◌++◌, length, drop, slice_index, Option, Some, ⊤}
 use Rattle.std.specs.Io.KnownBytes.{Appends}
 use Rattle.lg_base.specs.declared.target.Target.{Target}
 use Rattle.lg_base.specs.Layout.{code_base}
@@ -7,10 +7,16 @@ use Rattle.lg_base.specs.Runs.{IsMachine}
 use Rattle.lg_host.specs.Host.{heap_end}
 use Rattle.lg_rv.specs.Spelling.{IsInstr, spelling}
 use Rattle.lg_rv.specs.declared.instruction.Instr.{Instr}
-use Rattle.lg_cpu.specs.Steps.{Progress, Goes, EndedWith, Faulted, Effect, machine}
+use Rattle.lg_cpu.specs.Steps.{Progress, Goes, EndedWith, Faulted, Effect}
 use Rattle.lg_cpu.specs.States.{CpuState}
+use Rattle.lg_a64.specs.Spelling as a64_spelling
+use Rattle.lg_a64.specs.declared.instruction.Instr as a64_instr
+use Rattle.lg_x86.specs.Spelling as x86_spelling
+use Rattle.lg_x86.specs.declared.instruction.Instr as x86_instr
+use Rattle.lg_cpu.specs.A64Step as a64
 use Rattle.lg_cpu.specs.RvStep.{act, effect}
-use Rattle.lg_cpu.specs.Targets.{machine_of}
+use Rattle.lg_cpu.specs.X86Step as x86
+use Rattle.lg_cpu.specs.Targets.{effect_of, machine_of}
 use Rattle.lg_cpu.specs.Machines.{Shown, CpuSays, run_of, shown_at_start, IsRunOf}
 use Rattle.lg_cpu.specs.declared.answer.CpuStep.{CpuStep}
 use Rattle.lg_cpu.specs.declared.answer.CpuStep.TheVariants as cpu
@@ -35,10 +41,18 @@ abbrev pub StepsFollowRuns : Type 0
 StepsFollowRuns = (image args out : List ℕ) (old new : Shown) (taken taken' : Option (List ℕ)) (count count' : ℕ) (answer : CpuStep)
     → IsRunOf image args out old → CpuSays old new taken taken' count count' answer → answer ≢ cpu.WriteFault → GoesOnAsRun image args out new taken taken'
 
--- ---- where an instruction stands, the step is the instruction's
+-- ---- where an instruction stands, the step is the instruction's: on RV64IM, AArch64 and x86-64
 abbrev pub ExecutesWhatStands : Type 0
 ExecutesWhatStands = (code more : List ℕ) (trash : ℕ) (q : CpuState) (i : Instr) → IsInstr i → code_base ≤ q.pc → q.pc % 4 ≡ 0 → drop (q.pc - code_base) code ≡ spelling i ++ more
     → effect code trash q ≡ act i q
+
+abbrev pub A64ExecutesWhatStands : Type 0
+A64ExecutesWhatStands = (code more : List ℕ) (trash : ℕ) (q : CpuState) (i : a64_instr.Instr) → a64_spelling.IsInstr i → code_base ≤ q.pc → q.pc % 4 ≡ 0 → drop (q.pc - code_base) code ≡ a64_spelling.spelling i ++ more
+    → a64.effect code trash q ≡ a64.act i q
+
+abbrev pub X86ExecutesWhatStands : Type 0
+X86ExecutesWhatStands = (code more : List ℕ) (trash : ℕ) (q : CpuState) (i : x86_instr.Instr) → x86_spelling.IsInstr i → code_base ≤ q.pc → drop (q.pc - code_base) code ≡ x86_spelling.spelling i ++ more
+    → x86.effect code trash q ≡ x86.act i (length (x86_spelling.spelling i)) q
 
 -- ---- a step that faults leaves everything as it was
 abbrev pub OnFault : Progress → Type 0 → Type 0
@@ -50,7 +64,7 @@ abbrev pub IsUnchanged : CpuState → Effect CpuState → Type 0
 IsUnchanged q e = (e.to ≡ q) × (e.written ≡ [])
 
 abbrev pub FaultsChangeNothing : Type 0
-FaultsChangeNothing = (code : List ℕ) (trash : ℕ) (q : CpuState) → OnFault (effect code trash q).progress (IsUnchanged q (effect code trash q))
+FaultsChangeNothing = (target : Target) (code : List ℕ) (trash : ℕ) (q : CpuState) → OnFault (effect_of target code trash q).progress (IsUnchanged q (effect_of target code trash q))
 
 -- ---- words stay words
 -- the program counter and the registers hold words, the memory holds bytes, and the heap mark lies in the heap
@@ -64,8 +78,8 @@ abbrev pub AreBytes : List ℕ → Type 0
 AreBytes code = (k : ℕ) → slice_index code k < 256
 
 abbrev pub StaysSound : Type 0
-StaysSound = (code : List ℕ) (trash : ℕ) (q : CpuState) → AreBytes code → trash < 2 ^ 64 → IsSound q → IsSound (effect code trash q).to
+StaysSound = (target : Target) (code : List ℕ) (trash : ℕ) (q : CpuState) → AreBytes code → trash < 2 ^ 64 → IsSound q → IsSound (effect_of target code trash q).to
 
 -- ---- runs are those of a machine: one that is over stays, and what is written stays written
 abbrev pub RunsAreMachines : Type 0
-RunsAreMachines = (code : List ℕ) (trash : ℕ) → IsMachine (machine (effect code trash))
+RunsAreMachines = (target : Target) (code : List ℕ) (trash : ℕ) → IsMachine (machine_of target code trash)

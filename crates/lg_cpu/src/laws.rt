@@ -1,6 +1,7 @@
 // What holds of every step, for the crates above. The functions do nothing: their contracts are the laws.
 
-ghost use Rattle.lg_cpu.specs.Laws.{StepsAreThose, StartsAreRuns, StepsFollowRuns, ExecutesWhatStands, FaultsChangeNothing, StaysSound, RunsAreMachines};
+ghost use Rattle.lg_cpu.specs.Laws.{StepsAreThose, StartsAreRuns, StepsFollowRuns, ExecutesWhatStands, A64ExecutesWhatStands, X86ExecutesWhatStands};
+ghost use Rattle.lg_cpu.specs.Laws.{FaultsChangeNothing, StaysSound, RunsAreMachines};
 
 /// A call of `step` makes the step of the definition, unless a write fails.
 pub fn steps_are_those_of_the_definition()
@@ -18,12 +19,22 @@ pub fn steps_follow_the_run()
     ensures { StepsFollowRuns }
 {}
 
-/// Where the program counter is the address of an instruction's spelling in the code, the step is the instruction's.
+/// Where the program counter is the address of an instruction's spelling in the code, the step is the instruction's: on RV64IM.
 pub fn what_stands_is_executed()
     ensures { ExecutesWhatStands }
 {}
 
-/// A step that faults leaves registers and memory as they were, and writes nothing.
+/// And on AArch64.
+pub fn what_stands_is_executed_on_aarch64()
+    ensures { A64ExecutesWhatStands }
+{}
+
+/// And on x86-64, where the address need not be a multiple of 4.
+pub fn what_stands_is_executed_on_x86_64()
+    ensures { X86ExecutesWhatStands }
+{}
+
+/// A step that faults leaves registers, flags and memory as they were, and writes nothing.
 pub fn faults_change_nothing()
     ensures { FaultsChangeNothing }
 {}

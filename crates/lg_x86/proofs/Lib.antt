@@ -2,4 +2,5 @@ pub mod AgainLemmas
 pub mod CheckedLemmas
 pub mod FieldLemmas
 pub mod FrontLemmas
+pub mod NumberLemmas
 pub mod SizeLemmas

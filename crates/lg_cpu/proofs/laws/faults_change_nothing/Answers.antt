@@ -1,4 +1,4 @@
-use Rattle.lg_cpu.proofs.FaultLemmas.{faults-unchanged}
+use Rattle.lg_cpu.proofs.TargetLemmas.{faults-unchanged}
 use Rattle.lg_cpu.proofs.laws.faults_change_nothing.Goals as goal
 
 pub returns : goal.returns
