@@ -1,8 +1,10 @@
 -- Steps that write nothing.
-use Rattle.std.proofs.Common.{◌≡◌, ℕ, List, [], Option, None, sym, ap, refl, subst}
+use Rattle.std.proofs.Common.{◌≡◌, ℕ, ◌≤◌, true, List, Option, sym, ap, refl, subst, arith}
 use Rattle.std.proofs.KnownBytes.{Appends-nil}
 use Rattle.std.specs.Io.KnownBytes.{Appends}
-use Rattle.lg_base.specs.HostNames.{host_by_address}
+use Rattle.lg_base.specs.Layout.{code_base}
+use Rattle.lg_cpu.specs.RvStep.{in_code}
+use Rattle.lg_cpu.proofs.RunLemmas.{no_host}
 use Rattle.lg_cpu.specs.Steps.{Progress, Goes, EndedWith, Faulted, Effect}
 use Rattle.lg_cpu.specs.Answers.{answer_of}
 use Rattle.lg_cpu.specs.States.{CpuState}
@@ -25,6 +27,6 @@ says-quiet e old new taken count (cpu.Ended status) d = comes e old new taken co
 says-quiet e old new taken count (cpu.Fault kind) d = comes e old new taken count (cpu.Fault kind) d
 says-quiet e old new taken count cpu.WriteFault d = absurd (never e.progress d.0)
 
--- where no entry stands, a step of x86-64 fetches
-pub no-entry : (code : List ℕ) (trash : ℕ) (q : CpuState) → host_by_address q.pc ≡ None → effect code trash q ≡ fetch code q
-no-entry code trash q e = ap (λ o. effect_at o code trash q) e
+-- where code stands no entry does, and a step of x86-64 fetches
+pub fetches-inside : (code : List ℕ) (trash : ℕ) (q : CpuState) → in_code code q.pc ≡ true → effect code trash q ≡ fetch code q
+fetches-inside code trash q e = ap (λ o. effect_at o code trash q) (no_host q.pc (let low : code_base ≤ q.pc = grind (arith, e) in low))

@@ -9,6 +9,7 @@ use Rattle.lg_io.specs.Wrote.{AppendsPrefix}
 use Rattle.lg_base.specs.Spaces.{stored}
 use Rattle.lg_cpu.specs.Steps.{Effect, Run, arrived}
 use Rattle.lg_cpu.specs.Answers.{answer_of, progress_of, counted}
+use Rattle.lg_base.specs.declared.flags.Flags.{Flags}
 use Rattle.lg_base.specs.declared.flags.Flags.TheVariants.{NoFlags}
 use Rattle.lg_cpu.specs.HostSteps.{put}
 use Rattle.lg_cpu.specs.States.{CpuState}
@@ -142,7 +143,7 @@ steps_made answer steps = steps
 abbrev pub IsRunOf : (image args out : List ℕ) → Shown → Type 0
 IsRunOf image args out s = run_of s out ≡ run_at s.target s.code image args s.trash (steps_made s.answer s.steps)
 
--- a register is set, the run goes on elsewhere, bytes are stored
+-- a register or the flags are set, the run goes on elsewhere, bytes are stored
 abbrev pub with_register : CpuState → ℕ → ℕ → CpuState
 with_register q number value = record q { registers = put q.registers number value }
 
@@ -151,6 +152,12 @@ with_bytes q bytes = record q { bytes = bytes }
 
 abbrev pub after_set : Shown → ℕ → ℕ → Shown
 after_set s number value = record s { state = with_register s.state number value }
+
+abbrev pub with_flags : CpuState → Flags → CpuState
+with_flags q flags = record q { flags = flags }
+
+abbrev pub after_set_flags : Shown → Flags → Shown
+after_set_flags s flags = record s { state = with_flags s.state flags }
 
 abbrev pub after_jump : Shown → ℕ → Shown
 after_jump s pc = record s { state = record s.state { pc = pc }; answer = answer_of (arrived pc) }

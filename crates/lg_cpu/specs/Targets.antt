@@ -1,5 +1,5 @@
 -- The processors by their targets, and the run of code.
-use Rattle.std.specs.Prelude.{ℕ, List, [], Option}
+use Rattle.std.specs.Prelude.{ℕ, Bool, true, false, List, [], Option}
 use Rattle.lg_base.specs.Arguments.{argument_count}
 use Rattle.lg_base.specs.Parts.{heap_base}
 use Rattle.lg_base.specs.Runs.{Machine, iter}
@@ -48,3 +48,8 @@ register_count Riscv64 = 32
 abbrev pub reads : Target → (ℕ → ℕ) → ℕ → ℕ
 reads Riscv64 registers r = rv.read registers r
 reads target registers r = registers r
+
+-- whether it has flags
+abbrev pub has_flags : Target → Bool
+has_flags Riscv64 = false
+has_flags target = true

@@ -15,17 +15,12 @@ use self::operators::{
     reverse_value, wide_value,
 };
 use crate::answer::CpuStep;
-use crate::board::Board;
+use crate::board::{Board, CODE, STOP};
 use lg_a64::{BranchOp, BranchRegOp, ImmOp, Instr, RegOp, ScaledOp, UnscaledOp, decode};
 use lg_base::fault::FaultKind;
 use lg_base::flags::Flags;
 use lg_base::number::sign_extended;
 use lg_base::wide::sign_part;
-
-// the stop address, and the first address of code
-const STOP: u64 = 0x0FE0_0000;
-
-const CODE: u64 = 0x1000_0000;
 
 /// The program counter, the registers with the stack pointer, 31, the flags, and what the processor works on.
 #[derive(Drop)]
@@ -56,6 +51,8 @@ impl Aarch64 {
     ghost use Rattle.lg_cpu.specs.A64Step.{read, write, sets, sets_both, load_at, store_at, link_to, branch_to};
     ghost use Rattle.lg_cpu.specs.A64Step.{reg_effect, imm_effect, scaled_effect, unscaled_effect, branch_effect, branch_reg_effect};
     ghost use Rattle.lg_cpu.specs.A64Step.{away, act, fetch};
+    ghost use Rattle.std.specs.Prelude.{true};
+    ghost use Rattle.lg_cpu.specs.RvStep.{in_code};
     ghost use Rattle.lg_cpu.specs.States.{goes_on};
     ghost use Rattle.lg_cpu.specs.Machines.{a64_state, a64_inner, Does};
 
@@ -315,16 +312,13 @@ impl Aarch64 {
 
     // Fetches an instruction and executes it.
     pub(crate) fn fetch(&mut self) -> CpuStep
+        requires { in_code self.old.board.code.items self.old.pc ≡ true }
         ensures { Does (fetch self.old.board.code.items (a64_state self.old)) (a64_inner self.old) (a64_inner self.new) result }
     {
         if self.pc % 4 != 0 {
             return CpuStep::Fault(FaultKind::Align);
         }
-        let code = self.board.code.as_slice();
-        if self.pc < CODE || self.pc - CODE >= code.len() as u64 {
-            return CpuStep::Fault(FaultKind::Fetch);
-        }
-        match decode(&code[(self.pc - CODE) as usize..]) {
+        match decode(&self.board.code.as_slice()[(self.pc - CODE) as usize..]) {
             Some((instr, _)) => self.act(instr),
             None => CpuStep::Fault(FaultKind::Decode),
         }

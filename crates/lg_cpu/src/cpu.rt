@@ -5,13 +5,14 @@ ghost use Rattle.lg_base.specs.Layout.{most_code};
 ghost use Rattle.lg_base.specs.Arguments.{most_args};
 ghost use Rattle.lg_base.specs.Spaces.{loaded, mapped};
 ghost use Rattle.lg_cpu.specs.Answers.{is_counted};
-ghost use Rattle.lg_cpu.specs.Targets.{reads, register_count};
+ghost use Rattle.lg_cpu.specs.Targets.{reads, register_count, has_flags};
 
 use crate::answer::CpuStep;
 use crate::board::Board;
 use crate::processor::Processor;
 use lg_base::args::argument_count;
 use lg_base::code::CodeBytes;
+use lg_base::flags::Flags;
 use lg_base::image::{ArgImage, DataImage};
 use lg_base::memory::Memory;
 use lg_base::refusal::OutOfMemory;
@@ -39,7 +40,7 @@ fn is_counted(answer: CpuStep) -> bool
 }
 
 impl Cpu {
-    ghost use Rattle.lg_cpu.specs.Machines.{shown, shown_at_start, CpuSays, StepShows, inner, effect_in, after_set, after_jump, after_store};
+    ghost use Rattle.lg_cpu.specs.Machines.{shown, shown_at_start, CpuSays, StepShows, inner, effect_in, after_set, after_set_flags, after_jump, after_store};
 
     /// A processor before its first step: at the first address of the code, with the data part and the argument part in
     /// memory and zeros elsewhere. It finds the number of the argument part's strings and the part's address in the registers
@@ -103,13 +104,16 @@ impl Cpu {
 
     // Takes a step of a run that is not over.
     fn go_on<O: Sink>(&mut self, out: &mut O) -> CpuStep
-        requires { self.old.steps < 2 ^ 64 - 1 }
+        requires going { self.old.answer ≡ CpuStep.Went }
+        requires few { self.old.steps < 2 ^ 64 - 1 }
         ensures says { StepShows (effect_in (inner self.old.processor)) (shown self.old) (shown self.new)
             (O.taken out.old) (O.taken out.new) (O.faults out.old) (O.faults out.new) result }
         ensures later { O.faults out.old ≤ O.faults out.new }
     {
         let answer = self.processor.step(out);
-        self.answer = answer;
+        if answer != CpuStep::Went {
+            self.answer = answer;
+        }
         if is_counted(answer) {
             self.steps += 1;
         }
@@ -132,6 +136,21 @@ impl Cpu {
             if nat_lt number (register_count (shown self.old).target) then after_set (shown self.old) number value else shown self.old) }
     {
         self.processor.set_register(number, value);
+    }
+
+    /// The flags; RV64 has none.
+    pub fn flags(&self) -> Flags
+        ensures { result ≡ (shown self.now).state.flags }
+    {
+        self.processor.flags()
+    }
+
+    /// Sets the flags, where the processor has any, and changes nothing else.
+    pub fn set_flags(&mut self, flags: Flags)
+        ensures { shown self.new ≡ (
+            if has_flags (shown self.old).target then after_set_flags (shown self.old) flags else shown self.old) }
+    {
+        self.processor.set_flags(flags);
     }
 
     /// Goes on at an address, whether the run was over or not; at the stop address it has ended. Nothing else changes.

@@ -8,6 +8,7 @@ use crate::board::Board;
 use crate::riscv64::Riscv64;
 use crate::x86_64::X86_64;
 use lg_base::code::CodeBytes;
+use lg_base::flags::Flags;
 use lg_base::target::Target;
 use lg_io::sink::Sink;
 
@@ -30,8 +31,8 @@ impl Processor {
     ghost use Rattle.lg_base.specs.declared.target.Target.{Target};
     ghost use Rattle.lg_cpu.specs.Answers.{answer_of};
     ghost use Rattle.lg_cpu.specs.Steps.{arrived};
-    ghost use Rattle.lg_cpu.specs.Targets.{begins, reads, register_count};
-    ghost use Rattle.lg_cpu.specs.Machines.{inner, inner_of, effect_in, with_state, with_register, with_bytes, StepSays};
+    ghost use Rattle.lg_cpu.specs.Targets.{begins, reads, register_count, has_flags};
+    ghost use Rattle.lg_cpu.specs.Machines.{inner, inner_of, effect_in, with_state, with_register, with_flags, with_bytes, StepSays};
 
     /// The processor of a target before its first step, with the number of arguments.
     pub fn new(target: Target, board: Board, count: u64) -> Processor
@@ -93,6 +94,31 @@ impl Processor {
             Processor::X86_64(p) => p.set_register(number, value),
             Processor::Aarch64(p) => p.registers[number as usize] = value,
             Processor::Riscv64(p) => p.registers[number as usize] = value,
+        }
+    }
+
+    /// The flags; RV64 has none.
+    pub fn flags(&self) -> Flags
+        ensures { result ≡ (inner self.now).state.flags }
+    {
+        match self {
+            Processor::X86_64(p) => p.flags,
+            Processor::Aarch64(p) => p.flags,
+            Processor::Riscv64(_) => Flags::NoFlags,
+        }
+    }
+
+    /// Sets the flags, where the processor has any.
+    pub fn set_flags(&mut self, flags: Flags)
+        ensures { inner self.new ≡ (
+            if has_flags (inner self.old).fixed.target
+            then with_state (inner self.old) (with_flags (inner self.old).state flags)
+            else inner self.old) }
+    {
+        match self {
+            Processor::X86_64(p) => p.flags = flags,
+            Processor::Aarch64(p) => p.flags = flags,
+            Processor::Riscv64(_) => {}
         }
     }
 

@@ -9,17 +9,12 @@ mod start;
 
 use self::operators::{is_taken, reg_value, shift_value};
 use crate::answer::CpuStep;
-use crate::board::Board;
+use crate::board::{Board, CODE, STOP};
 use lg_base::fault::FaultKind;
 use lg_base::number::sign_extended;
 use lg_base::wide::sign_part;
 use lg_base::word::sign_extend_32;
 use lg_rv::{ImmOp, Instr, RegOp, StoreOp, UpperOp, decode};
-
-// the stop address, and the first address of code
-const STOP: u64 = 0x0FE0_0000;
-
-const CODE: u64 = 0x1000_0000;
 
 /// The program counter and the registers, and what the processor works on.
 #[derive(Drop)]
@@ -45,7 +40,8 @@ fn store_width(op: StoreOp) -> u32
 impl Riscv64 {
     ghost use Rattle.lg_base.specs.Fields.{word_of};
     ghost use Rattle.lg_rv.specs.Spelling.{IsInstr};
-    ghost use Rattle.lg_cpu.specs.RvStep.{read, sets, load_at, store_at, jump_to, branch_to, imm_effect, act, fetch};
+    ghost use Rattle.lg_cpu.specs.RvStep.{read, sets, load_at, store_at, jump_to, branch_to, imm_effect, act, in_code, fetch};
+    ghost use Rattle.std.specs.Prelude.{true};
     ghost use Rattle.lg_cpu.specs.States.{goes_on};
     ghost use Rattle.lg_cpu.specs.Machines.{rv_state, rv_inner, Does};
 
@@ -220,16 +216,13 @@ impl Riscv64 {
 
     // Fetches an instruction and executes it.
     pub(crate) fn fetch(&mut self) -> CpuStep
+        requires { in_code self.old.board.code.items self.old.pc ≡ true }
         ensures { Does (fetch self.old.board.code.items (rv_state self.old)) (rv_inner self.old) (rv_inner self.new) result }
     {
         if self.pc % 4 != 0 {
             return CpuStep::Fault(FaultKind::Align);
         }
-        let code = self.board.code.as_slice();
-        if self.pc < CODE || self.pc - CODE >= code.len() as u64 {
-            return CpuStep::Fault(FaultKind::Fetch);
-        }
-        match decode(&code[(self.pc - CODE) as usize..]) {
+        match decode(&self.board.code.as_slice()[(self.pc - CODE) as usize..]) {
             Some((instr, _)) => self.act(instr),
             None => CpuStep::Fault(FaultKind::Decode),
         }

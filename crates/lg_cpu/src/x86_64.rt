@@ -18,7 +18,7 @@ use self::operators::{
     shift_value, sign_word,
 };
 use crate::answer::CpuStep;
-use crate::board::Board;
+use crate::board::{Board, CODE, STOP};
 use lg_base::fault::FaultKind;
 use lg_base::flags::Flags;
 use lg_base::number::sign_extended;
@@ -27,11 +27,6 @@ use lg_x86::{
     BareOp, Cond, Instr, JumpNearOp, JumpRegOp, LoadOp, RmRegOp, ShiftOp, StackOp, StoreOp,
     UnaryOp, decode,
 };
-
-// the stop address, and the first address of code
-const STOP: u64 = 0x0FE0_0000;
-
-const CODE: u64 = 0x1000_0000;
 
 /// The program counter, the registers and the flags, and what the processor works on.
 #[derive(Drop)]
@@ -75,6 +70,7 @@ impl X86_64 {
     ghost use Rattle.lg_base.specs.declared.fault.FaultKind.{FaultKind};
     ghost use Rattle.lg_x86.specs.Spelling.{IsInstr};
     ghost use Rattle.lg_x86.specs.declared.instruction.Instr.{Instr};
+    ghost use Rattle.lg_cpu.specs.RvStep.{in_code};
     ghost use Rattle.lg_cpu.specs.States.{goes_on};
     ghost use Rattle.lg_cpu.specs.X86Operators.{bit, condition};
     ghost use Rattle.lg_cpu.specs.X86Step.{with_register, with_flags, with_wide, combined_with, combined, loads, sets_loaded, stores, shifted, sets_quotient, one_register};
@@ -500,13 +496,10 @@ impl X86_64 {
 
     // Fetches an instruction and executes it.
     pub(crate) fn fetch(&mut self) -> CpuStep
+        requires { in_code self.old.board.code.items self.old.pc ≡ true }
         ensures { Does (fetch self.old.board.code.items (x86_state self.old)) (x86_inner self.old) (x86_inner self.new) result }
     {
-        let code = self.board.code.as_slice();
-        if self.pc < CODE || self.pc - CODE >= code.len() as u64 {
-            return CpuStep::Fault(FaultKind::Fetch);
-        }
-        match decode(&code[(self.pc - CODE) as usize..]) {
+        match decode(&self.board.code.as_slice()[(self.pc - CODE) as usize..]) {
             Some((instr, len)) => self.act_registers(self.pc.wrapping_add(u64::from(len)), instr),
             None => CpuStep::Fault(FaultKind::Decode),
         }

@@ -53,6 +53,8 @@ fn register_arguments(registers: &[u64; 32]) -> Arguments
 }
 
 impl Aarch64 {
+    ghost use Rattle.std.specs.Prelude.{false};
+    ghost use Rattle.lg_cpu.specs.RvStep.{in_code};
     ghost use Rattle.lg_cpu.specs.A64Step.{trash_flags, enter_host};
     ghost use Rattle.lg_cpu.specs.States.{arrives};
     ghost use Rattle.lg_cpu.specs.Machines.{a64_state, a64_inner, effect_in, Does, StepSays};
@@ -102,15 +104,30 @@ impl Aarch64 {
         }
     }
 
-    /// Takes one step, whether the run is over or not.
-    pub fn step<O: Sink>(&mut self, out: &mut O) -> CpuStep
+    // Takes a step where no code stands: runs the host function whose entry stands there, or faults.
+    fn step_outside<O: Sink>(&mut self, out: &mut O) -> CpuStep
+        requires { in_code self.old.board.code.items self.old.pc ≡ false }
         ensures says { StepSays (effect_in (a64_inner self.old)) (a64_inner self.old) (a64_inner self.new)
             (O.taken out.old) (O.taken out.new) (O.faults out.old) (O.faults out.new) result }
         ensures later { O.faults out.old ≤ O.faults out.new }
     {
         match HostName::from_address(self.pc) {
             Some(name) => self.enter_host(name, out),
-            None => self.fetch(),
+            None if self.pc % 4 != 0 => CpuStep::Fault(FaultKind::Align),
+            None => CpuStep::Fault(FaultKind::Fetch),
+        }
+    }
+
+    /// Takes one step, whether the run is over or not.
+    pub fn step<O: Sink>(&mut self, out: &mut O) -> CpuStep
+        ensures says { StepSays (effect_in (a64_inner self.old)) (a64_inner self.old) (a64_inner self.new)
+            (O.taken out.old) (O.taken out.new) (O.faults out.old) (O.faults out.new) result }
+        ensures later { O.faults out.old ≤ O.faults out.new }
+    {
+        if self.board.is_code(self.pc) {
+            self.fetch()
+        } else {
+            self.step_outside(out)
         }
     }
 }

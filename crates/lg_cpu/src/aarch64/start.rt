@@ -3,8 +3,8 @@
 ghost use Rattle.std.specs.Prelude.{◌≡◌, ◌≤◌, length, slice_index, if◌then◌else◌, nat_lt};
 ghost use Rattle.lg_cpu.specs.A64Step.{start_registers, trash_flags};
 
-use crate::aarch64::{Aarch64, CODE, STOP};
-use crate::board::Board;
+use crate::aarch64::Aarch64;
+use crate::board::{Board, CODE, STOP};
 use lg_base::flags::Flags;
 
 // the first address of the argument part, and the address behind the stack

@@ -52,7 +52,8 @@ fn register_arguments(registers: &[u64; 32]) -> Arguments
 }
 
 impl Riscv64 {
-    ghost use Rattle.lg_cpu.specs.RvStep.{goes, enter_host};
+    ghost use Rattle.std.specs.Prelude.{false};
+    ghost use Rattle.lg_cpu.specs.RvStep.{goes, enter_host, in_code};
     ghost use Rattle.lg_cpu.specs.Machines.{rv_state, rv_inner, effect_in, Does, StepSays};
 
     // The arguments of the convention.
@@ -99,15 +100,30 @@ impl Riscv64 {
         }
     }
 
-    /// Takes one step, whether the run is over or not.
-    pub fn step<O: Sink>(&mut self, out: &mut O) -> CpuStep
+    // Takes a step where no code stands: runs the host function whose entry stands there, or faults.
+    fn step_outside<O: Sink>(&mut self, out: &mut O) -> CpuStep
+        requires { in_code self.old.board.code.items self.old.pc ≡ false }
         ensures says { StepSays (effect_in (rv_inner self.old)) (rv_inner self.old) (rv_inner self.new)
             (O.taken out.old) (O.taken out.new) (O.faults out.old) (O.faults out.new) result }
         ensures later { O.faults out.old ≤ O.faults out.new }
     {
         match HostName::from_address(self.pc) {
             Some(name) => self.enter_host(name, out),
-            None => self.fetch(),
+            None if self.pc % 4 != 0 => CpuStep::Fault(FaultKind::Align),
+            None => CpuStep::Fault(FaultKind::Fetch),
+        }
+    }
+
+    /// Takes one step, whether the run is over or not.
+    pub fn step<O: Sink>(&mut self, out: &mut O) -> CpuStep
+        ensures says { StepSays (effect_in (rv_inner self.old)) (rv_inner self.old) (rv_inner self.new)
+            (O.taken out.old) (O.taken out.new) (O.faults out.old) (O.faults out.new) result }
+        ensures later { O.faults out.old ≤ O.faults out.new }
+    {
+        if self.board.is_code(self.pc) {
+            self.fetch()
+        } else {
+            self.step_outside(out)
         }
     }
 }

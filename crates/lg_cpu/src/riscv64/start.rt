@@ -3,8 +3,8 @@
 ghost use Rattle.std.specs.Prelude.{◌≡◌, ◌≤◌, length, slice_index, if◌then◌else◌, nat_lt};
 ghost use Rattle.lg_cpu.specs.RvStep.{start_registers};
 
-use crate::board::Board;
-use crate::riscv64::{CODE, Riscv64, STOP};
+use crate::board::{Board, CODE, STOP};
+use crate::riscv64::Riscv64;
 
 // the first address of the argument part, and the address behind the stack
 const ARGS: u64 = 0x2800_0000;

@@ -75,6 +75,8 @@ fn takes_al(name: HostName, a: u64) -> bool
 }
 
 impl X86_64 {
+    ghost use Rattle.std.specs.Prelude.{false};
+    ghost use Rattle.lg_cpu.specs.RvStep.{in_code};
     ghost use Rattle.lg_cpu.specs.States.{arrives};
     ghost use Rattle.lg_cpu.specs.X86Operators.{no_flags};
     ghost use Rattle.lg_cpu.specs.X86Step.{popped, enter_with, enter_host};
@@ -140,15 +142,29 @@ impl X86_64 {
         }
     }
 
-    /// Takes one step, whether the run is over or not.
-    pub fn step<O: Sink>(&mut self, out: &mut O) -> CpuStep
+    // Takes a step where no code stands: runs the host function whose entry stands there, or faults.
+    fn step_outside<O: Sink>(&mut self, out: &mut O) -> CpuStep
+        requires { in_code self.old.board.code.items self.old.pc ≡ false }
         ensures says { StepSays (effect_in (x86_inner self.old)) (x86_inner self.old) (x86_inner self.new)
             (O.taken out.old) (O.taken out.new) (O.faults out.old) (O.faults out.new) result }
         ensures later { O.faults out.old ≤ O.faults out.new }
     {
         match HostName::from_address(self.pc) {
             Some(name) => self.enter_host(name, out),
-            None => self.fetch(),
+            None => CpuStep::Fault(FaultKind::Fetch),
+        }
+    }
+
+    /// Takes one step, whether the run is over or not.
+    pub fn step<O: Sink>(&mut self, out: &mut O) -> CpuStep
+        ensures says { StepSays (effect_in (x86_inner self.old)) (x86_inner self.old) (x86_inner self.new)
+            (O.taken out.old) (O.taken out.new) (O.faults out.old) (O.faults out.new) result }
+        ensures later { O.faults out.old ≤ O.faults out.new }
+    {
+        if self.board.is_code(self.pc) {
+            self.fetch()
+        } else {
+            self.step_outside(out)
         }
     }
 }

@@ -3,9 +3,9 @@
 ghost use Rattle.std.specs.Prelude.{◌≡◌, ◌≤◌, ◌-◌, length, slice_index, if◌then◌else◌, nat_lt};
 ghost use Rattle.lg_cpu.specs.X86Step.{start_registers};
 
-use crate::board::Board;
+use crate::board::{Board, CODE, STOP};
+use crate::x86_64::X86_64;
 use crate::x86_64::flags::no_flags;
-use crate::x86_64::{CODE, STOP, X86_64};
 
 // the first address of the argument part, and the address of the return address of the first function
 const ARGS: u64 = 0x2800_0000;
