@@ -1,6 +1,7 @@
 // From bytes to instructions.
 
-ghost use Rattle.std.specs.Prelude.{◌≡◌, ◌++◌, ℕ, List, length, Some, IfSome, IfNone};
+ghost use Rattle.std.specs.Prelude.{◌≡◌, ◌≤◌, ◌++◌, ℕ, List, length, take, Some, IfSome, IfNone};
+ghost use Rattle.std.specs.Int.{w32, from_le_bytes};
 ghost use Rattle.lg_a64.specs.Spelling.{IsInstr, BeginsWith, spelling};
 ghost use Rattle.lg_base.specs.WordFronts.{word_front};
 ghost use Rattle.lg_a64.specs.Reading.{front_of, instr_of, reg_of, imm_of, wide_of, mul_add_of, bitfield_of, csinc_of, reverse_of, scaled_of, ldrx_of, unscaled_of, branch_of, branch_if_of, branch_reg_of, nop_of, reg_fixed, imm_fixed, mul_add_fixed, bitfield_fixed, select_fixed, reverse_fixed, branch_fixed, branch_if_fixed, branch_reg_fixed};
@@ -37,9 +38,16 @@ fn decode_front(bytes: &[u8]) -> Option<(Instr, u32)>
     if bytes.len() < 4 {
         return None;
     }
-    let word = u32::from_le_bytes([bytes[0], bytes[1], bytes[2], bytes[3]]);
-    let instr = decode_word(word)?;
+    let instr = decode_word(word_in_front(bytes))?;
     Some((instr, 4))
+}
+
+// The word of the first four bytes. In a function of its own it becomes one load.
+fn word_in_front(bytes: &[u8]) -> u32
+    requires { 4 ≤ length bytes.now }
+    ensures { result ≡ from_le_bytes w32 (take 4 bytes.now) }
+{
+    u32::from_le_bytes([bytes[0], bytes[1], bytes[2], bytes[3]])
 }
 
 #[tactic(auto, unfolding(crate::specs::Reading::instr_at))]

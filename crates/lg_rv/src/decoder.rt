@@ -1,7 +1,9 @@
 // From bytes to instructions.
 
-ghost use Rattle.std.specs.Prelude.{◌≡◌, ◌++◌, ℕ, List, length, Some, IfSome, IfNone};
+ghost use Rattle.std.specs.Prelude.{◌≡◌, ◌≤◌, ◌++◌, ℕ, List, length, take, Some, IfSome, IfNone};
+ghost use Rattle.std.specs.Int.{w32, from_le_bytes};
 ghost use Rattle.lg_rv.specs.Spelling.{IsInstr, BeginsWith, spelling};
+ghost use Rattle.lg_base.specs.Fields.{part};
 ghost use Rattle.lg_base.specs.WordFronts.{word_front};
 ghost use Rattle.lg_rv.specs.Reading.{front_of, instr_of, upper_of, jal_of, branch_of, imm_of, shift_of, word_shift_of, store_of, reg_of};
 
@@ -30,9 +32,16 @@ fn decode_front(bytes: &[u8]) -> Option<(Instr, u32)>
     if bytes.len() < 4 {
         return None;
     }
-    let word = u32::from_le_bytes([bytes[0], bytes[1], bytes[2], bytes[3]]);
-    let instr = decode_word(word)?;
+    let instr = decode_word(word_in_front(bytes))?;
     Some((instr, 4))
+}
+
+// The word of the first four bytes. In a function of its own it becomes one load.
+fn word_in_front(bytes: &[u8]) -> u32
+    requires { 4 ≤ length bytes.now }
+    ensures { result ≡ from_le_bytes w32 (take 4 bytes.now) }
+{
+    u32::from_le_bytes([bytes[0], bytes[1], bytes[2], bytes[3]])
 }
 
 #[tactic(auto, unfolding(crate::specs::Reading::instr_at))]
@@ -41,7 +50,8 @@ fn decode_word(word: u32) -> Option<Instr>
 {
     let funct3 = Funct3::get(word);
     match Opcode::get(word) {
-        0x33 | 0x3b => decode_reg(word),
+        0x33 => decode_reg(0x33, word),
+        0x3b => decode_reg(0x3b, word),
         0x63 => decode_branch(word),
         0x23 => decode_store(word),
         0x37 | 0x17 => decode_upper(word),
@@ -155,14 +165,13 @@ fn decode_store(word: u32) -> Option<Instr>
 }
 
 #[tactic(auto, unfolding(crate::specs::Reading::reg_of))]
-fn decode_reg(word: u32) -> Option<Instr>
+fn decode_reg(opcode: u32, word: u32) -> Option<Instr>
+    requires { opcode ≡ part 0 7 word }
     ensures { result ≡ reg_of word }
 {
-    let op = RegOp::find(Opcode::get(word), Funct3::get(word), Funct7::get(word))?;
-    Some(Instr::Reg {
-        op,
-        rd: Rd::get(word) as u8,
-        rs1: Rs1::get(word) as u8,
-        rs2: Rs2::get(word) as u8,
-    })
+    let rd = Rd::get(word) as u8;
+    let rs1 = Rs1::get(word) as u8;
+    let rs2 = Rs2::get(word) as u8;
+    let op = RegOp::find(opcode, Funct3::get(word), Funct7::get(word))?;
+    Some(Instr::Reg { op, rd, rs1, rs2 })
 }

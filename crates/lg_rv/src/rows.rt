@@ -38,10 +38,11 @@ macro_rules! name_of {
     };
 }
 
-// the row that fixes these
+// the row that fixes these, of an opcode, a highest field and a funct3: in this order, since the rows of one opcode and highest field
+// have few numbers in the third place, and the choice among them becomes a look-up in a table
 macro_rules! op_with {
     ($fixed:expr; $type:ident; $($name:ident, $text:literal = $opcode:literal, $funct3:literal, $high:literal;)*) => {
-        match $fixed { $(($opcode, $funct3, $high) => Some($type::$name),)* _ => None }
+        match $fixed { $(($opcode, $high, $funct3) => Some($type::$name),)* _ => None }
     };
 }
 
@@ -158,7 +159,7 @@ impl UpperOp {
     pub(crate) fn find(opcode: u32, funct3: u32, high: u32) -> Option<UpperOp>
         ensures { result ≡ upper_by_row opcode funct3 high }
     {
-        upper_rows!(op_with, (opcode, funct3, high))
+        upper_rows!(op_with, (opcode, high, funct3))
     }
 }
 
@@ -184,7 +185,7 @@ impl BranchOp {
     pub(crate) fn find(opcode: u32, funct3: u32, high: u32) -> Option<BranchOp>
         ensures { result ≡ branch_by_row opcode funct3 high }
     {
-        branch_rows!(op_with, (opcode, funct3, high))
+        branch_rows!(op_with, (opcode, high, funct3))
     }
 }
 
@@ -210,7 +211,7 @@ impl ImmOp {
     pub(crate) fn find(opcode: u32, funct3: u32, high: u32) -> Option<ImmOp>
         ensures { result ≡ imm_by_row opcode funct3 high }
     {
-        imm_rows!(op_with, (opcode, funct3, high))
+        imm_rows!(op_with, (opcode, high, funct3))
     }
 }
 
@@ -236,7 +237,7 @@ impl ShiftOp {
     pub(crate) fn find(opcode: u32, funct3: u32, high: u32) -> Option<ShiftOp>
         ensures { result ≡ shift_by_row opcode funct3 high }
     {
-        shift_rows!(op_with, (opcode, funct3, high))
+        shift_rows!(op_with, (opcode, high, funct3))
     }
 }
 
@@ -262,7 +263,7 @@ impl StoreOp {
     pub(crate) fn find(opcode: u32, funct3: u32, high: u32) -> Option<StoreOp>
         ensures { result ≡ store_by_row opcode funct3 high }
     {
-        store_rows!(op_with, (opcode, funct3, high))
+        store_rows!(op_with, (opcode, high, funct3))
     }
 }
 
@@ -288,7 +289,7 @@ impl RegOp {
     pub(crate) fn find(opcode: u32, funct3: u32, high: u32) -> Option<RegOp>
         ensures { result ≡ reg_by_row opcode funct3 high }
     {
-        reg_rows!(op_with, (opcode, funct3, high))
+        reg_rows!(op_with, (opcode, high, funct3))
     }
 }
 
