@@ -1,6 +1,7 @@
 // The lines of the evidence on runs: columns with tabs between them, and lists of items with blanks between them.
 
 use crate::vector::digit;
+use lg_base::target::Target;
 use std::alloc::{AllocError, Global};
 
 /// A line of a file on single steps: STEPS, TEXT, HEX, IN, OUT, HOW.
@@ -67,10 +68,15 @@ pub enum Item {
     Pc(u64),
     /// `steps=K`: how many instructions went.
     Steps(u64),
-    /// `xN=H`: a register.
+    /// A register by its listing name, as `x1=H`, `sp=H` or `rax=H`. The number is below 32.
     Register {
         number: u8,
         value: u64,
+    },
+    /// A flag by its number below 4, as `CF=1` or `V=0`; `u` is undefined.
+    Flag {
+        number: u8,
+        value: Option<bool>,
     },
     /// `mW@A=H`: a number in memory.
     Bytes {
@@ -81,7 +87,7 @@ pub enum Item {
 }
 
 /// An item of IN or OUT, with hexadecimal numbers but for the count of steps.
-pub fn parse_item(text: &str) -> Option<Item> {
+pub fn parse_item(target: Target, text: &str) -> Option<Item> {
     let (name, value) = text.split_once('=')?;
     match name {
         "pc" => Some(Item::Pc(number_of(value)?)),
@@ -92,12 +98,71 @@ pub fn parse_item(text: &str) -> Option<Item> {
                 address: number_of(address)?,
                 value: number_of(value)?,
             }),
-            None => Some(Item::Register {
-                number: name.strip_prefix('x')?.parse().ok()?,
-                value: number_of(value)?,
-            }),
+            None => parse_named(target, name, value),
         },
     }
+}
+
+// a flag or a register
+fn parse_named(target: Target, name: &str, value: &str) -> Option<Item> {
+    match flag_of(target, name) {
+        Some(number) => Some(Item::Flag {
+            number,
+            value: parse_flag(value)?,
+        }),
+        None => Some(Item::Register {
+            number: register_of(target, name)?,
+            value: number_of(value)?,
+        }),
+    }
+}
+
+fn parse_flag(text: &str) -> Option<Option<bool>> {
+    match text {
+        "0" => Some(Some(false)),
+        "1" => Some(Some(true)),
+        "u" => Some(None),
+        _ => None,
+    }
+}
+
+// the number of a flag, in the order of the variants of `Flags`
+fn flag_of(target: Target, name: &str) -> Option<u8> {
+    match (target, name) {
+        (Target::X86_64, "CF") | (Target::Aarch64, "N") => Some(0),
+        (Target::X86_64, "OF") | (Target::Aarch64, "Z") => Some(1),
+        (Target::X86_64, "ZF") | (Target::Aarch64, "C") => Some(2),
+        (Target::X86_64, "SF") | (Target::Aarch64, "V") => Some(3),
+        _ => None,
+    }
+}
+
+// the number of a register
+fn register_of(target: Target, name: &str) -> Option<u8> {
+    match target {
+        Target::X86_64 => x86_register_of(name),
+        Target::Aarch64 if name == "sp" => Some(31),
+        _ => below(32, name.strip_prefix('x')?),
+    }
+}
+
+fn x86_register_of(name: &str) -> Option<u8> {
+    match name {
+        "rax" => Some(0),
+        "rcx" => Some(1),
+        "rdx" => Some(2),
+        "rbx" => Some(3),
+        "rsp" => Some(4),
+        "rbp" => Some(5),
+        "rsi" => Some(6),
+        "rdi" => Some(7),
+        _ => below(16, name.strip_prefix('r')?),
+    }
+}
+
+fn below(bound: u8, text: &str) -> Option<u8> {
+    let number: u8 = text.parse().ok()?;
+    if number < bound { Some(number) } else { None }
 }
 
 fn parse_width(text: &str) -> Option<u32> {

@@ -1,4 +1,4 @@
-// Compares the tables of the processors and the model of RV64IM with evidence from outside, the files of
+// Compares the tables and the models of the processors with evidence from outside, the files of
 // `data`: what assemblers make of each instruction, bytes that are no instruction, runs of a few steps, and
 // whole programs. Prints a line for each file, and first, for each of up to twenty lines that differ, the
 // line and what was found in its place.
@@ -17,6 +17,7 @@ mod x86_64;
 
 use aarch64::Aarch64;
 use check::{check_refused, check_spelled};
+use lg_base::target::Target;
 use programs::check_programs;
 use riscv64::Riscv64;
 use std::io;
@@ -30,6 +31,9 @@ fn main(rt: HostRuntime) -> io::Result<()> {
     check_refused::<Riscv64>(&rt, "decode_none_riscv64.tsv")?;
     check_spelled::<X86>(&rt, "encode_x86_64.tsv")?;
     check_refused::<X86>(&rt, "decode_none_x86_64.tsv")?;
-    check_steps(&rt, "step_riscv64.tsv")?;
-    check_programs(&rt, "prog_riscv64.tsv")
+    for target in [Target::Aarch64, Target::Riscv64, Target::X86_64] {
+        check_steps(&rt, target)?;
+        check_programs(&rt, target)?;
+    }
+    Ok(())
 }

@@ -20,19 +20,30 @@ pub const CODE: u64 = 0x1000_0000;
 // the length of the data part
 const DATA_LEN: usize = 65_536;
 
-/// A processor with a data part of 65,536 zero bytes and this argument part, and with code of at most 65,536 bytes.
-pub fn processor(alloc: Global, code: &[u8], args: &[u8]) -> Result<Option<Cpu>, AllocError> {
+/// A processor of a target, with a data part of 65,536 zero bytes and this argument part, and with code of at most 65,536 bytes.
+pub fn processor(
+    alloc: Global,
+    target: Target,
+    code: &[u8],
+    args: &[u8],
+) -> Result<Option<Cpu>, AllocError> {
     if code.len() > DATA_LEN || args.len() > DATA_LEN {
         return Ok(None);
     }
     let image = vec![in alloc; 0u8; DATA_LEN]?;
-    match made(alloc, code, &image, args) {
+    match made(alloc, target, code, &image, args) {
         Ok(cpu) => Ok(Some(cpu)),
         Err(OutOfMemory) => Err(AllocError),
     }
 }
 
-fn made(alloc: Global, code: &[u8], image: &[u8], args: &[u8]) -> Result<Cpu, OutOfMemory>
+fn made(
+    alloc: Global,
+    target: Target,
+    code: &[u8],
+    image: &[u8],
+    args: &[u8],
+) -> Result<Cpu, OutOfMemory>
     requires code { length code.now < 65537 }
     requires image { length image.now < 65537 }
     requires args { length args.now < 65537 }
@@ -40,7 +51,7 @@ fn made(alloc: Global, code: &[u8], image: &[u8], args: &[u8]) -> Result<Cpu, Ou
     let code = CodeBytes::of(alloc, code)?;
     let image = DataImage::of(alloc, image)?;
     let args = ArgImage::of(alloc, args)?;
-    Cpu::new(alloc, Target::Riscv64, &code, &image, &args, TRASH)
+    Cpu::new(alloc, target, &code, &image, &args, TRASH)
 }
 
 /// A sink with room for 65,536 bytes.

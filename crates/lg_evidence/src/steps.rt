@@ -4,6 +4,8 @@ use crate::case::{Case, Item, code_of, parse_case, parse_item};
 use crate::check::{Counts, Outcome};
 use crate::processor::{CODE, TRASH, processor, run, sink};
 use lg_base::code::CodeBytes;
+use lg_base::flags::Flags;
+use lg_base::target::Target;
 use lg_cpu::answer::CpuStep;
 use lg_cpu::cpu::Cpu;
 use lg_io::memory_sink::MemorySink;
@@ -17,16 +19,29 @@ const ARGS_LEN: usize = 4_096;
 // the most bytes in front of the first program counter
 const MOST_FRONT: u64 = 4_096;
 
-/// Checks a file of runs of few steps, all on one processor, which is set up anew for each.
-pub fn check_steps(rt: &(impl Files + Print + AllocGlobal), file: &str) -> io::Result<()> {
+// the address of the word that a run of x86-64 begins with on its stack
+const RETURN: u64 = 0x3fff_fff8;
+
+fn file_of(target: Target) -> &'static str {
+    match target {
+        Target::X86_64 => "step_x86_64.tsv",
+        Target::Aarch64 => "step_aarch64.tsv",
+        Target::Riscv64 => "step_riscv64.tsv",
+    }
+}
+
+/// Checks a target's file of runs of few steps, all on one processor, which is set up anew for each.
+pub fn check_steps(rt: &(impl Files + Print + AllocGlobal), target: Target) -> io::Result<()> {
+    let file = file_of(target);
     let text = fs::read_to_string(rt, file)?;
     let alloc = rt.alloc();
     let args = vec![in alloc; 0u8; ARGS_LEN]?;
     let mut out = sink(alloc)?;
     let mut counts = Counts::new();
-    if let Some(mut cpu) = processor(alloc, &[], &args)? {
+    if let Some(mut cpu) = processor(alloc, target, &[], &args)? {
+        cpu.store(RETURN, 8, 0);
         for line in text.as_str().lines() {
-            let outcome = case_outcome(alloc, &mut cpu, &mut out, line)?;
+            let outcome = case_outcome(alloc, target, &mut cpu, &mut out, line)?;
             counts.take(rt, file, line, &outcome)?;
         }
     }
@@ -42,6 +57,7 @@ struct Stands {
 
 fn case_outcome(
     alloc: Global,
+    target: Target,
     cpu: &mut Cpu,
     out: &mut MemorySink,
     line: &str,
@@ -49,23 +65,26 @@ fn case_outcome(
     let Some(case) = parse_case(line) else {
         return Outcome::unread(alloc);
     };
-    let Some(start) = set_up(cpu, case.before) else {
+    let Some(start) = set_up(target, cpu, case.before) else {
         return Outcome::unread(alloc);
     };
     if !set_code(alloc, cpu, start, case.hex)? {
         return Outcome::unread(alloc);
     }
     cpu.set_pc(start);
-    let before = registers(cpu);
+    let before = Before {
+        registers: registers(cpu),
+        flags: flags(cpu),
+    };
     let steps = cpu.steps();
     let answer = run(cpu, out, case.steps);
     let stands = Stands {
         answer,
         steps: cpu.steps().saturating_sub(steps),
     };
-    let same = is_as_wanted(cpu, &case, &before, stands);
-    clear(cpu, case.before);
-    clear(cpu, case.after);
+    let same = is_as_wanted(target, cpu, &case, &before, stands);
+    clear(target, cpu, case.before);
+    clear(target, cpu, case.after);
     if same == Some(true) {
         Ok(Outcome::Agrees)
     } else {
@@ -73,31 +92,70 @@ fn case_outcome(
     }
 }
 
+// what a run begins with
+#[derive(Clone, Copy)]
+struct Before {
+    registers: [u64; 32],
+    flags: [Option<bool>; 4],
+}
+
+// the flags at the start of a run: those of AArch64 are the low bits of the trash word
+fn first_flags(target: Target) -> [Option<bool>; 4] {
+    match target {
+        Target::Aarch64 => [Some(true), Some(false), Some(true), Some(false)],
+        _ => [None; 4],
+    }
+}
+
+fn set_flags(target: Target, cpu: &mut Cpu, flags: [Option<bool>; 4]) {
+    let [a, b, c, d] = flags;
+    let yes = Some(true);
+    match target {
+        Target::X86_64 => cpu.set_flags(Flags::Rflags(a, b, c, d)),
+        Target::Aarch64 => cpu.set_flags(Flags::Nzcv(a == yes, b == yes, c == yes, d == yes)),
+        Target::Riscv64 => {}
+    }
+}
+
+fn flags(cpu: &Cpu) -> [Option<bool>; 4] {
+    match cpu.flags() {
+        Flags::NoFlags => [None; 4],
+        Flags::Nzcv(a, b, c, d) => [Some(a), Some(b), Some(c), Some(d)],
+        Flags::Rflags(a, b, c, d) => [a, b, c, d],
+    }
+}
+
 // sets what IN names and gives the first program counter
-fn set_up(cpu: &mut Cpu, items: &str) -> Option<u64> {
-    cpu.set_register(0, 0);
-    for number in 1..32 {
+fn set_up(target: Target, cpu: &mut Cpu, items: &str) -> Option<u64> {
+    for number in 0..32 {
         cpu.set_register(number, TRASH);
     }
-    let mut pc = CODE;
-    if items == "-" {
-        return Some(pc);
+    if target == Target::Riscv64 {
+        cpu.set_register(0, 0);
     }
-    for text in items.split(' ') {
-        match parse_item(text)? {
-            Item::Pc(at) => pc = at,
-            Item::Steps(_) => return None,
-            Item::Register { number, value } if number < 32 => cpu.set_register(number, value),
-            Item::Register { .. } => return None,
-            Item::Bytes {
-                width,
-                address,
-                value,
-            } => if !store(cpu, width, address, value) {
-                return None;
-            },
+    let mut pc = CODE;
+    let mut flags = first_flags(target);
+    if items != "-" {
+        for text in items.split(' ') {
+            match parse_item(target, text)? {
+                Item::Pc(at) => pc = at,
+                Item::Steps(_) => return None,
+                Item::Register { number, value } if number < 32 => {
+                    cpu.set_register(number, value);
+                }
+                Item::Flag { number, value } if number < 4 => flags[number as usize] = value,
+                Item::Register { .. } | Item::Flag { .. } => return None,
+                Item::Bytes {
+                    width,
+                    address,
+                    value,
+                } => if !store(cpu, width, address, value) {
+                    return None;
+                },
+            }
         }
     }
+    set_flags(target, cpu, flags);
     Some(pc)
 }
 
@@ -137,18 +195,27 @@ fn load(cpu: &Cpu, width: u32, address: u64) -> Option<u64> {
     }
 }
 
-// whether the run stands as OUT says, and the registers and the memory are as they were before but for what it names
-fn is_as_wanted(cpu: &Cpu, case: &Case<'_>, before: &[u64; 32], stands: Stands) -> Option<bool> {
+// whether the run stands as OUT says, and the registers, the flags and the memory are as they were before but for what it names
+fn is_as_wanted(
+    target: Target,
+    cpu: &Cpu,
+    case: &Case<'_>,
+    before: &Before,
+    stands: Stands,
+) -> Option<bool> {
     let mut wanted = *before;
     let mut steps = 1;
     let mut pc = 0;
     let mut same = true;
     for text in case.after.split(' ') {
-        match parse_item(text)? {
+        match parse_item(target, text)? {
             Item::Pc(at) => pc = at,
             Item::Steps(count) => steps = count,
-            Item::Register { number, value } if number < 32 => wanted[number as usize] = value,
-            Item::Register { .. } => return None,
+            Item::Register { number, value } if number < 32 => {
+                wanted.registers[number as usize] = value;
+            }
+            Item::Flag { number, value } if number < 4 => wanted.flags[number as usize] = value,
+            Item::Register { .. } | Item::Flag { .. } => return None,
             Item::Bytes {
                 width,
                 address,
@@ -162,14 +229,15 @@ fn is_as_wanted(cpu: &Cpu, case: &Case<'_>, before: &[u64; 32], stands: Stands) 
         same && name_of(stands.answer) == case.answer
             && stands.steps == steps
             && cpu.pc() == pc
-            && registers(cpu) == wanted,
+            && registers(cpu) == wanted.registers
+            && flags(cpu) == wanted.flags,
     )
 }
 
 // sets the memory that these items name to 0
-fn clear(cpu: &mut Cpu, items: &str) {
+fn clear(target: Target, cpu: &mut Cpu, items: &str) {
     for text in items.split(' ') {
-        if let Some(Item::Bytes { width, address, .. }) = parse_item(text) {
+        if let Some(Item::Bytes { width, address, .. }) = parse_item(target, text) {
             store(cpu, width, address, 0);
         }
     }
@@ -210,7 +278,7 @@ mod tests {
     fn compares_runs(rt: HostRuntime) -> Result<(), Fail> {
         let alloc = rt.alloc();
         let mut out = sink(alloc)?;
-        let Some(mut cpu) = processor(alloc, &[], &[0; 8])? else {
+        let Some(mut cpu) = processor(alloc, Target::Riscv64, &[], &[0; 8])? else {
             assert!(rt; false, "no processor");
             return Ok(());
         };
@@ -237,7 +305,7 @@ mod tests {
             ),
             ("1\tsd\t23305500\tx5=7 x10=20000000", false),
         ] {
-            let outcome = case_outcome(alloc, &mut cpu, &mut out, line)?;
+            let outcome = case_outcome(alloc, Target::Riscv64, &mut cpu, &mut out, line)?;
             assert_eq!(rt; matches!(outcome, Outcome::Agrees), agrees, "at {line}");
         }
         Ok(())
