@@ -1,9 +1,10 @@
 -- Instructions that stand in a row.
-use Rattle.std.specs.Prelude.{◌≡◌, ℕ, ◌+◌, ◌-◌, ◌<◌, ◌≤◌, Bool, true, List, [], ◌∷◌, ◌++◌, length, drop, ⊤}
+use Rattle.std.specs.Prelude.{◌≡◌, ℕ, ◌+◌, ◌-◌, ◌<◌, ◌≤◌, Bool, true, List, [], ◌∷◌, ◌++◌, length, drop, ⊤, slice_index_or}
 use Rattle.std.specs.List.{All}
 use Rattle.lg_base.specs.Layout.{code_base}
 use Rattle.lg_base.specs.Runs.{Status, Running, iter}
 use Rattle.lg_carry.specs.Processors.{IsSeen}
+use Rattle.lg_carry.specs.Outside.{is_outside}
 use Rattle.lg_carry.specs.Rows.{Rows}
 
 -- their bytes
@@ -27,10 +28,17 @@ IsBlock straight [] = ⊤
 IsBlock straight (i ∷ []) = ⊤
 IsBlock straight (i ∷ j ∷ is) = (straight i ≡ true) × IsBlock straight (j ∷ is)
 
--- as many steps as there are instructions do what they do; each step begins in their bytes, from a state that runs, and writes nothing; and words
--- stay words
+-- an instruction changes no register that is outside of the conventions
+abbrev pub StaysOutside : {Q I : Type 0} → Rows Q I → I → Type 0
+StaysOutside {Q} R i =
+    (q : Q) (r : ℕ) → is_outside R.processor.target r ≡ true → (R.processor.seen (R.does i q)).registers r ≡ (R.processor.seen q).registers r
+
+-- as many steps as there are instructions do what they do, each step what its instruction does; each begins in their bytes, from a state that runs,
+-- and writes nothing; and words stay words
 pub record RunsBlock {Q I : Type 0} (R : Rows Q I) (is : List I) (q : Q) : Type 0 where
   pub leads : iter R.processor.machine.step (length is) q ≡ done R.does is q
+  pub acts : (j : ℕ) (d : I) → j < length is
+      → R.processor.machine.step (iter R.processor.machine.step j q) ≡ R.does (slice_index_or is j d) (iter R.processor.machine.step j q)
   pub inside : (j : ℕ) → j < length is → ((R.processor.seen q).pc ≤ (R.processor.seen (iter R.processor.machine.step j q)).pc)
       × ((R.processor.seen (iter R.processor.machine.step j q)).pc < (R.processor.seen q).pc + length (spellings R.spelling is))
   pub goes : (j : ℕ) → j < length is → R.processor.machine.status (iter R.processor.machine.step j q) ≡ Running

@@ -11,11 +11,11 @@ use Rattle.lg_meaning.specs.Steps.{Outcome}
 use Rattle.lg_carry.specs.Processors.{IsSeen, Processor}
 use Rattle.lg_carry.specs.FinalNodes.{Code}
 use Rattle.lg_carry.specs.Rows.{Rows}
-use Rattle.lg_carry.specs.Blocks.{spellings, done, GoesThrough, IsBlock}
+use Rattle.lg_carry.specs.Blocks.{spellings, StaysOutside, done, GoesThrough, IsBlock}
 use Rattle.lg_carry.specs.Carries.{leaps_at, calls_at, BeginsInside, KeepsOutside, Meets, Leads}
 
 -- the bytes of node i are the spellings of these instructions, of which there are at most 64, and at a branch, jump, call or return at least one;
--- they may branch and jump. No step that begins in these bytes changes a register that is outside of the conventions
+-- they may branch and jump. None changes a register that is outside of the conventions
 pub record IsNodeCode {Q I : Type 0} (R : Rows Q I) (fits : I → Type 0) (c : Code) (i : ℕ) (is : List I) : Type 0 where
   pub low : code_base ≤ c.place i
   pub place : R.is_place (c.place i) ≡ true
@@ -25,7 +25,7 @@ pub record IsNodeCode {Q I : Type 0} (R : Rows Q I) (fits : I → Type 0) (c : C
   pub few : length is ≤ 64
   pub some : leaps_at (slice_get c.nodes.nodes i) ≡ true → 0 < length is
   pub fit : All fits is
-  pub outside : (q : Q) → BeginsInside c i (R.processor.seen q) → KeepsOutside R.processor q
+  pub outside : All (StaysOutside R) is
 
 -- so many steps lead from q to u; each begins in the bytes of node i and changes no register that is outside of the conventions, they write nothing,
 -- and words stay words

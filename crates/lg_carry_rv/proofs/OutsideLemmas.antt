@@ -1,18 +1,12 @@
--- The code of a node, of which no instruction writes a register that is outside of the conventions, keeps these registers.
-use Rattle.std.proofs.Common.{◌≡◌, ◌≢◌, ℕ, suc, ◌+◌, ◌-◌, ◌*◌, ◌/◌, ◌%◌, ◌<◌, ◌≤◌, Bool, true, false, List, [], ◌∷◌, ◌++◌, Option, Some, None, refl, sym, ap, ◌∙◌, arith, length, drop, ⊎_elim, append_assoc}
+-- Instructions that write no register that is outside of the conventions keep these registers.
+use Rattle.std.proofs.Common.{◌≡◌, ◌≢◌, ℕ, ◌*◌, ◌/◌, ◌%◌, Bool, true, false, Option, Some, None, refl, sym, ap, ◌∙◌, arith}
 use Rattle.std.specs.Prelude.{◌==◌, if◌then◌else◌}
-use Rattle.std.specs.List.{All}
-use Rattle.std.proofs.lemmas.Bool.{cases_lt}
 use Rattle.std.proofs.lemmas.Bool.Decides.{nat_tests}
 use Rattle.lg_base.specs.Fields.{word_of}
-use Rattle.lg_base.specs.HostNames.{host_by_address}
-use Rattle.lg_base.specs.Layout.{code_base}
 use Rattle.lg_base.specs.Spaces.{mapped, loaded, stored}
 use Rattle.lg_base.specs.Words.{add_words}
-use Rattle.lg_base.specs.declared.fault.FaultKind.TheVariants.{Align, Memory, Fetch}
+use Rattle.lg_base.specs.declared.fault.FaultKind.TheVariants.{Align, Memory}
 use Rattle.lg_base.specs.declared.target.Target.TheVariants.{Riscv64}
-use Rattle.lg_rv.specs.Reading.{front_of}
-use Rattle.lg_rv.specs.Spelling.{spelling, IsInstr}
 use Rattle.lg_rv.specs.declared.instruction.Instr.{Instr}
 use Rattle.lg_rv.specs.declared.instruction.Instr.TheVariants.{Upper, Jal, Branch, Imm, Shift, Store, Reg}
 use Rattle.lg_rv.specs.declared.instruction.UpperOp.TheVariants.{Lui, Auipc}
@@ -20,22 +14,15 @@ use Rattle.lg_rv.specs.declared.instruction.ImmOp.{ImmOp}
 use Rattle.lg_rv.specs.declared.instruction.ImmOp.TheVariants.{Jalr, Lb, Lh, Lw, Ld, Lbu, Lhu, Lwu, Addi, Slti, Sltiu, Xori, Ori, Andi, Addiw}
 use Rattle.lg_cpu.specs.HostSteps.{put}
 use Rattle.lg_cpu.specs.RvOperators.{is_taken}
-use Rattle.lg_cpu.specs.RvStep.{read, goes, loads, load_at, store_at, store_width, jump_to, branch_to, imm_effect, act, decoded, in_code, effect_at, effect}
+use Rattle.lg_cpu.specs.RvStep.{read, goes, loads, load_at, store_at, store_width, jump_to, branch_to, imm_effect, act}
 use Rattle.lg_cpu.specs.States.{CpuState}
-use Rattle.lg_cpu.specs.Steps.{Progress, Goes, EndedWith, Faulted, Effect, Run, after, on_going, faults}
-use Rattle.lg_cpu.proofs.RunLemmas.{stands-executed}
-use Rattle.lg_carry.specs.Blocks.{spellings}
+use Rattle.lg_cpu.specs.Steps.{Progress, Goes, EndedWith, Faulted, Effect, after, on_going, faults}
 use Rattle.lg_carry.specs.Outside.{is_outside}
-use Rattle.lg_carry.proofs.BlockLemmas.{behind}
-use Rattle.lg_carry_rv.specs.Destinations.{WritesWithin}
-use Rattle.lg_carry_rv.specs.RvRows.{rv_processor, rv_rows}
+use Rattle.lg_carry_rv.specs.Destinations.{WritesWithin, InstructionsStay}
 
 choice : (P : Effect CpuState → Type 0) (b : Bool) (e f : Effect CpuState) → P e → P f → P (if b then e else f)
 choice P true e f h k = h
 choice P false e f h k = k
-
-no-host : (pc : ℕ) → code_base ≤ pc → host_by_address pc ≡ None
-no-host pc low = grind (arith, low)
 
 -- ---- what an instruction does to a register
 module _ (r : ℕ) (out : is_outside Riscv64 r ≡ true) where
@@ -101,50 +88,11 @@ module _ (r : ℕ) (out : is_outside Riscv64 r ≡ true) where
     keep-act (Store op rs1 rs2 imm) h = keep-store (add_words (read q.registers rs1) (word_of imm)) (store_width op) (read q.registers rs2)
     keep-act (Reg op rd rs1 rs2) h = puts q.registers rd _ h
 
-    -- ---- a step in the code
-    module _ (code : List ℕ) (trash : ℕ) where
-      -- at a multiple of four one of the instructions is executed
-      keep-even : (is : List Instr) (p : ℕ) (more : List ℕ) → All IsInstr is → All WritesWithin is → drop (p - code_base) code ≡ spellings spelling is ++ more → code_base ≤ p → p % 4 ≡ 0
-          → p ≤ q.pc → q.pc < p + length (spellings spelling is) → q.pc % 4 ≡ 0 → Keeps q (effect code trash q)
-      keep-even [] p more fit within e low even from to at = absurd (omega (arith, from, to))
-      keep-even (i ∷ is) p more fit within e low even from to at = ⊎_elim first (λ le. keep-even is (p + 4) more later-fit later-within there (omega (arith, low)) (omega (arith, even)) le (omega (arith, to)) at) (cases_lt q.pc (p + 4))
-        where
-          rest : drop (p - code_base) code ≡ spelling i ++ (spellings spelling is ++ more)
-          rest = e ∙ append_assoc (spelling i) (spellings spelling is) more
-
-          there : drop (p + 4 - code_base) code ≡ spellings spelling is ++ more
-          there = behind (rv_rows code trash) (p - code_base) (p + 4 - code_base) (spelling i) (spellings spelling is ++ more) rest (omega (arith, low))
-
-          later-fit : All IsInstr is
-          later-fit = λ k d lt. fit (suc k) d (omega (arith, lt))
-
-          later-within : All WritesWithin is
-          later-within = λ k d lt. within (suc k) d (omega (arith, lt))
-
-          first : q.pc < p + 4 → Keeps q (effect code trash q)
-          first lt =
-              let same : q.pc ≡ p = omega (arith, lt, from, even, at) in
-              ap (λ (x : Effect CpuState). x.to.registers r) (stands-executed code (spellings spelling is ++ more) trash q i (fit 0 i (omega arith)) (omega (arith, from, low)) at (ap (λ z. drop (z - code_base) code) same ∙ rest))
-              ∙ keep-act i (within 0 i (omega arith))
-
-      -- at any other place the step faults
-      keep-effect : (is : List Instr) (p : ℕ) (more : List ℕ) → All IsInstr is → All WritesWithin is → drop (p - code_base) code ≡ spellings spelling is ++ more → code_base ≤ p → p % 4 ≡ 0
-          → p ≤ q.pc → q.pc < p + length (spellings spelling is) → Keeps q (effect code trash q)
-      keep-effect is p more fit within e low even from to = by (q.pc % 4 == 0) refl
-        where
-          by : (b : Bool) → (q.pc % 4 == 0) ≡ b → Keeps q (effect code trash q)
-          by true at = keep-even is p more fit within e low even from to (grind (arith, nat_tests, at))
-          by false at =
-              ap (λ o. (effect_at o code trash q).to.registers r) (no-host q.pc (omega (arith, low, from)))
-              ∙ ap (λ (b : Bool). (if b then (if in_code code q.pc then decoded (front_of (drop (q.pc - code_base) code)) q else faults q Fetch) else faults q Align).to.registers r) at
-
--- a step that begins in the bytes of instructions, none of which writes a register that is outside, keeps these registers
-pub steps-keep-outside : (code : List ℕ) (trash : ℕ) (is : List Instr) (p : ℕ) (more : List ℕ) → All IsInstr is → All WritesWithin is → drop (p - code_base) code ≡ spellings spelling is ++ more → code_base ≤ p → p % 4 ≡ 0
-    → (q : Run CpuState) → p ≤ q.state.pc → q.state.pc < p + length (spellings spelling is)
-    → (r : ℕ) → is_outside Riscv64 r ≡ true → ((rv_processor code trash).machine.step q).state.registers r ≡ q.state.registers r
-steps-keep-outside code trash is p more fit within e low even q from to r out = by q.progress
+-- an instruction that writes no register that is outside keeps these registers
+pub instructions-stay : InstructionsStay
+instructions-stay code trash i within q r out = by q.progress
   where
-    by : (x : Progress) → (on_going x (after q (effect code trash q.state)) q).state.registers r ≡ q.state.registers r
-    by Goes = keep-effect r out q.state code trash is p more fit within e low even from to
+    by : (x : Progress) → (on_going x (after q (act i q.state)) q).state.registers r ≡ q.state.registers r
+    by Goes = keep-act r out q.state i within
     by (EndedWith n) = refl
     by (Faulted kind) = refl

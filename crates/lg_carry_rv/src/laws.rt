@@ -1,6 +1,7 @@
 // What holds of the instructions of RV64IM, for the code of nodes. The functions do nothing: their contracts are the laws.
 
 ghost use Rattle.lg_carry_rv.specs.Computations.{ComputationsRun};
+ghost use Rattle.lg_carry_rv.specs.Destinations.{InstructionsStay};
 ghost use Rattle.lg_carry_rv.specs.Numbers.{NumbersAreLoaded};
 ghost use Rattle.lg_carry_rv.specs.RvComputers.{InstructionsAreIsa, InstructionsCompute};
 ghost use Rattle.lg_carry_rv.specs.RvRows.{InstructionsAreRows, InstructionsAreSpills};
@@ -13,6 +14,11 @@ pub fn instructions_are_rows()
 /// `sd` saves a register in a spill slot, and `ld` restores it.
 pub fn instructions_are_spills()
     ensures { InstructionsAreSpills }
+{}
+
+/// One that writes no register outside of the conventions changes none.
+pub fn instructions_stay()
+    ensures { InstructionsStay }
 {}
 
 /// They are those of a target: each register that is tried can be saved, and x0 and the link hold nothing that is needed behind a `prolog`.

@@ -85,7 +85,7 @@ module _ {Q I : Type 0} (R : Rows Q I) (fits : I → Type 0) (code : ℕ → Lis
   u = enters.end
 
   pass : Passes R.processor c i enters.steps q u
-  pass = node-passes R.processor c i enters.steps high q u k.outside k.next enters.passes
+  pass = node-passes R.processor c i enters.steps high q u k.next enters.passes
 
   abbrev s' : State
   s' = on (begun s f)

@@ -116,7 +116,7 @@ module _ {Q I : Type 0} (R : Rows Q I) (ready : HostName → (ℕ → ℕ) → B
     to-host : (x : ℕ) (name : HostName) → reg s a ≡ Some x → host_by_address x ≡ Some name → step c.nodes c.shape c.addresses s ≡ call_host s args name → Carried
     to-host x name ex found steps =
         let arr = host-lead size (c.place i) name a q (held-frame R c i n S inside live s out q at st size is-frame) (node-stands R fits c i (code size a) k) st.runs here (word-is x ex ∙ host-found x name found) in
-        host-called R ready hosts c i n S w t inside next k.outside calls saved live s out q at st args few-args held stacked name
+        host-called R ready hosts c i n S w t inside next calls saved live s out q at st args few-args held stacked name
         (subst (λ z. HostArrival R.processor ready (c.place i) z (lowest s.frame) z name q) (sym k.next) (subst (λ z. HostArrival R.processor ready (c.place i) high z high name q) stack-is arr)) steps
 
     to-label : (x j : ℕ) → reg s a ≡ Some x → entry_target (text c.nodes c.shape c.addresses) x ≡ Some j → step c.nodes c.shape c.addresses s ≡ call_node_step (text c.nodes c.shape c.addresses) s args j → Carried
@@ -126,7 +126,7 @@ module _ {Q I : Type 0} (R : Rows Q I) (ready : HostName → (ℕ → ℕ) → B
         let within = home_within c.nodes.nodes j j entry in
         let to-word = word-there R c w (is_entry_label (text c.nodes c.shape c.addresses)) x j l (omega (arith, within)) in
         let arr = lead size (c.place i) x a q (held-frame R c i n S inside live s out q at st size is-frame) (node-stands R fits c i (code size a) k) to-word.1 st.runs here (word-is x ex) in
-        enters R c i n S t inside calls k.outside saved live s returns out q at st args few-args held stacked j entry
+        enters R c i n S t inside calls saved live s returns out q at st args few-args held stacked j entry
         (subst (λ z. Arrival R.processor (c.place i) z (lowest s.frame) z (c.place j) q) (sym k.next)
         (subst (λ z. Arrival R.processor (c.place i) high z high (c.place j) q) stack-is (subst (λ z. Arrival R.processor (c.place i) high stack high z q) to-word.0 arr))) steps
 

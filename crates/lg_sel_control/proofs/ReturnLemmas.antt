@@ -100,7 +100,7 @@ module _ {Q I : Type 0} (R : Rows Q I) (fits : I → Type 0) (code : ℕ → Ret
     u = departs.end
 
     pass : Passes R.processor c i departs.steps q u
-    pass = node-passes R.processor c i departs.steps high q u k.outside k.next departs.passes
+    pass = node-passes R.processor c i departs.steps high q u k.next departs.passes
 
     wrote : R.processor.machine.out u ≡ out
     wrote = ap R.processor.machine.out (sym pass.leads) ∙ pass.silent departs.steps (omega arith) ∙ st.wrote

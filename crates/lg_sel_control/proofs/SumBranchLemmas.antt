@@ -151,7 +151,7 @@ module _ {Q I : Type 0} (R : Rows Q I) (scratch : ℕ → Bool) (fits : I → Ty
         → Leads R.processor c live (live_behind live n S s) i (step c.nodes c.shape c.addresses s) out q
     goes-to v j side goes' way =
         let conv = conventions-apart target in
-        way-leads R scratch fits isa c i n t k.outside high place-next (live_before n S) S refl inside live s out q at st (with_word s.regs (number a) v) (with_register W ra v)
+        way-leads R scratch fits isa c i n t high place-next (live_before n S) S refl inside live s out q at st (with_word s.regs (number a) v) (with_register W ra v)
         record {
           is = λ z u lt e g. ⊎_elim
               (λ same. ap (λ m. with_register W ra v (portable_register target m)) same.0 ∙ ap (with_register W ra v) (sym stands) ∙ register-same W ra v ∙ same.1)

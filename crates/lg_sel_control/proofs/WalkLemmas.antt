@@ -66,7 +66,7 @@ module _ {Q I : Type 0} (R : Rows Q I) (fits : I → Type 0) (rows : AreRows R f
         mark = walk.mark;
       }
       (λ r lt l. still-live n S r (unwritten n writes r) l) in
-      let pass : Passes R.processor c i walk.steps q walk.end = node-passes R.processor c i walk.steps (behind R (c.place i) is) q walk.end k.outside k.next walk.passes in
+      let pass : Passes R.processor c i walk.steps q walk.end = node-passes R.processor c i walk.steps (behind R (c.place i) is) q walk.end k.next walk.passes in
       let size : ℕ = length (spellings R.spelling is) in
       subst (λ o. Leads R.processor c live (live_behind live n S s) i o out q) (sym goes)
       (passages-lead R.processor c live (live_behind live n S s) i walk.steps (Goes u []) out q walk.end pass walk.few

@@ -1,8 +1,6 @@
 -- Lists of items.
 use Rattle.std.proofs.Common.{◌≡◌, ℕ, ◌+◌, ◌<◌, ◌≤◌, List, [], ◌∷◌, ◌++◌, length, refl, ap, sym, ◌∙◌, add_assoc, zero-add, append_assoc, arith, length-append}
-use Rattle.std.specs.List.{All, AllByRecursion}
-use Rattle.std.proofs.lemmas.List.Elements.{All-head, All-tail}
-use Rattle.lg_buf.specs.declared.fixes.Fix.{Fix}
+use Rattle.std.specs.List.{AllByRecursion}
 use Rattle.lg_carry.specs.Blocks.{spellings}
 use Rattle.lg_sel_items.specs.Holes.{Holes, words_in, blanks, settled, fixes_of, Each, ones}
 

@@ -1,6 +1,6 @@
 -- The items of a node as its instructions.
-use Rattle.std.proofs.Common.{◌≡◌, ℕ, ◌+◌, ◌-◌, ◌<◌, true, List, [], ◌∷◌, ◌++◌, length, drop, refl, sym, ap, ◌∙◌, arith, length-append}
-use Rattle.std.specs.Prelude.{slice_get, slice_index}
+use Rattle.std.proofs.Common.{◌≡◌, ℕ, ◌+◌, ◌-◌, ◌<◌, true, List, length, drop, sym, ap, ◌∙◌, arith}
+use Rattle.std.specs.Prelude.{slice_get, slice_index, slice_index_or}
 use Rattle.lg_base.specs.Layout.{code_base}
 use Rattle.lg_carry.specs.Blocks.{spellings, IsBlock}
 use Rattle.lg_carry.specs.Carries.{leaps_at}
@@ -8,11 +8,11 @@ use Rattle.lg_carry.specs.FinalNodes.{Code}
 use Rattle.lg_carry.specs.NodeBlocks.{IsNodeBlock}
 use Rattle.lg_carry.specs.Passages.{IsNodeCode}
 use Rattle.lg_carry.specs.Rows.{Rows}
-use Rattle.lg_sel_items.specs.Holes.{Holes, words_in, blanks, settled, Each, AreHoles}
-use Rattle.lg_sel_items.specs.NodeItems.{StretchesStay, AreOfNode}
+use Rattle.lg_sel_items.specs.Holes.{Holes, words_in, blanks, settled, AreHoles}
+use Rattle.lg_sel_items.specs.NodeItems.{InstructionsStay, AreOfNode}
 use Rattle.lg_sel_items.proofs.HoleLemmas as holes
 
-module _ {L Q I : Type 0} (H : Holes L I) (R : Rows Q I) (fits stays : I → Type 0) (is_item : L → Type 0) (ok : AreHoles H R.spelling fits is_item) (stay : StretchesStay R fits stays) where
+module _ {L Q I : Type 0} (H : Holes L I) (R : Rows Q I) (fits stays : I → Type 0) (is_item : L → Type 0) (ok : AreHoles H R.spelling fits is_item) (stay : InstructionsStay R stays) where
   pub items-are-node-code : (c : Code) (i : ℕ) (items : List L) → AreOfNode H R fits stays is_item c i items → (leaps_at (slice_get c.nodes.nodes i) ≡ true → 0 < words_in H items)
       → IsNodeCode R fits c i (settled H (slice_index c.addresses) (c.place i) items)
   items-are-node-code c i items a some =
@@ -31,7 +31,7 @@ module _ {L Q I : Type 0} (H : Holes L I) (R : Rows Q I) (fits stays : I → Typ
         few = let f = a.few in omega (arith, f, long);
         some = λ l. let s = some l in omega (arith, s, long);
         fit = a.settled_at.fit;
-        outside = λ q inside. stay is (c.place i) more a.settled_at.fit a.stay a.settled_at.stands a.low a.place q inside.0 (omega (arith, inside.1, next));
+        outside = λ k d lt. stay (slice_index_or is k d) (a.stay k d lt);
       }
 
   pub items-are-node-blocks : (c : Code) (i : ℕ) (items : List L) → AreOfNode H R fits stays is_item c i items → (leaps_at (slice_get c.nodes.nodes i) ≡ true → 0 < words_in H items)

@@ -1,20 +1,18 @@
 -- Code of which some items are those of a node.
-use Rattle.std.specs.Prelude.{◌≡◌, ℕ, ◌+◌, ◌-◌, ◌<◌, ◌≤◌, true, List, ◌++◌, length, drop, slice_get, slice_index}
+use Rattle.std.specs.Prelude.{◌≡◌, ℕ, ◌+◌, ◌-◌, ◌<◌, ◌≤◌, true, List, length, slice_get, slice_index}
 use Rattle.std.specs.List.{All}
 use Rattle.lg_base.specs.Layout.{code_base}
-use Rattle.lg_carry.specs.Blocks.{spellings, IsBlock}
-use Rattle.lg_carry.specs.Carries.{leaps_at, KeepsOutside}
+use Rattle.lg_carry.specs.Blocks.{StaysOutside, IsBlock}
+use Rattle.lg_carry.specs.Carries.{leaps_at}
 use Rattle.lg_carry.specs.FinalNodes.{Code}
 use Rattle.lg_carry.specs.NodeBlocks.{IsNodeBlock}
 use Rattle.lg_carry.specs.Passages.{IsNodeCode}
 use Rattle.lg_carry.specs.Rows.{Rows}
 use Rattle.lg_sel_items.specs.Holes.{Holes, words_in, blanks, settled, Each, IsSettled}
 
--- no step that begins in the bytes of instructions that stand at a place, each of which stays within, changes a register that is outside of the conventions
-abbrev pub StretchesStay : {Q I : Type 0} → Rows Q I → (I → Type 0) → (I → Type 0) → Type 0
-StretchesStay {Q} {I} R fits stays =
-    (is : List I) (at : ℕ) (more : List ℕ) → All fits is → All stays is → drop (at - code_base) R.code ≡ spellings R.spelling is ++ more → code_base ≤ at
-    → R.is_place at ≡ true → (q : Q) → at ≤ (R.processor.seen q).pc → (R.processor.seen q).pc < at + length (spellings R.spelling is) → KeepsOutside R.processor q
+-- instructions that stay within the conventions change no register that is outside
+abbrev pub InstructionsStay : {Q I : Type 0} → Rows Q I → (I → Type 0) → Type 0
+InstructionsStay {Q} {I} R stays = (i : I) → stays i → StaysOutside R i
 
 -- the instructions of these items, with the addresses of the labels, stand where node i does, are its code, are at most 64, and stay within the conventions
 pub record AreOfNode {L Q I : Type 0} (H : Holes L I) (R : Rows Q I) (fits stays : I → Type 0) (is_item : L → Type 0) (c : Code) (i : ℕ) (items : List L) : Type 0 where

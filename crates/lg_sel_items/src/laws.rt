@@ -3,7 +3,7 @@
 ghost use Rattle.std.specs.Prelude.{ℕ, List};
 ghost use Rattle.lg_carry.specs.Rows.{Rows};
 ghost use Rattle.lg_sel_items.specs.Holes.{Holes, AreHoles, ItemsAreSettled};
-ghost use Rattle.lg_sel_items.specs.NodeItems.{StretchesStay, ItemsAreNodeCode, ItemsAreNodeBlocks};
+ghost use Rattle.lg_sel_items.specs.NodeItems.{InstructionsStay, ItemsAreNodeCode, ItemsAreNodeBlocks};
 
 /// A target, by what the code of its nodes is made of.
 pub trait HasHoles {
@@ -35,7 +35,7 @@ pub trait HasHoles {
     ghost are_holes: { AreHoles holes rows.spelling fits is_item };
 
     /// Instructions that write only registers of the conventions keep the others.
-    ghost stretches_stay: { StretchesStay rows fits stays };
+    ghost instructions_stay: { InstructionsStay rows stays };
 }
 
 /// Where the fixes of a buffer are patched, items that stand in it become instructions with the addresses of the labels.

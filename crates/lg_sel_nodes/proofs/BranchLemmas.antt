@@ -89,7 +89,7 @@ module _ {Q I : Type 0} (R : Rows Q I) (scratch : ℕ → Bool) (fits : I → Ty
     place-next = k.next
 
     goes-to : (j : ℕ) → is_inside c j ≡ true → step c.nodes c.shape c.addresses s ≡ Goes (to s j) [] → Way R.processor scratch (c.place i) high W (c.place j) q → Leads R.processor c live (live_behind live n S s) i (step c.nodes c.shape c.addresses s) out q
-    goes-to j side goes' way = way-leads R scratch fits isa c i n t k.outside high place-next (live_before n S) S refl inside live s out q at st s.regs W
+    goes-to j side goes' way = way-leads R scratch fits isa c i n t high place-next (live_before n S) S refl inside live s out q at st s.regs W
         record { is = λ z v lt e g. st.state.registers.is z v lt (still-live n S z (unwritten-here z) e) g } st.state.pushed refl refl j side goes' way
 
     taken : (x y : ℕ) → W (register_of target a) ≡ x → second_word target W third ≡ Some y → y < 2 ^ 64 → step c.nodes c.shape c.addresses s ≡ Goes (to s (if holds o x y then node_of_label c.nodes.places (operand.Label l) else s.at + 1)) []

@@ -39,7 +39,7 @@ use Rattle.lg_carry.proofs.StackLemmas.{stacked-running, within-where}
 use Rattle.lg_cells.specs.Cells.{within}
 use Rattle.lg_sel_nodes.specs.Leaps.{HasPlaces, IsThere, CallsLead, call_node, finish_node, CallsCarry, FinishesCarry}
 use Rattle.lg_carry.specs.TextNodes.{IsInText, IsFrameOf}
-use Rattle.lg_sel_nodes.specs.Stretches.{HasFrame, StaysOutside, behind, Arrival}
+use Rattle.lg_sel_nodes.specs.Stretches.{HasFrame, behind, Arrival}
 use Rattle.lg_sel_nodes.proofs.LeapLemmas.{bound-at, outer-is, stands-inside, node-stands, node-passes, to-label}
 use Rattle.lg_sel_nodes.proofs.LiveLemmas.{still-live}
 use Rattle.lg_sel_nodes.proofs.StraightLemmas.{text-keeps, frame-held}
@@ -70,7 +70,7 @@ module _ {Q I : Type 0} (R : Rows Q I) (c : Code) (i : ℕ) (n : Node) (S : ℕ 
 
 -- ---- into a function
 module _ {Q I : Type 0} (R : Rows Q I) (c : Code) (i : ℕ) (n : Node) (S : ℕ → Bool) (t : IsInText c i n) (inside : is_inside c i ≡ true) (calls : is_call n.op ≡ true)
-    (outside : StaysOutside R.processor c i) (unwritten : (v : ℕ) → v < 3 → numbered (is_written n) (v + 3) ≡ false)
+    (unwritten : (v : ℕ) → v < 3 → numbered (is_written n) (v + 3) ≡ false)
     (live : Frame → ℕ → Bool) (s : State) (returns : ReturnsTo live n S s) (out : List ℕ) (q : Q) (at : s.at ≡ i) (st : Stands R.processor c live s out q (live_before n S))
     (args : List ℕ) (few-args : length args ≤ 16) (held : HoldsArguments R.processor.target (R.processor.seen q).registers args) (stacked : HasArguments R.processor.target (R.processor.seen q).bytes (lowest s.frame) args) where
   abbrev target : Target
@@ -116,7 +116,7 @@ module _ {Q I : Type 0} (R : Rows Q I) (c : Code) (i : ℕ) (n : Node) (S : ℕ 
             mark = arr.mark ∙ st.state.mark;
           } in
           inr (subst (λ o. Leads R.processor c live (live_behind live n S s) i o out q) (sym goes')
-          (passages-lead R.processor c live (live_behind live n S s) i arr.steps (Goes s' []) out q u (node-passes R.processor c i arr.steps (c.place (i + 1)) q u outside refl arr.passes) (omega (arith, arr.few)) (λ z. absurd (omega (arith, z, arr.some))) (λ z. arr.some) st.wrote
+          (passages-lead R.processor c live (live_behind live n S s) i arr.steps (Goes s' []) out q u (node-passes R.processor c i arr.steps (c.place (i + 1)) q u refl arr.passes) (omega (arith, arr.few)) (λ z. absurd (omega (arith, z, arr.some))) (λ z. arr.some) st.wrote
           (subst (λ b. Stands R.processor c live s' (out ++ []) u (if b then live (at_call s.frame) else S)) (sym (stays-frame n.op calls)) record { runs = arr.runs; wrote = ap R.processor.machine.out (sym arr.passes.leads) ∙ arr.passes.silent arr.steps (omega arith) ∙ st.wrote ∙ sym (append-nil out); state = agree })))
 
 -- ---- by its label
@@ -136,7 +136,7 @@ module _ {Q I : Type 0} (R : Rows Q I) (fits : I → Type 0) (code : ℕ → ℕ
       let code-here = behind R (c.place i) (code (c.place i) (slice_index c.addresses l.0)) in
       let arr = subst (λ z. Arrival R.processor (c.place i) code-here z code-here (slice_index c.addresses l.0) q) pointer (lead size (c.place i) (slice_index c.addresses l.0) q (held-frame R c i n S inside live s out q at st size is-frame) (node-stands R fits c i (code (c.place i) (slice_index c.addresses l.0)) k) at-label st.runs (st.state.here ∙ ap c.place at)) in
       let back = k.next in
-      enters R c i n S t inside calls k.outside unwritten live s returns out q at st args few-args held stacked target-is.node target-is.entry
+      enters R c i n S t inside calls unwritten live s returns out q at st args few-args held stacked target-is.node target-is.entry
       (subst (λ z. Arrival R.processor (c.place i) z (lowest s.frame) z (c.place target-is.node) q) (sym back) (subst (λ z. Arrival R.processor (c.place i) (behind R (c.place i) (code (c.place i) (slice_index c.addresses l.0))) (lowest s.frame) (behind R (c.place i) (code (c.place i) (slice_index c.addresses l.0))) z q) bound arr)) steps
 
 module _ {Q I : Type 0} (R : Rows Q I) (fits : I → Type 0) (code : ℕ → ℕ → List I) (lead : CallsLead R fits code) where

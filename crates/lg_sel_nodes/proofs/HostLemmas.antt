@@ -44,7 +44,7 @@ use Rattle.lg_carry.proofs.TextShapeLemmas.{shaped}
 use Rattle.lg_carry.proofs.StackLemmas.{stacked-high, open-where, locals-above, within-where}
 use Rattle.lg_sel_nodes.specs.Leaps.{HasPlaces, HostArrival, HostCallsLead, HasArrived, host_answer, Answers, EntersHosts, host_call_node, host_finish_node, HostCallsCarry, HostFinishesCarry}
 use Rattle.lg_carry.specs.TextNodes.{IsInText, IsFrameOf}
-use Rattle.lg_sel_nodes.specs.Stretches.{StaysOutside, behind, Arrival}
+use Rattle.lg_sel_nodes.specs.Stretches.{behind, Arrival}
 use Rattle.lg_sel_nodes.proofs.ArgumentLemmas.{arguments-begin}
 use Rattle.lg_sel_nodes.proofs.CallLemmas.{stays-frame, above-off, before, tower, frame, held-frame}
 use Rattle.lg_sel_nodes.proofs.LeapLemmas.{in-some, behind-prolog, next-inside, node-stands, node-passes}
@@ -134,7 +134,7 @@ kept-frame Riscv64 = refl
 -- ---- the step of a host function
 -- the code of a call node has arrived at the entry of a host function
 module _ {Q I : Type 0} (R : Rows Q I) (ready : HostName → (ℕ → ℕ) → Bool) (hosts : EntersHosts R.processor ready) (c : Code) (i : ℕ) (n : Node) (S : ℕ → Bool) (w : HasPlaces R c) (t : IsInText c i n) (inside : is_inside c i ≡ true) (next : is_inside c (i + 1) ≡ true)
-    (outside : StaysOutside R.processor c i) (calls : is_call n.op ≡ true) (unwritten : (v : ℕ) → v < 3 → numbered (is_written n) (v + 3) ≡ false)
+    (calls : is_call n.op ≡ true) (unwritten : (v : ℕ) → v < 3 → numbered (is_written n) (v + 3) ≡ false)
     (live : Frame → ℕ → Bool) (s : State) (out : List ℕ) (q : Q) (at : s.at ≡ i) (st : Stands R.processor c live s out q (live_before n S))
     (args : List ℕ) (few-args : length args ≤ 16) (held : HoldsArguments R.processor.target (R.processor.seen q).registers args) (stacked : HasArguments R.processor.target (R.processor.seen q).bytes (lowest s.frame) args)
     (name : HostName) (arrives-at : HostArrival R.processor ready (c.place i) (c.place (i + 1)) (lowest s.frame) (c.place (i + 1)) name q) (steps : step c.nodes c.shape c.addresses s ≡ call_host s args name) where
@@ -211,7 +211,7 @@ module _ {Q I : Type 0} (R : Rows Q I) (ready : HostName → (ℕ → ℕ) → B
   -- the step of the node leads there
   leads : (o : Outcome) → step c.nodes c.shape c.addresses s ≡ o → Meets R.processor c live (live_behind live n S s) o out (R.processor.machine.step u) → Leads R.processor c live (live_behind live n S s) i (step c.nodes c.shape c.addresses s) out q
   leads o e meets = subst (λ x. Leads R.processor c live (live_behind live n S s) i x out q) (sym e)
-      (host-steps-lead R.processor c live (live_behind live n S s) i arr.steps name o out q u (node-passes R.processor c i arr.steps (c.place (i + 1)) q u outside refl arr.passes) arr.few (ap calls_at t.here ∙ calls) arrived.entry st.wrote meets)
+      (host-steps-lead R.processor c live (live_behind live n S s) i arr.steps name o out q u (node-passes R.processor c i arr.steps (c.place (i + 1)) q u refl arr.passes) arr.few (ap calls_at t.here ∙ calls) arrived.entry st.wrote meets)
 
   wrote : R.processor.machine.out u ≡ out
   wrote = ap R.processor.machine.out (sym arr.passes.leads) ∙ arr.passes.silent arr.steps (omega arith) ∙ st.wrote
@@ -332,7 +332,7 @@ module _ {Q I : Type 0} (R : Rows Q I) (ready : HostName → (ℕ → ℕ) → B
       let n = host_call_node name line in
       let p = in-some c i n t refl in
       let inside = behind-prolog c i n t p.0 p.1 refl in
-      host-called R ready hosts c i n S w t inside (next-inside c i n t p.0 p.1 refl) k.outside refl saved live s out q at st
+      host-called R ready hosts c i n S w t inside (next-inside c i n t p.0 p.1 refl) refl saved live s out q at st
       [] (omega arith) record { is = λ j x lt z. cc } record { is = λ j x lt z. cc } name (arrives c i n S name k inside live s out q at st size is-frame)
       (ap (λ x. step_at (text c.nodes c.shape c.addresses) x s) (ap (slice_get c.nodes.nodes) at ∙ t.here))
     where
@@ -347,7 +347,7 @@ module _ {Q I : Type 0} (R : Rows Q I) (ready : HostName → (ℕ → ℕ) → B
       let n = host_finish_node name line in
       let p = in-some c i n t refl in
       let inside = behind-prolog c i n t p.0 p.1 refl in
-      host-called R ready hosts c i n S w t inside (next-inside c i n t p.0 p.1 refl) k.outside refl saved live s out q at st
+      host-called R ready hosts c i n S w t inside (next-inside c i n t p.0 p.1 refl) refl saved live s out q at st
       s.pushed (let f = (shaped c.nodes t.well).few s.at (omega (arith, st.state.fits.inside)) in omega (arith, f, st.state.fits.pushed)) st.state.pushed st.state.outgoing name (arrives c i n S name k inside live s out q at st size is-frame)
       (ap (λ x. step_at (text c.nodes c.shape c.addresses) x s) (ap (slice_get c.nodes.nodes) at ∙ t.here))
     where

@@ -6,7 +6,6 @@ use Rattle.std.specs.List.{All}
 use Rattle.std.proofs.lemmas.List.Elements.{All-head, All-tail}
 use Rattle.std.proofs.lemmas.Option.{slice_get_within}
 use Rattle.lg_base.specs.Conventions.{argument_registers, portable_register, frame_register, stack_register}
-use Rattle.lg_base.specs.Runs.{iter}
 use Rattle.lg_base.specs.declared.target.Target.{Target}
 use Rattle.lg_op.specs.declared.operand.Label.{Label}
 use Rattle.lg_op.specs.declared.node.Node.{Node}
@@ -23,7 +22,7 @@ use Rattle.lg_meaning.proofs.NodeFacts.{inside_one}
 use Rattle.lg_carry.specs.FinalNodes.{Code, is_inside}
 use Rattle.lg_carry.specs.Frames.{at_call}
 use Rattle.lg_carry.specs.Stands.{StatesAgree, Stands}
-use Rattle.lg_carry.specs.Carries.{BeginsInside, Leads}
+use Rattle.lg_carry.specs.Carries.{Leads}
 use Rattle.lg_carry.specs.NodeCode.{live_behind, is_return}
 use Rattle.lg_carry.specs.Passages.{IsNodeCode, Passes}
 use Rattle.lg_carry.specs.Processors.{Processor}
@@ -37,7 +36,7 @@ use Rattle.lg_carry.proofs.TextShapeLemmas.{shaped}
 use Rattle.lg_sel_nodes.specs.Isas.{IsIsa}
 use Rattle.lg_sel_nodes.specs.Leaps.{HasPlaces, IsThere}
 use Rattle.lg_carry.specs.TextNodes.{IsInText, IsTarget}
-use Rattle.lg_sel_nodes.specs.Stretches.{StandsAt, StaysOutside, behind, PassesIn, Way}
+use Rattle.lg_sel_nodes.specs.Stretches.{StandsAt, behind, PassesIn, Way}
 use Rattle.lg_sel_nodes.proofs.StraightLemmas.{text-keeps}
 
 -- ---- where a label is bound
@@ -97,13 +96,11 @@ module _ (c : Code) (i : ℕ) (n : Node) (t : IsInText c i n) where
 -- ---- in the code
 -- the code of a node stands there
 pub node-stands : {Q I : Type 0} (R : Rows Q I) (fits : I → Type 0) (c : Code) (i : ℕ) (is : List I) → IsNodeCode R fits c i is → StandsAt R fits (c.place i) is
-node-stands R fits c i is k = record { low = k.low; place = k.place; more = k.more; stands = k.stands; fit = k.fit }
+node-stands R fits c i is k = record { low = k.low; place = k.place; more = k.more; stands = k.stands; fit = k.fit; outside = k.outside }
 
 -- steps in the bytes of a node
-pub node-passes : {Q : Type 0} (P : Processor Q) (c : Code) (i m high : ℕ) (q u : Q) → StaysOutside P c i → c.place (i + 1) ≡ high → PassesIn P (c.place i) high m q u → Passes P c i m q u
-node-passes P c i m high q u outside e h =
-    let begins : (j : ℕ) → j < m → BeginsInside c i (P.seen (iter P.machine.step j q)) = λ j lt. let z = h.inside j lt in (z.0, omega (arith, z.1, e)) in
-    record { leads = h.leads; inside = begins; outside = λ j lt. outside (iter P.machine.step j q) (begins j lt); silent = h.silent; keeps = h.keeps }
+pub node-passes : {Q : Type 0} (P : Processor Q) (c : Code) (i m high : ℕ) (q u : Q) → c.place (i + 1) ≡ high → PassesIn P (c.place i) high m q u → Passes P c i m q u
+node-passes P c i m high q u e h = record { leads = h.leads; inside = λ j lt. let z = h.inside j lt in (z.0, omega (arith, z.1, e)); outside = h.outside; silent = h.silent; keeps = h.keeps }
 
 -- the place of a node to which the code may jump
 pub there : {Q I : Type 0} (R : Rows Q I) (c : Code) → HasPlaces R c → (k : ℕ) → k ≤ length c.nodes.nodes → IsTarget c k → IsThere R.is_place (c.place k)
@@ -131,7 +128,7 @@ there-behind R fits rows c w i is lt k =
 
 -- ---- a run that comes to the place of a node
 module _ {Q I : Type 0} (R : Rows Q I) (scratch : ℕ → Bool) (fits : I → Type 0) (isa : IsIsa R scratch fits) (c : Code) (i : ℕ) (n : Node) (t : IsInText c i n)
-    (outside : StaysOutside R.processor c i) (high : ℕ) (next : c.place (i + 1) ≡ high) where
+    (high : ℕ) (next : c.place (i + 1) ≡ high) where
   abbrev target : Target
   target = R.processor.target
 
@@ -147,7 +144,7 @@ module _ {Q I : Type 0} (R : Rows Q I) (scratch : ℕ → Bool) (fits : I → Ty
       let apart = conventions-apart target in
       let u = way.end in
       let s' : State = to (record s { regs = regs }) k in
-      let pass : Passes R.processor c i way.steps q u = node-passes R.processor c i way.steps high q u outside next way.passes in
+      let pass : Passes R.processor c i way.steps q u = node-passes R.processor c i way.steps high q u next way.passes in
       let agree : StatesAgree target c live s' (R.processor.seen u) S' = quiet-agrees target c live s s' (R.processor.seen q) (R.processor.seen u) S S' st.state
       record {
         few = (shaped c.nodes t.well).few;

@@ -12,7 +12,7 @@ use Rattle.lg_carry.proofs.RegistersApartLemmas.{conventions-apart}
 use Rattle.lg_carry_rv.specs.RvRows.{rv_rows}
 use Rattle.lg_carry_rv.proofs.RowLemmas.{are-rows}
 use Rattle.lg_carry_rv.proofs.SlotLemmas.{are-spills}
-use Rattle.lg_carry_rv.proofs.TemporaryLemmas.{tried-saved}
+use Rattle.lg_carry_rv.proofs.IsaLemmas.{tried-saved}
 use Rattle.lg_sel_nodes.specs.Isas.{IsIsa}
 use Rattle.lg_selr_control.specs.TwoWays.{rv_scratch}
 

@@ -1,19 +1,17 @@
 -- The items of a node as a block of instructions.
-use Rattle.std.proofs.Common.{◌≡◌, ℕ, ◌+◌, ◌-◌, ◌*◌, ◌%◌, ◌<◌, ◌≤◌, true, List, [], ◌∷◌, ◌++◌, length, drop, refl, ap, arith}
-use Rattle.std.specs.Prelude.{◌==◌, slice_get, slice_index}
+use Rattle.std.proofs.Common.{◌≡◌, ℕ, ◌+◌, ◌<◌, true, List, [], ◌∷◌, length}
+use Rattle.std.specs.Prelude.{slice_get, slice_index}
 use Rattle.std.specs.List.{All, AllByRecursion}
 use Rattle.std.proofs.lemmas.List.Elements.{All-from_recursion}
-use Rattle.std.proofs.lemmas.Bool.Decides.{nat_tests}
 use Rattle.lg_carry.specs.Blocks.{spellings, IsBlock}
 use Rattle.lg_carry.specs.Carries.{leaps_at}
 use Rattle.lg_carry.specs.FinalNodes.{Code}
 use Rattle.lg_carry.specs.Passages.{IsNodeCode}
 use Rattle.lg_carry_rv.specs.Destinations.{WritesWithin}
 use Rattle.lg_carry_rv.specs.Places.{IsInCode}
-use Rattle.lg_carry_rv.proofs.OutsideLemmas.{steps-keep-outside}
+use Rattle.lg_carry_rv.proofs.OutsideLemmas.{instructions-stay}
 use Rattle.lg_carry_rv.specs.RvRows.{rv_rows, is_straight}
 use Rattle.lg_rv.specs.Spelling.{spelling, IsInstr}
-use Rattle.lg_sel_items.specs.NodeItems.{StretchesStay}
 use Rattle.lg_sel_items.proofs.HoleLemmas as holes
 use Rattle.lg_sel_items.proofs.NodeLemmas as nodes
 use Rattle.lg_selr_items.specs.declared.items.Item.{Item}
@@ -36,15 +34,10 @@ settled-within to p xs h = All-from_recursion WritesWithin (settled to p xs) (wi
 pub settled-bytes : (to : ℕ → ℕ) (p : ℕ) (xs : List Item) → AreItems xs → length (spellings spelling (settled to p xs)) ≡ length (blanks xs)
 settled-bytes = holes.settled-bytes rv_holes spelling IsInstr IsItem are-holes
 
--- and keep those registers
-stretches-stay : (code : List ℕ) (trash : ℕ) → StretchesStay (rv_rows code trash) IsInstr WritesWithin
-stretches-stay code trash is at more fit stay stands low place q from to =
-    steps-keep-outside code trash is at more fit stay stands low (let p = place in grind (arith, nat_tests, p)) q from to
-
 pub items-are-node-code : (code : List ℕ) (trash : ℕ) (c : Code) (i : ℕ) (items : List Item) → AreOfNode code trash c i items → (leaps_at (slice_get c.nodes.nodes i) ≡ true → 0 < words_in items)
     → IsNodeCode (rv_rows code trash) IsInstr c i (settled (slice_index c.addresses) (c.place i) items)
 items-are-node-code code trash c i items a some =
-    nodes.items-are-node-code rv_holes (rv_rows code trash) IsInstr WritesWithin IsItem are-holes (stretches-stay code trash) c i items a.of_node some
+    nodes.items-are-node-code rv_holes (rv_rows code trash) IsInstr WritesWithin IsItem are-holes (instructions-stay code trash) c i items a.of_node some
 
 pub items-are-in-code : (code : List ℕ) (trash : ℕ) (c : Code) (i : ℕ) (items : List Item) → AreOfNode code trash c i items → (leaps_at (slice_get c.nodes.nodes i) ≡ true → 0 < words_in items)
     → IsBlock is_straight (settled (slice_index c.addresses) (c.place i) items) → IsInCode code trash c i (settled (slice_index c.addresses) (c.place i) items)

@@ -1,5 +1,5 @@
-use Rattle.std.proofs.Common.{rules, ◌≡◌, ℕ, ◌+◌, ◌<◌, ◌≤◌, [], ◌∷◌, ◌++◌, length, ap, ◌∙◌, arith}
-use Rattle.lg_sel_items.specs.Holes.{words_of, words_in}
+use Rattle.std.proofs.Common.{rules, ◌≡◌, ◌+◌, [], ◌∷◌, ap, ◌∙◌, arith}
+use Rattle.lg_sel_items.specs.Holes.{words_in}
 use Rattle.lg_sel_items.proofs.ListLemmas.{words_append}
 use Rattle.lg_sel_items.proofs.items.Items.+all.Goals as goal
 
