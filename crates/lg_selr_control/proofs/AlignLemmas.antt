@@ -18,7 +18,7 @@ use Rattle.lg_sel_nodes.specs.Stretches.{behind}
 use Rattle.lg_sel_control.specs.Walks.{AlignmentsWalk}
 use Rattle.lg_selr_control.specs.Alignments.{padding, idle, align_code, AlignmentsAlign}
 use Rattle.lg_selr_control.proofs.ChainLemmas.{RunsAt, next-at, Chain, chain-end, chain-more, straight-block}
-use Rattle.lg_selr_control.proofs.StandingLemmas.{spelled-size}
+use Rattle.lg_selr_control.proofs.StretchLemmas.{spelled-size}
 use Rattle.lg_selr_control.proofs.StretchLemmas.{aligned, all-passed, walked}
 use Rattle.lg_selr_control.proofs.WordLemmas.{put-other}
 

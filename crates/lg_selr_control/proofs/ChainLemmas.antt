@@ -1,28 +1,19 @@
 -- Instructions of a node that are executed one after the other.
-use Rattle.std.proofs.Common.{◌≡◌, ℕ, suc, ◌+◌, ◌*◌, ◌<◌, ◌≤◌, true, List, [], ◌∷◌, ◌++◌, refl, sym, ap, ◌∙◌, subst, arith, length}
+use Rattle.std.proofs.Common.{◌≡◌, ℕ, suc, ◌+◌, ◌*◌, ◌<◌, ◌≤◌, true, List, [], ◌∷◌, ◌++◌, refl, sym, ap, ◌∙◌, subst, arith}
 use Rattle.std.specs.Prelude.{Option}
 use Rattle.std.specs.List.{list_all}
 use Rattle.std.proofs.lemmas.Bool.{and_parts}
-use Rattle.std.proofs.lemmas.Option.{slice_get_within}
 use Rattle.lg_base.specs.Layout.{code_base, most_code}
 use Rattle.lg_base.specs.Runs.{Running}
 use Rattle.lg_base.specs.Words.{add_words}
-use Rattle.lg_op.specs.declared.node.Node.{Node}
 use Rattle.lg_rv.specs.declared.instruction.Instr.{Instr}
-use Rattle.lg_rv.specs.Spelling.{IsInstr}
 use Rattle.lg_cpu.specs.Steps.{Run, Effect, after, status_of}
 use Rattle.lg_cpu.specs.States.{CpuState}
 use Rattle.lg_cpu.specs.RvStep.{goes, act}
 use Rattle.lg_carry.specs.Blocks.{done, GoesThrough, IsBlock}
-use Rattle.lg_carry.specs.FinalNodes.{Code}
-use Rattle.lg_carry.specs.Passages.{Passes}
-use Rattle.lg_carry.proofs.PassageLemmas.{parts-pass}
-use Rattle.lg_carry_rv.specs.RvRows.{rv_processor, rv_rows, rv_does, is_straight}
-use Rattle.lg_carry_rv.proofs.RowLemmas.{went, are-rows}
+use Rattle.lg_carry_rv.specs.RvRows.{rv_does, is_straight}
+use Rattle.lg_carry_rv.proofs.RowLemmas.{went}
 use Rattle.lg_carry_rv.proofs.SlotLemmas.{pc-next, goes-on}
-use Rattle.lg_carry.specs.TextNodes.{IsInText, HasPlaces}
-use Rattle.lg_selr_control.specs.Standing.{StandsInCode}
-use Rattle.lg_selr_control.proofs.StandingLemmas.{spelled-size}
 
 -- a run that goes on at instruction k of n that stand at an address
 pub record RunsAt (base n k : ℕ) (q : Run CpuState) : Type 0 where
@@ -62,20 +53,3 @@ pub straight-block : (is : List Instr) → list_all is_straight is ≡ true → 
 straight-block [] h = tt
 straight-block (i ∷ []) h = tt
 straight-block (i ∷ j ∷ is) h = let p = and_parts (is_straight i) (list_all is_straight (j ∷ is)) h in (p.0, straight-block (j ∷ is) p.1)
-
-module _ (code : List ℕ) (trash : ℕ) (c : Code) (i : ℕ) where
-  -- a chain of instructions of the node is passed
-  pub chain-passes : (front part back : List Instr) (q u : Run CpuState) → StandsInCode code trash c i (front ++ (part ++ back)) → q.state.pc ≡ c.place i + 4 * length front → IsBlock is_straight part → Chain part q u
-      → Passes (rv_processor code trash) c i (length part) q u
-  chain-passes front part back q u k at block h =
-      let size = spelled-size front in
-      subst (λ z. Passes (rv_processor code trash) c i (length part) q z) h.leads
-      (parts-pass (rv_rows code trash) IsInstr (are-rows code trash k.small k.bytes k.word) c i front part back q k.node (omega (arith, at, size)) block h.through)
-
-  -- the instructions of a node stand in the code part
-  pub node-high : (n : Node) (is : List Instr) → HasPlaces 4 c → IsInText c i n → StandsInCode code trash c i is → c.place i + 4 * length is ≤ code_base + most_code
-  node-high n is w t k = let lt = slice_get_within c.nodes.nodes i n t.here in let h = w.high (i + 1) (omega (arith, lt)) in omega (arith, h, k.node.next, spelled-size is)
-
-  -- a run that stands for a state at the node begins there
-  pub begins-at : (n : Node) (is : List Instr) (q : Run CpuState) → HasPlaces 4 c → IsInText c i n → StandsInCode code trash c i is → status_of q.progress ≡ Running → q.state.pc ≡ c.place i → RunsAt (c.place i) (length is) 0 q
-  begins-at n is q w t k runs at = record { runs = runs; here = at ∙ omega arith; low = k.node.low; high = node-high n is w t k }

@@ -35,12 +35,14 @@ use Rattle.lg_selr_control.specs.Standing.{StandsInCode}
 use Rattle.lg_selr_control.specs.Branches.{failing, left_of, right_of, bits_code}
 use Rattle.lg_selr_control.specs.TwoWays.{jump_over, second_code, branch_code, sum_branch_code, rv_scratch}
 use Rattle.lg_selr_control.specs.SumBranches.{sum_code, staying}
-use Rattle.lg_selr_control.specs.Returns.{return_code}
+use Rattle.lg_selr_control.specs.Returns.{return_code, returned_code}
 use Rattle.lg_selr_control.specs.Prologs.{prolog_code}
 use Rattle.lg_rv.specs.Spelling.{IsInstr}
 use Rattle.lg_sel_nodes.specs.Leaps as leaps
 use Rattle.lg_sel_nodes.proofs.CallLemmas.{calls-carry, finishes-carry}
 use Rattle.lg_sel_nodes.proofs.HostLemmas.{host-calls-carry, host-finishes-carry}
+use Rattle.lg_sel_control.proofs.PrologLemmas.{prologs-carry}
+use Rattle.lg_sel_control.proofs.ReturnLemmas.{returns-carry}
 use Rattle.lg_sel_control.proofs.RegisterLeapLemmas.{register-jumps-carry, register-calls-carry, register-finishes-carry}
 use Rattle.lg_sel_control.proofs.SilentLemmas.{silent-nodes-carry}
 use Rattle.lg_sel_control.proofs.WalkLemmas.{jumps-carry, alignments-carry}
@@ -56,9 +58,6 @@ use Rattle.lg_selr_control.specs.ControlItems.{second_register, jump_unless_item
 use Rattle.lg_selr_values.specs.ValueLaws.{AreWords}
 use Rattle.lg_selr_control.specs.ControlLaws.{ends_in_label, ControlNodesCarry}
 use Rattle.lg_sel_nodes.proofs.BranchLemmas.{branches-carry}
-use Rattle.lg_selr_control.proofs.PrologLemmas.{prologs-carry}
-use Rattle.lg_selr_control.proofs.ResultLemmas.{retrs-carry, retis-carry, reti-labels-carry}
-use Rattle.lg_selr_control.proofs.ReturnLemmas.{rets-carry, epilogs-carry}
 use Rattle.lg_sel_control.proofs.SumBranchLemmas.{sum-branches-carry}
 
 -- ---- the instructions of items
@@ -195,10 +194,10 @@ module _ (code : List ℕ) (trash : ℕ) (c : Code) (i frame line : ℕ) (S : �
 
   ret : (last : LastOperand) (xs : List Operand) → admit (forms_of (op.Control control.Ret last)) xs ≡ true → AreWords c.addresses xs → IsInText c i (node (op.Control control.Ret last) xs) → StandsInCode code trash c i (items-of (op.Control control.Ret last) xs)
       → CarriesNode (rv_processor code trash) c i (node (op.Control control.Ret last) xs) S
-  ret last_operand.Register (operand.Reg a ∷ []) h v t k = retrs-carry code trash c i a line S w t k
-  ret last_operand.Immediate (operand.Number x ∷ []) h v t k = retis-carry code trash c i (operand.Number x) x line S refl v.0 w t (as-code _ _ (ones-settled to (c.place i) (number_code 10 x) return_code) k)
-  ret last_operand.Immediate (operand.Host name ∷ []) h v t k = retis-carry code trash c i (operand.Host name) (host_address name) line S refl (host-small name) w t (as-code _ _ (ones-settled to (c.place i) (number_code 10 (host_address name)) return_code) k)
-  ret last_operand.Immediate (operand.Label l ∷ []) h v t k = reti-labels-carry code trash c i l line S v.0 w t k
+  ret last_operand.Register (operand.Reg a ∷ []) h v t k = (returns-carry (rv_rows code trash) IsInstr returned_code (rv k).returns).retrs c i line a frame S places t is-frame k.node
+  ret last_operand.Immediate (operand.Number x ∷ []) h v t k = (returns-carry (rv_rows code trash) IsInstr returned_code (rv k).returns).retis c i line (operand.Number x) x refl v.0 frame S places t is-frame (as-code _ _ (ones-settled to (c.place i) (number_code 10 x) return_code) k).node
+  ret last_operand.Immediate (operand.Host name ∷ []) h v t k = (returns-carry (rv_rows code trash) IsInstr returned_code (rv k).returns).retis c i line (operand.Host name) (host_address name) refl (host-small name) frame S places t is-frame (as-code _ _ (ones-settled to (c.place i) (number_code 10 (host_address name)) return_code) k).node
+  ret last_operand.Immediate (operand.Label l ∷ []) h v t k = (returns-carry (rv_rows code trash) IsInstr returned_code (rv k).returns).labels c i line l v.0 frame S places t is-frame k.node
   ret last_operand.Register (x ∷ y ∷ ys) h v t k = absurd (never (admits form.Read x) h)
   ret last_operand.Immediate (x ∷ y ∷ ys) h v t k = absurd (never (admits form.Immediate x) h)
   ret last xs h v t k = absurd (differ h)
@@ -212,7 +211,7 @@ module _ (code : List ℕ) (trash : ℕ) (c : Code) (i frame line : ℕ) (S : �
   prolog t k =
       let entry = (t.well.entries i (ap is_prolog_at t.here)).0 in
       let f = function_at_home c.nodes c.shape t.functions t.shape.functions i i entry in
-      prologs-carry code trash c i line f.0 S w t f.1.here (as-code _ _ (settled-ones to (c.place i) (prolog_code frame) ∙ ap prolog_code (is-frame f.0 f.1.here)) k)
+      prologs-carry (rv_rows code trash) IsInstr prolog_code (rv k).prologs c i line f.0 S t f.1.here (as-code _ _ (settled-ones to (c.place i) (prolog_code frame) ∙ ap prolog_code (is-frame f.0 f.1.here)) k).node
 
   -- a node without operands
   none : (xs : List Operand) → admit [] xs ≡ true → xs ≡ []
@@ -234,8 +233,8 @@ module _ (code : List ℕ) (trash : ℕ) (c : Code) (i frame line : ℕ) (S : �
   by-op (op.Control control.Finish last_operand.Immediate) xs h v e t k = finish xs (formed (op.Control control.Finish last_operand.Immediate) xs t) t k
   by-op (op.Control control.Ret last) xs h v e t k = ret last xs (formed (op.Control control.Ret last) xs t) v t k
   by-op (op.Plain plain.Prolog) xs h v e t k = with-none (op.Plain plain.Prolog) xs (none xs (formed (op.Plain plain.Prolog) xs t)) t k prolog
-  by-op (op.Plain plain.Epilog) xs h v e t k = with-none (op.Plain plain.Epilog) xs (none xs (formed (op.Plain plain.Epilog) xs t)) t k (λ t' k'. epilogs-carry code trash c i line S w t' k')
-  by-op (op.Plain plain.Ret) xs h v e t k = with-none (op.Plain plain.Ret) xs (none xs (formed (op.Plain plain.Ret) xs t)) t k (λ t' k'. rets-carry code trash c i line S w t' k')
+  by-op (op.Plain plain.Epilog) xs h v e t k = with-none (op.Plain plain.Epilog) xs (none xs (formed (op.Plain plain.Epilog) xs t)) t k (λ t' k'. (returns-carry (rv_rows code trash) IsInstr returned_code (rv k').returns).epilogs c i line frame S places t' is-frame k'.node)
+  by-op (op.Plain plain.Ret) xs h v e t k = with-none (op.Plain plain.Ret) xs (none xs (formed (op.Plain plain.Ret) xs t)) t k (λ t' k'. (returns-carry (rv_rows code trash) IsInstr returned_code (rv k').returns).rets c i line frame S places t' is-frame k'.node)
   by-op (op.Plain plain.Align) xs h v e t k = align xs (formed (op.Plain plain.Align) xs t) t k
   by-op (op.Plain plain.Prepare) xs h v e t k = silent-nodes-carry (rv_rows code trash) IsInstr (rv k).rows c i (node (op.Plain plain.Prepare) xs) S refl t k.node
   by-op (op.Plain plain.Ellipsis) xs h v e t k = silent-nodes-carry (rv_rows code trash) IsInstr (rv k).rows c i (node (op.Plain plain.Ellipsis) xs) S refl t k.node

@@ -7,11 +7,9 @@ pub mod ControlLemmas
 pub mod FitLemmas
 pub mod IsaLemmas
 pub mod PrologLemmas
-pub mod ResultLemmas
 pub mod ReturnLemmas
 pub mod RetvalLemmas
 pub mod StackFallLemmas
-pub mod StandingLemmas
 pub mod StoreLemmas
 pub mod StretchLemmas
 pub mod SumBranchLemmas

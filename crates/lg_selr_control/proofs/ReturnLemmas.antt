@@ -1,6 +1,6 @@
--- Returns are carried.
-use Rattle.std.proofs.Common.{◌≡◌, ℕ, zero, suc, ◌+◌, ◌-◌, ◌*◌, ◌%◌, ◌^◌, ◌<◌, ◌≤◌, inr, Bool, true, false, List, [], ◌∷◌, ◌++◌, Option, Some, None, refl, sym, ap, ◌∙◌, subst, arith, length, append-nil}
-use Rattle.std.specs.Prelude.{◌==◌, ℤ, pos, negsuc, slice_get, if◌then◌else◌, is_some}
+-- Returns leave their frame.
+use Rattle.std.proofs.Common.{◌≡◌, ℕ, zero, suc, ◌+◌, ◌-◌, ◌*◌, ◌%◌, ◌^◌, ◌<◌, ◌≤◌, ⊎_elim, Bool, true, false, List, [], ◌∷◌, Option, Some, None, refl, sym, ap, ◌∙◌, subst, arith, length, length-append}
+use Rattle.std.specs.Prelude.{◌==◌, ℤ, pos, negsuc, if◌then◌else◌, is_some}
 use Rattle.lg_base.specs.Conventions.{portable_register}
 use Rattle.lg_base.specs.Fields.{word_of}
 use Rattle.lg_base.specs.Layout.{frame_pointer, return_word, saved_word}
@@ -10,10 +10,6 @@ use Rattle.lg_base.specs.Words.{add_words}
 use Rattle.lg_base.specs.declared.target.Target.TheVariants.{Riscv64}
 use Rattle.lg_base.proofs.SpaceLemmas.{mapped-all}
 use Rattle.lg_cells.specs.Cells.{within}
-use Rattle.lg_op.specs.declared.node.Node.{Node}
-use Rattle.lg_node.specs.Functions.{home}
-use Rattle.lg_node.specs.Labels.{is_inner}
-use Rattle.lg_node.proofs.FunctionLaws.{home_within}
 use Rattle.lg_rv.specs.declared.instruction.Instr.{Instr}
 use Rattle.lg_rv.specs.declared.instruction.Instr.TheVariants as instr
 use Rattle.lg_rv.specs.declared.instruction.ImmOp.TheVariants.{Ld, Addi, Jalr}
@@ -22,34 +18,33 @@ use Rattle.lg_cpu.specs.Steps.{Run, after, arrived, faults, status_of}
 use Rattle.lg_cpu.specs.HostSteps.{put}
 use Rattle.lg_cpu.specs.States.{CpuState}
 use Rattle.lg_cpu.specs.RvStep.{read, goes, sets, loads, load_at, act}
-use Rattle.lg_meaning.specs.States.{Frame, State}
-use Rattle.lg_meaning.specs.Fits.{AreLinked}
-use Rattle.lg_meaning.specs.Steps.{Goes, leave, back_to, node_step}
-use Rattle.lg_meaning.specs.Texts.{text, step_at, step}
-use Rattle.lg_carry.specs.FinalNodes.{Code, is_inside}
-use Rattle.lg_carry.specs.AgreeAcrossFrames.{returned}
-use Rattle.lg_carry.specs.Frames.{at_call, IsSettled, return_address}
-use Rattle.lg_carry.specs.Places.{AreStacked}
-use Rattle.lg_carry.specs.Registers.{HasWord, HoldsResult}
-use Rattle.lg_carry.specs.Stands.{lowest, StatesAgree, Stands}
-use Rattle.lg_carry.specs.Carries.{Meets, Leads, calls_at}
-use Rattle.lg_carry.specs.NodeCode.{live_before, live_behind, is_return, CarriesNode}
-use Rattle.lg_carry.specs.Passages.{Passes}
-use Rattle.lg_carry.proofs.AgreeAcrossFramesLemmas.{return-agrees}
-use Rattle.lg_carry.proofs.AgreeInFrameLemmas.{settled}
-use Rattle.lg_carry.proofs.PassageLemmas.{passages-lead}
-use Rattle.lg_carry.proofs.TextShapeLemmas.{shaped}
-use Rattle.lg_carry.proofs.StackLemmas.{stacked-running, stacked-high}
 use Rattle.lg_carry_rv.specs.RvRows.{rv_processor, rv_seen}
-use Rattle.lg_carry.specs.TextNodes.{IsInText, HasPlaces}
-use Rattle.lg_selr_control.specs.Standing.{StandsInCode}
-use Rattle.lg_selr_control.specs.Returns.{return_code, ret_node, epilog_node, RetsCarry, EpilogsCarry}
-use Rattle.lg_selr_control.proofs.ChainLemmas.{RunsAt, next-at, Chain, chain-end, chain-more, chain-passes, block-of, begins-at}
-use Rattle.lg_sel_nodes.proofs.LeapLemmas.{stands-inside}
-use Rattle.lg_sel_nodes.proofs.StraightLemmas.{text-keeps}
-use Rattle.lg_selr_control.proofs.StandingLemmas.{none-passed, then-passes}
 use Rattle.lg_selr_control.proofs.WalkLemmas.{lands-there}
-use Rattle.lg_selr_control.proofs.WordLemmas.{runs-there}
+use Rattle.std.specs.Prelude.{nat_lt}
+use Rattle.lg_base.specs.Layout.{code_base, most_code}
+use Rattle.lg_base.specs.Runs.{Running}
+use Rattle.lg_base.specs.Words.{sign_32}
+use Rattle.lg_rv.specs.Spelling.{spelling, IsInstr}
+use Rattle.lg_cpu.specs.Laws.{AreBytes}
+use Rattle.lg_temp.specs.Abis.{register_of}
+use Rattle.lg_carry.specs.Blocks.{spellings, done}
+use Rattle.lg_carry.specs.Registers.{HasWord}
+use Rattle.lg_carry_rv.specs.Computations.{all_compute, computed, RunsComputations}
+use Rattle.lg_carry_rv.specs.Numbers.{high_part, low_part}
+use Rattle.lg_carry_rv.specs.RvRows.{rv_rows, rv_does}
+use Rattle.lg_carry_rv.proofs.ComputationLemmas.{computations-run}
+use Rattle.lg_carry_rv.proofs.NumberCodeLemmas.{numbers-are-loaded}
+use Rattle.lg_carry_rv.proofs.RowLemmas.{are-rows}
+use Rattle.lg_sel_nodes.specs.Stretches.{HasFrame, StandsAt, behind, PassesIn}
+use Rattle.lg_sel_nodes.proofs.StraightLemmas.{in-room}
+use Rattle.lg_sel_nodes.proofs.StretchLemmas.{part-passes, passages-join}
+use Rattle.lg_sel_control.specs.Returns.{Returned, NoWord, OfRegister, OfNumber, OfLabel, returned_word, IsReturned, Departure, IsBack, ReturnsLead}
+use Rattle.lg_selr_control.specs.Returns.{return_code, result_code, returned_code}
+use Rattle.lg_selr_control.proofs.ChainLemmas.{RunsAt, next-at, Chain, chain-end, chain-more, block-of, straight-block}
+use Rattle.lg_selr_control.proofs.ComputedLemmas.{all-straight, same-words}
+use Rattle.lg_selr_control.proofs.StretchLemmas.{spelled-size}
+use Rattle.lg_selr_control.proofs.StretchLemmas.{aligned, read-of}
+use Rattle.lg_selr_control.proofs.WordLemmas.{runs-there, put-same}
 
 -- ---- words of the frame
 -- the word at an address, where there is memory
@@ -149,133 +144,145 @@ module _ (base n k : ℕ) (q : Run CpuState) (sp back : ℕ) (low : 0x3FF00010 +
       (chain-more _ _ s6 left (goes back (put s6.state.registers 0 (add_words s6.state.pc 4)) m q.state.mark) a6.runs (lands-there s6.state 0 1 back refl near aligned)
       (chain-end left)))))))
 
--- ---- a node that returns
--- what the instructions in front of a return make of a run: the result is in its register
-pub record Returning (code : List ℕ) (trash : ℕ) (c : Code) (i : ℕ) (front : List Instr) (v : Option ℕ) (q r : Run CpuState) : Type 0 where
-  pub passes : Passes (rv_processor code trash) c i (length front) q r
-  pub at : RunsAt (c.place i) (length front + 7) (length front) r
-  pub pointer : r.state.registers 8 ≡ q.state.registers 8
-  pub bytes : r.state.bytes ≡ q.state.bytes
-  pub mark : r.state.mark ≡ q.state.mark
-  pub result : HoldsResult Riscv64 r.state.registers v
+-- ---- what stands in front of it
+no-change : (x : ℕ) → x < 2 ^ 64 → add_words x 0 ≡ x
+no-change x h = grind (arith, h)
 
-inner-home : (o : Option ℕ) (k : ℕ) → is_inner o k ≡ true → (p : ℕ) × (o ≡ Some p)
-inner-home None k e = cc
-inner-home (Some p) k e = (p, refl)
+read-small : (w : ℕ → ℕ) (r : ℕ) → w r < 2 ^ 64 → read w r < 2 ^ 64
+read-small w r h = grind (arith, h)
 
-module _ (code : List ℕ) (trash : ℕ) (c : Code) (i : ℕ) (n : Node) (front : List Instr) (S S' : ℕ → Bool) (w : HasPlaces 4 c) (t : IsInText c i n) (k : StandsInCode code trash c i (front ++ return_code)) (few : length front ≤ 57)
-    (is : is_return n.op ≡ true) (inside : is_inside c i ≡ true) (live : Frame → ℕ → Bool) (s : State) (out : List ℕ) (q r : Run CpuState) (v : Option ℕ) (at : s.at ≡ i) (st : Stands (rv_processor code trash) c live s out q S)
-    (steps : step c.nodes c.shape c.addresses s ≡ leave s v) (h : Returning code trash c i front v q r) where
+address-made : (v : ℕ) → v < 2 ^ 30 → add_words (sign_32 (high_part v * 4096)) (word_of (low_part v)) ≡ v
+address-made v small = by (nat_lt (v % 4096) 2048) refl
+  where
+    by : (b : Bool) → nat_lt (v % 4096) 2048 ≡ b → add_words (sign_32 (high_part v * 4096)) (word_of (if b then pos (v % 4096) else negsuc (4095 - v % 4096))) ≡ v
+    by true h = grind (arith, small, h)
+    by false h = grind (arith, small, h)
+
+some-is : (v x : ℕ) → Some v ≡ Some x → v ≡ x
+some-is v x e = cc
+
+-- the word is in x10, and FP stays
+record Makes (r : Returned) (w : ℕ → ℕ) : Type 0 where
+  computes : all_compute (result_code r) ≡ true
+  few : length (result_code r) ≤ 8
+  value : (x : ℕ) → returned_word Riscv64 w r ≡ Some x → computed (result_code r) w 10 ≡ x
+  frame : computed (result_code r) w 8 ≡ w 8
+
+makes : (r : Returned) (w : ℕ → ℕ) → IsReturned r → ((x : ℕ) → w x < 2 ^ 64) → Makes r w
+makes NoWord w ok words = record { computes = refl; few = omega arith; value = λ x e. cc; frame = refl }
+makes (OfRegister a) w ok words =
+    let ra : ℕ = register_of Riscv64 a in record {
+      computes = refl;
+      few = omega arith;
+      value = λ x e. put-same w 10 (add_words (read w ra) 0) ∙ no-change (read w ra) (read-small w ra (words ra)) ∙ read-of w a ∙ some-is (w ra) x e;
+      frame = refl;
+    }
+makes (OfNumber v) w ok words =
+    let loads = numbers-are-loaded 10 v (λ z. cc) (omega arith) ok in
+    record { computes = loads.computes; few = loads.few; value = λ x e. loads.value w 10 ∙ put-same w 10 v ∙ some-is v x e; frame = loads.value w 8 }
+makes (OfLabel address) w ok words = record { computes = refl; few = omega arith; value = λ x e. address-made address ok ∙ some-is address x e; frame = refl }
+
+-- ---- the return
+module _ (code : List ℕ) (trash : ℕ) (small : length code ≤ most_code) (bytes : AreBytes code) (word : trash < 2 ^ 64)
+    (frame from back : ℕ) (r : Returned) (q : Run CpuState) (ok : IsReturned r) (f : HasFrame Riscv64 frame (rv_seen q)) (k : StandsAt (rv_rows code trash) IsInstr from (returned_code frame r))
+    (there : IsBack (rv_rows code trash) back) (held : HasWord q.state.bytes (return_word (q.state.registers 2 + frame)) back) (runs : status_of q.progress ≡ Running) (at : q.state.pc ≡ from) where
   abbrev sp : ℕ
-  sp = s.frame.sp
+  sp = q.state.registers 2 + frame
 
-  abbrev back : ℕ
-  back = return_address c.place s.frame s.callers
+  abbrev front : List Instr
+  front = result_code r
 
-  here-inside : is_inside c s.at ≡ true
-  here-inside = ap (is_inside c) at ∙ inside
+  abbrev high : ℕ
+  high = behind (rv_rows code trash) from (returned_code frame r)
 
-  tower : AreStacked (lowest s.frame) (s.frame ∷ s.callers)
-  tower = stacked-running c.nodes c.shape s st.state.fits here-inside st.state.low
+  low-frame : 0x3FF00010 + 272 ≤ sp
+  low-frame = let l = f.low in let z = f.large in omega (arith, l, z)
 
-  low : 0x3FF00010 + 272 ≤ sp
-  low = let l = st.state.low in omega (arith, l, tower.0, tower.1)
+  even : sp % 16 ≡ 0
+  even = let a = f.whole in let b = f.whole_frame in omega (arith, a, b)
 
-  high : (sp % 16 ≡ 0) × (sp ≤ 0x40000000)
-  high = let e = stacked-high sp s.callers tower.3 in (e.0, e.1)
+  near : back < 2 ^ 62
+  near = ⊎_elim (λ t. let h = t.high in omega (arith, h)) (λ e. omega (arith, e)) there
 
-  frame : IsSettled Riscv64 c.place q.state.bytes q.state.registers s.frame s.callers (live (at_call s.frame))
-  frame = settled Riscv64 (is_inside c s.at) c.place q.state.bytes q.state.registers s.frame s.callers (live (at_call s.frame)) here-inside st.state.frame
+  back-aligned : back % 4 ≡ 0
+  back-aligned = ⊎_elim (λ t. aligned back t.place) (λ e. omega (arith, e)) there
 
-  -- where the run goes on
-  back-inside : (g : Frame) (gs : List Frame) → s.callers ≡ g ∷ gs → is_inside c s.frame.back ≡ true
-  back-inside g gs e = (shaped c.nodes t.well).back c.shape s.frame g gs (subst (λ l. AreLinked c.nodes c.shape s.frame l) e st.state.fits.linked)
+  made : Makes r q.state.registers
+  made = makes r q.state.registers ok (λ x. f.seen.words x)
 
-  back-place : (gs : List Frame) → s.callers ≡ gs → (return_address c.place s.frame gs < 2 ^ 62) × (return_address c.place s.frame gs % 4 ≡ 0)
-  back-place [] e = (omega arith, refl)
-  back-place (g ∷ gs) e =
-      let p = inner-home (home c.nodes.nodes s.frame.back) s.frame.back (back-inside g gs e) in
-      let lt = home_within c.nodes.nodes s.frame.back p.0 p.1 in
-      let high = w.high s.frame.back (omega (arith, lt)) in
-      let from = (subst (λ l. AreLinked c.nodes c.shape s.frame l) e st.state.fits.linked).0 in
-      (omega (arith, high), w.aligned s.frame.back (omega (arith, lt)) (inr (from.at, from.back, ap calls_at from.here ∙ from.calls)))
+  size : length (spellings spelling (returned_code frame r)) ≡ 4 * (length front + 7)
+  size = let a = spelled-size (returned_code frame r) in let b = length-append front return_code in omega (arith, a, b)
 
-  there : (j : ℕ) → within stack_base 0x100000 j ≡ true → is_some (r.state.bytes j) ≡ true
-  there j e = ap (λ m. is_some (m j)) h.bytes ∙ st.state.seen.stack j e
+  top : from + 4 * (length front + 7) ≤ code_base + most_code
+  top = let z = in-room code (spellings spelling (returned_code frame r)) k.more from k.low (omega (arith, size)) k.stands small in omega (arith, z, size)
+
+  ran : RunsComputations front q
+  ran = computations-run front q made.computes runs (let l = k.low in omega (arith, l, at)) (omega (arith, top, at))
+
+  abbrev q1 : Run CpuState
+  q1 = done rv_does front q
+
+  registers-are : q1.state.registers ≡ computed front q.state.registers
+  registers-are = same-words q1.state.registers (computed front q.state.registers) ran.registers
+
+  bytes-are : q1.state.bytes ≡ q.state.bytes
+  bytes-are = λ j z. ran.bytes z j
+
+  at1 : RunsAt from (length front + 7) (length front) q1
+  at1 = record { runs = ran.runs; here = ran.behind ∙ omega (arith, at); low = k.low; high = top }
+
+  pointer1 : q1.state.registers 8 ≡ sp - 16
+  pointer1 = ap (λ g. g 8) registers-are ∙ made.frame ∙ f.pointer
+
+  there1 : (j : ℕ) → within stack_base 0x100000 j ≡ true → is_some (q1.state.bytes j) ≡ true
+  there1 j e = ap (λ b. is_some (b j)) bytes-are ∙ f.seen.stack j e
+
+  held1 : HasWord q1.state.bytes (return_word sp) back
+  held1 = subst (λ b. HasWord b (return_word sp) back) (sym bytes-are) held
 
   abbrev u : Run CpuState
-  u = left (c.place i) (length front + 7) (length front) r sp back low high.1 high.0 h.at (omega arith) (h.pointer ∙ frame.pointer) there (subst (λ m. HasWord m (return_word sp) back) (sym h.bytes) frame.words.back) (back-place s.callers refl).0 (back-place s.callers refl).1
+  u = left from (length front + 7) (length front) q1 sp back low-frame f.high even at1 (omega arith) pointer1 there1 held1 near back-aligned
 
-  pass : Passes (rv_processor code trash) c i (length front + 7) q u
-  pass = then-passes code trash c i (length front) 7 q r u h.passes (chain-passes code trash c i front return_code [] r u k h.at.here (block-of six (instr.Imm Jalr 0 1 (pos 0)) refl)
-      (chain (c.place i) (length front + 7) (length front) r sp back low high.1 high.0 h.at (omega arith) (h.pointer ∙ frame.pointer) there (subst (λ m. HasWord m (return_word sp) back) (sym h.bytes) frame.words.back) (back-place s.callers refl).0 (back-place s.callers refl).1))
-
-  wrote : u.out ≡ out
-  wrote = ap (λ z. z.out) (sym pass.leads) ∙ pass.silent (length front + 7) (omega arith) ∙ st.wrote
+  pass : PassesIn (rv_processor code trash) from high (length front + 7) q u
+  pass =
+      let R = rv_rows code trash in
+      let rows = are-rows code trash small bytes word in
+      let here = at1.here in let long = spelled-size front in
+      passages-join (rv_processor code trash) from high (length front) 7 q q1 u
+      (part-passes R IsInstr rows from [] front return_code q k (at ∙ omega arith) (straight-block front (all-straight front made.computes)) ran.through)
+      (subst (λ z. PassesIn (rv_processor code trash) from high 7 q1 z) left-chain.leads
+      (part-passes R IsInstr rows from front return_code [] q1 k (omega (arith, here, long)) (block-of six (instr.Imm Jalr 0 1 (pos 0)) refl) left-chain.through))
+    where
+      left-chain : Chain return_code q1 u
+      left-chain = chain from (length front + 7) (length front) q1 sp back low-frame f.high even at1 (omega arith) pointer1 there1 held1 near back-aligned
 
   -- the words of the frame come back
-  word : (a x : ℕ) → 0x3FF00000 ≤ a → a + 8 ≤ 0x40000000 → HasWord q.state.bytes a x → word_at r.state.bytes a ≡ x
-  word a x l g held = same-word r.state.bytes a (word_at r.state.bytes a) x (stack-word r.state.bytes a there l g) (subst (λ m. HasWord m a x) (sym h.bytes) held)
+  comes-back : (a x : ℕ) → 0x3FF00000 ≤ a → a + 8 ≤ 0x40000000 → HasWord q.state.bytes a x → word_at q1.state.bytes a ≡ x
+  comes-back a x l g h = same-word q1.state.bytes a (word_at q1.state.bytes a) x (stack-word q1.state.bytes a there1 l g) (subst (λ b. HasWord b a x) (sym bytes-are) h)
 
   words : (j x : ℕ) → j < 3 → HasWord q.state.bytes (saved_word (frame_pointer sp) j) x → u.state.registers (portable_register Riscv64 (j + 3)) ≡ x
-  words zero x lt held = word (saved_word (frame_pointer sp) 0) x (omega (arith, low)) (omega (arith, high.1)) held
-  words (suc zero) x lt held = word (saved_word (frame_pointer sp) 1) x (omega (arith, low)) (omega (arith, high.1)) held
-  words (suc (suc zero)) x lt held = word (saved_word (frame_pointer sp) 2) x (omega (arith, low)) (omega (arith, high.1)) held
-  words (suc (suc (suc j))) x lt held = absurd (omega (arith, lt))
+  words zero x lt h = let t = f.high in comes-back (saved_word (frame_pointer sp) 0) x (omega (arith, low-frame)) (omega (arith, t)) h
+  words (suc zero) x lt h = let t = f.high in comes-back (saved_word (frame_pointer sp) 1) x (omega (arith, low-frame)) (omega (arith, t)) h
+  words (suc (suc zero)) x lt h = let t = f.high in comes-back (saved_word (frame_pointer sp) 2) x (omega (arith, low-frame)) (omega (arith, t)) h
+  words (suc (suc (suc j))) x lt h = absurd (omega (arith, lt))
 
-  meets : (gs : List Frame) → s.callers ≡ gs → Meets (rv_processor code trash) c live (live_behind live n S' s) (back_to s v gs) out u
-  meets [] e = (ap (λ gs. status_of (arrived (return_address c.place s.frame gs))) e, wrote)
-  meets (g ∷ gs) e =
-      let t' = returned s g gs v in
-      let goes' : step c.nodes c.shape c.addresses s ≡ Goes t' [] = steps ∙ ap (back_to s v) e in
-      let place : back ≡ c.place s.frame.back = ap (return_address c.place s.frame) e in
-      let base = c.place s.frame.back in
-      let agree : StatesAgree Riscv64 c live t' (rv_seen u) (live (at_call s.frame)) = return-agrees Riscv64 c live s g gs v (rv_seen q) (rv_seen u) S st.state e
-      record {
-        before = here-inside;
-        behind = back-inside g gs e;
-        stack = refl;
-        pointer = λ x held. word (frame_pointer sp) x (omega (arith, low)) (omega (arith, high.1)) held;
-        loads = λ j x lt held. words j x lt held;
-        result = record { is = λ x z. h.result.is x z };
-        bytes = λ a. ap (λ m. m a) h.bytes;
-      }
-      record {
-        few = (shaped c.nodes t.well).few;
-        fits = text-keeps c i n t s t' [] at (omega (arith, st.state.seen.low, st.state.mark)) (omega (arith, st.state.seen.high, st.state.mark)) st.state.fits goes';
-        seen = pass.keeps st.state.seen;
-        here = place;
-        mark = h.mark ∙ st.state.mark;
-      } in
-      let p = inner-home (home c.nodes.nodes s.frame.back) s.frame.back (back-inside g gs e) in
-      let lt = home_within c.nodes.nodes s.frame.back p.0 p.1 in
-      record {
-        runs = ap (λ z. status_of (arrived z)) place ∙ runs-there (c.place s.frame.back) (w.low s.frame.back (omega (arith, lt)));
-        wrote = wrote ∙ sym (append-nil out);
-        state = subst (λ b. StatesAgree Riscv64 c live t' (rv_seen u) (if b then live (at_call s.frame) else S')) (sym is) agree;
-      }
+  pub departs : Departure (rv_processor code trash) from high sp back (returned_word Riscv64 q.state.registers r) q
+  departs = record {
+    end = u;
+    steps = length front + 7;
+    passes = pass;
+    few = let z = made.few in omega (arith, z);
+    some = omega arith;
+    runs = λ low. runs-there back low;
+    ends = λ e. ap (λ z. status_of (arrived z)) e;
+    here = refl;
+    stack_is = refl;
+    pointer = λ x h. let t = f.high in comes-back (frame_pointer sp) x (omega (arith, low-frame)) (omega (arith, t)) h;
+    saved = words;
+    result = λ x e. ap (λ g. g 10) registers-are ∙ made.value x e;
+    bytes = bytes-are;
+    mark = ran.mark;
+  }
 
-  pub returns-lead : Leads (rv_processor code trash) c live (live_behind live n S' s) i (step c.nodes c.shape c.addresses s) out q
-  returns-lead = subst (λ o. Leads (rv_processor code trash) c live (live_behind live n S' s) i o out q) (sym steps)
-      (passages-lead (rv_processor code trash) c live (live_behind live n S' s) i (length front + 7) (leave s v) out q u pass (omega (arith, few)) (λ e. absurd (omega (arith, e))) (λ e. omega arith) st.wrote (meets s.callers refl))
-
--- ---- without a result
-module _ (code : List ℕ) (trash : ℕ) (c : Code) (i : ℕ) (n : Node) (S : ℕ → Bool) (w : HasPlaces 4 c) (t : IsInText c i n) (k : StandsInCode code trash c i return_code) where
-  pub plain-return : is_return n.op ≡ true → is_inside c i ≡ true → ((s : State) → node_step (text c.nodes c.shape c.addresses) n n.op s ≡ leave s None) → CarriesNode (rv_processor code trash) c i n S
-  plain-return is inside steps live s returns out q at st =
-      let e : step c.nodes c.shape c.addresses s ≡ leave s None = ap (λ x. step_at (text c.nodes c.shape c.addresses) x s) (ap (slice_get c.nodes.nodes) at ∙ t.here) ∙ steps s in
-      let begins = begins-at code trash c i n return_code q w t k st.runs (st.state.here ∙ ap c.place at) in
-      inr (returns-lead code trash c i n [] (live_before n S) S w t k (omega arith) is inside live s out q q None at st e record {
-        passes = none-passed code trash c i q;
-        at = begins;
-        pointer = refl;
-        bytes = refl;
-        mark = refl;
-        result = record { is = λ x z. cc };
-      })
-
-pub rets-carry : RetsCarry
-rets-carry code trash c i line S w t k = plain-return code trash c i (ret_node line) S w t k refl (stands-inside c i (ret_node line) t refl refl) (λ s. refl)
-
-pub epilogs-carry : EpilogsCarry
-epilogs-carry code trash c i line S w t k = plain-return code trash c i (epilog_node line) S w t k refl (stands-inside c i (epilog_node line) t refl refl) (λ s. refl)
+pub returns-lead : (code : List ℕ) (trash : ℕ) → length code ≤ most_code → AreBytes code → trash < 2 ^ 64 → ReturnsLead (rv_rows code trash) IsInstr returned_code
+returns-lead code trash small bytes word frame from back r q ok f k there held runs at = departs code trash small bytes word frame from back r q ok f k there held runs at

@@ -1,5 +1,5 @@
 -- Instructions of RV64 that stand in the code, and runs over them.
-use Rattle.std.proofs.Common.{◌≡◌, ◌≢◌, ℕ, ◌+◌, ◌*◌, ◌%◌, ◌^◌, ◌<◌, ◌≤◌, true, List, [], ◌∷◌, ◌++◌, Some, refl, sym, ap, ◌∙◌, subst, arith, length, append-nil}
+use Rattle.std.proofs.Common.{◌≡◌, ◌≢◌, ℕ, ◌+◌, ◌*◌, ◌%◌, ◌^◌, ◌<◌, ◌≤◌, true, List, [], ◌∷◌, ◌++◌, Some, refl, sym, ap, ◌∙◌, subst, arith, length, append-nil, length-append}
 use Rattle.std.specs.Prelude.{◌==◌, slice_index}
 use Rattle.lg_base.specs.Conventions.{argument_registers, portable_register}
 use Rattle.lg_base.specs.Layout.{code_base, most_code}
@@ -23,8 +23,12 @@ use Rattle.lg_sel_nodes.proofs.StraightLemmas.{in-room}
 use Rattle.lg_sel_nodes.proofs.StretchLemmas.{part-passes}
 use Rattle.lg_sel_control.specs.Walks.{Walk}
 use Rattle.lg_selr_control.proofs.ChainLemmas.{Chain}
-use Rattle.lg_selr_control.proofs.StandingLemmas.{spelled-size}
 use Rattle.lg_selr_control.proofs.WordLemmas.{portable-some, argument-some}
+
+-- four bytes for each instruction
+pub spelled-size : (is : List Instr) → length (spellings spelling is) ≡ 4 * length is
+spelled-size [] = refl
+spelled-size (i ∷ is) = let e = length-append (spelling i) (spellings spelling is) in omega (arith, e, spelled-size is)
 
 pub aligned : (pc : ℕ) → (pc % 4 == 0) ≡ true → pc % 4 ≡ 0
 aligned pc h = grind (arith, h)

@@ -10,6 +10,8 @@ use Rattle.lg_selr_control.proofs.AlignLemmas.{alignments-walk}
 use Rattle.lg_selr_control.proofs.BranchLemmas.{branches-lead}
 use Rattle.lg_selr_control.proofs.CallLemmas.{calls-lead, register-calls-lead, register-host-calls-lead, host-calls-lead, enters-hosts}
 use Rattle.lg_selr_control.proofs.IsaLemmas.{is-isa}
+use Rattle.lg_selr_control.proofs.PrologLemmas.{prologs-lead}
+use Rattle.lg_selr_control.proofs.ReturnLemmas.{returns-lead}
 use Rattle.lg_selr_control.proofs.SumBranchLemmas.{sum-branches-lead}
 use Rattle.lg_selr_control.proofs.WalkLemmas.{jumps-walk, register-jumps-walk}
 
@@ -19,6 +21,8 @@ is-target code trash small bytes word = record {
   isa = is-isa code trash small bytes word;
   branches = branches-lead code trash small bytes word;
   sum_branches = sum-branches-lead code trash small bytes word;
+  prologs = prologs-lead code trash small bytes word;
+  returns = returns-lead code trash small bytes word;
   jumps = jumps-walk code trash small bytes word;
   alignments = alignments-walk code trash small bytes word;
   register_jumps = register-jumps-walk code trash small bytes word;

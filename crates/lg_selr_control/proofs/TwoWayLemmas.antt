@@ -35,7 +35,7 @@ use Rattle.lg_selr_control.specs.ControlItems.{second_register}
 use Rattle.lg_selr_control.specs.TwoWays.{jump_over, second_code, rv_scratch}
 use Rattle.lg_selr_control.proofs.ChainLemmas.{straight-block}
 use Rattle.lg_selr_control.proofs.ComputedLemmas.{all-straight, same-words}
-use Rattle.lg_selr_control.proofs.StandingLemmas.{spelled-size}
+use Rattle.lg_selr_control.proofs.StretchLemmas.{spelled-size}
 use Rattle.lg_selr_control.proofs.StretchLemmas.{aligned, read-of, one-passed}
 use Rattle.lg_selr_control.proofs.WalkLemmas.{jumps-there}
 use Rattle.lg_selr_control.proofs.WordLemmas.{runs-there, put-same, put-other}
