@@ -19,8 +19,9 @@ use Rattle.lg_carry_rv.proofs.RegisterLemmas.{register-apart}
 use Rattle.lg_sel_nodes.specs.Leaps.{BranchesLead}
 use Rattle.lg_selr_control.specs.Branches.{failing, left_of, right_of, bits_code}
 use Rattle.lg_selr_control.specs.ControlItems.{second_register}
-use Rattle.lg_selr_control.specs.TwoWays.{second_code, before_branch, branch_code, rv_scratch}
-use Rattle.lg_selr_control.proofs.StretchLemmas.{read-of}
+use Rattle.lg_carry_rv.specs.RvComputers.{rv_scratch}
+use Rattle.lg_selr_control.specs.TwoWays.{second_code, before_branch, branch_code}
+use Rattle.lg_carry_rv.proofs.RegisterLemmas.{read-of}
 use Rattle.lg_selr_control.proofs.TwoWayLemmas.{IsMade, second-made, two-ways}
 use Rattle.lg_selr_control.proofs.WordLemmas.{put-other}
 

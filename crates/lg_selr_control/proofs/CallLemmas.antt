@@ -30,7 +30,8 @@ use Rattle.lg_carry_rv.proofs.RowLemmas.{went}
 use Rattle.lg_carry_rv.proofs.SlotLemmas.{pc-next, goes-on}
 use Rattle.lg_selr_control.specs.HostCalls.{host_code, rv_ready}
 use Rattle.lg_selr_control.proofs.ChainLemmas.{Chain, chain-end, chain-more}
-use Rattle.lg_selr_control.proofs.StretchLemmas.{aligned, read-of, stands-high, one-passed, all-passed, arrived-with}
+use Rattle.lg_carry_rv.proofs.RegisterLemmas.{read-of}
+use Rattle.lg_selr_control.proofs.StretchLemmas.{aligned, stands-high, one-passed, all-passed, arrived-with}
 use Rattle.lg_selr_control.proofs.WalkLemmas.{jumps-there, lands-there}
 use Rattle.lg_selr_control.proofs.WordLemmas.{runs-there, put-same, put-other}
 use Rattle.lg_sel_nodes.specs.Leaps.{CallsLead, HostCallsLead, HasArrived, host_answer, Answers, EntersHosts}

@@ -33,7 +33,8 @@ use Rattle.lg_selr_items.specs.Items.{bytes_in, settled, ones}
 use Rattle.lg_selr_items.proofs.ItemLemmas.{settled-append, settled-ones, words-ones, ones-append}
 use Rattle.lg_selr_control.specs.Standing.{StandsInCode}
 use Rattle.lg_selr_control.specs.Branches.{failing, left_of, right_of, bits_code}
-use Rattle.lg_selr_control.specs.TwoWays.{jump_over, second_code, branch_code, sum_branch_code, rv_scratch}
+use Rattle.lg_carry_rv.specs.RvComputers.{rv_scratch}
+use Rattle.lg_selr_control.specs.TwoWays.{jump_over, second_code, branch_code, sum_branch_code}
 use Rattle.lg_selr_control.specs.SumBranches.{sum_code, staying}
 use Rattle.lg_selr_control.specs.Returns.{return_code, returned_code}
 use Rattle.lg_selr_control.specs.Prologs.{prolog_code}

@@ -5,7 +5,6 @@ pub mod ChainLemmas
 pub mod ComputedLemmas
 pub mod ControlLemmas
 pub mod FitLemmas
-pub mod IsaLemmas
 pub mod PrologLemmas
 pub mod ReturnLemmas
 pub mod RetvalLemmas

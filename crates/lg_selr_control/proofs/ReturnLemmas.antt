@@ -43,7 +43,8 @@ use Rattle.lg_selr_control.specs.Returns.{return_code, result_code, returned_cod
 use Rattle.lg_selr_control.proofs.ChainLemmas.{RunsAt, next-at, Chain, chain-end, chain-more, block-of, straight-block}
 use Rattle.lg_selr_control.proofs.ComputedLemmas.{all-straight, same-words}
 use Rattle.lg_selr_control.proofs.StretchLemmas.{spelled-size}
-use Rattle.lg_selr_control.proofs.StretchLemmas.{aligned, read-of}
+use Rattle.lg_carry_rv.proofs.RegisterLemmas.{read-of}
+use Rattle.lg_selr_control.proofs.StretchLemmas.{aligned}
 use Rattle.lg_selr_control.proofs.WordLemmas.{runs-there, put-same}
 
 -- ---- words of the frame

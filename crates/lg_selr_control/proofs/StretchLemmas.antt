@@ -5,15 +5,12 @@ use Rattle.lg_base.specs.Conventions.{argument_registers, portable_register}
 use Rattle.lg_base.specs.Layout.{code_base, most_code}
 use Rattle.lg_base.specs.Runs.{Running}
 use Rattle.lg_base.specs.declared.target.Target.TheVariants.{Riscv64}
-use Rattle.lg_op.specs.declared.operand.Reg.{Reg}
-use Rattle.lg_op.specs.declared.operand.Reg.TheVariants.{R0, R1, R2, V0, V1, V2, Fp}
 use Rattle.lg_rv.specs.Spelling.{spelling, IsInstr}
 use Rattle.lg_rv.specs.declared.instruction.Instr.{Instr}
 use Rattle.lg_cpu.specs.Laws.{AreBytes}
-use Rattle.lg_cpu.specs.RvStep.{read, act}
+use Rattle.lg_cpu.specs.RvStep.{act}
 use Rattle.lg_cpu.specs.States.{CpuState}
 use Rattle.lg_cpu.specs.Steps.{Run, after, status_of}
-use Rattle.lg_temp.specs.Abis.{register_of}
 use Rattle.lg_carry.specs.Blocks.{spellings, IsBlock}
 use Rattle.lg_carry.proofs.RegistersApartLemmas.{conventions-apart}
 use Rattle.lg_carry_rv.specs.RvRows.{rv_processor, rv_rows, is_straight}
@@ -32,16 +29,6 @@ spelled-size (i ∷ is) = let e = length-append (spelling i) (spellings spelling
 
 pub aligned : (pc : ℕ) → (pc % 4 == 0) ≡ true → pc % 4 ≡ 0
 aligned pc h = grind (arith, h)
-
--- a register that stands for a portable one is read as it is
-pub read-of : (w : ℕ → ℕ) (a : Reg) → read w (register_of Riscv64 a) ≡ w (register_of Riscv64 a)
-read-of w R0 = refl
-read-of w R1 = refl
-read-of w R2 = refl
-read-of w V0 = refl
-read-of w V1 = refl
-read-of w V2 = refl
-read-of w Fp = refl
 
 module _ (code : List ℕ) (trash : ℕ) (small : length code ≤ most_code) (bytes : AreBytes code) (word : trash < 2 ^ 64) where
   -- instructions that stand in the code lie in the code part

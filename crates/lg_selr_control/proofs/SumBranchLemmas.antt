@@ -22,9 +22,10 @@ use Rattle.lg_carry_rv.proofs.RegisterLemmas.{register-apart, register-nonzero}
 use Rattle.lg_sel_control.specs.SumBranches.{SumBranchesLead}
 use Rattle.lg_selr_control.specs.ControlItems.{second_register}
 use Rattle.lg_selr_control.specs.SumBranches.{sum_code, staying}
-use Rattle.lg_selr_control.specs.TwoWays.{second_code, before_sum_branch, sum_branch_code, rv_scratch}
+use Rattle.lg_carry_rv.specs.RvComputers.{rv_scratch}
+use Rattle.lg_selr_control.specs.TwoWays.{second_code, before_sum_branch, sum_branch_code}
 use Rattle.lg_selr_control.proofs.BranchLemmas.{read-other}
-use Rattle.lg_selr_control.proofs.StretchLemmas.{read-of}
+use Rattle.lg_carry_rv.proofs.RegisterLemmas.{read-of}
 use Rattle.lg_selr_control.proofs.SumLemmas.{sums, sum-computes}
 use Rattle.lg_selr_control.proofs.TwoWayLemmas.{IsMade, second-made, two-ways}
 

@@ -9,7 +9,7 @@ use Rattle.lg_selr_control.specs.Targets.{IsTarget}
 use Rattle.lg_selr_control.proofs.AlignLemmas.{alignments-walk}
 use Rattle.lg_selr_control.proofs.BranchLemmas.{branches-lead}
 use Rattle.lg_selr_control.proofs.CallLemmas.{calls-lead, register-calls-lead, register-host-calls-lead, host-calls-lead, enters-hosts}
-use Rattle.lg_selr_control.proofs.IsaLemmas.{is-isa}
+use Rattle.lg_carry_rv.proofs.IsaLemmas.{is-isa}
 use Rattle.lg_selr_control.proofs.PrologLemmas.{prologs-lead}
 use Rattle.lg_selr_control.proofs.ReturnLemmas.{returns-lead}
 use Rattle.lg_selr_control.proofs.SumBranchLemmas.{sum-branches-lead}

@@ -32,11 +32,13 @@ use Rattle.lg_sel_nodes.specs.Leaps.{IsThere, second_word}
 use Rattle.lg_sel_nodes.specs.Stretches.{StandsAt, behind, PassesIn, Way}
 use Rattle.lg_sel_nodes.proofs.StretchLemmas.{part-passes, passages-join}
 use Rattle.lg_selr_control.specs.ControlItems.{second_register}
-use Rattle.lg_selr_control.specs.TwoWays.{jump_over, second_code, rv_scratch}
+use Rattle.lg_carry_rv.specs.RvComputers.{rv_scratch}
+use Rattle.lg_selr_control.specs.TwoWays.{jump_over, second_code}
 use Rattle.lg_selr_control.proofs.ChainLemmas.{straight-block}
 use Rattle.lg_selr_control.proofs.ComputedLemmas.{all-straight, same-words}
 use Rattle.lg_selr_control.proofs.StretchLemmas.{spelled-size}
-use Rattle.lg_selr_control.proofs.StretchLemmas.{aligned, read-of, one-passed}
+use Rattle.lg_carry_rv.proofs.RegisterLemmas.{read-of}
+use Rattle.lg_selr_control.proofs.StretchLemmas.{aligned, one-passed}
 use Rattle.lg_selr_control.proofs.WalkLemmas.{jumps-there}
 use Rattle.lg_selr_control.proofs.WordLemmas.{runs-there, put-same, put-other}
 

@@ -20,7 +20,8 @@ use Rattle.lg_sel_control.specs.RegisterLeaps.{RegisterJumpsWalk}
 use Rattle.lg_sel_control.specs.Walks.{JumpsWalk}
 use Rattle.lg_selr_control.specs.Jumps.{jump_code}
 use Rattle.lg_selr_control.specs.RegisterLeaps.{register_jump_code}
-use Rattle.lg_selr_control.proofs.StretchLemmas.{aligned, read-of, stands-high, one-passed, walked}
+use Rattle.lg_carry_rv.proofs.RegisterLemmas.{read-of}
+use Rattle.lg_selr_control.proofs.StretchLemmas.{aligned, stands-high, one-passed, walked}
 use Rattle.lg_selr_control.proofs.WordLemmas.{distance-leads, runs-there, put-other}
 
 -- ---- jumps

@@ -19,7 +19,8 @@ use Rattle.lg_selr_control.specs.Jumps.{jump_code}
 use Rattle.lg_selr_control.specs.Prologs.{prolog_code}
 use Rattle.lg_selr_control.specs.Returns.{returned_code}
 use Rattle.lg_selr_control.specs.RegisterLeaps.{register_jump_code, register_call_code}
-use Rattle.lg_selr_control.specs.TwoWays.{branch_code, sum_branch_code, rv_scratch}
+use Rattle.lg_carry_rv.specs.RvComputers.{rv_scratch}
+use Rattle.lg_selr_control.specs.TwoWays.{branch_code, sum_branch_code}
 
 pub record IsRv (code : List ℕ) (trash : ℕ) : Type 0 where
   pub rows : AreRows (rv_rows code trash) IsInstr

@@ -1,5 +1,5 @@
 -- The code of branches on RV64: a branch over a jump.
-use Rattle.std.specs.Prelude.{ℕ, ◌+◌, ◌*◌, ◌==◌, ◌||◌, Bool, pos, ◌-ℤ◌, List, [], ◌∷◌, ◌++◌, length, Option, Some, None}
+use Rattle.std.specs.Prelude.{ℕ, ◌+◌, ◌*◌, pos, ◌-ℤ◌, List, [], ◌∷◌, ◌++◌, length, Option, Some, None}
 use Rattle.lg_base.specs.declared.target.Target.TheVariants.{Riscv64}
 use Rattle.lg_op.specs.declared.op.BranchSumOp.{BranchSumOp}
 use Rattle.lg_op.specs.declared.op.Condition.{Condition}
@@ -43,7 +43,3 @@ before_sum_branch o a x = second_code x ++ sum_code o (register_of Riscv64 a) (s
 
 abbrev pub sum_branch_code : ℕ → BranchSumOp → Reg → Operand → ℕ → ℕ → List Instr
 sum_branch_code frame o a x from to = jump_over (before_sum_branch o a x) (staying o) 31 0 from to
-
--- ---- the scratch registers: behind a `prolog` the link holds nothing that is needed, and x0 never does
-abbrev pub rv_scratch : ℕ → Bool
-rv_scratch x = (x == 0) || (x == 1)
