@@ -35,7 +35,8 @@ arriving : (target : Target) (c : Code) (live : Frame → ℕ → Bool) (s : Sta
     → IsRunning b target c.place m w s.frame s.callers (live (at_call s.frame)) → IsArriving target c.place m w s.frame s.callers (live (at_call s.frame))
 arriving target c live s b m w e h = subst (λ x. IsRunning x target c.place m w s.frame s.callers (live (at_call s.frame))) e h
 
-keeps-caller : (target : Target) (m : ℕ → Option ℕ) (w : ℕ → ℕ) (f : Frame) (size locals : ℕ) (gs : List Frame) (live : ℕ → Bool) → HasWord m (frame_pointer f.sp) (w (frame_register target))
+keeps-caller : (target : Target) (m : ℕ → Option ℕ) (w : ℕ → ℕ) (f : Frame) (size locals : ℕ) (gs : List Frame) (live : ℕ → Bool)
+    → HasWord m (frame_pointer f.sp) (w (frame_register target))
     → ((v : ℕ) → v < 3 → HasWord m (saved_word (frame_pointer f.sp) v) (w (portable_register target (v + 3)))) → MayHoldCaller target w f gs live
     → MayKeepCaller m (record f { size = size; locals = locals }) gs live
 keeps-caller target m w f size locals [] live pointer saved h = tt
@@ -45,8 +46,10 @@ keeps-caller target m w f size locals (g ∷ gs) live pointer saved h = record {
 }
 
 -- ---- the node
-module _ {Q I : Type 0} (R : Rows Q I) (fits : I → Type 0) (code : ℕ → List I) (lead : PrologsLead R fits code) (c : Code) (i line : ℕ) (f : Function) (S : ℕ → Bool) (t : IsInText c i (prolog_node line))
-    (function : function_here c.shape.functions i ≡ Some f) (k : IsNodeCode R fits c i (code (frame_of f))) (live : Frame → ℕ → Bool) (s : State) (out : List ℕ) (q : Q) (at : s.at ≡ i)
+module _ {Q I : Type 0} (R : Rows Q I) (fits : I → Type 0) (code : ℕ → List I) (lead : PrologsLead R fits code) (c : Code) (i line : ℕ) (f : Function)
+    (S : ℕ → Bool) (t : IsInText c i (prolog_node line))
+    (function : function_here c.shape.functions i ≡ Some f) (k : IsNodeCode R fits c i (code (frame_of f))) (live : Frame → ℕ → Bool) (s : State)
+    (out : List ℕ) (q : Q) (at : s.at ≡ i)
     (st : Stands R.processor c live s out q (live_before (prolog_node line) S)) where
   abbrev n : Node
   n = prolog_node line
@@ -67,7 +70,8 @@ module _ {Q I : Type 0} (R : Rows Q I) (fits : I → Type 0) (code : ℕ → Lis
   unprepared = (t.well.entries i (ap is_prolog_at t.here)).1
 
   room : least_frame + frame_of f ≤ sp
-  room = frame-room c.nodes c.shape s f (home c.nodes.nodes s.at) (ap (home c.nodes.nodes) at ∙ entry ∙ ap Some (sym at)) (ap (function_here c.shape.functions) at ∙ function) st.state.fits.top
+  room = frame-room c.nodes c.shape s f (home c.nodes.nodes s.at) (ap (home c.nodes.nodes) at ∙ entry ∙ ap Some (sym at))
+      (ap (function_here c.shape.functions) at ∙ function) st.state.fits.top
 
   top : (sp % 16 ≡ 0) × (sp ≤ stack_end)
   top = let e = stacked-high sp s.callers (stacked c.nodes c.shape s.frame s.callers st.state.fits.linked) in (e.0, e.1)
@@ -76,10 +80,12 @@ module _ {Q I : Type 0} (R : Rows Q I) (fits : I → Type 0) (code : ℕ → Lis
   large = omega arith
 
   arrives : IsArriving target c.place (R.processor.seen q).bytes (R.processor.seen q).registers s.frame s.callers (live (at_call s.frame))
-  arrives = arriving target c live s (is_inside c s.at) (R.processor.seen q).bytes (R.processor.seen q).registers (ap (is_inside c) at ∙ outer-is (home c.nodes.nodes i) i entry) st.state.frame
+  arrives = arriving target c live s (is_inside c s.at) (R.processor.seen q).bytes (R.processor.seen q).registers
+      (ap (is_inside c) at ∙ outer-is (home c.nodes.nodes i) i entry) st.state.frame
 
   enters : Entrance R.processor (c.place i) high sp (frame_of f) q
-  enters = lead (frame_of f) (c.place i) sp q st.state.seen large room top.1 top.0 arrives.stack (node-stands R fits c i (code (frame_of f)) k) st.runs (st.state.here ∙ ap c.place at)
+  enters = lead (frame_of f) (c.place i) sp q st.state.seen large room top.1 top.0 arrives.stack (node-stands R fits c i (code (frame_of f)) k) st.runs
+      (st.state.here ∙ ap c.place at)
 
   abbrev u : Q
   u = enters.end
@@ -91,12 +97,14 @@ module _ {Q I : Type 0} (R : Rows Q I) (fits : I → Type 0) (code : ℕ → Lis
   s' = on (begun s f)
 
   goes : step c.nodes c.shape c.addresses s ≡ Goes s' []
-  goes = ap (λ x. step_at (text c.nodes c.shape c.addresses) x s) (ap (slice_get c.nodes.nodes) at ∙ t.here) ∙ ap (λ o. need o (λ g. quiet (on (begun s g)))) (ap (function_here c.shape.functions) at ∙ function)
+  goes = ap (λ x. step_at (text c.nodes c.shape c.addresses) x s) (ap (slice_get c.nodes.nodes) at ∙ t.here)
+      ∙ ap (λ o. need o (λ g. quiet (on (begun s g)))) (ap (function_here c.shape.functions) at ∙ function)
 
   words : HasWords target c.place (R.processor.seen u).bytes s'.frame s.callers (live (at_call s.frame))
   words = record {
     back = enters.back (return_address c.place s.frame s.callers) arrives.link;
-    caller = keeps-caller target (R.processor.seen u).bytes (R.processor.seen q).registers s.frame (frame_of f) f.locals s.callers (live (at_call s.frame)) enters.caller enters.saved arrives.caller;
+    caller = keeps-caller target (R.processor.seen u).bytes (R.processor.seen q).registers s.frame (frame_of f) f.locals s.callers
+        (live (at_call s.frame)) enters.caller enters.saved arrives.caller;
     homes = λ j x lt e. subst (HasWord (R.processor.seen u).bytes _) (arrives.arguments.is j x lt e) (enters.homes j lt);
   }
 
@@ -112,7 +120,8 @@ module _ {Q I : Type 0} (R : Rows Q I) (fits : I → Type 0) (code : ℕ → Lis
       }
       record {
         few = (shaped c.nodes t.well).few;
-        fits = text-keeps c i n t s s' [] at (omega (arith, st.state.seen.low, st.state.mark)) (omega (arith, st.state.seen.high, st.state.mark)) st.state.fits goes;
+        fits = text-keeps c i n t s s' [] at (omega (arith, st.state.seen.low, st.state.mark))
+            (omega (arith, st.state.seen.high, st.state.mark)) st.state.fits goes;
         seen = enters.passes.keeps st.state.seen;
         here = enters.here ∙ sym k.next ∙ ap (λ j. c.place (j + 1)) (sym at);
         mark = enters.mark ∙ st.state.mark;
@@ -126,8 +135,14 @@ module _ {Q I : Type 0} (R : Rows Q I) (fits : I → Type 0) (code : ℕ → Lis
 
   pub prolog-leads : Leads R.processor c live (live_behind live n S s) i (step c.nodes c.shape c.addresses s) out q
   prolog-leads = subst (λ o. Leads R.processor c live (live_behind live n S s) i o out q) (sym goes)
-      (passages-lead R.processor c live (live_behind live n S s) i enters.steps (Goes s' []) out q u pass enters.few (λ e. absurd (let z = enters.some in omega (arith, e, z))) (λ e. enters.some) st.wrote
-      record { runs = enters.runs; wrote = ap R.processor.machine.out (sym pass.leads) ∙ pass.silent enters.steps (omega arith) ∙ st.wrote ∙ sym (append-nil out); state = agree })
+      (passages-lead R.processor c live (live_behind live n S s) i enters.steps (Goes s' []) out q u pass enters.few
+      (λ e. absurd (let z = enters.some in omega (arith, e, z))) (λ e. enters.some) st.wrote
+      record {
+        runs = enters.runs;
+        wrote = ap R.processor.machine.out (sym pass.leads) ∙ pass.silent enters.steps (omega arith) ∙ st.wrote ∙ sym (append-nil out);
+        state = agree;
+      })
 
 pub prologs-carry : {Q I : Type 0} (R : Rows Q I) (fits : I → Type 0) (code : ℕ → List I) → PrologsLead R fits code → PrologsCarry R fits code
-prologs-carry R fits code lead c i line f S t function k live s returns out q at st = inr (prolog-leads R fits code lead c i line f S t function k live s out q at st)
+prologs-carry R fits code lead c i line f S t function k live s returns out q at st =
+    inr (prolog-leads R fits code lead c i line f S t function k live s out q at st)

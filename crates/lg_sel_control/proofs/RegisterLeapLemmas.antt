@@ -1,5 +1,6 @@
 -- Jumps and calls of the word of a register are carried.
-use Rattle.std.proofs.Common.{◌≡◌, ◌≢◌, ℕ, zero, suc, ◌+◌, ◌<◌, ◌≤◌, ◌⊎◌, inl, inr, Bool, true, false, List, [], Option, Some, None, refl, sym, ap, ◌∙◌, subst, arith, length}
+use Rattle.std.proofs.Common.{◌≡◌, ◌≢◌, ℕ, zero, suc, ◌+◌, ◌<◌, ◌≤◌, ◌⊎◌, inl, inr, Bool, true, false, List, [], Option, Some, None, refl, sym, ap, ◌∙◌, subst}
+use Rattle.std.proofs.Common.{arith, length}
 use Rattle.std.specs.Prelude.{slice_get}
 use Rattle.lg_base.specs.Conventions.{stack_register}
 use Rattle.lg_base.specs.HostNames.{host_by_address}
@@ -12,7 +13,8 @@ use Rattle.lg_node.proofs.FunctionLaws.{home_within}
 use Rattle.lg_live.specs.Uses.{is_written}
 use Rattle.lg_live.specs.declared.uses.Access.TheVariants.{Read}
 use Rattle.lg_meaning.specs.States.{Frame, State, reg, number}
-use Rattle.lg_meaning.specs.Steps.{Goes, Undefined, need, to, quiet, is_target, jump_target, is_entry_label, entry_target, call_named, call_word, call_node as call_node_step, call_host}
+use Rattle.lg_meaning.specs.Steps.{Goes, Undefined, need, to, quiet, is_target, jump_target, is_entry_label, entry_target, call_named, call_word}
+use Rattle.lg_meaning.specs.Steps.{call_node as call_node_step, call_host}
 use Rattle.lg_meaning.specs.Texts.{text, step_at, step}
 use Rattle.lg_meaning.specs.Fits.{is_call}
 use Rattle.lg_temp.specs.Abis.{register_of}
@@ -33,13 +35,15 @@ use Rattle.lg_sel_nodes.proofs.LeapLemmas.{in-some, behind-prolog, next-inside, 
 use Rattle.lg_sel_nodes.proofs.OperandLemmas.{named-here, read-is-live}
 use Rattle.lg_sel_nodes.proofs.RegisterLemmas.{given}
 use Rattle.lg_sel_nodes.proofs.StraightLemmas.{text-keeps}
-use Rattle.lg_sel_control.specs.RegisterLeaps.{RegisterJumpsWalk, RegisterCallsLead, RegisterHostCallsLead, RegisterLeapsCarry, jmpr_node, callr_node, finishr_node}
+use Rattle.lg_sel_control.specs.RegisterLeaps.{RegisterJumpsWalk, RegisterCallsLead, RegisterHostCallsLead, RegisterLeapsCarry, jmpr_node, callr_node}
+use Rattle.lg_sel_control.specs.RegisterLeaps.{finishr_node}
 use Rattle.lg_sel_control.specs.Walks.{Walk}
 use Rattle.lg_sel_control.proofs.LandingLemmas.{LandsAt, last-landed, host-found, entry-home, target-inside}
 use Rattle.lg_sel_control.proofs.WalkLemmas.{walk-leads}
 
 -- a word that is the address of a label leads to the label's node
-word-there : {Q I : Type 0} (R : Rows Q I) (c : Code) (w : HasPlaces R c) (test : ℕ → ℕ → Bool) (x j : ℕ) → (k : LandsAt test c.nodes.places c.addresses x j) → j ≤ length c.nodes.nodes → (x ≡ c.place j) × IsThere R.is_place x
+word-there : {Q I : Type 0} (R : Rows Q I) (c : Code) (w : HasPlaces R c) (test : ℕ → ℕ → Bool) (x j : ℕ) → (k : LandsAt test c.nodes.places c.addresses x j)
+    → j ≤ length c.nodes.nodes → (x ≡ c.place j) × IsThere R.is_place x
 word-there R c w test x j l le =
     let place : x ≡ c.place j = sym l.address ∙ w.nodes.bound l.label j l.bound in
     (place, subst (IsThere R.is_place) (sym place) (there R c w j le (inl (l.label, l.bound))))
@@ -61,21 +65,38 @@ module _ {Q I : Type 0} (R : Rows Q I) (fits : I → Type 0) (rows : AreRows R f
       stepped : step c.nodes c.shape c.addresses s ≡ need (reg s a) (λ x. need (jump_target (text c.nodes c.shape c.addresses) s.at x) (λ j. quiet (to s j)))
       stepped = ap (λ m. step_at (text c.nodes c.shape c.addresses) m s) (ap (slice_get c.nodes.nodes) at ∙ t.here)
 
-      lands : (x j : ℕ) → reg s a ≡ Some x → jump_target (text c.nodes c.shape c.addresses) s.at x ≡ Some j → step c.nodes c.shape c.addresses s ≡ Goes (to s j) []
+      lands : (x j : ℕ) → reg s a ≡ Some x → jump_target (text c.nodes c.shape c.addresses) s.at x ≡ Some j
+          → step c.nodes c.shape c.addresses s ≡ Goes (to s j) []
           → Leads R.processor c live (live_behind live (jmpr_node a line) S s) i (step c.nodes c.shape c.addresses s) out q
       lands x j ex ej goes =
           let m : Node = jmpr_node a line in
           let l = last-landed (is_target (text c.nodes c.shape c.addresses) s.at) c.nodes.places c.addresses x (length c.nodes.places) j ej in
-          let kept = text-keeps c i m t s (to s j) [] at (omega (arith, st.state.seen.low, st.state.mark)) (omega (arith, st.state.seen.high, st.state.mark)) st.state.fits goes in
+          let kept = text-keeps c i m t s (to s j) [] at (omega (arith, st.state.seen.low, st.state.mark))
+          (omega (arith, st.state.seen.high, st.state.mark)) st.state.fits goes in
           let to-word = word-there R c w (is_target (text c.nodes c.shape c.addresses) s.at) x j l (let z = kept.inside in omega (arith, z)) in
           let before : is_inside c s.at ≡ true = ap (is_inside c) at ∙ inside in
           let held = given R.processor.target c live s (R.processor.seen q) (live_before m S) a x st.state before reads ex in
-          let walk = lead size (c.place i) x a q (held-frame R c i m S inside live s out q at st size is-frame) (node-stands R fits c i (code size a) k) to-word.1 st.runs (st.state.here ∙ ap c.place at) held in
+          let walk = lead size (c.place i) x a q (held-frame R c i m S inside live s out q at st size is-frame)
+          (node-stands R fits c i (code size a) k) to-word.1 st.runs (st.state.here ∙ ap c.place at) held in
           walk-leads R fits rows c i m (code size a) t k refl refl S live s out q st (to s j)
-          record { fits = kept; side = target-inside c i m t s.at x j ej ∙ sym before; regs = refl; carry = refl; answer = refl; pushed = refl; frame = refl; callers = refl; mem = refl; data_size = refl; args_size = refl; mark = refl }
+          record {
+            fits = kept;
+            side = target-inside c i m t s.at x j ej ∙ sym before;
+            regs = refl;
+            carry = refl;
+            answer = refl;
+            pushed = refl;
+            frame = refl;
+            callers = refl;
+            mem = refl;
+            data_size = refl;
+            args_size = refl;
+            mark = refl;
+          }
           goes (subst (λ z. Walk R.processor (c.place i) (behind R (c.place i) (code size a)) z q) to-word.0 walk)
 
-      by : (o : Option ℕ) → reg s a ≡ o → (step c.nodes c.shape c.addresses s ≡ Undefined) ⊎ Leads R.processor c live (live_behind live (jmpr_node a line) S s) i (step c.nodes c.shape c.addresses s) out q
+      by : (o : Option ℕ) → reg s a ≡ o → (step c.nodes c.shape c.addresses s ≡ Undefined)
+          ⊎ Leads R.processor c live (live_behind live (jmpr_node a line) S s) i (step c.nodes c.shape c.addresses s) out q
       by None ex = inl (stepped ∙ ap (λ z. need z (λ x. need (jump_target (text c.nodes c.shape c.addresses) s.at x) (λ j. quiet (to s j)))) ex)
       by (Some x) ex = next (jump_target (text c.nodes c.shape c.addresses) s.at x) refl
         where
@@ -83,17 +104,22 @@ module _ {Q I : Type 0} (R : Rows Q I) (fits : I → Type 0) (rows : AreRows R f
           found = stepped ∙ ap (λ z. need z (λ x. need (jump_target (text c.nodes c.shape c.addresses) s.at x) (λ j. quiet (to s j)))) ex
 
           next : (o : Option ℕ) → jump_target (text c.nodes c.shape c.addresses) s.at x ≡ o
-              → (step c.nodes c.shape c.addresses s ≡ Undefined) ⊎ Leads R.processor c live (live_behind live (jmpr_node a line) S s) i (step c.nodes c.shape c.addresses s) out q
+              → (step c.nodes c.shape c.addresses s ≡ Undefined)
+              ⊎ Leads R.processor c live (live_behind live (jmpr_node a line) S s) i (step c.nodes c.shape c.addresses s) out q
           next None ej = inl (found ∙ ap (λ z. need z (λ j. quiet (to s j))) ej)
           next (Some j) ej = inr (lands x j ex ej (found ∙ ap (λ z. need z (λ j. quiet (to s j))) ej))
 
 -- ---- calls
 module _ {Q I : Type 0} (R : Rows Q I) (ready : HostName → (ℕ → ℕ) → Bool) (fits : I → Type 0) (hosts : EntersHosts R.processor ready) (code : ℕ → Reg → List I)
     (lead : RegisterCallsLead R fits code) (host-lead : RegisterHostCallsLead R ready fits code) where
-  module _ (c : Code) (i : ℕ) (n : Node) (a : Reg) (size : ℕ) (S : ℕ → Bool) (w : HasPlaces R c) (t : IsInText c i n) (is-frame : IsFrameOf c i size) (k : IsNodeCode R fits c i (code size a))
-      (inside : is_inside c i ≡ true) (next : is_inside c (i + 1) ≡ true) (calls : is_call n.op ≡ true) (saved : (v : ℕ) → v < 3 → numbered (is_written n) (v + 3) ≡ false)
-      (reads : a ≢ Fp → live_before n S (number a) ≡ true) (live : Frame → ℕ → Bool) (s : State) (returns : ReturnsTo live n S s) (out : List ℕ) (q : Q) (at : s.at ≡ i)
-      (st : Stands R.processor c live s out q (live_before n S)) (args : List ℕ) (few-args : length args ≤ 16) (held : HoldsArguments R.processor.target (R.processor.seen q).registers args)
+  module _ (c : Code) (i : ℕ) (n : Node) (a : Reg) (size : ℕ) (S : ℕ → Bool) (w : HasPlaces R c) (t : IsInText c i n) (is-frame : IsFrameOf c i size)
+      (k : IsNodeCode R fits c i (code size a))
+      (inside : is_inside c i ≡ true) (next : is_inside c (i + 1) ≡ true) (calls : is_call n.op ≡ true)
+      (saved : (v : ℕ) → v < 3 → numbered (is_written n) (v + 3) ≡ false)
+      (reads : a ≢ Fp → live_before n S (number a) ≡ true) (live : Frame → ℕ → Bool) (s : State) (returns : ReturnsTo live n S s) (out : List ℕ) (q : Q)
+      (at : s.at ≡ i)
+      (st : Stands R.processor c live s out q (live_before n S)) (args : List ℕ) (few-args : length args ≤ 16)
+      (held : HoldsArguments R.processor.target (R.processor.seen q).registers args)
       (stacked : HasArguments R.processor.target (R.processor.seen q).bytes (lowest s.frame) args) where
     abbrev Carried : Type 0
     Carried = (step c.nodes c.shape c.addresses s ≡ Undefined) ⊎ Leads R.processor c live (live_behind live n S s) i (step c.nodes c.shape c.addresses s) out q
@@ -113,27 +139,34 @@ module _ {Q I : Type 0} (R : Rows Q I) (ready : HostName → (ℕ → ℕ) → B
     here : (R.processor.seen q).pc ≡ c.place i
     here = st.state.here ∙ ap c.place at
 
-    to-host : (x : ℕ) (name : HostName) → reg s a ≡ Some x → host_by_address x ≡ Some name → step c.nodes c.shape c.addresses s ≡ call_host s args name → Carried
+    to-host : (x : ℕ) (name : HostName) → reg s a ≡ Some x → host_by_address x ≡ Some name → step c.nodes c.shape c.addresses s ≡ call_host s args name
+        → Carried
     to-host x name ex found steps =
-        let arr = host-lead size (c.place i) name a q (held-frame R c i n S inside live s out q at st size is-frame) (node-stands R fits c i (code size a) k) st.runs here (word-is x ex ∙ host-found x name found) in
+        let arr = host-lead size (c.place i) name a q (held-frame R c i n S inside live s out q at st size is-frame)
+        (node-stands R fits c i (code size a) k) st.runs here (word-is x ex ∙ host-found x name found) in
         host-called R ready hosts c i n S w t inside next calls saved live s out q at st args few-args held stacked name
-        (subst (λ z. HostArrival R.processor ready (c.place i) z (lowest s.frame) z name q) (sym k.next) (subst (λ z. HostArrival R.processor ready (c.place i) high z high name q) stack-is arr)) steps
+        (subst (λ z. HostArrival R.processor ready (c.place i) z (lowest s.frame) z name q) (sym k.next)
+        (subst (λ z. HostArrival R.processor ready (c.place i) high z high name q) stack-is arr)) steps
 
-    to-label : (x j : ℕ) → reg s a ≡ Some x → entry_target (text c.nodes c.shape c.addresses) x ≡ Some j → step c.nodes c.shape c.addresses s ≡ call_node_step (text c.nodes c.shape c.addresses) s args j → Carried
+    to-label : (x j : ℕ) → reg s a ≡ Some x → entry_target (text c.nodes c.shape c.addresses) x ≡ Some j
+        → step c.nodes c.shape c.addresses s ≡ call_node_step (text c.nodes c.shape c.addresses) s args j → Carried
     to-label x j ex found steps =
         let l = last-landed (is_entry_label (text c.nodes c.shape c.addresses)) c.nodes.places c.addresses x (length c.nodes.places) j found in
         let entry = entry-home c i n t x j found in
         let within = home_within c.nodes.nodes j j entry in
         let to-word = word-there R c w (is_entry_label (text c.nodes c.shape c.addresses)) x j l (omega (arith, within)) in
-        let arr = lead size (c.place i) x a q (held-frame R c i n S inside live s out q at st size is-frame) (node-stands R fits c i (code size a) k) to-word.1 st.runs here (word-is x ex) in
+        let arr = lead size (c.place i) x a q (held-frame R c i n S inside live s out q at st size is-frame)
+        (node-stands R fits c i (code size a) k) to-word.1 st.runs here (word-is x ex) in
         enters R c i n S t inside calls saved live s returns out q at st args few-args held stacked j entry
         (subst (λ z. Arrival R.processor (c.place i) z (lowest s.frame) z (c.place j) q) (sym k.next)
-        (subst (λ z. Arrival R.processor (c.place i) high z high (c.place j) q) stack-is (subst (λ z. Arrival R.processor (c.place i) high stack high z q) to-word.0 arr))) steps
+        (subst (λ z. Arrival R.processor (c.place i) high z high (c.place j) q) stack-is
+        (subst (λ z. Arrival R.processor (c.place i) high stack high z q) to-word.0 arr))) steps
 
     pub word-called : step c.nodes c.shape c.addresses s ≡ need (reg s a) (λ x. call_word (text c.nodes c.shape c.addresses) s args x) → Carried
     word-called stepped = by (reg s a) refl
       where
-        named : (x : ℕ) (o : Option HostName) → reg s a ≡ Some x → host_by_address x ≡ o → step c.nodes c.shape c.addresses s ≡ call_named (text c.nodes c.shape c.addresses) s args x o → Carried
+        named : (x : ℕ) (o : Option HostName) → reg s a ≡ Some x → host_by_address x ≡ o
+            → step c.nodes c.shape c.addresses s ≡ call_named (text c.nodes c.shape c.addresses) s args x o → Carried
         named x (Some name) ex found steps = to-host x name ex found steps
         named x None ex found steps = entered-at (entry_target (text c.nodes c.shape c.addresses) x) refl
           where
@@ -149,8 +182,10 @@ module _ {Q I : Type 0} (R : Rows Q I) (ready : HostName → (ℕ → ℕ) → B
   register-calls-carry c i a line size S w t is-frame k live s returns out q at st =
       let n = callr_node a line in
       let p = in-some c i n t refl in
-      word-called c i n a size S w t is-frame k (behind-prolog c i n t p.0 p.1 refl) (next-inside c i n t p.0 p.1 refl) refl saved (λ ne. read-is-live n S a (λ z. named-here Read form.Read [] a [] refl z) ne)
-      live s returns out q at st [] (omega arith) record { is = λ j x lt z. cc } record { is = λ j x lt z. cc } (ap (λ m. step_at (text c.nodes c.shape c.addresses) m s) (ap (slice_get c.nodes.nodes) at ∙ t.here))
+      word-called c i n a size S w t is-frame k (behind-prolog c i n t p.0 p.1 refl) (next-inside c i n t p.0 p.1 refl) refl saved
+      (λ ne. read-is-live n S a (λ z. named-here Read form.Read [] a [] refl z) ne)
+      live s returns out q at st [] (omega arith) record { is = λ j x lt z. cc } record { is = λ j x lt z. cc }
+      (ap (λ m. step_at (text c.nodes c.shape c.addresses) m s) (ap (slice_get c.nodes.nodes) at ∙ t.here))
     where
       saved : (v : ℕ) → v < 3 → numbered (is_written (callr_node a line)) (v + 3) ≡ false
       saved zero lt = refl
@@ -162,8 +197,10 @@ module _ {Q I : Type 0} (R : Rows Q I) (ready : HostName → (ℕ → ℕ) → B
   register-finishes-carry c i a line size S w t is-frame k live s returns out q at st =
       let n = finishr_node a line in
       let p = in-some c i n t refl in
-      word-called c i n a size S w t is-frame k (behind-prolog c i n t p.0 p.1 refl) (next-inside c i n t p.0 p.1 refl) refl saved (λ ne. read-is-live n S a (λ z. named-here Read form.Read [] a [] refl z) ne)
-      live s returns out q at st s.pushed (let f = (shaped c.nodes t.well).few s.at (omega (arith, st.state.fits.inside)) in omega (arith, f, st.state.fits.pushed)) st.state.pushed st.state.outgoing
+      word-called c i n a size S w t is-frame k (behind-prolog c i n t p.0 p.1 refl) (next-inside c i n t p.0 p.1 refl) refl saved
+      (λ ne. read-is-live n S a (λ z. named-here Read form.Read [] a [] refl z) ne)
+      live s returns out q at st s.pushed (let f = (shaped c.nodes t.well).few s.at (omega (arith, st.state.fits.inside)) in
+      omega (arith, f, st.state.fits.pushed)) st.state.pushed st.state.outgoing
       (ap (λ m. step_at (text c.nodes c.shape c.addresses) m s) (ap (slice_get c.nodes.nodes) at ∙ t.here))
     where
       saved : (v : ℕ) → v < 3 → numbered (is_written (finishr_node a line)) (v + 3) ≡ false

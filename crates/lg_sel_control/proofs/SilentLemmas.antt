@@ -59,18 +59,85 @@ nothing : (xs : List ℕ) → length xs ≡ 0 → [] ≡ xs
 nothing [] e = refl
 nothing (x ∷ xs) e = absurd (omega (arith, e))
 
-module _ {Q I : Type 0} (R : Rows Q I) (fits : I → Type 0) (rows : AreRows R fits) (c : Code) (i : ℕ) (n : Node) (S : ℕ → Bool) (t : IsInText c i n) (k : IsNodeCode R fits c i []) (is : IsSilent n) where
+module _ {Q I : Type 0} (R : Rows Q I) (fits : I → Type 0) (rows : AreRows R fits) (c : Code) (i : ℕ) (n : Node) (S : ℕ → Bool) (t : IsInText c i n)
+    (k : IsNodeCode R fits c i []) (is : IsSilent n) where
   -- at a `prepare` nothing is pushed
-  unpushed : (s : State) (live : Frame → ℕ → Bool) (q : Q) (out : List ℕ) → s.at ≡ i → Stands R.processor c live s out q (live_before n S) → breaks_preparation n.op ≡ true → [] ≡ s.pushed
+  unpushed : (s : State) (live : Frame → ℕ → Bool) (q : Q) (out : List ℕ) → s.at ≡ i → Stands R.processor c live s out q (live_before n S)
+      → breaks_preparation n.op ≡ true → [] ≡ s.pushed
   unpushed s live q out at st breaks =
       let none : prepared_before c.nodes.nodes i ≡ None = t.well.unprepared i n t.here (rw breaks refl) in
       nothing s.pushed (st.state.fits.pushed ∙ ap (λ j. pushed_of (prepared_before c.nodes.nodes j)) at ∙ ap pushed_of none)
 
-  stepped : (s : State) (o : Op) → n.op ≡ o → is_silent o ≡ true → (breaks_preparation n.op ≡ true → [] ≡ s.pushed) → (u : State) × (node_step (text c.nodes c.shape c.addresses) n o s ≡ Goes u []) × GoesOn s u
-  stepped s (op.Plain plain.Prepare) e h none = (_, refl, record { at = refl; regs = refl; carry = refl; answer = refl; pushed = none (rw e refl); frame = refl; callers = refl; mem = refl; data_size = refl; args_size = refl; mark = refl })
-  stepped s (op.Plain plain.Ellipsis) e h none = (_, refl, record { at = refl; regs = refl; carry = refl; answer = refl; pushed = refl; frame = refl; callers = refl; mem = refl; data_size = refl; args_size = refl; mark = refl })
-  stepped s (op.Plain plain.Arg) e h none = (_, refl, record { at = refl; regs = refl; carry = refl; answer = refl; pushed = refl; frame = refl; callers = refl; mem = refl; data_size = refl; args_size = refl; mark = refl })
-  stepped s (op.Plain plain.Allocai) e h none = (_, refl, record { at = refl; regs = refl; carry = refl; answer = refl; pushed = refl; frame = refl; callers = refl; mem = refl; data_size = refl; args_size = refl; mark = refl })
+  stepped : (s : State) (o : Op) → n.op ≡ o → is_silent o ≡ true → (breaks_preparation n.op ≡ true → [] ≡ s.pushed) → (u : State)
+      × (node_step (text c.nodes c.shape c.addresses) n o s ≡ Goes u []) × GoesOn s u
+  stepped s (op.Plain plain.Prepare) e h none = (
+    _,
+    refl,
+    record {
+      at = refl;
+      regs = refl;
+      carry = refl;
+      answer = refl;
+      pushed = none (rw e refl);
+      frame = refl;
+      callers = refl;
+      mem = refl;
+      data_size = refl;
+      args_size = refl;
+      mark = refl;
+    },
+  )
+  stepped s (op.Plain plain.Ellipsis) e h none = (
+    _,
+    refl,
+    record {
+      at = refl;
+      regs = refl;
+      carry = refl;
+      answer = refl;
+      pushed = refl;
+      frame = refl;
+      callers = refl;
+      mem = refl;
+      data_size = refl;
+      args_size = refl;
+      mark = refl;
+    },
+  )
+  stepped s (op.Plain plain.Arg) e h none = (
+    _,
+    refl,
+    record {
+      at = refl;
+      regs = refl;
+      carry = refl;
+      answer = refl;
+      pushed = refl;
+      frame = refl;
+      callers = refl;
+      mem = refl;
+      data_size = refl;
+      args_size = refl;
+      mark = refl;
+    },
+  )
+  stepped s (op.Plain plain.Allocai) e h none = (
+    _,
+    refl,
+    record {
+      at = refl;
+      regs = refl;
+      carry = refl;
+      answer = refl;
+      pushed = refl;
+      frame = refl;
+      callers = refl;
+      mem = refl;
+      data_size = refl;
+      args_size = refl;
+      mark = refl;
+    },
+  )
   stepped s o e h none = cc
 
   carried : is_silent n.op ≡ true → CarriesNode R.processor c i n S
@@ -79,7 +146,8 @@ module _ {Q I : Type 0} (R : Rows Q I) (fits : I → Type 0) (rows : AreRows R f
       let go = stepped s n.op refl silent (unpushed s live q out at st) in
       let u = go.0 in
       let m = go.2 in
-      let goes : step c.nodes c.shape c.addresses s ≡ Goes u [] = ap (λ x. step_at (text c.nodes c.shape c.addresses) x s) (ap (slice_get c.nodes.nodes) at ∙ t.here) ∙ go.1 in
+      let goes : step c.nodes c.shape c.addresses s ≡ Goes u [] =
+      ap (λ x. step_at (text c.nodes c.shape c.addresses) x s) (ap (slice_get c.nodes.nodes) at ∙ t.here) ∙ go.1 in
       let place : c.place u.at ≡ c.place s.at = ap c.place m.at ∙ ap (λ j. c.place (j + 1)) at ∙ k.next ∙ omega arith ∙ ap c.place (sym at) in
       let walk : Walk R.processor (c.place i) (behind R (c.place i) []) (c.place u.at) q = record {
         end = q;
@@ -99,8 +167,10 @@ module _ {Q I : Type 0} (R : Rows Q I) (fits : I → Type 0) (rows : AreRows R f
       } in
       inr (walk-leads R fits rows c i n [] t k is.stays is.writes S live s out q st u
       record {
-        fits = text-keeps c i n t s u [] at (omega (arith, st.state.seen.low, st.state.mark)) (omega (arith, st.state.seen.high, st.state.mark)) st.state.fits goes;
-        side = ap (is_inside c) m.at ∙ ap (λ j. is_inside c (j + 1)) at ∙ next-inside c i n t p.0 p.1 is.epilog ∙ sym (ap (is_inside c) at ∙ behind-prolog c i n t p.0 p.1 is.prolog);
+        fits = text-keeps c i n t s u [] at (omega (arith, st.state.seen.low, st.state.mark))
+            (omega (arith, st.state.seen.high, st.state.mark)) st.state.fits goes;
+        side = ap (is_inside c) m.at ∙ ap (λ j. is_inside c (j + 1)) at ∙ next-inside c i n t p.0 p.1 is.epilog
+            ∙ sym (ap (is_inside c) at ∙ behind-prolog c i n t p.0 p.1 is.prolog);
         regs = m.regs;
         carry = m.carry;
         answer = m.answer;

@@ -18,4 +18,5 @@ is_silent (op.Plain plain.Allocai) = true
 is_silent o = false
 
 abbrev pub SilentNodesCarry : {Q I : Type 0} → Rows Q I → (I → Type 0) → Type 0
-SilentNodesCarry R fits = (c : Code) (i : ℕ) (n : Node) (S : ℕ → Bool) → is_silent n.op ≡ true → IsInText c i n → IsNodeCode R fits c i [] → CarriesNode R.processor c i n S
+SilentNodesCarry R fits = (c : Code) (i : ℕ) (n : Node) (S : ℕ → Bool) → is_silent n.op ≡ true → IsInText c i n → IsNodeCode R fits c i []
+    → CarriesNode R.processor c i n S
