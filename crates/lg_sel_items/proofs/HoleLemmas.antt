@@ -1,5 +1,6 @@
 -- Items that stand in a buffer become instructions when its fixes are patched.
-use Rattle.std.proofs.Common.{◌≡◌, ℕ, ◌+◌, ◌<◌, ◌≤◌, inl, inr, List, [], ◌∷◌, ◌++◌, length, drop, get_or, Option, refl, sym, ap, subst, ◌∙◌, arith, append_assoc, length-append}
+use Rattle.std.proofs.Common.{◌≡◌, ℕ, ◌+◌, ◌<◌, ◌≤◌, inl, inr, List, [], ◌∷◌, ◌++◌, length, drop, get_or, Option, refl, sym, ap, subst, ◌∙◌, arith}
+use Rattle.std.proofs.Common.{append_assoc, length-append}
 use Rattle.std.proofs.Math.Seq.{get_or-append_seam}
 use Rattle.std.specs.List.{All}
 use Rattle.std.proofs.lemmas.List.{drop-drop}
@@ -10,7 +11,8 @@ use Rattle.lg_buf.specs.Buffers.{AreDone, IsDone, IsOutside}
 use Rattle.lg_carry.specs.Blocks.{spellings}
 use Rattle.lg_cpu.specs.Laws.{AreBytes}
 use Rattle.lg_sel_items.proofs.ListLemmas.{spellings-append}
-use Rattle.lg_sel_items.specs.Holes.{Holes, words_in, blanks, settled, fixes_of, Each, IsWithin, IsApartFrom, HaveAddresses, IsPatched, IsSettled, AreHoles, StandAt, ItemsAreSettled}
+use Rattle.lg_sel_items.specs.Holes.{Holes, words_in, blanks, settled, fixes_of, Each, IsWithin, IsApartFrom, HaveAddresses, IsPatched, IsSettled, AreHoles}
+use Rattle.lg_sel_items.specs.Holes.{StandAt, ItemsAreSettled}
 
 -- what stands behind a list
 dropped : (xs ys : List ℕ) → drop (length xs) (xs ++ ys) ≡ ys
@@ -54,25 +56,31 @@ module _ {L I : Type 0} (H : Holes L I) (spelling : I → List ℕ) (fits : I �
 
   -- the fixes of an item have none of the bytes behind it
   fixes-apart : (p n : ℕ) (x : L) → is_item x → All (IsApartFrom (p + length (H.blank x)) n) (H.fix_of p x)
-  fixes-apart p n x item = All-weaker (IsWithin p (length (H.blank x))) (IsApartFrom (p + length (H.blank x)) n) (λ f w. inl w.1) (H.fix_of p x) (ok.within p x item)
+  fixes-apart p n x item = All-weaker (IsWithin p (length (H.blank x))) (IsApartFrom (p + length (H.blank x)) n) (λ f w. inl w.1) (H.fix_of p x)
+      (ok.within p x item)
 
   -- the items behind the first
-  next : (emitted : List ℕ) (fixes : List Fix) (p : ℕ) (x : L) (xs : List L) → is_item x → StandAt H emitted fixes p (x ∷ xs) → StandAt H emitted fixes (p + length (H.blank x)) xs
+  next : (emitted : List ℕ) (fixes : List Fix) (p : ℕ) (x : L) (xs : List L) → is_item x → StandAt H emitted fixes p (x ∷ xs)
+      → StandAt H emitted fixes (p + length (H.blank x)) xs
   next emitted fixes p x xs item s =
       let q = p + length (H.blank x) in
       let size = length-append (H.blank x) (blanks H xs) in
       let less = apart-less p q (length (blanks H (x ∷ xs))) (length (blanks H xs)) (omega arith) (omega (arith, size)) in
       record {
         rest = s.rest;
-        bytes = sym (drop-drop (length (H.blank x)) p emitted) ∙ ap (drop (length (H.blank x))) (s.bytes ∙ append_assoc (H.blank x) (blanks H xs) s.rest) ∙ dropped (H.blank x) (blanks H xs ++ s.rest);
+        bytes = sym (drop-drop (length (H.blank x)) p emitted) ∙ ap (drop (length (H.blank x))) (s.bytes ∙ append_assoc (H.blank x) (blanks H xs) s.rest)
+            ∙ dropped (H.blank x) (blanks H xs ++ s.rest);
         before = s.before ++ H.fix_of p x;
         behind = s.behind;
         fixes = s.fixes ∙ simp append_assoc;
-        apart_before = All-append (IsApartFrom q (length (blanks H xs))) s.before (H.fix_of p x) (All-weaker (IsApartFrom p (length (blanks H (x ∷ xs)))) (IsApartFrom q (length (blanks H xs))) less s.before s.apart_before) (fixes-apart p (length (blanks H xs)) x item);
+        apart_before = All-append (IsApartFrom q (length (blanks H xs))) s.before (H.fix_of p x)
+            (All-weaker (IsApartFrom p (length (blanks H (x ∷ xs)))) (IsApartFrom q (length (blanks H xs))) less s.before s.apart_before)
+            (fixes-apart p (length (blanks H xs)) x item);
         apart_behind = All-weaker (IsApartFrom p (length (blanks H (x ∷ xs)))) (IsApartFrom q (length (blanks H xs))) less s.behind s.apart_behind;
       }
 
-  module _ (labels : List (Option ℕ)) (fixes : List Fix) (emitted finished : List ℕ) (to : ℕ → ℕ) (done : AreDone labels fixes (length fixes) emitted finished) (small : AreBytes finished) (addresses : HaveAddresses labels to) where
+  module _ (labels : List (Option ℕ)) (fixes : List Fix) (emitted finished : List ℕ) (to : ℕ → ℕ) (done : AreDone labels fixes (length fixes) emitted finished)
+      (small : AreBytes finished) (addresses : HaveAddresses labels to) where
     -- a fix among those of the buffer is done
     fix-done : (before rest : List Fix) (f : Fix) → fixes ≡ before ++ f ∷ rest → IsDone labels emitted finished f
     fix-done before rest f e =
@@ -81,7 +89,8 @@ module _ {L I : Type 0} (H : Holes L I) (spelling : I → List ℕ) (fits : I �
 
     all-done : (before own rest : List Fix) → fixes ≡ before ++ (own ++ rest) → All (IsDone labels emitted finished) own
     all-done before [] rest e = All-nil (IsDone labels emitted finished)
-    all-done before (f ∷ own) rest e = All-cons (IsDone labels emitted finished) f own (fix-done before (own ++ rest) f e) (all-done (before ++ f ∷ []) own rest (e ∙ simp append_assoc))
+    all-done before (f ∷ own) rest e = All-cons (IsDone labels emitted finished) f own (fix-done before (own ++ rest) f e)
+        (all-done (before ++ f ∷ []) own rest (e ∙ simp append_assoc))
 
     patched : (p : ℕ) (x : L) (xs : List L) → is_item x → Each is_item xs → StandAt H emitted fixes p (x ∷ xs) → IsPatched H labels emitted finished p x
     patched p x xs item each s =
@@ -92,18 +101,24 @@ module _ {L I : Type 0} (H : Holes L I) (spelling : I → List ℕ) (fits : I �
           stands = s.bytes ∙ append_assoc (H.blank x) (blanks H xs) s.rest;
           long = done.long;
           bytes = small;
-          done = all-done s.before (H.fix_of p x) (fixes_of H q xs ++ s.behind) (s.fixes ∙ ap (λ l. s.before ++ l) (append_assoc (H.fix_of p x) (fixes_of H q xs) s.behind));
+          done = all-done s.before (H.fix_of p x) (fixes_of H q xs ++ s.behind)
+              (s.fixes ∙ ap (λ l. s.before ++ l) (append_assoc (H.fix_of p x) (fixes_of H q xs) s.behind));
           others = λ i from below own.
               let inside : i < p + length (blanks H (x ∷ xs)) = omega (arith, below, size) in
-              let before = All-weaker (IsApartFrom p (length (blanks H (x ∷ xs)))) (IsOutside i) (apart-outside p (length (blanks H (x ∷ xs))) i from inside) s.before s.apart_before in
-              let after = All-weaker (IsApartFrom p (length (blanks H (x ∷ xs)))) (IsOutside i) (apart-outside p (length (blanks H (x ∷ xs))) i from inside) s.behind s.apart_behind in
-              let later = All-weaker (λ f. q ≤ f.place) (IsOutside i) (λ f h. inl (omega (arith, h, below))) (fixes_of H q xs) (fixes-behind q q xs each (omega arith)) in
-              let all : All (IsOutside i) fixes = subst (All (IsOutside i)) (sym s.fixes) (All-append (IsOutside i) s.before (fixes_of H p (x ∷ xs) ++ s.behind) before
+              let before = All-weaker (IsApartFrom p (length (blanks H (x ∷ xs)))) (IsOutside i)
+              (apart-outside p (length (blanks H (x ∷ xs))) i from inside) s.before s.apart_before in
+              let after = All-weaker (IsApartFrom p (length (blanks H (x ∷ xs)))) (IsOutside i)
+              (apart-outside p (length (blanks H (x ∷ xs))) i from inside) s.behind s.apart_behind in
+              let later = All-weaker (λ f. q ≤ f.place) (IsOutside i) (λ f h. inl (omega (arith, h, below))) (fixes_of H q xs)
+              (fixes-behind q q xs each (omega arith)) in
+              let all : All (IsOutside i) fixes = subst (All (IsOutside i)) (sym s.fixes)
+              (All-append (IsOutside i) s.before (fixes_of H p (x ∷ xs) ++ s.behind) before
               (All-append (IsOutside i) (fixes_of H p (x ∷ xs)) s.behind (All-append (IsOutside i) (H.fix_of p x) (fixes_of H q xs) own later) after)) in
               done.others i (λ k lt d. all k d lt);
         }
 
-    pub settle-all : (p : ℕ) (items : List L) → Each is_item items → StandAt H emitted fixes p items → IsSettled spelling fits finished p (p + length (blanks H items)) (settled H to (code_base + p) items)
+    pub settle-all : (p : ℕ) (items : List L) → Each is_item items → StandAt H emitted fixes p items
+        → IsSettled spelling fits finished p (p + length (blanks H items)) (settled H to (code_base + p) items)
     settle-all p [] each s = record { stands = (let z : p ≡ p + 0 = omega arith in ap (λ n. drop n finished) z); fit = All-nil fits }
     settle-all p (x ∷ xs) each s =
         let q = p + length (H.blank x) in
@@ -115,11 +130,14 @@ module _ {L I : Type 0} (H : Holes L I) (spelling : I → List ℕ) (fits : I �
         let size = length-append (H.blank x) (blanks H xs) in
         let z : q + length (blanks H xs) ≡ p + length (blanks H (x ∷ xs)) = omega (arith, size) in
         record {
-          stands = here.stands ∙ ap (λ l. spellings spelling is ++ l) (rest.stands ∙ ap (λ a. spellings spelling (settled H to a xs) ++ drop (q + length (blanks H xs)) finished) e ∙ ap (λ n. spellings spelling js ++ drop n finished) z)
+          stands = here.stands ∙ ap (λ l. spellings spelling is ++ l)
+              (rest.stands ∙ ap (λ a. spellings spelling (settled H to a xs) ++ drop (q + length (blanks H xs)) finished) e
+              ∙ ap (λ n. spellings spelling js ++ drop n finished) z)
               ∙ sym (append_assoc (spellings spelling is) (spellings spelling js) (drop (p + length (blanks H (x ∷ xs))) finished))
               ∙ ap (λ l. l ++ drop (p + length (blanks H (x ∷ xs))) finished) (sym (spellings-append spelling is js));
           fit = All-append fits is js here.fit (subst (λ a. All fits (settled H to a xs)) e rest.fit);
         }
 
   pub items-are-settled : ItemsAreSettled H spelling fits is_item
-  items-are-settled labels fixes emitted finished to place items done small addresses each s = settle-all labels fixes emitted finished to done small addresses place items each s
+  items-are-settled labels fixes emitted finished to place items done small addresses each s =
+      settle-all labels fixes emitted finished to done small addresses place items each s

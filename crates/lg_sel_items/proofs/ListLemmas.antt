@@ -7,7 +7,8 @@ use Rattle.lg_sel_items.specs.Holes.{Holes, words_in, blanks, settled, fixes_of,
 -- ---- instructions
 pub spellings-append : {I : Type 0} (spelling : I → List ℕ) (is js : List I) → spellings spelling (is ++ js) ≡ spellings spelling is ++ spellings spelling js
 spellings-append spelling [] js = refl
-spellings-append spelling (i ∷ is) js = ap (λ l. spelling i ++ l) (spellings-append spelling is js) ∙ sym (append_assoc (spelling i) (spellings spelling is) (spellings spelling js))
+spellings-append spelling (i ∷ is) js = ap (λ l. spelling i ++ l) (spellings-append spelling is js)
+    ∙ sym (append_assoc (spelling i) (spellings spelling is) (spellings spelling js))
 
 -- ---- two lists in a row
 pub each-append : {L : Type 0} (P : L → Type 0) (xs ys : List L) → Each P xs → Each P ys → Each P (xs ++ ys)

@@ -12,8 +12,10 @@ use Rattle.lg_sel_items.specs.Holes.{Holes, words_in, blanks, settled, AreHoles}
 use Rattle.lg_sel_items.specs.NodeItems.{InstructionsStay, AreOfNode}
 use Rattle.lg_sel_items.proofs.HoleLemmas as holes
 
-module _ {L Q I : Type 0} (H : Holes L I) (R : Rows Q I) (fits stays : I → Type 0) (is_item : L → Type 0) (ok : AreHoles H R.spelling fits is_item) (stay : InstructionsStay R stays) where
-  pub items-are-node-code : (c : Code) (i : ℕ) (items : List L) → AreOfNode H R fits stays is_item c i items → (leaps_at (slice_get c.nodes.nodes i) ≡ true → 0 < words_in H items)
+module _ {L Q I : Type 0} (H : Holes L I) (R : Rows Q I) (fits stays : I → Type 0) (is_item : L → Type 0) (ok : AreHoles H R.spelling fits is_item)
+    (stay : InstructionsStay R stays) where
+  pub items-are-node-code : (c : Code) (i : ℕ) (items : List L) → AreOfNode H R fits stays is_item c i items
+      → (leaps_at (slice_get c.nodes.nodes i) ≡ true → 0 < words_in H items)
       → IsNodeCode R fits c i (settled H (slice_index c.addresses) (c.place i) items)
   items-are-node-code c i items a some =
       let to : ℕ → ℕ = slice_index c.addresses in
@@ -34,6 +36,8 @@ module _ {L Q I : Type 0} (H : Holes L I) (R : Rows Q I) (fits stays : I → Typ
         outside = λ k d lt. stay (slice_index_or is k d) (a.stay k d lt);
       }
 
-  pub items-are-node-blocks : (c : Code) (i : ℕ) (items : List L) → AreOfNode H R fits stays is_item c i items → (leaps_at (slice_get c.nodes.nodes i) ≡ true → 0 < words_in H items)
-      → IsBlock R.is_straight (settled H (slice_index c.addresses) (c.place i) items) → IsNodeBlock R fits c i (settled H (slice_index c.addresses) (c.place i) items)
+  pub items-are-node-blocks : (c : Code) (i : ℕ) (items : List L) → AreOfNode H R fits stays is_item c i items
+      → (leaps_at (slice_get c.nodes.nodes i) ≡ true → 0 < words_in H items)
+      → IsBlock R.is_straight (settled H (slice_index c.addresses) (c.place i) items)
+      → IsNodeBlock R fits c i (settled H (slice_index c.addresses) (c.place i) items)
   items-are-node-blocks c i items a some block = record { code = items-are-node-code c i items a some; block = block }

@@ -15,7 +15,8 @@ abbrev pub InstructionsStay : {Q I : Type 0} → Rows Q I → (I → Type 0) →
 InstructionsStay {Q} {I} R stays = (i : I) → stays i → StaysOutside R i
 
 -- the instructions of these items, with the addresses of the labels, stand where node i does, are its code, are at most 64, and stay within the conventions
-pub record AreOfNode {L Q I : Type 0} (H : Holes L I) (R : Rows Q I) (fits stays : I → Type 0) (is_item : L → Type 0) (c : Code) (i : ℕ) (items : List L) : Type 0 where
+pub record AreOfNode {L Q I : Type 0} (H : Holes L I) (R : Rows Q I) (fits stays : I → Type 0) (is_item : L → Type 0) (c : Code) (i : ℕ)
+    (items : List L) : Type 0 where
   pub items_are : Each is_item items
   pub low : code_base ≤ c.place i
   pub place : R.is_place (c.place i) ≡ true
@@ -35,4 +36,5 @@ ItemsAreNodeCode {L} H R fits stays is_item =
 abbrev pub ItemsAreNodeBlocks : {L Q I : Type 0} → Holes L I → Rows Q I → (I → Type 0) → (I → Type 0) → (L → Type 0) → Type 0
 ItemsAreNodeBlocks {L} H R fits stays is_item =
     (c : Code) (i : ℕ) (items : List L) → AreOfNode H R fits stays is_item c i items → (leaps_at (slice_get c.nodes.nodes i) ≡ true → 0 < words_in H items)
-    → IsBlock R.is_straight (settled H (slice_index c.addresses) (c.place i) items) → IsNodeBlock R fits c i (settled H (slice_index c.addresses) (c.place i) items)
+    → IsBlock R.is_straight (settled H (slice_index c.addresses) (c.place i) items)
+    → IsNodeBlock R fits c i (settled H (slice_index c.addresses) (c.place i) items)
