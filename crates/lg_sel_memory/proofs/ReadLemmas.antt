@@ -61,7 +61,7 @@ numbered-none (suc (suc (suc (suc (suc zero))))) = refl
 numbered-none (suc (suc (suc (suc (suc (suc r)))))) = refl
 
 -- ---- numbers
-host-small : (name : HostName) → host_address name < 2 ^ 64
+pub host-small : (name : HostName) → host_address name < 2 ^ 64
 host-small Printf = omega arith
 host-small Puts = omega arith
 host-small Putchar = omega arith

@@ -13,7 +13,12 @@ use Rattle.lg_carry_rv.specs.Computations.{all_compute, computed}
 use Rattle.lg_carry_rv.proofs.ComputationLemmas.{computations-run}
 use Rattle.lg_carry_rv.proofs.RowLemmas.{went}
 use Rattle.lg_carry_rv.proofs.SlotLemmas.{pc-next, goes-on}
-use Rattle.lg_selr_memory.proofs.StraightLemmas.{GoesBehind}
+
+-- the run goes through these instructions from q, and goes on behind them
+pub record GoesBehind (is : List Instr) (q : Run CpuState) : Type 0 where
+  pub through : GoesThrough rv_does (λ (r : Run CpuState). status_of r.progress) is q
+  pub runs : status_of (done rv_does is q).progress ≡ Running
+  pub behind : (done rv_does is q).state.pc ≡ q.state.pc + 4 * length is
 
 done-append : {Q I : Type 0} (does : I → Q → Q) (xs ys : List I) (q : Q) → done does (xs ++ ys) q ≡ done does ys (done does xs q)
 done-append does [] ys q = refl

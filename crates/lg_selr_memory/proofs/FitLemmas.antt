@@ -21,10 +21,13 @@ use Rattle.lg_carry_rv.specs.Numbers.{is_short, low_part, number_code}
 use Rattle.lg_carry_rv.specs.RvRows.{is_straight}
 use Rattle.lg_carry_rv.proofs.NumberCodeLemmas.{low-small, numbers-are-loaded}
 use Rattle.lg_carry_rv.proofs.RegisterLemmas.{register-small}
-use Rattle.lg_selr_memory.specs.Accesses.{link, register, number, Place, load_row, store_row, at_register, at_link, indexed, place_at, load_code, store_code}
+use Rattle.lg_base.specs.declared.target.Target.TheVariants.{Riscv64}
+use Rattle.lg_temp.specs.Abis.{register_of}
+use Rattle.lg_sel_memory.specs.Accesses.{Address, Base, At, Sum, Index, address_of, IsAddress}
+use Rattle.lg_sel_memory.specs.Operands.{named, number, HasWords}
+use Rattle.lg_sel_memory.proofs.ReadLemmas.{number-small}
+use Rattle.lg_selr_memory.specs.Accesses.{link, register, Place, load_row, store_row, at_register, at_link, indexed, place_of, load_code, store_code}
 use Rattle.lg_selr_memory.specs.ArgumentCode.{argument_offset, argument_code}
-use Rattle.lg_selr_memory.specs.MemoryNodes.{HasWords}
-use Rattle.lg_selr_memory.proofs.AccessLemmas.{number-small}
 
 abbrev pub Straight : Instr → Type 0
 Straight i = is_straight i ≡ true
@@ -51,11 +54,7 @@ numbers : (v : ℕ) → v < 2 ^ 64 → IsFitCode 8 (number_code link v)
 numbers v lt = let k = numbers-are-loaded link v (λ e. absurd (omega (arith, e))) (omega arith) lt in record { few = k.few; fit = k.fits; straight = k.straight }
 
 pub register-few : (x : Operand) → register x < 32
-register-few (operand.Reg r) = register-small r
-register-few (operand.Number v) = omega arith
-register-few (operand.Label l) = omega arith
-register-few (operand.Host name) = omega arith
-register-few (operand.Slot k) = omega arith
+register-few x = register-small (named x)
 
 -- ---- places
 record IsFitPlace (p : Place) : Type 0 where
@@ -80,15 +79,24 @@ indexed-fits a v la lv = by (is_short v)
     by true = let k = low-small v in record { code = fewer 0 9 [] (omega arith) none; base = la; low = k.0; high = k.1 }
     by false = at-link-fits (number_code link v ++ instr.Reg row.Add link a link ∷ []) (joined 8 1 (number_code link v) (instr.Reg row.Add link a link ∷ []) (numbers v lv) (sum-fits a link la (omega arith)))
 
-place-fits : (at : Addressing) (x y : Operand) → number x < 2 ^ 64 → number y < 2 ^ 64 → IsFitPlace (place_at at x y)
-place-fits addressing.Register x y nx ny = at-register-fits (register x) (register-few x)
-place-fits addressing.Immediate x y nx ny = at-link-fits (number_code link (number x)) (fewer 8 9 (number_code link (number x)) (omega arith) (numbers (number x) nx))
-place-fits addressing.RegisterRegister x y nx ny = at-link-fits (instr.Reg row.Add link (register x) (register y) ∷ []) (fewer 1 9 (instr.Reg row.Add link (register x) (register y) ∷ []) (omega arith) (sum-fits (register x) (register y) (register-few x) (register-few y)))
-place-fits addressing.RegisterImmediate (operand.Reg r) y nx ny = indexed-fits (register (operand.Reg r)) (number y) (register-few (operand.Reg r)) ny
-place-fits addressing.RegisterImmediate (operand.Number v) y nx ny = indexed-fits (register y) v (register-few y) nx
-place-fits addressing.RegisterImmediate (operand.Host name) y nx ny = indexed-fits (register y) (number (operand.Host name)) (register-few y) nx
-place-fits addressing.RegisterImmediate (operand.Label l) y nx ny = indexed-fits (register y) 0 (register-few y) nx
-place-fits addressing.RegisterImmediate (operand.Slot k) y nx ny = indexed-fits (register y) 0 (register-few y) nx
+place-fits : (a : Address) → IsAddress a → IsFitPlace (place_of a)
+place-fits (Base a) h = at-register-fits (register_of Riscv64 a) (register-small a)
+place-fits (At v) h = at-link-fits (number_code link v) (fewer 8 9 (number_code link v) (omega arith) (numbers v h))
+place-fits (Sum a b) h =
+    let is = instr.Reg row.Add link (register_of Riscv64 a) (register_of Riscv64 b) ∷ [] in
+    at-link-fits is (fewer 1 9 is (omega arith) (sum-fits (register_of Riscv64 a) (register_of Riscv64 b) (register-small a) (register-small b)))
+place-fits (Index a v) h = indexed-fits (register_of Riscv64 a) v (register-small a) h
+
+-- the number of an address that operands give is a word
+address-small : (at : Addressing) (x y : Operand) → number x < 2 ^ 64 → number y < 2 ^ 64 → IsAddress (address_of at x y)
+address-small addressing.Register x y nx ny = tt
+address-small addressing.Immediate x y nx ny = nx
+address-small addressing.RegisterRegister x y nx ny = tt
+address-small addressing.RegisterImmediate (operand.Reg r) y nx ny = ny
+address-small addressing.RegisterImmediate (operand.Number v) y nx ny = nx
+address-small addressing.RegisterImmediate (operand.Host name) y nx ny = nx
+address-small addressing.RegisterImmediate (operand.Label l) y nx ny = nx
+address-small addressing.RegisterImmediate (operand.Slot k) y nx ny = nx
 
 -- ---- the code of nodes
 load-straight : (t : ValueType) (rd base : ℕ) (offset : ℤ) → is_straight (instr.Imm (load_row t) rd base offset) ≡ true
@@ -105,15 +113,15 @@ words-of n k h = number-small (operand_at n k) (λ v e. h k v e)
 
 pub load-fits : (t : ValueType) (at : Addressing) (n : Node) → HasWords n → IsFitCode 10 (load_code t at n)
 load-fits t at n h =
-    let p = place-fits at (operand_at n 1) (operand_at n 2) (words-of n 1 h) (words-of n 2 h) in
-    let place = place_at at (operand_at n 1) (operand_at n 2) in
+    let p = place-fits (address_of at (operand_at n 1) (operand_at n 2)) (address-small at (operand_at n 1) (operand_at n 2) (words-of n 1 h) (words-of n 2 h)) in
+    let place = place_of (address_of at (operand_at n 1) (operand_at n 2)) in
     joined 9 1 place.code (instr.Imm (load_row t) (register (operand_at n 0)) place.base place.offset ∷ []) p.code
     (one (instr.Imm (load_row t) (register (operand_at n 0)) place.base place.offset) (register-few (operand_at n 0), p.base, p.low, p.high) (load-straight t (register (operand_at n 0)) place.base place.offset))
 
 pub store-fits : (t : StoreType) (at : Addressing) (n : Node) → HasWords n → IsFitCode 10 (store_code t at n)
 store-fits t at n h =
-    let p = place-fits at (operand_at n 0) (operand_at n 1) (words-of n 0 h) (words-of n 1 h) in
-    let place = place_at at (operand_at n 0) (operand_at n 1) in
+    let p = place-fits (address_of at (operand_at n 0) (operand_at n 1)) (address-small at (operand_at n 0) (operand_at n 1) (words-of n 0 h) (words-of n 1 h)) in
+    let place = place_of (address_of at (operand_at n 0) (operand_at n 1)) in
     let from = operand_at n (stored_operand at) in
     joined 9 1 place.code (instr.Store (store_row t) place.base (register from) place.offset ∷ []) p.code
     (one (instr.Store (store_row t) place.base (register from) place.offset) (p.base, register-few from, p.low, p.high) refl)

@@ -1,253 +1,185 @@
--- A node that passes an argument of a call is carried.
-use Rattle.std.proofs.Common.{◌≡◌, ◌≢◌, ℕ, zero, suc, ◌+◌, ◌-◌, ◌*◌, ◌%◌, ◌^◌, ◌<◌, ◌≤◌, ◌⊎◌, inl, inr, Bool, true, false, List, [], ◌∷◌, ◌++◌, Option, Some, None, refl, sym, ap, ◌∙◌, subst, arith, length, ⊎_elim}
-use Rattle.std.specs.Prelude.{pos, ◌==◌, slice_get, slice_index}
-use Rattle.std.proofs.lemmas.Bool.{cases_lt}
-use Rattle.lg_base.specs.Conventions.{argument_registers, portable_register}
-use Rattle.lg_base.specs.Layout.{code_base, most_code, stack_argument}
-use Rattle.lg_base.specs.Spaces.{mapped, loaded, stored}
+-- Passing an argument of a call.
+use Rattle.std.proofs.Common.{◌≡◌, ◌≢◌, ℕ, zero, suc, ◌+◌, ◌-◌, ◌*◌, ◌%◌, ◌^◌, ◌<◌, ◌≤◌, Bool, true, false, List, [], ◌∷◌, ◌++◌, refl, sym, ap, ◌∙◌, subst, arith, length, length-append}
+use Rattle.std.specs.Prelude.{pos, ◌==◌, nat_lt, if◌then◌else◌, slice_index}
+use Rattle.lg_base.specs.Conventions.{argument_registers}
+use Rattle.lg_base.specs.HostNames.{host_address}
+use Rattle.lg_base.specs.Layout.{stack_argument}
+use Rattle.lg_base.specs.Spaces.{mapped, stored}
 use Rattle.lg_base.specs.Words.{add_words}
 use Rattle.lg_base.specs.declared.target.Target.TheVariants.{Riscv64}
-use Rattle.lg_base.proofs.SpaceLemmas.{stored-out, loaded-stored, mapped-all}
-use Rattle.lg_cells.specs.Cells.{within}
-use Rattle.lg_op.specs.declared.node.Node.{Node}
-use Rattle.lg_live.specs.Uses.{is_written}
+use Rattle.lg_op.specs.declared.operand.Operand.{Operand}
+use Rattle.lg_op.specs.declared.operand.Operand.TheVariants as operand
 use Rattle.lg_rv.specs.declared.instruction.Instr.{Instr}
 use Rattle.lg_rv.specs.declared.instruction.Instr.TheVariants as instr
 use Rattle.lg_rv.specs.declared.instruction.StoreOp.TheVariants.{Sd}
-use Rattle.lg_cpu.specs.Steps.{Run}
+use Rattle.lg_cpu.specs.HostSteps.{put}
 use Rattle.lg_cpu.specs.States.{CpuState}
+use Rattle.lg_cpu.specs.Steps.{Run}
 use Rattle.lg_cpu.specs.RvStep.{read, goes, act}
-use Rattle.lg_node.specs.Preparations.{pushed}
-use Rattle.lg_meaning.specs.States.{Frame, State}
-use Rattle.lg_meaning.specs.Steps.{Goes, Undefined, need, on, quiet}
-use Rattle.lg_meaning.specs.Texts.{step}
-use Rattle.lg_carry.specs.FinalNodes.{Code, is_inside}
-use Rattle.lg_carry.specs.Frames.{at_call, IsSettled}
-use Rattle.lg_carry.specs.Places.{AreStacked}
-use Rattle.lg_carry.specs.Registers.{HasWord, HoldsArguments, HasArguments}
-use Rattle.lg_carry.specs.Stands.{StatesAgree, Stands, lowest}
-use Rattle.lg_carry.specs.Carries.{leaps, Leads}
-use Rattle.lg_carry.specs.NodeCode.{numbered, live_before, live_behind, CarriesNode}
-use Rattle.lg_carry.specs.Blocks.{done}
-use Rattle.lg_carry.proofs.AgreeInFrameLemmas.{settled, push-agrees}
-use Rattle.lg_carry.proofs.RegistersApartLemmas.{conventions-apart}
-use Rattle.lg_carry.proofs.KeptLemmas.{registers-kept}
-use Rattle.lg_carry.proofs.TextShapeLemmas.{shaped}
-use Rattle.lg_carry.proofs.StackLemmas.{stacked-running, stacked-high}
-use Rattle.lg_carry.proofs.WordLemmas.{word-kept}
-use Rattle.lg_carry_rv.specs.RvRows.{rv_seen, rv_processor, rv_does}
-use Rattle.lg_carry_rv.specs.Places.{IsInCode, stands_inside}
+use Rattle.lg_temp.specs.Abis.{register_of}
+use Rattle.lg_carry.specs.Spills.{Does, with_register}
+use Rattle.lg_carry.proofs.StackLemmas.{within-where}
 use Rattle.lg_carry_rv.specs.Computations.{all_compute, computed}
-use Rattle.lg_carry_rv.specs.ComputingNodes.{HoldsRead}
-use Rattle.lg_carry_rv.proofs.ComputationLemmas.{computations-run, pointwise, put-same, put-other}
+use Rattle.lg_carry_rv.specs.RvComputers.{rv_scratch}
+use Rattle.lg_carry_rv.specs.RvRows.{rv_rows, rv_seen}
+use Rattle.lg_carry_rv.specs.Numbers.{number_code}
+use Rattle.lg_carry_rv.proofs.NumberCodeLemmas.{numbers-are-loaded}
+use Rattle.lg_carry_rv.proofs.ComputationLemmas.{computations-run, pointwise, put-other, read-put, spellings-long}
+use Rattle.lg_carry_rv.proofs.RegisterLemmas.{read-of}
+use Rattle.lg_sel_nodes.specs.Straight.{spoils, from_to}
+use Rattle.lg_sel_nodes.specs.Stretches.{HasFrame}
+use Rattle.lg_sel_nodes.proofs.ByteLemmas.{stored-same}
+use Rattle.lg_sel_memory.specs.Pushes.{IsPassed, PushesDo, HasPushCode}
+use Rattle.lg_sel_memory.specs.Stores.{IsWritable}
+use Rattle.lg_sel_memory.proofs.ReadLemmas.{same-some, host-small}
+use Rattle.lg_selr_items.specs.declared.items.Item.{Item}
+use Rattle.lg_selr_items.specs.Items.{settled, bytes_in}
+use Rattle.lg_selr_items.proofs.ItemLemmas.{settled-append}
+use Rattle.lg_selr_memory.specs.Accesses.{link}
+use Rattle.lg_selr_memory.specs.PushCode.{into, stack_push, onto_stack, push_items, rv_push}
 use Rattle.lg_selr_memory.proofs.EndLemmas.{EndsWith, ends-with}
-use Rattle.lg_selr_memory.proofs.PutLemmas.{Puts}
-use Rattle.lg_selr_memory.proofs.StraightLemmas.{GoesBehind, inside, low, high, read-before, stays, leads, still}
-use Rattle.lg_carry.specs.TextNodes.{IsInText}
+use Rattle.lg_selr_memory.proofs.PlaceLemmas.{off-scratch}
+use Rattle.lg_selr_memory.proofs.PutLemmas.{Puts, put-operand, settled-ones}
 
--- ---- an argument more
--- the members of a list with one more
-more : {A : Type 0} (xs : List A) (v : A) (i : ℕ) (w : A) → slice_get (xs ++ v ∷ []) i ≡ Some w → ((i < length xs) × (slice_get xs i ≡ Some w)) ⊎ ((i ≡ length xs) × (v ≡ w))
-more [] v zero w e = inr (refl, cc)
-more [] v (suc i) w e = cc
-more (x ∷ xs) v zero w e = inl (omega arith, e)
-more (x ∷ xs) v (suc i) w e = ⊎_elim
-    (λ h. inl (omega (arith, h.0), h.1))
-    (λ h. inr (omega (arith, h.0), h.1))
-    (more xs v i w e)
+-- ---- the registers of arguments
+argument-some : (j : ℕ) → j < 8 → (slice_index (argument_registers Riscv64) j ≢ 0) × (slice_index (argument_registers Riscv64) j < 32)
+argument-some zero h = (λ e. cc, omega arith)
+argument-some (suc zero) h = (λ e. cc, omega arith)
+argument-some (suc (suc zero)) h = (λ e. cc, omega arith)
+argument-some (suc (suc (suc zero))) h = (λ e. cc, omega arith)
+argument-some (suc (suc (suc (suc zero)))) h = (λ e. cc, omega arith)
+argument-some (suc (suc (suc (suc (suc zero))))) h = (λ e. cc, omega arith)
+argument-some (suc (suc (suc (suc (suc (suc zero)))))) h = (λ e. cc, omega arith)
+argument-some (suc (suc (suc (suc (suc (suc (suc zero))))))) h = (λ e. cc, omega arith)
+argument-some (suc (suc (suc (suc (suc (suc (suc (suc j)))))))) h = absurd (omega (arith, h))
 
--- instructions that compute the link alone, behind which a register holds the argument
-pub record Prepares (n : Node) (o : State → Option ℕ) (code' : List Instr) (r : ℕ) : Type 0 where
-  pub computes : all_compute code' ≡ true
-  pub keeps : (w : ℕ → ℕ) (s : State) (v : ℕ) → HoldsRead n s w → o s ≡ Some v → (y : ℕ) → y ≢ 1 → computed code' w y ≡ w y
-  pub holds : (w : ℕ → ℕ) (s : State) (v : ℕ) → HoldsRead n s w → o s ≡ Some v → (read (computed code' w) r ≡ v) × (v < 2 ^ 64)
+-- ---- into a register
+module _ (code : List ℕ) (trash : ℕ) (q : Run CpuState) (fp : ℕ) where
+  abbrev w : ℕ → ℕ
+  w = q.state.registers
 
-even-word : (l j : ℕ) → l % 16 ≡ 0 → ((l + 8 * j) % 8 == 0) ≡ true
-even-word l j e = let z : (l + 8 * j) % 8 ≡ 0 = omega (arith, e) in ap (λ y. y == 0) z
-
-module _ (code : List ℕ) (trash : ℕ) (c : Code) (i : ℕ) (n : Node) (S : ℕ → Bool) (is : List Instr) (inside_op : stands_inside n.op ≡ true) (falls : leaps n.op ≡ false) (o : State → Option ℕ)
-    (writes : (r : ℕ) → numbered (is_written n) r ≡ false)
-    (steps_so : (s : State) → s.at ≡ i → step c.nodes c.shape c.addresses s ≡ need (o s) (λ v. quiet (on (record s { pushed = s.pushed ++ v ∷ [] }))))
-    (x : IsInText c i n) (k : IsInCode code trash c i is) (some : 0 < length is) where
-  abbrev to : State → ℕ → State
-  to s v = on (record s { pushed = s.pushed ++ v ∷ [] })
-
-  stepped : (s : State) (v : ℕ) → s.at ≡ i → o s ≡ Some v → step c.nodes c.shape c.addresses s ≡ Goes (to s v) []
-  stepped s v at e = steps_so s at ∙ ap (λ z. need z (λ v. quiet (on (record s { pushed = s.pushed ++ v ∷ [] })))) e
-
-  -- what is left of the code's work: memory changes in an outgoing word alone, and the argument is in its place
-  pub record Passes (xs : List Instr) (s : State) (v : ℕ) (q : Run CpuState) (rd : ℕ) : Type 0 where
-    pub goes : GoesBehind xs q
-    pub kept : (y : ℕ) → y ≢ rd → y ≢ 1 → (done rv_does xs q).state.registers y ≡ q.state.registers y
-    pub apart : ((r : ℕ) → r < 6 → portable_register Riscv64 r ≢ rd) × (8 ≢ rd) × (2 ≢ rd)
-    pub others : (j : ℕ) → j < 8 → j < length s.pushed → slice_index (argument_registers Riscv64) j ≢ rd
-    pub bytes : (a : ℕ) → within (lowest s.frame) 80 a ≡ false → (done rv_does xs q).state.bytes a ≡ q.state.bytes a
-    pub words : (j w : ℕ) → 8 ≤ j → j < length s.pushed → HasWord q.state.bytes (stack_argument (lowest s.frame) (j - 8)) w → HasWord (done rv_does xs q).state.bytes (stack_argument (lowest s.frame) (j - 8)) w
-    pub mark : (done rv_does xs q).state.mark ≡ q.state.mark
-    pub register : length s.pushed < 8 → (done rv_does xs q).state.registers (slice_index (argument_registers Riscv64) (length s.pushed)) ≡ v
-    pub word : 8 ≤ length s.pushed → HasWord (done rv_does xs q).state.bytes (stack_argument (lowest s.frame) (length s.pushed - 8)) v
-
-  module _ (frames : Frame → ℕ → Bool) (s : State) (out : List ℕ) (q : Run CpuState) (at : s.at ≡ i) (st : Stands (rv_processor code trash) c frames s out q (live_before n S)) (v rd : ℕ) (given : o s ≡ Some v) (p : Passes is s v q rd) where
-    abbrev u : Run CpuState
-    u = done rv_does is q
-
-    passed : HoldsArguments Riscv64 u.state.registers (s.pushed ++ v ∷ [])
-    passed = record {
-      is = λ j w lt e. ⊎_elim
-          (λ h. p.kept (slice_index (argument_registers Riscv64) j) (p.others j lt h.0) (((conventions-apart Riscv64).link 1 refl).argument j lt) ∙ st.state.pushed.is j w lt h.1)
-          (λ h. ap (λ z. u.state.registers (slice_index (argument_registers Riscv64) z)) h.0 ∙ p.register (omega (arith, h.0, lt)) ∙ h.1)
-          (more s.pushed v j w e);
-    }
-
-    outgoing : HasArguments Riscv64 u.state.bytes (lowest s.frame) (s.pushed ++ v ∷ [])
-    outgoing = record {
-      is = λ j w ge e. ⊎_elim
-          (λ h. p.words j w ge h.0 (st.state.outgoing.is j w ge h.1))
-          (λ h. subst (λ z. HasWord u.state.bytes (stack_argument (lowest s.frame) (z - 8)) w) (sym h.0) (subst (λ z. HasWord u.state.bytes (stack_argument (lowest s.frame) (length s.pushed - 8)) z) h.1 (p.word (omega (arith, h.0, ge)))))
-          (more s.pushed v j w e);
-    }
-
-    agree : StatesAgree Riscv64 c frames (to s v) (rv_seen u) S
-    agree =
-        let conventions = conventions-apart Riscv64 in
-        push-agrees Riscv64 c frames s (to s v) (rv_seen q) (rv_seen u) (live_before n S) S st.state
-        (stays code trash c i n S is inside_op falls x k some frames s q at st.runs st.state p.goes (to s v) (stepped s v at given) refl refl refl (p.kept 8 p.apart.1 (λ z. absurd (omega (arith, z)))) (p.kept 2 p.apart.2 (λ z. absurd (omega (arith, z)))) (p.mark ∙ st.state.mark))
-        record { mem = refl; data_size = refl; args_size = refl; bytes = λ a off away. p.bytes a away; outgoing = outgoing }
-        record {
-          registers = registers-kept Riscv64 q.state.registers u.state.registers s.regs (live_before n S) S
-              (λ r lt m. (still code trash c i n S is inside_op falls x k some r m (writes r), p.kept (portable_register Riscv64 r) (p.apart.0 r lt) ((conventions.link 1 refl).portable r lt))) st.state.registers;
-          carry = tt;
-          result = record { is = λ w e. cc };
-          pushed = passed;
-        }
-
-    goes-there : (step c.nodes c.shape c.addresses s ≡ Undefined) ⊎ Leads (rv_processor code trash) c frames (live_behind frames n S s) i (step c.nodes c.shape c.addresses s) out q
-    goes-there = leads code trash c i n S is inside_op falls x k some frames s q at st.runs st.state p.goes (to s v) (stepped s v at given) refl out st.wrote agree
-
-  undefined : (s : State) → s.at ≡ i → o s ≡ None → step c.nodes c.shape c.addresses s ≡ Undefined
-  undefined s at e = steps_so s at ∙ ap (λ z. need z (λ v. quiet (on (record s { pushed = s.pushed ++ v ∷ [] })))) e
-
-  abbrev Result : (Frame → ℕ → Bool) → State → List ℕ → Run CpuState → Type 0
-  Result frames s out q = (step c.nodes c.shape c.addresses s ≡ Undefined) ⊎ Leads (rv_processor code trash) c frames (live_behind frames n S s) i (step c.nodes c.shape c.addresses s) out q
-
-  -- so many arguments are passed before
-  count : (frames : Frame → ℕ → Bool) (s : State) (q : Run CpuState) → s.at ≡ i → StatesAgree Riscv64 c frames s (rv_seen q) (live_before n S) → length s.pushed ≡ pushed c.nodes.nodes i
-  count frames s q at st = st.fits.pushed ∙ ap (pushed c.nodes.nodes) at
-
-  -- ---- into a register
-  pub push-in-register : (few : pushed c.nodes.nodes i < 8) → Puts n o is (slice_index (argument_registers Riscv64) (pushed c.nodes.nodes i)) → CarriesNode (rv_processor code trash) c i n S
-  push-in-register few puts frames s returns out q at st = by (o s) refl
-    where
-      j : ℕ
-      j = pushed c.nodes.nodes i
-
-      by : (a : Option ℕ) → o s ≡ a → Result frames s out q
-      by None e = inl (undefined s at e)
-      by (Some v) e =
-          let rd = slice_index (argument_registers Riscv64) (pushed c.nodes.nodes i) in
-          let conventions = conventions-apart Riscv64 in
-          let long = count frames s q at st.state in
-          let m = computations-run is q puts.computes st.runs (low code trash c i n S is inside_op falls x k some frames s q at st.runs st.state) (high code trash c i n S is inside_op falls x k some frames s q at st.runs st.state) in
-          let are = puts.puts s q.state.registers v (read-before code trash c i n S is inside_op falls x k some frames s q at st.runs st.state) e in
-          goes-there frames s out q at st v rd e record {
-            goes = record { through = m.through; runs = m.runs; behind = m.behind };
-            kept = λ y off ne. m.registers y ∙ are y ∙ put-other q.state.registers rd v y off;
-            apart = (λ r lt z. conventions.both r (pushed c.nodes.nodes i) lt few z, λ z. conventions.argument_pointer (pushed c.nodes.nodes i) few (sym z), λ z. conventions.argument_stack (pushed c.nodes.nodes i) few (sym z));
-            others = λ a lt less z. let w = conventions.argument a (pushed c.nodes.nodes i) lt few z in absurd (omega (arith, w, less, long));
-            bytes = λ a away. m.bytes a;
-            words = λ a w ge less h. absurd (omega (arith, ge, less, long, few));
-            mark = m.mark;
-            register = λ less. ap (λ z. (done rv_does is q).state.registers (slice_index (argument_registers Riscv64) z)) long ∙ m.registers rd ∙ are rd ∙ put-same q.state.registers rd v;
-            word = λ ge. absurd (omega (arith, ge, long, few));
-          }
+  puts-do : (is : List Instr) (rd v : ℕ) → Puts is w rd v → Does (rv_rows code trash) (from_to (rv_seen q) (with_register w rd v) q.state.bytes (rv_seen q).flags) is fp 0 (spoils rv_scratch [])
+  puts-do is rd v p q' looks room =
+      let same : q'.state.registers ≡ w = pointwise q'.state.registers w looks.has_registers in
+      let long = spellings-long is in
+      let m = computations-run is q' p.computes looks.runs room.low (omega (arith, room.high, long)) in record {
+        through = m.through;
+        runs = m.runs;
+        behind = m.behind ∙ omega (arith, long);
+        registers = λ y free. m.registers y ∙ (ap (λ h. computed is h y) same ∙ p.puts y);
+        bytes = λ y off. m.bytes y ∙ looks.has_bytes y off;
+        slots = λ y on. m.bytes y;
+        has_mark = m.mark ∙ looks.has_mark;
+        has_flags = refl;
+      }
 
   -- ---- into a stack word
-  abbrev pushing : ℕ → Instr
-  pushing r = instr.Store Sd 2 r (pos (8 * (pushed c.nodes.nodes i - 8)))
+  store-word : (r : CpuState) (from a offset : ℕ) → add_words (read r.registers 2) offset ≡ a → (a % 8 == 0) ≡ true → mapped r.bytes a 8 ≡ true
+      → act (instr.Store Sd 2 from (pos offset)) r ≡ goes (add_words r.pc 4) r.registers (stored r.bytes a 8 (read r.registers from)) r.mark
+  store-word r from a offset at even there = rw (at, even, there) refl
 
-  store-word : (q : CpuState) (r a : ℕ) (offset : ℕ) → add_words (read q.registers 2) offset ≡ a → (a % 8 == 0) ≡ true → mapped q.bytes a 8 ≡ true
-      → act (instr.Store Sd 2 r (pos offset)) q ≡ goes (add_words q.pc 4) q.registers (stored q.bytes a 8 (read q.registers r)) q.mark
-  store-word q r a offset at even there = rw (at, even, there) refl
+  -- instructions that compute the link alone, behind which a register holds the word
+  record Prepares (pre : List Instr) (from v : ℕ) : Type 0 where
+    computes : all_compute pre ≡ true
+    keeps : (y : ℕ) → y ≢ 1 → computed pre w y ≡ w y
+    holds : read (computed pre w) from ≡ v
 
-  module _ (code' : List Instr) (r : ℕ) (same-code : is ≡ code' ++ pushing r ∷ []) (many : 8 ≤ pushed c.nodes.nodes i) (prepares : Prepares n o code' r) where
-    module _ (frames : Frame → ℕ → Bool) (s : State) (out : List ℕ) (q : Run CpuState) (at : s.at ≡ i) (st : Stands (rv_processor code trash) c frames s out q (live_before n S)) (v : ℕ) (given : o s ≡ Some v) where
-      abbrev w : ℕ → ℕ
-      w = q.state.registers
+  by-link : (pre : List Instr) (v : ℕ) → Puts pre w 1 v → Prepares pre 1 v
+  by-link pre v p = record {
+    computes = p.computes;
+    keeps = λ y ne. p.puts y ∙ put-other w 1 v y ne;
+    holds = ap (λ f. read f 1) (pointwise (computed pre w) (put w 1 v) p.puts) ∙ read-put w 1 v (λ z. absurd (omega (arith, z)));
+  }
 
-      abbrev a : ℕ
-      a = stack_argument (lowest s.frame) (pushed c.nodes.nodes i - 8)
+  module _ (frame j : ℕ) (few : j < 16) (many : 8 ≤ j) (f : HasFrame Riscv64 frame (rv_seen q)) (v : ℕ) (writable : IsWritable (rv_seen q) fp (stack_argument (w 2) (j - 8)) 8) where
+    abbrev a : ℕ
+    a = stack_argument (w 2) (j - 8)
 
-      reads : HoldsRead n s w
-      reads = read-before code trash c i n S is inside_op falls x k some frames s q at st.runs st.state
+    even : (a % 8 == 0) ≡ true
+    even = let z : a % 8 ≡ 0 = (let e = f.whole in omega (arith, e)) in ap (λ y. y == 0) z
 
-      behind : is_inside c s.at ≡ true
-      behind = inside code trash c i n S is inside_op falls x k some frames s q at st.runs st.state
+    address : (r : ℕ → ℕ) → r 2 ≡ w 2 → add_words (read r 2) (8 * (j - 8)) ≡ a
+    address r e = let high = f.high in let large = f.large in omega (arith, e, few, high, large)
 
-      tower : AreStacked (lowest s.frame) (s.frame ∷ s.callers)
-      tower = stacked-running c.nodes c.shape s st.state.fits behind st.state.low
+    stores-do : (pre : List Instr) (from : ℕ) → Prepares pre from v
+        → Does (rv_rows code trash) (from_to (rv_seen q) w (stored q.state.bytes a 8 v) (rv_seen q).flags) (pre ++ instr.Store Sd 2 from (pos (8 * (j - 8))) ∷ []) fp 0 (spoils rv_scratch [])
+    stores-do pre from p q' looks room =
+        let same : q'.state.registers ≡ w = pointwise q'.state.registers w looks.has_registers in
+        let x = instr.Store Sd 2 from (pos (8 * (j - 8))) in
+        let long = spellings-long (pre ++ x ∷ []) in
+        let end : EndsWith pre x q' (computed pre w) (stored q'.state.bytes a 8 v) =
+        ends-with pre x q' (computed pre w) (stored q'.state.bytes a 8 v) p.computes looks.runs room.low (omega (arith, room.high, long))
+        (λ r regs bytes.
+        let g : r.registers ≡ computed pre w = pointwise r.registers (computed pre w) (λ y. regs y ∙ ap (λ h. computed pre h y) same) in
+        let b : r.bytes ≡ q'.state.bytes = (λ k y. bytes y k) in
+        let value : read r.registers from ≡ v = ap (λ h. read h from) g ∙ p.holds in
+        store-word r from a (8 * (j - 8)) (address r.registers (ap (λ h. h 2) g ∙ p.keeps 2 (λ z. absurd (omega (arith, z))))) even (ap (λ h. mapped h a 8) b ∙ writable q'.state.bytes looks.has_bytes)
+        ∙ (λ k. goes (add_words r.pc 4) (g k) (stored (b k) a 8 (value k)) r.mark)) in
+        record {
+          through = end.goes.through;
+          runs = end.goes.runs;
+          behind = end.goes.behind ∙ omega (arith, long);
+          registers = λ y free. end.registers_are y ∙ p.keeps y (off-scratch y free).1;
+          bytes = λ y off. end.bytes_are y ∙ stored-same q.state.bytes q'.state.bytes a 8 v y (looks.has_bytes y off);
+          slots = λ y on. absurd (let z = within-where _ 0 y on in omega (arith, z.0, z.1));
+          has_mark = end.mark ∙ looks.has_mark;
+          has_flags = refl;
+        }
 
-      frame : IsSettled Riscv64 c.place q.state.bytes w s.frame s.callers (frames (at_call s.frame))
-      frame = settled Riscv64 (is_inside c s.at) c.place q.state.bytes w s.frame s.callers (frames (at_call s.frame)) behind st.state.frame
+    linked : (to : ℕ → ℕ) (from : ℕ) (x : Operand) → IsPassed Riscv64 w to x v
+        → Does (rv_rows code trash) (from_to (rv_seen q) w (stored q.state.bytes a 8 v) (rv_seen q).flags) (settled to from (into link x ++ stack_push j link ∷ [])) fp 0 (spoils rv_scratch [])
+    linked to from x p =
+        subst (λ is. Does (rv_rows code trash) (from_to (rv_seen q) w (stored q.state.bytes a 8 v) (rv_seen q).flags) is fp 0 (spoils rv_scratch [])) (sym (settled-append to from (into link x) (stack_push j link ∷ [])))
+        (stores-do (settled to from (into link x)) 1 (by-link (settled to from (into link x)) v (put-operand x to from w 1 v (λ z. absurd (omega (arith, z))) (omega arith) p)))
 
-      few : pushed c.nodes.nodes i ≤ 16
-      few = (shaped c.nodes x.well).few i (let z = st.state.fits.inside in omega (arith, z, at))
+    onto : (to : ℕ → ℕ) (from : ℕ) (x : Operand) → IsPassed Riscv64 w to x v → Does (rv_rows code trash) (from_to (rv_seen q) w (stored q.state.bytes a 8 v) (rv_seen q).flags) (settled to from (onto_stack j x)) fp 0 (spoils rv_scratch [])
+    onto to from (operand.Reg r) p =
+        stores-do [] (register_of Riscv64 r) record { computes = refl; keeps = λ y ne. refl; holds = read-of w r ∙ same-some (w (register_of Riscv64 r)) v p.word }
+    onto to from (operand.Number m) p = linked to from (operand.Number m) p
+    onto to from (operand.Host name) p = linked to from (operand.Host name) p
+    onto to from (operand.Label l) p = linked to from (operand.Label l) p
+    onto to from (operand.Slot k) p = absurd (let z = p.word in cc)
 
-      -- the word is one of the stack
-      there : mapped q.state.bytes a 8 ≡ true
-      there = mapped-all q.state.bytes a 8 (λ y le lt. st.state.seen.stack y (in-stack y (let z = st.state.low in omega (arith, z, le)) (let z = (stacked-high (lowest s.frame) (s.frame ∷ s.callers) tower).1 in let g = (stacked-high s.frame.sp s.callers tower.3).1 in omega (arith, lt, few, tower.0, tower.1, g))))
-        where
-          in-stack : (y : ℕ) → 0x3FF00010 ≤ y → y < 0x40000000 → within 0x3FF00000 0x100000 y ≡ true
-          in-stack y le lt = grind (arith, le, lt)
+pub pushes-do : (code : List ℕ) (trash : ℕ) → PushesDo (rv_rows code trash) rv_scratch rv_push
+pushes-do code trash frame to from j x q v few f passed writable = by (nat_lt j 8) refl writable
+  where
+    by : (b : Bool) → nat_lt j 8 ≡ b → (b ≡ false → IsWritable (rv_seen q) (q.state.registers 8) (stack_argument (q.state.registers 2) (j - 8)) 8)
+        → Does (rv_rows code trash)
+        (from_to (rv_seen q) (if b then with_register q.state.registers (slice_index (argument_registers Riscv64) j) v else q.state.registers)
+        (if b then q.state.bytes else stored q.state.bytes (stack_argument (q.state.registers 2) (j - 8)) 8 v) (rv_seen q).flags)
+        (settled to from (if b then into (slice_index (argument_registers Riscv64) j) x else onto_stack j x)) (q.state.registers 8) 0 (spoils rv_scratch [])
+    by true e w =
+        let lt : j < 8 = grind (arith, e) in
+        let rd = argument-some j lt in
+        puts-do code trash q (q.state.registers 8) (settled to from (into (slice_index (argument_registers Riscv64) j) x)) (slice_index (argument_registers Riscv64) j) v
+        (put-operand x to from q.state.registers (slice_index (argument_registers Riscv64) j) v rd.0 rd.1 passed)
+    by false e w = let ge : 8 ≤ j = grind (arith, e) in onto code trash q (q.state.registers 8) frame j few ge f v (w refl) to from x passed
 
-      even : (a % 8 == 0) ≡ true
-      even = even-word (lowest s.frame) (pushed c.nodes.nodes i - 8) (stacked-high (lowest s.frame) (s.frame ∷ s.callers) tower).0
+-- ---- each operand has code
+into-some : (to : ℕ → ℕ) (from rd : ℕ) (x : Operand) → rd ≢ 0 → rd < 32 → ((k : ℕ) → x ≢ operand.Slot k) → ((v : ℕ) → x ≡ operand.Number v → v < 2 ^ 64) → 0 < length (settled to from (into rd x))
+into-some to from rd (operand.Reg r) some few slots words = omega arith
+into-some to from rd (operand.Number v) some few slots words =
+    let k = numbers-are-loaded rd v some few (words v refl) in let e = ap length (settled-ones to from (number_code rd v)) in let n = k.some in omega (arith, e, n)
+into-some to from rd (operand.Host name) some few slots words =
+    let k = numbers-are-loaded rd (host_address name) some few (host-small name) in let e = ap length (settled-ones to from (number_code rd (host_address name))) in let n = k.some in omega (arith, e, n)
+into-some to from rd (operand.Label l) some few slots words = omega arith
+into-some to from rd (operand.Slot k) some few slots words = absurd (slots k refl)
 
-      address : (f : ℕ → ℕ) → f 2 ≡ w 2 → add_words (read f 2) (8 * (pushed c.nodes.nodes i - 8)) ≡ a
-      address f e = let low' = frame.stack in let g = (stacked-high (lowest s.frame) (s.frame ∷ s.callers) tower).1 in sum (f 2) (lowest s.frame) (pushed c.nodes.nodes i - 8) (e ∙ low') g (omega (arith, few))
-        where
-          sum : (b l j : ℕ) → b ≡ l → l ≤ 0x40000000 → j ≤ 8 → add_words b (8 * j) ≡ l + 8 * j
-          sum b l j e le small = omega (arith, e, le, small)
+behind-some : (to : ℕ → ℕ) (from : ℕ) (xs : List Item) (j : ℕ) → 0 < length (settled to from (xs ++ stack_push j link ∷ []))
+behind-some to from xs j =
+    let e = ap length (settled-append to from xs (stack_push j link ∷ [])) in
+    let l = length-append (settled to from xs) (settled to (from + bytes_in xs) (stack_push j link ∷ [])) in omega (arith, e, l)
 
-      end : EndsWith code' (pushing r) q (computed code' w) (stored q.state.bytes a 8 v)
-      end = ends-with code' (pushing r) q (computed code' w) (stored q.state.bytes a 8 v) prepares.computes st.runs (low code trash c i n S is inside_op falls x k some frames s q at st.runs st.state)
-          (subst (λ ys. q.state.pc + 4 * length ys ≤ code_base + most_code) same-code (high code trash c i n S is inside_op falls x k some frames s q at st.runs st.state))
-          (λ t same kept.
-          let g : t.registers ≡ computed code' w = pointwise t.registers (computed code' w) same in
-          let m : t.bytes ≡ q.state.bytes = (λ b y. kept y b) in
-          let value : read t.registers r ≡ v = ap (λ f. read f r) g ∙ (prepares.holds w s v reads given).0 in
-          store-word t r a (8 * (pushed c.nodes.nodes i - 8)) (address t.registers (same 2 ∙ prepares.keeps w s v reads given 2 (λ z. absurd (omega (arith, z))))) even (ap (λ b. mapped b a 8) m ∙ there)
-          ∙ (λ b. goes (add_words t.pc 4) (g b) (stored (m b) a 8 (value b)) t.mark))
+onto-some : (to : ℕ → ℕ) (from j : ℕ) (x : Operand) → 0 < length (settled to from (onto_stack j x))
+onto-some to from j (operand.Reg r) = omega arith
+onto-some to from j (operand.Number v) = behind-some to from (into link (operand.Number v)) j
+onto-some to from j (operand.Host name) = behind-some to from (into link (operand.Host name)) j
+onto-some to from j (operand.Label l) = behind-some to from (into link (operand.Label l)) j
+onto-some to from j (operand.Slot k) = behind-some to from (into link (operand.Slot k)) j
 
-      long : length s.pushed ≡ pushed c.nodes.nodes i
-      long = count frames s q at st.state
-
-      stack-leads : Result frames s out q
-      stack-leads = goes-there frames s out q at st v 1 given (subst (λ ys. Passes ys s v q 1) (sym same-code) record {
-        goes = end.goes;
-        kept = λ y off ne. end.registers_are y ∙ prepares.keeps w s v reads given y ne;
-        apart = (((conventions-apart Riscv64).link 1 refl).portable, λ z. absurd (omega (arith, z)), λ z. absurd (omega (arith, z)));
-        others = λ j lt less. ((conventions-apart Riscv64).link 1 refl).argument j lt;
-        bytes = λ y away. end.bytes_are y ∙ stored-out q.state.bytes a 8 v y (away-from y away);
-        words = λ j z ge less h. word-kept q.state.bytes (done rv_does (code' ++ pushing r ∷ []) q).state.bytes (stack_argument (lowest s.frame) (j - 8)) z
-            (λ y le lt. end.bytes_are y ∙ stored-out q.state.bytes a 8 v y (inl (omega (arith, lt, ge, less, long, many)))) h;
-        mark = end.mark;
-        register = λ less. absurd (omega (arith, less, long, many));
-        word = λ ge. subst (λ z. HasWord (done rv_does (code' ++ pushing r ∷ []) q).state.bytes (stack_argument (lowest s.frame) (z - 8)) v) (sym long)
-            (ap (λ b. loaded b a 8) bytes-same ∙ loaded-stored q.state.bytes a 8 v (prepares.holds w s v reads given).1);
-      })
-        where
-          away-from : (y : ℕ) → within (lowest s.frame) 80 y ≡ false → (y < a) ⊎ (a + 8 ≤ y)
-          away-from y e = away (lowest s.frame) (pushed c.nodes.nodes i - 8) y (omega (arith, few)) e
-            where
-              away : (l j y : ℕ) → j ≤ 8 → within l 80 y ≡ false → (y < l + 8 * j) ⊎ (l + 8 * j + 8 ≤ y)
-              away l j y small e = ⊎_elim (λ lt. inl lt) (λ ge. ⊎_elim (λ lt. absurd (grind (arith, small, e, ge, lt))) (λ le. inr le) (cases_lt y (l + 8 * j + 8))) (cases_lt y (l + 8 * j))
-
-          bytes-same : (done rv_does (code' ++ pushing r ∷ []) q).state.bytes ≡ stored q.state.bytes a 8 v
-          bytes-same = λ b y. end.bytes_are y b
-
-    pub push-on-stack : CarriesNode (rv_processor code trash) c i n S
-    push-on-stack frames s returns out q at st = by (o s) refl
-      where
-        by : (b : Option ℕ) → o s ≡ b → Result frames s out q
-        by None e = inl (undefined s at e)
-        by (Some v) e = stack-leads frames s out q at st v e
+pub has-push-code : (code : List ℕ) (trash : ℕ) → HasPushCode (rv_rows code trash) rv_push
+has-push-code code trash frame to from j x few slots words = let long = spellings-long (settled to from (push_items j x)) in let n = by (nat_lt j 8) refl in omega (arith, long, n)
+  where
+    by : (b : Bool) → nat_lt j 8 ≡ b → 0 < length (settled to from (if b then into (slice_index (argument_registers Riscv64) j) x else onto_stack j x))
+    by true e = let rd = argument-some j (grind (arith, e)) in into-some to from (slice_index (argument_registers Riscv64) j) x rd.0 rd.1 slots words
+    by false e = onto-some to from j x

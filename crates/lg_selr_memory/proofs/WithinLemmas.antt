@@ -8,7 +8,6 @@ use Rattle.lg_carry_rv.specs.Numbers.{is_short, low_part, number_code}
 use Rattle.lg_meaning.specs.Steps.{operand_at, slot}
 use Rattle.lg_op.specs.declared.node.Node.{Node}
 use Rattle.lg_op.specs.declared.op.Addressing.{Addressing}
-use Rattle.lg_op.specs.declared.op.Addressing.TheVariants as addressing
 use Rattle.lg_op.specs.declared.op.StoreType.{StoreType}
 use Rattle.lg_op.specs.declared.op.ValueType.{ValueType}
 use Rattle.lg_op.specs.declared.operand.Operand.{Operand}
@@ -16,7 +15,9 @@ use Rattle.lg_op.specs.declared.operand.Operand.TheVariants as operand
 use Rattle.lg_rv.specs.declared.instruction.Instr.TheVariants as instr
 use Rattle.lg_rv.specs.declared.instruction.RegOp.TheVariants.{Add}
 use Rattle.lg_selr_items.specs.Items.{StayWithin}
-use Rattle.lg_selr_memory.specs.Accesses.{link, place_at, indexed, at_link, load_code, store_code}
+use Rattle.lg_selr_memory.specs.Accesses.{link, place_of, indexed, at_link, load_code, store_code}
+use Rattle.lg_sel_memory.specs.Accesses.{Address, Base, At, Sum, Index, address_of}
+use Rattle.lg_sel_memory.specs.Operands.{named}
 use Rattle.lg_selr_memory.specs.Accesses as accesses
 use Rattle.lg_selr_memory.specs.ArgumentCode.{argument_offset, argument_code}
 use Rattle.lg_selr_memory.specs.PushCode.{into, stack_push, onto_stack, push_code}
@@ -25,8 +26,7 @@ use Rattle.lg_selr_items.proofs.WithinLemmas.{In, portable, Within, join, stay-a
 use Rattle.lg_selr_memory.specs.MemoryFits.{MemoryItemsStay}
 
 accessed : (x : Operand) → In (accesses.register x)
-accessed (operand.Reg r) = portable r
-accessed x = refl
+accessed x = portable (named x)
 
 argument : (j : ℕ) → In (slice_index (argument_registers Riscv64) j)
 argument zero = refl
@@ -47,18 +47,17 @@ index a v = by (is_short v)
     by true = tt
     by false = join (number_code link v) _ (number link v refl) (refl, tt)
 
-placed : (at : Addressing) (x y : Operand) → Within (place_at at x y).code
-placed addressing.Register x y = tt
-placed addressing.Immediate x y = number link (accesses.number x) refl
-placed addressing.RegisterRegister x y = (refl, tt)
-placed addressing.RegisterImmediate (operand.Reg r) y = index (register_of Riscv64 r) (accesses.number y)
-placed addressing.RegisterImmediate x y = index (accesses.register y) (accesses.number x)
+placed : (a : Address) → Within (place_of a).code
+placed (Base a) = tt
+placed (At v) = number link v refl
+placed (Sum a b) = (refl, tt)
+placed (Index a v) = index (register_of Riscv64 a) v
 
 loads : (t : ValueType) (at : Addressing) (n : Node) → Within (load_code t at n)
-loads t at n = join (place_at at (operand_at n 1) (operand_at n 2)).code _ (placed at (operand_at n 1) (operand_at n 2)) (accessed (operand_at n 0), tt)
+loads t at n = join (place_of (address_of at (operand_at n 1) (operand_at n 2))).code _ (placed (address_of at (operand_at n 1) (operand_at n 2))) (accessed (operand_at n 0), tt)
 
 stores : (t : StoreType) (at : Addressing) (n : Node) → Within (store_code t at n)
-stores t at n = join (place_at at (operand_at n 0) (operand_at n 1)).code _ (placed at (operand_at n 0) (operand_at n 1)) (tt, tt)
+stores t at n = join (place_of (address_of at (operand_at n 0) (operand_at n 1))).code _ (placed (address_of at (operand_at n 0) (operand_at n 1))) (tt, tt)
 
 arguments : (t : ValueType) (n : Node) → Within (argument_code t n)
 arguments t n = by (nat_lt (slot (operand_at n 1)) 16)

@@ -2,7 +2,8 @@
 
 ghost use Rattle.std.specs.Prelude.{◌≡◌, [], ◌∷◌, ◌++◌};
 ghost use Rattle.lg_selr_items.specs.Items.{ones};
-ghost use Rattle.lg_selr_memory.specs.Accesses.{load_row, store_row, link, at_register, at_link, indexed, place_at, load_code, store_code};
+ghost use Rattle.lg_sel_memory.specs.Accesses.{address_of};
+ghost use Rattle.lg_selr_memory.specs.Accesses.{load_row, store_row, link, at_register, at_link, indexed, place_of, load_code, store_code};
 
 use crate::operands::{number, operand, register};
 use lg_op::{Addressing, Node, Operand, StoreType, ValueType};
@@ -79,9 +80,9 @@ fn put_indexed(register: u8, value: u64, items: &mut Items<Item>) -> Base
 // The address that operands give: what computes it is appended.
 fn put_address(at: Addressing, first: Operand, second: Operand, items: &mut Items<Item>) -> Base
     requires { items.old ≡ [] }
-    ensures code { items.new ≡ ones (place_at at first second).code }
-    ensures register { result.register ≡ (place_at at first second).base }
-    ensures offset { result.offset ≡ (place_at at first second).offset }
+    ensures code { items.new ≡ ones (place_of (address_of at first second)).code }
+    ensures register { result.register ≡ (place_of (address_of at first second)).base }
+    ensures offset { result.offset ≡ (place_of (address_of at first second)).offset }
 {
     match at {
         Addressing::Register => at_register(register(first)),

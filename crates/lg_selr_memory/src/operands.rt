@@ -2,9 +2,10 @@
 
 ghost use Rattle.std.specs.Prelude.{◌≡◌, ◌<◌};
 ghost use Rattle.lg_meaning.specs.Steps.{operand_at};
-ghost use Rattle.lg_selr_memory.specs.Accesses.{register, number};
+ghost use Rattle.lg_sel_memory.specs.Operands.{number};
+ghost use Rattle.lg_selr_memory.specs.Accesses.{register};
 
-use lg_op::{Node, Operand};
+use lg_op::{Node, Operand, Reg};
 use lg_selr_items::register_of;
 
 // An operand of a node, by its number from 0.
@@ -17,13 +18,13 @@ pub(crate) fn operand(node: &Node, index: usize) -> Operand
     }
 }
 
-// The register of an operand that is one.
+// The register of an operand that is one, and else that of FP.
 pub(crate) fn register(operand: Operand) -> u8
     ensures { result ≡ register operand }
 {
     match operand {
         Operand::Reg(reg) => register_of(reg),
-        _ => 0,
+        _ => register_of(Reg::Fp),
     }
 }
 
