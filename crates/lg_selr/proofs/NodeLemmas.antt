@@ -50,10 +50,8 @@ use Rattle.lg_selr_items.proofs.NodeLemmas.{items-are-node-code, items-are-in-co
 use Rattle.lg_selr_memory.specs.Accesses.{load_code, store_code}
 use Rattle.lg_selr_memory.specs.ArgumentCode.{argument_code}
 use Rattle.lg_selr_memory.specs.PushCode.{push_code}
-use Rattle.lg_selr_memory.proofs.ArgumentNodeLemmas.{arguments-carry}
 use Rattle.lg_selr_memory.proofs.FitLemmas.{IsFitCode, load-fits, store-fits, argument-fits}
-use Rattle.lg_selr_memory.proofs.MemoryNodeLemmas.{loads-carry, stores-carry}
-use Rattle.lg_selr_memory.proofs.PushNodeLemmas.{pushes-carry}
+use Rattle.lg_selr_memory.proofs.MemoryNodeLemmas.{memory-is-carried}
 use Rattle.lg_selr_values.specs.ValueFits.{NameBelow}
 use Rattle.lg_selr_values.specs.ValueItems.{computes_value, value_needs, value_items}
 use Rattle.lg_selr_values.proofs.ValueFitLemmas.{value-items-fit}
@@ -136,19 +134,22 @@ module _ (code : List ℕ) (trash : ℕ) (c : Code) (i frame : ℕ) (live : Reg 
       let n = node_of (op.Load t at) xs line in
       let words = has-words n k.words in
       let none = no-labels (forms_of n.op) xs (loads-lead at) (operands-are c i n k.node.text) (unlabelled n refl k.takes) in
-      loads-carry code trash c i n t at (numbered live) refl none words k.node.text (plain-code code trash c i n 10 (load_code t at n) k.node.text refl (load-fits t at n words) a)
+      (memory-is-carried code trash a.small a.bytes a.word).loads c i n t at frame (numbered live) refl none words k.node.text k.node.frame_is
+      (plain-code code trash c i n 10 (load_code t at n) k.node.text refl (load-fits t at n words) a).block
 
   stores : (t : StoreType) (at : Addressing) (xs : List Operand) (line : ℕ) → Carries (node_of (op.Store t at) xs line) (ones (store_code t at (node_of (op.Store t at) xs line)))
   stores t at xs line k a =
       let n = node_of (op.Store t at) xs line in
       let words = has-words n k.words in
       let none = no-labels (forms_of n.op) xs (stores-lead at) (operands-are c i n k.node.text) (unlabelled n refl k.takes) in
-      stores-carry code trash c i n t at (numbered live) refl none words k.node.text (plain-code code trash c i n 10 (store_code t at n) k.node.text refl (store-fits t at n words) a)
+      (memory-is-carried code trash a.small a.bytes a.word).stores c i n t at frame (numbered live) refl none words k.node.text k.node.frame_is
+      (plain-code code trash c i n 10 (store_code t at n) k.node.text refl (store-fits t at n words) a).block
 
   arguments : (t : ValueType) (xs : List Operand) (line : ℕ) → Carries (node_of (op.Getarg t) xs line) (ones (argument_code t (node_of (op.Getarg t) xs line)))
   arguments t xs line k a =
       let n = node_of (op.Getarg t) xs line in
-      arguments-carry code trash c i n t (numbered live) refl k.node.text (plain-code code trash c i n 1 (argument_code t n) k.node.text refl (argument-fits t n) a)
+      (memory-is-carried code trash a.small a.bytes a.word).arguments c i n t frame (numbered live) refl k.node.text k.node.frame_is
+      (plain-code code trash c i n 1 (argument_code t n) k.node.text refl (argument-fits t n) a).block
 
   pushes : (last : LastOperand) (xs : List Operand) (line : ℕ) → Carries (node_of (op.Control control.Pusharg last) xs line) (push_code (staged_count staged) (node_of (op.Control control.Pusharg last) xs line))
   pushes last xs line k a =
@@ -159,8 +160,8 @@ module _ (code : List ℕ) (trash : ℕ) (c : Code) (i frame : ℕ) (live : Reg 
       let few : j < 16 = let e = count-is first.0 staged first.2 in let f = first.1 in omega (arith, e, f) in
       let good = push-good labels j n few (named-at labels xs 0 k.named) (word-at xs 0 k.words) in
       let stands = items-are-in-code code trash c i (push_code j n) a (falls c i n (push_code j n) k.node.text refl) (straight-block to (c.place i) (push_code j n) good.straight) in
-      pushes-carry code trash c i n last (numbered live) refl (has-words n k.words) k.node.names k.node.text
-      (subst (λ m. IsInCode code trash c i (settled to (c.place i) (push_code m n))) (count-is (pushed c.nodes.nodes i) staged (k.node.exact refl)) stands)
+      (memory-is-carried code trash a.small a.bytes a.word).pushes c i n last frame (numbered live) refl (has-words n k.words) k.node.names k.node.text k.node.frame_is
+      (subst (λ m. IsInCode code trash c i (settled to (c.place i) (push_code m n))) (count-is (pushed c.nodes.nodes i) staged (k.node.exact refl)) stands).block
 
   controls : (n : Node) → is_control n.op ≡ true → Carries n (control_items n.op n.operands frame place)
   controls n is k a =

@@ -19,7 +19,7 @@ use Rattle.lg_selr.specs.Selected.{IsWord, HaveWords, is_label_for, has_label_fo
 use Rattle.lg_selr_control.specs.ControlFits.{IsGiven, AreGiven}
 use Rattle.lg_selr_control.specs.ControlItems.{is_control}
 use Rattle.lg_selr_control.specs.ControlLaws as control_law
-use Rattle.lg_selr_memory.specs.MemoryNodes.{is_label, HasWords}
+use Rattle.lg_sel_memory.specs.Operands.{is_label, HasWords}
 use Rattle.lg_selr_values.specs.ValueFits.{NamesBelow, NameBelow}
 use Rattle.lg_selr_values.specs.ValueLaws as value_law
 
