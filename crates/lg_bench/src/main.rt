@@ -11,7 +11,7 @@ mod processor;
 mod texts;
 
 use lg_base::refusal::{OutOfMemory, Stop};
-use lg_mean_rows::end::MeaningEnd;
+use lg_mean_text::end::MeaningEnd;
 use names::found;
 use std::{env, io, str};
 use texts::{Counts, read_and_assemble, read_and_check};

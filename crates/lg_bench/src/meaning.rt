@@ -2,8 +2,8 @@
 
 use lg_base::refusal::OutOfMemory;
 use lg_io::memory_sink::MemorySink;
-use lg_mean_rows::end::MeaningEnd;
-use lg_mean_rows::meaning::meaning;
+use lg_mean_text::end::MeaningEnd;
+use lg_mean_text::meaning::meaning;
 use std::alloc::Global;
 
 // A text that never ends.
