@@ -8,7 +8,7 @@ use Rattle.lg_op.specs.declared.node.Node.{Node}
 use Rattle.lg_op.specs.declared.op.Op.{Op}
 use Rattle.lg_op.specs.declared.operand.Reg.{Reg}
 use Rattle.lg_op.specs.declared.operand.Reg.TheVariants.{Fp}
-use Rattle.lg_selr.specs.Selected.{first_arguments}
+use Rattle.lg_sel.specs.Selected.{first_arguments}
 use Rattle.lg_selr_values.specs.ValueItems.{value_needs}
 use Rattle.lg_temp.specs.Chosen.{around, choices_of}
 use Rattle.lg_temp.specs.declared.choice.Choice.{Choice}

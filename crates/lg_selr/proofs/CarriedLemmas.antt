@@ -17,8 +17,9 @@ use Rattle.lg_op.specs.declared.operand.Operand.TheVariants as operand
 use Rattle.lg_op.specs.declared.node.Node.{Node}
 use Rattle.lg_op.specs.declared.operand.Reg.{Reg}
 use Rattle.lg_selr.specs.Items.{node_items}
-use Rattle.lg_selr.specs.Selected.{IsAligned, IsCarriedWhenFinished, AreWhole, AreWholeWhenFinished, part_of}
-use Rattle.lg_selr.proofs.FinishedLemmas.{AreAppended, are-of-node}
+use Rattle.lg_sel.specs.Selected.{IsAligned, AreWhole, part_of}
+use Rattle.lg_sel.specs.Promises.{IsCarriedWhenFinished, AreInstructionsWhenFinished}
+use Rattle.lg_selr.proofs.FinishedLemmas.{AreAppended, are-of-node, are-whole}
 use Rattle.lg_selr.proofs.NodeFits.{IsAsked, items-fit}
 use Rattle.lg_selr.proofs.NodeLemmas.{items-carry}
 use Rattle.lg_selr.proofs.PlaceLemmas.{and-first}
@@ -37,7 +38,7 @@ use Rattle.lg_temp.proofs.ChoiceLemmas.{choices-are-for}
 use Rattle.lg_temp.specs.declared.choice.Choice.{Choice}
 
 pub selected-carries : (node : Node) (frame : ℕ) (live : Reg → Bool) (staged : List Bool) (choices : List Choice) (old new : Buffer) (items : List Item) → IsAsked node live staged choices (length old.labels)
-    → items ≡ node_items node frame choices staged (length old.bytes) → words_in items ≤ 64 → AreAppended old new items → length old.bytes % 4 ≡ 0 → IsCarriedWhenFinished node frame live staged old new
+    → items ≡ node_items node frame choices staged (length old.bytes) → words_in items ≤ 64 → AreAppended old new items → length old.bytes % 4 ≡ 0 → IsCarriedWhenFinished Riscv64 node frame live staged old new
 selected-carries node frame live staged choices old new items asked e few appended whole code trash c i word f n =
     let place : ℕ = length old.bytes in
     let mine : List Item = node_items node frame choices staged place in
@@ -50,31 +51,10 @@ selected-carries node frame live staged choices old new items asked e few append
 
 -- and its bytes are whole instructions
 pub selected-whole : (node : Node) (frame : ℕ) (live : Reg → Bool) (staged : List Bool) (choices : List Choice) (old new : Buffer) (items : List Item) → IsAsked node live staged choices (length old.labels)
-    → items ≡ node_items node frame choices staged (length old.bytes) → words_in items ≤ 64 → AreAppended old new items → length old.bytes % 4 ≡ 0 → AreWholeWhenFinished spelling IsInstr old new
-selected-whole node frame live staged choices old new items asked e few appended whole code c i f =
-    let place : ℕ = length old.bytes in
-    let mine : List Item = node_items node frame choices staged place in
-    let fit = items-fit frame live staged choices (length old.labels) place node.op node.operands node.line asked in
-    let a : AreAppended old new mine = subst (AreAppended old new) e appended in
-    let short : words_in mine ≤ 64 = subst (λ l. words_in l ≤ 64) e few in
-    let zero_word : 0 < 2 ^ 64 = omega arith in
-    let of = are-of-node old new code 0 c i mine zero_word a fit.instrs
-    (items-within node live asked.chosen.set frame choices staged place (choices-are-for (around Riscv64 node live asked.chosen.set) (value_needs node.op) choices asked.chosen.chosen)) short whole f in
-    let is = settled (slice_index c.addresses) (c.place i) mine in
-    let from : c.place i - code_base ≡ place = let h = f.here in omega (arith, h) in
-    let size = settled-bytes (slice_index c.addresses) (c.place i) mine fit.instrs in
-    subst (λ p. AreWhole spelling IsInstr (part_of code p (length new.bytes - place))) from
-    (settled-whole code (c.place i - code_base) (c.place i - code_base + length (blanks mine)) (length new.bytes - place) is of.of_node.settled_at
-    (let h = f.here in let n = f.next in let s = of.of_node.next in omega (arith, h, n, s, size)))
-  where
-    settled-whole : (code : List ℕ) (p behind n : ℕ) (is : List Instr) → IsSettled spelling IsInstr code p behind is → n ≡ length (spellings spelling is) → AreWhole spelling IsInstr (part_of code p n)
-    settled-whole code p behind n is s size = record {
-      instructions = is;
-      fit = s.fit;
-      bytes_are =
-          let xs : List ℕ = spellings spelling is in
-          ap (λ (k : ℕ). take k (drop p code)) size ∙ (ap (λ (ys : List ℕ). take (length xs) ys) s.stands ∙ take-append_seam xs (drop behind code));
-    }
+    → items ≡ node_items node frame choices staged (length old.bytes) → AreAppended old new items → AreInstructionsWhenFinished Riscv64 old new
+selected-whole node frame live staged choices old new items asked e appended =
+    let fit = items-fit frame live staged choices (length old.labels) (length old.bytes) node.op node.operands node.line asked in
+    are-whole old new (node_items node frame choices staged (length old.bytes)) (subst (AreAppended old new) e appended) fit.instrs
 
 -- ---- how much was appended
 is-true : IsTrue true

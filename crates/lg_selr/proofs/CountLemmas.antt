@@ -3,7 +3,7 @@ use Rattle.std.proofs.Common.{◌≡◌, ℕ, zero, suc, ◌+◌, ◌-◌, Bool,
 use Rattle.std.specs.Prelude.{replicate, cond}
 use Rattle.std.specs.List.{fold}
 use Rattle.lg_selr.specs.Items.{staged_count}
-use Rattle.lg_selr.specs.Selected.{first_arguments}
+use Rattle.lg_sel.specs.Selected.{first_arguments}
 
 abbrev counted : ℕ → List Bool → ℕ
 counted a xs = fold (λ (k : ℕ) (b : Bool). k + cond b 1 0) a xs

@@ -12,7 +12,8 @@ use Rattle.lg_op.specs.declared.operand.Operand.{Operand}
 use Rattle.lg_op.specs.declared.operand.Reg.{Reg}
 use Rattle.lg_rv.specs.declared.instruction.Instr.{Instr}
 use Rattle.lg_selr.specs.Items.{staged_count, items_of}
-use Rattle.lg_selr.specs.Selected.{AreChosen, is_pusharg, AreFirst, TakesLabelsWell, HaveWords}
+use Rattle.lg_sel.specs.Selected.{is_pusharg, AreFirst, TakesLabelsWell, HaveWords}
+use Rattle.lg_selr.specs.Selected.{AreChosen}
 use Rattle.lg_selr.proofs.CountLemmas.{count-is}
 use Rattle.lg_selr.proofs.OperandLemmas.{word-at, has-words, named-at, are-given, node_of, control-ends}
 use Rattle.lg_selr.proofs.PushFits.{push-good}

@@ -28,7 +28,8 @@ use Rattle.lg_carry_rv.specs.RvRows.{rv_processor, rv_rows}
 use Rattle.lg_rv.specs.Spelling.{IsInstr}
 use Rattle.lg_rv.specs.declared.instruction.Instr.{Instr}
 use Rattle.lg_selr.specs.Items.{staged_count, items_of}
-use Rattle.lg_selr.specs.Selected.{AreChosen, is_pusharg, AreFirst, TakesLabelsWell, HaveWords, IsNodeOf}
+use Rattle.lg_sel.specs.Selected.{is_pusharg, AreFirst, TakesLabelsWell, HaveWords, IsNodeOf}
+use Rattle.lg_selr.specs.Selected.{AreChosen}
 use Rattle.lg_selr.proofs.CountLemmas.{count-is}
 use Rattle.lg_selr.proofs.FitLemmas.{straight-block, straight-ones}
 use Rattle.lg_selr.proofs.OperandLemmas.{word-at, has-words, named-at, are-given, are-words, leads_nowhere, node_of, unlabelled, no-labels, control-ends}

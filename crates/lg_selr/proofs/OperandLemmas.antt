@@ -15,7 +15,7 @@ use Rattle.lg_op.specs.declared.op.LastOperand.TheVariants as last_operand
 use Rattle.lg_op.specs.declared.operand.Operand.{Operand}
 use Rattle.lg_op.specs.declared.operand.Operand.TheVariants as operand
 use Rattle.lg_meaning.specs.Steps.{operand_at}
-use Rattle.lg_selr.specs.Selected.{IsWord, HaveWords, is_label_for, has_label_for, may_take_label, TakesLabelsWell}
+use Rattle.lg_sel.specs.Selected.{IsWord, HaveWords, is_label_for, has_label_for, may_take_label, TakesLabelsWell}
 use Rattle.lg_selr_control.specs.ControlFits.{IsGiven, AreGiven}
 use Rattle.lg_selr_control.specs.ControlItems.{is_control}
 use Rattle.lg_selr_control.specs.ControlLaws as control_law

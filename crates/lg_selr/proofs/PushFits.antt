@@ -19,7 +19,7 @@ use Rattle.lg_rv.specs.declared.instruction.Instr.TheVariants as instr
 use Rattle.lg_rv.specs.declared.instruction.ImmOp.TheVariants.{Addi}
 use Rattle.lg_rv.specs.declared.instruction.StoreOp.TheVariants.{Sd}
 use Rattle.lg_rv.specs.Spelling.{IsInstr}
-use Rattle.lg_selr.specs.Selected.{IsWord}
+use Rattle.lg_sel.specs.Selected.{IsWord}
 use Rattle.lg_selr.proofs.FitLemmas.{AreCode, Straight, AreGood, number-is-code, good-none, good-ones, good-address, good-append, good-more}
 use Rattle.lg_selr_memory.specs.Accesses.{link}
 use Rattle.lg_selr_memory.specs.PushCode.{into, stack_push, onto_stack, push_code}

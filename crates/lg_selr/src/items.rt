@@ -3,7 +3,7 @@
 ghost use Rattle.std.specs.Prelude.{◌≡◌, ◌<◌, ◌≤◌, [], true, length};
 ghost use Rattle.lg_op.specs.Nodes.{InForm};
 ghost use Rattle.lg_selr.specs.Items.{node_items, staged_count, items_of};
-ghost use Rattle.lg_selr.specs.Selected.{IsFrame, AreFirst, is_pusharg, IsWord, HaveWords};
+ghost use Rattle.lg_sel.specs.Selected.{IsFrame, AreFirst, is_pusharg, IsWord, HaveWords};
 ghost use Rattle.lg_selr_values.specs.ValueItems.{HaveSlots};
 
 use lg_op::{ControlOp, Node, Op, Operand, PlainOp};

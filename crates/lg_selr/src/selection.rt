@@ -6,8 +6,10 @@ ghost use Rattle.lg_node.specs.Functions.{is_prolog};
 ghost use Rattle.lg_selr_values.specs.ValueFits.{NameBelow};
 ghost use Rattle.lg_op.specs.Nodes.{InForm};
 ghost use Rattle.lg_live.specs.RegSets.{has};
-ghost use Rattle.lg_selr.specs.Selected.{IsFrame, AreChosen, AreFirst, is_pusharg, TakesLabelsWell, IsAligned, IsCarriedWhenFinished, AreWholeWhenFinished, IsFixOf};
-ghost use Rattle.lg_rv.specs.Spelling.{spelling, IsInstr};
+ghost use Rattle.lg_sel.specs.Selected.{IsFrame, AreFirst, is_pusharg, TakesLabelsWell, IsAligned, IsFixOf};
+ghost use Rattle.lg_sel.specs.Promises.{IsCarriedWhenFinished, AreInstructionsWhenFinished};
+ghost use Rattle.lg_selr.specs.Selected.{AreChosen};
+ghost use Rattle.lg_base.specs.declared.target.Target.{Target};
 
 use crate::items::{put_items, see_numbers};
 use lg_buf::CodeBuf;
@@ -55,8 +57,8 @@ pub fn select(
     ensures whole { length buf.new.bytes % 4 ≡ 0 }
     ensures begins { IsTrue result → is_prolog node.now.op ≡ true → length buf.old.bytes < length buf.new.bytes }
     ensures lead { IsTrue result → All (IsFixOf 4 (length buf.old.bytes) node.now) (drop (length buf.old.fixes) buf.new.fixes) }
-    ensures instructions { IsTrue result → AreWholeWhenFinished spelling IsInstr buf.old buf.new }
-    ensures carries { IsTrue result → IsCarriedWhenFinished node.now frame (has live_after) staged.arguments buf.old buf.new }
+    ensures instructions { IsTrue result → AreInstructionsWhenFinished Target.Riscv64 buf.old buf.new }
+    ensures carries { IsTrue result → IsCarriedWhenFinished Target.Riscv64 node.now frame (has live_after) staged.arguments buf.old buf.new }
 {
     see_numbers(node.operands.as_slice());
     let mut items = Items::new(buf.allocator());

@@ -1,7 +1,7 @@
 use Rattle.std.proofs.Common.{◌≡◌, Bool, List, Some, subst}
 use Rattle.lg_live.specs.RegSets.{has}
 use Rattle.lg_op.specs.declared.operand.Reg.{Reg}
-use Rattle.lg_selr.specs.Selected.{first_arguments}
+use Rattle.lg_sel.specs.Selected.{first_arguments}
 use Rattle.lg_temp.specs.Chosen.{around, choices_of}
 use Rattle.lg_temp.specs.declared.choice.Need.{Need}
 use Rattle.lg_asm.specs.PlainChoices.{every}

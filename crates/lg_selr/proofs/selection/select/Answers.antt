@@ -5,7 +5,8 @@ use Rattle.lg_op.specs.declared.node.Node.{Node}
 use Rattle.lg_op.specs.declared.operand.Operand.{Operand}
 use Rattle.lg_op.specs.declared.operand.Reg.{Reg}
 use Rattle.lg_selr.specs.Items.{node_items}
-use Rattle.lg_selr.specs.Selected.{AreChosen, is_pusharg, AreFirst, TakesLabelsWell, HaveWords}
+use Rattle.lg_sel.specs.Selected.{is_pusharg, AreFirst, TakesLabelsWell, HaveWords}
+use Rattle.lg_selr.specs.Selected.{AreChosen}
 use Rattle.lg_selr.proofs.CarriedLemmas.{selected-carries, selected-whole, aligned-behind, short-appended, one-fixed}
 use Rattle.lg_selr.proofs.FixLemmas.{appended-lead, appended-whole, appended-begins}
 use Rattle.lg_selr.proofs.NodeFits.{IsAsked, AreEmittable, choices-fit, items-fit}
@@ -74,8 +75,8 @@ pub returns-clause-instructions : goal.returns-clause-instructions
 returns-clause-instructions c = λ went.
     let k = asked c.args.node.now (has c.args.live_after) c.args.staged.arguments c.args.choices.now (length c.args.buf.now.labels) c.as_slice.result.now c.requires.formed c.requires.choices c.requires.staged c.requires.labels c.requires.immediates c.as_slice.ensures.value c.see_numbers.ensures in
     selected-whole c.args.node.now c.args.frame (has c.args.live_after) c.args.staged.arguments c.args.choices.now c.args.buf.now c.append.new.buf c.put_items.new.items k
-    (c.put_items.ensures ∙ ap (node_items c.args.node.now c.args.frame c.args.choices.now c.args.staged.arguments) c.here.ensures.value) (subst (λ l. words_in l ≤ 64) c.items.view_is c.items.invariant.1)
-    record { bytes = c.append.ensures.bytes went; fixes = c.append.ensures.fixes went } c.requires.whole
+    (c.put_items.ensures ∙ ap (node_items c.args.node.now c.args.frame c.args.choices.now c.args.staged.arguments) c.here.ensures.value)
+    record { bytes = c.append.ensures.bytes went; fixes = c.append.ensures.fixes went }
 
 pub returns-clause-aligned : goal.returns-clause-aligned
 returns-clause-aligned c =

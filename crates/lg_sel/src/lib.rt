@@ -1,0 +1,4 @@
+//! What the code of a node promises on every target, and when a finished buffer keeps it.
+#![tactic(auto)]
+
+pub mod laws;
