@@ -1,12 +1,7 @@
 -- What `select` appends carries the node once the buffer is finished.
-use Rattle.std.proofs.Common.{◌≡◌, ℕ, ◌+◌, ◌-◌, ◌<◌, ◌≤◌, ◌^◌, Bool, true, false, List, ◌++◌, length, take, drop, refl, ap, ◌∙◌, subst, arith, rules, length-append}
-use Rattle.std.proofs.Math.Seq.{take-append_seam}
-use Rattle.std.specs.Prelude.{◌*◌, ◌%◌, IsTrue, [], ◌∷◌, slice_index}
-use Rattle.lg_base.specs.Layout.{code_base}
+use Rattle.std.proofs.Common.{◌≡◌, ℕ, ◌+◌, ◌≤◌, Bool, true, false, List, ◌++◌, length, refl, ap, ◌∙◌, subst, arith, rules, length-append}
+use Rattle.std.specs.Prelude.{◌*◌, ◌%◌, IsTrue, [], ◌∷◌}
 use Rattle.lg_buf.specs.Buffers.{Buffer}
-use Rattle.lg_carry.specs.Blocks.{spellings}
-use Rattle.lg_rv.specs.Spelling.{spelling, IsInstr}
-use Rattle.lg_rv.specs.declared.instruction.Instr.{Instr}
 use Rattle.lg_op.specs.Forms.{is_alignment, forms_of, admit}
 use Rattle.lg_op.specs.Nodes.{InForm}
 use Rattle.lg_op.specs.declared.op.Op.{Op}
@@ -17,7 +12,7 @@ use Rattle.lg_op.specs.declared.operand.Operand.TheVariants as operand
 use Rattle.lg_op.specs.declared.node.Node.{Node}
 use Rattle.lg_op.specs.declared.operand.Reg.{Reg}
 use Rattle.lg_selr.specs.Items.{node_items}
-use Rattle.lg_sel.specs.Selected.{IsAligned, AreWhole, part_of}
+use Rattle.lg_sel.specs.Selected.{IsAligned}
 use Rattle.lg_sel.specs.Promises.{IsCarriedWhenFinished, AreInstructionsWhenFinished}
 use Rattle.lg_selr.proofs.FinishedLemmas.{AreAppended, are-of-node, are-whole}
 use Rattle.lg_selr.proofs.NodeFits.{IsAsked, items-fit}
@@ -27,10 +22,8 @@ use Rattle.lg_selr.proofs.WithinLemmas.{items-within}
 use Rattle.lg_selr_control.specs.Alignments.{align_code}
 use Rattle.lg_selr_control.proofs.AlignLemmas.{alignments-align}
 use Rattle.lg_selr_items.specs.declared.items.Item.{Item}
-use Rattle.lg_sel_items.specs.Holes.{IsSettled}
-use Rattle.lg_selr_items.specs.Items.{words_in, bytes_in, blanks, ones, settled}
+use Rattle.lg_selr_items.specs.Items.{words_in, bytes_in, blanks, ones}
 use Rattle.lg_selr_items.proofs.ItemLemmas.{blank_bytes, words-ones}
-use Rattle.lg_selr_items.proofs.NodeLemmas.{settled-bytes}
 use Rattle.lg_base.specs.declared.target.Target.TheVariants.{Riscv64}
 use Rattle.lg_selr_values.specs.ValueItems.{value_needs}
 use Rattle.lg_temp.specs.Chosen.{around}
