@@ -59,11 +59,19 @@ record Idles (base n j k : ℕ) (q : Run CpuState) : Type 0 where
   mark : end.state.mark ≡ q.state.mark
 
 idles : (base n j k : ℕ) (q : Run CpuState) → j + k ≤ n → RunsAt base n j q → Idles base n j k q
-idles base n j zero q room at = record { end = q; chain = chain-end q; at = subst (λ x. RunsAt base n x q) (omega arith) at; registers = λ x ne. refl; bytes = refl; mark = refl }
+idles base n j zero q room at = record {
+  end = q;
+  chain = chain-end q;
+  at = subst (λ x. RunsAt base n x q) (omega arith) at;
+  registers = λ x ne. refl;
+  bytes = refl;
+  mark = refl;
+}
 idles base n j (suc k) q room at =
     let v = add_words 0 0 in
     let q1 = after q (sets q.state 0 v) in
-    let rest = idles base n (suc j) k q1 (omega (arith, room)) (next-at base n j q (put q.state.registers 0 v) q.state.bytes q.state.mark (omega (arith, room)) at) in
+    let rest = idles base n (suc j) k q1 (omega (arith, room))
+    (next-at base n j q (put q.state.registers 0 v) q.state.bytes q.state.mark (omega (arith, room)) at) in
     record {
       end = rest.end;
       chain = chain-more (instr.Imm Addi 0 0 (pos 0)) (idle k) q rest.end (sets q.state 0 v) at.runs refl rest.chain;

@@ -39,17 +39,47 @@ record Compares (o : Condition) (a b x y : ℕ) (w : ℕ → ℕ) : Type 0 where
 compares : (o : Condition) (a b x y : ℕ) (w : ℕ → ℕ) → read w a ≡ x → read w b ≡ y → Compares o a b x y w
 compares condition.Lt a b x y w ea eb = record { computes = refl; taken = λ j. is_taken Bge (ea j) (eb j); others = λ z ne. refl; few = omega arith }
 compares condition.LtU a b x y w ea eb = record { computes = refl; taken = λ j. is_taken Bgeu (ea j) (eb j); others = λ z ne. refl; few = omega arith }
-compares condition.Le a b x y w ea eb = record { computes = refl; taken = (λ j. is_taken Blt (eb j) (ea j)) ∙ sym (twice (is_taken Blt y x)); others = λ z ne. refl; few = omega arith }
-compares condition.LeU a b x y w ea eb = record { computes = refl; taken = (λ j. is_taken Bltu (eb j) (ea j)) ∙ sym (twice (is_taken Bltu y x)); others = λ z ne. refl; few = omega arith }
-compares condition.Ge a b x y w ea eb = record { computes = refl; taken = (λ j. is_taken Blt (ea j) (eb j)) ∙ sym (twice (is_taken Blt x y)); others = λ z ne. refl; few = omega arith }
-compares condition.GeU a b x y w ea eb = record { computes = refl; taken = (λ j. is_taken Bltu (ea j) (eb j)) ∙ sym (twice (is_taken Bltu x y)); others = λ z ne. refl; few = omega arith }
+compares condition.Le a b x y w ea eb = record {
+  computes = refl;
+  taken = (λ j. is_taken Blt (eb j) (ea j)) ∙ sym (twice (is_taken Blt y x));
+  others = λ z ne. refl;
+  few = omega arith;
+}
+compares condition.LeU a b x y w ea eb = record {
+  computes = refl;
+  taken = (λ j. is_taken Bltu (eb j) (ea j)) ∙ sym (twice (is_taken Bltu y x));
+  others = λ z ne. refl;
+  few = omega arith;
+}
+compares condition.Ge a b x y w ea eb = record {
+  computes = refl;
+  taken = (λ j. is_taken Blt (ea j) (eb j)) ∙ sym (twice (is_taken Blt x y));
+  others = λ z ne. refl;
+  few = omega arith;
+}
+compares condition.GeU a b x y w ea eb = record {
+  computes = refl;
+  taken = (λ j. is_taken Bltu (ea j) (eb j)) ∙ sym (twice (is_taken Bltu x y));
+  others = λ z ne. refl;
+  few = omega arith;
+}
 compares condition.Gt a b x y w ea eb = record { computes = refl; taken = λ j. is_taken Bge (eb j) (ea j); others = λ z ne. refl; few = omega arith }
 compares condition.GtU a b x y w ea eb = record { computes = refl; taken = λ j. is_taken Bgeu (eb j) (ea j); others = λ z ne. refl; few = omega arith }
 compares condition.Eq a b x y w ea eb = record { computes = refl; taken = λ j. is_taken Bne (ea j) (eb j); others = λ z ne. refl; few = omega arith }
-compares condition.Ne a b x y w ea eb = record { computes = refl; taken = (λ j. is_taken Beq (ea j) (eb j)) ∙ sym (twice (is_taken Beq x y)); others = λ z ne. refl; few = omega arith }
+compares condition.Ne a b x y w ea eb = record {
+  computes = refl;
+  taken = (λ j. is_taken Beq (ea j) (eb j)) ∙ sym (twice (is_taken Beq x y));
+  others = λ z ne. refl;
+  few = omega arith;
+}
 compares condition.Ms a b x y w ea eb =
     let bits : bit_and (read w a) (read w b) ≡ bit_and x y = λ j. bit_and (ea j) (eb j) in
-    record { computes = refl; taken = ap (λ z. is_taken Beq z 0) bits ∙ sym (twice (is_taken Beq (bit_and x y) 0)); others = λ z ne. put-other w 1 _ z ne; few = omega arith }
+    record {
+      computes = refl;
+      taken = ap (λ z. is_taken Beq z 0) bits ∙ sym (twice (is_taken Beq (bit_and x y) 0));
+      others = λ z ne. put-other w 1 _ z ne;
+      few = omega arith;
+    }
 compares condition.Mc a b x y w ea eb =
     let bits : bit_and (read w a) (read w b) ≡ bit_and x y = λ j. bit_and (ea j) (eb j) in
     record { computes = refl; taken = ap (λ z. is_taken Bne z 0) bits; others = λ z ne. put-other w 1 _ z ne; few = omega arith }
@@ -57,7 +87,8 @@ compares condition.Mc a b x y w ea eb =
 pub read-other : (w u : ℕ → ℕ) (r : ℕ) → u r ≡ w r → read u r ≡ read w r
 read-other w u r e = ap (λ z. if r == 0 then 0 else z) e
 
-pub branches-lead : (code : List ℕ) (trash : ℕ) → length code ≤ most_code → AreBytes code → trash < 2 ^ 64 → BranchesLead (rv_rows code trash) rv_scratch IsInstr branch_code
+pub branches-lead : (code : List ℕ) (trash : ℕ) → length code ≤ most_code → AreBytes code → trash < 2 ^ 64
+    → BranchesLead (rv_rows code trash) rv_scratch IsInstr branch_code
 branches-lead code trash small bytes word frame o a b x y from to q f k there next runs at ea eb near =
     let w : ℕ → ℕ = q.state.registers in
     let ra : ℕ = register_of Riscv64 a in

@@ -63,11 +63,13 @@ use Rattle.lg_sel_control.proofs.SumBranchLemmas.{sum-branches-carry}
 
 -- ---- the instructions of items
 -- a branch over a jump, behind two lists of instructions
-unless-settled : (to : ℕ → ℕ) (at : ℕ) (xs ys : List Instr) (o : BranchOp) (a b : ℕ) (l : Label) → settled to at (ones xs ++ (ones ys ++ jump_unless_items o a b l)) ≡ jump_over (xs ++ ys) o a b at (to l.0)
+unless-settled : (to : ℕ → ℕ) (at : ℕ) (xs ys : List Instr) (o : BranchOp) (a b : ℕ) (l : Label)
+    → settled to at (ones xs ++ (ones ys ++ jump_unless_items o a b l)) ≡ jump_over (xs ++ ys) o a b at (to l.0)
 unless-settled to at xs ys o a b l =
     let rest = jump_unless_items o a b l in
     let front = xs ++ ys in
-    let joined : ones xs ++ (ones ys ++ rest) ≡ ones front ++ rest = sym (append_assoc (ones xs) (ones ys) rest) ∙ ap (λ z. z ++ rest) (sym (ones-append xs ys)) in
+    let joined : ones xs ++ (ones ys ++ rest) ≡ ones front ++ rest =
+    sym (append_assoc (ones xs) (ones ys) rest) ∙ ap (λ z. z ++ rest) (sym (ones-append xs ys)) in
     let size = words-ones front in
     let place : at + bytes_in (ones front) + 4 * 1 ≡ at + (4 * length front + 4) = omega (arith, size) in
     ap (settled to at) joined ∙ settled-append to at (ones front) rest ∙ ap (λ z. z ++ settled to (at + bytes_in (ones front)) rest) (settled-ones to at front)
@@ -120,34 +122,51 @@ module _ (code : List ℕ) (trash : ℕ) (c : Code) (i frame line : ℕ) (S : �
   formed : (o : Op) (xs : List Operand) → IsInText c i (node o xs) → admit (forms_of o) xs ≡ true
   formed o xs t = (t.formed (node o xs) t.here).forms
 
-  branch : (o : Condition) (last : LastOperand) (xs : List Operand) → admit (forms_of (op.Branch o last)) xs ≡ true → AreWords c.addresses xs → ends_in_label xs ≡ false → IsInText c i (node (op.Branch o last) xs)
+  branch : (o : Condition) (last : LastOperand) (xs : List Operand) → admit (forms_of (op.Branch o last)) xs ≡ true → AreWords c.addresses xs
+      → ends_in_label xs ≡ false → IsInText c i (node (op.Branch o last) xs)
       → StandsInCode code trash c i (items-of (op.Branch o last) xs) → CarriesNode (rv_processor code trash) c i (node (op.Branch o last) xs) S
   branch o last_operand.Register (operand.Label l ∷ operand.Reg a ∷ operand.Reg b ∷ []) h v e t k =
       branches-carry (rv_rows code trash) rv_scratch IsInstr (rv k).isa branch_code (rv k).branches c i o l a (operand.Reg b) line frame S tt places t is-frame
-      (as-code _ _ (unless-settled to (c.place i) (second_code (operand.Reg b)) (bits_code o (register_of Riscv64 a) (second_register (operand.Reg b))) (failing o) (left_of o (register_of Riscv64 a) (second_register (operand.Reg b))) (right_of o (register_of Riscv64 a) (second_register (operand.Reg b))) l) k).node
+      (as-code _ _ (unless-settled to (c.place i) (second_code (operand.Reg b)) (bits_code o (register_of Riscv64 a) (second_register (operand.Reg b)))
+      (failing o) (left_of o (register_of Riscv64 a) (second_register (operand.Reg b)))
+      (right_of o (register_of Riscv64 a) (second_register (operand.Reg b))) l) k).node
   branch o last_operand.Immediate (operand.Label l ∷ operand.Reg a ∷ operand.Number x ∷ []) h v e t k =
-      branches-carry (rv_rows code trash) rv_scratch IsInstr (rv k).isa branch_code (rv k).branches c i o l a (operand.Number x) line frame S (x, refl, v.1.1.0) places t is-frame
-      (as-code _ _ (unless-settled to (c.place i) (second_code (operand.Number x)) (bits_code o (register_of Riscv64 a) (second_register (operand.Number x))) (failing o) (left_of o (register_of Riscv64 a) (second_register (operand.Number x))) (right_of o (register_of Riscv64 a) (second_register (operand.Number x))) l) k).node
+      branches-carry (rv_rows code trash) rv_scratch IsInstr (rv k).isa branch_code (rv k).branches c i o l a (operand.Number x) line frame S
+      (x, refl, v.1.1.0) places t is-frame
+      (as-code _ _ (unless-settled to (c.place i) (second_code (operand.Number x)) (bits_code o (register_of Riscv64 a) (second_register (operand.Number x)))
+      (failing o) (left_of o (register_of Riscv64 a) (second_register (operand.Number x)))
+      (right_of o (register_of Riscv64 a) (second_register (operand.Number x))) l) k).node
   branch o last_operand.Immediate (operand.Label l ∷ operand.Reg a ∷ operand.Host name ∷ []) h v e t k =
-      branches-carry (rv_rows code trash) rv_scratch IsInstr (rv k).isa branch_code (rv k).branches c i o l a (operand.Host name) line frame S (host_address name, refl, host-small name) places t is-frame
-      (as-code _ _ (unless-settled to (c.place i) (second_code (operand.Host name)) (bits_code o (register_of Riscv64 a) (second_register (operand.Host name))) (failing o) (left_of o (register_of Riscv64 a) (second_register (operand.Host name))) (right_of o (register_of Riscv64 a) (second_register (operand.Host name))) l) k).node
+      branches-carry (rv_rows code trash) rv_scratch IsInstr (rv k).isa branch_code (rv k).branches c i o l a (operand.Host name) line frame S
+      (host_address name, refl, host-small name) places t is-frame
+      (as-code _ _ (unless-settled to (c.place i) (second_code (operand.Host name)) (bits_code o (register_of Riscv64 a) (second_register (operand.Host name)))
+      (failing o) (left_of o (register_of Riscv64 a) (second_register (operand.Host name)))
+      (right_of o (register_of Riscv64 a) (second_register (operand.Host name))) l) k).node
   branch o last_operand.Immediate (operand.Label l ∷ operand.Reg a ∷ operand.Label m ∷ []) h v e t k = absurd (differs e)
   branch o last (operand.Label l ∷ operand.Reg a ∷ x ∷ y ∷ ys) h v e t k = absurd (never (admits (last_form last) x) h)
   branch o last xs h v e t k = absurd (differ h)
 
-  sum-branch : (o : BranchSumOp) (last : LastOperand) (xs : List Operand) → admit (forms_of (op.BranchSum o last)) xs ≡ true → AreWords c.addresses xs → ends_in_label xs ≡ false → IsInText c i (node (op.BranchSum o last) xs)
+  sum-branch : (o : BranchSumOp) (last : LastOperand) (xs : List Operand) → admit (forms_of (op.BranchSum o last)) xs ≡ true → AreWords c.addresses xs
+      → ends_in_label xs ≡ false → IsInText c i (node (op.BranchSum o last) xs)
       → StandsInCode code trash c i (items-of (op.BranchSum o last) xs) → CarriesNode (rv_processor code trash) c i (node (op.BranchSum o last) xs) S
   sum-branch o last_operand.Register (operand.Label l ∷ operand.Reg a ∷ operand.Reg b ∷ []) h v e t k =
-      sum-branches-carry (rv_rows code trash) rv_scratch IsInstr (rv k).isa sum_branch_code (rv k).sum_branches c i o l a (operand.Reg b) line frame S tt places t is-frame
-      (as-code _ _ (unless-settled to (c.place i) (second_code (operand.Reg b)) (sum_code o (register_of Riscv64 a) (second_register (operand.Reg b))) (staying o) 31 0 l) k).node
+      sum-branches-carry (rv_rows code trash) rv_scratch IsInstr (rv k).isa sum_branch_code (rv k).sum_branches c i o l a
+      (operand.Reg b) line frame S tt places t is-frame
+      (as-code _ _ (unless-settled to (c.place i) (second_code (operand.Reg b)) (sum_code o (register_of Riscv64 a) (second_register (operand.Reg b)))
+      (staying o) 31 0 l) k).node
   sum-branch o last_operand.Immediate (operand.Label l ∷ operand.Reg a ∷ operand.Number x ∷ []) h v e t k =
-      sum-branches-carry (rv_rows code trash) rv_scratch IsInstr (rv k).isa sum_branch_code (rv k).sum_branches c i o l a (operand.Number x) line frame S (x, refl, v.1.1.0) places t is-frame
-      (as-code _ _ (unless-settled to (c.place i) (second_code (operand.Number x)) (sum_code o (register_of Riscv64 a) (second_register (operand.Number x))) (staying o) 31 0 l) k).node
+      sum-branches-carry (rv_rows code trash) rv_scratch IsInstr (rv k).isa sum_branch_code (rv k).sum_branches c i o l a (operand.Number x) line frame S
+      (x, refl, v.1.1.0) places t is-frame
+      (as-code _ _ (unless-settled to (c.place i) (second_code (operand.Number x)) (sum_code o (register_of Riscv64 a) (second_register (operand.Number x)))
+      (staying o) 31 0 l) k).node
   sum-branch o last_operand.Immediate (operand.Label l ∷ operand.Reg a ∷ operand.Host name ∷ []) h v e t k =
-      sum-branches-carry (rv_rows code trash) rv_scratch IsInstr (rv k).isa sum_branch_code (rv k).sum_branches c i o l a (operand.Host name) line frame S (host_address name, refl, host-small name) places t is-frame
-      (as-code _ _ (unless-settled to (c.place i) (second_code (operand.Host name)) (sum_code o (register_of Riscv64 a) (second_register (operand.Host name))) (staying o) 31 0 l) k).node
+      sum-branches-carry (rv_rows code trash) rv_scratch IsInstr (rv k).isa sum_branch_code (rv k).sum_branches c i o l a (operand.Host name) line frame S
+      (host_address name, refl, host-small name) places t is-frame
+      (as-code _ _ (unless-settled to (c.place i) (second_code (operand.Host name)) (sum_code o (register_of Riscv64 a) (second_register (operand.Host name)))
+      (staying o) 31 0 l) k).node
   sum-branch o last_operand.Immediate (operand.Label l ∷ operand.Reg a ∷ operand.Label m ∷ []) h v e t k = absurd (differs e)
-  sum-branch o last (operand.Label l ∷ operand.Reg a ∷ x ∷ y ∷ ys) h v e t k = absurd (never-sum (admits form.Update (operand.Reg a)) (admits (last_form last) x) h)
+  sum-branch o last (operand.Label l ∷ operand.Reg a ∷ x ∷ y ∷ ys) h v e t k =
+      absurd (never-sum (admits form.Update (operand.Reg a)) (admits (last_form last) x) h)
   sum-branch o last (operand.Label l ∷ operand.Reg a ∷ []) h v e t k = absurd (never (admits form.Update (operand.Reg a)) h)
   sum-branch o last_operand.Register (operand.Label l ∷ operand.Reg a ∷ operand.Number x ∷ []) h v e t k = absurd (never (admits form.Update (operand.Reg a)) h)
   sum-branch o last_operand.Register (operand.Label l ∷ operand.Reg a ∷ operand.Label x ∷ []) h v e t k = absurd (never (admits form.Update (operand.Reg a)) h)
@@ -157,73 +176,103 @@ module _ (code : List ℕ) (trash : ℕ) (c : Code) (i frame line : ℕ) (S : �
   sum-branch o last_operand.Immediate (operand.Label l ∷ operand.Reg a ∷ operand.Slot x ∷ []) h v e t k = absurd (never (admits form.Update (operand.Reg a)) h)
   sum-branch o last xs h v e t k = absurd (differ h)
 
-  jump : (xs : List Operand) → admit (forms_of (op.Control control.Jmp last_operand.Immediate)) xs ≡ true → IsInText c i (node (op.Control control.Jmp last_operand.Immediate) xs) → StandsInCode code trash c i (items-of (op.Control control.Jmp last_operand.Immediate) xs)
+  jump : (xs : List Operand) → admit (forms_of (op.Control control.Jmp last_operand.Immediate)) xs ≡ true
+      → IsInText c i (node (op.Control control.Jmp last_operand.Immediate) xs)
+      → StandsInCode code trash c i (items-of (op.Control control.Jmp last_operand.Immediate) xs)
       → CarriesNode (rv_processor code trash) c i (node (op.Control control.Jmp last_operand.Immediate) xs) S
   jump (operand.Label l ∷ []) h t k = jumps-carry (rv_rows code trash) IsInstr (rv k).rows jump_code (rv k).jumps c i l line S places t k.node
   jump xs h t k = absurd (differ h)
 
-  call : (xs : List Operand) → admit (forms_of (op.Control control.Call last_operand.Immediate)) xs ≡ true → IsInText c i (node (op.Control control.Call last_operand.Immediate) xs) → StandsInCode code trash c i (items-of (op.Control control.Call last_operand.Immediate) xs)
+  call : (xs : List Operand) → admit (forms_of (op.Control control.Call last_operand.Immediate)) xs ≡ true
+      → IsInText c i (node (op.Control control.Call last_operand.Immediate) xs)
+      → StandsInCode code trash c i (items-of (op.Control control.Call last_operand.Immediate) xs)
       → CarriesNode (rv_processor code trash) c i (node (op.Control control.Call last_operand.Immediate) xs) S
   call (operand.Label l ∷ []) h t k = calls-carry (rv_rows code trash) IsInstr call_code (rv k).calls c i l line S places t frame is-frame k.node
-  call (operand.Host name ∷ []) h t k = host-calls-carry (rv_rows code trash) rv_ready IsInstr (rv k).hosts host_code (rv k).host_calls c i name line S places t frame is-frame k.node
+  call (operand.Host name ∷ []) h t k = host-calls-carry (rv_rows code trash) rv_ready IsInstr (rv k).hosts host_code
+      (rv k).host_calls c i name line S places t frame is-frame k.node
   call xs h t k = absurd (differ h)
 
-  finish : (xs : List Operand) → admit (forms_of (op.Control control.Finish last_operand.Immediate)) xs ≡ true → IsInText c i (node (op.Control control.Finish last_operand.Immediate) xs) → StandsInCode code trash c i (items-of (op.Control control.Finish last_operand.Immediate) xs)
+  finish : (xs : List Operand) → admit (forms_of (op.Control control.Finish last_operand.Immediate)) xs ≡ true
+      → IsInText c i (node (op.Control control.Finish last_operand.Immediate) xs)
+      → StandsInCode code trash c i (items-of (op.Control control.Finish last_operand.Immediate) xs)
       → CarriesNode (rv_processor code trash) c i (node (op.Control control.Finish last_operand.Immediate) xs) S
   finish (operand.Label l ∷ []) h t k = finishes-carry (rv_rows code trash) IsInstr call_code (rv k).calls c i l line S places t frame is-frame k.node
-  finish (operand.Host name ∷ []) h t k = host-finishes-carry (rv_rows code trash) rv_ready IsInstr (rv k).hosts host_code (rv k).host_calls c i name line S places t frame is-frame k.node
+  finish (operand.Host name ∷ []) h t k = host-finishes-carry (rv_rows code trash) rv_ready IsInstr (rv k).hosts host_code
+      (rv k).host_calls c i name line S places t frame is-frame k.node
   finish xs h t k = absurd (differ h)
 
   -- jumps and calls of the word of a register
-  register-jump : (xs : List Operand) → admit (forms_of (op.Control control.Jmp last_operand.Register)) xs ≡ true → IsInText c i (node (op.Control control.Jmp last_operand.Register) xs) → StandsInCode code trash c i (items-of (op.Control control.Jmp last_operand.Register) xs)
+  register-jump : (xs : List Operand) → admit (forms_of (op.Control control.Jmp last_operand.Register)) xs ≡ true
+      → IsInText c i (node (op.Control control.Jmp last_operand.Register) xs)
+      → StandsInCode code trash c i (items-of (op.Control control.Jmp last_operand.Register) xs)
       → CarriesNode (rv_processor code trash) c i (node (op.Control control.Jmp last_operand.Register) xs) S
-  register-jump (operand.Reg a ∷ []) h t k = register-jumps-carry (rv_rows code trash) IsInstr (rv k).rows register_jump_code (rv k).register_jumps c i a line frame S places t is-frame k.node
+  register-jump (operand.Reg a ∷ []) h t k = register-jumps-carry (rv_rows code trash) IsInstr (rv k).rows register_jump_code
+      (rv k).register_jumps c i a line frame S places t is-frame k.node
   register-jump (x ∷ y ∷ ys) h t k = absurd (never (admits form.Read x) h)
   register-jump xs h t k = absurd (differ h)
 
-  register-call : (xs : List Operand) → admit (forms_of (op.Control control.Call last_operand.Register)) xs ≡ true → IsInText c i (node (op.Control control.Call last_operand.Register) xs) → StandsInCode code trash c i (items-of (op.Control control.Call last_operand.Register) xs)
+  register-call : (xs : List Operand) → admit (forms_of (op.Control control.Call last_operand.Register)) xs ≡ true
+      → IsInText c i (node (op.Control control.Call last_operand.Register) xs)
+      → StandsInCode code trash c i (items-of (op.Control control.Call last_operand.Register) xs)
       → CarriesNode (rv_processor code trash) c i (node (op.Control control.Call last_operand.Register) xs) S
-  register-call (operand.Reg a ∷ []) h t k = register-calls-carry (rv_rows code trash) rv_ready IsInstr (rv k).hosts register_call_code (rv k).register_calls (rv k).register_host_calls c i a line frame S places t is-frame k.node
+  register-call (operand.Reg a ∷ []) h t k = register-calls-carry (rv_rows code trash) rv_ready IsInstr (rv k).hosts register_call_code (rv k).register_calls
+      (rv k).register_host_calls c i a line frame S places t is-frame k.node
   register-call (x ∷ y ∷ ys) h t k = absurd (never (admits form.Read x) h)
   register-call xs h t k = absurd (differ h)
 
-  register-finish : (xs : List Operand) → admit (forms_of (op.Control control.Finish last_operand.Register)) xs ≡ true → IsInText c i (node (op.Control control.Finish last_operand.Register) xs) → StandsInCode code trash c i (items-of (op.Control control.Finish last_operand.Register) xs)
+  register-finish : (xs : List Operand) → admit (forms_of (op.Control control.Finish last_operand.Register)) xs ≡ true
+      → IsInText c i (node (op.Control control.Finish last_operand.Register) xs)
+      → StandsInCode code trash c i (items-of (op.Control control.Finish last_operand.Register) xs)
       → CarriesNode (rv_processor code trash) c i (node (op.Control control.Finish last_operand.Register) xs) S
-  register-finish (operand.Reg a ∷ []) h t k = register-finishes-carry (rv_rows code trash) rv_ready IsInstr (rv k).hosts register_call_code (rv k).register_calls (rv k).register_host_calls c i a line frame S places t is-frame k.node
+  register-finish (operand.Reg a ∷ []) h t k = register-finishes-carry (rv_rows code trash) rv_ready IsInstr (rv k).hosts register_call_code
+      (rv k).register_calls (rv k).register_host_calls c i a line frame S places t is-frame k.node
   register-finish (x ∷ y ∷ ys) h t k = absurd (never (admits form.Read x) h)
   register-finish xs h t k = absurd (differ h)
 
-  ret : (last : LastOperand) (xs : List Operand) → admit (forms_of (op.Control control.Ret last)) xs ≡ true → AreWords c.addresses xs → IsInText c i (node (op.Control control.Ret last) xs) → StandsInCode code trash c i (items-of (op.Control control.Ret last) xs)
+  ret : (last : LastOperand) (xs : List Operand) → admit (forms_of (op.Control control.Ret last)) xs ≡ true → AreWords c.addresses xs
+      → IsInText c i (node (op.Control control.Ret last) xs) → StandsInCode code trash c i (items-of (op.Control control.Ret last) xs)
       → CarriesNode (rv_processor code trash) c i (node (op.Control control.Ret last) xs) S
-  ret last_operand.Register (operand.Reg a ∷ []) h v t k = (returns-carry (rv_rows code trash) IsInstr returned_code (rv k).returns).retrs c i line a frame S places t is-frame k.node
-  ret last_operand.Immediate (operand.Number x ∷ []) h v t k = (returns-carry (rv_rows code trash) IsInstr returned_code (rv k).returns).retis c i line (operand.Number x) x refl v.0 frame S places t is-frame (as-code _ _ (ones-settled to (c.place i) (number_code 10 x) return_code) k).node
-  ret last_operand.Immediate (operand.Host name ∷ []) h v t k = (returns-carry (rv_rows code trash) IsInstr returned_code (rv k).returns).retis c i line (operand.Host name) (host_address name) refl (host-small name) frame S places t is-frame (as-code _ _ (ones-settled to (c.place i) (number_code 10 (host_address name)) return_code) k).node
-  ret last_operand.Immediate (operand.Label l ∷ []) h v t k = (returns-carry (rv_rows code trash) IsInstr returned_code (rv k).returns).labels c i line l v.0 frame S places t is-frame k.node
+  ret last_operand.Register (operand.Reg a ∷ []) h v t k =
+      (returns-carry (rv_rows code trash) IsInstr returned_code (rv k).returns).retrs c i line a frame S places t is-frame k.node
+  ret last_operand.Immediate (operand.Number x ∷ []) h v t k = (returns-carry (rv_rows code trash) IsInstr returned_code (rv k).returns).retis c i line
+      (operand.Number x) x refl v.0 frame S places t is-frame (as-code _ _ (ones-settled to (c.place i) (number_code 10 x) return_code) k).node
+  ret last_operand.Immediate (operand.Host name ∷ []) h v t k = (returns-carry (rv_rows code trash) IsInstr returned_code (rv k).returns).retis c i line
+      (operand.Host name) (host_address name) refl (host-small name) frame S places t is-frame
+      (as-code _ _ (ones-settled to (c.place i) (number_code 10 (host_address name)) return_code) k).node
+  ret last_operand.Immediate (operand.Label l ∷ []) h v t k =
+      (returns-carry (rv_rows code trash) IsInstr returned_code (rv k).returns).labels c i line l v.0 frame S places t is-frame k.node
   ret last_operand.Register (x ∷ y ∷ ys) h v t k = absurd (never (admits form.Read x) h)
   ret last_operand.Immediate (x ∷ y ∷ ys) h v t k = absurd (never (admits form.Immediate x) h)
   ret last xs h v t k = absurd (differ h)
 
-  align : (xs : List Operand) → admit (forms_of (op.Plain plain.Align)) xs ≡ true → IsInText c i (node (op.Plain plain.Align) xs) → StandsInCode code trash c i (items-of (op.Plain plain.Align) xs) → CarriesNode (rv_processor code trash) c i (node (op.Plain plain.Align) xs) S
-  align (operand.Number n ∷ []) h t k = alignments-carry (rv_rows code trash) IsInstr (rv k).rows align_code (rv k).alignments c i n line S places t (as-code _ _ (settled-ones to (c.place i) (align_code (c.place i) n)) k).node
+  align : (xs : List Operand) → admit (forms_of (op.Plain plain.Align)) xs ≡ true → IsInText c i (node (op.Plain plain.Align) xs)
+      → StandsInCode code trash c i (items-of (op.Plain plain.Align) xs) → CarriesNode (rv_processor code trash) c i (node (op.Plain plain.Align) xs) S
+  align (operand.Number n ∷ []) h t k = alignments-carry (rv_rows code trash) IsInstr (rv k).rows align_code (rv k).alignments c i n line S places t
+      (as-code _ _ (settled-ones to (c.place i) (align_code (c.place i) n)) k).node
   align (operand.Number n ∷ y ∷ ys) h t k = absurd (never (is_alignment n) h)
   align xs h t k = absurd (differ h)
 
-  prolog : IsInText c i (node (op.Plain plain.Prolog) []) → StandsInCode code trash c i (items-of (op.Plain plain.Prolog) []) → CarriesNode (rv_processor code trash) c i (node (op.Plain plain.Prolog) []) S
+  prolog : IsInText c i (node (op.Plain plain.Prolog) []) → StandsInCode code trash c i (items-of (op.Plain plain.Prolog) [])
+      → CarriesNode (rv_processor code trash) c i (node (op.Plain plain.Prolog) []) S
   prolog t k =
       let entry = (t.well.entries i (ap is_prolog_at t.here)).0 in
       let f = function_at_home c.nodes c.shape t.functions t.shape.functions i i entry in
-      prologs-carry (rv_rows code trash) IsInstr prolog_code (rv k).prologs c i line f.0 S t f.1.here (as-code _ _ (settled-ones to (c.place i) (prolog_code frame) ∙ ap prolog_code (is-frame f.0 f.1.here)) k).node
+      prologs-carry (rv_rows code trash) IsInstr prolog_code (rv k).prologs c i line f.0 S t f.1.here
+      (as-code _ _ (settled-ones to (c.place i) (prolog_code frame) ∙ ap prolog_code (is-frame f.0 f.1.here)) k).node
 
   -- a node without operands
   none : (xs : List Operand) → admit [] xs ≡ true → xs ≡ []
   none [] h = refl
   none (x ∷ xs) h = cc
 
-  with-none : (o : Op) (xs : List Operand) → xs ≡ [] → IsInText c i (node o xs) → StandsInCode code trash c i (items-of o xs) → (IsInText c i (node o []) → StandsInCode code trash c i (items-of o []) → CarriesNode (rv_processor code trash) c i (node o []) S)
+  with-none : (o : Op) (xs : List Operand) → xs ≡ [] → IsInText c i (node o xs) → StandsInCode code trash c i (items-of o xs)
+      → (IsInText c i (node o []) → StandsInCode code trash c i (items-of o []) → CarriesNode (rv_processor code trash) c i (node o []) S)
       → CarriesNode (rv_processor code trash) c i (node o xs) S
-  with-none o xs e t k f = subst (λ ys. IsInText c i (node o ys) → StandsInCode code trash c i (items-of o ys) → CarriesNode (rv_processor code trash) c i (node o ys) S) (sym e) f t k
+  with-none o xs e t k f = subst (λ ys. IsInText c i (node o ys) → StandsInCode code trash c i (items-of o ys)
+      → CarriesNode (rv_processor code trash) c i (node o ys) S) (sym e) f t k
 
-  pub by-op : (o : Op) (xs : List Operand) → is_control o ≡ true → AreWords c.addresses xs → ends_in_label xs ≡ false → IsInText c i (node o xs) → StandsInCode code trash c i (items-of o xs) → CarriesNode (rv_processor code trash) c i (node o xs) S
+  pub by-op : (o : Op) (xs : List Operand) → is_control o ≡ true → AreWords c.addresses xs → ends_in_label xs ≡ false → IsInText c i (node o xs)
+      → StandsInCode code trash c i (items-of o xs) → CarriesNode (rv_processor code trash) c i (node o xs) S
   by-op (op.Branch o last) xs h v e t k = branch o last xs (formed (op.Branch o last) xs t) v e t k
   by-op (op.BranchSum o last) xs h v e t k = sum-branch o last xs (formed (op.BranchSum o last) xs t) v e t k
   by-op (op.Control control.Jmp last_operand.Immediate) xs h v e t k = jump xs (formed (op.Control control.Jmp last_operand.Immediate) xs t) t k
@@ -234,13 +283,18 @@ module _ (code : List ℕ) (trash : ℕ) (c : Code) (i frame line : ℕ) (S : �
   by-op (op.Control control.Finish last_operand.Immediate) xs h v e t k = finish xs (formed (op.Control control.Finish last_operand.Immediate) xs t) t k
   by-op (op.Control control.Ret last) xs h v e t k = ret last xs (formed (op.Control control.Ret last) xs t) v t k
   by-op (op.Plain plain.Prolog) xs h v e t k = with-none (op.Plain plain.Prolog) xs (none xs (formed (op.Plain plain.Prolog) xs t)) t k prolog
-  by-op (op.Plain plain.Epilog) xs h v e t k = with-none (op.Plain plain.Epilog) xs (none xs (formed (op.Plain plain.Epilog) xs t)) t k (λ t' k'. (returns-carry (rv_rows code trash) IsInstr returned_code (rv k').returns).epilogs c i line frame S places t' is-frame k'.node)
-  by-op (op.Plain plain.Ret) xs h v e t k = with-none (op.Plain plain.Ret) xs (none xs (formed (op.Plain plain.Ret) xs t)) t k (λ t' k'. (returns-carry (rv_rows code trash) IsInstr returned_code (rv k').returns).rets c i line frame S places t' is-frame k'.node)
+  by-op (op.Plain plain.Epilog) xs h v e t k = with-none (op.Plain plain.Epilog) xs (none xs (formed (op.Plain plain.Epilog) xs t)) t k
+      (λ t' k'. (returns-carry (rv_rows code trash) IsInstr returned_code (rv k').returns).epilogs c i line frame S places t' is-frame k'.node)
+  by-op (op.Plain plain.Ret) xs h v e t k = with-none (op.Plain plain.Ret) xs (none xs (formed (op.Plain plain.Ret) xs t)) t k
+      (λ t' k'. (returns-carry (rv_rows code trash) IsInstr returned_code (rv k').returns).rets c i line frame S places t' is-frame k'.node)
   by-op (op.Plain plain.Align) xs h v e t k = align xs (formed (op.Plain plain.Align) xs t) t k
-  by-op (op.Plain plain.Prepare) xs h v e t k = silent-nodes-carry (rv_rows code trash) IsInstr (rv k).rows c i (node (op.Plain plain.Prepare) xs) S refl t k.node
-  by-op (op.Plain plain.Ellipsis) xs h v e t k = silent-nodes-carry (rv_rows code trash) IsInstr (rv k).rows c i (node (op.Plain plain.Ellipsis) xs) S refl t k.node
+  by-op (op.Plain plain.Prepare) xs h v e t k = silent-nodes-carry (rv_rows code trash) IsInstr (rv k).rows c i
+      (node (op.Plain plain.Prepare) xs) S refl t k.node
+  by-op (op.Plain plain.Ellipsis) xs h v e t k = silent-nodes-carry (rv_rows code trash) IsInstr (rv k).rows c i
+      (node (op.Plain plain.Ellipsis) xs) S refl t k.node
   by-op (op.Plain plain.Arg) xs h v e t k = silent-nodes-carry (rv_rows code trash) IsInstr (rv k).rows c i (node (op.Plain plain.Arg) xs) S refl t k.node
-  by-op (op.Plain plain.Allocai) xs h v e t k = silent-nodes-carry (rv_rows code trash) IsInstr (rv k).rows c i (node (op.Plain plain.Allocai) xs) S refl t k.node
+  by-op (op.Plain plain.Allocai) xs h v e t k = silent-nodes-carry (rv_rows code trash) IsInstr (rv k).rows c i
+      (node (op.Plain plain.Allocai) xs) S refl t k.node
   by-op o xs h v e t k = absurd (differ h)
 
 pub control-nodes-carry : ControlNodesCarry

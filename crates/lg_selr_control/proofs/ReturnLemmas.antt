@@ -1,5 +1,6 @@
 -- Returns leave their frame.
-use Rattle.std.proofs.Common.{◌≡◌, ℕ, zero, suc, ◌+◌, ◌-◌, ◌*◌, ◌%◌, ◌^◌, ◌<◌, ◌≤◌, ⊎_elim, Bool, true, false, List, [], ◌∷◌, Option, Some, None, refl, sym, ap, ◌∙◌, subst, arith, length, length-append}
+use Rattle.std.proofs.Common.{◌≡◌, ℕ, zero, suc, ◌+◌, ◌-◌, ◌*◌, ◌%◌, ◌^◌, ◌<◌, ◌≤◌, ⊎_elim, Bool, true, false, List, [], ◌∷◌, Option, Some, None, refl, sym, ap}
+use Rattle.std.proofs.Common.{◌∙◌, subst, arith, length, length-append}
 use Rattle.std.specs.Prelude.{◌==◌, ℤ, pos, negsuc, if◌then◌else◌, is_some}
 use Rattle.lg_base.specs.Conventions.{portable_register}
 use Rattle.lg_base.specs.Fields.{word_of}
@@ -52,7 +53,8 @@ use Rattle.lg_selr_control.proofs.WordLemmas.{runs-there, put-same}
 abbrev pub word_at : (ℕ → Option ℕ) → ℕ → ℕ
 word_at m a = number_at (byte_or_zero m) a 8
 
-pub stack-word : (m : ℕ → Option ℕ) (a : ℕ) → ((j : ℕ) → within stack_base 0x100000 j ≡ true → is_some (m j) ≡ true) → 0x3FF00000 ≤ a → a + 8 ≤ 0x40000000 → HasWord m a (word_at m a)
+pub stack-word : (m : ℕ → Option ℕ) (a : ℕ) → ((j : ℕ) → within stack_base 0x100000 j ≡ true → is_some (m j) ≡ true) → 0x3FF00000 ≤ a → a + 8 ≤ 0x40000000
+    → HasWord m a (word_at m a)
 stack-word m a there low high = let e = mapped-all m a 8 (λ j le lt. there j (grind arith)) in ap (λ b. if b then Some (word_at m a) else None) e
 
 pub same-word : (m : ℕ → Option ℕ) (a v w : ℕ) → HasWord m a v → HasWord m a w → v ≡ w
@@ -62,9 +64,11 @@ pub aligned-load : (a : ℕ) → a % 8 ≡ 0 → (a % 8 == 0) ≡ true
 aligned-load a h = rw h refl
 
 -- a load by FP
-pub load-act : (q : CpuState) (rd base address w : ℕ) (offset : ℤ) → read q.registers 8 ≡ base → add_words base (word_of offset) ≡ address → address % 8 ≡ 0 → HasWord q.bytes address w → act (instr.Imm Ld rd 8 offset) q ≡ sets q rd w
+pub load-act : (q : CpuState) (rd base address w : ℕ) (offset : ℤ) → read q.registers 8 ≡ base → add_words base (word_of offset) ≡ address → address % 8 ≡ 0
+    → HasWord q.bytes address w → act (instr.Imm Ld rd 8 offset) q ≡ sets q rd w
 load-act q rd base address w offset at e even held =
-    ap (λ x. load_at q rd (add_words x (word_of offset)) 8 false) at ∙ ap (λ x. load_at q rd x 8 false) e ∙ ap (λ b. if b then loads q rd 8 false (loaded q.bytes address 8) else faults q Align) (aligned-load address even) ∙ ap (loads q rd 8 false) held
+    ap (λ x. load_at q rd (add_words x (word_of offset)) 8 false) at ∙ ap (λ x. load_at q rd x 8 false) e
+    ∙ ap (λ b. if b then loads q rd 8 false (loaded q.bytes address 8) else faults q Align) (aligned-load address even) ∙ ap (loads q rd 8 false) held
 
 saved-address : (sp v : ℕ) → v < 3 → 0x3FF00010 + 272 ≤ sp → sp ≤ 0x40000000 → add_words (sp - 16) (word_of (negsuc (7 + 8 * v))) ≡ saved_word (sp - 16) v
 saved-address sp v few low high = grind (arith, few, low, high)
@@ -80,11 +84,14 @@ pointer-address sp low high = grind (arith, low, high)
 
 -- the straight ones of a return
 abbrev six : List Instr
-six = instr.Imm Ld 9 8 (negsuc 7) ∷ instr.Imm Ld 18 8 (negsuc 15) ∷ instr.Imm Ld 19 8 (negsuc 23) ∷ instr.Imm Ld 1 8 (pos 8) ∷ instr.Imm Addi 2 8 (pos 16) ∷ instr.Imm Ld 8 8 (pos 0) ∷ []
+six = instr.Imm Ld 9 8 (negsuc 7) ∷ instr.Imm Ld 18 8 (negsuc 15) ∷ instr.Imm Ld 19 8 (negsuc 23) ∷ instr.Imm Ld 1 8 (pos 8) ∷ instr.Imm Addi 2 8
+    (pos 16) ∷ instr.Imm Ld 8 8 (pos 0) ∷ []
 
 -- ---- the instructions of a return, from a run in a frame
-module _ (base n k : ℕ) (q : Run CpuState) (sp back : ℕ) (low : 0x3FF00010 + 272 ≤ sp) (high : sp ≤ 0x40000000) (even : sp % 16 ≡ 0) (at : RunsAt base n k q) (room : k + 7 ≤ n)
-    (pointer : q.state.registers 8 ≡ sp - 16) (seen : (j : ℕ) → within stack_base 0x100000 j ≡ true → is_some (q.state.bytes j) ≡ true) (held : HasWord q.state.bytes (return_word sp) back) (near : back < 2 ^ 62) (aligned : back % 4 ≡ 0) where
+module _ (base n k : ℕ) (q : Run CpuState) (sp back : ℕ) (low : 0x3FF00010 + 272 ≤ sp) (high : sp ≤ 0x40000000) (even : sp % 16 ≡ 0) (at : RunsAt base n k q)
+    (room : k + 7 ≤ n)
+    (pointer : q.state.registers 8 ≡ sp - 16) (seen : (j : ℕ) → within stack_base 0x100000 j ≡ true → is_some (q.state.bytes j) ≡ true)
+    (held : HasWord q.state.bytes (return_word sp) back) (near : back < 2 ^ 62) (aligned : back % 4 ≡ 0) where
   abbrev m : ℕ → Option ℕ
   m = q.state.bytes
 
@@ -136,13 +143,24 @@ module _ (base n k : ℕ) (q : Run CpuState) (sp back : ℕ) (low : 0x3FF00010 +
 
   pub chain : Chain return_code q left
   chain =
-      chain-more _ _ q left (sets q.state 9 (word_at m (saved_word fp 0))) at.runs (load-act q.state 9 fp (saved_word fp 0) _ (negsuc 7) pointer (saved-address sp 0 (omega arith) low high) (saved 0 (omega arith)).0 (saved 0 (omega arith)).1)
-      (chain-more _ _ s1 left (sets s1.state 18 (word_at m (saved_word fp 1))) a1.runs (load-act s1.state 18 fp (saved_word fp 1) _ (negsuc 15) pointer (saved-address sp 1 (omega arith) low high) (saved 1 (omega arith)).0 (saved 1 (omega arith)).1)
-      (chain-more _ _ s2 left (sets s2.state 19 (word_at m (saved_word fp 2))) a2.runs (load-act s2.state 19 fp (saved_word fp 2) _ (negsuc 23) pointer (saved-address sp 2 (omega arith) low high) (saved 2 (omega arith)).0 (saved 2 (omega arith)).1)
-      (chain-more _ _ s3 left (sets s3.state 1 back) a3.runs (load-act s3.state 1 fp (return_word sp) back (pos 8) pointer (link-address sp low high) (grind (arith, even, low)) held)
-      (chain-more _ _ s4 left (sets s4.state 2 sp) a4.runs (ap (λ x. sets s4.state 2 (add_words x 16)) pointer ∙ ap (sets s4.state 2) (stack-address sp low high))
-      (chain-more _ _ s5 left (sets s5.state 8 (word_at m fp)) a5.runs (load-act s5.state 8 fp fp _ (pos 0) pointer (pointer-address sp low high) (grind (arith, even, low)) (stack-word m fp seen (omega (arith, low)) (omega (arith, high))))
-      (chain-more _ _ s6 left (goes back (put s6.state.registers 0 (add_words s6.state.pc 4)) m q.state.mark) a6.runs (lands-there s6.state 0 1 back refl near aligned)
+      chain-more _ _ q left (sets q.state 9 (word_at m (saved_word fp 0))) at.runs
+      (load-act q.state 9 fp (saved_word fp 0) _ (negsuc 7) pointer (saved-address sp 0 (omega arith) low high) (saved 0 (omega arith)).0
+      (saved 0 (omega arith)).1)
+      (chain-more _ _ s1 left (sets s1.state 18 (word_at m (saved_word fp 1))) a1.runs
+      (load-act s1.state 18 fp (saved_word fp 1) _ (negsuc 15) pointer (saved-address sp 1 (omega arith) low high) (saved 1 (omega arith)).0
+      (saved 1 (omega arith)).1)
+      (chain-more _ _ s2 left (sets s2.state 19 (word_at m (saved_word fp 2))) a2.runs
+      (load-act s2.state 19 fp (saved_word fp 2) _ (negsuc 23) pointer (saved-address sp 2 (omega arith) low high) (saved 2 (omega arith)).0
+      (saved 2 (omega arith)).1)
+      (chain-more _ _ s3 left (sets s3.state 1 back) a3.runs
+      (load-act s3.state 1 fp (return_word sp) back (pos 8) pointer (link-address sp low high) (grind (arith, even, low)) held)
+      (chain-more _ _ s4 left (sets s4.state 2 sp) a4.runs
+      (ap (λ x. sets s4.state 2 (add_words x 16)) pointer ∙ ap (sets s4.state 2) (stack-address sp low high))
+      (chain-more _ _ s5 left (sets s5.state 8 (word_at m fp)) a5.runs
+      (load-act s5.state 8 fp fp _ (pos 0) pointer (pointer-address sp low high) (grind (arith, even, low))
+      (stack-word m fp seen (omega (arith, low)) (omega (arith, high))))
+      (chain-more _ _ s6 left (goes back (put s6.state.registers 0 (add_words s6.state.pc 4)) m q.state.mark) a6.runs
+      (lands-there s6.state 0 1 back refl near aligned)
       (chain-end left)))))))
 
 -- ---- what stands in front of it
@@ -155,7 +173,8 @@ read-small w r h = grind (arith, h)
 address-made : (v : ℕ) → v < 2 ^ 30 → add_words (sign_32 (high_part v * 4096)) (word_of (low_part v)) ≡ v
 address-made v small = by (nat_lt (v % 4096) 2048) refl
   where
-    by : (b : Bool) → nat_lt (v % 4096) 2048 ≡ b → add_words (sign_32 (high_part v * 4096)) (word_of (if b then pos (v % 4096) else negsuc (4095 - v % 4096))) ≡ v
+    by : (b : Bool) → nat_lt (v % 4096) 2048 ≡ b → add_words (sign_32 (high_part v * 4096))
+        (word_of (if b then pos (v % 4096) else negsuc (4095 - v % 4096))) ≡ v
     by true h = grind (arith, small, h)
     by false h = grind (arith, small, h)
 
@@ -185,8 +204,10 @@ makes (OfLabel address) w ok words = record { computes = refl; few = omega arith
 
 -- ---- the return
 module _ (code : List ℕ) (trash : ℕ) (small : length code ≤ most_code) (bytes : AreBytes code) (word : trash < 2 ^ 64)
-    (frame from back : ℕ) (r : Returned) (q : Run CpuState) (ok : IsReturned r) (f : HasFrame Riscv64 frame (rv_seen q)) (k : StandsAt (rv_rows code trash) IsInstr from (returned_code frame r))
-    (there : IsBack (rv_rows code trash) back) (held : HasWord q.state.bytes (return_word (q.state.registers 2 + frame)) back) (runs : status_of q.progress ≡ Running) (at : q.state.pc ≡ from) where
+    (frame from back : ℕ) (r : Returned) (q : Run CpuState) (ok : IsReturned r) (f : HasFrame Riscv64 frame (rv_seen q))
+    (k : StandsAt (rv_rows code trash) IsInstr from (returned_code frame r))
+    (there : IsBack (rv_rows code trash) back) (held : HasWord q.state.bytes (return_word (q.state.registers 2 + frame)) back)
+    (runs : status_of q.progress ≡ Running) (at : q.state.pc ≡ from) where
   abbrev sp : ℕ
   sp = q.state.registers 2 + frame
 
@@ -252,14 +273,16 @@ module _ (code : List ℕ) (trash : ℕ) (small : length code ≤ most_code) (by
       passages-join (rv_processor code trash) from high (length front) 7 q q1 u
       (part-passes R IsInstr rows from [] front return_code q k (at ∙ omega arith) (straight-block front (all-straight front made.computes)) ran.through)
       (subst (λ z. PassesIn (rv_processor code trash) from high 7 q1 z) left-chain.leads
-      (part-passes R IsInstr rows from front return_code [] q1 k (omega (arith, here, long)) (block-of six (instr.Imm Jalr 0 1 (pos 0)) refl) left-chain.through))
+      (part-passes R IsInstr rows from front return_code [] q1 k (omega (arith, here, long))
+      (block-of six (instr.Imm Jalr 0 1 (pos 0)) refl) left-chain.through))
     where
       left-chain : Chain return_code q1 u
       left-chain = chain from (length front + 7) (length front) q1 sp back low-frame f.high even at1 (omega arith) pointer1 there1 held1 near back-aligned
 
   -- the words of the frame come back
   comes-back : (a x : ℕ) → 0x3FF00000 ≤ a → a + 8 ≤ 0x40000000 → HasWord q.state.bytes a x → word_at q1.state.bytes a ≡ x
-  comes-back a x l g h = same-word q1.state.bytes a (word_at q1.state.bytes a) x (stack-word q1.state.bytes a there1 l g) (subst (λ b. HasWord b a x) (sym bytes-are) h)
+  comes-back a x l g h = same-word q1.state.bytes a (word_at q1.state.bytes a) x (stack-word q1.state.bytes a there1 l g)
+      (subst (λ b. HasWord b a x) (sym bytes-are) h)
 
   words : (j x : ℕ) → j < 3 → HasWord q.state.bytes (saved_word (frame_pointer sp) j) x → u.state.registers (portable_register Riscv64 (j + 3)) ≡ x
   words zero x lt h = let t = f.high in comes-back (saved_word (frame_pointer sp) 0) x (omega (arith, low-frame)) (omega (arith, t)) h
@@ -285,5 +308,7 @@ module _ (code : List ℕ) (trash : ℕ) (small : length code ≤ most_code) (by
     mark = ran.mark;
   }
 
-pub returns-lead : (code : List ℕ) (trash : ℕ) → length code ≤ most_code → AreBytes code → trash < 2 ^ 64 → ReturnsLead (rv_rows code trash) IsInstr returned_code
-returns-lead code trash small bytes word frame from back r q ok f k there held runs at = departs code trash small bytes word frame from back r q ok f k there held runs at
+pub returns-lead : (code : List ℕ) (trash : ℕ) → length code ≤ most_code → AreBytes code → trash < 2 ^ 64
+    → ReturnsLead (rv_rows code trash) IsInstr returned_code
+returns-lead code trash small bytes word frame from back r q ok f k there held runs at =
+    departs code trash small bytes word frame from back r q ok f k there held runs at

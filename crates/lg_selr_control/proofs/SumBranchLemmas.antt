@@ -54,7 +54,8 @@ with-sum u w r v z e h = by (z == r) refl
     by true same = let i : z ≡ r = grind (arith, nat_tests, same) in ap u i ∙ e
     by false other = h (λ i. absurd (grind (arith, nat_tests, other, i)))
 
-pub sum-branches-lead : (code : List ℕ) (trash : ℕ) → length code ≤ most_code → AreBytes code → trash < 2 ^ 64 → SumBranchesLead (rv_rows code trash) rv_scratch IsInstr sum_branch_code
+pub sum-branches-lead : (code : List ℕ) (trash : ℕ) → length code ≤ most_code → AreBytes code → trash < 2 ^ 64
+    → SumBranchesLead (rv_rows code trash) rv_scratch IsInstr sum_branch_code
 sum-branches-lead code trash small bytes word frame o a b x y from to q f k there next runs at some ea hx eb hy =
     let w : ℕ → ℕ = q.state.registers in
     let ra : ℕ = register_of Riscv64 a in
@@ -64,9 +65,11 @@ sum-branches-lead code trash small bytes word frame o a b x y from to q f k ther
     let c = sums w1 ra (second_register b) x y (register-nonzero a) (register-apart a).0 (register-apart a).1 (second-apart b) reads made.value hx hy o in
     let body = sum_code o ra (second_register b) in
     let all = computed-append (second_code b) body w in
-    let few : length (before_sum_branch o a b) ≤ 60 = let l = length-append (second_code b) body in let m = made.few in let n = few-sums o ra (second_register b) in omega (arith, l, m, n) in
+    let few : length (before_sum_branch o a b) ≤ 60 = let l = length-append (second_code b) body in let m = made.few in let n =
+    few-sums o ra (second_register b) in omega (arith, l, m, n) in
     two-ways code trash small bytes word (before_sum_branch o a b) (staying o) 31 0 from to q k
     (all-compute-append (second_code b) body made.computes (sum-computes o ra (second_register b))) few runs at (branch_sum_goes o x y) there next
     (ap (λ (u : ℕ → ℕ). is_taken (staying o) (read u 31) 0) all ∙ c.taken)
     (with_register w ra (branch_sum_value o x y))
-    (λ z z1 z31. with-sum (computed (before_sum_branch o a b) w) w ra (branch_sum_value o x y) z (ap (λ u. u ra) all ∙ c.value) (λ other. ap (λ u. u z) all ∙ c.others z z1 z31 other ∙ made.others z z1))
+    (λ z z1 z31. with-sum (computed (before_sum_branch o a b) w) w ra (branch_sum_value o x y) z (ap (λ u. u ra) all ∙ c.value)
+    (λ other. ap (λ u. u z) all ∙ c.others z z1 z31 other ∙ made.others z z1))

@@ -1,5 +1,6 @@
 -- A branch over a jump leads to two ways: behind itself, or where the jump leads.
-use Rattle.std.proofs.Common.{◌≡◌, ◌≢◌, ℕ, ◌+◌, ◌*◌, ◌^◌, ◌<◌, ◌≤◌, Bool, true, false, List, [], ◌∷◌, ◌++◌, Some, refl, sym, ap, ◌∙◌, subst, arith, length, length-append, append_assoc}
+use Rattle.std.proofs.Common.{◌≡◌, ◌≢◌, ℕ, ◌+◌, ◌*◌, ◌^◌, ◌<◌, ◌≤◌, Bool, true, false, List, [], ◌∷◌, ◌++◌, Some, refl, sym, ap, ◌∙◌, subst, arith, length}
+use Rattle.std.proofs.Common.{length-append, append_assoc}
 use Rattle.std.specs.Prelude.{not, pos, ◌-ℤ◌, if◌then◌else◌}
 use Rattle.lg_base.specs.HostNames.{host_address}
 use Rattle.lg_base.specs.Layout.{code_base, most_code}
@@ -50,7 +51,8 @@ pub record IsMade (x : Operand) (y : ℕ) (w : ℕ → ℕ) : Type 0 where
   pub others : (z : ℕ) → z ≢ 1 → computed (second_code x) w z ≡ w z
   pub few : length (second_code x) ≤ 8
 
-number-made : (v y : ℕ) (w : ℕ → ℕ) → v ≡ y → v < 2 ^ 64 → (all_compute (number_code 1 v) ≡ true) × (computed (number_code 1 v) w 1 ≡ y) × ((z : ℕ) → z ≢ 1 → computed (number_code 1 v) w z ≡ w z) × (length (number_code 1 v) ≤ 8)
+number-made : (v y : ℕ) (w : ℕ → ℕ) → v ≡ y → v < 2 ^ 64 → (all_compute (number_code 1 v) ≡ true) × (computed (number_code 1 v) w 1 ≡ y)
+    × ((z : ℕ) → z ≢ 1 → computed (number_code 1 v) w z ≡ w z) × (length (number_code 1 v) ≤ 8)
 number-made v y w e lt =
     let loads = numbers-are-loaded 1 v (λ z. cc) (omega arith) lt in
     (loads.computes, loads.value w 1 ∙ put-same w 1 v ∙ e, λ z ne. loads.value w z ∙ put-other w 1 v z ne, loads.few)
@@ -59,9 +61,24 @@ some-is : (v y : ℕ) → Some v ≡ Some y → v ≡ y
 some-is v y e = cc
 
 pub second-made : (x : Operand) (y : ℕ) (w : ℕ → ℕ) → second_word Riscv64 w x ≡ Some y → y < 2 ^ 64 → IsMade x y w
-second-made (operand.Reg b) y w e lt = record { computes = refl; value = read-of w b ∙ some-is (w (register_of Riscv64 b)) y e; others = λ z ne. refl; few = omega arith }
-second-made (operand.Number v) y w e lt = let s = some-is v y e in let m = number-made v y w s (subst (λ z. z < 2 ^ 64) (sym s) lt) in record { computes = m.0; value = m.1; others = m.2; few = m.3 }
-second-made (operand.Host name) y w e lt = let s = some-is (host_address name) y e in let m = number-made (host_address name) y w s (subst (λ z. z < 2 ^ 64) (sym s) lt) in record { computes = m.0; value = m.1; others = m.2; few = m.3 }
+second-made (operand.Reg b) y w e lt = record {
+  computes = refl;
+  value = read-of w b ∙ some-is (w (register_of Riscv64 b)) y e;
+  others = λ z ne. refl;
+  few = omega arith;
+}
+second-made (operand.Number v) y w e lt = let s = some-is v y e in let m = number-made v y w s (subst (λ z. z < 2 ^ 64) (sym s) lt) in record {
+  computes = m.0;
+  value = m.1;
+  others = m.2;
+  few = m.3;
+}
+second-made (operand.Host name) y w e lt = let s = some-is (host_address name) y e in let m = number-made (host_address name) y w s (subst (λ z. z < 2 ^ 64) (sym s) lt) in record {
+  computes = m.0;
+  value = m.1;
+  others = m.2;
+  few = m.3;
+}
 second-made (operand.Label l) y w e lt = cc
 second-made (operand.Slot k) y w e lt = cc
 
@@ -75,7 +92,8 @@ off-scratch x e = (λ z. absurd (grind (arith, e, z)), λ z. absurd (grind (arit
 module _ (code : List ℕ) (trash : ℕ) (small : length code ≤ most_code) (bytes : AreBytes code) (word : trash < 2 ^ 64)
     (front : List Instr) (o : BranchOp) (a b from to : ℕ) (q : Run CpuState) (k : StandsAt (rv_rows code trash) IsInstr from (jump_over front o a b from to))
     (all : all_compute front ≡ true) (few : length front ≤ 60) (runs : status_of q.progress ≡ Running) (at : q.state.pc ≡ from) (goes-there : Bool)
-    (there : goes-there ≡ true → IsThere (rv_rows code trash).is_place to) (next : IsThere (rv_rows code trash).is_place (behind (rv_rows code trash) from (jump_over front o a b from to)))
+    (there : goes-there ≡ true → IsThere (rv_rows code trash).is_place to)
+    (next : IsThere (rv_rows code trash).is_place (behind (rv_rows code trash) from (jump_over front o a b from to)))
     (taken : is_taken o (read (computed front q.state.registers) a) (read (computed front q.state.registers) b) ≡ not goes-there)
     (W : ℕ → ℕ) (kept : (z : ℕ) → z ≢ 1 → z ≢ 31 → computed front q.state.registers z ≡ W z) where
   abbrev skip : Instr
@@ -103,7 +121,8 @@ module _ (code : List ℕ) (trash : ℕ) (small : length code ≤ most_code) (by
   r = done rv_does front q
 
   pass : PassesIn (rv_processor code trash) from high (length front) q r
-  pass = part-passes (rv_rows code trash) IsInstr (are-rows code trash small bytes word) from [] front (skip ∷ jump ∷ []) q k (at ∙ omega arith) (straight-block front (all-straight front all)) m.through
+  pass = part-passes (rv_rows code trash) IsInstr (are-rows code trash small bytes word) from [] front (skip ∷ jump ∷ []) q k (at ∙ omega arith)
+      (straight-block front (all-straight front all)) m.through
 
   here : r.state.pc ≡ from + 4 * length front
   here = m.behind ∙ omega (arith, at)
@@ -130,7 +149,8 @@ module _ (code : List ℕ) (trash : ℕ) (small : length code ≤ most_code) (by
         end = after r e;
         steps = length front + 1;
         passes = passages-join (rv_processor code trash) from high (length front) 1 q r (after r e) pass
-            (subst (λ z. PassesIn (rv_processor code trash) from high 1 r (after r z)) does (one-passed code trash small bytes word from front skip (jump ∷ []) r k m.runs here));
+            (subst (λ z. PassesIn (rv_processor code trash) from high 1 r (after r z)) does
+            (one-passed code trash small bytes word from front skip (jump ∷ []) r k m.runs here));
         few = omega (arith, few);
         some = omega arith;
         runs = runs-there high next.low;
@@ -147,12 +167,14 @@ module _ (code : List ℕ) (trash : ℕ) (small : length code ≤ most_code) (by
       let runs1 : status_of r1.progress ≡ Running = goes-on r.state.pc (omega (arith, here, low)) (omega (arith, here, top, size)) in
       let here1 : r1.state.pc ≡ from + (4 * length front + 4) = pc-next r.state.pc (omega (arith, here, top, size)) ∙ omega (arith, here) in
       let e : Effect CpuState = goes to (put r1.state.registers 0 (add_words r1.state.pc 4)) r1.state.bytes r1.state.mark in
-      let does1 : act skip r.state ≡ goes (add_words r.state.pc 4) r.state.registers r.state.bytes r.state.mark = ap (branch_to r.state (add_words r.state.pc 8)) (taken-is ∙ ap not h) in
+      let does1 : act skip r.state ≡ goes (add_words r.state.pc 4) r.state.registers r.state.bytes r.state.mark =
+      ap (branch_to r.state (add_words r.state.pc 8)) (taken-is ∙ ap not h) in
       let does2 : act jump r1.state ≡ e = ap (λ p. act (instr.Jal 0 (pos to -ℤ pos p)) r1.state) (sym here1)
       ∙ jumps-there r1.state 0 to (omega (arith, here1, top, size)) (let t = target.high in omega (arith, t)) (aligned to target.place) in
       let split : length (front ++ (skip ∷ [])) ≡ length front + 1 = length-append front (skip ∷ []) in
       let again : (front ++ (skip ∷ [])) ++ (jump ∷ []) ≡ front ++ (skip ∷ jump ∷ []) = append_assoc front (skip ∷ []) (jump ∷ []) in
-      let k' : StandsAt (rv_rows code trash) IsInstr from ((front ++ (skip ∷ [])) ++ (jump ∷ [])) = subst (StandsAt (rv_rows code trash) IsInstr from) (sym again) k in
+      let k' : StandsAt (rv_rows code trash) IsInstr from ((front ++ (skip ∷ [])) ++ (jump ∷ [])) =
+      subst (StandsAt (rv_rows code trash) IsInstr from) (sym again) k in
       let last : PassesIn (rv_processor code trash) from high 1 r1 (after r1 (act jump r1.state)) =
       subst (λ z. PassesIn (rv_processor code trash) from (behind (rv_rows code trash) from z) 1 r1 (after r1 (act jump r1.state))) again
       (one-passed code trash small bytes word from (front ++ (skip ∷ [])) jump [] r1 k' runs1 (omega (arith, here1, split))) in
@@ -161,7 +183,8 @@ module _ (code : List ℕ) (trash : ℕ) (small : length code ≤ most_code) (by
         steps = length front + 1 + 1;
         passes = passages-join (rv_processor code trash) from high (length front + 1) 1 q r1 (after r1 e)
             (passages-join (rv_processor code trash) from high (length front) 1 q r r1 pass
-            (subst (λ z. PassesIn (rv_processor code trash) from high 1 r (after r z)) does1 (one-passed code trash small bytes word from front skip (jump ∷ []) r k m.runs here)))
+            (subst (λ z. PassesIn (rv_processor code trash) from high 1 r (after r z)) does1
+            (one-passed code trash small bytes word from front skip (jump ∷ []) r k m.runs here)))
             (subst (λ z. PassesIn (rv_processor code trash) from high 1 r1 (after r1 z)) does2 last);
         few = omega (arith, few);
         some = omega arith;

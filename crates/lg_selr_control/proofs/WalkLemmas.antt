@@ -29,14 +29,17 @@ pub aligned-there : (to : ℕ) → to % 4 ≡ 0 → (to % 4 == 0) ≡ true
 aligned-there to h = rw h refl
 
 -- a jump to a place of the code
-pub jumps-there : (q : CpuState) (rd to : ℕ) → q.pc < 2 ^ 62 → to < 2 ^ 62 → to % 4 ≡ 0 → act (instr.Jal rd (pos to -ℤ pos q.pc)) q ≡ goes to (put q.registers rd (add_words q.pc 4)) q.bytes q.mark
-jumps-there q rd to h k at = ap (jump_to q rd) (distance-leads q.pc to h k) ∙ ap (λ b. if b then goes to (put q.registers rd (add_words q.pc 4)) q.bytes q.mark else faults q Align) (aligned-there to at)
+pub jumps-there : (q : CpuState) (rd to : ℕ) → q.pc < 2 ^ 62 → to < 2 ^ 62 → to % 4 ≡ 0
+    → act (instr.Jal rd (pos to -ℤ pos q.pc)) q ≡ goes to (put q.registers rd (add_words q.pc 4)) q.bytes q.mark
+jumps-there q rd to h k at = ap (jump_to q rd) (distance-leads q.pc to h k)
+    ∙ ap (λ b. if b then goes to (put q.registers rd (add_words q.pc 4)) q.bytes q.mark else faults q Align) (aligned-there to at)
 
 -- one by a register
 even-there : (to : ℕ) → to < 2 ^ 62 → to % 4 ≡ 0 → add_words to 0 / 2 * 2 ≡ to
 even-there to h e = grind (arith, h, e)
 
-pub lands-there : (q : CpuState) (rd base to : ℕ) → read q.registers base ≡ to → to < 2 ^ 62 → to % 4 ≡ 0 → act (instr.Imm Jalr rd base (pos 0)) q ≡ goes to (put q.registers rd (add_words q.pc 4)) q.bytes q.mark
+pub lands-there : (q : CpuState) (rd base to : ℕ) → read q.registers base ≡ to → to < 2 ^ 62 → to % 4 ≡ 0
+    → act (instr.Imm Jalr rd base (pos 0)) q ≡ goes to (put q.registers rd (add_words q.pc 4)) q.bytes q.mark
 lands-there q rd base to at lt even =
     ap (λ x. jump_to q rd (add_words x 0 / 2 * 2)) at ∙ ap (jump_to q rd) (even-there to lt even)
     ∙ ap (λ b. if b then goes to (put q.registers rd (add_words q.pc 4)) q.bytes q.mark else faults q Align) (aligned-there to even)
@@ -49,7 +52,8 @@ module _ (code : List ℕ) (trash : ℕ) (small : length code ≤ most_code) (by
       let e : Effect CpuState = goes to (put q.state.registers 0 (add_words q.state.pc 4)) q.state.bytes q.state.mark in
       let high = stands-high code trash small bytes word from jump [] k in
       let does : act jump q.state ≡ e =
-      ap (λ p. act (instr.Jal 0 (pos to -ℤ pos p)) q.state) (sym at) ∙ jumps-there q.state 0 to (omega (arith, high, at)) (let h = there.high in omega (arith, h)) (aligned to there.place) in
+      ap (λ p. act (instr.Jal 0 (pos to -ℤ pos p)) q.state) (sym at)
+      ∙ jumps-there q.state 0 to (omega (arith, high, at)) (let h = there.high in omega (arith, h)) (aligned to there.place) in
       walked code trash small bytes word from (behind (rv_rows code trash) from (jump_code from to)) to 1 q (after q e)
       (subst (λ z. PassesIn (rv_processor code trash) from (behind (rv_rows code trash) from (jump_code from to)) 1 q (after q z)) does
       (one-passed code trash small bytes word from [] jump [] q k runs (at ∙ omega arith)))

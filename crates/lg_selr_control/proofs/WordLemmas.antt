@@ -1,14 +1,12 @@
 -- Addresses of instructions, and the words of distances.
-use Rattle.std.proofs.Common.{◌≡◌, ◌≢◌, ℕ, zero, suc, ◌+◌, ◌-◌, ◌*◌, ◌%◌, ◌^◌, ◌<◌, ◌≤◌, Bool, true, false, refl, arith}
+use Rattle.std.proofs.Common.{◌≡◌, ◌≢◌, ℕ, ◌+◌, ◌-◌, ◌*◌, ◌%◌, ◌^◌, ◌<◌, ◌≤◌, Bool, true, false, refl, arith}
 use Rattle.lg_carry_rv.specs.Numbers.{high_part, low_part}
-use Rattle.std.specs.Prelude.{pos, negsuc, nat_lt, ◌-ℤ◌, ◌==◌, slice_index, length, if◌then◌else◌}
+use Rattle.std.specs.Prelude.{pos, negsuc, nat_lt, ◌-ℤ◌, ◌==◌, if◌then◌else◌}
 use Rattle.std.proofs.lemmas.Int.{ints}
-use Rattle.lg_base.specs.Conventions.{argument_registers, portable_register}
 use Rattle.lg_base.specs.Fields.{word_of}
 use Rattle.lg_base.specs.Layout.{stop_address, code_base}
 use Rattle.lg_base.specs.Words.{add_words, sign_32}
 use Rattle.lg_base.specs.Runs.{Running}
-use Rattle.lg_base.specs.declared.target.Target.TheVariants.{Riscv64}
 use Rattle.lg_cpu.specs.Steps.{arrived, status_of}
 use Rattle.lg_cpu.specs.HostSteps.{put}
 
@@ -24,27 +22,6 @@ put-same w d v = grind arith
 
 pub put-other : (w : ℕ → ℕ) (d v x : ℕ) → x ≢ d → put w d v x ≡ w x
 put-other w d v x ne = grind (arith, ne)
-
--- no register of the conventions is x0
-pub portable-some : (r : ℕ) → r < 6 → portable_register Riscv64 r ≢ 0
-portable-some zero lt e = cc
-portable-some (suc zero) lt e = cc
-portable-some (suc (suc zero)) lt e = cc
-portable-some (suc (suc (suc zero))) lt e = cc
-portable-some (suc (suc (suc (suc zero)))) lt e = cc
-portable-some (suc (suc (suc (suc (suc zero))))) lt e = cc
-portable-some (suc (suc (suc (suc (suc (suc r)))))) lt e = absurd (omega (arith, lt))
-
-pub argument-some : (i : ℕ) → i < length (argument_registers Riscv64) → slice_index (argument_registers Riscv64) i ≢ 0
-argument-some zero lt e = cc
-argument-some (suc zero) lt e = cc
-argument-some (suc (suc zero)) lt e = cc
-argument-some (suc (suc (suc zero))) lt e = cc
-argument-some (suc (suc (suc (suc zero)))) lt e = cc
-argument-some (suc (suc (suc (suc (suc zero))))) lt e = cc
-argument-some (suc (suc (suc (suc (suc (suc zero)))))) lt e = cc
-argument-some (suc (suc (suc (suc (suc (suc (suc zero))))))) lt e = cc
-argument-some (suc (suc (suc (suc (suc (suc (suc (suc i)))))))) lt e = absurd (omega (arith, lt))
 
 -- `lui` and `addiw` make a word of 32 bits
 pub number-made : (v : ℕ) → v < 2 ^ 64 → (v + 2 ^ 31) % 2 ^ 64 < 2 ^ 32 → sign_32 (add_words (sign_32 (high_part v * 4096)) (word_of (low_part v))) ≡ v

@@ -22,7 +22,8 @@ stores_below (r ∷ rs) k = instr.Store Sd 2 r (negsuc (7 + 8 * k)) ∷ stores_b
 
 -- the stack pointer falls by so many bytes
 abbrev pub fall_code : ℕ → List Instr
-fall_code n = if nat_le n 2048 then instr.Imm Addi 2 2 (negsuc (n - 1)) ∷ [] else instr.Upper Lui 1 (high_part n) ∷ instr.Imm Addiw 1 1 (low_part n) ∷ instr.Reg Sub 2 2 1 ∷ []
+fall_code n = if nat_le n 2048 then instr.Imm Addi 2 2 (negsuc (n - 1)) ∷ [] else instr.Upper Lui 1 (high_part n) ∷ instr.Imm Addiw 1 1
+    (low_part n) ∷ instr.Reg Sub 2 2 1 ∷ []
 
 abbrev pub prolog_code : ℕ → List Instr
 prolog_code size = stores_below stored_registers 0 ++ (instr.Imm Addi 8 2 (negsuc 15) ∷ fall_code size)

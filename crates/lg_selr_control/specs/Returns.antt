@@ -13,7 +13,8 @@ use Rattle.lg_sel_control.specs.Returns.{Returned, NoWord, OfRegister, OfNumber,
 -- x8 is FP, x1 the link, x2 the stack pointer; x9, x18 and x19 stand for V0, V1 and V2
 abbrev pub return_code : List Instr
 return_code =
-    instr.Imm Ld 9 8 (negsuc 7) ∷ instr.Imm Ld 18 8 (negsuc 15) ∷ instr.Imm Ld 19 8 (negsuc 23) ∷ instr.Imm Ld 1 8 (pos 8) ∷ instr.Imm Addi 2 8 (pos 16) ∷ instr.Imm Ld 8 8 (pos 0) ∷ instr.Imm Jalr 0 1 (pos 0) ∷ []
+    instr.Imm Ld 9 8 (negsuc 7) ∷ instr.Imm Ld 18 8 (negsuc 15) ∷ instr.Imm Ld 19 8 (negsuc 23) ∷ instr.Imm Ld 1 8 (pos 8) ∷ instr.Imm Addi 2 8
+    (pos 16) ∷ instr.Imm Ld 8 8 (pos 0) ∷ instr.Imm Jalr 0 1 (pos 0) ∷ []
 
 -- the word that is returned is put into x10 first: that of a register, a number, or the address of a label
 abbrev pub result_code : Returned → List Instr

@@ -35,7 +35,8 @@ before_branch o a x = second_code x ++ bits_code o (register_of Riscv64 a) (seco
 
 abbrev pub branch_code : ℕ → Condition → Reg → Operand → ℕ → ℕ → List Instr
 branch_code frame o a x from to =
-    jump_over (before_branch o a x) (failing o) (left_of o (register_of Riscv64 a) (second_register x)) (right_of o (register_of Riscv64 a) (second_register x)) from to
+    jump_over (before_branch o a x) (failing o) (left_of o (register_of Riscv64 a) (second_register x))
+    (right_of o (register_of Riscv64 a) (second_register x)) from to
 
 -- one on a sum or difference
 abbrev pub before_sum_branch : BranchSumOp → Reg → Operand → List Instr
