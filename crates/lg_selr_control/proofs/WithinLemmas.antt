@@ -1,5 +1,5 @@
 -- No item of a node that branches, jumps, calls or returns, of `prolog`, `.align` or `retval` writes a register that is outside of the conventions.
-use Rattle.std.proofs.Common.{ℕ, zero, suc, Bool, true, false, List, [], ◌∷◌, refl}
+use Rattle.std.proofs.Common.{ℕ, zero, suc, Bool, true, false, List, [], ◌∷◌, refl, arith}
 use Rattle.std.specs.Prelude.{◌-◌, negsuc, nat_le, if◌then◌else◌}
 use Rattle.lg_base.specs.HostNames.{host_address}
 use Rattle.lg_base.specs.declared.target.Target.TheVariants.{Riscv64}
@@ -37,7 +37,8 @@ use Rattle.lg_temp.specs.Abis.{register_of}
 use Rattle.lg_selr_items.proofs.WithinLemmas.{In, portable, Within, join, stay-append, stay-ones, number}
 use Rattle.lg_selr_control.specs.ControlFits.{ControlItemsStay}
 use Rattle.lg_selr_control.specs.Retvals.{RetvalItemsStay}
-use Rattle.lg_selr_values.proofs.WithinLemmas.{one}
+use Rattle.lg_carry_rv.proofs.RegisterLemmas.{register-small}
+use Rattle.lg_selr_values.proofs.FitLemmas.{within-of, unary-good}
 
 -- ---- branches, jumps, calls and returns
 word : (t : ℕ) (x : Operand) → In t → StayWithin (word_items t (immediate x))
@@ -155,7 +156,7 @@ answered (op.Plain o) xs frame at = plainly o xs frame at
 answered o xs frame at = tt
 
 retval : (t : ValueType) (xs : List Operand) → StayWithin (retval_items t xs)
-retval t (operand.Reg d ∷ []) = stay-ones (retval_code t d) (one (extension t) (register_of Riscv64 d) 10 (portable d))
+retval t (operand.Reg d ∷ []) = stay-ones (retval_code t d) (within-of (retval_code t d) (unary-good (extension t) (register_of Riscv64 d) 10 (register-small d, portable d) (omega arith)))
 retval t xs = tt
 
 pub control-items-stay : ControlItemsStay

@@ -1,6 +1,9 @@
--- The numbers in the items are in the ranges of their instructions.
-use Rattle.std.proofs.Common.{ℕ, ◌%◌, ◌<◌, zero, suc, Bool, true, false, List, ◌++◌, sym, subst, arith}
-use Rattle.std.specs.Prelude.{if◌then◌else◌, pos, negsuc, ◌≤ℤ◌}
+-- The items of the nodes that compute values: their instructions are in range, write no register outside of the conventions, and each is followed by
+-- the next.
+use Rattle.std.proofs.Common.{◌≡◌, ℕ, ◌+◌, ◌%◌, ◌<◌, zero, suc, Bool, true, false, List, [], ◌∷◌, ◌++◌, refl, arith}
+use Rattle.std.specs.Prelude.{if◌then◌else◌, pos, negsuc, ◌≤ℤ◌, ⊤}
+use Rattle.std.specs.List.{All}
+use Rattle.std.proofs.lemmas.List.Elements.{All-head, All-tail}
 use Rattle.lg_base.specs.HostNames.{host_address}
 use Rattle.lg_base.specs.Words.{negated}
 use Rattle.lg_base.specs.declared.target.Target.TheVariants.{Riscv64}
@@ -17,21 +20,49 @@ use Rattle.lg_op.specs.declared.operand.Operand.{Operand}
 use Rattle.lg_op.specs.declared.operand.Operand.TheVariants as operand
 use Rattle.lg_operators.specs.Operators.{is_carried}
 use Rattle.lg_rv.specs.Spelling.{IsInstr}
-use Rattle.lg_rv.specs.declared.instruction.Instr.TheVariants.{Imm}
 use Rattle.lg_rv.specs.declared.instruction.ImmOp.TheVariants.{Addi}
 use Rattle.lg_temp.specs.Abis.{register_of}
-use Rattle.lg_carry_rv.specs.Numbers.{low_part, number_code}
 use Rattle.lg_carry_rv.proofs.NumberCodeLemmas.{low-small, number-fits}
 use Rattle.lg_carry_rv.proofs.RegisterLemmas.{register-small}
-use Rattle.lg_selr_items.specs.Items.{ones, AreItems}
-use Rattle.lg_selr_items.proofs.ItemLemmas.{items-append, items-ones, ones-append}
 use Rattle.lg_selr_values.specs.BinaryCode.{register_code, is_addend, loaded_code, addend_code, sum_code, number_form_code}
 use Rattle.lg_selr_values.specs.CarriedCode.{carried_code}
 use Rattle.lg_selr_values.specs.UnaryCode.{more_bytes_code, swapped_code, unary_code}
 use Rattle.lg_selr_values.specs.WideCode.{wide_code}
 use Rattle.lg_selr_values.specs.ValueItems.{load_items, binary_items, second_items, carried_items, wide_items, operation_items, register_for, register_in, operand_in, body_items}
+use Rattle.lg_carry.specs.Blocks.{IsBlock}
+use Rattle.lg_carry_rv.specs.Destinations.{WritesWithin}
+use Rattle.lg_carry_rv.specs.Numbers.{is_short, is_half, short_code, half_code, long_code, low_part, number_code}
+use Rattle.lg_carry_rv.specs.RvRows.{is_straight}
+use Rattle.lg_rv.specs.declared.instruction.Instr.{Instr}
+use Rattle.lg_rv.specs.declared.instruction.Instr.TheVariants.{Imm}
+use Rattle.lg_sel_items.specs.Holes.{Each}
+use Rattle.lg_sel_items.proofs.ListLemmas.{each-append}
+use Rattle.lg_selr_items.specs.declared.items.Item.{Item}
+use Rattle.lg_selr_items.specs.declared.items.Item.TheVariants.{One, Jump, Address}
+use Rattle.lg_selr_items.specs.Items.{settled, ones, AreItems, StayWithin}
+use Rattle.lg_selr_items.proofs.WithinLemmas.{In, portable, Within, number}
 
 -- ---- instructions
+-- a register that there is, and that is not outside of the conventions
+abbrev pub Fine : ℕ → Type 0
+Fine rd = (rd < 32) × In rd
+
+-- an instruction is in range, writes no register that is outside, and is followed by the next
+abbrev pub IsGood : Instr → Type 0
+IsGood i = IsInstr i × WritesWithin i × (is_straight i ≡ true)
+
+abbrev pub AreGood : List Instr → Type 0
+AreGood [] = ⊤
+AreGood (i ∷ is) = IsGood i × AreGood is
+
+good-append : (xs ys : List Instr) → AreGood xs → AreGood ys → AreGood (xs ++ ys)
+good-append [] ys h k = k
+good-append (x ∷ xs) ys h k = (h.0, good-append xs ys h.1 k)
+
+pub within-of : (is : List Instr) → AreGood is → Within is
+within-of [] h = tt
+within-of (i ∷ is) h = (h.0.1, within-of is h.1)
+
 small-number : (n : ℕ) → n < 2048 → (negsuc 2047 ≤ℤ pos n) × (pos n ≤ℤ pos 2047)
 small-number n h = (grind arith, grind (arith, h))
 
@@ -41,143 +72,229 @@ imm-fits d a n h k lt = let s = small-number n lt in (h, k, s.0, s.1)
 low-fits : (d a v : ℕ) → d < 32 → a < 32 → IsInstr (Imm Addi d a (low_part v))
 low-fits d a v h k = let s = low-small v in (h, k, s.0, s.1)
 
-register-fits : (o : BinaryOp) (d a b : ℕ) → d < 32 → a < 32 → b < 32 → AreItems (ones (register_code o d a b))
-register-fits binary.Rsb d a b h k l = ((h, l, k), tt)
-register-fits binary.Gt d a b h k l = ((h, l, k), tt)
-register-fits binary.GtU d a b h k l = ((h, l, k), tt)
-register-fits binary.Le d a b h k l = ((h, l, k), (imm-fits d d 1 h h (omega arith), tt))
-register-fits binary.LeU d a b h k l = ((h, l, k), (imm-fits d d 1 h h (omega arith), tt))
-register-fits binary.Ge d a b h k l = ((h, k, l), (imm-fits d d 1 h h (omega arith), tt))
-register-fits binary.GeU d a b h k l = ((h, k, l), (imm-fits d d 1 h h (omega arith), tt))
-register-fits binary.Eq d a b h k l = ((h, k, l), (imm-fits d d 1 h h (omega arith), tt))
-register-fits binary.Ne d a b h k l = ((h, k, l), ((h, omega arith, h), tt))
-register-fits binary.Addc d a b h k l = tt
-register-fits binary.Subc d a b h k l = tt
-register-fits binary.Addx d a b h k l = tt
-register-fits binary.Subx d a b h k l = tt
-register-fits o d a b h k l = ((h, k, l), tt)
+-- x1 and x31
+link-fine : Fine 1
+link-fine = (omega arith, refl)
 
-number-items-fit : (rd v : ℕ) → rd < 32 → AreItems (ones (number_code rd v))
-number-items-fit rd v h = items-ones (number_code rd v) (number-fits rd v h)
+carry-fine : Fine 31
+carry-fine = (omega arith, refl)
 
-loaded-fits : (o : BinaryOp) (d a v : ℕ) → d < 32 → a < 32 → AreItems (ones (loaded_code o d a v))
-loaded-fits o d a v h k = subst AreItems (sym (ones-append (number_code 1 v) (register_code o d a 1))) (items-append (ones (number_code 1 v)) (ones (register_code o d a 1)) (number-items-fit 1 v (omega arith)) (register-fits o d a 1 h k (omega arith)))
-
-addend-fits : (o : BinaryOp) (d a v : ℕ) → d < 32 → a < 32 → AreItems (ones (addend_code o d a v))
-addend-fits binary.Add d a v h k = (low-fits d a v h k, tt)
-addend-fits binary.Sub d a v h k = (low-fits d a (negated v) h k, tt)
-addend-fits binary.Rsb d a v h k = ((h, omega arith, k), (low-fits d d v h h, tt))
-addend-fits o d a v h k = tt
-
-sum-fits : (o : BinaryOp) (d a v : ℕ) → d < 32 → a < 32 → AreItems (ones (sum_code o d a v))
-sum-fits o d a v h k = by (is_addend v)
+number-good : (rd v : ℕ) → Fine rd → AreGood (number_code rd v)
+number-good rd v h = all (number_code rd v) (number-fits rd v h.0) (number rd v h.1) (straight (is_short v) (is_half v))
   where
-    by : (b : Bool) → AreItems (ones (if b then addend_code o d a v else loaded_code o d a v))
-    by true = addend-fits o d a v h k
-    by false = loaded-fits o d a v h k
+    Straight : List Instr → Type 0
+    Straight [] = ⊤
+    Straight (i ∷ is) = (is_straight i ≡ true) × Straight is
+
+    all : (is : List Instr) → All IsInstr is → Within is → Straight is → AreGood is
+    all [] f w s = tt
+    all (i ∷ is) f w s = ((All-head IsInstr i is f, w.0, s.0), all is (All-tail IsInstr i is f) w.1 s.1)
+
+    straight : (b c : Bool) → Straight (if b then short_code rd v else if c then half_code rd v else long_code rd v)
+    straight true c = (refl, tt)
+    straight false true = (refl, (refl, tt))
+    straight false false = (refl, (refl, (refl, (refl, (refl, (refl, (refl, (refl, tt))))))))
+
+pub register-good : (o : BinaryOp) (d a b : ℕ) → Fine d → a < 32 → b < 32 → AreGood (register_code o d a b)
+register-good binary.Rsb d a b h k l = (((h.0, l, k), h.1, refl), tt)
+register-good binary.Gt d a b h k l = (((h.0, l, k), h.1, refl), tt)
+register-good binary.GtU d a b h k l = (((h.0, l, k), h.1, refl), tt)
+register-good binary.Le d a b h k l = (((h.0, l, k), h.1, refl), ((imm-fits d d 1 h.0 h.0 (omega arith), h.1, refl), tt))
+register-good binary.LeU d a b h k l = (((h.0, l, k), h.1, refl), ((imm-fits d d 1 h.0 h.0 (omega arith), h.1, refl), tt))
+register-good binary.Ge d a b h k l = (((h.0, k, l), h.1, refl), ((imm-fits d d 1 h.0 h.0 (omega arith), h.1, refl), tt))
+register-good binary.GeU d a b h k l = (((h.0, k, l), h.1, refl), ((imm-fits d d 1 h.0 h.0 (omega arith), h.1, refl), tt))
+register-good binary.Eq d a b h k l = (((h.0, k, l), h.1, refl), ((imm-fits d d 1 h.0 h.0 (omega arith), h.1, refl), tt))
+register-good binary.Ne d a b h k l = (((h.0, k, l), h.1, refl), (((h.0, omega arith, h.0), h.1, refl), tt))
+register-good binary.Addc d a b h k l = tt
+register-good binary.Subc d a b h k l = tt
+register-good binary.Addx d a b h k l = tt
+register-good binary.Subx d a b h k l = tt
+register-good o d a b h k l = (((h.0, k, l), h.1, refl), tt)
+
+loaded-good : (o : BinaryOp) (d a v : ℕ) → Fine d → a < 32 → AreGood (loaded_code o d a v)
+loaded-good o d a v h k = good-append (number_code 1 v) (register_code o d a 1) (number-good 1 v link-fine) (register-good o d a 1 h k (omega arith))
+
+addend-good : (o : BinaryOp) (d a v : ℕ) → Fine d → a < 32 → AreGood (addend_code o d a v)
+addend-good binary.Add d a v h k = ((low-fits d a v h.0 k, h.1, refl), tt)
+addend-good binary.Sub d a v h k = ((low-fits d a (negated v) h.0 k, h.1, refl), tt)
+addend-good binary.Rsb d a v h k = (((h.0, omega arith, k), h.1, refl), ((low-fits d d v h.0 h.0, h.1, refl), tt))
+addend-good o d a v h k = tt
+
+sum-good : (o : BinaryOp) (d a v : ℕ) → Fine d → a < 32 → AreGood (sum_code o d a v)
+sum-good o d a v h k = by (is_addend v)
+  where
+    by : (b : Bool) → AreGood (if b then addend_code o d a v else loaded_code o d a v)
+    by true = addend-good o d a v h k
+    by false = loaded-good o d a v h k
 
 shift-number : (v : ℕ) → v % 64 < 64
 shift-number v = omega arith
 
-number-form-fits : (o : BinaryOp) (d a v : ℕ) → d < 32 → a < 32 → AreItems (ones (number_form_code o d a v))
-number-form-fits binary.Add d a v h k = sum-fits binary.Add d a v h k
-number-form-fits binary.Sub d a v h k = sum-fits binary.Sub d a v h k
-number-form-fits binary.Rsb d a v h k = sum-fits binary.Rsb d a v h k
-number-form-fits binary.Lsh d a v h k = ((h, k, shift-number v, λ e. absurd (omega (arith, e))), tt)
-number-form-fits binary.Rsh d a v h k = ((h, k, shift-number v, λ e. absurd (omega (arith, e))), tt)
-number-form-fits binary.RshU d a v h k = ((h, k, shift-number v, λ e. absurd (omega (arith, e))), tt)
-number-form-fits o d a v h k = loaded-fits o d a v h k
+form-good : (o : BinaryOp) (d a v : ℕ) → Fine d → a < 32 → AreGood (number_form_code o d a v)
+form-good binary.Add d a v h k = sum-good binary.Add d a v h k
+form-good binary.Sub d a v h k = sum-good binary.Sub d a v h k
+form-good binary.Rsb d a v h k = sum-good binary.Rsb d a v h k
+form-good binary.Lsh d a v h k = (((h.0, k, shift-number v, λ e. absurd (omega (arith, e))), h.1, refl), tt)
+form-good binary.Rsh d a v h k = (((h.0, k, shift-number v, λ e. absurd (omega (arith, e))), h.1, refl), tt)
+form-good binary.RshU d a v h k = (((h.0, k, shift-number v, λ e. absurd (omega (arith, e))), h.1, refl), tt)
+form-good o d a v h k = loaded-good o d a v h k
 
-more-bytes-fit : (d n : ℕ) → d < 32 → AreItems (ones (more_bytes_code d n))
-more-bytes-fit d zero h = tt
-more-bytes-fit d (suc n) h = ((omega arith, omega arith, omega arith, λ e. absurd (omega (arith, e))), (imm-fits 31 1 255 (omega arith) (omega arith) (omega arith), ((h, h, omega arith, λ e. absurd (omega (arith, e))), ((h, h, omega arith), more-bytes-fit d n h))))
+more-bytes-good : (d n : ℕ) → Fine d → AreGood (more_bytes_code d n)
+more-bytes-good d zero h = tt
+more-bytes-good d (suc n) h = (
+  ((omega arith, omega arith, omega arith, λ e. absurd (omega (arith, e))), refl, refl),
+  (
+    (imm-fits 31 1 255 (omega arith) (omega arith) (omega arith), refl, refl),
+    (((h.0, h.0, omega arith, λ e. absurd (omega (arith, e))), h.1, refl), (((h.0, h.0, omega arith), h.1, refl), more-bytes-good d n h)),
+  ),
+)
 
-swapped-fits : (d a n : ℕ) → d < 32 → a < 32 → AreItems (ones (swapped_code d a n))
-swapped-fits d a n h k = (imm-fits 1 a 0 (omega arith) k (omega arith), (imm-fits d 1 255 h (omega arith) (omega arith), more-bytes-fit d n h))
+swapped-good : (d a n : ℕ) → Fine d → a < 32 → AreGood (swapped_code d a n)
+swapped-good d a n h k =
+    ((imm-fits 1 a 0 (omega arith) k (omega arith), refl, refl), ((imm-fits d 1 255 h.0 (omega arith) (omega arith), h.1, refl), more-bytes-good d n h))
 
-unary-fits : (o : UnaryOp) (d a : ℕ) → d < 32 → a < 32 → AreItems (ones (unary_code o d a))
-unary-fits unary.Neg d a h k = ((h, omega arith, k), tt)
-unary-fits unary.Com d a h k = ((h, k, grind arith, grind arith), tt)
-unary-fits unary.Mov d a h k = (imm-fits d a 0 h k (omega arith), tt)
-unary-fits unary.ExtrC d a h k = ((h, k, omega arith, λ e. absurd (omega (arith, e))), ((h, h, omega arith, λ e. absurd (omega (arith, e))), tt))
-unary-fits unary.ExtrUc d a h k = (imm-fits d a 255 h k (omega arith), tt)
-unary-fits unary.ExtrS d a h k = ((h, k, omega arith, λ e. absurd (omega (arith, e))), ((h, h, omega arith, λ e. absurd (omega (arith, e))), tt))
-unary-fits unary.ExtrUs d a h k = ((h, k, omega arith, λ e. absurd (omega (arith, e))), ((h, h, omega arith, λ e. absurd (omega (arith, e))), tt))
-unary-fits unary.ExtrI d a h k = (imm-fits d a 0 h k (omega arith), tt)
-unary-fits unary.ExtrUi d a h k = ((h, k, omega arith, λ e. absurd (omega (arith, e))), ((h, h, omega arith, λ e. absurd (omega (arith, e))), tt))
-unary-fits unary.HtonrUs d a h k = swapped-fits d a 1 h k
-unary-fits unary.HtonrUi d a h k = swapped-fits d a 3 h k
-unary-fits unary.HtonrUl d a h k = swapped-fits d a 7 h k
+pub unary-good : (o : UnaryOp) (d a : ℕ) → Fine d → a < 32 → AreGood (unary_code o d a)
+unary-good unary.Neg d a h k = (((h.0, omega arith, k), h.1, refl), tt)
+unary-good unary.Com d a h k = (((h.0, k, grind arith, grind arith), h.1, refl), tt)
+unary-good unary.Mov d a h k = ((imm-fits d a 0 h.0 k (omega arith), h.1, refl), tt)
+unary-good unary.ExtrUc d a h k = ((imm-fits d a 255 h.0 k (omega arith), h.1, refl), tt)
+unary-good unary.ExtrI d a h k = ((imm-fits d a 0 h.0 k (omega arith), h.1, refl), tt)
+unary-good unary.HtonrUs d a h k = swapped-good d a 1 h k
+unary-good unary.HtonrUi d a h k = swapped-good d a 3 h k
+unary-good unary.HtonrUl d a h k = swapped-good d a 7 h k
+unary-good unary.ExtrC d a h k = (((h.0, k, omega arith, λ e. absurd (omega (arith, e))), h.1, refl), (((h.0, h.0, omega arith, λ e. absurd (omega (arith, e))), h.1, refl), tt))
+unary-good unary.ExtrS d a h k = (((h.0, k, omega arith, λ e. absurd (omega (arith, e))), h.1, refl), (((h.0, h.0, omega arith, λ e. absurd (omega (arith, e))), h.1, refl), tt))
+unary-good unary.ExtrUs d a h k = (((h.0, k, omega arith, λ e. absurd (omega (arith, e))), h.1, refl), (((h.0, h.0, omega arith, λ e. absurd (omega (arith, e))), h.1, refl), tt))
+unary-good unary.ExtrUi d a h k = (((h.0, k, omega arith, λ e. absurd (omega (arith, e))), h.1, refl), (((h.0, h.0, omega arith, λ e. absurd (omega (arith, e))), h.1, refl), tt))
 
-carried-fits : (o : BinaryOp) (u d a : ℕ) → u < 32 → d < 32 → a < 32 → AreItems (ones (carried_code o u d a))
-carried-fits binary.Addc u d a g h k = ((h, k, omega arith), ((omega arith, h, omega arith), tt))
-carried-fits binary.Subc u d a g h k = ((omega arith, k, omega arith), ((h, k, omega arith), tt))
-carried-fits binary.Addx u d a g h k = ((g, k, omega arith), ((omega arith, g, omega arith), ((h, g, omega arith), ((omega arith, h, omega arith), ((omega arith, omega arith, omega arith), tt)))))
-carried-fits binary.Subx u d a g h k = ((g, k, omega arith), ((omega arith, k, omega arith), ((h, omega arith, omega arith), ((omega arith, omega arith, omega arith), ((omega arith, omega arith, g), tt)))))
-carried-fits o u d a g h k = tt
+carried-good : (o : BinaryOp) (u d a : ℕ) → Fine u → Fine d → a < 32 → AreGood (carried_code o u d a)
+carried-good binary.Addc u d a g h k = (((h.0, k, omega arith), h.1, refl), (((omega arith, h.0, omega arith), refl, refl), tt))
+carried-good binary.Subc u d a g h k = (((omega arith, k, omega arith), refl, refl), (((h.0, k, omega arith), h.1, refl), tt))
+carried-good binary.Addx u d a g h k = (
+  ((g.0, k, omega arith), g.1, refl),
+  (
+    ((omega arith, g.0, omega arith), refl, refl),
+    (
+      ((h.0, g.0, omega arith), h.1, refl),
+      (((omega arith, h.0, omega arith), refl, refl), (((omega arith, omega arith, omega arith), refl, refl), tt)),
+    ),
+  ),
+)
+carried-good binary.Subx u d a g h k = (
+  ((g.0, k, omega arith), g.1, refl),
+  (
+    ((omega arith, k, omega arith), refl, refl),
+    (
+      ((h.0, omega arith, omega arith), h.1, refl),
+      (((omega arith, omega arith, omega arith), refl, refl), (((omega arith, omega arith, g.0), refl, refl), tt)),
+    ),
+  ),
+)
+carried-good o u d a g h k = tt
 
-wide-fits : (o : WideOp) (d e a b : ℕ) → d < 32 → e < 32 → a < 32 → b < 32 → AreItems (ones (wide_code o d e a b))
-wide-fits wide.Mul d e a b h i k l = ((omega arith, k, l), ((h, k, l), (imm-fits e 1 0 i (omega arith) (omega arith), tt)))
-wide-fits wide.MulU d e a b h i k l = ((omega arith, k, l), ((h, k, l), (imm-fits e 1 0 i (omega arith) (omega arith), tt)))
-wide-fits wide.Div d e a b h i k l = ((omega arith, k, l), ((i, k, l), (imm-fits d 1 0 h (omega arith) (omega arith), tt)))
-wide-fits wide.DivU d e a b h i k l = ((omega arith, k, l), ((i, k, l), (imm-fits d 1 0 h (omega arith) (omega arith), tt)))
+wide-good : (o : WideOp) (d e a b : ℕ) → Fine d → Fine e → a < 32 → b < 32 → AreGood (wide_code o d e a b)
+wide-good wide.Mul d e a b h i k l = (((omega arith, k, l), refl, refl), (((h.0, k, l), h.1, refl), ((imm-fits e 1 0 i.0 (omega arith) (omega arith), i.1, refl), tt)))
+wide-good wide.MulU d e a b h i k l = (((omega arith, k, l), refl, refl), (((h.0, k, l), h.1, refl), ((imm-fits e 1 0 i.0 (omega arith) (omega arith), i.1, refl), tt)))
+wide-good wide.Div d e a b h i k l = (((omega arith, k, l), refl, refl), (((i.0, k, l), i.1, refl), ((imm-fits d 1 0 h.0 (omega arith) (omega arith), h.1, refl), tt)))
+wide-good wide.DivU d e a b h i k l = (((omega arith, k, l), refl, refl), (((i.0, k, l), i.1, refl), ((imm-fits d 1 0 h.0 (omega arith) (omega arith), h.1, refl), tt)))
 
 -- ---- items
-load-fits : (t : ℕ) (x : Operand) → t < 32 → AreItems (load_items t x)
-load-fits t (operand.Number v) h = number-items-fit t v h
-load-fits t (operand.Host name) h = number-items-fit t (host_address name) h
-load-fits t (operand.Label l) h = (h, tt)
-load-fits t (operand.Reg r) h = tt
-load-fits t (operand.Slot k) h = tt
+abbrev pub IsGoodItem : Item → Type 0
+IsGoodItem (One i) = IsGood i
+IsGoodItem (Jump rd label) = ⊥
+IsGoodItem (Address rd label) = Fine rd
 
-second-fits : (x : Operand) → AreItems (second_items x)
-second-fits (operand.Reg r) = (imm-fits 1 (register_of Riscv64 r) 0 (omega arith) (register-small r) (omega arith), tt)
-second-fits (operand.Number v) = load-fits 1 (operand.Number v) (omega arith)
-second-fits (operand.Host name) = load-fits 1 (operand.Host name) (omega arith)
-second-fits (operand.Label l) = load-fits 1 (operand.Label l) (omega arith)
-second-fits (operand.Slot k) = load-fits 1 (operand.Slot k) (omega arith)
+pub fit-of : (xs : List Item) → Each IsGoodItem xs → AreItems xs
+fit-of [] h = tt
+fit-of (One i ∷ xs) h = (h.0.0, fit-of xs h.1)
+fit-of (Jump rd label ∷ xs) h = absurd h.0
+fit-of (Address rd label ∷ xs) h = (h.0.0, fit-of xs h.1)
 
-loaded-items-fit : (o : BinaryOp) (d a : ℕ) (x : Operand) → d < 32 → a < 32 → AreItems (load_items 1 x ++ ones (register_code o d a 1))
-loaded-items-fit o d a x h k = items-append (load_items 1 x) (ones (register_code o d a 1)) (load-fits 1 x (omega arith)) (register-fits o d a 1 h k (omega arith))
+pub stay-of : (xs : List Item) → Each IsGoodItem xs → StayWithin xs
+stay-of [] h = tt
+stay-of (One i ∷ xs) h = (h.0.1, stay-of xs h.1)
+stay-of (Jump rd label ∷ xs) h = absurd h.0
+stay-of (Address rd label ∷ xs) h = (h.0.1, stay-of xs h.1)
 
-binary-fits : (o : BinaryOp) (d a : ℕ) (x : Operand) → d < 32 → a < 32 → AreItems (binary_items o d a x)
-binary-fits o d a (operand.Reg r) h k = register-fits o d a (register_of Riscv64 r) h k (register-small r)
-binary-fits o d a (operand.Number v) h k = number-form-fits o d a v h k
-binary-fits o d a (operand.Host name) h k = loaded-items-fit o d a (operand.Host name) h k
-binary-fits o d a (operand.Label l) h k = loaded-items-fit o d a (operand.Label l) h k
-binary-fits o d a (operand.Slot j) h k = loaded-items-fit o d a (operand.Slot j) h k
-
-wide-loaded-fits : (o : WideOp) (d e a : ℕ) (x : Operand) → d < 32 → e < 32 → a < 32 → AreItems (load_items 31 x ++ ones (wide_code o d e a 31))
-wide-loaded-fits o d e a x h i k = items-append (load_items 31 x) (ones (wide_code o d e a 31)) (load-fits 31 x (omega arith)) (wide-fits o d e a 31 h i k (omega arith))
-
-wide-items-fit : (o : WideOp) (d e a : ℕ) (x : Operand) → d < 32 → e < 32 → a < 32 → AreItems (wide_items o d e a x)
-wide-items-fit o d e a (operand.Reg r) h i k = wide-fits o d e a (register_of Riscv64 r) h i k (register-small r)
-wide-items-fit o d e a (operand.Number v) h i k = wide-loaded-fits o d e a (operand.Number v) h i k
-wide-items-fit o d e a (operand.Host name) h i k = wide-loaded-fits o d e a (operand.Host name) h i k
-wide-items-fit o d e a (operand.Label l) h i k = wide-loaded-fits o d e a (operand.Label l) h i k
-wide-items-fit o d e a (operand.Slot j) h i k = wide-loaded-fits o d e a (operand.Slot j) h i k
-
-operation-fits : (o : BinaryOp) (u d a : ℕ) (x : Operand) → u < 32 → d < 32 → a < 32 → AreItems (operation_items o u d a x)
-operation-fits o u d a x g h k = by (is_carried o)
+-- each instruction is followed by the next
+pub block-of : (to : ℕ → ℕ) (p : ℕ) (xs : List Item) → Each IsGoodItem xs → IsBlock is_straight (settled to p xs)
+block-of to p xs h = block (settled to p xs) (straight p xs h)
   where
-    by : (b : Bool) → AreItems (if b then carried_items o u d a x else binary_items o d a x)
-    by true = items-append (second_items x) (ones (carried_code o u d a)) (second-fits x) (carried-fits o u d a g h k)
-    by false = binary-fits o d a x h k
+    Straight : List Instr → Type 0
+    Straight [] = ⊤
+    Straight (i ∷ is) = (is_straight i ≡ true) × Straight is
 
-register-for-small : (x : Operand) → register_for x < 32
-register-for-small (operand.Reg r) = register-small r
-register-for-small (operand.Number v) = omega arith
-register-for-small (operand.Host name) = omega arith
-register-for-small (operand.Label l) = omega arith
-register-for-small (operand.Slot k) = omega arith
+    block : (is : List Instr) → Straight is → IsBlock is_straight is
+    block [] s = tt
+    block (i ∷ []) s = tt
+    block (i ∷ j ∷ is) s = (s.0, block (j ∷ is) s.1)
 
-at-small : (xs : List Operand) (i : ℕ) → register_in xs i < 32
-at-small xs i = register-for-small (operand_in xs i)
+    straight : (p : ℕ) (xs : List Item) → Each IsGoodItem xs → Straight (settled to p xs)
+    straight p [] h = tt
+    straight p (One i ∷ xs) h = (h.0.2, straight (p + 4) xs h.1)
+    straight p (Jump rd label ∷ xs) h = absurd h.0
+    straight p (Address rd label ∷ xs) h = (refl, (refl, straight (p + 8) xs h.1))
 
-pub body-fits : (o : Op) (xs : List Operand) (u : ℕ) → u < 32 → AreItems (body_items o xs u)
-body-fits (op.Binary o last) xs u h = operation-fits o u (register_in xs 0) (register_in xs 1) (operand_in xs 2) h (at-small xs 0) (at-small xs 1)
-body-fits (op.Wide o last) xs u h = wide-items-fit o (register_in xs 0) (register_in xs 1) (register_in xs 2) (operand_in xs 3) (at-small xs 0) (at-small xs 1) (at-small xs 2)
-body-fits (op.Unary o) xs u h = unary-fits o (register_in xs 0) (register_in xs 1) (at-small xs 0) (at-small xs 1)
-body-fits (op.Plain plain.Movi) xs u h = load-fits (register_in xs 0) (operand_in xs 1) (at-small xs 0)
-body-fits (op.Plain o) xs u h = tt
-body-fits o xs u h = tt
+ones-good : (is : List Instr) → AreGood is → Each IsGoodItem (ones is)
+ones-good [] h = tt
+ones-good (i ∷ is) h = (h.0, ones-good is h.1)
+
+pub items-good : (xs ys : List Item) → Each IsGoodItem xs → Each IsGoodItem ys → Each IsGoodItem (xs ++ ys)
+items-good = each-append IsGoodItem
+
+load-good : (t : ℕ) (x : Operand) → Fine t → Each IsGoodItem (load_items t x)
+load-good t (operand.Number v) h = ones-good (number_code t v) (number-good t v h)
+load-good t (operand.Host name) h = ones-good (number_code t (host_address name)) (number-good t (host_address name) h)
+load-good t (operand.Label l) h = (h, tt)
+load-good t (operand.Reg r) h = tt
+load-good t (operand.Slot k) h = tt
+
+second-good : (x : Operand) → Each IsGoodItem (second_items x)
+second-good (operand.Reg r) = ((imm-fits 1 (register_of Riscv64 r) 0 (omega arith) (register-small r) (omega arith), refl, refl), tt)
+second-good (operand.Number v) = load-good 1 (operand.Number v) link-fine
+second-good (operand.Host name) = load-good 1 (operand.Host name) link-fine
+second-good (operand.Label l) = load-good 1 (operand.Label l) link-fine
+second-good (operand.Slot k) = load-good 1 (operand.Slot k) link-fine
+
+-- code behind a word that is loaded
+behind-good : (t : ℕ) (x : Operand) (is : List Instr) → Fine t → AreGood is → Each IsGoodItem (load_items t x ++ ones is)
+behind-good t x is h k = items-good (load_items t x) (ones is) (load-good t x h) (ones-good is k)
+
+binary-good : (o : BinaryOp) (d a : ℕ) (x : Operand) → Fine d → a < 32 → Each IsGoodItem (binary_items o d a x)
+binary-good o d a (operand.Reg r) h k = ones-good (register_code o d a (register_of Riscv64 r)) (register-good o d a (register_of Riscv64 r) h k (register-small r))
+binary-good o d a (operand.Number v) h k = ones-good (number_form_code o d a v) (form-good o d a v h k)
+binary-good o d a (operand.Host name) h k = behind-good 1 (operand.Host name) (register_code o d a 1) link-fine (register-good o d a 1 h k (omega arith))
+binary-good o d a (operand.Label l) h k = behind-good 1 (operand.Label l) (register_code o d a 1) link-fine (register-good o d a 1 h k (omega arith))
+binary-good o d a (operand.Slot j) h k = behind-good 1 (operand.Slot j) (register_code o d a 1) link-fine (register-good o d a 1 h k (omega arith))
+
+wide-items-good : (o : WideOp) (d e a : ℕ) (x : Operand) → Fine d → Fine e → a < 32 → Each IsGoodItem (wide_items o d e a x)
+wide-items-good o d e a (operand.Reg r) h i k = ones-good (wide_code o d e a (register_of Riscv64 r)) (wide-good o d e a (register_of Riscv64 r) h i k (register-small r))
+wide-items-good o d e a (operand.Number v) h i k = behind-good 31 (operand.Number v) (wide_code o d e a 31) carry-fine (wide-good o d e a 31 h i k (omega arith))
+wide-items-good o d e a (operand.Host name) h i k = behind-good 31 (operand.Host name) (wide_code o d e a 31) carry-fine (wide-good o d e a 31 h i k (omega arith))
+wide-items-good o d e a (operand.Label l) h i k = behind-good 31 (operand.Label l) (wide_code o d e a 31) carry-fine (wide-good o d e a 31 h i k (omega arith))
+wide-items-good o d e a (operand.Slot j) h i k = behind-good 31 (operand.Slot j) (wide_code o d e a 31) carry-fine (wide-good o d e a 31 h i k (omega arith))
+
+operation-good : (o : BinaryOp) (u d a : ℕ) (x : Operand) → Fine u → Fine d → a < 32 → Each IsGoodItem (operation_items o u d a x)
+operation-good o u d a x g h k = by (is_carried o)
+  where
+    by : (b : Bool) → Each IsGoodItem (if b then carried_items o u d a x else binary_items o d a x)
+    by true = items-good (second_items x) (ones (carried_code o u d a)) (second-good x) (ones-good (carried_code o u d a) (carried-good o u d a g h k))
+    by false = binary-good o d a x h k
+
+register-fine : (x : Operand) → Fine (register_for x)
+register-fine (operand.Reg r) = (register-small r, portable r)
+register-fine (operand.Number v) = (omega arith, refl)
+register-fine (operand.Host name) = (omega arith, refl)
+register-fine (operand.Label l) = (omega arith, refl)
+register-fine (operand.Slot k) = (omega arith, refl)
+
+fine-at : (xs : List Operand) (i : ℕ) → Fine (register_in xs i)
+fine-at xs i = register-fine (operand_in xs i)
+
+pub body-good : (o : Op) (xs : List Operand) (u : ℕ) → Fine u → Each IsGoodItem (body_items o xs u)
+body-good (op.Binary o last) xs u h = operation-good o u (register_in xs 0) (register_in xs 1) (operand_in xs 2) h (fine-at xs 0) (fine-at xs 1).0
+body-good (op.Wide o last) xs u h = wide-items-good o (register_in xs 0) (register_in xs 1) (register_in xs 2) (operand_in xs 3) (fine-at xs 0) (fine-at xs 1) (fine-at xs 2).0
+body-good (op.Unary o) xs u h = ones-good (unary_code o (register_in xs 0) (register_in xs 1)) (unary-good o (register_in xs 0) (register_in xs 1) (fine-at xs 0) (fine-at xs 1).0)
+body-good (op.Plain plain.Movi) xs u h = load-good (register_in xs 0) (operand_in xs 1) (fine-at xs 0)
+body-good (op.Plain o) xs u h = tt
+body-good o xs u h = tt

@@ -11,7 +11,6 @@ pub mod ImmediateLemmas
 pub mod LoadCodeLemmas
 pub mod PlainItemLemmas
 pub mod SettledLemmas
-pub mod StraightLemmas
 pub mod UnaryCodeLemmas
 pub mod UnaryNodeLemmas
 pub mod ValueFitLemmas

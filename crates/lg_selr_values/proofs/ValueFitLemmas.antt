@@ -1,6 +1,6 @@
 -- The items of a node that are emitted.
-use Rattle.std.proofs.Common.{◌≡◌, ℕ, zero, suc, ◌<◌, ◌⊎◌, inl, inr, Bool, true, false, List, [], ◌∷◌, ◌++◌, refl, sym, subst, arith}
-use Rattle.std.specs.Prelude.{◌==◌, if◌then◌else◌, negsuc, pos, ◌≤ℤ◌}
+use Rattle.std.proofs.Common.{◌≡◌, ℕ, zero, suc, ◌<◌, ◌⊎◌, inl, inr, Bool, true, false, List, [], ◌∷◌, ◌++◌, refl, sym, subst, arith, length, ◌≤◌}
+use Rattle.std.specs.Prelude.{◌==◌, ◌||◌, ⊤, if◌then◌else◌, negsuc, pos, ◌≤ℤ◌}
 use Rattle.std.specs.List.{list_any}
 use Rattle.lg_base.specs.HostNames.{host_address}
 use Rattle.lg_base.specs.declared.target.Target.TheVariants.{Riscv64}
@@ -24,16 +24,19 @@ use Rattle.lg_carry_rv.specs.Numbers.{number_code}
 use Rattle.lg_carry_rv.specs.RvRows.{can_save, slot_offset}
 use Rattle.lg_carry_rv.proofs.IsaLemmas.{tried-saved}
 use Rattle.lg_selr_items.specs.declared.items.Item.{Item}
-use Rattle.lg_selr_items.specs.Items.{settled, ones, NameLabels}
-use Rattle.lg_selr_items.proofs.ItemLemmas.{items-append, names-append, names-ones}
+use Rattle.lg_selr_items.specs.Items.{words_in, ones, NameLabels}
+use Rattle.lg_selr_items.proofs.ItemLemmas.{names-append, names-ones}
 use Rattle.lg_selr_values.specs.BinaryCode.{register_code, number_form_code}
 use Rattle.lg_selr_values.specs.CarriedCode.{carried_code}
 use Rattle.lg_selr_values.specs.UnaryCode.{unary_code}
 use Rattle.lg_selr_values.specs.WideCode.{wide_code}
-use Rattle.lg_selr_values.specs.ValueItems.{value_needs, first_taken, load_items, binary_items, second_items, carried_items, wide_items, operation_items, operand_in, register_in, body_items, saved_items}
-use Rattle.lg_selr_values.specs.ValueFits.{AreValueItems, ValueItemsFit, NamesBelow, NameBelow, ValueItemsName}
-use Rattle.lg_selr_values.proofs.FitLemmas.{body-fits}
-use Rattle.lg_selr_values.proofs.StraightLemmas.{straight-block, body-follow, saved-follow}
+use Rattle.lg_selr_values.specs.ValueItems.{value_needs, first_taken, load_items, binary_items, second_items, carried_items, wide_items, operation_items, operand_in, register_in, body_items, saved_items, value_items, HaveSlots}
+use Rattle.lg_selr_values.specs.ValueFits.{AreValueItems, ValueItemsFit, ValueItemsStay, NamesBelow, NameBelow, ValueItemsName}
+use Rattle.lg_selr_values.proofs.FitLemmas.{Fine, IsGoodItem, fit-of, stay-of, block-of, items-good, body-good}
+use Rattle.lg_selr_items.proofs.WithinLemmas.{In}
+use Rattle.lg_sel_items.specs.Holes.{Each}
+use Rattle.lg_op.specs.declared.operand.Reg.{Reg}
+use Rattle.std.proofs.lemmas.Bool.Decides.{nat_tests}
 use Rattle.lg_selr_values.proofs.WordLemmas.{body_few, saved_few}
 
 -- ---- choices
@@ -43,33 +46,39 @@ save-small r h = grind (arith, h)
 first-slot : (negsuc 2047 ≤ℤ slot_offset 0) × (slot_offset 0 ≤ℤ pos 2047)
 first-slot = (grind arith, grind arith)
 
-none : (n : Node) → AreValueItems n []
-none n = record {
-  few = omega arith;
-  slots = tt;
-  fit = body-fits n.op n.operands 0 (omega arith);
-  short = let f = body_few n.op n.operands 0 in omega (arith, f);
-  block = λ to at. straight-block (settled to at (body_items n.op n.operands 0)) ((body-follow n.op n.operands 0).follow to at);
-}
+-- a register that is tried
+same : (x r : ℕ) → (x == r) ≡ true → x ≡ r
+same x r h = grind (arith, nat_tests)
 
-free : (n : Node) (r : ℕ) → r < 32 → AreValueItems n (Free r ∷ [])
-free n r small = record {
-  few = omega arith;
-  slots = tt;
-  fit = body-fits n.op n.operands r small;
-  short = let f = body_few n.op n.operands r in omega (arith, f);
-  block = λ to at. straight-block (settled to at (body_items n.op n.operands r)) ((body-follow n.op n.operands r).follow to at);
-}
+abbrev AllIn : List ℕ → Type 0
+AllIn [] = ⊤
+AllIn (x ∷ xs) = In x × AllIn xs
 
-saved : (n : Node) (r : ℕ) → r < 32 → AreValueItems n (Spill r 0 ∷ [])
-saved n r small =
-    let body = body_items n.op n.operands r in record {
-      few = omega arith;
-      slots = (omega arith, tt);
-      fit = ((omega arith, small, first-slot.0, first-slot.1), items-append body _ (body-fits n.op n.operands r small) ((small, omega arith, first-slot.0, first-slot.1), tt));
-      short = let f = saved_few (Spill r 0 ∷ []) body 30 (body_few n.op n.operands r) in omega (arith, f);
-      block = λ to at. straight-block (settled to at (saved_items (Spill r 0 ∷ []) body)) ((saved-follow (Spill r 0 ∷ []) body (body-follow n.op n.operands r)).follow to at);
-    }
+member : (xs : List ℕ) (r : ℕ) → AllIn xs → list_any (λ x. x == r) xs ≡ true → In r
+member [] r k e = cc
+member (x ∷ xs) r k e = by (x == r) refl (λ h. member xs r k.1 h) e
+  where
+    by : (b : Bool) → (x == r) ≡ b → (list_any (λ y. y == r) xs ≡ true → In r) → (b || list_any (λ y. y == r) xs) ≡ true → In r
+    by true h rest e = subst (λ z. In z) (same x r h) k.0
+    by false h rest e = rest e
+
+tried : (r : ℕ) → list_any (λ x. x == r) (order Riscv64) ≡ true → In r
+tried r h = member (order Riscv64) r (refl, (refl, (refl, (refl, (refl, (refl, (refl, (refl, (refl, (refl, (refl, (refl, (refl, (refl, tt)))))))))))))) h
+
+fine : (r : ℕ) → list_any (λ x. x == r) (order Riscv64) ≡ true → Fine r
+fine r h = (save-small r (tried-saved r h), tried r h)
+
+-- good items with this choice, or none
+good : (n : Node) (choices : List Choice) → length choices ≤ 1 → HaveSlots choices → words_in (value_items n choices) ≤ 32 → Each IsGoodItem (value_items n choices) → AreValueItems n choices
+good n choices few slots short h = record { few = few; slots = slots; fit = fit-of (value_items n choices) h; short = short; block = λ to at. block-of to at (value_items n choices) h }
+
+none-good : (n : Node) → Each IsGoodItem (value_items n [])
+none-good n = body-good n.op n.operands 0 (omega arith, refl)
+
+saved-good : (n : Node) (r : ℕ) → Fine r → Each IsGoodItem (value_items n (Spill r 0 ∷ []))
+saved-good n r h =
+    let body = body_items n.op n.operands r in
+    (((omega arith, h.0, first-slot.0, first-slot.1), tt, refl), items-good body _ (body-good n.op n.operands r h) (((h.0, omega arith, first-slot.0, first-slot.1), h.1, refl), tt))
 
 needs-are : (o : Op) → (value_needs o ≡ []) ⊎ (value_needs o ≡ Any ∷ [])
 needs-are (op.Binary binary.Addx last) = inr refl
@@ -77,23 +86,42 @@ needs-are (op.Binary binary.Subx last) = inr refl
 needs-are (op.Binary o last) = inl refl
 needs-are o = inl refl
 
-without : (n : Node) (a : Around) (choices : List Choice) → AreFor a [] [] [] choices → AreValueItems n choices
-without n a [] h = none n
+-- what is asked of the items of a node with these choices
+record AreFine (n : Node) (choices : List Choice) : Type 0 where
+  are : AreValueItems n choices
+  good : Each IsGoodItem (value_items n choices)
+
+without : (n : Node) (a : Around) (choices : List Choice) → AreFor a [] [] [] choices → AreFine n choices
+without n a [] h = let f = body_few n.op n.operands 0 in record { are = good n [] (omega arith) tt (omega (arith, f)) (none-good n); good = none-good n }
 without n a (choice ∷ choices) h = absurd h
 
-one : (n : Node) (a : Around) (choices : List Choice) → a.target ≡ Riscv64 → AreFor a (Any ∷ []) [] (Any ∷ []) choices → AreValueItems n choices
+one : (n : Node) (a : Around) (choices : List Choice) → a.target ≡ Riscv64 → AreFor a (Any ∷ []) [] (Any ∷ []) choices → AreFine n choices
 one n a [] e h = absurd h
 one n a (choice ∷ next ∷ choices) e h = absurd h.1
 one n a (Own r ∷ []) e h = absurd h.0
-one n a (Free r ∷ []) e h = free n r (save-small r (tried-saved r (subst (λ t. list_any (λ x. x == r) (order t) ≡ true) e h.0.0.tried)))
-one n a (Spill r k ∷ []) e h = subst (λ z. AreValueItems n (Spill r z ∷ [])) (sym h.0.1) (saved n r (save-small r (tried-saved r (subst (λ t. list_any (λ x. x == r) (order t) ≡ true) e h.0.0.tried))))
+one n a (Free r ∷ []) e h =
+    let k = fine r (subst (λ t. list_any (λ x. x == r) (order t) ≡ true) e h.0.0.tried) in
+    let f = body_few n.op n.operands r in
+    let g = body-good n.op n.operands r k in
+    record { are = good n (Free r ∷ []) (omega arith) tt (omega (arith, f)) g; good = g }
+one n a (Spill r k ∷ []) e h =
+    let at = fine r (subst (λ t. list_any (λ x. x == r) (order t) ≡ true) e h.0.0.tried) in
+    let f = saved_few (Spill r 0 ∷ []) (body_items n.op n.operands r) 30 (body_few n.op n.operands r) in
+    let g = saved-good n r at in
+    subst (λ z. AreFine n (Spill r z ∷ [])) (sym h.0.1) record { are = good n (Spill r 0 ∷ []) (omega arith) (omega arith, tt) (omega (arith, f)) g; good = g }
 
-pub value-items-fit : ValueItemsFit
-value-items-fit n live staged choices h = by (needs-are n.op)
+fine-items : (n : Node) (live : Reg → Bool) (staged : List Bool) (choices : List Choice) → AreFor (around Riscv64 n live staged) (value_needs n.op) [] (value_needs n.op) choices → AreFine n choices
+fine-items n live staged choices h = by (needs-are n.op)
   where
-    by : (value_needs n.op ≡ []) ⊎ (value_needs n.op ≡ Any ∷ []) → AreValueItems n choices
+    by : (value_needs n.op ≡ []) ⊎ (value_needs n.op ≡ Any ∷ []) → AreFine n choices
     by (inl e) = without n (around Riscv64 n live staged) choices (subst (λ needs. AreFor (around Riscv64 n live staged) needs [] needs choices) e h)
     by (inr e) = one n (around Riscv64 n live staged) choices refl (subst (λ needs. AreFor (around Riscv64 n live staged) needs [] needs choices) e h)
+
+pub value-items-fit : ValueItemsFit
+value-items-fit n live staged choices h = (fine-items n live staged choices h).are
+
+pub value-items-stay : ValueItemsStay
+value-items-stay n live staged choices h = stay-of (value_items n choices) (fine-items n live staged choices h).good
 
 -- ---- labels
 load-names : (labels t : ℕ) (x : Operand) → NamesBelow labels x → NameLabels labels (load_items t x)

@@ -1,4 +1,4 @@
-use Rattle.lg_selr_values.proofs.WithinLemmas.{value-items-stay}
+use Rattle.lg_selr_values.proofs.ValueFitLemmas.{value-items-stay}
 use Rattle.lg_selr_values.proofs.laws.value_items_stay.Goals as goal
 
 pub returns : goal.returns
