@@ -6,6 +6,8 @@ mod a64;
 #[cfg(test)]
 mod buffer;
 #[cfg(test)]
+mod edges;
+#[cfg(test)]
 mod live;
 #[cfg(test)]
 mod processor;

@@ -19,19 +19,19 @@ const PRINTF: u64 = 0x0ff0_0000;
 // the argument part of the one word `-`
 const ARGS: [u8; 18] = [16, 0, 0, 0x28, 0, 0, 0, 0, 0, 0, 0, 0, 0, 0, 0, 0, b'-', 0];
 
-// a processor with 64 bytes of data
-fn processor(alloc: Global, code: &[u8]) -> Result<Cpu, Fail>
+/// A processor of a target, with 64 bytes of data.
+pub fn processor(alloc: Global, target: Target, code: &[u8]) -> Result<Cpu, Fail>
     requires { length code.now ≤ 64 }
 {
     let code = CodeBytes::of(alloc, code)?;
     let image = DataImage::of(alloc, &[0; 64])?;
     let args = ArgImage::of(alloc, &ARGS)?;
-    Ok(Cpu::new(alloc, Target::Riscv64, &code, &image, &args, TRASH)?)
+    Ok(Cpu::new(alloc, target, &code, &image, &args, TRASH)?)
 }
 
-// a step of a processor that has taken few
-fn step(cpu: &mut Cpu, out: &mut MemorySink) -> CpuStep {
-    if cpu.steps() < 100 {
+/// A step of a processor that has taken few.
+pub fn step(cpu: &mut Cpu, out: &mut MemorySink) -> CpuStep {
+    if cpu.steps() < 10_000 {
         cpu.step(out)
     } else {
         CpuStep::Went
@@ -45,7 +45,7 @@ fn runs_code_that_calls_putchar(rt: HostRuntime) -> Result<(), Fail> {
         0x13, 0x05, 0x10, 0x04, 0x93, 0x84, 0x00, 0x00, 0x37, 0x03, 0xf0, 0x0f, 0xe7, 0x00, 0x03,
         0x02, 0x67, 0x80, 0x04, 0x00,
     ];
-    let mut cpu = processor(rt.alloc(), &code)?;
+    let mut cpu = processor(rt.alloc(), Target::Riscv64, &code)?;
     let mut out = MemorySink::new(rt.alloc(), 8, &[])?;
     assert_eq!(rt; cpu.register(10), 1);
     for _ in 0..5 {
@@ -65,7 +65,7 @@ fn runs_code_that_calls_putchar(rt: HostRuntime) -> Result<(), Fail> {
 
 #[test]
 fn passes_words_of_the_stack(rt: HostRuntime) -> Result<(), Fail> {
-    let mut cpu = processor(rt.alloc(), &[])?;
+    let mut cpu = processor(rt.alloc(), Target::Riscv64, &[])?;
     let mut out = MemorySink::new(rt.alloc(), 64, &[])?;
     // the format "%d%d%d%d%d%d%d%d", of which the last number lies in a stack word
     for place in 0..8 {
@@ -87,7 +87,7 @@ fn passes_words_of_the_stack(rt: HostRuntime) -> Result<(), Fail> {
 
 #[test]
 fn keeps_its_answer_after_a_failed_write(rt: HostRuntime) -> Result<(), Fail> {
-    let mut cpu = processor(rt.alloc(), &[])?;
+    let mut cpu = processor(rt.alloc(), Target::Riscv64, &[])?;
     let mut out = MemorySink::new(rt.alloc(), 8, &[1])?;
     cpu.set_pc(PRINTF + 32);
     for _ in 0..2 {
