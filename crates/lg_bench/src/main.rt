@@ -1,7 +1,7 @@
 // Work that is timed from outside. `names N` looks up each name of the instruction table N times; `text N` reads and checks
 // a text of N instructions, at most 65,000; `code N TIMES` assembles it for RV64 as well, so many times, from its bytes to
-// code; `emit N` emits 64 MiB in pieces of N bytes; `cpu N` runs N instructions of a loop on the modelled RV64IM processor;
-// `steps N` follows the portable meaning of a loop for N steps. Without words it does a little of each.
+// code; `emit N` emits 64 MiB in pieces of N bytes; `rv64 N`, `aarch64 N` and `x86_64 N` run N instructions
+// of a loop of five on the modelled processors; `steps N` follows the portable meaning of a loop for N steps. Without words it does a little of each.
 #![tactic(auto)]
 
 mod meaning;
@@ -11,6 +11,7 @@ mod processor;
 mod texts;
 
 use lg_base::refusal::{OutOfMemory, Stop};
+use lg_base::target::Target;
 use lg_mean_text::end::MeaningEnd;
 use names::found;
 use std::{env, io, str};
@@ -51,9 +52,9 @@ fn emit(rt: &HostRuntime, size: u32, length: u32) -> io::Result<()> {
     }
 }
 
-// Runs so many instructions on the processor.
-fn run(rt: &HostRuntime, instructions: u32) -> io::Result<()> {
-    match processor::run(rt.alloc(), instructions) {
+// Runs so many instructions on the processor of a target.
+fn run(rt: &HostRuntime, target: Target, instructions: u32) -> io::Result<()> {
+    match processor::run(rt.alloc(), target, instructions) {
         Ok(count) => println!(rt; "{count} instructions"),
         Err(OutOfMemory) => println!(rt; "out of memory"),
     }
@@ -83,7 +84,9 @@ fn main(rt: HostRuntime) -> io::Result<()> {
                 "text" => read(&rt, times),
                 "code" => make_code(&rt, times, again),
                 "emit" => emit(&rt, 0x400_0000, times),
-                "cpu" => run(&rt, times),
+                "rv64" => run(&rt, Target::Riscv64, times),
+                "aarch64" => run(&rt, Target::Aarch64, times),
+                "x86_64" => run(&rt, Target::X86_64, times),
                 "steps" => follow(&rt, times),
                 _ => println!(rt; "no such work"),
             }
@@ -93,7 +96,9 @@ fn main(rt: HostRuntime) -> io::Result<()> {
             read(&rt, 64)?;
             make_code(&rt, 64, 1)?;
             emit(&rt, 1024, 4)?;
-            run(&rt, 1000)?;
+            for target in [Target::Riscv64, Target::Aarch64, Target::X86_64] {
+                run(&rt, target, 1000)?;
+            }
             follow(&rt, 1000)
         }
     }
