@@ -1,3 +1,4 @@
+pub mod ControlLemmas
 pub mod LandingLemmas
 pub mod PrologLemmas
 pub mod RegisterLeapLemmas

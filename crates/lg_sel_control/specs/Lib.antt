@@ -1,3 +1,4 @@
+pub mod Control
 pub mod Prologs
 pub mod RegisterLeaps
 pub mod Returns
