@@ -1,11 +1,9 @@
 pub mod ActLemmas
 pub mod ComputationLemmas
 pub mod ComputerLemmas
-pub mod ComputingNodeLemmas
 pub mod IsaLemmas
 pub mod NumberCodeLemmas
 pub mod OutsideLemmas
-pub mod PlaceLemmas
 pub mod RegisterLemmas
 pub mod RowLemmas
 pub mod SlotLemmas

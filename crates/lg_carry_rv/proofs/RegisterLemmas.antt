@@ -1,20 +1,10 @@
 -- The registers of RV64IM that stand for portable ones.
-use Rattle.std.proofs.Common.{◌≡◌, ◌≢◌, ℕ, ◌<◌, Bool, true, Some, refl, ◌∙◌, arith}
-use Rattle.lg_base.specs.Conventions.{portable_register}
+use Rattle.std.proofs.Common.{◌≡◌, ◌≢◌, ℕ, ◌<◌, refl, arith}
 use Rattle.lg_base.specs.declared.target.Target.TheVariants.{Riscv64}
 use Rattle.lg_op.specs.declared.operand.Reg.{Reg}
 use Rattle.lg_op.specs.declared.operand.Reg.TheVariants.{R0, R1, R2, V0, V1, V2, Fp}
 use Rattle.lg_cpu.specs.RvStep.{read}
-use Rattle.lg_meaning.specs.States.{Frame, State, reg, number}
 use Rattle.lg_temp.specs.Abis.{register_of}
-use Rattle.lg_carry.specs.Processors.{Seen}
-use Rattle.lg_carry.specs.FinalNodes.{Code, is_inside}
-use Rattle.lg_carry.specs.Stands.{StatesAgree}
-use Rattle.lg_sel_nodes.proofs.RegisterLemmas as register
-pub use Rattle.lg_sel_nodes.proofs.RegisterLemmas.{number-few, numbered-at, same-self, only-number, some-same}
-
-pub stands-for : (d : Reg) → d ≢ Fp → register_of Riscv64 d ≡ portable_register Riscv64 (number d)
-stands-for d h = register.stands-for Riscv64 d h
 
 pub register-nonzero : (d : Reg) → register_of Riscv64 d ≢ 0
 register-nonzero R0 = λ e. absurd (omega (arith, e))
@@ -53,8 +43,3 @@ read-of w V0 = refl
 read-of w V1 = refl
 read-of w V2 = refl
 read-of w Fp = refl
-
--- a word that an operand gives is in its register
-pub given : (c : Code) (live : Frame → ℕ → Bool) (s : State) (q : Seen) (S : ℕ → Bool) (a : Reg) (x : ℕ) → StatesAgree Riscv64 c live s q S → is_inside c s.at ≡ true → (a ≢ Fp → S (number a) ≡ true) → reg s a ≡ Some x
-    → read q.registers (register_of Riscv64 a) ≡ x
-given c live s q S a x st inside m e = read-of q.registers a ∙ register.given Riscv64 c live s q S a x st inside m e

@@ -1,5 +1,4 @@
 pub mod Computations
-pub mod ComputingNodes
 pub mod Destinations
 pub mod Numbers
 pub mod Places

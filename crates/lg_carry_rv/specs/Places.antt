@@ -1,4 +1,4 @@
--- Where a node stands in an accepted text, and where its code lies.
+-- Where the code of a node lies.
 use Rattle.std.specs.Prelude.{ℕ, ◌^◌, ◌<◌, ◌≤◌, List, length}
 use Rattle.lg_base.specs.Layout.{most_code}
 use Rattle.lg_rv.specs.Spelling.{IsInstr}
@@ -6,7 +6,6 @@ use Rattle.lg_rv.specs.declared.instruction.Instr.{Instr}
 use Rattle.lg_cpu.specs.Laws.{AreBytes}
 use Rattle.lg_carry.specs.FinalNodes.{Code}
 use Rattle.lg_carry.specs.NodeBlocks.{IsNodeBlock}
-pub use Rattle.lg_carry.specs.TextNodes.{IsBehindProlog, stands_inside, NodesStandInside}
 use Rattle.lg_carry_rv.specs.RvRows.{rv_rows}
 
 -- the code that the processor runs, in which these instructions are those of node i

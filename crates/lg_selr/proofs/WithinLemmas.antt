@@ -17,7 +17,7 @@ use Rattle.lg_temp.specs.Chosen.{around}
 use Rattle.lg_temp.specs.declared.choice.Choice.{Choice}
 use Rattle.lg_selr_control.proofs.WithinLemmas.{control-items-stay, retval-items-stay}
 use Rattle.lg_selr_memory.proofs.WithinLemmas.{memory-items-stay}
-use Rattle.lg_selr_values.proofs.WithinLemmas.{value-items-stay}
+use Rattle.lg_selr_values.proofs.ValueFitLemmas.{value-items-stay}
 
 module _ (frame : ℕ) (choices : List Choice) (staged : List Bool) (place : ℕ) (live : Reg → Bool) (set : List Bool) where
   abbrev AreChosen : Op → Node → Type 0

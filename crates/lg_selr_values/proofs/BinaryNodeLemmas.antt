@@ -19,7 +19,8 @@ use Rattle.lg_carry.specs.TextNodes.{IsInText}
 use Rattle.lg_carry_rv.specs.RvComputers.{rv_scratch, rv_computer, IsComputed}
 use Rattle.lg_carry_rv.proofs.ComputerLemmas.{held-at, into}
 use Rattle.lg_carry_rv.proofs.ComputationLemmas.{all-compute-append}
-use Rattle.lg_carry_rv.proofs.RegisterLemmas.{register-apart, register-nonzero, read-of, same-self}
+use Rattle.lg_carry_rv.proofs.RegisterLemmas.{register-apart, register-nonzero, read-of}
+use Rattle.lg_sel_nodes.proofs.RegisterLemmas.{same-self}
 use Rattle.lg_selr_values.specs.BinaryCode.{register_code, number_form_code}
 use Rattle.lg_sel_values.specs.ValueNodes.{binary_node}
 use Rattle.lg_selr_values.proofs.LoadCodeLemmas.{some-same, LoadsWord, longer}

@@ -36,7 +36,8 @@ use Rattle.lg_carry_rv.specs.RvRows.{rv_processor, can_save}
 use Rattle.lg_carry_rv.specs.Places.{IsInCode}
 use Rattle.lg_sel_values.specs.Computers.{Held, HeldRead}
 use Rattle.lg_selr_values.proofs.ComputedNodeLemmas.{computed-carries}
-use Rattle.lg_carry_rv.proofs.RegisterLemmas.{read-of, stands-for, number-few, numbered-at, same-self}
+use Rattle.lg_carry_rv.proofs.RegisterLemmas.{read-of}
+use Rattle.lg_sel_nodes.proofs.RegisterLemmas.{stands-for, number-few, numbered-at, same-self}
 use Rattle.lg_carry_rv.proofs.IsaLemmas.{tried-saved}
 use Rattle.lg_selr_items.specs.Items.{settled, ones}
 use Rattle.lg_selr_values.specs.CarriedCode.{carried_code}
@@ -128,12 +129,12 @@ is-temporary n d a live staged choice named writes reads chosen =
       nonzero = saved-nonzero u (tried-saved u m.tried);
       link = λ e. spare.link 1 refl (sym e);
       carry = λ e. spare.carry 31 refl (sym e);
-      written = λ e. none-stood-for Riscv64 (is_written n) u own.1 (number d) (number-few d named) (numbered-at (is_written n) d named ∙ writes) (sym (stands-for d named) ∙ sym e);
+      written = λ e. none-stood-for Riscv64 (is_written n) u own.1 (number d) (number-few d named) (numbered-at (is_written n) d named ∙ writes) (sym (stands-for Riscv64 d named) ∙ sym e);
       read = by a refl u spare.pointer own.0;
     }
   where
     of : (b : Reg) (u : ℕ) → a ≡ b → b ≢ Fp → stands_in Riscv64 (is_read n) u ≡ false → register_of Riscv64 b ≢ u
-    of b u e ne off = λ z. none-stood-for Riscv64 (is_read n) u off (number b) (number-few b ne) (numbered-at (is_read n) b ne ∙ ap (is_read n) (sym e) ∙ reads (λ w. ne (sym e ∙ w))) (sym (stands-for b ne) ∙ z)
+    of b u e ne off = λ z. none-stood-for Riscv64 (is_read n) u off (number b) (number-few b ne) (numbered-at (is_read n) b ne ∙ ap (is_read n) (sym e) ∙ reads (λ w. ne (sym e ∙ w))) (sym (stands-for Riscv64 b ne) ∙ z)
 
     by : (b : Reg) → a ≡ b → (u : ℕ) → 8 ≢ u → stands_in Riscv64 (is_read n) u ≡ false → register_of Riscv64 b ≢ u
     by Fp e u apart off = apart

@@ -17,5 +17,4 @@ pub mod ValueFitLemmas
 pub mod ValueNodeLemmas
 pub mod WideCodeLemmas
 pub mod WideNodeLemmas
-pub mod WithinLemmas
 pub mod WordLemmas

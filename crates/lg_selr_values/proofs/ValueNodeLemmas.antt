@@ -19,7 +19,7 @@ use Rattle.lg_operators.specs.Operators.{is_carried}
 use Rattle.lg_live.specs.Registers.{is_same}
 use Rattle.lg_live.specs.Uses.{is_read, is_written}
 use Rattle.lg_meaning.specs.States.{value}
-use Rattle.lg_carry_rv.proofs.RegisterLemmas.{same-self}
+use Rattle.lg_sel_nodes.proofs.RegisterLemmas.{same-self}
 use Rattle.lg_sel_values.specs.ValueNodes.{binary_node, wide_node, unary_node, movi_node}
 use Rattle.lg_selr_values.specs.ValueItems.{computes_value}
 use Rattle.lg_selr_values.specs.ValueLaws.{ValueNodesCarry}

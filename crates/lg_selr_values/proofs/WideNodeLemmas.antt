@@ -20,7 +20,8 @@ use Rattle.lg_carry_rv.specs.Computations.{computed}
 use Rattle.lg_carry_rv.specs.RvComputers.{rv_scratch, rv_computer, IsComputed}
 use Rattle.lg_carry_rv.proofs.ComputerLemmas.{registers-computed, into}
 use Rattle.lg_carry_rv.proofs.ComputationLemmas.{computed-append, all-compute-append, read-other, put-other}
-use Rattle.lg_carry_rv.proofs.RegisterLemmas.{read-of, same-self, register-apart}
+use Rattle.lg_carry_rv.proofs.RegisterLemmas.{read-of, register-apart}
+use Rattle.lg_sel_nodes.proofs.RegisterLemmas.{same-self}
 use Rattle.lg_selr_values.specs.WideCode.{wide_code}
 use Rattle.lg_sel_values.specs.ValueNodes.{wide_node}
 use Rattle.lg_selr_values.proofs.LoadCodeLemmas.{some-same, LoadsWord, put-small, longer}
