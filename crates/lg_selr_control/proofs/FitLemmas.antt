@@ -46,7 +46,7 @@ use Rattle.lg_selr_control.specs.Prologs.{stored_registers, stores_below, fall_c
 use Rattle.lg_selr_control.specs.RegisterLeaps.{register_leap_code}
 use Rattle.lg_selr_control.specs.Returns.{return_code}
 use Rattle.lg_selr_control.specs.SumBranches.{sum_code, staying}
-use Rattle.lg_selr_control.proofs.ControlLemmas.{differ, differs, never, never-sum, host-small}
+use Rattle.lg_sel_control.proofs.ControlLemmas.{differ, differs, never, never-sum, host-small}
 
 -- ---- instructions alone have no fix and name no label
 -- what is said of a list of instructions that fit

@@ -23,7 +23,7 @@ use Rattle.lg_selr_values.proofs.ComputedNodeLemmas.{plain-carries}
 use Rattle.lg_selr_values.proofs.UnaryCodeLemmas.{unary-computed, unary-keeps, unary-computes, unary-some}
 use Rattle.lg_selr_items.specs.Items.{AreItems, ones}
 use Rattle.lg_selr_control.specs.ControlFits.{AreEmitted}
-use Rattle.lg_selr_control.proofs.ControlLemmas.{differ, never}
+use Rattle.lg_sel_control.proofs.ControlLemmas.{differ, never}
 use Rattle.lg_selr_control.proofs.FitLemmas.{plain-emitted}
 use Rattle.lg_selr_control.specs.Retvals.{extension, retval_node, retval_code, retval_items, RetvalsCarry, RetvalItemsFit}
 use Rattle.lg_selr_control.proofs.ChainLemmas.{straight-block}

@@ -3,7 +3,6 @@ use Rattle.std.proofs.Common.{ℕ, List, refl}
 use Rattle.lg_carry.specs.FinalNodes.{Code}
 use Rattle.lg_carry.specs.TextNodes.{HasPlaces}
 use Rattle.lg_carry_rv.specs.RvRows.{rv_rows}
-use Rattle.lg_carry_rv.proofs.RowLemmas.{are-rows}
 use Rattle.lg_sel_nodes.specs.Leaps as leaps
 use Rattle.lg_selr_control.specs.Targets.{IsTarget}
 use Rattle.lg_selr_control.proofs.AlignLemmas.{alignments-walk}
@@ -17,7 +16,6 @@ use Rattle.lg_selr_control.proofs.WalkLemmas.{jumps-walk, register-jumps-walk}
 
 pub is-target : IsTarget
 is-target code trash small bytes word = record {
-  rows = are-rows code trash small bytes word;
   isa = is-isa code trash small bytes word;
   branches = branches-lead code trash small bytes word;
   sum_branches = sum-branches-lead code trash small bytes word;

@@ -1,5 +1,5 @@
 -- The items of the nodes that branch, jump, call and return, of `prolog`, of `.align`, and of those without code.
-use Rattle.std.specs.Prelude.{ℕ, Bool, true, false, pos, List, [], ◌∷◌, ◌++◌, Option, Some, None}
+use Rattle.std.specs.Prelude.{ℕ, Bool, pos, List, [], ◌∷◌, ◌++◌, Option, Some, None}
 use Rattle.lg_base.specs.declared.target.Target.TheVariants.{Riscv64}
 use Rattle.lg_op.specs.declared.op.BranchSumOp.{BranchSumOp}
 use Rattle.lg_op.specs.declared.op.Condition.{Condition}
@@ -25,6 +25,7 @@ use Rattle.lg_selr_items.specs.Items.{ones}
 use Rattle.lg_selr_control.specs.Alignments.{align_code}
 use Rattle.lg_selr_control.specs.Branches.{failing, left_of, right_of, bits_code}
 use Rattle.lg_selr_control.specs.HostCalls.{host_code}
+use Rattle.lg_sel_control.specs.Control as target_control
 use Rattle.lg_sel_nodes.specs.Immediates.{immediate}
 use Rattle.lg_selr_control.specs.Prologs.{prolog_code}
 use Rattle.lg_selr_control.specs.RegisterLeaps.{register_leap_code}
@@ -116,10 +117,4 @@ control_items o xs frame at = []
 
 -- the operations whose nodes have these items
 abbrev pub is_control : Op → Bool
-is_control (op.Branch o last) = true
-is_control (op.BranchSum o last) = true
-is_control (op.Control control.Pusharg last) = false
-is_control (op.Control o last) = true
-is_control (op.Plain plain.Movi) = false
-is_control (op.Plain o) = true
-is_control o = false
+is_control o = target_control.is_control o

@@ -1,8 +1,7 @@
 -- The nodes that branch, jump, call and return, `prolog`, `.align` and those without code are carried by their items.
-use Rattle.std.specs.Prelude.{◌≡◌, ℕ, Bool, true, false, List, ◌∷◌, slice_index}
+use Rattle.std.specs.Prelude.{◌≡◌, ℕ, Bool, true, false, List, slice_index}
 use Rattle.lg_op.specs.declared.node.Node.{Node}
 use Rattle.lg_op.specs.declared.operand.Operand.{Operand}
-use Rattle.lg_op.specs.declared.operand.Operand.TheVariants as operand
 use Rattle.lg_carry.specs.FinalNodes.{Code}
 use Rattle.lg_carry.specs.NodeCode.{CarriesNode}
 use Rattle.lg_carry.specs.TextNodes.{IsInText, IsFrameOf, HasPlaces}
@@ -10,12 +9,12 @@ use Rattle.lg_carry_rv.specs.RvRows.{rv_processor}
 use Rattle.lg_selr_items.specs.Items.{settled}
 use Rattle.lg_selr_values.specs.ValueLaws.{AreWords}
 use Rattle.lg_selr_control.specs.Standing.{StandsInCode}
+use Rattle.lg_sel_control.specs.Control as target_control
 use Rattle.lg_selr_control.specs.ControlItems.{control_items, is_control}
 
 -- a branch compares with no label
 abbrev pub ends_in_label : List Operand → Bool
-ends_in_label (x ∷ y ∷ operand.Label l ∷ xs) = true
-ends_in_label xs = false
+ends_in_label xs = target_control.ends_in_label xs
 
 abbrev pub ControlNodesCarry : Type 0
 ControlNodesCarry =
