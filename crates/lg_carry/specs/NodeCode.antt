@@ -1,9 +1,5 @@
 -- What is asked of the code of a node, whatever is live behind it.
 use Rattle.std.specs.Prelude.{◌≡◌, ℕ, zero, suc, ◌+◌, ◌<◌, ◌≤◌, ◌⊎◌, Bool, true, false, ◌&&◌, ◌||◌, not, if◌then◌else◌, List, Some, None, slice_get}
-use Rattle.lg_op.specs.declared.op.Op.{Op}
-use Rattle.lg_op.specs.declared.op.Op.TheVariants as op
-use Rattle.lg_op.specs.declared.op.ControlOp.TheVariants as control
-use Rattle.lg_op.specs.declared.op.PlainOp.TheVariants as plain
 use Rattle.lg_op.specs.declared.node.Node.{Node}
 use Rattle.lg_op.specs.declared.operand.Reg.{Reg}
 use Rattle.lg_op.specs.declared.operand.Reg.TheVariants.{R0, R1, R2, V0, V1, V2}
@@ -13,6 +9,7 @@ use Rattle.lg_meaning.specs.Steps.{Goes, Undefined, called}
 use Rattle.lg_meaning.specs.Texts.{step}
 use Rattle.lg_meaning.specs.Fits.{is_call}
 use Rattle.lg_carry.specs.Processors.{Processor}
+pub use Rattle.lg_meaning.specs.Reaching.{is_return}
 use Rattle.lg_carry.specs.FinalNodes.{Code}
 use Rattle.lg_carry.specs.Frames.{at_call}
 use Rattle.lg_carry.specs.Stands.{Stands}
@@ -31,12 +28,6 @@ numbered set r = false
 -- before a node those are live that it reads, and those that are live behind it and that it does not write
 abbrev pub live_before : Node → (ℕ → Bool) → ℕ → Bool
 live_before n S r = numbered (is_read n) r || (S r && not (numbered (is_written n) r))
-
-abbrev pub is_return : Op → Bool
-is_return (op.Control control.Ret last) = true
-is_return (op.Plain plain.Ret) = true
-is_return (op.Plain plain.Epilog) = true
-is_return o = false
 
 -- behind a return those are live that were to be live at the return of the frame that is left, and behind every other node those of the set
 abbrev pub live_behind : (Frame → ℕ → Bool) → Node → (ℕ → Bool) → State → State → ℕ → Bool
