@@ -1,3 +1,4 @@
+pub mod GoodItemLemmas
 pub mod HoleLemmas
 pub mod ListLemmas
 pub mod NodeLemmas

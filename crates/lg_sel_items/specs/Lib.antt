@@ -1,2 +1,3 @@
+pub mod GoodItems
 pub mod Holes
 pub mod NodeItems

@@ -2,6 +2,7 @@
 
 ghost use Rattle.std.specs.Prelude.{ℕ, List};
 ghost use Rattle.lg_carry.specs.Rows.{Rows};
+ghost use Rattle.lg_sel_items.specs.GoodItems.{GoodItemsSettle, GoodItemsAreBlocks};
 ghost use Rattle.lg_sel_items.specs.Holes.{Holes, AreHoles, ItemsAreSettled};
 ghost use Rattle.lg_sel_items.specs.NodeItems.{InstructionsStay, ItemsAreNodeCode, ItemsAreNodeBlocks};
 
@@ -51,4 +52,20 @@ pub fn items_are_node_code<T: HasHoles>()
 /// Where the items of a node follow one another, they are a block of the node.
 pub fn items_are_node_blocks<T: HasHoles>()
     ensures { ItemsAreNodeBlocks T.holes T.rows T.fits T.stays T.is_item }
+{}
+
+/// Items of a target of which each may be good.
+pub trait HasGoodItems: HasHoles {
+    /// Whether an item is good.
+    ghost good: { Self.Item → Type 0 };
+}
+
+/// What each good item's instructions are, those of good items in a row are.
+pub fn good_items_stay<T: HasGoodItems>()
+    ensures { GoodItemsSettle T.holes T.good T.stays }
+{}
+
+/// Where each good item's instructions are followed by the next, those of good items in a row are a block.
+pub fn good_items_are_blocks<T: HasGoodItems>()
+    ensures { GoodItemsAreBlocks T.holes T.rows.is_straight T.good }
 {}

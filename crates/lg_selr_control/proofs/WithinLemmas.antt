@@ -38,7 +38,8 @@ use Rattle.lg_selr_items.proofs.WithinLemmas.{In, portable, Within, join, stay-a
 use Rattle.lg_selr_control.specs.ControlFits.{ControlItemsStay}
 use Rattle.lg_selr_control.specs.Retvals.{RetvalItemsStay}
 use Rattle.lg_carry_rv.proofs.RegisterLemmas.{register-small}
-use Rattle.lg_selr_values.proofs.FitLemmas.{within-of, unary-good}
+use Rattle.lg_selr_items.proofs.GoodLemmas.{within-of}
+use Rattle.lg_selr_values.proofs.FitLemmas.{unary-good}
 
 -- ---- branches, jumps, calls and returns
 word : (t : ℕ) (x : Operand) → In t → StayWithin (word_items t (immediate x))

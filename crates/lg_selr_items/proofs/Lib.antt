@@ -1,3 +1,4 @@
+pub mod GoodLemmas
 pub mod ItemLemmas
 pub mod NodeLemmas
 pub mod PatchLemmas

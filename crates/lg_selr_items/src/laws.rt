@@ -1,5 +1,6 @@
 // What holds of the items of a node. The functions do nothing: their contracts are the laws.
 
+ghost use Rattle.lg_selr_items.specs.GoodItems.{GoodItemsAreAppendable};
 ghost use Rattle.lg_selr_items.specs.Items.{RvHoles, WordsAppend};
 ghost use Rattle.lg_selr_items.specs.OfNodes.{ItemsAreInCode, ItemsAreNodeCode};
 
@@ -21,4 +22,9 @@ pub fn items_are_node_code()
 /// Where the items of a node follow one another, they are a block of the node.
 pub fn items_are_in_code()
     ensures { ItemsAreInCode }
+{}
+
+/// Good items are in range, write no register outside of the conventions, and are a block.
+pub fn good_items_are_appendable()
+    ensures { GoodItemsAreAppendable }
 {}

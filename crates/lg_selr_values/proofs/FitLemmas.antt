@@ -1,9 +1,7 @@
 -- The items of the nodes that compute values: their instructions are in range, write no register outside of the conventions, and each is followed by
 -- the next.
-use Rattle.std.proofs.Common.{◌≡◌, ℕ, ◌+◌, ◌%◌, ◌<◌, zero, suc, Bool, true, false, List, [], ◌∷◌, ◌++◌, refl, arith}
-use Rattle.std.specs.Prelude.{if◌then◌else◌, pos, negsuc, ◌≤ℤ◌, ⊤}
-use Rattle.std.specs.List.{All}
-use Rattle.std.proofs.lemmas.List.Elements.{All-head, All-tail}
+use Rattle.std.proofs.Common.{ℕ, ◌%◌, ◌<◌, zero, suc, Bool, true, false, List, ◌++◌, refl, arith}
+use Rattle.std.specs.Prelude.{if◌then◌else◌, pos, negsuc, ◌≤ℤ◌}
 use Rattle.lg_base.specs.HostNames.{host_address}
 use Rattle.lg_base.specs.Words.{negated}
 use Rattle.lg_base.specs.declared.target.Target.TheVariants.{Riscv64}
@@ -22,47 +20,23 @@ use Rattle.lg_operators.specs.Operators.{is_carried}
 use Rattle.lg_rv.specs.Spelling.{IsInstr}
 use Rattle.lg_rv.specs.declared.instruction.ImmOp.TheVariants.{Addi}
 use Rattle.lg_temp.specs.Abis.{register_of}
-use Rattle.lg_carry_rv.proofs.NumberCodeLemmas.{low-small, number-fits}
+use Rattle.lg_carry_rv.proofs.NumberCodeLemmas.{low-small}
 use Rattle.lg_carry_rv.proofs.RegisterLemmas.{register-small}
 use Rattle.lg_selr_values.specs.BinaryCode.{register_code, is_addend, loaded_code, addend_code, sum_code, number_form_code}
 use Rattle.lg_selr_values.specs.CarriedCode.{carried_code}
 use Rattle.lg_selr_values.specs.UnaryCode.{more_bytes_code, swapped_code, unary_code}
 use Rattle.lg_selr_values.specs.WideCode.{wide_code}
 use Rattle.lg_selr_values.specs.ValueItems.{load_items, binary_items, second_items, carried_items, wide_items, operation_items, register_for, register_in, operand_in, body_items}
-use Rattle.lg_carry.specs.Blocks.{IsBlock}
-use Rattle.lg_carry_rv.specs.Destinations.{WritesWithin}
-use Rattle.lg_carry_rv.specs.Numbers.{is_short, is_half, short_code, half_code, long_code, low_part, number_code}
-use Rattle.lg_carry_rv.specs.RvRows.{is_straight}
+use Rattle.lg_carry_rv.specs.Numbers.{low_part, number_code}
 use Rattle.lg_rv.specs.declared.instruction.Instr.{Instr}
 use Rattle.lg_rv.specs.declared.instruction.Instr.TheVariants.{Imm}
 use Rattle.lg_sel_items.specs.Holes.{Each}
-use Rattle.lg_sel_items.proofs.ListLemmas.{each-append}
-use Rattle.lg_selr_items.specs.declared.items.Item.{Item}
-use Rattle.lg_selr_items.specs.declared.items.Item.TheVariants.{One, Jump, Address}
-use Rattle.lg_selr_items.specs.Items.{settled, ones, AreItems, StayWithin}
-use Rattle.lg_selr_items.proofs.WithinLemmas.{In, portable, Within, number}
+use Rattle.lg_selr_items.specs.Items.{ones}
+use Rattle.lg_selr_items.specs.GoodItems.{Fine, AreGood, IsGoodItem}
+use Rattle.lg_selr_items.proofs.WithinLemmas.{portable}
+use Rattle.lg_selr_items.proofs.GoodLemmas.{good-append, link-fine, carry-fine, number-good, ones-good, items-good}
 
 -- ---- instructions
--- a register that there is, and that is not outside of the conventions
-abbrev pub Fine : ℕ → Type 0
-Fine rd = (rd < 32) × In rd
-
--- an instruction is in range, writes no register that is outside, and is followed by the next
-abbrev pub IsGood : Instr → Type 0
-IsGood i = IsInstr i × WritesWithin i × (is_straight i ≡ true)
-
-abbrev pub AreGood : List Instr → Type 0
-AreGood [] = ⊤
-AreGood (i ∷ is) = IsGood i × AreGood is
-
-good-append : (xs ys : List Instr) → AreGood xs → AreGood ys → AreGood (xs ++ ys)
-good-append [] ys h k = k
-good-append (x ∷ xs) ys h k = (h.0, good-append xs ys h.1 k)
-
-pub within-of : (is : List Instr) → AreGood is → Within is
-within-of [] h = tt
-within-of (i ∷ is) h = (h.0.1, within-of is h.1)
-
 small-number : (n : ℕ) → n < 2048 → (negsuc 2047 ≤ℤ pos n) × (pos n ≤ℤ pos 2047)
 small-number n h = (grind arith, grind (arith, h))
 
@@ -71,29 +45,6 @@ imm-fits d a n h k lt = let s = small-number n lt in (h, k, s.0, s.1)
 
 low-fits : (d a v : ℕ) → d < 32 → a < 32 → IsInstr (Imm Addi d a (low_part v))
 low-fits d a v h k = let s = low-small v in (h, k, s.0, s.1)
-
--- x1 and x31
-link-fine : Fine 1
-link-fine = (omega arith, refl)
-
-carry-fine : Fine 31
-carry-fine = (omega arith, refl)
-
-number-good : (rd v : ℕ) → Fine rd → AreGood (number_code rd v)
-number-good rd v h = all (number_code rd v) (number-fits rd v h.0) (number rd v h.1) (straight (is_short v) (is_half v))
-  where
-    Straight : List Instr → Type 0
-    Straight [] = ⊤
-    Straight (i ∷ is) = (is_straight i ≡ true) × Straight is
-
-    all : (is : List Instr) → All IsInstr is → Within is → Straight is → AreGood is
-    all [] f w s = tt
-    all (i ∷ is) f w s = ((All-head IsInstr i is f, w.0, s.0), all is (All-tail IsInstr i is f) w.1 s.1)
-
-    straight : (b c : Bool) → Straight (if b then short_code rd v else if c then half_code rd v else long_code rd v)
-    straight true c = (refl, tt)
-    straight false true = (refl, (refl, tt))
-    straight false false = (refl, (refl, (refl, (refl, (refl, (refl, (refl, (refl, tt))))))))
 
 pub register-good : (o : BinaryOp) (d a b : ℕ) → Fine d → a < 32 → b < 32 → AreGood (register_code o d a b)
 register-good binary.Rsb d a b h k l = (((h.0, l, k), h.1, refl), tt)
@@ -199,49 +150,6 @@ wide-good wide.Div d e a b h i k l = (((omega arith, k, l), refl, refl), (((i.0,
 wide-good wide.DivU d e a b h i k l = (((omega arith, k, l), refl, refl), (((i.0, k, l), i.1, refl), ((imm-fits d 1 0 h.0 (omega arith) (omega arith), h.1, refl), tt)))
 
 -- ---- items
-abbrev pub IsGoodItem : Item → Type 0
-IsGoodItem (One i) = IsGood i
-IsGoodItem (Jump rd label) = ⊥
-IsGoodItem (Address rd label) = Fine rd
-
-pub fit-of : (xs : List Item) → Each IsGoodItem xs → AreItems xs
-fit-of [] h = tt
-fit-of (One i ∷ xs) h = (h.0.0, fit-of xs h.1)
-fit-of (Jump rd label ∷ xs) h = absurd h.0
-fit-of (Address rd label ∷ xs) h = (h.0.0, fit-of xs h.1)
-
-pub stay-of : (xs : List Item) → Each IsGoodItem xs → StayWithin xs
-stay-of [] h = tt
-stay-of (One i ∷ xs) h = (h.0.1, stay-of xs h.1)
-stay-of (Jump rd label ∷ xs) h = absurd h.0
-stay-of (Address rd label ∷ xs) h = (h.0.1, stay-of xs h.1)
-
--- each instruction is followed by the next
-pub block-of : (to : ℕ → ℕ) (p : ℕ) (xs : List Item) → Each IsGoodItem xs → IsBlock is_straight (settled to p xs)
-block-of to p xs h = block (settled to p xs) (straight p xs h)
-  where
-    Straight : List Instr → Type 0
-    Straight [] = ⊤
-    Straight (i ∷ is) = (is_straight i ≡ true) × Straight is
-
-    block : (is : List Instr) → Straight is → IsBlock is_straight is
-    block [] s = tt
-    block (i ∷ []) s = tt
-    block (i ∷ j ∷ is) s = (s.0, block (j ∷ is) s.1)
-
-    straight : (p : ℕ) (xs : List Item) → Each IsGoodItem xs → Straight (settled to p xs)
-    straight p [] h = tt
-    straight p (One i ∷ xs) h = (h.0.2, straight (p + 4) xs h.1)
-    straight p (Jump rd label ∷ xs) h = absurd h.0
-    straight p (Address rd label ∷ xs) h = (refl, (refl, straight (p + 8) xs h.1))
-
-ones-good : (is : List Instr) → AreGood is → Each IsGoodItem (ones is)
-ones-good [] h = tt
-ones-good (i ∷ is) h = (h.0, ones-good is h.1)
-
-pub items-good : (xs ys : List Item) → Each IsGoodItem xs → Each IsGoodItem ys → Each IsGoodItem (xs ++ ys)
-items-good = each-append IsGoodItem
-
 load-good : (t : ℕ) (x : Operand) → Fine t → Each IsGoodItem (load_items t x)
 load-good t (operand.Number v) h = ones-good (number_code t v) (number-good t v h)
 load-good t (operand.Host name) h = ones-good (number_code t (host_address name)) (number-good t (host_address name) h)

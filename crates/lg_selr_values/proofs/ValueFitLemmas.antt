@@ -32,7 +32,9 @@ use Rattle.lg_selr_values.specs.UnaryCode.{unary_code}
 use Rattle.lg_selr_values.specs.WideCode.{wide_code}
 use Rattle.lg_selr_values.specs.ValueItems.{value_needs, first_taken, load_items, binary_items, second_items, carried_items, wide_items, operation_items, operand_in, register_in, body_items, saved_items, value_items, HaveSlots}
 use Rattle.lg_selr_values.specs.ValueFits.{AreValueItems, ValueItemsFit, ValueItemsStay, NamesBelow, NameBelow, ValueItemsName}
-use Rattle.lg_selr_values.proofs.FitLemmas.{Fine, IsGoodItem, fit-of, stay-of, block-of, items-good, body-good}
+use Rattle.lg_selr_items.specs.GoodItems.{Fine, IsGoodItem}
+use Rattle.lg_selr_items.proofs.GoodLemmas.{items-good, good-items-are-appendable}
+use Rattle.lg_selr_values.proofs.FitLemmas.{body-good}
 use Rattle.lg_selr_items.proofs.WithinLemmas.{In}
 use Rattle.lg_sel_items.specs.Holes.{Each}
 use Rattle.lg_op.specs.declared.operand.Reg.{Reg}
@@ -70,7 +72,9 @@ fine r h = (save-small r (tried-saved r h), tried r h)
 
 -- good items with this choice, or none
 good : (n : Node) (choices : List Choice) → length choices ≤ 1 → HaveSlots choices → words_in (value_items n choices) ≤ 32 → Each IsGoodItem (value_items n choices) → AreValueItems n choices
-good n choices few slots short h = record { few = few; slots = slots; fit = fit-of (value_items n choices) h; short = short; block = λ to at. block-of to at (value_items n choices) h }
+good n choices few slots short h =
+    let a = good-items-are-appendable (value_items n choices) h in
+    record { few = few; slots = slots; fit = a.fit; short = short; block = a.block }
 
 none-good : (n : Node) → Each IsGoodItem (value_items n [])
 none-good n = body-good n.op n.operands 0 (omega arith, refl)
@@ -121,7 +125,7 @@ pub value-items-fit : ValueItemsFit
 value-items-fit n live staged choices h = (fine-items n live staged choices h).are
 
 pub value-items-stay : ValueItemsStay
-value-items-stay n live staged choices h = stay-of (value_items n choices) (fine-items n live staged choices h).good
+value-items-stay n live staged choices h = (good-items-are-appendable (value_items n choices) (fine-items n live staged choices h).good).within
 
 -- ---- labels
 load-names : (labels t : ℕ) (x : Operand) → NamesBelow labels x → NameLabels labels (load_items t x)
