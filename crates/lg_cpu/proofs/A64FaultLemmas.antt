@@ -1,6 +1,6 @@
 -- A step of AArch64 that faults leaves everything as it was.
 use Rattle.std.proofs.Common.{ℕ, ◌-◌, ◌*◌, ◌%◌, Bool, true, false, List, drop, Option, Some, None, refl}
-use Rattle.std.specs.Prelude.{◌==◌, if◌then◌else◌}
+use Rattle.std.specs.Prelude.{◌==◌}
 use Rattle.lg_base.specs.Fields.{word_of}
 use Rattle.lg_base.specs.Layout.{code_base}
 use Rattle.lg_base.specs.Spaces.{mapped, loaded}

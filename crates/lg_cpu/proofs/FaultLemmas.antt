@@ -1,5 +1,5 @@
 -- A step that faults leaves everything as it was: what the processors share.
-use Rattle.std.proofs.Common.{ℕ, Bool, true, false, List, Option, refl}
+use Rattle.std.proofs.Common.{ℕ, Bool, true, false, Option, refl}
 use Rattle.std.specs.Prelude.{◌==◌, if◌then◌else◌}
 use Rattle.lg_base.specs.Layout.{stop_address}
 use Rattle.lg_base.specs.declared.fault.FaultKind.{FaultKind}

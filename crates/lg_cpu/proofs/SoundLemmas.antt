@@ -1,8 +1,7 @@
 -- Words stay words on RV64IM.
-use Rattle.std.proofs.Common.{◌≡◌, ℕ, zero, suc, ◌+◌, ◌-◌, ◌*◌, ◌/◌, ◌%◌, ◌^◌, ◌<◌, Bool, true, false, List, [], ◌∷◌, ◌++◌, drop, map, Option, Some, None, refl, arith}
-use Rattle.std.specs.Prelude.{◌==◌, ◌&&◌, not, nat_lt, slice_index, is_some, unwrap_or, IfSome, ℤ, pos, negsuc, ◌≤ℤ◌, if◌then◌else◌}
+use Rattle.std.proofs.Common.{◌≡◌, ℕ, ◌+◌, ◌-◌, ◌*◌, ◌/◌, ◌%◌, ◌^◌, ◌<◌, Bool, true, false, List, ◌++◌, drop, Option, Some, None, refl, arith}
+use Rattle.std.specs.Prelude.{◌==◌, IfSome, ℤ, pos, negsuc, ◌≤ℤ◌}
 use Rattle.std.proofs.lemmas.Int.{ints}
-use Rattle.std.proofs.lemmas.List.{get_or-drop}
 use Rattle.lg_base.specs.Fields.{word_of}
 use Rattle.lg_base.specs.Layout.{code_base}
 use Rattle.lg_base.specs.Words.{add_words, sign_32}
@@ -22,14 +21,14 @@ use Rattle.lg_rv.specs.declared.instruction.UpperOp.TheVariants.{Lui, Auipc}
 use Rattle.lg_rv.specs.declared.instruction.ImmOp.{ImmOp}
 use Rattle.lg_rv.specs.declared.instruction.ImmOp.TheVariants.{Jalr, Lb, Lh, Lw, Ld, Lbu, Lhu, Lwu, Addi, Slti, Sltiu, Xori, Ori, Andi, Addiw}
 use Rattle.lg_rv.specs.declared.instruction.RegOp.TheVariants.{Add, Slt, Sltu, Xor, Or, And, Addw}
-use Rattle.lg_cpu.specs.Steps.{Effect, faults}
+use Rattle.lg_cpu.specs.Steps.{faults}
 use Rattle.lg_cpu.specs.HostSteps.{answer_at, put, behind_call}
 use Rattle.lg_cpu.specs.RvOperators.{reg_value, is_taken}
 use Rattle.lg_cpu.specs.States.{CpuState}
 use Rattle.lg_cpu.specs.Loads.{extended_by}
 use Rattle.lg_cpu.specs.RvStep.{read, goes, sets, loads, load_at, store_at, store_width, jump_to, branch_to, imm_effect, act, decoded, in_code, fetch, host_effect, enter_host, effect_at, effect}
 use Rattle.lg_cpu.specs.Laws.{IsSound, AreBytes}
-use Rattle.lg_cpu.proofs.WordLemmas.{Sound, AreWords, loaded_lt, stored_sound, put_words, sound_arrives, sound_choice, drop_bytes, behind_words, sound_host_step}
+use Rattle.lg_cpu.proofs.WordLemmas.{AreWords, loaded_lt, stored_sound, put_words, sound_arrives, sound_choice, drop_bytes, behind_words, sound_host_step}
 use Rattle.lg_cpu.proofs.OperatorLemmas.{low_word, sign_32_word, choice_word, reg_word, shift_word, sign_1_word, sign_2_word, sign_4_word}
 
 -- ---- registers

@@ -1,5 +1,5 @@
 -- Words stay words: what the processors share.
-use Rattle.std.proofs.Common.{◌≡◌, ℕ, zero, suc, ◌+◌, ◌-◌, ◌*◌, ◌/◌, ◌%◌, ◌^◌, ◌<◌, Bool, true, false, List, [], ◌∷◌, ◌++◌, length, drop, map, Option, Some, None, refl, arith}
+use Rattle.std.proofs.Common.{◌≡◌, ℕ, zero, suc, ◌+◌, ◌-◌, ◌/◌, ◌%◌, ◌^◌, ◌<◌, Bool, true, false, List, [], ◌∷◌, ◌++◌, length, drop, map, Option, Some, None, refl, arith}
 use Rattle.std.specs.Prelude.{◌==◌, ◌&&◌, not, nat_lt, slice_index, is_some, unwrap_or, if◌then◌else◌}
 use Rattle.std.proofs.lemmas.List.{get_or-drop}
 use Rattle.lg_base.specs.Words.{add_words}
@@ -9,7 +9,7 @@ use Rattle.lg_base.specs.declared.flags.Flags.{Flags}
 use Rattle.lg_base.specs.declared.host_name.HostName.{HostName}
 use Rattle.lg_base.specs.declared.target.Target.{Target}
 use Rattle.lg_base.proofs.SpaceLemmas.{number_at-lt}
-use Rattle.lg_host.specs.Host.{Host as Answer, Gives, Exits, Undefined, Mem, host_of, memory}
+use Rattle.lg_host.specs.Host.{Host as Answer, Gives, Exits, Undefined, Mem, memory}
 use Rattle.lg_host.specs.HostLaws.{OnGives, IsAllowed}
 use Rattle.lg_host.specs.HostLaws as host
 use Rattle.lg_host.proofs.HostLawLemmas.{host_of-allowed}

@@ -1,5 +1,5 @@
 -- A step of x86-64 that faults leaves everything as it was.
-use Rattle.std.proofs.Common.{ℕ, ◌-◌, ◌%◌, Bool, true, false, List, drop, Option, Some, None, refl}
+use Rattle.std.proofs.Common.{ℕ, ◌-◌, ◌%◌, Bool, List, drop, Option, Some, None, refl}
 use Rattle.std.specs.Prelude.{◌==◌}
 use Rattle.lg_base.specs.Fields.{word_of}
 use Rattle.lg_base.specs.Layout.{code_base}

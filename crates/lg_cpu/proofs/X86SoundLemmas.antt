@@ -1,6 +1,6 @@
 -- Words stay words on x86-64.
-use Rattle.std.proofs.Common.{◌≡◌, ℕ, ◌+◌, ◌-◌, ◌*◌, ◌/◌, ◌%◌, ◌^◌, ◌<◌, ◌≤◌, Bool, true, false, List, ◌++◌, drop, Option, Some, None, refl, arith}
-use Rattle.std.specs.Prelude.{◌==◌, ◌||◌, nat_le, nat_lt, length, slice_index, IfSome, bit_and, if◌then◌else◌}
+use Rattle.std.proofs.Common.{◌≡◌, ℕ, ◌+◌, ◌-◌, ◌*◌, ◌/◌, ◌%◌, ◌^◌, ◌<◌, ◌≤◌, Bool, true, false, List, drop, Option, Some, None, refl, arith}
+use Rattle.std.specs.Prelude.{◌==◌, ◌||◌, nat_le, nat_lt, IfSome, bit_and, if◌then◌else◌}
 use Rattle.std.proofs.Math.Nat.{mod-lt, div-lt_iff_lt-mul}
 use Rattle.std.proofs.lemmas.Nat.{and_le_l, or_lt, xor_lt}
 use Rattle.lg_base.specs.CarryFlags.{carry_of}
@@ -33,13 +33,13 @@ use Rattle.lg_x86.specs.declared.instruction.StackOp.TheVariants.{Push, Pop}
 use Rattle.lg_x86.specs.declared.instruction.JumpNearOp.TheVariants.{Jmp32, Call32}
 use Rattle.lg_x86.specs.declared.instruction.JumpRegOp.TheVariants.{Jmpr, Callr}
 use Rattle.lg_x86.specs.declared.instruction.BareOp.TheVariants.{Cqo, Ret, Nop}
-use Rattle.lg_cpu.specs.HostSteps.{answer_at, put, behind_call}
+use Rattle.lg_cpu.specs.HostSteps.{put, behind_call}
 use Rattle.lg_cpu.specs.RvStep.{in_code}
-use Rattle.lg_cpu.specs.States.{CpuState, arrives}
-use Rattle.lg_cpu.specs.Steps.{Effect, faults}
+use Rattle.lg_cpu.specs.States.{CpuState}
+use Rattle.lg_cpu.specs.Steps.{faults}
 use Rattle.lg_cpu.specs.X86Operators.{no_flags, bit, carry_for, alu_value, alu_flags, is_kept_by, alu_of, sign_word, reg_rm_value, shift_value, condition}
 use Rattle.lg_cpu.specs.X86Step.{Scene, scene_of, sets, with_flags, with_register, with_carry, load_value, sets_loaded, loads, store_width, stores, sets_wide, sets_quotient, one_register, pops, pushes, sets_byte, made}
-use Rattle.lg_cpu.specs.X86Step.{fault_of, goes, goes_with, goes_where, returns, does, decoded, fetch, popped, host_effect, takes_al, enter_with, enter_host, effect_at, effect}
+use Rattle.lg_cpu.specs.X86Step.{fault_of, goes_with, goes_where, returns, does, decoded, fetch, popped, takes_al, enter_with, enter_host, effect_at, effect}
 use Rattle.lg_cpu.specs.Laws.{IsSound, AreBytes}
 use Rattle.lg_cpu.proofs.OperatorLemmas.{low_word, choice_word, quotient_word, high_word, high_product_word, sign_1_word, sign_2_word, sign_4_word}
 use Rattle.lg_cpu.proofs.WordLemmas.{Sound, AreWords, loaded_lt, stored_sound, put_words, sound_arrives, sound_goes_on, sound_choice, drop_bytes, behind_words, sound_host_step}

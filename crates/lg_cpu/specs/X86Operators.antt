@@ -1,7 +1,7 @@
 -- What the instructions of x86-64 make of words and flags (Intel 64 and IA-32 Architectures Software Developer's Manual, volume 2). A flag is 0 or 1,
 -- or undefined.
-use Rattle.std.specs.Prelude.{ℕ, ◌+◌, ◌-◌, ◌*◌, ◌/◌, ◌%◌, ◌^◌, ◌==◌, ◌||◌, not, Bool, true, false, bit_and, bit_or, bit_xor, Option, Some, None, if◌then◌else◌}
-use Rattle.lg_base.specs.Words.{add_words, sub_words, mul_words, negated, complement, is_negative, differ, high_product, high_product_signed, shifted_left, shifted_right, shifted_right_signed, carry_out, borrow_out}
+use Rattle.std.specs.Prelude.{ℕ, ◌+◌, ◌-◌, ◌/◌, ◌%◌, ◌^◌, ◌==◌, ◌||◌, not, Bool, true, false, bit_and, bit_or, bit_xor, Option, Some, None, if◌then◌else◌}
+use Rattle.lg_base.specs.Words.{add_words, sub_words, mul_words, negated, is_negative, differ, high_product, high_product_signed, shifted_left, shifted_right, shifted_right_signed, carry_out, borrow_out}
 use Rattle.lg_base.specs.Wide.{zero_part_of, sign_part_of}
 use Rattle.lg_base.specs.declared.flags.Flags.{Flags}
 use Rattle.lg_base.specs.declared.flags.Flags.TheVariants.{Rflags}

@@ -1,5 +1,5 @@
 -- The x86-64 processor: what a step of it does, whatever the bytes are (Intel 64 and IA-32 Architectures Software Developer's Manual, volume 2).
-use Rattle.std.specs.Prelude.{ℕ, ◌+◌, ◌-◌, ◌*◌, ◌/◌, ◌%◌, ◌==◌, Bool, true, false, nat_le, nat_lt, List, [], length, drop, Option, Some, None, if◌then◌else◌}
+use Rattle.std.specs.Prelude.{ℕ, ◌+◌, ◌-◌, ◌*◌, ◌/◌, ◌%◌, ◌==◌, Bool, true, nat_le, nat_lt, List, drop, Option, Some, None, if◌then◌else◌}
 use Rattle.lg_base.specs.Fields.{word_of}
 use Rattle.lg_base.specs.Words.{add_words, sub_words, mul_words, negated, complement, high_product, high_product_signed}
 use Rattle.lg_base.specs.Wide.{sign_part_of, swapped, quotient_wide, quotient_wide_signed}
@@ -26,15 +26,10 @@ use Rattle.lg_x86.specs.declared.instruction.UnaryOp.{UnaryOp}
 use Rattle.lg_x86.specs.declared.instruction.UnaryOp.TheVariants.{Not, Neg, Mul, Imul1, Div, Idiv, Shl, Shr, Sar}
 use Rattle.lg_x86.specs.declared.instruction.ShiftOp.{ShiftOp}
 use Rattle.lg_x86.specs.declared.instruction.ShiftOp.TheVariants.{Shli, Shri, Sari}
-use Rattle.lg_x86.specs.declared.instruction.StackOp.{StackOp}
 use Rattle.lg_x86.specs.declared.instruction.StackOp.TheVariants.{Push, Pop}
-use Rattle.lg_x86.specs.declared.instruction.JumpNearOp.{JumpNearOp}
 use Rattle.lg_x86.specs.declared.instruction.JumpNearOp.TheVariants.{Jmp32, Call32}
-use Rattle.lg_x86.specs.declared.instruction.JumpRegOp.{JumpRegOp}
 use Rattle.lg_x86.specs.declared.instruction.JumpRegOp.TheVariants.{Jmpr, Callr}
-use Rattle.lg_x86.specs.declared.instruction.BareOp.{BareOp}
 use Rattle.lg_x86.specs.declared.instruction.BareOp.TheVariants.{Cqo, Ret, Nop}
-use Rattle.lg_x86.specs.declared.instruction.Cond.{Cond}
 use Rattle.lg_x86.specs.Reading.{front_of}
 use Rattle.lg_cpu.specs.Steps.{Effect, faults}
 use Rattle.lg_cpu.specs.States.{CpuState, arrives, goes_on}

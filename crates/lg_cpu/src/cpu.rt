@@ -42,10 +42,11 @@ fn is_counted(answer: CpuStep) -> bool
 impl Cpu {
     ghost use Rattle.lg_cpu.specs.Machines.{shown, shown_at_start, CpuSays, StepShows, inner, effect_in, after_set, after_set_flags, after_jump, after_store};
 
-    /// A processor before its first step: at the first address of the code, with the data part and the argument part in
+    /// A processor of a target before its first step: at the first address of the code, with the data part and the argument part in
     /// memory and zeros elsewhere. It finds the number of the argument part's strings and the part's address in the registers
-    /// of the first two arguments, and the trash word in every register that no convention sets. The code has at most 67,108,864 bytes, the data part at most 16,777,216, and the argument part
-    /// at most 1,048,576. No other call takes memory.
+    /// of the first two arguments, and the trash word in every register that no convention sets. On x86-64 no flag is defined, and
+    /// the stop address stands at the stack pointer. The code has at most 67,108,864 bytes, the data part at most 16,777,216, and the
+    /// argument part at most 1,048,576. No other call takes memory.
     pub fn new(
         alloc: Global,
         target: Target,

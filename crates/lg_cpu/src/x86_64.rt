@@ -73,7 +73,8 @@ impl X86_64 {
     ghost use Rattle.lg_cpu.specs.RvStep.{in_code};
     ghost use Rattle.lg_cpu.specs.States.{goes_on};
     ghost use Rattle.lg_cpu.specs.X86Operators.{bit, condition};
-    ghost use Rattle.lg_cpu.specs.X86Step.{with_register, with_flags, with_wide, combined_with, combined, loads, sets_loaded, stores, shifted, sets_quotient, one_register};
+    ghost use Rattle.lg_cpu.specs.X86Step.{with_register, with_flags, with_wide, combined_with, combined, loads, sets_loaded, stores};
+    ghost use Rattle.lg_cpu.specs.X86Step.{shifted, sets_quotient, one_register};
     ghost use Rattle.lg_cpu.specs.X86Step.{pops, pushes, sets_byte, goes_where, returns, does, fetch};
     ghost use Rattle.lg_cpu.specs.Machines as machines;
     ghost use Rattle.lg_cpu.specs.Machines.{x86_scene, x86_state, x86_inner, with_state, is_rest, Does, Leads, Makes};

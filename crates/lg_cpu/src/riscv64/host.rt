@@ -100,7 +100,9 @@ impl Riscv64 {
         }
     }
 
-    // Takes a step where no code stands: runs the host function whose entry stands there, or faults.
+    // Takes a step where no code stands: runs the host function whose entry stands there, or faults. Apart from the steps over code, which
+    // are short without it.
+    #[inline(never)]
     fn step_outside<O: Sink>(&mut self, out: &mut O) -> CpuStep
         requires { in_code self.old.board.code.items self.old.pc ≡ false }
         ensures says { StepSays (effect_in (rv_inner self.old)) (rv_inner self.old) (rv_inner self.new)

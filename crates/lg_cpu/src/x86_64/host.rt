@@ -142,7 +142,9 @@ impl X86_64 {
         }
     }
 
-    // Takes a step where no code stands: runs the host function whose entry stands there, or faults.
+    // Takes a step where no code stands: runs the host function whose entry stands there, or faults. Apart from the steps over code, which
+    // are short without it.
+    #[inline(never)]
     fn step_outside<O: Sink>(&mut self, out: &mut O) -> CpuStep
         requires { in_code self.old.board.code.items self.old.pc ≡ false }
         ensures says { StepSays (effect_in (x86_inner self.old)) (x86_inner self.old) (x86_inner self.new)
@@ -155,7 +157,8 @@ impl X86_64 {
         }
     }
 
-    /// Takes one step, whether the run is over or not.
+    /// Takes one step, whether the run is over or not. In a function of its own it keeps the step of the processor beside it short.
+    #[inline(never)]
     pub fn step<O: Sink>(&mut self, out: &mut O) -> CpuStep
         ensures says { StepSays (effect_in (x86_inner self.old)) (x86_inner self.old) (x86_inner self.new)
             (O.taken out.old) (O.taken out.new) (O.faults out.old) (O.faults out.new) result }
