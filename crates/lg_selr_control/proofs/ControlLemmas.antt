@@ -62,7 +62,7 @@ ones-settled : (to : ℕ → ℕ) (at : ℕ) (xs ys : List Instr) → settled to
 ones-settled to at xs ys = ap (settled to at) (sym (ones-append xs ys)) ∙ settled-ones to at (xs ++ ys)
 
 -- ---- the items of a node are its code
-second-is : (x : Operand) → second_items x ≡ ones (second_code x)
+pub second-is : (x : Operand) → second_items x ≡ ones (second_code x)
 second-is (operand.Reg b) = refl
 second-is (operand.Number v) = refl
 second-is (operand.Host name) = refl

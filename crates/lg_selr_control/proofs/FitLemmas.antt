@@ -38,15 +38,17 @@ use Rattle.lg_selr_items.specs.Items.{bytes_in, fixes_of, IsItem, AreItems, ones
 use Rattle.lg_selr_items.proofs.ItemLemmas.{words_append, items-append, names-append, fixes-append, words-ones, items-ones, names-ones, fixes-ones, ones-append}
 use Rattle.lg_selr_control.specs.Alignments.{padding, idle, align_code}
 use Rattle.lg_selr_control.specs.Branches.{failing, left_of, right_of, bits_code}
-use Rattle.lg_selr_control.specs.ControlFits.{AreGiven, AreEmitted, ControlItemsFit}
-use Rattle.lg_selr_control.specs.ControlItems.{jump_unless_items, register_leap_items, control_items, is_control}
+use Rattle.lg_selr_control.specs.ControlFits.{IsGiven, AreGiven, AreEmitted, ControlItemsFit}
+use Rattle.lg_selr_control.specs.ControlItems.{second_register, second_items, jump_unless_items, register_leap_items, control_items, is_control}
+use Rattle.lg_selr_control.specs.TwoWays.{second_code}
+use Rattle.lg_selr_control.proofs.ControlLemmas.{second-is}
 use Rattle.lg_selr_control.specs.ControlLaws.{ends_in_label}
 use Rattle.lg_selr_control.specs.HostCalls.{host_code}
 use Rattle.lg_selr_control.specs.Prologs.{stored_registers, stores_below, fall_code, prolog_code}
 use Rattle.lg_selr_control.specs.RegisterLeaps.{register_leap_code}
 use Rattle.lg_selr_control.specs.Returns.{return_code}
 use Rattle.lg_selr_control.specs.SumBranches.{sum_code, staying}
-use Rattle.lg_sel_control.proofs.ControlLemmas.{differ, differs, never, never-sum, host-small}
+use Rattle.lg_sel_control.proofs.ControlLemmas.{differ, never, never-sum, host-small}
 
 -- ---- instructions alone have no fix and name no label
 -- what is said of a list of instructions that fit
@@ -181,44 +183,45 @@ module _ (labels frame at : ℕ) where
   abbrev items-of : Op → List Operand → List Item
   items-of o xs = control_items o xs frame at
 
-  branch : (o : Condition) (last : LastOperand) (xs : List Operand) → admit (forms_of (op.Branch o last)) xs ≡ true → AreGiven labels xs → ends_in_label xs ≡ false → AreEmitted labels true (items-of (op.Branch o last) xs)
-  branch o last_operand.Register (operand.Label l ∷ operand.Reg a ∷ operand.Reg b ∷ []) h v e =
-      let ha = register-small a in let hb = register-small b in
-      in-front labels true (bits_code o (register_of Riscv64 a) (register_of Riscv64 b)) _ (bits-fit o (register_of Riscv64 a) (register_of Riscv64 b) ha hb)
-      (unless-emitted labels true (failing o) (left_of o (register_of Riscv64 a) (register_of Riscv64 b)) (right_of o (register_of Riscv64 a) (register_of Riscv64 b)) l (left-fits o (register_of Riscv64 a) (register_of Riscv64 b) ha hb) (right-fits o (register_of Riscv64 a) (register_of Riscv64 b) ha hb) v.0)
-  branch o last_operand.Immediate (operand.Label l ∷ operand.Reg a ∷ operand.Number x ∷ []) h v e =
-      let ha = register-small a in
-      in-front labels true (number_code 1 x) _ (number-fits 1 x (λ z. cc) (omega arith) v.1.1.0)
-      (in-front labels true (bits_code o (register_of Riscv64 a) 1) _ (bits-fit o (register_of Riscv64 a) 1 ha (omega arith))
-      (unless-emitted labels true (failing o) (left_of o (register_of Riscv64 a) 1) (right_of o (register_of Riscv64 a) 1) l (left-fits o (register_of Riscv64 a) 1 ha (omega arith)) (right-fits o (register_of Riscv64 a) 1 ha (omega arith)) v.0))
-  branch o last_operand.Immediate (operand.Label l ∷ operand.Reg a ∷ operand.Host name ∷ []) h v e =
-      let ha = register-small a in
-      in-front labels true (number_code 1 (host_address name)) _ (number-fits 1 (host_address name) (λ z. cc) (omega arith) (host-small name))
-      (in-front labels true (bits_code o (register_of Riscv64 a) 1) _ (bits-fit o (register_of Riscv64 a) 1 ha (omega arith))
-      (unless-emitted labels true (failing o) (left_of o (register_of Riscv64 a) 1) (right_of o (register_of Riscv64 a) 1) l (left-fits o (register_of Riscv64 a) 1 ha (omega arith)) (right-fits o (register_of Riscv64 a) 1 ha (omega arith)) v.0))
-  branch o last_operand.Immediate (operand.Label l ∷ operand.Reg a ∷ operand.Label m ∷ []) h v e = absurd (differs e)
-  branch o last (operand.Label l ∷ operand.Reg a ∷ x ∷ y ∷ ys) h v e = absurd (never (admits (last_form last) x) h)
-  branch o last xs h v e = absurd (differ h)
+  -- the second operand is put into its register
+  second-fits : (x : Operand) → IsGiven labels x → AreItems (ones (second_code x))
+  second-fits (operand.Reg b) v = tt
+  second-fits (operand.Number n) v = number-fits 1 n (λ z. cc) (omega arith) v
+  second-fits (operand.Host name) v = number-fits 1 (host_address name) (λ z. cc) (omega arith) (host-small name)
+  second-fits (operand.Label l) v = tt
+  second-fits (operand.Slot k) v = tt
 
-  sum-branch : (o : BranchSumOp) (last : LastOperand) (xs : List Operand) → admit (forms_of (op.BranchSum o last)) xs ≡ true → AreGiven labels xs → ends_in_label xs ≡ false → AreEmitted labels true (items-of (op.BranchSum o last) xs)
-  sum-branch o last_operand.Register (operand.Label l ∷ operand.Reg a ∷ operand.Reg b ∷ []) h v e =
-      in-front labels true (sum_code o (register_of Riscv64 a) (register_of Riscv64 b)) _ (sum-fits o (register_of Riscv64 a) (register_of Riscv64 b) (register-small a) (register-small b)) (unless-emitted labels true (staying o) 31 0 l (omega arith) (omega arith) v.0)
-  sum-branch o last_operand.Immediate (operand.Label l ∷ operand.Reg a ∷ operand.Number x ∷ []) h v e =
-      in-front labels true (number_code 1 x) _ (number-fits 1 x (λ z. cc) (omega arith) v.1.1.0)
-      (in-front labels true (sum_code o (register_of Riscv64 a) 1) _ (sum-fits o (register_of Riscv64 a) 1 (register-small a) (omega arith)) (unless-emitted labels true (staying o) 31 0 l (omega arith) (omega arith) v.0))
-  sum-branch o last_operand.Immediate (operand.Label l ∷ operand.Reg a ∷ operand.Host name ∷ []) h v e =
-      in-front labels true (number_code 1 (host_address name)) _ (number-fits 1 (host_address name) (λ z. cc) (omega arith) (host-small name))
-      (in-front labels true (sum_code o (register_of Riscv64 a) 1) _ (sum-fits o (register_of Riscv64 a) 1 (register-small a) (omega arith)) (unless-emitted labels true (staying o) 31 0 l (omega arith) (omega arith) v.0))
-  sum-branch o last_operand.Immediate (operand.Label l ∷ operand.Reg a ∷ operand.Label m ∷ []) h v e = absurd (differs e)
-  sum-branch o last (operand.Label l ∷ operand.Reg a ∷ x ∷ y ∷ ys) h v e = absurd (never-sum (admits form.Update (operand.Reg a)) (admits (last_form last) x) h)
-  sum-branch o last (operand.Label l ∷ operand.Reg a ∷ []) h v e = absurd (never (admits form.Update (operand.Reg a)) h)
-  sum-branch o last_operand.Register (operand.Label l ∷ operand.Reg a ∷ operand.Number x ∷ []) h v e = absurd (never (admits form.Update (operand.Reg a)) h)
-  sum-branch o last_operand.Register (operand.Label l ∷ operand.Reg a ∷ operand.Label x ∷ []) h v e = absurd (never (admits form.Update (operand.Reg a)) h)
-  sum-branch o last_operand.Register (operand.Label l ∷ operand.Reg a ∷ operand.Host x ∷ []) h v e = absurd (never (admits form.Update (operand.Reg a)) h)
-  sum-branch o last_operand.Register (operand.Label l ∷ operand.Reg a ∷ operand.Slot x ∷ []) h v e = absurd (never (admits form.Update (operand.Reg a)) h)
-  sum-branch o last_operand.Immediate (operand.Label l ∷ operand.Reg a ∷ operand.Reg x ∷ []) h v e = absurd (never (admits form.Update (operand.Reg a)) h)
-  sum-branch o last_operand.Immediate (operand.Label l ∷ operand.Reg a ∷ operand.Slot x ∷ []) h v e = absurd (never (admits form.Update (operand.Reg a)) h)
-  sum-branch o last xs h v e = absurd (differ h)
+  second-small : (x : Operand) → second_register x < 32
+  second-small (operand.Reg b) = register-small b
+  second-small (operand.Number n) = omega arith
+  second-small (operand.Host name) = omega arith
+  second-small (operand.Label l) = omega arith
+  second-small (operand.Slot k) = omega arith
+
+  -- and other instructions stand between that and a branch over a jump
+  branched : (x : Operand) (body : List Instr) (o : BranchOp) (a b : ℕ) (l : Label) → IsGiven labels x → AreItems (ones body) → a < 32 → b < 32 → l.0 < labels
+      → AreEmitted labels true (second_items x ++ (ones body ++ jump_unless_items o a b l))
+  branched x body o a b l v fit ha hb lt =
+      subst (λ ys. AreEmitted labels true (ys ++ (ones body ++ jump_unless_items o a b l))) (sym (second-is x))
+      (in-front labels true (second_code x) _ (second-fits x v) (in-front labels true body _ fit (unless-emitted labels true o a b l ha hb lt)))
+
+  branch : (o : Condition) (last : LastOperand) (xs : List Operand) → admit (forms_of (op.Branch o last)) xs ≡ true → AreGiven labels xs
+      → AreEmitted labels true (items-of (op.Branch o last) xs)
+  branch o last (operand.Label l ∷ operand.Reg a ∷ x ∷ []) h v =
+      let ra : ℕ = register_of Riscv64 a in let b : ℕ = second_register x in let ha = register-small a in let hb = second-small x in
+      branched x (bits_code o ra b) (failing o) (left_of o ra b) (right_of o ra b) l v.1.1.0
+      (bits-fit o ra b ha hb) (left-fits o ra b ha hb) (right-fits o ra b ha hb) v.0
+  branch o last (operand.Label l ∷ operand.Reg a ∷ x ∷ y ∷ ys) h v = absurd (never (admits (last_form last) x) h)
+  branch o last xs h v = absurd (differ h)
+
+  sum-branch : (o : BranchSumOp) (last : LastOperand) (xs : List Operand) → admit (forms_of (op.BranchSum o last)) xs ≡ true → AreGiven labels xs
+      → AreEmitted labels true (items-of (op.BranchSum o last) xs)
+  sum-branch o last (operand.Label l ∷ operand.Reg a ∷ x ∷ []) h v =
+      let ra : ℕ = register_of Riscv64 a in let b : ℕ = second_register x in
+      branched x (sum_code o ra b) (staying o) 31 0 l v.1.1.0 (sum-fits o ra b (register-small a) (second-small x)) (omega arith) (omega arith) v.0
+  sum-branch o last (operand.Label l ∷ operand.Reg a ∷ x ∷ y ∷ ys) h v = absurd (never-sum (admits form.Update (operand.Reg a)) (admits (last_form last) x) h)
+  sum-branch o last (operand.Label l ∷ operand.Reg a ∷ []) h v = absurd (never (admits form.Update (operand.Reg a)) h)
+  sum-branch o last xs h v = absurd (differ h)
 
   jump-emitted : (rd : ℕ) (l : Label) → rd < 32 → l.0 < labels → AreEmitted labels true (Jump rd l.0 ∷ [])
   jump-emitted rd l h lt = record { items = (h, tt); labels = (lt, tt); one_fix = λ place. omega arith; some = λ e. omega arith }
@@ -263,8 +266,8 @@ module _ (labels frame at : ℕ) where
   nothing = record { items = tt; labels = tt; one_fix = λ place. omega arith; some = λ e. absurd (differ e) }
 
   pub by-op : (o : Op) (xs : List Operand) → is_control o ≡ true → admit (forms_of o) xs ≡ true → AreGiven labels xs → ends_in_label xs ≡ false → AreEmitted labels (leaps o) (items-of o xs)
-  by-op (op.Branch o last) xs c h v e = branch o last xs h v e
-  by-op (op.BranchSum o last) xs c h v e = sum-branch o last xs h v e
+  by-op (op.Branch o last) xs c h v e = branch o last xs h v
+  by-op (op.BranchSum o last) xs c h v e = sum-branch o last xs h v
   by-op (op.Control control.Jmp last_operand.Immediate) xs c h v e = jump xs h v
   by-op (op.Control control.Jmp last_operand.Register) xs c h v e = register-leap 0 xs (omega arith) h
   by-op (op.Control control.Call last_operand.Register) xs c h v e = register-leap 1 xs (omega arith) h
