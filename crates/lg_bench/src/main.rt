@@ -1,9 +1,11 @@
 // Work that is timed from outside. `names N` looks up each name of the instruction table N times; `text N` reads and checks
 // a text of N instructions, at most 65,000; `code N TIMES` assembles it for RV64 as well, so many times, from its bytes to
-// code; `emit N` emits 64 MiB in pieces of N bytes; `rv64 N`, `aarch64 N` and `x86_64 N` run N instructions
+// code; `straight N TIMES`, `branches N TIMES` and `jumps N TIMES` find the live registers of a text of N lines, at most 65,000, so many
+// times; `emit N` emits 64 MiB in pieces of N bytes; `rv64 N`, `aarch64 N` and `x86_64 N` run N instructions
 // of a loop of five on the modelled processors; `steps N` follows the portable meaning of a loop for N steps. Without words it does a little of each.
 #![tactic(auto)]
 
+mod liveness;
 mod meaning;
 mod names;
 mod pieces;
@@ -13,6 +15,7 @@ mod texts;
 use lg_base::refusal::{OutOfMemory, Stop};
 use lg_base::target::Target;
 use lg_mean_text::end::MeaningEnd;
+use liveness::Flow;
 use names::found;
 use std::{env, io, str};
 use texts::{Counts, read_and_assemble, read_and_check};
@@ -39,6 +42,15 @@ fn read(rt: &HostRuntime, instructions: u32) -> io::Result<()> {
 fn make_code(rt: &HostRuntime, instructions: u32, times: u32) -> io::Result<()> {
     match read_and_assemble(rt.alloc(), instructions, times) {
         Ok(bytes) => println!(rt; "{bytes} bytes of code"),
+        Err(Stop::Refused(refusal)) => println!(rt; "refused at line {}", refusal.line),
+        Err(Stop::OutOfMemory) => println!(rt; "out of memory"),
+    }
+}
+
+// Finds the live registers of a text of so many lines, so many times.
+fn find_live(rt: &HostRuntime, flow: Flow, lines: u32, times: u32) -> io::Result<()> {
+    match liveness::find(rt.alloc(), flow, lines, times) {
+        Ok(nodes) => println!(rt; "live at {nodes} nodes"),
         Err(Stop::Refused(refusal)) => println!(rt; "refused at line {}", refusal.line),
         Err(Stop::OutOfMemory) => println!(rt; "out of memory"),
     }
@@ -83,6 +95,9 @@ fn main(rt: HostRuntime) -> io::Result<()> {
                 "names" => look_up(&rt, times),
                 "text" => read(&rt, times),
                 "code" => make_code(&rt, times, again),
+                "straight" => find_live(&rt, Flow::Straight, times, again),
+                "branches" => find_live(&rt, Flow::Branches, times, again),
+                "jumps" => find_live(&rt, Flow::Jumps, times, again),
                 "emit" => emit(&rt, 0x400_0000, times),
                 "rv64" => run(&rt, Target::Riscv64, times),
                 "aarch64" => run(&rt, Target::Aarch64, times),
@@ -95,6 +110,9 @@ fn main(rt: HostRuntime) -> io::Result<()> {
             look_up(&rt, 1)?;
             read(&rt, 64)?;
             make_code(&rt, 64, 1)?;
+            for flow in [Flow::Straight, Flow::Branches, Flow::Jumps] {
+                find_live(&rt, flow, 64, 1)?;
+            }
             emit(&rt, 1024, 4)?;
             for target in [Target::Riscv64, Target::Aarch64, Target::X86_64] {
                 run(&rt, target, 1000)?;

@@ -1,0 +1,4 @@
+pub mod Drops
+pub mod Follows
+pub mod Laws
+pub mod Loud

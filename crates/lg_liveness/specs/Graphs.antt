@@ -1,0 +1,46 @@
+-- The points of a search: each with the registers that it reads and writes, and where it leads.
+use Rattle.std.specs.Prelude.{◌≡◌, ◌⊎◌, ℕ, ◌+◌, ◌<◌, ◌≤◌, true, false, List, Some, None, length, slice_index_or}
+use Rattle.lg_op.specs.declared.operand.Reg.{Reg}
+use Rattle.lg_live.specs.RegSets.{has}
+use Rattle.lg_live.specs.declared.reg_set.RegSet.{RegSet}
+use Rattle.lg_liveness.specs.declared.point.Point.{Point}
+
+abbrev pub no_point : Point
+no_point = record { reads = record { 0 = 0 }; writes = record { 0 = 0 }; falls = false; jumps = None; joins = None }
+
+-- a point; those behind the last only join others
+abbrev pub point_at : List Point → ℕ → Point
+point_at points i = slice_index_or points i no_point
+
+-- one point leads to another
+pub data IsArc (points : List Point) : ℕ → ℕ → Type 0 where
+  falls : (i k : ℕ) → (point_at points i).falls ≡ true → k ≡ i + 1 → IsArc points i k
+  jumps : (i k : ℕ) → (point_at points i).jumps ≡ Some k → IsArc points i k
+  joins : (i k : ℕ) → (point_at points k).joins ≡ Some i → IsArc points i k
+
+-- a register is needed at a point where some walk from it comes to a point that reads it, and none before that one writes it
+pub data IsNeeded (points : List Point) (r : Reg) : ℕ → Type 0 where
+  read_here : (i : ℕ) → has (point_at points i).reads r ≡ true → IsNeeded points r i
+  kept_to : (i k : ℕ) → has (point_at points i).writes r ≡ false → IsArc points i k → IsNeeded points r k → IsNeeded points r i
+
+-- all points are below this number
+pub record AreWithin (points : List Point) (count : ℕ) : Type 0 where
+  pub few : length points ≤ count
+  pub falls : (i : ℕ) → (point_at points i).falls ≡ true → i + 1 < count
+  pub jumps : (i k : ℕ) → (point_at points i).jumps ≡ Some k → k < count
+  pub joins : (i k : ℕ) → (point_at points k).joins ≡ Some i → i < count
+
+abbrev pub set_at : List RegSet → ℕ → RegSet
+set_at sets i = slice_index_or sets i (record { 0 = 0 })
+
+-- the registers that are needed at each point
+pub record AreNeeded (points : List Point) (count : ℕ) (sets : List RegSet) : Type 0 where
+  pub all : length sets ≡ count
+  pub sound : (i : ℕ) (r : Reg) → has (set_at sets i) r ≡ true → IsNeeded points r i
+  pub complete : (i : ℕ) (r : Reg) → IsNeeded points r i → has (set_at sets i) r ≡ true
+
+-- a register is needed at a point to which one leads by falling or jumping
+pub record IsNeededBehind (points : List Point) (r : Reg) (i : ℕ) : Type 0 where
+  pub next : ℕ
+  pub way : (((point_at points i).falls ≡ true) × (next ≡ i + 1)) ⊎ ((point_at points i).jumps ≡ Some next)
+  pub needed : IsNeeded points r next

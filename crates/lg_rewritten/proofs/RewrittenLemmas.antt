@@ -1,0 +1,67 @@
+-- From code that carries each rewritten node to runs that agree with the text's meaning.
+use Rattle.std.proofs.Common.{◌≡◌, ℕ, [], inl, inr, Bool, refl, sym, ◌∙◌, subst, ⊎_elim, length}
+use Rattle.std.specs.Prelude.{slice_get}
+use Rattle.lg_base.specs.Runs.{Machine, iter}
+use Rattle.lg_meaning.specs.States.{State}
+use Rattle.lg_meaning.specs.Steps.{Outcome, Goes, Ends, Undefined}
+use Rattle.lg_meaning.specs.Texts.{step}
+use Rattle.lg_meaning.specs.Means.{Run, run_at}
+use Rattle.lg_meaning.specs.Means as mean
+use Rattle.lg_meaning.specs.Starts.{start_state}
+use Rattle.lg_meaning.proofs.MeanLemmas.{means_are_machines}
+use Rattle.lg_carry.specs.Processors.{Processor}
+use Rattle.lg_carry.specs.FinalNodes.{Code}
+use Rattle.lg_carry.specs.Stands.{Stands}
+use Rattle.lg_carry.specs.Carries.{leaps_at, Leads}
+use Rattle.lg_carry.specs.Ranks.{StandAlike, IsCarried}
+use Rattle.lg_carry.proofs.MeaningLemmas.{meaning-steps}
+use Rattle.lg_follow.specs.Loud.{StandsAlike, LandsLoud, CarriesLoud}
+use Rattle.lg_follow.proofs.LawLemmas.{runs-agree}
+use Rattle.lg_rewritten.specs.Rewritten.{at, is_loud, RewrittenCodeAgrees}
+
+module _ {M Q : Type 0} (m : Machine M) (state : M → State) (P : Processor Q) (c : Code) (before : ℕ → ℕ → Bool) (ok : IsCarried m state P c before) where
+  abbrev loud : M → Bool
+  loud p = leaps_at (slice_get c.nodes.nodes (state p).at)
+
+  pub alike : (p : M) (q : Q) → StandAlike m state P c before p q → StandsAlike m P.machine p q
+  alike p q h = record { goes = h.0; runs = h.1.runs; out = h.1.wrote }
+
+  pub carry-loud : (p : M) (q : Q) → StandAlike m state P c before p q → CarriesLoud m P.machine (StandAlike m state P c before) loud p q
+  carry-loud p q h = ⊎_elim
+      (λ u. inl (ok.steps.undefined p h.0 u))
+      (λ l. inr (by (step c.nodes c.shape c.addresses (state p)) refl l))
+      ((ok.nodes (state p).at h.1.state.fits.inside).carries (state p) (m.out p) q refl h.1)
+    where
+      by : (o : Outcome) → step c.nodes c.shape c.addresses (state p) ≡ o → Leads P c (λ f. before f.back) (λ t. before t.at) (state p).at o (m.out p) q → LandsLoud m P.machine (StandAlike m state P c before) loud p q
+      by (Goes t bytes) e l =
+          let g = ok.steps.goes p t bytes h.0 e in
+          let there : Stands P c (λ f. before f.back) (state (m.step p)) (m.out (m.step p)) (iter P.machine.step l.steps q) (before (state (m.step p)).at) =
+          subst (λ x. Stands P c (λ f. before f.back) x (m.out (m.step p)) (iter P.machine.step l.steps q) (before x.at)) (sym g.1)
+          (subst (λ x. Stands P c (λ f. before f.back) t x (iter P.machine.step l.steps q) (before t.at)) (sym g.2) l.there) in
+          record {
+            steps = l.steps;
+            few = l.few;
+            way = λ i lt. ⊎_elim (λ w. inl w) (λ w. inr (w ∙ sym g.2)) (l.way i lt);
+            some = l.some;
+            there = inr (g.0, there);
+          }
+      by (Ends n) e l =
+          let g = ok.steps.ends p n h.0 e in
+          record {
+            steps = l.steps;
+            few = l.few;
+            way = λ i lt. ⊎_elim (λ w. inl w) (λ w. inl w) (l.way i lt);
+            some = l.some;
+            there = inl (n, g.0, l.there.0, l.there.1 ∙ sym g.1);
+          }
+      by Undefined e l = absurd l.there
+
+pub rewritten-agrees : {Q : Type 0} (P : Processor Q) → RewrittenCodeAgrees P
+rewritten-agrees P c before l shape image args q n machine nodes followed inside st =
+    let new = means_are_machines c.nodes c.shape c.addresses in
+    let old = means_are_machines l shape c.addresses in
+    let ok : IsCarried (mean.machine c.nodes c.shape c.addresses) (λ (r : Run). r.state) P c before = record { meaning = new.0; silent = new.1; steps = meaning-steps c; processor = machine; nodes = nodes } in
+    runs-agree (mean.machine l shape c.addresses) (mean.machine c.nodes c.shape c.addresses) at (is_loud c.nodes) old.0 P.machine
+    (StandAlike (mean.machine c.nodes c.shape c.addresses) (λ (r : Run). r.state) P c before) old.1 machine
+    (run_at (start_state image args) []) (run_at (start_state image args) []) q (length l.nodes) n followed inside
+    (alike _ (λ (r : Run). r.state) P c before ok) (carry-loud _ (λ (r : Run). r.state) P c before ok) refl (refl, st)
