@@ -1,0 +1,36 @@
+// What holds of the instructions of A64, for the code of nodes. The functions do nothing: their contracts are the laws.
+
+ghost use Rattle.lg_carry_a64.specs.A64Computers.{InstructionsAreIsa, InstructionsCompute};
+ghost use Rattle.lg_carry_a64.specs.A64Rows.{InstructionsAreRows, InstructionsAreSpills};
+ghost use Rattle.lg_carry_a64.specs.Destinations.{InstructionsStay};
+ghost use Rattle.lg_carry_a64.specs.Numbers.{NumbersAreLoaded};
+
+/// The instruction whose spelling stands at the program counter is executed, and the next one follows.
+pub fn instructions_are_rows()
+    ensures { InstructionsAreRows }
+{}
+
+/// `stur` saves a register in a spill slot, and `ldur` restores it.
+pub fn instructions_are_spills()
+    ensures { InstructionsAreSpills }
+{}
+
+/// One that writes no register outside of the conventions changes none.
+pub fn instructions_stay()
+    ensures { InstructionsStay }
+{}
+
+/// They are those of a target: each register that is tried can be saved, and the link holds nothing that is needed behind a `prolog`.
+pub fn instructions_are_isa()
+    ensures { InstructionsAreIsa }
+{}
+
+/// Those that only compute make registers and flags of registers and flags, and the next one follows.
+pub fn instructions_compute()
+    ensures { InstructionsCompute }
+{}
+
+/// At most 4 instructions load any number into a register, and change no other, and no flag.
+pub fn numbers_are_loaded()
+    ensures { NumbersAreLoaded }
+{}
