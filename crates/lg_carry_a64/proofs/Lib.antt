@@ -4,5 +4,6 @@ pub mod HeldLemmas
 pub mod IsaLemmas
 pub mod NumberCodeLemmas
 pub mod OutsideLemmas
+pub mod RegisterLemmas
 pub mod RowLemmas
 pub mod SlotLemmas

@@ -185,3 +185,25 @@ module _ (rd : ℕ) (within : rd < 31) where
 
 pub numbers-are-loaded : NumbersAreLoaded
 numbers-are-loaded rd v within small = loaded-number rd within v small
+
+-- for any number
+pub number-few : (rd v : ℕ) → length (number_code rd v) ≤ 4
+number-few rd v = by (nat_lt (complement v) (2 ^ 32)) (v / 2 ^ 16 % 2 ^ 16 == 65535)
+  where
+    quarter-short : (part hw : ℕ) → length (quarter_code rd part hw) ≤ 1
+    quarter-short part hw = one (part == 0)
+      where
+        one : (b : Bool) → length (if b then [] else Wide Movk rd part hw ∷ []) ≤ 1
+        one true = omega arith
+        one false = omega arith
+
+    three : (a b c : List Instr) → length a ≤ 1 → length b ≤ 1 → length c ≤ 1 → length (a ++ (b ++ c)) ≤ 3
+    three a b c x y z = let l = length-append a (b ++ c) in let k = length-append b c in omega (arith, l, k, x, y, z)
+
+    by : (a b : Bool) → length (if a then Wide Movn rd (complement v % 2 ^ 16) 0 ∷ (if b then [] else Wide Movk rd (v / 2 ^ 16 % 2 ^ 16) 1 ∷ []) else positive_code rd v) ≤ 4
+    by true true = omega arith
+    by true false = omega arith
+    by false b =
+        let m = three (quarter_code rd (v / 2 ^ 16 % 2 ^ 16) 1) (quarter_code rd (v / 2 ^ 32 % 2 ^ 16) 2) (quarter_code rd (v / 2 ^ 48 % 2 ^ 16) 3)
+            (quarter-short (v / 2 ^ 16 % 2 ^ 16) 1) (quarter-short (v / 2 ^ 32 % 2 ^ 16) 2) (quarter-short (v / 2 ^ 48 % 2 ^ 16) 3) in
+        omega (arith, m)

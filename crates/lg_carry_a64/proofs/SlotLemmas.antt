@@ -15,7 +15,7 @@ use Rattle.lg_cpu.specs.States.{CpuState, arrives}
 use Rattle.lg_cpu.specs.A64Step.{read, loads, act, computes}
 use Rattle.lg_carry.specs.Registers.{HasWord}
 use Rattle.lg_carry.specs.Spills.{IsFramePointer, in_slots}
-use Rattle.lg_carry_a64.specs.A64Rows.{a64_does, slot_offset, can_save, InstructionsAreSpills}
+use Rattle.lg_carry_a64.specs.A64Rows.{nzcv, a64_does, slot_offset, can_save, InstructionsAreSpills}
 use Rattle.lg_carry_a64.proofs.RowLemmas.{went}
 
 slot-address : (fp k : ℕ) → k < 5 → 0x3FF00000 + 256 ≤ fp → fp + 16 ≤ 0x40000000 → add_words fp (word_of (slot_offset k)) ≡ spill_word fp k
@@ -66,7 +66,7 @@ are-spills code trash = record {
         behind = ap (λ s. s.state.pc) e ∙ pc-next q.state.pc (omega (arith, room.high));
         registers = λ x. ap (λ s. s.state.registers x) e;
         bytes = λ a. ap (λ s. s.state.bytes a) e;
-        marks = (ap (λ s. s.state.mark) e, ap (λ s. s.state.flags) e);
+        marks = (ap (λ s. s.state.mark) e, ap (λ s. nzcv s.state.flags) e);
       };
   restores = λ q r k fp w can few f running room at held.
       let e : a64_does (Unscaled Ldur r 29 (slot_offset k)) q ≡ after q (computes q.state (put q.state.registers r w) q.state.flags) = went q _ running ∙ ap (after q) (restore-act q.state r k fp w can few f at held) in
@@ -75,6 +75,6 @@ are-spills code trash = record {
         behind = ap (λ s. s.state.pc) e ∙ pc-next q.state.pc (omega (arith, room.high));
         registers = λ x. ap (λ s. s.state.registers x) e;
         bytes = λ a. ap (λ s. s.state.bytes a) e;
-        marks = (ap (λ s. s.state.mark) e, ap (λ s. s.state.flags) e);
+        marks = (ap (λ s. s.state.mark) e, ap (λ s. nzcv s.state.flags) e);
       };
 }

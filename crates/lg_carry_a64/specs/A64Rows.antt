@@ -2,6 +2,8 @@
 use Rattle.std.specs.Prelude.{ℕ, ◌+◌, ◌*◌, ◌%◌, ◌==◌, ◌≤◌, ◌&&◌, not, nat_lt, Bool, true, false, ℤ, negsuc, List, length, ◌<◌, ◌^◌}
 use Rattle.lg_base.specs.Conventions.{frame_register, stack_register}
 use Rattle.lg_base.specs.Layout.{most_code}
+use Rattle.lg_base.specs.declared.flags.Flags.{Flags}
+use Rattle.lg_base.specs.declared.flags.Flags.TheVariants.{Nzcv}
 use Rattle.lg_base.specs.declared.target.Target.TheVariants.{Aarch64}
 use Rattle.lg_a64.specs.Spelling.{spelling, IsInstr}
 use Rattle.lg_a64.specs.declared.instruction.Instr.{Instr}
@@ -10,6 +12,7 @@ use Rattle.lg_a64.specs.declared.instruction.UnscaledOp.TheVariants.{Ldur, Stur}
 use Rattle.lg_cpu.specs.Laws.{AreBytes}
 use Rattle.lg_cpu.specs.Steps.{Run, after, on_going, machine}
 use Rattle.lg_cpu.specs.States.{CpuState}
+use Rattle.lg_cpu.specs.A64Operators.{negative_flag, zero_flag, carry_flag, overflow_flag}
 use Rattle.lg_cpu.specs.A64Step.{act, effect}
 use Rattle.lg_carry.specs.Processors.{Seen, Processor}
 use Rattle.lg_carry.specs.Rows.{Rows, AreRows}
@@ -27,9 +30,17 @@ stack_pointer = stack_register Aarch64
 abbrev pub zero_register : ℕ
 zero_register = stack_pointer
 
+-- the link, x30
+abbrev pub link : ℕ
+link = 30
+
 -- ---- the processor
+-- the flags as a processor of this kind has them
+abbrev pub nzcv : Flags → Flags
+nzcv f = Nzcv (negative_flag f) (zero_flag f) (carry_flag f) (overflow_flag f)
+
 abbrev pub a64_seen : Run CpuState → Seen
-a64_seen r = record { pc = r.state.pc; registers = r.state.registers; bytes = r.state.bytes; mark = r.state.mark; flags = r.state.flags }
+a64_seen r = record { pc = r.state.pc; registers = r.state.registers; bytes = r.state.bytes; mark = r.state.mark; flags = nzcv r.state.flags }
 
 abbrev pub a64_processor : List ℕ → ℕ → Processor (Run CpuState)
 a64_processor code trash = record { target = Aarch64; machine = machine (effect code trash); seen = a64_seen }

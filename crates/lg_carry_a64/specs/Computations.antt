@@ -1,9 +1,11 @@
 -- Instructions that only compute: each makes registers and flags of registers and flags, and the next one follows.
-use Rattle.std.specs.Prelude.{ℕ, Bool, true, false, List}
+use Rattle.std.specs.Prelude.{ℕ, Bool, true, false, List, Option, Some, None}
+use Rattle.lg_base.specs.CarryFlags.{carry_of}
 use Rattle.lg_base.specs.declared.flags.Flags.{Flags}
+use Rattle.lg_base.specs.declared.flags.Flags.TheVariants.{Nzcv}
 use Rattle.lg_a64.specs.declared.instruction.Instr.{Instr}
 use Rattle.lg_a64.specs.declared.instruction.Instr.TheVariants.{Reg, Imm, Wide, MulAdd, Bitfield, Csinc, Reverse, Scaled, Ldrx, Unscaled, Branch, BranchIf, BranchReg, Nop}
-use Rattle.lg_cpu.specs.A64Operators.{reg_value, reg_flags, imm_number, imm_value, imm_flags, wide_value, mul_add_value, bitfield_value, csinc_value, reverse_value, holds}
+use Rattle.lg_cpu.specs.A64Operators.{negative_flag, zero_flag, overflow_flag, reg_value, reg_flags, imm_number, imm_value, imm_flags, wide_value, mul_add_value, bitfield_value, csinc_value, reverse_value, holds}
 use Rattle.lg_cpu.specs.A64Step.{read, write, imm_registers}
 use Rattle.lg_sel_values.specs.Computers.{Held}
 use Rattle.lg_sel_values.specs.Computers as computer
@@ -24,20 +26,28 @@ all_compute is = computer.all_compute computes is
 abbrev pub holding : (ℕ → ℕ) → Flags → Held
 holding registers flags = record { registers = registers; flags = flags }
 
+-- the flags that instructions read: C is the carry, where it is known
+abbrev pub carry_or_false : Option Bool → Bool
+carry_or_false None = false
+carry_or_false (Some carry) = carry
+
+abbrev pub known : Flags → Flags
+known f = Nzcv (negative_flag f) (zero_flag f) (carry_or_false (carry_of f)) (overflow_flag f)
+
 -- what one makes of registers and flags
 abbrev pub computed_by : Instr → Held → Held
 computed_by (Reg op rd rn rm) w =
-    holding (write w.registers rd (reg_value op w.flags (read w.registers rn) (read w.registers rm)))
-    (reg_flags op w.flags (read w.registers rn) (read w.registers rm))
+    holding (write w.registers rd (reg_value op (known w.flags) (read w.registers rn) (read w.registers rm)))
+    (reg_flags op (known w.flags) (read w.registers rn) (read w.registers rm))
 computed_by (Imm op rd rn imm shifted) w =
     holding (imm_registers op w.registers rd (imm_value op (w.registers rn) (imm_number imm shifted)))
-    (imm_flags op w.flags (w.registers rn) (imm_number imm shifted))
+    (imm_flags op (known w.flags) (w.registers rn) (imm_number imm shifted))
 computed_by (Wide op rd imm hw) w = holding (write w.registers rd (wide_value op (read w.registers rd) imm hw)) w.flags
 computed_by (MulAdd op rd rn rm ra) w =
     holding (write w.registers rd (mul_add_value op (read w.registers rn) (read w.registers rm) (read w.registers ra))) w.flags
 computed_by (Bitfield op rd rn immr imms) w = holding (write w.registers rd (bitfield_value op (read w.registers rn) immr imms)) w.flags
 computed_by (Csinc rd rn rm cond) w =
-    holding (write w.registers rd (csinc_value (holds cond w.flags) (read w.registers rn) (read w.registers rm))) w.flags
+    holding (write w.registers rd (csinc_value (holds cond (known w.flags)) (read w.registers rn) (read w.registers rm))) w.flags
 computed_by (Reverse op rd rn) w = holding (write w.registers rd (reverse_value op (read w.registers rn))) w.flags
 computed_by i w = w
 

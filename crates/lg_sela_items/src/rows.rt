@@ -1,0 +1,73 @@
+// Instructions by their rows, and the registers that stand for portable ones. Registers are 0 to 31.
+
+ghost use Rattle.std.specs.Prelude.{◌≡◌, false};
+ghost use Rattle.lg_base.specs.declared.target.Target.TheVariants.{Aarch64};
+ghost use Rattle.lg_temp.specs.Abis.{register_of};
+
+use lg_a64::{BitfieldOp, ImmOp, Instr, MulAddOp, RegOp, WideOp};
+use lg_base::target::Target;
+use lg_op::Reg;
+use lg_temp::abi::Abi;
+
+/// The link, x30, which holds nothing that is needed behind a `prolog`.
+pub const LINK: u8 = 30;
+
+/// 31, which reads as 0 and is not written, but for the base of an address and where a number is added.
+pub const ZERO: u8 = 31;
+
+/// FP, x29.
+pub const FRAME_POINTER: u8 = 29;
+
+/// `rd` gets what the row makes of two registers.
+pub fn row(op: RegOp, rd: u8, rn: u8, rm: u8) -> Instr
+    ensures { result ≡ Instr.Reg op rd rn rm }
+{
+    Instr::Reg { op, rd, rn, rm }
+}
+
+/// `rd` gets what the row makes of a register and a number from 0 to 4,095.
+pub fn imm(op: ImmOp, rd: u8, rn: u8, imm: u16) -> Instr
+    ensures { result ≡ Instr.Imm op rd rn imm false }
+{
+    Instr::Imm {
+        op,
+        rd,
+        rn,
+        imm,
+        shifted: false,
+    }
+}
+
+/// A number of 16 bits for quarter `hw`, 0 to 3, of `rd`.
+pub fn wide(op: WideOp, rd: u8, imm: u16, hw: u8) -> Instr
+    ensures { result ≡ Instr.Wide op rd imm hw }
+{
+    Instr::Wide { op, rd, imm, hw }
+}
+
+/// `rd` gets `ra` and the product of `rn` and `rm`, added or subtracted.
+pub fn mul_add(op: MulAddOp, rd: u8, rn: u8, rm: u8, ra: u8) -> Instr
+    ensures { result ≡ Instr.MulAdd op rd rn rm ra }
+{
+    Instr::MulAdd { op, rd, rn, rm, ra }
+}
+
+/// `rd` gets a bit field of `rn`, whose numbers are 0 to 63.
+pub fn bitfield(op: BitfieldOp, rd: u8, rn: u8, immr: u8, imms: u8) -> Instr
+    ensures { result ≡ Instr.Bitfield op rd rn immr imms }
+{
+    Instr::Bitfield {
+        op,
+        rd,
+        rn,
+        immr,
+        imms,
+    }
+}
+
+/// The register that stands for a portable one, by the procedure call standard of AArch64.
+pub fn register_of(reg: Reg) -> u8
+    ensures { result ≡ register_of Aarch64 reg }
+{
+    Abi::of(Target::Aarch64).portable(reg)
+}
