@@ -55,10 +55,10 @@ negative-more v small near = omega (arith, small, near)
 
 -- ---- code
 module _ (rd : ℕ) (within : rd < 31) where
-  first : (w : Held) (x : ℕ) → holding (write w.registers rd x) w.flags ≡ holding (put w.registers rd x) w.flags
+  pub first : (w : Held) (x : ℕ) → holding (write w.registers rd x) w.flags ≡ holding (put w.registers rd x) w.flags
   first w x = ap (λ r. holding r w.flags) (write-is w.registers rd x within)
 
-  more : (w : Held) (x part hw : ℕ) → computed (Wide Movk rd part hw ∷ []) (holding (put w.registers rd x) w.flags) ≡ holding (put w.registers rd (replaced x (quarter hw) part)) w.flags
+  pub more : (w : Held) (x part hw : ℕ) → computed (Wide Movk rd part hw ∷ []) (holding (put w.registers rd x) w.flags) ≡ holding (put w.registers rd (replaced x (quarter hw) part)) w.flags
   more w x part hw =
       ap (λ r. holding r w.flags) (write-is (put w.registers rd x) rd (replaced (read (put w.registers rd x) rd) (quarter hw) part) within
       ∙ ap (λ z. put (put w.registers rd x) rd (replaced z (quarter hw) part)) (read-is (put w.registers rd x) rd within ∙ put-same w.registers rd x)
@@ -205,5 +205,5 @@ number-few rd v = by (nat_lt (complement v) (2 ^ 32)) (v / 2 ^ 16 % 2 ^ 16 == 65
     by true false = omega arith
     by false b =
         let m = three (quarter_code rd (v / 2 ^ 16 % 2 ^ 16) 1) (quarter_code rd (v / 2 ^ 32 % 2 ^ 16) 2) (quarter_code rd (v / 2 ^ 48 % 2 ^ 16) 3)
-            (quarter-short (v / 2 ^ 16 % 2 ^ 16) 1) (quarter-short (v / 2 ^ 32 % 2 ^ 16) 2) (quarter-short (v / 2 ^ 48 % 2 ^ 16) 3) in
+        (quarter-short (v / 2 ^ 16 % 2 ^ 16) 1) (quarter-short (v / 2 ^ 32 % 2 ^ 16) 2) (quarter-short (v / 2 ^ 48 % 2 ^ 16) 3) in
         omega (arith, m)

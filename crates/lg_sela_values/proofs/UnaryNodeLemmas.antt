@@ -1,0 +1,61 @@
+-- Nodes of one word, of a register or of the text.
+use Rattle.std.proofs.Common.{◌≡◌, ◌≢◌, ℕ, true, [], ◌∷◌, List, Some, refl, sym, ap, ◌∙◌, arith}
+use Rattle.lg_base.specs.CarryFlags.{carry_of}
+use Rattle.lg_base.specs.declared.target.Target.TheVariants.{Aarch64}
+use Rattle.lg_op.specs.declared.op.UnaryOp.{UnaryOp}
+use Rattle.lg_op.specs.declared.op.UnaryOp.TheVariants as unary
+use Rattle.lg_op.specs.declared.operand.Reg.{Reg}
+use Rattle.lg_op.specs.declared.operand.Reg.TheVariants.{Fp}
+use Rattle.lg_op.specs.declared.operand.Operand.{Operand}
+use Rattle.lg_operators.specs.declared.carry.Carry.{Carry}
+use Rattle.lg_operators.specs.Operators.{unary_value, is_move}
+use Rattle.lg_meaning.specs.States.{State, value}
+use Rattle.lg_a64.specs.declared.instruction.Instr.{Instr}
+use Rattle.lg_temp.specs.Abis.{register_of}
+use Rattle.lg_carry.specs.FinalNodes.{Code}
+use Rattle.lg_carry.specs.Registers.{HoldsCarry}
+use Rattle.lg_carry.specs.TextNodes.{IsInText}
+use Rattle.lg_sel_values.specs.Computers.{Held}
+use Rattle.lg_sel_values.specs.ValueNodes.{unary_node, movi_node}
+use Rattle.lg_sel_values.specs.Values.{KeepsCarry}
+use Rattle.lg_sel_values.proofs.OneWordLemmas.{unary-nodes-compute, movi-nodes-compute}
+use Rattle.lg_carry_a64.specs.A64Computers.{a64_scratch, a64_computer, IsComputed}
+use Rattle.lg_carry_a64.specs.Computations.{computed}
+use Rattle.lg_carry_a64.proofs.ComputerLemmas.{into, carry-stays, known-carry}
+use Rattle.lg_carry_a64.proofs.HeldLemmas.{put-same, put-other}
+use Rattle.lg_carry_a64.proofs.RegisterLemmas.{register-small}
+use Rattle.lg_sela_values.specs.UnaryCode.{unary_code}
+use Rattle.lg_sela_values.proofs.LoadCodeLemmas.{LoadsWord}
+use Rattle.lg_sela_values.proofs.UnaryCodeLemmas.{unary-computed, unary-keeps, unary-computes, unary-some}
+
+-- ---- of a register; `movr` keeps the carry, and its code does
+moved : (code : List ℕ) (trash : ℕ) (o : UnaryOp) (d a : ℕ) → is_move o ≡ true → KeepsCarry (a64_computer code trash) (unary_code o d a)
+moved code trash unary.Mov d a h w k e =
+    carry-stays k w.registers (computed (unary_code unary.Mov d a) w).registers (carry_of w.flags) (carry_of (computed (unary_code unary.Mov d a) w).flags) (λ b z. known-carry (carry_of w.flags) b z) e
+moved code trash o d a h w k e = cc
+
+pub unary-node-computes : (c : Code) (i : ℕ) (o : UnaryOp) (d a : Reg) (line : ℕ) → d ≢ Fp → IsInText c i (unary_node o d a line)
+    → IsComputed c i (unary_node o d a line) [] (unary_code o (register_of Aarch64 d) (register_of Aarch64 a))
+unary-node-computes c i o d a line named t code trash =
+    let rd = register_of Aarch64 d in
+    let ra = register_of Aarch64 a in
+    let body = unary_code o rd ra in
+    let dl = register-small d in
+    let al = register-small a in
+    unary-nodes-compute (a64_computer code trash) a64_scratch c i o d a line [] body named t
+    (into code trash (d ∷ []) [] body record { some = unary-some o rd ra; computes = unary-computes o rd ra; keeps = λ w r apart taken off. unary-keeps o rd ra w r apart.0 })
+    (λ e. moved code trash o rd ra e)
+    (λ s w m h em. unary-computed rd ra (omega (arith, dl)) (omega (arith, al)) w o ∙ ap (unary_value o) em)
+
+-- ---- of the text
+pub movi-computes : (c : Code) (i : ℕ) (d : Reg) (x : Operand) (v line : ℕ) → d ≢ Fp → ((s : State) → value c.addresses s x ≡ Some v) → IsInText c i (movi_node d x line)
+    → (load : List Instr) → LoadsWord load (register_of Aarch64 d) v → IsComputed c i (movi_node d x line) [] load
+movi-computes c i d x v line named given t load l code trash =
+    movi-nodes-compute (a64_computer code trash) a64_scratch c i d x v line [] load named given t
+    (into code trash (d ∷ []) [] load record {
+      some = l.some;
+      computes = l.computes;
+      keeps = λ w r apart taken off. ap (λ u. u.registers r) (l.value w) ∙ put-other w.registers (register_of Aarch64 d) v r apart.0;
+    })
+    (λ w k e. carry-stays k w.registers (computed load w).registers (carry_of w.flags) (carry_of (computed load w).flags) (λ b z. ap (λ u. carry_of u.flags) (l.value w) ∙ z) e)
+    (λ w. ap (λ u. u.registers (register_of Aarch64 d)) (l.value w) ∙ put-same w.registers (register_of Aarch64 d) v)

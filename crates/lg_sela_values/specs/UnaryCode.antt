@@ -1,0 +1,25 @@
+-- The code of the operations on one register.
+use Rattle.std.specs.Prelude.{ℕ, List, [], ◌∷◌}
+use Rattle.lg_op.specs.declared.op.UnaryOp.{UnaryOp}
+use Rattle.lg_op.specs.declared.op.UnaryOp.TheVariants as unary
+use Rattle.lg_a64.specs.declared.instruction.Instr.{Instr}
+use Rattle.lg_a64.specs.declared.instruction.Instr.TheVariants.{Reg, Bitfield, Reverse}
+use Rattle.lg_a64.specs.declared.instruction.BitfieldOp.TheVariants.{Sbfm, Ubfm}
+use Rattle.lg_a64.specs.declared.instruction.ReverseOp.TheVariants.{Rev, Rev32, Rev16}
+use Rattle.lg_a64.specs.declared.instruction.RegOp.TheVariants as row
+use Rattle.lg_carry_a64.specs.A64Rows.{zero_register}
+
+-- d = op a
+abbrev pub unary_code : UnaryOp → ℕ → ℕ → List Instr
+unary_code unary.Neg d a = Reg row.Sub d zero_register a ∷ []
+unary_code unary.Com d a = Reg row.Orn d zero_register a ∷ []
+unary_code unary.Mov d a = Reg row.Orr d zero_register a ∷ []
+unary_code unary.ExtrC d a = Bitfield Sbfm d a 0 7 ∷ []
+unary_code unary.ExtrUc d a = Bitfield Ubfm d a 0 7 ∷ []
+unary_code unary.ExtrS d a = Bitfield Sbfm d a 0 15 ∷ []
+unary_code unary.ExtrUs d a = Bitfield Ubfm d a 0 15 ∷ []
+unary_code unary.ExtrI d a = Bitfield Sbfm d a 0 31 ∷ []
+unary_code unary.ExtrUi d a = Bitfield Ubfm d a 0 31 ∷ []
+unary_code unary.HtonrUs d a = Reverse Rev16 d a ∷ Bitfield Ubfm d d 0 15 ∷ []
+unary_code unary.HtonrUi d a = Reverse Rev32 d a ∷ Bitfield Ubfm d d 0 31 ∷ []
+unary_code unary.HtonrUl d a = Reverse Rev d a ∷ []

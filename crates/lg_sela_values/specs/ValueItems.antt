@@ -1,0 +1,103 @@
+-- The items of the nodes that compute values.
+use Rattle.std.specs.Prelude.{ℕ, Bool, true, false, List, [], ◌∷◌, ◌++◌, slice_index_or, ◌<◌, ⊤}
+use Rattle.lg_base.specs.HostNames.{host_address}
+use Rattle.lg_base.specs.declared.target.Target.TheVariants.{Aarch64}
+use Rattle.lg_op.specs.declared.op.Op.{Op}
+use Rattle.lg_op.specs.declared.op.Op.TheVariants as op
+use Rattle.lg_op.specs.declared.op.BinaryOp.{BinaryOp}
+use Rattle.lg_op.specs.declared.op.BinaryOp.TheVariants as binary
+use Rattle.lg_op.specs.declared.op.LastOperand.TheVariants as last_operand
+use Rattle.lg_op.specs.declared.op.WideOp.{WideOp}
+use Rattle.lg_op.specs.declared.op.PlainOp.TheVariants as plain
+use Rattle.lg_op.specs.declared.node.Node.{Node}
+use Rattle.lg_op.specs.declared.operand.Operand.{Operand}
+use Rattle.lg_op.specs.declared.operand.Operand.TheVariants as operand
+use Rattle.lg_a64.specs.declared.instruction.Instr.TheVariants.{Unscaled}
+use Rattle.lg_a64.specs.declared.instruction.UnscaledOp.TheVariants.{Ldur, Stur}
+use Rattle.lg_temp.specs.declared.choice.Need.{Need}
+use Rattle.lg_temp.specs.declared.choice.Need.TheVariants.{Any}
+use Rattle.lg_temp.specs.declared.choice.Choice.{Choice}
+use Rattle.lg_temp.specs.declared.choice.Choice.TheVariants.{Free, Own, Spill}
+use Rattle.lg_temp.specs.Abis.{register_of}
+use Rattle.lg_temp.specs.Chosen.{taken_by}
+use Rattle.lg_carry_a64.specs.Numbers.{number_code}
+use Rattle.lg_carry_a64.specs.A64Rows.{frame_pointer, link, slot_offset}
+use Rattle.lg_sela_items.specs.declared.items.Item.{Item}
+use Rattle.lg_sela_items.specs.declared.items.Item.TheVariants.{One, Address}
+use Rattle.lg_sela_items.specs.Items.{ones}
+use Rattle.lg_sela_values.specs.BinaryCode.{register_code, second_register, number_form_code}
+use Rattle.lg_sela_values.specs.UnaryCode.{unary_code}
+use Rattle.lg_sela_values.specs.WideCode.{wide_code, wide_by_link}
+
+-- the operations whose nodes compute values
+abbrev pub computes_value : Op → Bool
+computes_value (op.Binary o last) = true
+computes_value (op.Wide o last) = true
+computes_value (op.Unary o) = true
+computes_value (op.Plain plain.Movi) = true
+computes_value o = false
+
+-- a remainder by an immediate needs a temporary
+abbrev pub value_needs : Op → List Need
+value_needs (op.Binary binary.Rem last_operand.Immediate) = Any ∷ []
+value_needs (op.Binary binary.RemU last_operand.Immediate) = Any ∷ []
+value_needs o = []
+
+-- the register of the first choice
+abbrev pub first_taken : List Choice → ℕ
+first_taken [] = 0
+first_taken (choice ∷ choices) = taken_by choice
+
+-- the word of an immediate, into register t
+abbrev pub load_items : ℕ → Operand → List Item
+load_items t (operand.Number v) = ones (number_code t v)
+load_items t (operand.Host name) = ones (number_code t (host_address name))
+load_items t (operand.Label l) = Address t l.0 ∷ []
+load_items t x = []
+
+-- d = a op x, where u is the temporary
+abbrev pub binary_items : BinaryOp → ℕ → ℕ → ℕ → Operand → List Item
+binary_items o u d a (operand.Reg b) = ones (register_code o d a (register_of Aarch64 b))
+binary_items o u d a (operand.Number v) = ones (number_form_code o u d a v)
+binary_items o u d a x = load_items (second_register o u) x ++ ones (register_code o d a (second_register o u))
+
+-- d and e = a op x
+abbrev pub wide_items : WideOp → ℕ → ℕ → ℕ → Operand → List Item
+wide_items o d e a (operand.Reg b) = ones (wide_code o d e a (register_of Aarch64 b))
+wide_items o d e a x = load_items link x ++ ones (wide_by_link o d e a)
+
+-- an operand; nodes have those of their form
+abbrev pub operand_in : List Operand → ℕ → Operand
+operand_in xs i = slice_index_or xs i (operand.Number 0)
+
+-- the register that stands for an operand that is one
+abbrev pub register_for : Operand → ℕ
+register_for (operand.Reg r) = register_of Aarch64 r
+register_for x = 0
+
+abbrev pub register_in : List Operand → ℕ → ℕ
+register_in xs i = register_for (operand_in xs i)
+
+-- those of an operation with its operands, where u is the temporary
+abbrev pub body_items : Op → List Operand → ℕ → List Item
+body_items (op.Binary o last) xs u = binary_items o u (register_in xs 0) (register_in xs 1) (operand_in xs 2)
+body_items (op.Wide o last) xs u = wide_items o (register_in xs 0) (register_in xs 1) (register_in xs 2) (operand_in xs 3)
+body_items (op.Unary o) xs u = ones (unary_code o (register_in xs 0) (register_in xs 1))
+body_items (op.Plain plain.Movi) xs u = load_items (register_in xs 0) (operand_in xs 1)
+body_items o xs u = []
+
+-- with each register that is saved
+abbrev pub saved_items : List Choice → List Item → List Item
+saved_items [] body = body
+saved_items (Free r ∷ choices) body = saved_items choices body
+saved_items (Own r ∷ choices) body = saved_items choices body
+saved_items (Spill r k ∷ choices) body = One (Unscaled Stur r frame_pointer (slot_offset k)) ∷ (saved_items choices body ++ One (Unscaled Ldur r frame_pointer (slot_offset k)) ∷ [])
+
+abbrev pub value_items : Node → List Choice → List Item
+value_items n choices = saved_items choices (body_items n.op n.operands (first_taken choices))
+
+-- the slots are those of a frame
+abbrev pub HaveSlots : List Choice → Type 0
+HaveSlots [] = ⊤
+HaveSlots (Spill r k ∷ choices) = (k < 5) × HaveSlots choices
+HaveSlots (choice ∷ choices) = HaveSlots choices

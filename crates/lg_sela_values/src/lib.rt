@@ -1,0 +1,10 @@
+//! The code of AArch64 for the nodes that compute values: what it is made of, and that it carries them.
+#![tactic(auto)]
+
+mod binary;
+pub mod laws;
+mod unary;
+mod values;
+mod wide;
+
+pub use values::value_items;

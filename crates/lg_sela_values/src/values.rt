@@ -1,0 +1,173 @@
+// The nodes that compute values.
+
+ghost use Rattle.std.specs.Prelude.{◌≡◌, ◌+◌, ◌<◌, ◌≤◌, [], ◌∷◌, ◌++◌, length, slice_index_or};
+ghost use Rattle.lg_carry_a64.specs.A64Rows.{slot_offset};
+ghost use Rattle.lg_sela_items.specs.Items.{words_in};
+ghost use Rattle.lg_sela_values.specs.ValueItems.{load_items, binary_items, wide_items, register_for, body_items, value_items, HaveSlots};
+
+use crate::binary::{number_form_code, register_code, second_register};
+use crate::unary::unary_code;
+use crate::wide::{wide_by_link, wide_code};
+use lg_a64::{Instr, UnscaledOp};
+use lg_op::{BinaryOp, Label, Node, Op, Operand, PlainOp, Reg, WideOp};
+use lg_sel_items::Items;
+use lg_sela_items::{FRAME_POINTER, Item, LINK, put_number, register_of};
+use lg_temp::choice::{Choice, Choices};
+
+// The register of an operand that is one, and else 0.
+fn register_for(operand: Operand) -> u8
+    ensures { result ≡ register_for operand }
+{
+    match operand {
+        Operand::Reg(reg) => register_of(reg),
+        _ => 0,
+    }
+}
+
+// An operand by its place, and the number 0 where there is none.
+fn operand_in(operands: &[Operand], index: usize) -> Operand
+    ensures { result ≡ slice_index_or operands.now index (Operand.Number 0) }
+{
+    match operands.get(index) {
+        Some(operand) => *operand,
+        None => Operand::Number(0),
+    }
+}
+
+// Appends the code that puts the word of an immediate into a register: at most 4 instructions, for which there is room. Of a register
+// nothing is appended.
+fn load_items(rd: u8, x: Operand, items: &mut Items<Item>)
+    requires { words_in items.old + 4 ≤ 64 }
+    ensures { items.new ≡ items.old ++ load_items rd x }
+{
+    match x {
+        Operand::Number(value) => put_number(rd, value, items),
+        Operand::Host(name) => put_number(rd, name.address(), items),
+        Operand::Label(Label(label)) => items.push(Item::Address {
+            rd: rd,
+            label: label,
+        }),
+        Operand::Reg(_) | Operand::Slot(_) => {}
+    }
+}
+
+// Appends the code of `d = a op x`, where `u` is the temporary: at most 6 instructions, for which there is room.
+#[tactic(auto, using(crate::proofs::EmissionLemmas::load_words))]
+fn binary_items(op: BinaryOp, u: u8, d: u8, a: u8, x: Operand, items: &mut Items<Item>)
+    requires { words_in items.old + 6 ≤ 64 }
+    ensures { items.new ≡ items.old ++ binary_items op u d a x }
+{
+    match x {
+        Operand::Reg(b) => register_code(op, d, a, register_of(b), items),
+        Operand::Number(value) => number_form_code(op, u, d, a, value, items),
+        Operand::Host(_) | Operand::Label(_) | Operand::Slot(_) => {
+            let second = second_register(op, u);
+            load_items(second, x, items);
+            register_code(op, d, a, second, items);
+        }
+    }
+}
+
+// Appends the code of `d, e = a op x`: at most 8 instructions, for which there is room.
+#[tactic(auto, using(crate::proofs::EmissionLemmas::load_words))]
+fn wide_items(op: WideOp, d: u8, e: u8, a: u8, x: Operand, items: &mut Items<Item>)
+    requires { words_in items.old + 8 ≤ 64 }
+    ensures { items.new ≡ items.old ++ wide_items op d e a x }
+{
+    match x {
+        Operand::Reg(b) => wide_code(op, d, e, a, register_of(b), items),
+        Operand::Number(_) | Operand::Host(_) | Operand::Label(_) | Operand::Slot(_) => {
+            load_items(LINK, x, items);
+            wide_by_link(op, d, e, a, items);
+        }
+    }
+}
+
+// Appends the code of an operation with its operands, where `u` is the temporary: at most 8 instructions, for which there is room.
+fn body_items(op: Op, operands: &[Operand], u: u8, items: &mut Items<Item>)
+    requires { words_in items.old + 8 ≤ 64 }
+    ensures { items.new ≡ items.old ++ body_items op operands.now u }
+{
+    let x = operand_in(operands, 0);
+    let y = operand_in(operands, 1);
+    let z = operand_in(operands, 2);
+    match op {
+        Op::Binary(o, _) => binary_items(o, u, register_for(x), register_for(y), z, items),
+        Op::Wide(o, _) => wide_items(
+            o,
+            register_for(x),
+            register_for(y),
+            register_for(z),
+            operand_in(operands, 3),
+            items,
+        ),
+        Op::Unary(o) => unary_code(o, register_for(x), register_for(y), items),
+        Op::Plain(PlainOp::Movi) => load_items(register_for(x), y, items),
+        _ => {}
+    }
+}
+
+// Where a spill slot lies from FP.
+fn slot_offset(slot: u32) -> i32
+    requires { slot < 5 }
+    ensures { result ≡ slot_offset slot }
+{
+    -96 - 8 * (slot as i32)
+}
+
+// Saves a register in a slot.
+fn save(reg: u8, slot: u32) -> Instr
+    requires { slot < 5 }
+    ensures { result ≡ Instr.Unscaled (UnscaledOp.Stur) reg 29 (slot_offset slot) }
+{
+    Instr::Unscaled {
+        op: UnscaledOp::Stur,
+        rt: reg,
+        rn: FRAME_POINTER,
+        imm: slot_offset(slot),
+    }
+}
+
+// Restores a register from a slot.
+fn restore(reg: u8, slot: u32) -> Instr
+    requires { slot < 5 }
+    ensures { result ≡ Instr.Unscaled (UnscaledOp.Ldur) reg 29 (slot_offset slot) }
+{
+    Instr::Unscaled {
+        op: UnscaledOp::Ldur,
+        rt: reg,
+        rn: FRAME_POINTER,
+        imm: slot_offset(slot),
+    }
+}
+
+// Appends the code of a node with a temporary, which is saved and restored or not: at most 10 instructions, for which there is room.
+fn chosen_items(node: &Node, choice: &Choice, items: &mut Items<Item>)
+    requires slots { HaveSlots (choice.now ∷ []) }
+    requires room { words_in items.old + 10 ≤ 64 }
+    ensures { items.new ≡ items.old ++ value_items node.now (choice.now ∷ []) }
+{
+    let operands = node.operands.as_slice();
+    match *choice {
+        Choice::Free(reg) | Choice::Own(reg) => body_items(node.op, operands, reg, items),
+        Choice::Spill { reg, slot } => {
+            items.one(save(reg, slot));
+            body_items(node.op, operands, reg, items);
+            items.one(restore(reg, slot));
+        }
+    }
+}
+
+/// Appends the code of a node that computes a value, or two: at most 10 instructions, for which there is room. Of every other node no code
+/// is appended but saves and restores. There is a choice at most.
+pub fn value_items(node: &Node, choices: &Choices, items: &mut Items<Item>)
+    requires few { length choices.now ≤ 1 }
+    requires slots { HaveSlots choices.now }
+    requires room { words_in items.old + 10 ≤ 64 }
+    ensures { items.new ≡ items.old ++ value_items node.now choices.now }
+{
+    match choices.as_slice() {
+        [] => body_items(node.op, node.operands.as_slice(), 0, items),
+        [choice, ..] => chosen_items(node, choice, items),
+    }
+}
