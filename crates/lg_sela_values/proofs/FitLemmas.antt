@@ -31,7 +31,7 @@ use Rattle.lg_sela_items.specs.GoodItems.{Fine, AreGood, IsGoodItem}
 use Rattle.lg_sela_items.proofs.WithinLemmas.{portable}
 use Rattle.lg_sela_items.proofs.GoodLemmas.{good-append, link-fine, number-good, ones-good, items-good}
 use Rattle.lg_sela_values.specs.BinaryCode.{register_code, second_register, loaded_code, is_small, takes_small, small_code, takes_negative, negative_code, negative_form_code, small_form_code, number_form_code}
-use Rattle.lg_sela_values.specs.UnaryCode.{unary_code}
+use Rattle.lg_sela_values.specs.UnaryCode.{unary_code, extension, retval_code}
 use Rattle.lg_sela_values.specs.WideCode.{product_by_link, quotient_by_link, wide_code, wide_by_link}
 use Rattle.lg_sela_values.specs.ValueItems.{load_items, binary_items, wide_items, register_for, register_in, operand_in, body_items}
 
@@ -203,4 +203,5 @@ body-good (op.Wide o last) xs u h = wide-items-good o (register_in xs 0) (regist
 body-good (op.Unary o) xs u h = ones-good (unary_code o (register_in xs 0) (register_in xs 1)) (unary-good o (register_in xs 0) (register_in xs 1) (fine-at xs 0) (fine-at xs 1).0)
 body-good (op.Plain plain.Movi) xs u h = load-good (register_in xs 0) (operand_in xs 1) (fine-at xs 0)
 body-good (op.Plain o) xs u h = tt
+body-good (op.Retval t) xs u h = ones-good (retval_code t (register_in xs 0)) (unary-good (extension t) (register_in xs 0) 0 (fine-at xs 0) (omega arith))
 body-good o xs u h = tt

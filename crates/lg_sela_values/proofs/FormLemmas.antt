@@ -44,6 +44,11 @@ is-source (operand.Host name) h = cc
 is-source (operand.Slot k) h = cc
 
 -- the operands of so many forms
+pub record OneOperand (f : Form) (xs : List Operand) : Type 0 where
+  pub x : Operand
+  pub are : xs ≡ x ∷ []
+  pub first : admits f x ≡ true
+
 pub record TwoOperands (f g : Form) (xs : List Operand) : Type 0 where
   pub x : Operand
   pub y : Operand
@@ -78,6 +83,9 @@ no-more (x ∷ xs) e = cc
 one : (f : Form) (fs : List Form) (xs : List Operand) → admit (f ∷ fs) xs ≡ true → (x : Operand) × (ys : List Operand) × (xs ≡ x ∷ ys) × (admits f x ≡ true) × (admit fs ys ≡ true)
 one f fs [] e = cc
 one f fs (x ∷ xs) e = let b = and-true (admits f x) (admit fs xs) e in (x, xs, refl, b.0, b.1)
+
+pub one-operand : (f : Form) (xs : List Operand) → admit (f ∷ []) xs ≡ true → OneOperand f xs
+one-operand f xs e = let a = one f [] xs e in record { x = a.0; are = a.2 ∙ ap (λ r. a.0 ∷ r) (no-more a.1 a.4); first = a.3 }
 
 pub two-operands : (f g : Form) (xs : List Operand) → admit (f ∷ g ∷ []) xs ≡ true → TwoOperands f g xs
 two-operands f g xs e =

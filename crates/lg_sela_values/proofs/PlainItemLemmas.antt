@@ -7,24 +7,25 @@ use Rattle.lg_op.specs.declared.form.Form.TheVariants.{Immediate}
 use Rattle.lg_op.specs.declared.op.BinaryOp.{BinaryOp}
 use Rattle.lg_op.specs.declared.op.WideOp.{WideOp}
 use Rattle.lg_op.specs.declared.op.UnaryOp.{UnaryOp}
+use Rattle.lg_op.specs.declared.op.ValueType.{ValueType}
 use Rattle.lg_op.specs.declared.op.LastOperand.TheVariants as last_operand
 use Rattle.lg_op.specs.declared.operand.Reg.{Reg}
 use Rattle.lg_op.specs.declared.operand.Reg.TheVariants.{Fp}
 use Rattle.lg_op.specs.declared.operand.Operand.{Operand}
 use Rattle.lg_op.specs.declared.operand.Operand.TheVariants as operand
 use Rattle.lg_temp.specs.Abis.{register_of}
-use Rattle.lg_sel_values.specs.ValueNodes.{binary_node, wide_node, unary_node, movi_node}
+use Rattle.lg_sel_values.specs.ValueNodes.{binary_node, wide_node, unary_node, movi_node, retval_node}
 use Rattle.lg_carry_a64.specs.A64Rows.{link}
 use Rattle.lg_carry_a64.proofs.RegisterLemmas.{register-small}
 use Rattle.lg_sela_items.specs.Items.{ones}
 use Rattle.lg_sela_values.specs.BinaryCode.{register_code}
-use Rattle.lg_sela_values.specs.UnaryCode.{unary_code}
+use Rattle.lg_sela_values.specs.UnaryCode.{unary_code, retval_code}
 use Rattle.lg_sela_values.specs.WideCode.{wide_code, wide_by_link}
 use Rattle.lg_sela_values.specs.ValueItems.{load_items, wide_items}
 use Rattle.lg_sela_values.proofs.BinaryItemLemmas.{registers-compute, is-made, immediate-computes, is_remainder, none-for-registers, none-needed, link-second}
 use Rattle.lg_sela_values.proofs.ImmediateLemmas.{is-load}
 use Rattle.lg_sela_values.proofs.SettledLemmas.{Settles, settles-ones, settles-append, IsCarried, carried-plain}
-use Rattle.lg_sela_values.proofs.UnaryNodeLemmas.{movi-computes, unary-node-computes}
+use Rattle.lg_sela_values.proofs.UnaryNodeLemmas.{movi-computes, retval-computes, unary-node-computes}
 use Rattle.lg_sela_values.proofs.WideNodeLemmas.{wide-registers, wide-loaded}
 
 -- ---- one word
@@ -39,6 +40,11 @@ movi-carried d x line named immediate = carried-plain (movi_node d x line) refl 
     let dl = register-small d in
     let l = is-load c.addresses (register_of Aarch64 d) x (omega (arith, dl)) immediate words.1.0 in
     record { body = l.code; settles = record { become = l.settles }; computes = movi-computes c i d x l.word line named l.given t l.code l.loads })
+
+pub retval-carried : (t : ValueType) (d : Reg) (line : ℕ) → d ≢ Fp → IsCarried (retval_node t d line)
+retval-carried t d line named = carried-plain (retval_node t d line) refl refl refl
+    (λ c i x words. let code = retval_code t (register_of Aarch64 d) in
+    record { body = code; settles = settles-ones (slice_index c.addresses) code; computes = retval-computes c i t d line named x })
 
 -- ---- two words
 pub registers-carried : (o : BinaryOp) (d a b : Reg) (line : ℕ) → d ≢ Fp → IsCarried (binary_node o last_operand.Register d a (operand.Reg b) line)

@@ -4,11 +4,13 @@ use Rattle.lg_base.specs.CarryFlags.{carry_of}
 use Rattle.lg_base.specs.declared.target.Target.TheVariants.{Aarch64}
 use Rattle.lg_op.specs.declared.op.UnaryOp.{UnaryOp}
 use Rattle.lg_op.specs.declared.op.UnaryOp.TheVariants as unary
+use Rattle.lg_op.specs.declared.op.ValueType.{ValueType}
+use Rattle.lg_op.specs.declared.op.ValueType.TheVariants as value_type
 use Rattle.lg_op.specs.declared.operand.Reg.{Reg}
 use Rattle.lg_op.specs.declared.operand.Reg.TheVariants.{Fp}
 use Rattle.lg_op.specs.declared.operand.Operand.{Operand}
 use Rattle.lg_operators.specs.declared.carry.Carry.{Carry}
-use Rattle.lg_operators.specs.Operators.{unary_value, is_move}
+use Rattle.lg_operators.specs.Operators.{unary_value, is_move, typed}
 use Rattle.lg_meaning.specs.States.{State, value}
 use Rattle.lg_a64.specs.declared.instruction.Instr.{Instr}
 use Rattle.lg_temp.specs.Abis.{register_of}
@@ -16,15 +18,15 @@ use Rattle.lg_carry.specs.FinalNodes.{Code}
 use Rattle.lg_carry.specs.Registers.{HoldsCarry}
 use Rattle.lg_carry.specs.TextNodes.{IsInText}
 use Rattle.lg_sel_values.specs.Computers.{Held}
-use Rattle.lg_sel_values.specs.ValueNodes.{unary_node, movi_node}
+use Rattle.lg_sel_values.specs.ValueNodes.{unary_node, movi_node, retval_node}
 use Rattle.lg_sel_values.specs.Values.{KeepsCarry}
-use Rattle.lg_sel_values.proofs.OneWordLemmas.{unary-nodes-compute, movi-nodes-compute}
+use Rattle.lg_sel_values.proofs.OneWordLemmas.{unary-nodes-compute, movi-nodes-compute, retval-nodes-compute}
 use Rattle.lg_carry_a64.specs.A64Computers.{a64_scratch, a64_computer, IsComputed}
 use Rattle.lg_carry_a64.specs.Computations.{computed}
 use Rattle.lg_carry_a64.proofs.ComputerLemmas.{into, carry-stays, known-carry}
 use Rattle.lg_carry_a64.proofs.HeldLemmas.{put-same, put-other}
 use Rattle.lg_carry_a64.proofs.RegisterLemmas.{register-small}
-use Rattle.lg_sela_values.specs.UnaryCode.{unary_code}
+use Rattle.lg_sela_values.specs.UnaryCode.{unary_code, extension, retval_code}
 use Rattle.lg_sela_values.proofs.LoadCodeLemmas.{LoadsWord}
 use Rattle.lg_sela_values.proofs.UnaryCodeLemmas.{unary-computed, unary-keeps, unary-computes, unary-some}
 
@@ -59,3 +61,22 @@ movi-computes c i d x v line named given t load l code trash =
     })
     (λ w k e. carry-stays k w.registers (computed load w).registers (carry_of w.flags) (carry_of (computed load w).flags) (λ b z. ap (λ u. carry_of u.flags) (l.value w) ∙ z) e)
     (λ w. ap (λ u. u.registers (register_of Aarch64 d)) (l.value w) ∙ put-same w.registers (register_of Aarch64 d) v)
+
+-- ---- the result of a call
+extends : (t : ValueType) (x : ℕ) → unary_value (extension t) x ≡ typed t x
+extends value_type.Char x = refl
+extends value_type.UnsignedChar x = refl
+extends value_type.Short x = refl
+extends value_type.UnsignedShort x = refl
+extends value_type.Int x = refl
+extends value_type.UnsignedInt x = refl
+extends value_type.Long x = refl
+
+pub retval-computes : (c : Code) (i : ℕ) (t : ValueType) (d : Reg) (line : ℕ) → d ≢ Fp → IsInText c i (retval_node t d line) → IsComputed c i (retval_node t d line) [] (retval_code t (register_of Aarch64 d))
+retval-computes c i t d line named x code trash =
+    let rd = register_of Aarch64 d in
+    let dl = register-small d in
+    let body = retval_code t rd in
+    retval-nodes-compute (a64_computer code trash) a64_scratch c i t d line [] body named x
+    (into code trash (d ∷ []) [] body record { some = unary-some (extension t) rd 0; computes = unary-computes (extension t) rd 0; keeps = λ w r apart taken off. unary-keeps (extension t) rd 0 w r apart.0 })
+    (λ w words. unary-computed rd 0 (omega (arith, dl)) (omega arith) w (extension t) ∙ extends t (w.registers 0))

@@ -27,7 +27,7 @@ use Rattle.lg_sela_items.specs.declared.items.Item.{Item}
 use Rattle.lg_sela_items.specs.Items.{words_in, ones, NameLabels}
 use Rattle.lg_sela_items.proofs.ItemLemmas.{names-append, names-ones}
 use Rattle.lg_sela_values.specs.BinaryCode.{register_code, second_register, number_form_code}
-use Rattle.lg_sela_values.specs.UnaryCode.{unary_code}
+use Rattle.lg_sela_values.specs.UnaryCode.{unary_code, retval_code}
 use Rattle.lg_sela_values.specs.WideCode.{wide_code, wide_by_link}
 use Rattle.lg_sela_values.specs.ValueItems.{value_needs, first_taken, load_items, binary_items, wide_items, operand_in, register_in, body_items, saved_items, value_items, HaveSlots}
 use Rattle.lg_sela_values.specs.ValueFits.{AreValueItems, ValueItemsFit, ValueItemsStay, NamesBelow, NameBelow, ValueItemsName}
@@ -166,6 +166,7 @@ body-names labels (op.Wide o last) xs u h = wide-names labels o (register_in xs 
 body-names labels (op.Unary o) xs u h = names-ones labels (unary_code o (register_in xs 0) (register_in xs 1))
 body-names labels (op.Plain plain.Movi) xs u h = load-names labels (register_in xs 0) (operand_in xs 1) (operand-below labels xs 1 h)
 body-names labels (op.Plain o) xs u h = tt
+body-names labels (op.Retval t) xs u h = names-ones labels (retval_code t (register_in xs 0))
 body-names labels o xs u h = tt
 
 saved-names : (labels : ℕ) (choices : List Choice) (body : List Item) → NameLabels labels body → NameLabels labels (saved_items choices body)

@@ -14,14 +14,14 @@ use Rattle.lg_op.specs.declared.operand.Reg.{Reg}
 use Rattle.lg_op.specs.declared.operand.Reg.TheVariants.{Fp}
 use Rattle.lg_op.specs.declared.operand.Operand.{Operand}
 use Rattle.lg_op.specs.declared.operand.Operand.TheVariants as operand
-use Rattle.lg_sel_values.specs.ValueNodes.{binary_node, wide_node, unary_node, movi_node}
+use Rattle.lg_sel_values.specs.ValueNodes.{binary_node, wide_node, unary_node, movi_node, retval_node}
 use Rattle.lg_sela_values.specs.ValueItems.{computes_value}
 use Rattle.lg_sela_values.specs.ValueLaws.{ValueNodesCarry}
-use Rattle.lg_sela_values.proofs.FormLemmas.{is-target, is-source, two-operands, three-operands, four-operands}
+use Rattle.lg_sela_values.proofs.FormLemmas.{is-target, is-source, one-operand, two-operands, three-operands, four-operands}
 use Rattle.lg_op.specs.Forms.{forms_of, admit}
 use Rattle.lg_op.specs.Nodes.{InForm, IsApart}
 use Rattle.lg_sela_values.proofs.SettledLemmas.{IsCarried}
-use Rattle.lg_sela_values.proofs.PlainItemLemmas.{unary-carried, movi-carried, registers-carried, immediate-carried, wide-registers-carried, wide-immediate-carried}
+use Rattle.lg_sela_values.proofs.PlainItemLemmas.{unary-carried, movi-carried, retval-carried, registers-carried, immediate-carried, wide-registers-carried, wide-immediate-carried}
 use Rattle.lg_sela_values.proofs.TemporaryItemLemmas.{temporary-carried}
 use Rattle.lg_sela_values.proofs.BinaryItemLemmas.{is_remainder}
 
@@ -78,6 +78,12 @@ module _ (n : Node) (form : InForm n) where
       let are : n.operands ≡ operand.Reg d.register ∷ m.y ∷ [] = m.are ∙ (λ j. d.is j ∷ m.y ∷ []) in
       let same : n ≡ movi_node d.register m.y n.line = λ j. record { op = e j; operands = are j; line = n.line } in
       subst IsCarried (sym same) (movi-carried d.register m.y n.line d.named m.second)
+  by-operation (op.Retval t) e h =
+      let m = one-operand Write n.operands (admitted (op.Retval t) e) in
+      let d = is-target m.x m.first in
+      let are : n.operands ≡ operand.Reg d.register ∷ [] = m.are ∙ (λ j. d.is j ∷ []) in
+      let same : n ≡ retval_node t d.register n.line = λ j. record { op = e j; operands = are j; line = n.line } in
+      subst IsCarried (sym same) (retval-carried t d.register n.line d.named)
   by-operation o e h = cc
 
 pub value-nodes-carry : ValueNodesCarry

@@ -31,7 +31,7 @@ use Rattle.lg_sela_items.specs.declared.items.Item.TheVariants.{One}
 use Rattle.lg_sela_items.specs.Items.{words_in, ones}
 use Rattle.lg_sela_items.proofs.ItemLemmas.{words_append, words-ones}
 use Rattle.lg_sela_values.specs.BinaryCode.{register_code, second_register, loaded_code, is_small, takes_small, small_code, takes_negative, negative_code, negative_form_code, small_form_code, number_form_code}
-use Rattle.lg_sela_values.specs.UnaryCode.{unary_code}
+use Rattle.lg_sela_values.specs.UnaryCode.{unary_code, extension, retval_code}
 use Rattle.lg_sela_values.specs.WideCode.{product_by_link, quotient_by_link, wide_code, wide_by_link}
 use Rattle.lg_sela_values.specs.ValueItems.{load_items, binary_items, wide_items, register_in, operand_in, body_items, saved_items}
 use Rattle.lg_sela_values.proofs.EmissionLemmas.{load_words}
@@ -142,6 +142,7 @@ body_few (op.Wide o last) xs u = wide-items-few o (register_in xs 0) (register_i
 body_few (op.Unary o) xs u = let h = ones-few (unary_code o (register_in xs 0) (register_in xs 1)) 2 (unary-few o (register_in xs 0) (register_in xs 1)) in omega (arith, h)
 body_few (op.Plain plain.Movi) xs u = let h = load-few (register_in xs 0) (operand_in xs 1) in omega (arith, h)
 body_few (op.Plain o) xs u = omega arith
+body_few (op.Retval t) xs u = let h = ones-few (retval_code t (register_in xs 0)) 2 (unary-few (extension t) (register_in xs 0) 0) in omega (arith, h)
 body_few o xs u = omega arith
 
 -- a save and a restore for each choice at most

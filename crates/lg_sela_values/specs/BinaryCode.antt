@@ -111,7 +111,8 @@ negative_code binary.Add d a v = Imm Subi d a (negated v) false ∷ []
 negative_code o d a v = Imm Addi d a (negated v) false ∷ []
 
 abbrev pub negative_form_code : BinaryOp → ℕ → ℕ → ℕ → ℕ → List Instr
-negative_form_code o u d a v = if takes_negative o then (if is_small (negated v) then negative_code o d a v else loaded_code o u d a v) else loaded_code o u d a v
+negative_form_code o u d a v =
+    if takes_negative o then (if is_small (negated v) then negative_code o d a v else loaded_code o u d a v) else loaded_code o u d a v
 
 abbrev pub small_form_code : BinaryOp → ℕ → ℕ → ℕ → ℕ → List Instr
 small_form_code o u d a v = if takes_small o then (if is_small v then small_code o d a v else negative_form_code o u d a v) else loaded_code o u d a v

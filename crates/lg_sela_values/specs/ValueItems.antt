@@ -26,7 +26,7 @@ use Rattle.lg_sela_items.specs.declared.items.Item.{Item}
 use Rattle.lg_sela_items.specs.declared.items.Item.TheVariants.{One, Address}
 use Rattle.lg_sela_items.specs.Items.{ones}
 use Rattle.lg_sela_values.specs.BinaryCode.{register_code, second_register, number_form_code}
-use Rattle.lg_sela_values.specs.UnaryCode.{unary_code}
+use Rattle.lg_sela_values.specs.UnaryCode.{unary_code, retval_code}
 use Rattle.lg_sela_values.specs.WideCode.{wide_code, wide_by_link}
 
 -- the operations whose nodes compute values
@@ -35,6 +35,7 @@ computes_value (op.Binary o last) = true
 computes_value (op.Wide o last) = true
 computes_value (op.Unary o) = true
 computes_value (op.Plain plain.Movi) = true
+computes_value (op.Retval t) = true
 computes_value o = false
 
 -- a remainder by an immediate needs a temporary
@@ -84,6 +85,7 @@ body_items (op.Binary o last) xs u = binary_items o u (register_in xs 0) (regist
 body_items (op.Wide o last) xs u = wide_items o (register_in xs 0) (register_in xs 1) (register_in xs 2) (operand_in xs 3)
 body_items (op.Unary o) xs u = ones (unary_code o (register_in xs 0) (register_in xs 1))
 body_items (op.Plain plain.Movi) xs u = load_items (register_in xs 0) (operand_in xs 1)
+body_items (op.Retval t) xs u = ones (retval_code t (register_in xs 0))
 body_items o xs u = []
 
 -- with each register that is saved
@@ -91,7 +93,8 @@ abbrev pub saved_items : List Choice → List Item → List Item
 saved_items [] body = body
 saved_items (Free r ∷ choices) body = saved_items choices body
 saved_items (Own r ∷ choices) body = saved_items choices body
-saved_items (Spill r k ∷ choices) body = One (Unscaled Stur r frame_pointer (slot_offset k)) ∷ (saved_items choices body ++ One (Unscaled Ldur r frame_pointer (slot_offset k)) ∷ [])
+saved_items (Spill r k ∷ choices) body =
+    One (Unscaled Stur r frame_pointer (slot_offset k)) ∷ (saved_items choices body ++ One (Unscaled Ldur r frame_pointer (slot_offset k)) ∷ [])
 
 abbrev pub value_items : Node → List Choice → List Item
 value_items n choices = saved_items choices (body_items n.op n.operands (first_taken choices))

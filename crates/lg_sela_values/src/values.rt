@@ -6,10 +6,10 @@ ghost use Rattle.lg_sela_items.specs.Items.{words_in};
 ghost use Rattle.lg_sela_values.specs.ValueItems.{load_items, binary_items, wide_items, register_for, body_items, value_items, HaveSlots};
 
 use crate::binary::{number_form_code, register_code, second_register};
-use crate::unary::unary_code;
+use crate::unary::{retval_code, unary_code};
 use crate::wide::{wide_by_link, wide_code};
 use lg_a64::{Instr, UnscaledOp};
-use lg_op::{BinaryOp, Label, Node, Op, Operand, PlainOp, Reg, WideOp};
+use lg_op::{BinaryOp, Label, Node, Op, Operand, PlainOp, Reg, ValueType, WideOp};
 use lg_sel_items::Items;
 use lg_sela_items::{FRAME_POINTER, Item, LINK, put_number, register_of};
 use lg_temp::choice::{Choice, Choices};
@@ -103,6 +103,7 @@ fn body_items(op: Op, operands: &[Operand], u: u8, items: &mut Items<Item>)
         ),
         Op::Unary(o) => unary_code(o, register_for(x), register_for(y), items),
         Op::Plain(PlainOp::Movi) => load_items(register_for(x), y, items),
+        Op::Retval(value) => retval_code(value, register_for(x), items),
         _ => {}
     }
 }
