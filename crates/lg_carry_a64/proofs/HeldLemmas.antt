@@ -1,10 +1,8 @@
 -- What instructions make of registers that are no 31.
-use Rattle.std.proofs.Common.{◌≡◌, ◌≢◌, ℕ, ◌<◌, Bool, true, false, List, [], ◌∷◌, refl, ap, ◌∙◌, arith}
+use Rattle.std.proofs.Common.{◌≡◌, ◌≢◌, ℕ, ◌<◌, Bool, true, false, refl, ap, arith}
 use Rattle.std.specs.Prelude.{◌==◌, if◌then◌else◌}
 use Rattle.lg_cpu.specs.HostSteps.{put}
-use Rattle.lg_base.specs.declared.flags.Flags.{Flags}
 use Rattle.lg_cpu.specs.A64Step.{read, write}
-use Rattle.lg_sel_values.specs.Computers.{Held}
 use Rattle.lg_sel_values.proofs.ComputationLemmas.{pointwise}
 
 pub not-last : (r : ℕ) → r < 31 → (r == 31) ≡ false

@@ -1,5 +1,5 @@
 -- Code that loads a number into a register.
-use Rattle.std.proofs.Common.{◌≡◌, ◌≢◌, ℕ, zero, suc, ◌+◌, ◌-◌, ◌*◌, ◌/◌, ◌%◌, ◌^◌, ◌<◌, ◌≤◌, Bool, true, false, List, [], ◌∷◌, ◌++◌, refl, sym, ap, ◌∙◌, arith, length, length-append}
+use Rattle.std.proofs.Common.{◌≡◌, ℕ, zero, suc, ◌*◌, ◌/◌, ◌%◌, ◌^◌, ◌<◌, ◌≤◌, Bool, true, false, List, [], ◌∷◌, ◌++◌, refl, ap, ◌∙◌, arith, length, length-append}
 use Rattle.std.specs.Prelude.{◌==◌, nat_lt, if◌then◌else◌}
 use Rattle.std.specs.List.{All}
 use Rattle.lg_base.specs.Words.{complement}
@@ -8,8 +8,7 @@ use Rattle.lg_a64.specs.declared.instruction.Instr.{Instr}
 use Rattle.lg_a64.specs.declared.instruction.Instr.TheVariants.{Wide}
 use Rattle.lg_a64.specs.declared.instruction.WideOp.TheVariants.{Movz, Movn, Movk}
 use Rattle.lg_cpu.specs.HostSteps.{put}
-use Rattle.lg_base.specs.declared.flags.Flags.{Flags}
-use Rattle.lg_cpu.specs.A64Operators.{replaced, quarter, wide_value}
+use Rattle.lg_cpu.specs.A64Operators.{replaced, quarter}
 use Rattle.lg_cpu.specs.A64Step.{read, write}
 use Rattle.lg_sel_values.specs.Computers.{Held}
 use Rattle.lg_sel_values.proofs.ComputationLemmas.{computed-append}

@@ -5,7 +5,7 @@ use Rattle.lg_base.specs.declared.target.Target.TheVariants.{Aarch64}
 use Rattle.lg_a64.specs.declared.instruction.Instr.{Instr}
 use Rattle.lg_a64.specs.declared.instruction.Instr.TheVariants.{Reg, Imm, Wide, MulAdd, Bitfield, Csinc, Reverse, Scaled, Ldrx, Unscaled, Branch, BranchIf, BranchReg, Nop}
 use Rattle.lg_a64.specs.declared.instruction.ScaledOp.{ScaledOp}
-use Rattle.lg_a64.specs.declared.instruction.ScaledOp.TheVariants.{Ldr64, Str64, Ldr32, Ldrs32, Str32, Ldr16, Ldrs16, Str16, Ldr8, Ldrs8, Str8}
+use Rattle.lg_a64.specs.declared.instruction.ScaledOp.TheVariants.{Str64, Str32, Str16, Str8}
 use Rattle.lg_a64.specs.declared.instruction.UnscaledOp.{UnscaledOp}
 use Rattle.lg_a64.specs.declared.instruction.UnscaledOp.TheVariants.{Ldur, Stur}
 use Rattle.lg_a64.specs.declared.instruction.BranchOp.{BranchOp}

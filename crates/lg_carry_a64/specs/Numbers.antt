@@ -1,5 +1,5 @@
 -- Code that loads a number into a register: its quarters that are not 0, or, where its high half is all ones, those of its complement.
-use Rattle.std.specs.Prelude.{◌≡◌, ◌≢◌, ℕ, ◌+◌, ◌/◌, ◌%◌, ◌^◌, ◌<◌, ◌≤◌, ◌==◌, nat_lt, Bool, true, if◌then◌else◌, List, [], ◌∷◌, ◌++◌, length}
+use Rattle.std.specs.Prelude.{◌≡◌, ℕ, ◌/◌, ◌%◌, ◌^◌, ◌<◌, ◌≤◌, ◌==◌, nat_lt, true, if◌then◌else◌, List, [], ◌∷◌, ◌++◌, length}
 use Rattle.std.specs.List.{All}
 use Rattle.lg_base.specs.Words.{complement}
 use Rattle.lg_a64.specs.Spelling.{IsInstr}
@@ -7,7 +7,6 @@ use Rattle.lg_a64.specs.declared.instruction.Instr.{Instr}
 use Rattle.lg_a64.specs.declared.instruction.Instr.TheVariants.{Wide}
 use Rattle.lg_a64.specs.declared.instruction.WideOp.TheVariants.{Movz, Movn, Movk}
 use Rattle.lg_cpu.specs.HostSteps.{put}
-use Rattle.lg_base.specs.declared.flags.Flags.{Flags}
 use Rattle.lg_sel_values.specs.Computers.{Held}
 use Rattle.lg_carry_a64.specs.Computations.{holding, all_compute, computed}
 

@@ -1,6 +1,6 @@
 -- Items whose instructions are in range, within the conventions and followed by the next.
 use Rattle.std.proofs.Common.{◌≡◌, ℕ, ◌/◌, ◌%◌, ◌^◌, ◌<◌, Bool, true, false, List, [], ◌∷◌, ◌++◌, refl, arith}
-use Rattle.std.specs.Prelude.{⊤, ◌==◌, nat_lt, if◌then◌else◌}
+use Rattle.std.specs.Prelude.{◌==◌, nat_lt, if◌then◌else◌}
 use Rattle.lg_carry_a64.specs.Numbers.{quarter_code, positive_code, number_code}
 use Rattle.lg_carry_a64.specs.A64Rows.{is_straight}
 use Rattle.lg_a64.specs.declared.instruction.Instr.{Instr}

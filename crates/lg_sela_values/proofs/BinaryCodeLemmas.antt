@@ -1,18 +1,15 @@
 -- What the code of the operations on two words computes.
-use Rattle.std.proofs.Common.{◌≡◌, ◌≢◌, ℕ, ◌+◌, ◌*◌, ◌%◌, ◌^◌, ◌<◌, Bool, true, false, List, [], ◌∷◌, ◌++◌, Some, None, refl, sym, ap, ◌∙◌, arith, length}
+use Rattle.std.proofs.Common.{◌≡◌, ◌≢◌, ℕ, ◌+◌, ◌*◌, ◌%◌, ◌^◌, ◌<◌, Bool, true, false, Some, refl, sym, ap, ◌∙◌, arith, length}
 use Rattle.std.specs.Prelude.{◌==◌, ◌||◌, not, nat_lt, if◌then◌else◌, ⊤}
 use Rattle.lg_base.specs.CarryFlags.{carry_of}
-use Rattle.lg_base.specs.Words.{add_words, mul_words, sub_words, complement, quotient, quotient_signed, remainder, remainder_signed, is_less, is_less_signed, word_of_test, shifted_left, shifted_right, shifted_right_signed, carry_out, borrow_out}
+use Rattle.lg_base.specs.Words.{add_words, mul_words, sub_words, quotient, quotient_signed, remainder, remainder_signed, is_less, is_less_signed, word_of_test, shifted_left, shifted_right, shifted_right_signed, carry_out, borrow_out}
 use Rattle.lg_base.specs.declared.target.Target.TheVariants.{Aarch64}
 use Rattle.lg_op.specs.declared.op.BinaryOp.{BinaryOp}
 use Rattle.lg_op.specs.declared.op.BinaryOp.TheVariants as binary
-use Rattle.lg_operators.specs.Operators.{binary_value, is_carried, divides, is_least_by_minus_one, word_where, carry_in, carried_value, carried_out}
+use Rattle.lg_operators.specs.Operators.{binary_value, is_carried, divides, is_least_by_minus_one, word_where, carry_in, carried_value}
 use Rattle.lg_operators.specs.declared.carry.Carry.{Carry}
 use Rattle.lg_operators.specs.declared.carry.Carry.TheVariants as carry
 use Rattle.lg_meaning.specs.Steps.{bit_word}
-use Rattle.lg_a64.specs.declared.instruction.Instr.{Instr}
-use Rattle.lg_a64.specs.declared.instruction.Instr.TheVariants.{Reg, MulAdd, Csinc}
-use Rattle.lg_a64.specs.declared.instruction.RegOp.{RegOp}
 use Rattle.lg_a64.specs.declared.instruction.RegOp.TheVariants as row
 use Rattle.lg_a64.specs.declared.instruction.Cond.{Cond}
 use Rattle.lg_cpu.specs.HostSteps.{put}
@@ -23,7 +20,7 @@ use Rattle.lg_sel_values.specs.Computers.{Held}
 use Rattle.lg_sel_values.specs.Values.{HoldsCarried}
 use Rattle.lg_carry_a64.specs.Computations.{carry_or_false, known, all_compute, computed}
 use Rattle.lg_carry_a64.proofs.HeldLemmas.{read-is, write-is, put-same, put-other}
-use Rattle.lg_sela_values.specs.BinaryCode.{failing, test_code, compared_code, remainder_code, register_code}
+use Rattle.lg_sela_values.specs.BinaryCode.{failing, register_code}
 use Rattle.lg_sela_values.proofs.DivisionLemmas.{left-over, left-over-signed}
 use Rattle.lg_sela_values.proofs.FlagLemmas.{holds-lt, holds-ge, holds-gt, holds-le, holds-cc, holds-cs, holds-hi, holds-ls, holds-eq, holds-ne, test-word, test-word-not, difference-same}
 

@@ -22,10 +22,8 @@ use Rattle.lg_carry.specs.FinalNodes.{Code}
 use Rattle.lg_carry.specs.TextNodes.{IsInText}
 use Rattle.lg_sel_nodes.specs.Straight.{is_taken}
 use Rattle.lg_sel_nodes.proofs.RegisterLemmas.{same-self}
-use Rattle.lg_sel_values.specs.Computers.{Held}
 use Rattle.lg_sel_values.specs.ValueNodes.{binary_node}
 use Rattle.lg_carry_a64.specs.A64Computers.{IsComputed}
-use Rattle.lg_carry_a64.specs.A64Rows.{link}
 use Rattle.lg_carry_a64.proofs.RegisterLemmas.{register-small, register-off-link}
 use Rattle.lg_sela_items.specs.Items.{ones}
 use Rattle.lg_sela_values.specs.BinaryCode.{register_code, second_register, number_form_code}

@@ -1,12 +1,9 @@
 -- What a comparison of two words leaves in the flags.
-use Rattle.std.proofs.Common.{◌≡◌, ℕ, ◌+◌, ◌-◌, ◌%◌, ◌^◌, ◌<◌, Bool, true, false, refl, ap, ◌∙◌, arith}
-use Rattle.std.specs.Prelude.{◌==◌, ◌&&◌, not, nat_lt, nat_le, if◌then◌else◌}
-use Rattle.lg_base.specs.Words.{add_words, sub_words, differ, is_negative, is_less, is_less_signed, word_of_test, borrow_out, carry_out, sum_overflows, difference_overflows}
-use Rattle.lg_op.specs.declared.op.BinaryOp.{BinaryOp}
-use Rattle.lg_op.specs.declared.op.BinaryOp.TheVariants as binary
-use Rattle.lg_a64.specs.declared.instruction.Cond.{Cond}
+use Rattle.std.proofs.Common.{◌≡◌, ℕ, ◌^◌, ◌<◌, Bool, true, false, refl, ap, ◌∙◌, arith}
+use Rattle.std.specs.Prelude.{◌==◌, ◌&&◌, not}
+use Rattle.lg_base.specs.Words.{sub_words, differ, is_negative, is_less, is_less_signed, word_of_test, borrow_out}
 use Rattle.lg_a64.specs.declared.instruction.Cond.TheVariants as cond
-use Rattle.lg_cpu.specs.A64Operators.{holds, sum_of, difference_of, sum_leaves, difference_leaves, sum_flags, difference_flags, csinc_value}
+use Rattle.lg_cpu.specs.A64Operators.{holds, difference_of, difference_leaves, difference_flags, csinc_value}
 
 -- of a difference: N is not V where the first is less, C where it is not less without signs, and Z where they are equal
 pub less-is : (x y : ℕ) → x < 2 ^ 64 → y < 2 ^ 64 → differ (is_negative (difference_of x y 0)) (difference_leaves x y (difference_of x y 0)) ≡ is_less_signed x y

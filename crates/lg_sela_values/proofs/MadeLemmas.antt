@@ -1,11 +1,8 @@
 -- Code that makes the word of an operation of a register and another word, and the carry where the operation sets it; and the nodes that it computes.
-use Rattle.std.proofs.Common.{◌≡◌, ◌≢◌, ℕ, ◌+◌, ◌^◌, ◌<◌, Bool, true, false, List, [], ◌∷◌, ◌++◌, Some, refl, sym, ap, ◌∙◌, subst, arith, length}
-use Rattle.std.specs.Prelude.{not, nat_lt, if◌then◌else◌}
+use Rattle.std.proofs.Common.{◌≡◌, ◌≢◌, ℕ, ◌^◌, ◌<◌, Bool, true, false, List, [], ◌∷◌, ◌++◌, Some, refl, sym, ap, ◌∙◌, subst, length}
 use Rattle.lg_base.specs.CarryFlags.{carry_of}
-use Rattle.lg_base.specs.Words.{add_words, sub_words, negated, is_less, is_less_signed, word_of_test, carry_out, borrow_out}
 use Rattle.lg_base.specs.declared.target.Target.TheVariants.{Aarch64}
 use Rattle.lg_op.specs.declared.op.BinaryOp.{BinaryOp}
-use Rattle.lg_op.specs.declared.op.BinaryOp.TheVariants as binary
 use Rattle.lg_op.specs.declared.op.LastOperand.{LastOperand}
 use Rattle.lg_op.specs.declared.operand.Operand.{Operand}
 use Rattle.lg_op.specs.declared.operand.Reg.{Reg}

@@ -1,5 +1,5 @@
 -- Shifts by a number as bit fields.
-use Rattle.std.proofs.Common.{◌≡◌, ℕ, zero, suc, ◌+◌, ◌-◌, ◌*◌, ◌/◌, ◌%◌, ◌^◌, ◌<◌, ◌≤◌, Bool, true, false, refl, sym, ap, ◌∙◌, subst, arith}
+use Rattle.std.proofs.Common.{◌≡◌, ℕ, zero, suc, ◌+◌, ◌-◌, ◌*◌, ◌/◌, ◌%◌, ◌^◌, ◌<◌, ◌≤◌, Bool, true, false, refl, sym, ap, ◌∙◌, arith}
 use Rattle.std.specs.Prelude.{nat_lt, nat_le, if◌then◌else◌}
 use Rattle.std.proofs.Math.Nat.{div-add-mod, add-mul, mul_comm, mul-div_cancel, mul-mod_left, mod-eq_of_lt}
 use Rattle.std.proofs.lemmas.Nat.{div_below, div-mul-add, le-div, mod_below, mod-pow-add, pow-add}

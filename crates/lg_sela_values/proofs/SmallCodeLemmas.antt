@@ -1,19 +1,16 @@
 -- The code of the operations on a register and a number that an instruction holds.
 use Rattle.std.proofs.Common.{◌≡◌, ◌≢◌, ℕ, ◌+◌, ◌%◌, ◌^◌, ◌<◌, Bool, true, false, [], Some, refl, sym, ap, ◌∙◌, arith, length}
 use Rattle.std.specs.Prelude.{◌==◌, not}
-use Rattle.lg_base.specs.CarryFlags.{carry_of}
 use Rattle.lg_base.specs.Words.{add_words, sub_words, negated, is_less, is_less_signed, word_of_test, carry_out, borrow_out}
 use Rattle.lg_base.specs.declared.target.Target.TheVariants.{Aarch64}
 use Rattle.lg_op.specs.declared.op.BinaryOp.{BinaryOp}
 use Rattle.lg_op.specs.declared.op.BinaryOp.TheVariants as binary
 use Rattle.lg_operators.specs.declared.carry.Carry.{Carry}
-use Rattle.lg_operators.specs.Operators.{binary_value, is_carried, carry_in, carried_value}
+use Rattle.lg_operators.specs.Operators.{binary_value, is_carried, carry_in}
 use Rattle.lg_meaning.specs.Steps.{bit_word}
 use Rattle.lg_a64.specs.declared.instruction.Cond.{Cond}
-use Rattle.lg_cpu.specs.HostSteps.{put}
 use Rattle.lg_cpu.specs.A64Operators.{difference_flags, difference_of, csinc_value, holds}
 use Rattle.lg_cpu.specs.A64Step.{write}
-use Rattle.lg_carry.specs.Registers.{HoldsCarry}
 use Rattle.lg_sel_values.specs.Computers.{Held}
 use Rattle.lg_sel_values.specs.Values.{HoldsCarried}
 use Rattle.lg_carry_a64.specs.Computations.{all_compute, computed}

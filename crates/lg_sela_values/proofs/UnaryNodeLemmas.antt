@@ -1,5 +1,5 @@
 -- Nodes of one word, of a register or of the text.
-use Rattle.std.proofs.Common.{◌≡◌, ◌≢◌, ℕ, true, [], ◌∷◌, List, Some, refl, sym, ap, ◌∙◌, arith}
+use Rattle.std.proofs.Common.{◌≡◌, ◌≢◌, ℕ, true, [], ◌∷◌, List, Some, refl, ap, ◌∙◌, arith}
 use Rattle.lg_base.specs.CarryFlags.{carry_of}
 use Rattle.lg_base.specs.declared.target.Target.TheVariants.{Aarch64}
 use Rattle.lg_op.specs.declared.op.UnaryOp.{UnaryOp}
@@ -9,15 +9,12 @@ use Rattle.lg_op.specs.declared.op.ValueType.TheVariants as value_type
 use Rattle.lg_op.specs.declared.operand.Reg.{Reg}
 use Rattle.lg_op.specs.declared.operand.Reg.TheVariants.{Fp}
 use Rattle.lg_op.specs.declared.operand.Operand.{Operand}
-use Rattle.lg_operators.specs.declared.carry.Carry.{Carry}
 use Rattle.lg_operators.specs.Operators.{unary_value, is_move, typed}
 use Rattle.lg_meaning.specs.States.{State, value}
 use Rattle.lg_a64.specs.declared.instruction.Instr.{Instr}
 use Rattle.lg_temp.specs.Abis.{register_of}
 use Rattle.lg_carry.specs.FinalNodes.{Code}
-use Rattle.lg_carry.specs.Registers.{HoldsCarry}
 use Rattle.lg_carry.specs.TextNodes.{IsInText}
-use Rattle.lg_sel_values.specs.Computers.{Held}
 use Rattle.lg_sel_values.specs.ValueNodes.{unary_node, movi_node, retval_node}
 use Rattle.lg_sel_values.specs.Values.{KeepsCarry}
 use Rattle.lg_sel_values.proofs.OneWordLemmas.{unary-nodes-compute, movi-nodes-compute, retval-nodes-compute}

@@ -1,6 +1,6 @@
 -- The items of a node that are emitted.
 use Rattle.std.proofs.Common.{◌≡◌, ℕ, zero, suc, ◌<◌, ◌⊎◌, inl, inr, Bool, true, false, List, [], ◌∷◌, ◌++◌, refl, sym, subst, arith, length, ◌≤◌}
-use Rattle.std.specs.Prelude.{◌==◌, ◌||◌, ⊤, if◌then◌else◌, negsuc, pos, ◌≤ℤ◌}
+use Rattle.std.specs.Prelude.{◌==◌, ◌||◌, ⊤, negsuc, pos, ◌≤ℤ◌}
 use Rattle.std.specs.List.{list_any}
 use Rattle.lg_base.specs.HostNames.{host_address}
 use Rattle.lg_base.specs.declared.target.Target.TheVariants.{Aarch64}

@@ -1,14 +1,12 @@
 -- What the code of the operations with two results computes.
-use Rattle.std.proofs.Common.{◌≡◌, ◌≢◌, ℕ, ◌^◌, ◌<◌, Bool, true, false, List, Option, Some, None, refl, sym, ap, ◌∙◌, arith, length}
-use Rattle.std.specs.Prelude.{◌==◌, ◌||◌, not, bit_or, if◌then◌else◌}
+use Rattle.std.proofs.Common.{◌≡◌, ◌≢◌, ℕ, ◌^◌, ◌<◌, Bool, true, false, Some, refl, sym, ap, ◌∙◌, arith, length}
+use Rattle.std.specs.Prelude.{◌==◌, not, bit_or}
 use Rattle.std.specs.Int.Bits.{or_zero_l}
 use Rattle.lg_base.specs.Words.{add_words, mul_words, sub_words, high_product, high_product_signed, quotient, quotient_signed, remainder, remainder_signed}
 use Rattle.lg_op.specs.declared.op.WideOp.{WideOp}
 use Rattle.lg_op.specs.declared.op.WideOp.TheVariants as wide
 use Rattle.lg_operators.specs.Operators.{wide_value, pair_where, divides, is_least_by_minus_one}
-use Rattle.lg_a64.specs.declared.instruction.RegOp.{RegOp}
-use Rattle.lg_a64.specs.declared.instruction.RegOp.TheVariants as row
-use Rattle.lg_cpu.specs.A64Operators.{reg_value, reg_flags, divided, divided_signed}
+use Rattle.lg_cpu.specs.A64Operators.{divided, divided_signed}
 use Rattle.lg_cpu.specs.A64Step.{read, write}
 use Rattle.lg_sel_values.specs.Computers.{Held}
 use Rattle.lg_sel_values.specs.Values.{HoldsPair}

@@ -7,7 +7,6 @@ use Rattle.lg_base.specs.Words.{add_words, mul_words, sub_words, high_product, h
 use Rattle.lg_op.specs.declared.op.WideOp.{WideOp}
 use Rattle.lg_op.specs.declared.op.WideOp.TheVariants as wide
 use Rattle.lg_operators.specs.Operators.{wide_value, divides, is_least_by_minus_one}
-use Rattle.lg_a64.specs.declared.instruction.Instr.{Instr}
 use Rattle.lg_a64.specs.declared.instruction.Instr.TheVariants.{Reg, MulAdd}
 use Rattle.lg_a64.specs.declared.instruction.MulAddOp.TheVariants.{Madd, Msub}
 use Rattle.lg_a64.specs.declared.instruction.RegOp.{RegOp}

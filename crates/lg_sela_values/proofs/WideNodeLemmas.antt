@@ -1,5 +1,5 @@
 -- Nodes with two results.
-use Rattle.std.proofs.Common.{◌≡◌, ◌≢◌, ℕ, ◌<◌, ◌^◌, false, List, [], ◌∷◌, ◌++◌, Some, refl, sym, ap, ◌∙◌, subst, arith}
+use Rattle.std.proofs.Common.{◌≡◌, ◌≢◌, ℕ, false, List, [], ◌∷◌, ◌++◌, Some, sym, ap, ◌∙◌, subst}
 use Rattle.lg_base.specs.declared.target.Target.TheVariants.{Aarch64}
 use Rattle.lg_op.specs.declared.op.WideOp.{WideOp}
 use Rattle.lg_op.specs.declared.op.LastOperand.TheVariants as last_operand

@@ -1,5 +1,5 @@
 -- How many instructions the items of a node are.
-use Rattle.std.proofs.Common.{◌≡◌, ℕ, ◌+◌, ◌*◌, ◌≤◌, Bool, true, false, List, [], ◌∷◌, ◌++◌, arith, length, length-append}
+use Rattle.std.proofs.Common.{ℕ, ◌+◌, ◌*◌, ◌≤◌, Bool, true, false, List, [], ◌∷◌, ◌++◌, arith, length, length-append}
 use Rattle.std.specs.Prelude.{◌==◌, if◌then◌else◌}
 use Rattle.lg_base.specs.Words.{negated}
 use Rattle.lg_base.specs.declared.target.Target.TheVariants.{Aarch64}

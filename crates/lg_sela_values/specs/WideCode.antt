@@ -1,5 +1,5 @@
 -- The code of the operations with two results, which are apart.
-use Rattle.std.specs.Prelude.{ℕ, ◌==◌, Bool, if◌then◌else◌, List, [], ◌∷◌}
+use Rattle.std.specs.Prelude.{ℕ, ◌==◌, if◌then◌else◌, List, [], ◌∷◌}
 use Rattle.lg_op.specs.declared.op.WideOp.{WideOp}
 use Rattle.lg_op.specs.declared.op.WideOp.TheVariants as wide
 use Rattle.lg_a64.specs.declared.instruction.Instr.{Instr}

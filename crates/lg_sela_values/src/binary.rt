@@ -2,6 +2,7 @@
 
 ghost use Rattle.std.specs.Prelude.{◌≡◌, ◌+◌, ◌<◌, ◌≤◌, ◌++◌};
 ghost use Rattle.lg_base.specs.Words.{negated};
+ghost use Rattle.lg_carry_a64.specs.A64Rows.{zero_register};
 ghost use Rattle.lg_sela_items.specs.Items.{ones, words_in};
 ghost use Rattle.lg_sela_values.specs.BinaryCode.{failing, remainder_code, register_code, second_register, loaded_code, is_small, takes_small, small_code, takes_negative, negative_code, negative_form_code, small_form_code, number_form_code};
 
@@ -30,7 +31,7 @@ fn failing(op: BinaryOp) -> Cond
 
 // `d` gets 0 where the test fails, else 1.
 fn test(op: BinaryOp, d: u8) -> Instr
-    ensures { result ≡ Instr.Csinc d 31 31 (failing op) }
+    ensures { result ≡ Instr.Csinc d zero_register zero_register (failing op) }
 {
     Instr::Csinc {
         rd: d,

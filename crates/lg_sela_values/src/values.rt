@@ -1,7 +1,7 @@
 // The nodes that compute values.
 
 ghost use Rattle.std.specs.Prelude.{◌≡◌, ◌+◌, ◌<◌, ◌≤◌, [], ◌∷◌, ◌++◌, length, slice_index_or};
-ghost use Rattle.lg_carry_a64.specs.A64Rows.{slot_offset};
+ghost use Rattle.lg_carry_a64.specs.A64Rows.{frame_pointer, slot_offset};
 ghost use Rattle.lg_sela_items.specs.Items.{words_in};
 ghost use Rattle.lg_sela_values.specs.ValueItems.{load_items, binary_items, wide_items, register_for, body_items, value_items, HaveSlots};
 
@@ -119,7 +119,7 @@ fn slot_offset(slot: u32) -> i32
 // Saves a register in a slot.
 fn save(reg: u8, slot: u32) -> Instr
     requires { slot < 5 }
-    ensures { result ≡ Instr.Unscaled (UnscaledOp.Stur) reg 29 (slot_offset slot) }
+    ensures { result ≡ Instr.Unscaled (UnscaledOp.Stur) reg frame_pointer (slot_offset slot) }
 {
     Instr::Unscaled {
         op: UnscaledOp::Stur,
@@ -132,7 +132,7 @@ fn save(reg: u8, slot: u32) -> Instr
 // Restores a register from a slot.
 fn restore(reg: u8, slot: u32) -> Instr
     requires { slot < 5 }
-    ensures { result ≡ Instr.Unscaled (UnscaledOp.Ldur) reg 29 (slot_offset slot) }
+    ensures { result ≡ Instr.Unscaled (UnscaledOp.Ldur) reg frame_pointer (slot_offset slot) }
 {
     Instr::Unscaled {
         op: UnscaledOp::Ldur,

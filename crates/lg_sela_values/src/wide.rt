@@ -1,6 +1,7 @@
 // The operations with two results.
 
 ghost use Rattle.std.specs.Prelude.{◌≡◌, ◌+◌, ◌≤◌, ◌++◌};
+ghost use Rattle.lg_carry_a64.specs.A64Rows.{zero_register};
 ghost use Rattle.lg_sela_items.specs.Items.{ones, words_in};
 ghost use Rattle.lg_sela_values.specs.WideCode.{product_code, quotient_code, wide_code, product_by_link, quotient_by_link, wide_by_link};
 
@@ -11,14 +12,14 @@ use lg_sela_items::{Item, LINK, ZERO, mul_add, row};
 
 // `d` gets the low word of the product of two registers.
 fn product(d: u8, a: u8, b: u8) -> Instr
-    ensures { result ≡ Instr.MulAdd (MulAddOp.Madd) d a b 31 }
+    ensures { result ≡ Instr.MulAdd (MulAddOp.Madd) d a b zero_register }
 {
     mul_add(MulAddOp::Madd, d, a, b, ZERO)
 }
 
 // `d` gets a register.
 fn moved(d: u8, a: u8) -> Instr
-    ensures { result ≡ Instr.Reg (RegOp.Orr) d 31 a }
+    ensures { result ≡ Instr.Reg (RegOp.Orr) d zero_register a }
 {
     row(RegOp::Orr, d, ZERO, a)
 }
