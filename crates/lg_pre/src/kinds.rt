@@ -1,0 +1,54 @@
+// Tests of the kinds of pieces.
+
+ghost use Rattle.std.specs.Prelude.{◌≡◌, ◌<◌, length, true};
+ghost use Rattle.lg_pre.specs.Pieces.{is_byte, is_feed, piece_at};
+ghost use Rattle.lg_pre.specs.Text.{is_comment, is_margin, is_number};
+
+use crate::pieces::{PieceKind, Pieces};
+
+impl PieceKind {
+    /// Whether it is a line feed.
+    pub fn is_feed(self) -> bool
+        ensures { result ≡ is_feed self }
+    {
+        matches!(self, PieceKind::Feed)
+    }
+
+    /// Whether it is a comment.
+    pub fn is_comment(self) -> bool
+        ensures { result ≡ is_comment self }
+    {
+        matches!(self, PieceKind::Comment)
+    }
+
+    /// Whether it is a number.
+    pub fn is_number(self) -> bool
+        ensures { result ≡ is_number self }
+    {
+        matches!(self, PieceKind::Number)
+    }
+
+    /// Whether it may stand before the `#` of a directive.
+    pub fn is_margin(self) -> bool
+        ensures { result ≡ is_margin self }
+    {
+        match self {
+            PieceKind::Comment => true,
+            PieceKind::Byte(b) => b == b' ' || b == b'\t',
+            _ => false,
+        }
+    }
+}
+
+impl Pieces {
+    /// Whether a single byte stands at a place.
+    pub fn is_byte_at(&self, at: usize, byte: u8) -> bool
+        ensures value { result ≡ is_byte byte (piece_at self.now at).kind }
+        ensures inside { result ≡ true → at < length self.now }
+    {
+        if at < self.len() {
+            return self.kind(at).is_byte(byte);
+        }
+        false
+    }
+}
