@@ -1,6 +1,6 @@
 -- The points of a text: its nodes, and behind them, for the function that begins at node p, a gate at p behind the last node, through
 -- which its jumps to taken labels go.
-use Rattle.std.specs.Prelude.{◌≡◌, ◌↔◌, ℕ, ◌+◌, ◌<◌, nat_lt, Bool, true, false, ◌&&◌, if◌then◌else◌, List, Option, Some, None, length, slice_get, slice_index_or}
+use Rattle.std.specs.Prelude.{◌≡◌, ◌↔◌, ◌⊎◌, ℕ, ◌+◌, ◌<◌, nat_lt, Bool, true, false, ◌&&◌, if◌then◌else◌, List, Option, Some, None, length, slice_get, slice_index_or}
 use Rattle.lg_op.specs.declared.operand.Reg.{Reg}
 use Rattle.lg_op.specs.declared.node.Node.{Node}
 use Rattle.lg_node.specs.declared.place.Place.{Place}
@@ -59,6 +59,10 @@ pub record IsTakenAt (l : LabelledNodes) (s : TextShape) (k : ℕ) : Type 0 wher
 
 abbrev pub IsMarkedAt : LabelledNodes → TextShape → ℕ → Bool → Type 0
 IsMarkedAt l s k marked = (marked ≡ true) ↔ IsTakenAt l s k
+
+-- what was marked is marked, and besides exactly this
+abbrev pub IsMarkedBesides : List Bool → List Bool → (ℕ → Type 0) → Type 0
+IsMarkedBesides old new This = (k : ℕ) → k < length old → (slice_index_or new k false ≡ true) ↔ ((slice_index_or old k false ≡ true) ⊎ This k)
 
 pub record AreMarked (l : LabelledNodes) (s : TextShape) (marks : List Bool) : Type 0 where
   pub count : length marks ≡ length l.nodes

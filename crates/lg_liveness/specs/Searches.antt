@@ -40,6 +40,10 @@ pub record Grows (a b : State) : Type 0 where
 abbrev pub IsSound : List Point → State → Type 0
 IsSound points s = (i : ℕ) (r : Reg) → has (set_at s.sets i) r ≡ true → IsNeeded points r i
 
+-- these registers are needed at a point
+abbrev pub AreNeededAt : List Point → RegSet → ℕ → Type 0
+AreNeededAt points set i = (r : Reg) → has set r ≡ true → IsNeeded points r i
+
 -- these registers are in the set of a point, but for those that the point writes
 abbrev pub HasPassed : List Point → RegSet → State → ℕ → Type 0
 HasPassed points set s i = (r : Reg) → has set r ≡ true → has (point_at points i).writes r ≡ false → has (set_at s.sets i) r ≡ true
