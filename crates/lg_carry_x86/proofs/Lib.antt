@@ -1,0 +1,9 @@
+pub mod ActLemmas
+pub mod ComputerLemmas
+pub mod IsaLemmas
+pub mod MakingLemmas
+pub mod MakingNodeLemmas
+pub mod NumberCodeLemmas
+pub mod OutsideLemmas
+pub mod RowLemmas
+pub mod SlotLemmas
