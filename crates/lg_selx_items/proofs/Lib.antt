@@ -1,0 +1,6 @@
+pub mod GoodLemmas
+pub mod ItemLemmas
+pub mod NodeLemmas
+pub mod PatchLemmas
+pub mod WithinLemmas
+pub mod WordLemmas

@@ -1,0 +1,3 @@
+pub mod GoodItems
+pub mod Items
+pub mod OfNodes

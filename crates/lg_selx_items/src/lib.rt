@@ -1,0 +1,13 @@
+//! The items that the code of a node is made of on x86-64: instructions, and instructions that lead to labels, whose places are put in
+//! when the code is finished.
+#![tactic(auto)]
+
+mod emission;
+mod items;
+pub mod laws;
+mod numbers;
+mod rows;
+
+pub use items::{Item, JumpKind};
+pub use numbers::{half_number, is_half, put_number};
+pub use rows::{mov, register_of, row};
