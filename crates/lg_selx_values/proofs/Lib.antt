@@ -1,0 +1,13 @@
+pub mod AluLemmas
+pub mod BinaryCodeLemmas
+pub mod CarriedCodeLemmas
+pub mod NeedLemmas
+pub mod NodeLemmas
+pub mod PairLemmas
+pub mod QuotientLemmas
+pub mod RegisterLemmas
+pub mod RegisterNodeLemmas
+pub mod UnaryLemmas
+pub mod WideCodeLemmas
+pub mod WideNodeLemmas
+pub mod WordLemmas

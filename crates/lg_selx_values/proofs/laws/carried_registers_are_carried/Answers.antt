@@ -1,0 +1,5 @@
+use Rattle.lg_selx_values.proofs.RegisterNodeLemmas.{carried-registers-carry}
+use Rattle.lg_selx_values.proofs.laws.carried_registers_are_carried.Goals as goal
+
+pub returns : goal.returns
+returns c = carried-registers-carry

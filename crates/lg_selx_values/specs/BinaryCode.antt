@@ -1,0 +1,117 @@
+-- The code of the operations on two words, from two registers or from a register and a number.
+use Rattle.std.specs.Prelude.{ℕ, ◌%◌, ◌==◌, Bool, true, false, if◌then◌else◌, List, [], ◌∷◌, ◌++◌}
+use Rattle.lg_base.specs.Words.{signed_view}
+use Rattle.lg_op.specs.declared.op.BinaryOp.{BinaryOp}
+use Rattle.lg_op.specs.declared.op.BinaryOp.TheVariants as binary
+use Rattle.lg_x86.specs.declared.instruction.Instr.{Instr}
+use Rattle.lg_x86.specs.declared.instruction.Instr.TheVariants.{RmReg, Imm, RegRm, Movi32, Unary, Shift, Set, Bare}
+use Rattle.lg_x86.specs.declared.instruction.RmRegOp.{RmRegOp}
+use Rattle.lg_x86.specs.declared.instruction.RmRegOp.TheVariants as alu
+use Rattle.lg_x86.specs.declared.instruction.ImmOp.{ImmOp}
+use Rattle.lg_x86.specs.declared.instruction.ImmOp.TheVariants as imm
+use Rattle.lg_x86.specs.declared.instruction.RegRmOp.TheVariants.{Imul, Ext8u}
+use Rattle.lg_x86.specs.declared.instruction.UnaryOp.{UnaryOp}
+use Rattle.lg_x86.specs.declared.instruction.UnaryOp.TheVariants.{Neg, Div, Idiv, Shl, Shr, Sar}
+use Rattle.lg_x86.specs.declared.instruction.ShiftOp.{ShiftOp}
+use Rattle.lg_x86.specs.declared.instruction.ShiftOp.TheVariants.{Shli, Shri, Sari}
+use Rattle.lg_x86.specs.declared.instruction.BareOp.TheVariants.{Cqo}
+use Rattle.lg_x86.specs.declared.instruction.Cond.{Cond}
+use Rattle.lg_x86.specs.declared.instruction.Cond.TheVariants as cond
+use Rattle.lg_carry_x86.specs.Numbers.{is_half, number_row}
+use Rattle.lg_selx_values.specs.Scratch.{again, moved}
+
+-- d = a op b where d is not b, or where the order of the words does not matter
+abbrev pub ordered : RmRegOp → ℕ → ℕ → ℕ → List Instr
+ordered op d a b = moved d a ++ RmReg op d b ∷ []
+
+abbrev pub commuting : RmRegOp → ℕ → ℕ → ℕ → List Instr
+commuting op d a b = if d == b then RmReg op d a ∷ [] else ordered op d a b
+
+-- d = a - b: where d is b, 0 - (b - a)
+abbrev pub difference : ℕ → ℕ → ℕ → List Instr
+difference d a b = if d == b then RmReg alu.Sub d a ∷ Unary Neg d ∷ [] else ordered alu.Sub d a b
+
+abbrev pub product : ℕ → ℕ → ℕ → List Instr
+product d a b = if d == b then RegRm Imul d a ∷ [] else moved d a ++ RegRm Imul d b ∷ []
+
+-- a comparison, and its answer as a word
+abbrev pub answer : Cond → ℕ → List Instr
+answer c d = Set c d ∷ RegRm Ext8u d d ∷ []
+
+abbrev pub compared : Cond → ℕ → ℕ → ℕ → List Instr
+compared c d a b = RmReg alu.Cmp a b ∷ answer c d
+
+-- the count goes to rcx, 1
+abbrev pub shifted : UnaryOp → ℕ → ℕ → ℕ → List Instr
+shifted op d a b = RmReg alu.Mov 1 b ∷ moved d a ++ Unary op d ∷ []
+
+-- the divisor goes to rbp by way of rdx, 2, and the dividend to rax, 0; the result is then in rax or rdx, r
+abbrev pub divided : Bool → ℕ → ℕ → ℕ → ℕ → ℕ → List Instr
+divided true frame r d a b = RmReg alu.Mov 2 b ∷ RmReg alu.Mov 0 a ∷ RmReg alu.Mov 5 2 ∷ Bare Cqo ∷ Unary Idiv 5 ∷ RmReg alu.Mov d r ∷ again frame
+divided false frame r d a b = RmReg alu.Mov 2 b ∷ RmReg alu.Mov 0 a ∷ RmReg alu.Mov 5 2 ∷ Movi32 2 0 ∷ Unary Div 5 ∷ RmReg alu.Mov d r ∷ again frame
+
+-- the condition of a comparison
+abbrev pub cond_of : BinaryOp → Cond
+cond_of binary.Lt = cond.Less
+cond_of binary.LtU = cond.Below
+cond_of binary.Le = cond.LessOrEqual
+cond_of binary.LeU = cond.BelowOrEqual
+cond_of binary.Ge = cond.GreaterOrEqual
+cond_of binary.GeU = cond.AboveOrEqual
+cond_of binary.Gt = cond.Greater
+cond_of binary.GtU = cond.Above
+cond_of binary.Eq = cond.Equal
+cond_of o = cond.NotEqual
+
+-- d = a op b; the operations that set the carry stand in CarriedCode
+abbrev pub register_code : BinaryOp → ℕ → ℕ → ℕ → ℕ → List Instr
+register_code binary.Add frame d a b = commuting alu.Add d a b
+register_code binary.Sub frame d a b = difference d a b
+register_code binary.Rsb frame d a b = difference d b a
+register_code binary.Mul frame d a b = product d a b
+register_code binary.And frame d a b = commuting alu.And d a b
+register_code binary.Or frame d a b = commuting alu.Or d a b
+register_code binary.Xor frame d a b = commuting alu.Xor d a b
+register_code binary.Lsh frame d a b = shifted Shl d a b
+register_code binary.Rsh frame d a b = shifted Sar d a b
+register_code binary.RshU frame d a b = shifted Shr d a b
+register_code binary.Div frame d a b = divided true frame 0 d a b
+register_code binary.DivU frame d a b = divided false frame 0 d a b
+register_code binary.Rem frame d a b = divided true frame 2 d a b
+register_code binary.RemU frame d a b = divided false frame 2 d a b
+register_code o frame d a b = compared (cond_of o) d a b
+
+-- d = a op v: the number is in the instruction where 32 bits hold it, and else in rbp
+abbrev pub with_number : ImmOp → RmRegOp → ℕ → ℕ → ℕ → ℕ → List Instr
+with_number op alu frame d a v =
+    if is_half v then moved d a ++ Imm op d (signed_view v) ∷ []
+    else moved d a ++ (number_row 5 v ∷ (RmReg alu d 5 ∷ again frame))
+
+abbrev pub compared_number : Cond → ℕ → ℕ → ℕ → ℕ → List Instr
+compared_number c frame d a v =
+    if is_half v then Imm imm.Cmpi a (signed_view v) ∷ answer c d
+    else moved d a ++ (number_row 5 v ∷ (RmReg alu.Cmp d 5 ∷ Set c d ∷ RegRm Ext8u d d ∷ again frame))
+
+abbrev pub shifted_number : ShiftOp → ℕ → ℕ → ℕ → List Instr
+shifted_number op d a v = moved d a ++ Shift op d (v % 64) ∷ []
+
+abbrev pub divided_number : Bool → ℕ → ℕ → ℕ → ℕ → ℕ → List Instr
+divided_number true frame r d a v = RmReg alu.Mov 0 a ∷ (number_row 5 v ∷ (Bare Cqo ∷ Unary Idiv 5 ∷ RmReg alu.Mov d r ∷ again frame))
+divided_number false frame r d a v = RmReg alu.Mov 0 a ∷ (number_row 5 v ∷ (Movi32 2 0 ∷ Unary Div 5 ∷ RmReg alu.Mov d r ∷ again frame))
+
+abbrev pub number_form_code : BinaryOp → ℕ → ℕ → ℕ → ℕ → List Instr
+number_form_code binary.Add frame d a v = with_number imm.Addi alu.Add frame d a v
+number_form_code binary.Sub frame d a v = with_number imm.Subi alu.Sub frame d a v
+number_form_code binary.Rsb frame d a v = moved d a ++ (Unary Neg d ∷ with_number imm.Addi alu.Add frame d d v)
+number_form_code binary.Mul frame d a v = moved d a ++ (number_row 5 v ∷ (RegRm Imul d 5 ∷ again frame))
+number_form_code binary.And frame d a v = with_number imm.Andi alu.And frame d a v
+number_form_code binary.Or frame d a v = with_number imm.Ori alu.Or frame d a v
+number_form_code binary.Xor frame d a v = with_number imm.Xori alu.Xor frame d a v
+number_form_code binary.Lsh frame d a v = shifted_number Shli d a v
+number_form_code binary.Rsh frame d a v = shifted_number Sari d a v
+number_form_code binary.RshU frame d a v = shifted_number Shri d a v
+number_form_code binary.Div frame d a v = divided_number true frame 0 d a v
+number_form_code binary.DivU frame d a v = divided_number false frame 0 d a v
+number_form_code binary.Rem frame d a v = divided_number true frame 2 d a v
+number_form_code binary.RemU frame d a v = divided_number false frame 2 d a v
+number_form_code o frame d a v = compared_number (cond_of o) frame d a v

@@ -1,0 +1,9 @@
+pub mod BinaryCode
+pub mod CarriedCode
+pub mod Needs
+pub mod RegisterNodes
+pub mod Scratch
+pub mod UnaryCode
+pub mod WideCode
+pub mod WordLaws
+pub mod Words

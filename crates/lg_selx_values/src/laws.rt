@@ -1,0 +1,50 @@
+// What holds of the code of the nodes that compute values. The functions do nothing: their contracts are the laws.
+
+ghost use Rattle.lg_selx_values.specs.RegisterNodes.{BinaryRegistersCarry, CarriedRegistersCarry, WideRegistersCarry};
+ghost use Rattle.lg_selx_values.specs.RegisterNodes.{UnariesCarry, MovisCarry, RetvalsCarry};
+ghost use Rattle.lg_selx_values.specs.WordLaws.{BinariesAreMade, CarriedAreMade, WidePairsAreMade};
+
+/// The code of an operation on two registers that sets no carry gives a register its word, whichever of the registers are equal.
+pub fn binaries_are_made()
+    ensures { BinariesAreMade }
+{}
+
+/// That of an operation that sets the carry sets it too.
+pub fn carried_are_made()
+    ensures { CarriedAreMade }
+{}
+
+/// That of an operation with two results gives two registers their words.
+pub fn wide_pairs_are_made()
+    ensures { WidePairsAreMade }
+{}
+
+/// A node of two registers that sets no carry is carried, for all choices for its needs, whatever is live behind it and whatever is staged.
+pub fn binary_registers_are_carried()
+    ensures { BinaryRegistersCarry }
+{}
+
+/// So is one that sets the carry.
+pub fn carried_registers_are_carried()
+    ensures { CarriedRegistersCarry }
+{}
+
+/// So is one of one register.
+pub fn unaries_are_carried()
+    ensures { UnariesCarry }
+{}
+
+/// So is one that takes a word of the text: a number, or the address of a host function.
+pub fn movis_are_carried()
+    ensures { MovisCarry }
+{}
+
+/// So is one that takes the result of a call.
+pub fn retvals_are_carried()
+    ensures { RetvalsCarry }
+{}
+
+/// So is one of two registers with two results.
+pub fn wide_registers_are_carried()
+    ensures { WideRegistersCarry }
+{}

@@ -1,0 +1,4 @@
+//! The code of x86-64 for the nodes that compute values: what it is made of, and that it carries them.
+#![tactic(auto)]
+
+pub mod laws;
