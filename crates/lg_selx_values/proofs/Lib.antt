@@ -3,6 +3,7 @@ pub mod BinaryCodeLemmas
 pub mod CarriedCodeLemmas
 pub mod NeedLemmas
 pub mod NodeLemmas
+pub mod NumberLemmas
 pub mod PairLemmas
 pub mod QuotientLemmas
 pub mod RegisterLemmas

@@ -1,5 +1,6 @@
 // What holds of the code of the nodes that compute values. The functions do nothing: their contracts are the laws.
 
+ghost use Rattle.lg_selx_values.specs.NumberLaws.{NumberRowsAreMade};
 ghost use Rattle.lg_selx_values.specs.RegisterNodes.{BinaryRegistersCarry, CarriedRegistersCarry, WideRegistersCarry};
 ghost use Rattle.lg_selx_values.specs.RegisterNodes.{UnariesCarry, MovisCarry, RetvalsCarry};
 ghost use Rattle.lg_selx_values.specs.WordLaws.{BinariesAreMade, CarriedAreMade, WidePairsAreMade};
@@ -47,4 +48,9 @@ pub fn retvals_are_carried()
 /// So is one of two registers with two results.
 pub fn wide_registers_are_carried()
     ensures { WideRegistersCarry }
+{}
+
+/// The code of a row with a number gives a register its word and leaves its carry, whether an instruction holds the number or not.
+pub fn number_rows_are_made()
+    ensures { NumberRowsAreMade }
 {}
