@@ -2,6 +2,7 @@ pub mod BinaryCode
 pub mod CarriedCode
 pub mod Needs
 pub mod NumberLaws
+pub mod NumberWords
 pub mod RegisterNodes
 pub mod Scratch
 pub mod UnaryCode

@@ -1,6 +1,7 @@
 // What holds of the code of the nodes that compute values. The functions do nothing: their contracts are the laws.
 
 ghost use Rattle.lg_selx_values.specs.NumberLaws.{NumberRowsAreMade};
+ghost use Rattle.lg_selx_values.specs.NumberWords.{NumbersAreMade};
 ghost use Rattle.lg_selx_values.specs.RegisterNodes.{BinaryRegistersCarry, CarriedRegistersCarry, WideRegistersCarry};
 ghost use Rattle.lg_selx_values.specs.RegisterNodes.{UnariesCarry, MovisCarry, RetvalsCarry};
 ghost use Rattle.lg_selx_values.specs.WordLaws.{BinariesAreMade, CarriedAreMade, WidePairsAreMade};
@@ -53,4 +54,9 @@ pub fn wide_registers_are_carried()
 /// The code of a row with a number gives a register its word and leaves its carry, whether an instruction holds the number or not.
 pub fn number_rows_are_made()
     ensures { NumberRowsAreMade }
+{}
+
+/// That of an operation on a register and a number that sets no carry gives a register its word.
+pub fn numbers_are_made()
+    ensures { NumbersAreMade }
 {}
