@@ -102,20 +102,20 @@ module _ (op : RmRegOp) (frame d a b : ℕ) (c : Bool) (q : Held) (kept : is_kep
       by false e = record { word = ordered-word [] op d a b c q kept given (apart d b e); carry_is = refl }
 
 -- ---- the carry that is taken, and that is left
-taken-sum : (k : Carry) (c : Bool) (w : ℕ → ℕ) (f : Option Bool) → carry_in binary.Addx k ≡ Some c → HoldsCarry X86_64 w f k → f ≡ Some c
+pub taken-sum : (k : Carry) (c : Bool) (w : ℕ → ℕ) (f : Option Bool) → carry_in binary.Addx k ≡ Some c → HoldsCarry X86_64 w f k → f ≡ Some c
 taken-sum carry.Undefined c w f e h = cc
 taken-sum (carry.Sum b) c w f e h = h ∙ e
 taken-sum (carry.Difference b) c w f e h = cc
 
-taken-difference : (k : Carry) (c : Bool) (w : ℕ → ℕ) (f : Option Bool) → carry_in binary.Subx k ≡ Some c → HoldsCarry X86_64 w f k → f ≡ Some c
+pub taken-difference : (k : Carry) (c : Bool) (w : ℕ → ℕ) (f : Option Bool) → carry_in binary.Subx k ≡ Some c → HoldsCarry X86_64 w f k → f ≡ Some c
 taken-difference carry.Undefined c w f e h = cc
 taken-difference (carry.Sum b) c w f e h = cc
 taken-difference (carry.Difference b) c w f e h = h ∙ e
 
-sum-word : (a b : ℕ) → add_words a b ≡ (a + b + 0) % 2 ^ 64
+pub sum-word : (a b : ℕ) → add_words a b ≡ (a + b + 0) % 2 ^ 64
 sum-word a b = grind arith
 
-difference-word : (a b : ℕ) → a < 2 ^ 64 → b < 2 ^ 64 → (a + (2 ^ 64 - b)) % 2 ^ 64 ≡ (a + (2 ^ 65 - (b + 0))) % 2 ^ 64
+pub difference-word : (a b : ℕ) → a < 2 ^ 64 → b < 2 ^ 64 → (a + (2 ^ 64 - b)) % 2 ^ 64 ≡ (a + (2 ^ 65 - (b + 0))) % 2 ^ 64
 difference-word a b h k = grind (arith, h, k)
 
 swapped-sum : (a b c : ℕ) → (a + b + c) % 2 ^ 64 ≡ (b + a + c) % 2 ^ 64

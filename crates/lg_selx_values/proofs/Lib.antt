@@ -4,6 +4,7 @@ pub mod CarriedCodeLemmas
 pub mod NeedLemmas
 pub mod NodeLemmas
 pub mod NumberLemmas
+pub mod NumberNodeLemmas
 pub mod NumberWordLemmas
 pub mod PairLemmas
 pub mod QuotientLemmas

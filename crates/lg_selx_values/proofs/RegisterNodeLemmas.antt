@@ -103,14 +103,14 @@ chosen-carries code trash c i frame n live choices body inside falls small few k
     straight-carries code trash c i frame n live choices body inside falls small few k (making-nodes-compute code trash c i n frame choices body m)
 
 -- ---- the code has an instruction
-some-moved : (d a : ℕ) (is : List Instr) → 0 < length is → 0 < length (moved d a ++ is)
+pub some-moved : (d a : ℕ) (is : List Instr) → 0 < length is → 0 < length (moved d a ++ is)
 some-moved d a is h = by (d == a)
   where
     by : (b : Bool) → 0 < length ((if b then [] else RmReg Mov d a ∷ []) ++ is)
     by true = h
     by false = omega arith
 
-some-either : (b : Bool) (xs ys : List Instr) → 0 < length xs → 0 < length ys → 0 < length (if b then xs else ys)
+pub some-either : (b : Bool) (xs ys : List Instr) → 0 < length xs → 0 < length ys → 0 < length (if b then xs else ys)
 some-either true xs ys h k = h
 some-either false xs ys h k = k
 
@@ -138,7 +138,7 @@ carried-some binary.Subc frame d a b is = some-either (d == b) _ _ (omega arith)
 carried-some binary.Subx frame d a b is = some-either (d == b) _ _ (omega arith) (some-moved d a _ (omega arith))
 carried-some o frame d a b is = cc
 
-carried-needs : (o : BinaryOp) → is_carried o ≡ true → value_needs (op.Binary o last_operand.Register) ≡ []
+pub carried-needs : (o : BinaryOp) → is_carried o ≡ true → value_needs (op.Binary o last_operand.Register) ≡ []
 carried-needs binary.Addc h = refl
 carried-needs binary.Addx h = refl
 carried-needs binary.Subc h = refl

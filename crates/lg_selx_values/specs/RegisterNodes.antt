@@ -28,8 +28,8 @@ use Rattle.lg_x86.specs.declared.instruction.Instr.{Instr}
 use Rattle.lg_carry_x86.specs.Numbers.{number_row}
 use Rattle.lg_carry_x86.specs.Places.{IsInCode}
 use Rattle.lg_carry_x86.specs.X86Rows.{x86_processor, x86_rows}
-use Rattle.lg_selx_values.specs.BinaryCode.{register_code}
-use Rattle.lg_selx_values.specs.CarriedCode.{carried_register_code}
+use Rattle.lg_selx_values.specs.BinaryCode.{register_code, number_form_code}
+use Rattle.lg_selx_values.specs.CarriedCode.{carried_register_code, carried_number_code}
 use Rattle.lg_selx_values.specs.Needs.{value_needs}
 use Rattle.lg_selx_values.specs.UnaryCode.{unary_code, retval_code}
 use Rattle.lg_selx_values.specs.WideCode.{wide_code}
@@ -92,3 +92,18 @@ RetvalsCarry =
     (code : List ℕ) (trash : ℕ) (c : Code) (i frame : ℕ) (t : ValueType) (d : Reg) (line : ℕ) (live : Reg → Bool) (choices : List Choice) → d ≢ Fp
     → IsChosen code trash c i frame (retval_node t d line) live choices (retval_code t (register_of X86_64 d))
     → CarriesNode (x86_processor code trash) c i (retval_node t d line) (numbered live)
+
+-- a register and a word of the text
+abbrev pub BinaryNumbersCarry : Type 0
+BinaryNumbersCarry =
+    (code : List ℕ) (trash : ℕ) (c : Code) (i frame : ℕ) (o : BinaryOp) (d a : Reg) (x : Operand) (v line : ℕ) (live : Reg → Bool) (choices : List Choice)
+    → is_carried o ≡ false → d ≢ Fp → v < 2 ^ 64 → ((s : State) → value c.addresses s x ≡ Some v)
+    → IsChosen code trash c i frame (binary_node o last_operand.Immediate d a x line) live choices (number_form_code o frame (register_of X86_64 d) (register_of X86_64 a) v)
+    → CarriesNode (x86_processor code trash) c i (binary_node o last_operand.Immediate d a x line) (numbered live)
+
+abbrev pub CarriedNumbersCarry : Type 0
+CarriedNumbersCarry =
+    (code : List ℕ) (trash : ℕ) (c : Code) (i frame : ℕ) (o : BinaryOp) (d a : Reg) (x : Operand) (v line : ℕ) (live : Reg → Bool) (choices : List Choice)
+    → is_carried o ≡ true → d ≢ Fp → v < 2 ^ 64 → ((s : State) → value c.addresses s x ≡ Some v)
+    → IsChosen code trash c i frame (binary_node o last_operand.Immediate d a x line) live choices (carried_number_code o frame (register_of X86_64 d) (register_of X86_64 a) v)
+    → CarriesNode (x86_processor code trash) c i (binary_node o last_operand.Immediate d a x line) (numbered live)

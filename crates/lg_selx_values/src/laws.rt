@@ -3,7 +3,7 @@
 ghost use Rattle.lg_selx_values.specs.NumberLaws.{NumberRowsAreMade};
 ghost use Rattle.lg_selx_values.specs.NumberWords.{NumbersAreMade};
 ghost use Rattle.lg_selx_values.specs.RegisterNodes.{BinaryRegistersCarry, CarriedRegistersCarry, WideRegistersCarry};
-ghost use Rattle.lg_selx_values.specs.RegisterNodes.{UnariesCarry, MovisCarry, RetvalsCarry};
+ghost use Rattle.lg_selx_values.specs.RegisterNodes.{BinaryNumbersCarry, CarriedNumbersCarry, UnariesCarry, MovisCarry, RetvalsCarry};
 ghost use Rattle.lg_selx_values.specs.WordLaws.{BinariesAreMade, CarriedAreMade, WidePairsAreMade};
 
 /// The code of an operation on two registers that sets no carry gives a register its word, whichever of the registers are equal.
@@ -59,4 +59,14 @@ pub fn number_rows_are_made()
 /// That of an operation on a register and a number that sets no carry gives a register its word.
 pub fn numbers_are_made()
     ensures { NumbersAreMade }
+{}
+
+/// A node of a register and a word of the text, a number or the address of a host function, that sets no carry is carried.
+pub fn binary_numbers_are_carried()
+    ensures { BinaryNumbersCarry }
+{}
+
+/// So is one that sets the carry.
+pub fn carried_numbers_are_carried()
+    ensures { CarriedNumbersCarry }
 {}
