@@ -10,22 +10,11 @@ ghost use Rattle.std.specs.Prelude.{◌++◌, ◌∷◌};
 
 use crate::arguments::{gathered, stripped};
 use crate::body::{Body, body_of, size_of};
-use crate::marks::Marks;
+use crate::macros::Macro;
 use crate::pieces::{PieceKind, Pieces};
 use crate::plain_text::PlainText;
 use lg_base::refusal::OutOfMemory;
 use std::alloc::Global;
-
-/// What a `#define` writes: the name, the number of its parameters if it has parentheses, the body with the marks of its pieces, and the
-/// bytes of the body.
-#[derive(Drop)]
-pub struct Definition {
-    pub name: PlainText,
-    pub arity: Option<usize>,
-    pub body: Pieces,
-    pub marks: Marks,
-    pub size: usize,
-}
 
 // Whether a line feed comes first between two places.
 #[tactic(auto, using(crate::proofs::DefineLemmas::first_between, crate::proofs::DefineLemmas::none_between))]
@@ -181,11 +170,11 @@ fn parameters_of(
 }
 
 // A macro by its body.
-fn finished(name: PlainText, arity: Option<usize>, size: usize, body: Body) -> Option<Definition>
+fn finished(name: PlainText, arity: Option<usize>, size: usize, body: Body) -> Option<Macro>
     ensures { result ≡ finished name arity size body }
 {
     if body.good && !body.half && !body.glued {
-        Some(Definition {
+        Some(Macro {
             name,
             arity,
             body: body.pieces,
@@ -218,7 +207,7 @@ fn with_body(
     names: &[PlainText],
     pieces: &Pieces,
     from: usize,
-) -> Result<Option<Definition>, OutOfMemory>
+) -> Result<Option<Macro>, OutOfMemory>
     requires some { 0 < length pieces.now }
     requires inside { from ≤ length pieces.now }
     ensures { IfOk result (λ r. r ≡ with_body (piece_at pieces.now 0).text arity names.now (stripped (drop from pieces.now))) }
@@ -231,7 +220,7 @@ fn with_body(
 }
 
 // A macro with parentheses.
-fn with_parameters(alloc: Global, pieces: &Pieces) -> Result<Option<Definition>, OutOfMemory>
+fn with_parameters(alloc: Global, pieces: &Pieces) -> Result<Option<Macro>, OutOfMemory>
     requires { 1 < length pieces.now }
     ensures { IfOk result (λ r. r ≡ closed_at (piece_at pieces.now 0).text pieces.now (to_close (drop 2 pieces.now))) }
 {
@@ -246,7 +235,7 @@ fn with_parameters(alloc: Global, pieces: &Pieces) -> Result<Option<Definition>,
 }
 
 // The macro of a name, by whether parameters follow it.
-fn named(alloc: Global, pieces: &Pieces) -> Result<Option<Definition>, OutOfMemory>
+fn named(alloc: Global, pieces: &Pieces) -> Result<Option<Macro>, OutOfMemory>
     requires { 0 < length pieces.now }
     ensures { IfOk result (λ r. r ≡ named_by pieces.now (is_byte 40 (piece_at pieces.now 1).kind)) }
 {
@@ -258,7 +247,7 @@ fn named(alloc: Global, pieces: &Pieces) -> Result<Option<Definition>, OutOfMemo
 }
 
 /// The macro that the pieces behind `#define` write, white space at their ends taken off.
-pub(crate) fn written(alloc: Global, pieces: &Pieces) -> Result<Option<Definition>, OutOfMemory>
+pub(crate) fn written(alloc: Global, pieces: &Pieces) -> Result<Option<Macro>, OutOfMemory>
     ensures { IfOk result (λ r. r ≡ written pieces.now) }
 {
     if pieces.len() == 0 {

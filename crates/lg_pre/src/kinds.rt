@@ -1,7 +1,7 @@
 // Tests of the kinds of pieces.
 
 ghost use Rattle.std.specs.Prelude.{◌≡◌, ◌<◌, length, true};
-ghost use Rattle.lg_pre.specs.Pieces.{is_byte, is_feed, piece_at};
+ghost use Rattle.lg_pre.specs.Pieces.{is_byte, is_feed, is_word, piece_at};
 ghost use Rattle.lg_pre.specs.Text.{is_comment, is_margin, is_number};
 
 use crate::pieces::{PieceKind, Pieces};
@@ -28,6 +28,13 @@ impl PieceKind {
         matches!(self, PieceKind::Number)
     }
 
+    /// Whether it is a word.
+    pub fn is_word(self) -> bool
+        ensures { result ≡ is_word self }
+    {
+        matches!(self, PieceKind::Word)
+    }
+
     /// Whether it may stand before the `#` of a directive.
     pub fn is_margin(self) -> bool
         ensures { result ≡ is_margin self }
@@ -48,6 +55,17 @@ impl Pieces {
     {
         if at < self.len() {
             return self.kind(at).is_byte(byte);
+        }
+        false
+    }
+
+    /// Whether a word stands at a place.
+    pub fn is_word_at(&self, at: usize) -> bool
+        ensures value { result ≡ is_word (piece_at self.now at).kind }
+        ensures inside { result ≡ true → at < length self.now }
+    {
+        if at < self.len() {
+            return self.kind(at).is_word();
         }
         false
     }

@@ -1,0 +1,5 @@
+use Rattle.lg_pre.proofs.LineLemmas.{table_made}
+use Rattle.lg_pre.proofs.expander.start_table.Goals as goal
+
+pub returns : goal.returns
+returns c = table_made c.push_cut.new.out c.in_ok-written.field-0 c.in-Some.entry c.new-table.result c.define.new.self (rw c.new-pieces.ensures at c.in_ok-push_cut.ensures) c.in_ok-written.ensures c.in-Some.is c.new-table.ensures c.in_ok-define-in-Some.ensures

@@ -1,0 +1,6 @@
+use Rattle.std.proofs.Common.{◌≡◌, take}
+use Rattle.lg_pre.specs.Given.{feeds_in}
+use Rattle.lg_pre.proofs.flush.feeds_in.Given as goal
+
+abbrev pub invariant-loop-b : goal.invariant-loop-b
+invariant-loop-b l = l.feeds ≡ feeds_in (take l.b-index l.text)

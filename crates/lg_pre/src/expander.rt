@@ -1,0 +1,346 @@
+// The lines of a text and its directives, and the expansion of a text.
+
+ghost use Rattle.std.specs.Prelude.{◌≡◌, ◌+◌, ◌<◌, ◌≤◌, length, drop, IfOk};
+ghost use Rattle.lg_pre.specs.Arguments.{stripped};
+ghost use Rattle.lg_pre.specs.Defines.{spliced};
+ghost use Rattle.lg_pre.specs.Directive.{directive_of};
+ghost use Rattle.lg_pre.specs.Expanded.{lines_in, defines, undefines, opens_named, opens_if, read, obeyed, obeys, is_as_wanted, gives_lines, feeds_lines, flushes, waits, directed, directs, one_line, ended, finishes, start, start_table, expanded_in, expanded};
+ghost use Rattle.lg_pre.specs.Macros.{CountsAs, StepsAs, Reads};
+ghost use Rattle.std.specs.Prelude.{Ok};
+ghost use Rattle.lg_pre.specs.Pieces.{piece_at, between};
+
+use crate::arguments::stripped;
+use crate::conditions::Conditions;
+use crate::cutting::push_cut;
+use crate::defines::{one_word, spliced, stripped_from, written};
+use crate::directive::{Directive, directive_of};
+use crate::flush::{feed, flush};
+use crate::macros::{Table, Work, refused};
+use crate::pieces::Pieces;
+use crate::plain_text::PlainText;
+use crate::questions::asks;
+use crate::stop::{FaultKind, Stop};
+use crate::text::{line_len, mark_in, text_pieces};
+use lg_base::refusal::OutOfMemory;
+use std::alloc::Global;
+
+/// What a text has come to: macros, open conditions, the lines that wait for the next directive, bytes given, and the sum of replacements.
+#[derive(Drop)]
+pub struct Expander {
+    pub table: Table,
+    pub conditions: Conditions,
+    pub lines: Pieces,
+    pub given: PlainText,
+    pub sum: usize,
+}
+
+// Reads a `#define`.
+fn define(alloc: Global, table: &mut Table, line: u32, rest: &Pieces) -> Result<(), Stop>
+    ensures { CountsAs result table.new (defines table.old line rest.now) }
+{
+    match written(alloc, rest) {
+        Err(OutOfMemory) => Err(Stop::OutOfMemory),
+        Ok(None) => Err(refused(FaultKind::BadDirective, line)),
+        Ok(Some(entry)) => match table.define(entry) {
+            Ok(()) => Ok(()),
+            Err(OutOfMemory) => Err(Stop::OutOfMemory),
+        },
+    }
+}
+
+// Reads an `#undef`.
+fn undefine(alloc: Global, table: &mut Table, line: u32, rest: &Pieces) -> Result<(), Stop>
+    ensures { CountsAs result table.new (undefines table.old line rest.now) }
+{
+    match one_word(alloc, rest) {
+        Err(OutOfMemory) => Err(Stop::OutOfMemory),
+        Ok(None) => Err(refused(FaultKind::BadDirective, line)),
+        Ok(Some(name)) => {
+            table.undefine(name.as_bytes());
+            Ok(())
+        }
+    }
+}
+
+// Whether a name is defined or not, as wanted.
+fn is_as_wanted(wanted: bool, is: bool) -> bool
+    ensures { result ≡ is_as_wanted wanted is }
+{
+    if wanted { is } else { !is }
+}
+
+// Reads an `#ifdef` or `#ifndef`.
+fn open_named(
+    alloc: Global,
+    table: &Table,
+    conditions: &mut Conditions,
+    line: u32,
+    rest: &Pieces,
+    wanted: bool,
+) -> Result<(), Stop>
+    ensures { CountsAs result conditions.new (opens_named table.now conditions.old line rest.now wanted) }
+{
+    match one_word(alloc, rest) {
+        Err(OutOfMemory) => Err(Stop::OutOfMemory),
+        Ok(None) => Err(refused(FaultKind::BadDirective, line)),
+        Ok(Some(name)) => {
+            let is = table.place_in(name.as_bytes()).is_some();
+            conditions.open(line, true, is_as_wanted(wanted, is))
+        }
+    }
+}
+
+impl Expander {
+    // Reads an `#if`.
+    fn open_if(&mut self, alloc: Global, line: u32, rest: &Pieces) -> Result<(), Stop>
+        ensures { CountsAs result self.new (opens_if self.old line rest.now) }
+    {
+        if self.conditions.is_full() {
+            return Err(refused(FaultKind::BadDirective, line));
+        }
+        let chosen = asks(alloc, &self.table, line, rest, &mut self.sum)?;
+        self.conditions.open(line, true, chosen)
+    }
+
+    // Reads a directive of a group that is chosen.
+    fn read(
+        &mut self,
+        alloc: Global,
+        line: u32,
+        rest: &Pieces,
+        directive: Directive,
+    ) -> Result<(), Stop>
+        ensures { CountsAs result self.new (read self.old line rest.now directive) }
+    {
+        match directive {
+            Directive::Nothing => Ok(()),
+            Directive::Define => define(alloc, &mut self.table, line, rest),
+            Directive::Undefine => undefine(alloc, &mut self.table, line, rest),
+            Directive::IfDefined(wanted) => open_named(
+                alloc,
+                &self.table,
+                &mut self.conditions,
+                line,
+                rest,
+                wanted,
+            ),
+            Directive::If => self.open_if(alloc, line, rest),
+            Directive::Else => self.conditions.turn(line, rest),
+            Directive::EndIf => self.conditions.close(line, rest),
+            Directive::Unknown => Err(refused(FaultKind::BadDirective, line)),
+        }
+    }
+
+    // Reads a directive by its name and what stands behind that.
+    fn obeyed(
+        &mut self,
+        alloc: Global,
+        line: u32,
+        rest: &Pieces,
+        directive: Directive,
+    ) -> Result<(), Stop>
+        ensures { CountsAs result self.new (obeyed self.old line rest.now directive) }
+    {
+        if self.conditions.is_skipping() {
+            self.conditions.skip(line, rest, directive)
+        } else {
+            self.read(alloc, line, rest, directive)
+        }
+    }
+
+    // Reads a directive by the pieces behind its `#`.
+    fn obey(&mut self, alloc: Global, line: u32, body: &Pieces) -> Result<(), Stop>
+        ensures { CountsAs result self.new (obeys self.old line body.now) }
+    {
+        match stripped_from(alloc, body, body.len().min(1)) {
+            Err(OutOfMemory) => Err(Stop::OutOfMemory),
+            Ok(rest) => self.obeyed(alloc, line, &rest, directive_of(body)),
+        }
+    }
+
+    // Gives the lines that wait, expanded.
+    fn give_lines(&mut self, alloc: Global) -> Result<(), Stop>
+        ensures { CountsAs result self.new (gives_lines self.old) }
+    {
+        let mut work = Work {
+            alloc,
+            hidden: Vec::new(alloc),
+            sum: self.sum,
+        };
+        flush(&self.table, &mut work, &self.lines, &mut self.given)?;
+        self.sum = work.sum;
+        self.lines = Pieces::new(alloc);
+        Ok(())
+    }
+
+    // Gives the line feeds of the lines that wait.
+    fn feed_lines(&mut self, alloc: Global) -> Result<(), Stop>
+        ensures { CountsAs result self.new (feeds_lines self.old) }
+    {
+        let end = self.lines.len();
+        feed(alloc, &self.lines, 0, end, &mut self.given)?;
+        self.lines = Pieces::new(alloc);
+        Ok(())
+    }
+
+    // Gives what becomes of the lines that wait.
+    fn flush_lines(&mut self, alloc: Global) -> Result<(), Stop>
+        ensures { CountsAs result self.new (flushes self.old) }
+    {
+        if self.conditions.is_skipping() {
+            self.feed_lines(alloc)
+        } else {
+            self.give_lines(alloc)
+        }
+    }
+
+    // Reads a directive by its pieces, and gives its line feeds.
+    fn directed(
+        &mut self,
+        alloc: Global,
+        text: &Pieces,
+        at: usize,
+        end: usize,
+        line: u32,
+        body: &Pieces,
+    ) -> Result<usize, Stop>
+        requires order { at ≤ end }
+        requires inside { end ≤ length text.now }
+        ensures gives { StepsAs result self.new (directed text.now self.old at end line body.now) }
+        ensures end { IfOk result (λ n. n ≡ end) }
+    {
+        self.obey(alloc, line, body)?;
+        feed(alloc, text, at, end, &mut self.given)?;
+        Ok(end)
+    }
+
+    // Reads a directive, its `#` at a place.
+    fn direct(
+        &mut self,
+        alloc: Global,
+        text: &Pieces,
+        at: usize,
+        sign: usize,
+        end: usize,
+    ) -> Result<usize, Stop>
+        requires order { at ≤ sign }
+        requires some { sign < end }
+        requires inside { end ≤ length text.now }
+        ensures gives { StepsAs result self.new (directs text.now self.old at sign end) }
+        ensures end { IfOk result (λ n. n ≡ end) }
+    {
+        self.flush_lines(alloc)?;
+        match body_between(alloc, text, sign + 1, end) {
+            Err(OutOfMemory) => Err(Stop::OutOfMemory),
+            Ok(body) => self.directed(alloc, text, at, end, text.line(sign), &body),
+        }
+    }
+
+    // Reads the line that begins at a place: the place behind it.
+    #[tactic(auto, unfolding(crate::specs::Expanded::one_line))]
+    fn one_line(&mut self, alloc: Global, text: &Pieces, at: usize) -> Result<usize, Stop>
+        requires { at < length text.now }
+        ensures line { StepsAs result self.new (one_line text.now self.old at) }
+        ensures inside { IfOk result (λ n. (at < n) × (n ≤ length text.now)) }
+    {
+        let _end = text.len();
+        match mark_in(text, at) {
+            None => {
+                let end = at + line_len(text, at, false);
+                match self.lines.append_between(text, at, end) {
+                    Ok(()) => Ok(end),
+                    Err(OutOfMemory) => Err(Stop::OutOfMemory),
+                }
+            }
+            Some(n) => {
+                let end = at + n + line_len(text, at + n, true);
+                self.direct(alloc, text, at, at + n, end)
+            }
+        }
+    }
+
+    // The end of a text.
+    #[tactic(auto, unfolding(crate::specs::Expanded::finishes))]
+    fn finish(mut self, alloc: Global) -> Result<PlainText, Stop>
+        ensures { Reads result (finishes self) }
+    {
+        self.flush_lines(alloc)?;
+        match self.conditions.innermost() {
+            None => Ok(self.given),
+            Some(condition) => Err(refused(FaultKind::BadDirective, condition.line)),
+        }
+    }
+}
+
+// The pieces of a directive between two places, white space at their ends taken off.
+fn body_between(
+    alloc: Global,
+    text: &Pieces,
+    from: usize,
+    end: usize,
+) -> Result<Pieces, OutOfMemory>
+    requires order { from ≤ end }
+    requires inside { end ≤ length text.now }
+    ensures { IfOk result (λ r. r ≡ stripped (spliced (between from end text.now))) }
+{
+    let body = spliced(alloc, text, from, end)?;
+    stripped(alloc, &body)
+}
+
+// The table that defines `__WORDSIZE`.
+fn start_table(alloc: Global) -> Result<Table, OutOfMemory>
+    ensures { IfOk result (λ r. r ≡ start_table) }
+{
+    let mut pieces = Pieces::new(alloc);
+    push_cut(&mut pieces, b"__WORDSIZE 64", 0)?;
+    let mut table = Table::new(alloc);
+    match written(alloc, &pieces)? {
+        None => Ok(table),
+        Some(entry) => {
+            table.define(entry)?;
+            Ok(table)
+        }
+    }
+}
+
+// What a text begins with.
+fn start(alloc: Global) -> Result<Expander, OutOfMemory>
+    ensures { IfOk result (λ r. r ≡ start) }
+{
+    let table = start_table(alloc)?;
+    Ok(Expander {
+        table,
+        conditions: Conditions::new(alloc),
+        lines: Pieces::new(alloc),
+        given: PlainText::new(alloc),
+        sum: 0,
+    })
+}
+
+// The expansion of the pieces of a text.
+fn expand_pieces(alloc: Global, text: &Pieces, mut expander: Expander) -> Result<PlainText, Stop>
+    ensures { Reads result (lines_in (length text.now) text.now expander 0) }
+{
+    let end = text.len();
+    let mut at = 0;
+    'lines: while at < end {
+        let next = expander.one_line(alloc, text, at)?;
+        at = next;
+    }
+    expander.finish(alloc)
+}
+
+/// The expansion of a text, or its first fault: 22 to 24 with its line.
+#[tactic(auto, unfolding(crate::specs::Expanded::expanded))]
+pub fn expand(alloc: Global, text: &[u8]) -> Result<PlainText, Stop>
+    requires { length text.now ≤ 16777216 }
+    ensures { Reads result (expanded text.now) }
+{
+    match text_pieces(alloc, text) {
+        Err(OutOfMemory) => Err(Stop::OutOfMemory),
+        Ok(pieces) => match start(alloc) {
+            Err(OutOfMemory) => Err(Stop::OutOfMemory),
+            Ok(expander) => expand_pieces(alloc, &pieces, expander),
+        },
+    }
+}
