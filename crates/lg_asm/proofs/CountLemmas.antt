@@ -2,48 +2,50 @@
 use Rattle.std.proofs.Common.{◌≡◌, ℕ, ◌+◌, ◌<◌, List, [], ◌∷◌, ◌++◌, length, refl, sym, ap, ◌∙◌, arith, add-one, below_more, length-append, Some}
 use Rattle.std.proofs.Math.ListN.{get_or-append}
 use Rattle.std.proofs.Math.Seq.{get_or-append_seam}
-use Rattle.std.specs.Prelude.{count_by, slice_get, slice_index}
+use Rattle.std.specs.Prelude.{slice_get, slice_index}
 use Rattle.std.specs.Option.{option_and_then}
 use Rattle.lg_base.specs.declared.target.Target.{Target}
 use Rattle.lg_node.specs.Checks.{IsAccepted}
 use Rattle.lg_node.specs.Nodes.{LabelledNodes}
 use Rattle.lg_node.specs.Preparations.{prepared_before, pushed}
 use Rattle.lg_op.specs.declared.node.Node.{Node}
+use Rattle.lg_liveness.specs.Liveness.{LiveSets}
+use Rattle.lg_temp.specs.Chosen.{spills}
 use Rattle.lg_temp.specs.declared.choice.Choice.{Choice}
 use Rattle.lg_asm.specs.Assembled.{ArePushed}
 use Rattle.lg_asm.specs.Passed.{passed_behind}
-use Rattle.lg_asm.specs.PlainChoices.{plain_choices, choices_at, is_spill, spills_of, spills_in}
+use Rattle.lg_asm.specs.NodeChoices.{live_behind, node_choices, choices_at, spills_of, spills_in}
 use Rattle.lg_asm.proofs.WellLemmas.{passed-next, pushed-few}
 
 -- the counts of the first nodes
-pub record AreCounted (target : Target) (l : LabelledNodes) (xs : List ℕ) (passed saved count : ℕ) : Type 0 where
+pub record AreCounted (target : Target) (l : LabelledNodes) (sets : LiveSets) (xs : List ℕ) (passed saved count : ℕ) : Type 0 where
   pub pushed_are : ArePushed l.nodes xs count
   pub before : passed ≡ pushed l.nodes count
-  pub saved_are : saved ≡ spills_in target l.nodes count
+  pub saved_are : saved ≡ spills_in target l.nodes sets count
 
-pub none-counted : (target : Target) (l : LabelledNodes) (xs : List ℕ) → xs ≡ [] → AreCounted target l xs 0 0 0
+pub none-counted : (target : Target) (l : LabelledNodes) (sets : LiveSets) (xs : List ℕ) → xs ≡ [] → AreCounted target l sets xs 0 0 0
 unfolding prepared_before spills_in
-none-counted target l xs e = record {
+none-counted target l sets xs e = record {
   pushed_are = record { counted = ap length e; each = λ i h. absurd (omega (arith, h)); few = λ i h. absurd (omega (arith, h)) };
   before = refl;
   saved_are = refl;
 }
 
-spills-next : (target : Target) (nodes : List Node) (i : ℕ) → spills_in target nodes (i + 1) ≡ spills_in target nodes i + spills_of (choices_at target nodes i)
+spills-next : (target : Target) (nodes : List Node) (sets : LiveSets) (i : ℕ) → spills_in target nodes sets (i + 1) ≡ spills_in target nodes sets i + spills_of (choices_at target nodes sets i)
 unfolding spills_in
-spills-next target nodes i = rw add-one refl
+spills-next target nodes sets i = rw add-one refl
 
 -- those of one node more
-pub one-counted : (target : Target) (l : LabelledNodes) (xs : List ℕ) (passed saved i : ℕ) (n : Node) (choices : List Choice) → IsAccepted l → i < length l.nodes → AreCounted target l xs passed saved i → slice_get l.nodes i ≡ Some n
-    → plain_choices target passed n ≡ Some choices → AreCounted target l (xs ++ passed ∷ []) (passed_behind passed n.op) (saved + count_by is_spill choices) (i + 1)
-one-counted target l xs passed saved i n choices accepted lt a here is = record {
+pub one-counted : (target : Target) (l : LabelledNodes) (sets : LiveSets) (xs : List ℕ) (passed saved i : ℕ) (n : Node) (choices : List Choice) → IsAccepted l → i < length l.nodes → AreCounted target l sets xs passed saved i → slice_get l.nodes i ≡ Some n
+    → node_choices target (live_behind sets i) passed n ≡ Some choices → AreCounted target l sets (xs ++ passed ∷ []) (passed_behind passed n.op) (saved + spills choices) (i + 1)
+one-counted target l sets xs passed saved i n choices accepted lt a here is = record {
   pushed_are = record {
     counted = length-append xs (passed ∷ []) ∙ ap (λ k. k + 1) long;
     each = each;
     few = λ j h. let e = each j h in let f = pushed-few l accepted j (omega (arith, h, lt)) in omega (arith, e, f);
   };
   before = passed-next l i passed n accepted here a.before;
-  saved_are = ap (λ k. k + count_by is_spill choices) a.saved_are ∙ (ap (λ k. spills_in target l.nodes i + spills_of k) (sym at) ∙ sym (spills-next target l.nodes i));
+  saved_are = ap (λ k. k + spills choices) a.saved_are ∙ (ap (λ k. spills_in target l.nodes sets i + spills_of k) (sym at) ∙ sym (spills-next target l.nodes sets i));
 }
   where
     long : length xs ≡ i
@@ -56,5 +58,5 @@ one-counted target l xs passed saved i n choices accepted lt a here is = record 
     each j h = below_more (λ k. slice_index (xs ++ passed ∷ []) k ≡ pushed l.nodes k) i
         (λ k below. get_or-append xs (passed ∷ []) 0 k (omega (arith, below, long)) ∙ a.pushed_are.each k below) (last ∙ a.before) j h
 
-    at : choices_at target l.nodes i ≡ Some choices
-    at = ap (option_and_then (plain_choices target (pushed l.nodes i))) here ∙ (ap (λ k. plain_choices target k n) (sym a.before) ∙ is)
+    at : choices_at target l.nodes sets i ≡ Some choices
+    at = ap (option_and_then (node_choices target (live_behind sets i) (pushed l.nodes i))) here ∙ (ap (λ k. node_choices target (live_behind sets i) k n) (sym a.before) ∙ is)

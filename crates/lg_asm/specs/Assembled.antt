@@ -6,14 +6,15 @@ use Rattle.lg_base.specs.declared.refusal.RefusalKind.TheVariants.{CodeFull}
 use Rattle.lg_base.specs.declared.refusal.Stop.{Stop}
 use Rattle.lg_base.specs.declared.refusal.Stop.TheVariants as stop
 use Rattle.lg_base.specs.declared.target.Target.{Target}
-use Rattle.lg_base.specs.declared.target.Target.TheVariants.{Riscv64}
 use Rattle.lg_carry.specs.Agreement.{Agrees}
 use Rattle.lg_carry.specs.Carries.{Carries}
 use Rattle.lg_carry.specs.FinalNodes.{Code}
 use Rattle.lg_carry.specs.Stands.{Stands}
-use Rattle.lg_carry.specs.Targets.{processor_of}
+use Rattle.lg_sel.specs.Targets.{processor_of}
 use Rattle.lg_cpu.specs.Laws.{AreBytes}
 use Rattle.lg_cpu.specs.Targets.{run_from}
+use Rattle.lg_liveness.specs.Liveness.{LiveSets, AreLive}
+use Rattle.lg_liveness_laws.specs.CarriedLiveness.{live_at}
 use Rattle.lg_meaning.specs.Addresses.{AreAddresses}
 use Rattle.lg_meaning.specs.Starts.{start_state}
 use Rattle.lg_meaning.specs.States.{Frame}
@@ -21,16 +22,18 @@ use Rattle.lg_node.specs.Nodes.{LabelledNodes}
 use Rattle.lg_node.specs.Preparations.{pushed}
 use Rattle.lg_node.specs.Shapes.{TextShape, IsChecked, IsShapeOf}
 use Rattle.lg_op.specs.declared.node.Node.{Node}
-use Rattle.lg_asm.specs.Lowered.{every_before, code_of, ArePlaces, AreOf, AreNodesWhole}
-use Rattle.lg_asm.specs.PlainChoices.{spills_in}
+use Rattle.lg_asm.specs.Built.{IsBuilt}
+use Rattle.lg_asm.specs.Lowered.{code_of, ArePlaces, AreOf, AreNodesWhole, AreNodesSparing}
+use Rattle.lg_asm.specs.NodeChoices.{spills_in}
 
--- the target, the bytes, the nodes with their shape, the places of the nodes and of the end, the addresses of the labels, the index of the text's
--- node from which each comes, and how many registers are saved for temporaries
+-- the target, the bytes, the nodes with their shape, the registers that are live before and behind each, the places of the nodes and of the end, the
+-- addresses of the labels, the index of the text's node from which each comes, and how many registers are saved for temporaries
 pub record Assembled : Type 0 where
   pub target : Target
   pub bytes : List ℕ
   pub nodes : LabelledNodes
   pub shape : TextShape
+  pub live : LiveSets
   pub places : List ℕ
   pub labels : List ℕ
   pub origin : List ℕ
@@ -47,24 +50,26 @@ pub record ArePushed (nodes : List Node) (xs : List ℕ) (count : ℕ) : Type 0 
   pub each : (i : ℕ) → i < count → slice_index xs i ≡ pushed nodes i
   pub few : (i : ℕ) → i < count → slice_index xs i ≤ 16
 
--- the nodes are accepted and are those of the text; they stand at their places, between which are whole instructions; a label that is bound at a node
--- has the address of its place, and each node is carried, with all registers live
+-- the nodes are accepted and are those of the text; they stand at their places, between which are whole instructions with few stores; a label that is
+-- bound at a node has the address of its place, and each node is carried, for the registers that are live before it
 pub record IsCode (c : Assembled) : Type 0 where
   pub checked : IsChecked c.nodes (Ok c.shape)
+  pub live_are : AreLive c.nodes c.shape c.live
   pub small : length c.bytes ≤ 1048576
   pub are_bytes : AreBytes c.bytes
   pub ordered : ArePlaces c.nodes c.places (length c.bytes)
   pub addresses : AreAddresses c.nodes (length c.bytes) c.labels
   pub addressed : AreOf c.nodes c.places c.labels
   pub instructions : AreNodesWhole c.target (length c.nodes.nodes) c.places c.bytes
-  pub carried : (trash i : ℕ) → trash < 2 ^ 64 → i < length c.nodes.nodes → Carries (processor_of c.target c.bytes trash) (code_of c.nodes c.shape c.labels c.places) every_before i
+  pub sparing : AreNodesSparing c.target c.nodes c.live c.places c.bytes
+  pub carried : (trash i : ℕ) → trash < 2 ^ 64 → i < length c.nodes.nodes → Carries (processor_of c.target c.bytes trash) (code_of c.nodes c.shape c.labels c.places) (live_at c.live.before) i
   pub identity : IsIdentity (length c.nodes.nodes) c.origin
-  pub saved : c.spills ≡ spills_in c.target c.nodes.nodes (length c.nodes.nodes)
+  pub saved : c.spills ≡ spills_in c.target c.nodes.nodes c.live (length c.nodes.nodes)
 
 -- ---- laws
 -- such code agrees with the portable meaning over every data part
 abbrev pub CodeAgrees : Type 0
-CodeAgrees = (c : Assembled) (image : List ℕ) → IsCode c → c.target ≡ Riscv64 → AreBytes image → length image ≤ 0x1000000 → Agrees c.bytes c.labels (record { nodes = c.nodes; image = image }) c.target
+CodeAgrees = (c : Assembled) (image : List ℕ) → IsCode c → IsBuilt c.target → AreBytes image → length image ≤ 0x1000000 → Agrees c.bytes c.labels (record { nodes = c.nodes; image = image }) c.target
 
 -- the parts of the memory and the word that is in what nothing has set
 pub record MayStart (image args : List ℕ) (trash : ℕ) : Type 0 where
@@ -77,7 +82,7 @@ pub record MayStart (image args : List ℕ) (trash : ℕ) : Type 0 where
 -- the processor at the start of the code of an accepted text stands for the meaning at its start, whatever is live
 abbrev pub StartStands : Type 0
 StartStands =
-    (target : Target) (c : Code) (code image args : List ℕ) (trash : ℕ) (live : Frame → ℕ → Bool) (S : ℕ → Bool) → target ≡ Riscv64 → MayStart image args trash → IsShapeOf c.nodes c.shape
+    (target : Target) (c : Code) (code image args : List ℕ) (trash : ℕ) (live : Frame → ℕ → Bool) (S : ℕ → Bool) → IsBuilt target → MayStart image args trash → IsShapeOf c.nodes c.shape
     → c.place 0 ≡ code_base → Stands (processor_of target code trash) c live (start_state image args) [] (run_from target image args trash) S
 
 -- ---- refusals

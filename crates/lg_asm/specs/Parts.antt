@@ -2,17 +2,19 @@
 use Rattle.std.specs.Prelude.{ℕ, List}
 use Rattle.lg_base.specs.declared.target.Target.{Target}
 use Rattle.lg_asm.specs.Assembled.{Assembled}
+use Rattle.lg_liveness.specs.Liveness.{LiveSets}
 use Rattle.lg_asm.specs.declared.counts.Counts.{Counts}
 use Rattle.lg_asm.specs.declared.parts.TextBytes.{TextBytes}
 use Rattle.lg_asm.specs.declared.parts.TextNodes.{TextNodes}
 
 -- what is kept of code with these parts
-abbrev pub kept_of : Target → TextBytes → List ℕ → TextNodes → Counts → Assembled
-kept_of target text labels list counts = record {
+abbrev pub kept_of : Target → TextBytes → List ℕ → TextNodes → LiveSets → Counts → Assembled
+kept_of target text labels list live counts = record {
   target = target;
   bytes = text.bytes.items;
   nodes = list.nodes;
   shape = list.shape;
+  live = live;
   places = text.places.items;
   labels = labels;
   origin = list.origin.items;

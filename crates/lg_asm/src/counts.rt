@@ -1,31 +1,48 @@
-// The plain choices of nodes, and how many registers are saved for them.
+// The choices of nodes, and how many registers are saved for them.
 
-ghost use Rattle.std.specs.Prelude.{◌≡◌, ◌≤◌, ◌+◌, Some, length, count_by, IfOk};
+ghost use Rattle.std.specs.Prelude.{◌≡◌, ◌≤◌, ◌+◌, Some, ◌<◌, length, IfOk};
 ghost use Rattle.lg_asm.specs.Assembled.{ArePushed};
-ghost use Rattle.lg_asm.specs.PlainChoices.{plain_choices, is_spill, spills_in};
+ghost use Rattle.lg_asm.specs.NodeChoices.{node_choices, set_behind, spills_in};
 ghost use Rattle.lg_base.specs.declared.target.Target.{Target};
+ghost use Rattle.lg_live.specs.RegSets.{has};
 ghost use Rattle.lg_node.specs.Checks.{IsAccepted};
+ghost use Rattle.lg_temp.specs.Chosen.{spills};
 
 use crate::node::{first, pushed_behind};
-use crate::target::{all_registers, needs};
+use crate::target::needs;
 use lg_base::refusal::OutOfMemory;
 use lg_base::target::Target;
+use lg_live::reg_set::RegSet;
+use lg_liveness::live::Live;
 use lg_node::NodeList;
 use lg_op::Node;
 use lg_temp::choice::{Choice, Choices};
 use lg_temp::choose::choose;
 use std::alloc::Global;
 
-/// The plain choices of a node before which so many arguments are pushed.
-pub(crate) fn plain_choices(target: Target, node: &Node, passed: u32) -> Choices
+/// The registers that are live behind a node.
+pub(crate) fn set_behind(live: &Live, index: u32) -> RegSet
+    requires { index < length live.now.behind }
+    ensures { result ≡ set_behind live.now index }
+{
+    live.after(index)
+}
+
+/// The choices of a node behind which these registers are live and before which so many arguments are pushed.
+pub(crate) fn node_choices(
+    target: Target,
+    node: &Node,
+    live_after: RegSet,
+    passed: u32,
+) -> Choices
     requires { passed ≤ 16 }
-    ensures { plain_choices target passed node.now ≡ Some result }
+    ensures { node_choices target (has live_after) passed node.now ≡ Some result }
 {
     choose(
         target,
         &needs(target, node),
         node,
-        all_registers(),
+        live_after,
         first(passed),
     )
 }
@@ -33,7 +50,7 @@ pub(crate) fn plain_choices(target: Target, node: &Node, passed: u32) -> Choices
 // How many of these choices are saved.
 fn spills(choices: &[Choice]) -> u32
     requires { length choices.now ≤ 3 }
-    ensures { result ≡ count_by is_spill choices.now }
+    ensures { result ≡ spills choices.now }
 {
     choices
         .iter()
@@ -50,23 +67,26 @@ pub(crate) struct Counts {
     pub(crate) spills: u32,
 }
 
-/// The counts of the nodes of an accepted text with their plain choices. There is no memory either where more than 4,294,967,295 registers
+/// The counts of the nodes of an accepted text, of whose registers these are live. There is no memory either where more than 4,294,967,295 registers
 /// are saved.
 pub(crate) fn counted(
     alloc: Global,
     nodes: &NodeList,
+    live: &Live,
     target: Target,
 ) -> Result<Counts, OutOfMemory>
-    requires { IsAccepted nodes.now }
+    requires accepted { IsAccepted nodes.now }
+    requires live { length live.now.behind ≡ length nodes.now.nodes }
     ensures passed { IfOk result (λ c. ArePushed nodes.now.nodes c.passed.items (length nodes.now.nodes)) }
-    ensures spills { IfOk result (λ c. c.spills ≡ spills_in target nodes.now.nodes (length nodes.now.nodes)) }
+    ensures spills { IfOk result (λ c. c.spills ≡ spills_in target nodes.now.nodes live.now (length nodes.now.nodes)) }
 {
     let mut list = Vec::with_capacity(alloc, nodes.len() as usize)?;
     let mut passed = 0;
     let mut saved: u32 = 0;
     'nodes: for index in 0..nodes.len() {
         let node = nodes.node(index);
-        let choices = plain_choices(target, &node, passed);
+        let live_after = set_behind(live, index);
+        let choices = node_choices(target, &node, live_after, passed);
         let Some(more) = saved.checked_add(spills(choices.as_slice())) else {
             return Err(OutOfMemory);
         };

@@ -3,8 +3,10 @@
 ghost use Rattle.std.specs.Prelude.{◌≡◌, ◌+◌, ◌*◌, ◌<◌, ◌≤◌, length, IfOk, IfErr};
 ghost use Rattle.lg_cpu.specs.Laws.{AreBytes};
 ghost use Rattle.lg_asm.specs.Assembled.{IsIdentity, IsRefusedBy};
+ghost use Rattle.lg_asm.specs.Built.{IsBuilt};
 ghost use Rattle.lg_asm.specs.Lowered.{IsGiven};
 ghost use Rattle.lg_base.specs.declared.target.Target.{Target};
+ghost use Rattle.lg_liveness.specs.Liveness.{AreLive};
 ghost use Rattle.lg_node.specs.Shapes.{IsShapeOf};
 
 use crate::lowering::lower;
@@ -12,6 +14,7 @@ use lg_base::code::{CodeBytes, Origin, Places};
 use lg_base::refusal::{OutOfMemory, Refusal, RefusalKind, Stop};
 use lg_base::target::Target;
 use lg_buf::CodeBuf;
+use lg_liveness::live::Live;
 use lg_node::{NodeList, Shape};
 use std::alloc::Global;
 
@@ -46,13 +49,15 @@ pub(crate) fn text_bytes(
     alloc: Global,
     nodes: &NodeList,
     shape: &Shape,
+    live: &Live,
     target: Target,
     size: u32,
 ) -> Result<TextBytes, Stop>
-    requires built { target ≡ Target.Riscv64 }
+    requires built { IsBuilt target }
     requires shape { IsShapeOf nodes.now shape.now }
+    requires live { AreLive nodes.now shape.now live.now }
     requires size { size ≤ 1048576 }
-    ensures given { IfOk result (λ t. IsGiven target nodes.now shape.now size t.places.items t.tags.items t.bytes.items) }
+    ensures given { IfOk result (λ t. IsGiven target nodes.now shape.now live.now size t.places.items t.tags.items t.bytes.items) }
     ensures refused { IfErr result (IsRefusedBy (length nodes.now.nodes) size) }
 {
     let count = nodes.len();
@@ -65,7 +70,7 @@ pub(crate) fn text_bytes(
     let Ok(mut places) = Places::with_room(alloc, room) else {
         return Err(Stop::OutOfMemory);
     };
-    if !lower(nodes, shape, target, &mut buf, &mut places) {
+    if !lower(nodes, shape, live, target, &mut buf, &mut places) {
         return Err(Stop::Refused(Refusal {
             kind: RefusalKind::CodeFull,
             line: 0,

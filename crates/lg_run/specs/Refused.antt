@@ -2,6 +2,7 @@
 use Rattle.std.specs.Prelude.{◌≡◌, ◌⊎◌, ℕ, ◌+◌, ◌*◌, ◌<◌, ◌≤◌, List, length, Option, Some, None, Result, Ok, Err, ⊤}
 use Rattle.lg_base.specs.Arguments.{args_of, most_args, args_too_long}
 use Rattle.lg_base.specs.declared.refusal.Refusal.{Refusal}
+pub use Rattle.lg_asm.specs.Built.{IsBuilt}
 use Rattle.lg_base.specs.declared.refusal.RefusalKind.TheVariants.{CodeFull, NotYet, TextTooLong}
 use Rattle.lg_base.specs.declared.target.Target.{Target}
 use Rattle.lg_base.specs.declared.target.Target.TheVariants.{Riscv64}
@@ -24,11 +25,6 @@ not_yet = record { kind = NotYet; line = 0 }
 
 abbrev pub code_full : Refusal
 code_full = record { kind = CodeFull; line = 0 }
-
--- the target whose code is built
-abbrev pub IsBuilt : Target → Type 0
-IsBuilt Riscv64 = ⊤
-IsBuilt target = ⊥
 
 -- code of so many nodes may have more bytes than the size
 abbrev pub MayBeFull : (nodes size : ℕ) → Type 0

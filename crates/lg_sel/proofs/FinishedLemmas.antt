@@ -1,6 +1,6 @@
 -- From a finished buffer to the items of a node.
 use Rattle.std.proofs.Common.{◌≡◌, ℕ, ◌+◌, ◌-◌, ◌≤◌, true, List, ◌++◌, length, drop, take, refl, sym, ap, subst, ◌∙◌, arith, length-append}
-use Rattle.std.specs.Prelude.{slice_index}
+use Rattle.std.specs.Prelude.{Bool, slice_index, count_by}
 use Rattle.std.specs.List.{All}
 use Rattle.std.proofs.Math.Seq.{take-append_seam}
 use Rattle.std.proofs.lemmas.List.{drop_at}
@@ -9,8 +9,9 @@ use Rattle.lg_buf.specs.Buffers.{Buffer}
 use Rattle.lg_carry.specs.Blocks.{spellings}
 use Rattle.lg_carry.specs.FinalNodes.{Code}
 use Rattle.lg_carry.specs.Rows.{Rows}
-use Rattle.lg_sel.specs.Finished.{AreAppended, ItemsAreOfNode, ItemsAreWhole}
+use Rattle.lg_sel.specs.Finished.{AreAppended, ItemsAreOfNode, ItemsAreWhole, ItemsAreSparing}
 use Rattle.lg_sel.specs.Selected.{IsFinished, AreWhole, part_of}
+use Rattle.lg_sel.specs.Stores.{StoresAtMost}
 use Rattle.lg_sel_items.specs.Holes.{Holes, blanks, settled, fixes_of, Each, IsApartFrom, StandAt, IsSettled, AreHoles}
 use Rattle.lg_sel_items.proofs.HoleLemmas.{items-are-settled, settled-bytes}
 
@@ -58,6 +59,15 @@ module _ {L I : Type 0} (H : Holes L I) (spelling : I → List ℕ) (fits : I �
             ∙ (ap (λ (ys : List ℕ). take (length is) ys) settled-there.stands ∙ take-append_seam is (drop (place + length (blanks H items)) code));
       }
 
+  sparing-there : (is_store : I → Bool) (most : ℕ) → count_by is_store (settled H to (c.place i) items) ≤ most → StoresAtMost spelling fits is_store most (part_of code place (length new.bytes - place))
+  unfolding whole-there
+  sparing-there is_store most few = record {
+    instructions = whole-there.instructions;
+    fit = whole-there.fit;
+    bytes_are = whole-there.bytes_are;
+    few = subst (λ (p : ℕ). count_by is_store (settled H to p items) ≤ most) f.here few;
+  }
+
 pub items-are-of-node : {L Q I : Type 0} (H : Holes L I) (R : Rows Q I) (fits stays : I → Type 0) (is_item : L → Type 0) → AreHoles H R.spelling fits is_item → ItemsAreOfNode H R fits stays is_item
 items-are-of-node H R fits stays is_item holes old new c i items a ok stay few place_is f =
     let start : ℕ = length old.bytes in
@@ -77,3 +87,7 @@ items-are-of-node H R fits stays is_item holes old new c i items a ok stay few p
 
 pub items-are-whole : {L I : Type 0} (H : Holes L I) (spelling : I → List ℕ) (fits : I → Type 0) (is_item : L → Type 0) → AreHoles H spelling fits is_item → ItemsAreWhole H spelling fits is_item
 items-are-whole H spelling fits is_item holes old new code c i items a ok f = whole-there H spelling fits is_item holes old new code c i items a ok f
+
+pub items-are-sparing : {L I : Type 0} (H : Holes L I) (spelling : I → List ℕ) (fits : I → Type 0) (is_item : L → Type 0) → AreHoles H spelling fits is_item → ItemsAreSparing H spelling fits is_item
+items-are-sparing H spelling fits is_item holes is_store old new code c i items most a ok few f =
+    sparing-there H spelling fits is_item holes old new code c i items a ok f is_store most few

@@ -1,1 +1,11 @@
+pub mod AppendedLemmas
+pub mod CountLemmas
+pub mod EmissionLemmas
+pub mod FamilyLemmas
 pub mod FinishedLemmas
+pub mod LabelLemmas
+pub mod NodeEmissionLemmas
+pub mod NodeFitLemmas
+pub mod OperandLemmas
+pub mod PlaceLemmas
+pub mod StoreLemmas

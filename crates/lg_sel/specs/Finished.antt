@@ -1,10 +1,11 @@
 -- From a finished buffer to the items of a node that were appended to it.
-use Rattle.std.specs.Prelude.{◌≡◌, ℕ, ◌-◌, ◌≤◌, true, List, ◌++◌, length, slice_index}
+use Rattle.std.specs.Prelude.{◌≡◌, ℕ, ◌-◌, ◌≤◌, Bool, true, List, ◌++◌, length, slice_index, count_by}
 use Rattle.std.specs.List.{All}
 use Rattle.lg_buf.specs.Buffers.{Buffer}
 use Rattle.lg_carry.specs.FinalNodes.{Code}
 use Rattle.lg_carry.specs.Rows.{Rows}
 use Rattle.lg_sel.specs.Selected.{IsFinished, AreWhole, part_of}
+use Rattle.lg_sel.specs.Stores.{StoresAtMost}
 use Rattle.lg_sel_items.specs.Holes.{Holes, words_in, blanks, settled, fixes_of, Each}
 use Rattle.lg_sel_items.specs.NodeItems.{AreOfNode}
 
@@ -25,3 +26,10 @@ abbrev pub ItemsAreWhole : {L I : Type 0} → Holes L I → (I → List ℕ) →
 ItemsAreWhole {L} H spelling fits is_item =
     (old new : Buffer) (code : List ℕ) (c : Code) (i : ℕ) (items : List L) → AreAppended H old new items → Each is_item items → IsFinished old new code c i
     → AreWhole spelling fits (part_of code (length old.bytes) (length new.bytes - length old.bytes))
+
+-- of which as many store as of the instructions that the items become
+abbrev pub ItemsAreSparing : {L I : Type 0} → Holes L I → (I → List ℕ) → (I → Type 0) → (L → Type 0) → Type 0
+ItemsAreSparing {L} {I} H spelling fits is_item =
+    (is_store : I → Bool) (old new : Buffer) (code : List ℕ) (c : Code) (i : ℕ) (items : List L) (most : ℕ) → AreAppended H old new items → Each is_item items
+    → count_by is_store (settled H (slice_index c.addresses) (c.place i) items) ≤ most → IsFinished old new code c i
+    → StoresAtMost spelling fits is_store most (part_of code (length old.bytes) (length new.bytes - length old.bytes))

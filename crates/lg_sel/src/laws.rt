@@ -1,6 +1,6 @@
 // When a finished buffer keeps what its items promise. The functions do nothing: their contracts are the laws.
 
-ghost use Rattle.lg_sel.specs.Finished.{ItemsAreOfNode, ItemsAreWhole};
+ghost use Rattle.lg_sel.specs.Finished.{ItemsAreOfNode, ItemsAreWhole, ItemsAreSparing};
 
 use lg_sel_items::laws::HasHoles;
 
@@ -12,4 +12,9 @@ pub fn items_are_of_node<T: HasHoles>()
 /// Their bytes are whole instructions then.
 pub fn items_are_whole<T: HasHoles>()
     ensures { ItemsAreWhole T.holes T.rows.spelling T.fits T.is_item }
+{}
+
+/// Of these as many store as of the instructions that the items become.
+pub fn items_are_sparing<T: HasHoles>()
+    ensures { ItemsAreSparing T.holes T.rows.spelling T.fits T.is_item }
 {}

@@ -1,12 +1,12 @@
 pub mod CarriedLemmas
-pub mod CountLemmas
+pub mod ControlEmissions
+pub mod Emissions
 pub mod FinishedLemmas
 pub mod FitLemmas
-pub mod FixLemmas
+pub mod MemoryEmissions
 pub mod NodeFits
 pub mod NodeLemmas
 pub mod OperandLemmas
 pub mod PlaceLemmas
 pub mod PushFits
-pub mod ValueFixes
-pub mod WithinLemmas
+pub mod ValueEmissions

@@ -1,6 +1,5 @@
 -- The code of a node is the same at a place of the buffer and at its address.
-use Rattle.std.proofs.Common.{◌≡◌, ℕ, ◌+◌, ◌-◌, ◌/◌, ◌%◌, ◌⊎◌, ⊎_elim, Bool, true, false, List, [], ◌∷◌, refl, ap, arith}
-use Rattle.std.specs.Prelude.{◌&&◌}
+use Rattle.std.proofs.Common.{◌≡◌, ℕ, ◌+◌, ◌-◌, ◌/◌, ◌%◌, true, List, [], ◌∷◌, refl, ap}
 use Rattle.lg_base.specs.Layout.{code_base}
 use Rattle.lg_op.specs.Forms.{is_alignment, admit, forms_of}
 use Rattle.lg_op.specs.declared.op.Op.{Op}
@@ -8,25 +7,13 @@ use Rattle.lg_op.specs.declared.op.Op.TheVariants as op
 use Rattle.lg_op.specs.declared.op.PlainOp.TheVariants as plain
 use Rattle.lg_op.specs.declared.operand.Operand.{Operand}
 use Rattle.lg_op.specs.declared.operand.Operand.TheVariants as operand
+use Rattle.lg_sel.proofs.PlaceLemmas.{remainder, and-first}
 use Rattle.lg_selr_control.specs.Alignments.{padding, idle}
 use Rattle.lg_selr_control.specs.ControlItems.{align_items, control_items}
 use Rattle.lg_selr_items.specs.Items.{ones}
 
-one-of : (n : ℕ) → is_alignment n ≡ true → (n ≡ 1) ⊎ ((n ≡ 2) ⊎ ((n ≡ 4) ⊎ ((n ≡ 8) ⊎ ((n ≡ 16) ⊎ ((n ≡ 32) ⊎ (n ≡ 64))))))
-one-of n h = grind (arith, h)
-
--- the first address of code is a multiple of every alignment
-remainder : (p n : ℕ) → is_alignment n ≡ true → (code_base + p) % n ≡ p % n
-remainder p n h =
-    ⊎_elim (λ e. rw e (omega arith)) (λ r. ⊎_elim (λ e. rw e (omega arith)) (λ r. ⊎_elim (λ e. rw e (omega arith)) (λ r. ⊎_elim (λ e. rw e (omega arith))
-    (λ r. ⊎_elim (λ e. rw e (omega arith)) (λ r. ⊎_elim (λ e. rw e (omega arith)) (λ e. rw e (omega arith)) r) r) r) r) r) (one-of n h)
-
 same-padding : (p n : ℕ) → is_alignment n ≡ true → padding (code_base + p) n ≡ padding p n
 same-padding p n h = ap (λ (r : ℕ). (n - r) % n / 4) (remainder p n h)
-
-pub and-first : (a b : Bool) → (a && b) ≡ true → a ≡ true
-and-first true b e = refl
-and-first false b e = cc
 
 align-at : (p : ℕ) (xs : List Operand) → admit (forms_of (op.Plain plain.Align)) xs ≡ true → align_items (code_base + p) xs ≡ align_items p xs
 align-at p (operand.Number n ∷ []) a = ap (λ k. ones (idle k)) (same-padding p n (and-first (is_alignment n) true a))

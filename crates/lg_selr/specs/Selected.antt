@@ -1,12 +1,22 @@
--- What is asked of a node's temporaries on RV64.
-use Rattle.std.specs.Prelude.{Bool, List}
+-- What is asked of a node on RV64.
+use Rattle.std.specs.Prelude.{ℕ, Bool, List}
 use Rattle.lg_base.specs.declared.target.Target.TheVariants.{Riscv64}
 use Rattle.lg_op.specs.declared.node.Node.{Node}
+use Rattle.lg_op.specs.declared.op.Op.{Op}
 use Rattle.lg_op.specs.declared.operand.Reg.{Reg}
+use Rattle.lg_sel.specs.Asked as asked
 use Rattle.lg_sel.specs.Selected as selected
 use Rattle.lg_selr_values.specs.ValueItems.{value_needs}
 use Rattle.lg_temp.specs.declared.choice.Choice.{Choice}
+use Rattle.lg_temp.specs.declared.choice.Need.{Need}
+
+-- what the temporaries of an operation's code need
+abbrev pub needs : Op → List Need
+needs o = value_needs o
 
 -- the choices are those for the needs of the node
 abbrev pub AreChosen : Node → (Reg → Bool) → List Bool → List Choice → Type 0
-AreChosen node live staged choices = selected.AreChosen Riscv64 (value_needs node.op) node live staged choices
+AreChosen node live staged choices = selected.AreChosen Riscv64 (needs node.op) node live staged choices
+
+abbrev pub IsAsked : Node → (Reg → Bool) → List Bool → List Choice → ℕ → Type 0
+IsAsked node live staged choices labels = asked.IsAsked Riscv64 needs node live staged choices labels

@@ -2,11 +2,12 @@
 
 ghost use Rattle.std.specs.Prelude.{◌≡◌, ◌<◌, ◌≤◌, [], true, length};
 ghost use Rattle.lg_op.specs.Nodes.{InForm};
-ghost use Rattle.lg_selr.specs.Items.{node_items, staged_count, items_of};
-ghost use Rattle.lg_sel.specs.Selected.{IsFrame, AreFirst, is_pusharg, IsWord, HaveWords};
+ghost use Rattle.lg_selr.specs.Items.{node_items};
+ghost use Rattle.lg_sel.specs.Selected.{IsFrame, AreFirst, is_pusharg};
 ghost use Rattle.lg_selr_values.specs.ValueItems.{HaveSlots};
 
-use lg_op::{ControlOp, Node, Op, Operand, PlainOp};
+use lg_op::{ControlOp, Node, Op, PlainOp};
+use lg_sel::operands::staged_count;
 use lg_sel_items::Items;
 use lg_selr_control::{put_control, put_retval};
 use lg_selr_items::Item;
@@ -41,38 +42,5 @@ pub(crate) fn put_items(
         Op::Retval(t) => put_retval(t, node.operands.as_slice(), items),
         Op::Control(ControlOp::Pusharg, _) => put_argument(staged_count(staged), node, items),
         _ => put_control(node, frame, place, items),
-    }
-}
-
-// How many arguments are staged.
-fn staged_count(staged: &Staged) -> u32
-    ensures { result ≡ staged_count staged.now.arguments }
-{
-    staged
-        .arguments
-        .iter()
-        .filter(|argument| **argument)
-        .count() as u32
-}
-
-// The number of an operand is a word.
-pub(crate) fn see_number(operand: Operand)
-    ensures { IsWord operand }
-{
-    if let Operand::Number(value) = operand {
-        let _value = value;
-    }
-}
-
-// The numbers of operands are words.
-pub(crate) fn see_numbers(operands: &[Operand])
-    ensures { HaveWords operands.now }
-{
-    match operands {
-        [] => {}
-        [operand, rest @ ..] => {
-            see_number(*operand);
-            see_numbers(rest);
-        }
     }
 }

@@ -3,18 +3,19 @@
 ghost use Rattle.std.specs.Prelude.{◌≡◌, ◌+◌, ◌%◌, ◌<◌, ◌≤◌, ◌++◌, true, false, drop, length, IsTrue};
 ghost use Rattle.std.specs.List.{All};
 ghost use Rattle.lg_node.specs.Functions.{is_prolog};
-ghost use Rattle.lg_selr_values.specs.ValueFits.{NameBelow};
+ghost use Rattle.lg_sel.specs.Asked.{NameBelow};
 ghost use Rattle.lg_op.specs.Nodes.{InForm};
 ghost use Rattle.lg_live.specs.RegSets.{has};
 ghost use Rattle.lg_sel.specs.Selected.{IsFrame, AreFirst, is_pusharg, TakesLabelsWell, IsAligned, IsFixOf};
-ghost use Rattle.lg_sel.specs.Promises.{IsCarriedWhenFinished, AreInstructionsWhenFinished};
+ghost use Rattle.lg_sel.specs.Promises.{IsCarriedWhenFinished, AreInstructionsWhenFinished, IsSparingWhenFinished};
 ghost use Rattle.lg_selr.specs.Selected.{AreChosen};
 ghost use Rattle.lg_base.specs.declared.target.Target.{Target};
 
-use crate::items::{put_items, see_numbers};
+use crate::items::put_items;
 use lg_buf::CodeBuf;
 use lg_live::reg_set::RegSet;
 use lg_op::Node;
+use lg_sel::operands::see_numbers;
 use lg_sel_items::{Items, append};
 use lg_temp::choice::{Choices, Staged};
 
@@ -29,7 +30,8 @@ use lg_temp::choice::{Choices, Staged};
 /// Behind an `.align` the place is a multiple of its number, and a `prolog` has bytes. Each new fix lies behind what the buffer held, names a label
 /// of the node, and reaches every instruction within 1 MiB. Once the fixes of the buffer are patched, the code is whole instructions, and carries
 /// the node where the registers of `live_after` are live behind it: no step of it but one of a host function changes a register that is outside of
-/// the conventions.
+/// the conventions. It has one store for each choice that saves a register, and one more at stores, `pushargr` and `pushargi`; that of a `prolog` may
+/// have more.
 #[must_use]
 pub fn select(
     node: &Node,
@@ -58,6 +60,7 @@ pub fn select(
     ensures begins { IsTrue result → is_prolog node.now.op ≡ true → length buf.old.bytes < length buf.new.bytes }
     ensures lead { IsTrue result → All (IsFixOf 4 (length buf.old.bytes) node.now) (drop (length buf.old.fixes) buf.new.fixes) }
     ensures instructions { IsTrue result → AreInstructionsWhenFinished Target.Riscv64 buf.old buf.new }
+    ensures sparing { IsTrue result → IsSparingWhenFinished Target.Riscv64 node.now choices.now buf.old buf.new }
     ensures carries { IsTrue result → IsCarriedWhenFinished Target.Riscv64 node.now frame (has live_after) staged.arguments buf.old buf.new }
 {
     see_numbers(node.operands.as_slice());

@@ -1,7 +1,7 @@
 // The temporaries that the code of a node asks for.
 
 ghost use Rattle.std.specs.Prelude.{◌≡◌, ℕ, [], true, false};
-ghost use Rattle.lg_selr.specs.Needs.{takes_none};
+ghost use Rattle.lg_sel.specs.Needs.{takes_none};
 ghost use Rattle.lg_selr_values.specs.ValueItems.{value_needs};
 ghost use Rattle.lg_temp.specs.Chosen.{is_named};
 

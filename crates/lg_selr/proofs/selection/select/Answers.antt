@@ -6,15 +6,15 @@ use Rattle.lg_op.specs.declared.operand.Operand.{Operand}
 use Rattle.lg_op.specs.declared.operand.Reg.{Reg}
 use Rattle.lg_selr.specs.Items.{node_items}
 use Rattle.lg_sel.specs.Selected.{is_pusharg, AreFirst, TakesLabelsWell, HaveWords}
-use Rattle.lg_selr.specs.Selected.{AreChosen}
-use Rattle.lg_selr.proofs.CarriedLemmas.{selected-carries, selected-whole, aligned-behind, short-appended, one-fixed}
-use Rattle.lg_selr.proofs.FixLemmas.{appended-lead, appended-whole, appended-begins}
-use Rattle.lg_selr.proofs.NodeFits.{IsAsked, AreEmittable, choices-fit, items-fit}
+use Rattle.lg_selr.specs.Selected.{AreChosen, IsAsked}
+use Rattle.lg_sel.proofs.AppendedLemmas.{short-appended, one-fixed}
+use Rattle.lg_selr.proofs.CarriedLemmas.{selected-carries, selected-whole, selected-spares, aligned-behind, at-most-256, appended-whole, appended-begins, appended-lead}
+use Rattle.lg_selr.proofs.NodeFits.{AreEmittable, choices-fit, items-fit}
 use Rattle.lg_selr.proofs.selection.select.Goals as goal
 use Rattle.lg_selr_items.specs.declared.items.Item.{Item}
 use Rattle.lg_selr_items.specs.Items.{words_in, blanks, fixes_of}
 use Rattle.lg_selr_items.proofs.ItemLemmas.{blank_bytes}
-use Rattle.lg_selr_values.specs.ValueFits.{NameBelow}
+use Rattle.lg_sel.specs.Asked.{NameBelow}
 use Rattle.lg_temp.specs.declared.choice.Choice.{Choice}
 
 pub put_items-requires-clause-few : goal.put_items-requires-clause-few
@@ -27,15 +27,11 @@ asked : (n : Node) (live : Reg → Bool) (staged : List Bool) (choices : List Ch
     → TakesLabelsWell n → xs ≡ n.operands → HaveWords xs → IsAsked n live staged choices labels
 asked n live staged choices labels xs formed chosen first named takes e words = record { formed = formed; chosen = chosen; first = first; named = named; takes = takes; words = subst HaveWords e words }
 
--- 64 instructions have at most 256 bytes
-at-most-256 : (items : List Item) → words_in items ≤ 64 → length (blanks items) ≤ 256
-at-most-256 items few = let size = blank_bytes items in omega (arith, few, size)
-
 -- the items are those of the node, and can be appended
 emittable : (n : Node) (frame : ℕ) (live : Reg → Bool) (staged : List Bool) (choices : List Choice) (labels place here : ℕ) (items : List Item) → IsAsked n live staged choices labels
     → items ≡ node_items n frame choices staged here → here ≡ place → AreEmittable labels items
 emittable n frame live staged choices labels place here items k e same =
-    subst (AreEmittable labels) (sym (e ∙ ap (node_items n frame choices staged) same)) (items-fit frame live staged choices labels place n.op n.operands n.line k)
+    subst (AreEmittable labels) (sym (e ∙ ap (node_items n frame choices staged) same)) (items-fit frame live staged choices labels place n k)
 
 pub append-requires : goal.append-requires
 append-requires c =
@@ -56,7 +52,8 @@ returns-clause-refused c =
     search rules
 
 pub returns-clause-short : goal.returns-clause-short
-returns-clause-short c = short-appended c.append.result c.args.buf.now c.append.new.buf c.put_items.new.items c.append.ensures.refused c.append.ensures.bytes (subst (λ l. words_in l ≤ 64) c.items.view_is c.items.invariant.1)
+returns-clause-short c = short-appended c.append.result c.args.buf.now c.append.new.buf (blanks c.put_items.new.items) c.append.ensures.refused c.append.ensures.bytes
+    (at-most-256 c.put_items.new.items (subst (λ l. words_in l ≤ 64) c.items.view_is c.items.invariant.1))
 
 pub returns-clause-one_fix : goal.returns-clause-one_fix
 returns-clause-one_fix c =
@@ -78,6 +75,13 @@ returns-clause-instructions c = λ went.
     (c.put_items.ensures ∙ ap (node_items c.args.node.now c.args.frame c.args.choices.now c.args.staged.arguments) c.here.ensures.value)
     record { bytes = c.append.ensures.bytes went; fixes = c.append.ensures.fixes went }
 
+pub returns-clause-sparing : goal.returns-clause-sparing
+returns-clause-sparing c = λ went.
+    let k = asked c.args.node.now (has c.args.live_after) c.args.staged.arguments c.args.choices.now (length c.args.buf.now.labels) c.as_slice.result.now c.requires.formed c.requires.choices c.requires.staged c.requires.labels c.requires.immediates c.as_slice.ensures.value c.see_numbers.ensures in
+    selected-spares c.args.node.now c.args.frame (has c.args.live_after) c.args.staged.arguments c.args.choices.now c.args.buf.now c.append.new.buf c.put_items.new.items k
+    (c.put_items.ensures ∙ ap (node_items c.args.node.now c.args.frame c.args.choices.now c.args.staged.arguments) c.here.ensures.value)
+    record { bytes = c.append.ensures.bytes went; fixes = c.append.ensures.fixes went }
+
 pub returns-clause-aligned : goal.returns-clause-aligned
 returns-clause-aligned c =
     aligned-behind c.append.result c.args.node.now c.args.frame c.args.choices.now c.args.staged.arguments c.args.buf.now c.append.new.buf c.put_items.new.items c.requires.formed
@@ -89,9 +93,9 @@ returns-clause-whole c = appended-whole c.append.result c.args.buf.now c.append.
 pub returns-clause-begins : goal.returns-clause-begins
 returns-clause-begins c =
     appended-begins c.append.result c.args.node.now c.args.frame c.args.choices.now c.args.staged.arguments c.args.buf.now c.append.new.buf c.put_items.new.items
-    (c.put_items.ensures ∙ ap (node_items c.args.node.now c.args.frame c.args.choices.now c.args.staged.arguments) c.here.ensures.value) c.append.ensures.bytes
+    (c.put_items.ensures ∙ ap (node_items c.args.node.now c.args.frame c.args.choices.now c.args.staged.arguments) c.here.ensures.value) c.append.ensures.refused c.append.ensures.bytes
 
 pub returns-clause-lead : goal.returns-clause-lead
-returns-clause-lead c =
-    appended-lead c.append.result c.args.node.now c.args.frame c.args.choices.now c.args.staged.arguments c.args.buf.now c.append.new.buf c.put_items.new.items
-    (c.put_items.ensures ∙ ap (node_items c.args.node.now c.args.frame c.args.choices.now c.args.staged.arguments) c.here.ensures.value) c.append.ensures.fixes c.requires.whole
+returns-clause-lead c = λ went.
+    appended-lead c.args.node.now (length c.args.buf.now.bytes) c.args.frame c.args.choices.now c.args.staged.arguments c.args.buf.now c.append.new.buf c.put_items.new.items
+    (c.put_items.ensures ∙ ap (node_items c.args.node.now c.args.frame c.args.choices.now c.args.staged.arguments) c.here.ensures.value) (c.append.ensures.fixes went) c.requires.whole

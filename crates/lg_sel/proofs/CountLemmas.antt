@@ -2,7 +2,7 @@
 use Rattle.std.proofs.Common.{◌≡◌, ℕ, zero, suc, ◌+◌, ◌-◌, Bool, true, false, List, ◌++◌, refl, ap, ◌∙◌, arith}
 use Rattle.std.specs.Prelude.{replicate, cond}
 use Rattle.std.specs.List.{fold}
-use Rattle.lg_selr.specs.Items.{staged_count}
+use Rattle.lg_sel.specs.Families.{staged_count}
 use Rattle.lg_sel.specs.Selected.{first_arguments}
 
 abbrev counted : ℕ → List Bool → ℕ

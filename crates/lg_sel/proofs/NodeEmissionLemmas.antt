@@ -1,0 +1,72 @@
+-- The items of each node name the labels of its operands, have at most one fix, and store as often as they may, where those of each family do.
+use Rattle.std.proofs.Common.{◌≡◌, ℕ, ◌+◌, ◌≤◌, Bool, true, false, List, refl, sym, ap, subst, arith}
+use Rattle.lg_op.specs.declared.node.Node.{Node}
+use Rattle.lg_op.specs.declared.op.Addressing.{Addressing}
+use Rattle.lg_op.specs.declared.op.ControlOp.TheVariants as control
+use Rattle.lg_op.specs.declared.op.Op.{Op}
+use Rattle.lg_op.specs.declared.op.Op.TheVariants as op
+use Rattle.lg_op.specs.declared.op.StoreType.{StoreType}
+use Rattle.lg_op.specs.declared.op.ValueType.{ValueType}
+use Rattle.lg_op.specs.declared.operand.Operand.{Operand}
+use Rattle.lg_sel.proofs.EmissionLemmas as emission
+use Rattle.lg_sel.proofs.FamilyLemmas.{HoldsOfFamilies, of-node}
+use Rattle.lg_sel.proofs.LabelLemmas.{AllPass}
+use Rattle.lg_sel.proofs.StoreLemmas.{allowed, allowed-values, allowed-own, allowed-free}
+use Rattle.lg_sel.specs.Families.{Families, staged_count, node_items}
+use Rattle.lg_sel.specs.Stores.{own_stores, is_free}
+use Rattle.lg_sel_items.specs.Holes.{Holes}
+use Rattle.lg_temp.specs.Chosen.{spills}
+use Rattle.lg_temp.specs.declared.choice.Choice.{Choice}
+
+module _ {L I : Type 0} (H : Holes L I) (is_store : I → Bool) (passes : (ℕ → Bool) → L → Type 0) where
+  abbrev pub Emits : (ℕ → Bool) → ℕ → ℕ → List L → Type 0
+  Emits is fixes stores xs = emission.Emits H is_store (passes is) fixes stores xs
+
+  -- for each test that the labels of the operands pass
+  pub record FamiliesEmit (F : Families L) : Type 0 where
+    pub values : (is : ℕ → Bool) (n : Node) (choices : List Choice) → AllPass is n.operands → Emits is 1 (spills choices) (F.values n choices)
+    pub loads : (is : ℕ → Bool) (t : ValueType) (at : Addressing) (n : Node) → Emits is 1 0 (F.load t at n)
+    pub stores : (is : ℕ → Bool) (t : StoreType) (at : Addressing) (n : Node) → Emits is 1 1 (F.store t at n)
+    pub arguments : (is : ℕ → Bool) (t : ValueType) (n : Node) → Emits is 1 0 (F.argument t n)
+    pub results : (is : ℕ → Bool) (t : ValueType) (n : Node) (choices : List Choice) → AllPass is n.operands → Emits is 1 (spills choices) (F.result t n choices)
+    pub pushes : (is : ℕ → Bool) (j : ℕ) (n : Node) → AllPass is n.operands → Emits is 1 1 (F.push j n)
+    pub controls : (is : ℕ → Bool) (o : Op) (xs : List Operand) (frame at : ℕ) → is_free o ≡ false → AllPass is xs → Emits is 1 0 (F.control o xs frame at)
+    pub prologs : (is : ℕ → Bool) (o : Op) (xs : List Operand) (frame at : ℕ) → is_free o ≡ true → Emits is 1 16 (F.control o xs frame at)
+
+  module _ (F : Families L) (f : FamiliesEmit F) (frame : ℕ) (choices : List Choice) (staged : List Bool) (place : ℕ) where
+    more : (is : ℕ → Bool) (s t : ℕ) (xs : List L) → s ≤ t → Emits is 1 s xs → Emits is 1 t xs
+    more is s t xs h a = emission.emits-more H is_store (passes is) 1 1 s t xs (omega arith) h a
+
+    abbrev AllEmit : Node → List L → Type 0
+    AllEmit n xs = (is : ℕ → Bool) → AllPass is n.operands → Emits is 1 (allowed choices n.op) xs
+
+    -- the code of an operation that is no `prolog` may have its own stores
+    own : (is : ℕ → Bool) (n : Node) (o : Op) (xs : List L) → n.op ≡ o → is_free o ≡ false → Emits is 1 (own_stores o) xs → Emits is 1 (allowed choices n.op) xs
+    own is n o xs e other a = subst (λ q. Emits is 1 (allowed choices q) xs) (sym e) (more is (own_stores o) (allowed choices o) xs (allowed-own choices o other) a)
+
+    -- and those of its saves
+    saves : (is : ℕ → Bool) (n : Node) (o : Op) (xs : List L) → n.op ≡ o → spills choices ≤ allowed choices o → Emits is 1 (spills choices) xs → Emits is 1 (allowed choices n.op) xs
+    saves is n o xs e h a = subst (λ q. Emits is 1 (allowed choices q) xs) (sym e) (more is (spills choices) (allowed choices o) xs h a)
+
+    controls-emit : (is : ℕ → Bool) (n : Node) → AllPass is n.operands → Emits is 1 (allowed choices n.op) (F.control n.op n.operands frame place)
+    controls-emit is n h = by (is_free n.op) refl
+      where
+        by : (b : Bool) → is_free n.op ≡ b → Emits is 1 (allowed choices n.op) (F.control n.op n.operands frame place)
+        by false e = more is 0 (allowed choices n.op) (F.control n.op n.operands frame place) (omega arith) (f.controls is n.op n.operands frame place e h)
+        by true e =
+            let most = allowed-free choices n.op e in
+            more is 16 (allowed choices n.op) (F.control n.op n.operands frame place) (omega (arith, most)) (f.prologs is n.op n.operands frame place e)
+
+    families : HoldsOfFamilies F AllEmit frame choices staged place
+    families = record {
+      values = λ n is test h. more test (spills choices) (allowed choices n.op) (F.values n choices) (allowed-values choices n.op is) (f.values test n choices h);
+      loads = λ n t at e is h. own is n (op.Load t at) (F.load t at n) e refl (f.loads is t at n);
+      stores = λ n t at e is h. own is n (op.Store t at) (F.store t at n) e refl (f.stores is t at n);
+      arguments = λ n t e is h. own is n (op.Getarg t) (F.argument t n) e refl (f.arguments is t n);
+      results = λ n t e is h. saves is n (op.Retval t) (F.result t n choices) e (omega arith) (f.results is t n choices h);
+      pushes = λ n last e is h. own is n (op.Control control.Pusharg last) (F.push (staged_count staged) n) e refl (f.pushes is (staged_count staged) n h);
+      controls = λ n k is h. controls-emit is n h;
+    }
+
+    pub node-emits : (n : Node) → AllEmit n (node_items F n frame choices staged place)
+    node-emits = of-node F AllEmit frame choices staged place families

@@ -1,0 +1,112 @@
+-- The items of each node can be appended to a buffer and stay within the conventions, where those of each family do.
+use Rattle.std.proofs.Common.{◌≡◌, ℕ, zero, suc, ◌<◌, Bool, true, false, List, [], ◌∷◌, ap, arith}
+use Rattle.std.specs.Prelude.{slice_index_or}
+use Rattle.lg_base.specs.declared.target.Target.{Target}
+use Rattle.lg_meaning.specs.Steps.{operand_at}
+use Rattle.lg_op.specs.Nodes.{InForm}
+use Rattle.lg_op.specs.declared.node.Node.{Node}
+use Rattle.lg_op.specs.declared.op.Addressing.{Addressing}
+use Rattle.lg_op.specs.declared.op.ControlOp.TheVariants as control
+use Rattle.lg_op.specs.declared.op.LastOperand.{LastOperand}
+use Rattle.lg_op.specs.declared.op.Op.{Op}
+use Rattle.lg_op.specs.declared.op.Op.TheVariants as op
+use Rattle.lg_op.specs.declared.op.StoreType.{StoreType}
+use Rattle.lg_op.specs.declared.op.ValueType.{ValueType}
+use Rattle.lg_op.specs.declared.operand.Operand.{Operand}
+use Rattle.lg_op.specs.declared.operand.Operand.TheVariants as operand
+use Rattle.lg_op.specs.declared.operand.Reg.{Reg}
+use Rattle.lg_sel.proofs.CountLemmas.{count-is}
+use Rattle.lg_sel.proofs.FamilyLemmas.{HoldsOfFamilies, of-node}
+use Rattle.lg_sel.proofs.OperandLemmas.{word-at, has-words, control-ends}
+use Rattle.lg_sel.specs.Asked.{NamesBelow, NameBelow, IsAsked}
+use Rattle.lg_sel.specs.Families.{Families, is_value, staged_count, node_items}
+use Rattle.lg_sel.specs.Selected.{is_pusharg, IsWord, HaveWords}
+use Rattle.lg_sel_control.specs.Control.{is_control, ends_in_label}
+use Rattle.lg_sel_items.specs.Holes.{Each}
+use Rattle.lg_sel_memory.specs.Operands.{HasWords}
+use Rattle.lg_temp.proofs.ChoiceLemmas.{choices-are-for}
+use Rattle.lg_temp.specs.Choices.{AreFor}
+use Rattle.lg_temp.specs.Chosen.{around}
+use Rattle.lg_temp.specs.declared.choice.Choice.{Choice}
+use Rattle.lg_temp.specs.declared.choice.Need.{Need}
+
+pub named-at : (labels : ℕ) (xs : List Operand) (k : ℕ) → NameBelow labels xs → NamesBelow labels (slice_index_or xs k (operand.Number 0))
+named-at labels [] k named = tt
+named-at labels (x ∷ xs) zero named = named.0
+named-at labels (x ∷ xs) (suc k) named = named-at labels xs k named.1
+
+-- so many arguments are staged at a `pushargr` or `pushargi`
+pub few-staged : {target : Target} {needs : Op → List Need} (n : Node) (live : Reg → Bool) (staged : List Bool) (choices : List Choice) (labels : ℕ) (last : LastOperand) → IsAsked target needs n live staged choices labels
+    → n.op ≡ op.Control control.Pusharg last → staged_count staged < 16
+few-staged n live staged choices labels last k e =
+    let first = k.first (ap is_pusharg e) in let s = count-is first.0 staged first.2 in let f = first.1 in omega (arith, s, f)
+
+module _ {L : Type 0} (target : Target) (needs : Op → List Need) (F : Families L) where
+  -- choices for the needs of a node
+  abbrev pub AreMade : Node → (Reg → Bool) → List Bool → List Choice → Type 0
+  AreMade n live set choices = AreFor (around target n live set) (needs n.op) [] (needs n.op) choices
+
+  pub are-made : (n : Node) (live : Reg → Bool) (staged : List Bool) (choices : List Choice) (labels : ℕ) (k : IsAsked target needs n live staged choices labels) → AreMade n live k.chosen.set choices
+  are-made n live staged choices labels k = choices-are-for (around target n live k.chosen.set) (needs n.op) choices k.chosen.chosen
+
+  -- ---- items that can be appended: they are in range and name labels of the buffer, of which there are so many
+  module _ (is_item : L → Type 0) (names_one_of : ℕ → L → Type 0) (labels : ℕ) where
+    pub record Fit (xs : List L) : Type 0 where
+      pub instrs : Each is_item xs
+      pub names : Each (names_one_of labels) xs
+
+    pub record FamiliesFit : Type 0 where
+      pub values : (n : Node) (live : Reg → Bool) (set : List Bool) (choices : List Choice) → is_value n.op ≡ true → AreMade n live set choices → NameBelow labels n.operands → Fit (F.values n choices)
+      pub loads : (n : Node) (t : ValueType) (at : Addressing) → HasWords n → Fit (F.load t at n)
+      pub stores : (n : Node) (t : StoreType) (at : Addressing) → HasWords n → Fit (F.store t at n)
+      pub arguments : (n : Node) (t : ValueType) → Fit (F.argument t n)
+      pub results : (n : Node) (t : ValueType) (live : Reg → Bool) (set : List Bool) (choices : List Choice) → n.op ≡ op.Retval t → InForm n → AreMade n live set choices → NameBelow labels n.operands → Fit (F.result t n choices)
+      pub pushes : (n : Node) (j : ℕ) → j < 16 → NamesBelow labels (operand_at n 0) → IsWord (operand_at n 0) → Fit (F.push j n)
+      pub controls : (n : Node) (frame place : ℕ) → is_control n.op ≡ true → InForm n → NameBelow labels n.operands → HaveWords n.operands → ends_in_label n.operands ≡ false → Fit (F.control n.op n.operands frame place)
+
+    module _ (f : FamiliesFit) (frame : ℕ) (live : Reg → Bool) (staged : List Bool) (choices : List Choice) (place : ℕ) where
+      abbrev Fits : Node → List L → Type 0
+      Fits n xs = IsAsked target needs n live staged choices labels → Fit xs
+
+      families : HoldsOfFamilies F Fits frame choices staged place
+      families = record {
+        values = λ n is k. f.values n live k.chosen.set choices is (are-made n live staged choices labels k) k.named;
+        loads = λ n t at e k. f.loads n t at (has-words n k.words);
+        stores = λ n t at e k. f.stores n t at (has-words n k.words);
+        arguments = λ n t e k. f.arguments n t;
+        results = λ n t e k. f.results n t live k.chosen.set choices e k.formed (are-made n live staged choices labels k) k.named;
+        pushes = λ n last e k. f.pushes n (staged_count staged) (few-staged n live staged choices labels last k e) (named-at labels n.operands 0 k.named) (word-at n.operands 0 k.words);
+        controls = λ n is k. f.controls n frame place is k.formed k.named k.words (control-ends n is k.formed.forms k.takes);
+      }
+
+      pub items-fit : (n : Node) → Fits n (node_items F n frame choices staged place)
+      items-fit = of-node F Fits frame choices staged place families
+
+  -- ---- items that write no register that is outside of the conventions
+  module _ (stays : L → Type 0) where
+    pub record FamiliesStay : Type 0 where
+      pub values : (n : Node) (live : Reg → Bool) (set : List Bool) (choices : List Choice) → AreMade n live set choices → Each stays (F.values n choices)
+      pub loads : (t : ValueType) (at : Addressing) (n : Node) → Each stays (F.load t at n)
+      pub stores : (t : StoreType) (at : Addressing) (n : Node) → Each stays (F.store t at n)
+      pub arguments : (t : ValueType) (n : Node) → Each stays (F.argument t n)
+      pub results : (t : ValueType) (n : Node) (live : Reg → Bool) (set : List Bool) (choices : List Choice) → AreMade n live set choices → Each stays (F.result t n choices)
+      pub pushes : (j : ℕ) (n : Node) → Each stays (F.push j n)
+      pub controls : (n : Node) (frame place : ℕ) → Each stays (F.control n.op n.operands frame place)
+
+    module _ (f : FamiliesStay) (frame : ℕ) (live : Reg → Bool) (set staged : List Bool) (choices : List Choice) (place : ℕ) where
+      abbrev Stay : Node → List L → Type 0
+      Stay n xs = AreMade n live set choices → Each stays xs
+
+      stay-families : HoldsOfFamilies F Stay frame choices staged place
+      stay-families = record {
+        values = λ n is are. f.values n live set choices are;
+        loads = λ n t at e are. f.loads t at n;
+        stores = λ n t at e are. f.stores t at n;
+        arguments = λ n t e are. f.arguments t n;
+        results = λ n t e are. f.results t n live set choices are;
+        pushes = λ n last e are. f.pushes (staged_count staged) n;
+        controls = λ n is are. f.controls n frame place;
+      }
+
+      pub items-stay : (n : Node) → Stay n (node_items F n frame choices staged place)
+      items-stay = of-node F Stay frame choices staged place stay-families

@@ -1,0 +1,59 @@
+-- How many of some instructions store, and how many of those of a node may.
+use Rattle.std.proofs.Common.{◌≡◌, ℕ, ◌+◌, ◌≤◌, Bool, true, false, List, [], ◌∷◌, ◌++◌, refl, ap, arith}
+use Rattle.std.specs.Prelude.{cond, count_by, if◌then◌else◌}
+use Rattle.std.proofs.lemmas.List.Recursion.{is_count_by}
+use Rattle.lg_op.specs.declared.op.Op.{Op}
+use Rattle.lg_op.specs.declared.op.Op.TheVariants as op
+use Rattle.lg_op.specs.declared.op.PlainOp.TheVariants as plain
+use Rattle.lg_sel.specs.Families.{is_value}
+use Rattle.lg_sel.specs.Stores.{own_stores, is_free}
+use Rattle.lg_temp.specs.Chosen.{spills}
+use Rattle.lg_temp.specs.declared.choice.Choice.{Choice}
+
+module _ {I : Type 0} (is_store : I → Bool) where
+  abbrev pub stores_among : List I → ℕ
+  stores_among [] = 0
+  stores_among (i ∷ is) = cond (is_store i) (1 + stores_among is) (stores_among is)
+
+  pub count-is : (is : List I) → stores_among is ≡ count_by is_store is
+  count-is = is_count_by stores_among is_store refl (λ i is. refl)
+
+  pub among-append : (is js : List I) → stores_among (is ++ js) ≡ stores_among is + stores_among js
+  among-append [] js = omega arith
+  among-append (i ∷ is) js = more (is_store i) (stores_among (is ++ js)) (stores_among is) (stores_among js) (among-append is js)
+    where
+      more : (b : Bool) (k m n : ℕ) → k ≡ m + n → cond b (1 + k) k ≡ cond b (1 + m) m + n
+      more true k m n h = omega (arith, h)
+      more false k m n h = h
+
+  -- none of them stores
+  abbrev pub NoneStores : List I → Type 0
+  NoneStores is = stores_among is ≡ 0
+
+  pub none-append : (is js : List I) → NoneStores is → NoneStores js → NoneStores (is ++ js)
+  none-append is js a b = let h = among-append is js in omega (arith, h, a, b)
+
+  pub none-if : (b : Bool) (is js : List I) → NoneStores is → NoneStores js → NoneStores (if b then is else js)
+  none-if true is js a c = a
+  none-if false is js a c = c
+
+-- ---- of a node
+-- how many its code may have: any number at a `prolog`, of which 16 is enough
+abbrev pub allowed : List Choice → Op → ℕ
+allowed choices o = if is_free o then 16 else spills choices + own_stores o
+
+pub allowed-values : (choices : List Choice) (o : Op) → is_value o ≡ true → spills choices ≤ allowed choices o
+allowed-values choices (op.Binary o last) is = omega arith
+allowed-values choices (op.Wide o last) is = omega arith
+allowed-values choices (op.Unary o) is = omega arith
+allowed-values choices (op.Plain plain.Movi) is = omega arith
+allowed-values choices o is = cc
+
+pub allowed-own : (choices : List Choice) (o : Op) → is_free o ≡ false → own_stores o ≤ allowed choices o
+allowed-own choices o other = let e = ap (λ b. if b then 16 else spills choices + own_stores o) other in omega (arith, e)
+
+pub allowed-all : (choices : List Choice) (o : Op) (n : ℕ) → is_free o ≡ false → n ≤ allowed choices o → n ≤ spills choices + own_stores o
+allowed-all choices o n other h = let e = ap (λ b. if b then 16 else spills choices + own_stores o) other in omega (arith, e, h)
+
+pub allowed-free : (choices : List Choice) (o : Op) → is_free o ≡ true → allowed choices o ≡ 16
+allowed-free choices o free = ap (λ b. if b then 16 else spills choices + own_stores o) free
