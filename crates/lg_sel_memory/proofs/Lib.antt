@@ -1,3 +1,4 @@
+pub mod BehindLemmas
 pub mod FormLemmas
 pub mod GetargLemmas
 pub mod LoadLemmas

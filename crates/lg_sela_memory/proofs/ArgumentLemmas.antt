@@ -1,0 +1,98 @@
+-- Reading an argument of the function.
+use Rattle.std.proofs.Common.{◌≡◌, ℕ, ◌+◌, ◌-◌, ◌*◌, ◌<◌, ◌≤◌, ◌^◌, Bool, true, false, List, [], ◌∷◌, refl, ap, ◌∙◌, subst, arith, length}
+use Rattle.std.specs.Prelude.{◌==◌, nat_lt, if◌then◌else◌}
+use Rattle.lg_base.specs.Layout.{frame_pointer, home_word, stack_argument}
+use Rattle.lg_base.specs.Words.{add_words, sub_words}
+use Rattle.lg_base.specs.declared.target.Target.TheVariants.{Aarch64}
+use Rattle.lg_op.specs.declared.op.ValueType.{ValueType}
+use Rattle.lg_op.specs.declared.op.ValueType.TheVariants as value_type
+use Rattle.lg_operators.specs.Operators.{width, typed}
+use Rattle.lg_a64.specs.declared.instruction.Instr.{Instr}
+use Rattle.lg_a64.specs.declared.instruction.Instr.TheVariants as instr
+use Rattle.lg_a64.specs.declared.instruction.ImmOp.TheVariants.{Subi}
+use Rattle.lg_temp.specs.Abis.{register_of}
+use Rattle.lg_carry.specs.Processors.{Seen}
+use Rattle.lg_carry.specs.Spills.{Does, with_register}
+use Rattle.lg_carry_a64.specs.A64Computers.{a64_scratch, a64_computer}
+use Rattle.lg_carry_a64.specs.A64Rows.{link, nzcv, a64_rows, a64_seen}
+use Rattle.lg_carry_a64.specs.Computations.{known}
+use Rattle.lg_carry_a64.proofs.ComputerLemmas.{is-computer, spellings-long}
+use Rattle.lg_carry_a64.proofs.HeldLemmas.{put-same, put-other}
+use Rattle.lg_carry_a64.proofs.RegisterLemmas.{register-small}
+use Rattle.lg_sel_nodes.specs.Straight.{spoils, from_to}
+use Rattle.lg_sel_memory.specs.Arguments.{ArgumentsDo, HasArgumentCode}
+use Rattle.lg_sel_memory.specs.Loads.{IsReadable}
+use Rattle.lg_sel_memory.proofs.BehindLemmas.{told, seen_behind, behind-computed}
+use Rattle.lg_sela_memory.specs.Accesses.{load_row}
+use Rattle.lg_sela_memory.specs.ArgumentCode.{home_distance, stack_count, a64_argument}
+use Rattle.lg_sela_memory.proofs.EndLemmas.{off-scratch}
+use Rattle.lg_sela_memory.proofs.LoadLemmas.{load-does}
+use Rattle.lg_sela_memory.proofs.PlaceLemmas.{none-behind}
+
+-- ---- the argument's place, from FP
+home-leads : (sp k : ℕ) → k < 8 → 272 ≤ sp → sp ≤ 0x40000000 → sub_words (frame_pointer sp) (home_distance k) ≡ home_word (frame_pointer sp) k
+home-leads sp k few low high = omega (arith, few, low, high)
+
+home-small : (sp k : ℕ) → sp ≤ 0x40000000 → home_word (frame_pointer sp) k < 2 ^ 64
+home-small sp k high = omega (arith, high)
+
+stack-whole : (t : ValueType) (k : ℕ) → stack_count t k * width t ≡ 16 + 8 * (k - 8)
+stack-whole value_type.Char k = omega arith
+stack-whole value_type.UnsignedChar k = omega arith
+stack-whole value_type.Short k = omega arith
+stack-whole value_type.UnsignedShort k = omega arith
+stack-whole value_type.Int k = omega arith
+stack-whole value_type.UnsignedInt k = omega arith
+stack-whole value_type.Long k = omega arith
+
+stack-leads : (sp k : ℕ) → k < 16 → 272 ≤ sp → sp ≤ 0x40000000 → add_words (frame_pointer sp) (16 + 8 * (k - 8)) ≡ stack_argument sp (k - 8)
+stack-leads sp k few low high = omega (arith, few, low, high)
+
+-- ---- the two codes
+module _ (code : List ℕ) (trash : ℕ) (t : ValueType) (s : Seen) (rd a v fp : ℕ) (small : rd < 31) (readable : IsReadable s fp a (width t) v) (lt : v < 256 ^ width t) where
+  abbrev Loads : List Instr → Type 0
+  Loads is = Does (a64_rows code trash) (from_to s (with_register s.registers rd (typed t v)) s.bytes s.flags) is fp 0 (spoils a64_scratch [])
+
+  from-home : (k : ℕ) → known s.flags ≡ s.flags → sub_words (s.registers 29) (home_distance k) ≡ a → a < 2 ^ 64 → Loads (instr.Imm Subi link 29 (home_distance k) false ∷ instr.Scaled (load_row t) rd link 0 ∷ [])
+  from-home k same at low =
+      let M = a64_computer code trash in
+      let y = instr.Imm Subi link 29 (home_distance k) false in
+      let x = instr.Scaled (load_row t) rd link 0 in
+      let h = sub_words (s.registers 29) (home_distance k) in
+      let mid = seen_behind M (y ∷ []) s in
+      behind-computed M (is-computer code trash) (y ∷ []) (x ∷ []) s (with_register s.registers rd (typed t v)) s.bytes s.flags fp (spoils a64_scratch []) refl
+      (told (a64_rows code trash) mid (with_register mid.registers rd (typed t v)) (with_register s.registers rd (typed t v)) s.bytes s.bytes mid.flags s.flags (x ∷ []) fp 0 (spoils a64_scratch [])
+      (λ r free. ap (λ z. if r == rd then typed t v else z) (put-other s.registers link h r (off-scratch r free))) (λ r off. refl) same
+      (load-does code trash t mid rd link 0 a v fp (spoils a64_scratch []) small (ap (λ z. add_words z (0 * width t)) (put-same s.registers link h ∙ at) ∙ none-behind (width t) a low) readable lt))
+
+  from-stack : (k : ℕ) → add_words (s.registers 29) (16 + 8 * (k - 8)) ≡ a → Loads (instr.Scaled (load_row t) rd 29 (stack_count t k) ∷ [])
+  from-stack k at = load-does code trash t s rd 29 (stack_count t k) a v fp (spoils a64_scratch []) small (ap (add_words (s.registers 29)) (stack-whole t k) ∙ at) readable lt
+
+pub arguments-do : (code : List ℕ) (trash : ℕ) → ArgumentsDo (a64_rows code trash) a64_scratch a64_argument
+arguments-do code trash frame t d k q a v named few f place even readable lt = by (nat_lt k 8) refl place
+  where
+    by : (b : Bool) → nat_lt k 8 ≡ b → (if b then home_word (frame_pointer (q.state.registers 31 + frame)) k else stack_argument (q.state.registers 31 + frame) (k - 8)) ≡ a
+        → Does (a64_rows code trash) (from_to (a64_seen q) (with_register q.state.registers (register_of Aarch64 d) (typed t v)) q.state.bytes (nzcv q.state.flags))
+        (if b then instr.Imm Subi link 29 (home_distance k) false ∷ instr.Scaled (load_row t) (register_of Aarch64 d) link 0 ∷ [] else instr.Scaled (load_row t) (register_of Aarch64 d) 29 (stack_count t k) ∷ [])
+        (q.state.registers 29) 0 (spoils a64_scratch [])
+    by true e at =
+        let sp = q.state.registers 31 + frame in
+        let near : k < 8 = grind (arith, e) in
+        let low : 272 ≤ sp = (let l = f.large in omega (arith, l)) in
+        let high : sp ≤ 0x40000000 = (let h = f.high in omega (arith, h)) in
+        let small : register_of Aarch64 d < 31 = (let h = register-small d in omega (arith, h)) in
+        from-home code trash t (a64_seen q) (register_of Aarch64 d) a v (q.state.registers 29) small readable lt k refl (ap (λ p. sub_words p (home_distance k)) f.pointer ∙ home-leads sp k near low high ∙ at)
+        (let h = home-small sp k high in subst (λ z. z < 2 ^ 64) at h)
+    by false e at =
+        let sp = q.state.registers 31 + frame in
+        let low : 272 ≤ sp = (let l = f.large in omega (arith, l)) in
+        let high : sp ≤ 0x40000000 = (let h = f.high in omega (arith, h)) in
+        let small : register_of Aarch64 d < 31 = (let h = register-small d in omega (arith, h)) in
+        from-stack code trash t (a64_seen q) (register_of Aarch64 d) a v (q.state.registers 29) small readable lt k (ap (λ p. add_words p (16 + 8 * (k - 8))) f.pointer ∙ stack-leads sp k few low high ∙ at)
+
+pub has-argument-code : (code : List ℕ) (trash : ℕ) → HasArgumentCode (a64_rows code trash) a64_argument
+has-argument-code code trash frame t d k few = let long = spellings-long (a64_argument frame t d k) in let n = some (nat_lt k 8) in omega (arith, long, n)
+  where
+    some : (b : Bool) → 0 < length (if b then instr.Imm Subi link 29 (home_distance k) false ∷ instr.Scaled (load_row t) (register_of Aarch64 d) link 0 ∷ [] else instr.Scaled (load_row t) (register_of Aarch64 d) 29 (stack_count t k) ∷ [])
+    some true = omega arith
+    some false = omega arith

@@ -1,0 +1,224 @@
+-- The items of loads, stores and arguments: their numbers are in the ranges of their instructions, there are few, and each is followed by the next.
+use Rattle.std.proofs.Common.{◌≡◌, ℕ, zero, suc, ◌+◌, ◌-◌, ◌/◌, ◌<◌, ◌≤◌, Bool, true, false, List, [], ◌∷◌, ◌++◌, length, refl, ap, arith, length-append}
+use Rattle.std.specs.Prelude.{nat_lt, slice_index, if◌then◌else◌}
+use Rattle.lg_base.specs.Conventions.{argument_registers}
+use Rattle.lg_base.specs.HostNames.{host_address}
+use Rattle.lg_base.specs.declared.target.Target.TheVariants.{Aarch64}
+use Rattle.lg_op.specs.declared.node.Node.{Node}
+use Rattle.lg_op.specs.declared.op.Addressing.{Addressing}
+use Rattle.lg_op.specs.declared.op.StoreType.{StoreType}
+use Rattle.lg_op.specs.declared.op.StoreType.TheVariants as store_type
+use Rattle.lg_op.specs.declared.op.ValueType.{ValueType}
+use Rattle.lg_op.specs.declared.op.ValueType.TheVariants as value_type
+use Rattle.lg_op.specs.declared.operand.Operand.{Operand}
+use Rattle.lg_op.specs.declared.operand.Operand.TheVariants as operand
+use Rattle.lg_a64.specs.declared.instruction.Instr.{Instr}
+use Rattle.lg_a64.specs.declared.instruction.Instr.TheVariants as instr
+use Rattle.lg_a64.specs.declared.instruction.ImmOp.TheVariants.{Subi}
+use Rattle.lg_a64.specs.declared.instruction.RegOp.TheVariants as row
+use Rattle.lg_operators.specs.Operators.{width, store_width}
+use Rattle.lg_meaning.specs.Steps.{operand_at, stored_operand, slot}
+use Rattle.lg_temp.specs.Abis.{register_of}
+use Rattle.lg_carry_a64.specs.A64Rows.{link}
+use Rattle.lg_carry_a64.specs.Numbers.{number_code}
+use Rattle.lg_carry_a64.proofs.NumberCodeLemmas.{number-few}
+use Rattle.lg_carry_a64.proofs.RegisterLemmas.{register-small}
+use Rattle.lg_sel_items.specs.Holes.{Each}
+use Rattle.lg_sel_memory.specs.Accesses.{Address, Base, At, Sum, Index, address_of}
+use Rattle.lg_sel_memory.specs.Operands.{named}
+use Rattle.lg_sela_items.specs.declared.items.Item.{Item}
+use Rattle.lg_sela_items.specs.GoodItems.{Fine, IsGood, AreGood, IsGoodItem}
+use Rattle.lg_sela_items.specs.Items.{words_in, bytes_in, fixes_of, ones}
+use Rattle.lg_sela_items.proofs.GoodLemmas.{good-append, link-fine, number-good, ones-good, items-good, good-items-are-appendable}
+use Rattle.lg_sela_items.proofs.ItemLemmas.{words_append, fixes-append, words-ones, fixes-ones}
+use Rattle.lg_sela_items.proofs.WithinLemmas.{portable}
+use Rattle.lg_sela_memory.specs.Accesses.{register, load_row, store_row, Place, at_register, at_link, is_scaled, indexed, place_of, load_code, store_code}
+use Rattle.lg_sela_memory.specs.ArgumentCode.{home_distance, stack_count, argument_load, argument_code}
+use Rattle.lg_sela_memory.specs.MemoryFits.{AreMemoryItems, MemoryItemsFit}
+use Rattle.lg_sela_memory.specs.PushCode.{into, stack_push, onto_stack, push_code}
+
+register-fine : (x : Operand) → Fine (register x)
+register-fine x = let s = register-small (named x) in (omega (arith, s), portable (named x))
+
+-- ---- places
+record IsGoodPlace (p : Place) : Type 0 where
+  code : AreGood p.code
+  few : length p.code ≤ 5
+  base : p.base < 32
+  count : p.count < 4096
+
+at-register-good : (r : ℕ) → r < 32 → IsGoodPlace (at_register r)
+at-register-good r lt = record { code = tt; few = omega arith; base = lt; count = omega arith }
+
+at-link-good : (is : List Instr) → AreGood is → length is ≤ 5 → IsGoodPlace (at_link is)
+at-link-good is h few = record { code = h; few = few; base = omega arith; count = omega arith }
+
+sum-good : (a b : ℕ) → a < 32 → b < 32 → AreGood (instr.Reg row.Add link a b ∷ [])
+sum-good a b la lb = (((omega arith, la, lb), refl, refl), tt)
+
+indexed-good : (bytes a v : ℕ) → a < 32 → IsGoodPlace (indexed bytes a v)
+indexed-good bytes a v la = by (is_scaled bytes v) refl
+  where
+    by : (b : Bool) → is_scaled bytes v ≡ b → IsGoodPlace (if b then record { code = []; base = a; count = v / bytes } else at_link (number_code link v ++ instr.Reg row.Add link a link ∷ []))
+    by true e = record { code = tt; few = omega arith; base = la; count = grind (arith, e) }
+    by false e =
+        let sum = instr.Reg row.Add link a link ∷ [] in
+        let l = length-append (number_code link v) sum in
+        let n = number-few link v in
+        at-link-good (number_code link v ++ sum) (good-append (number_code link v) sum (number-good link v link-fine) (sum-good a link la (omega arith))) (omega (arith, l, n))
+
+place-good : (bytes : ℕ) (a : Address) → IsGoodPlace (place_of bytes a)
+place-good bytes (Base a) = at-register-good (register_of Aarch64 a) (let s = register-small a in omega (arith, s))
+place-good bytes (At v) = at-link-good (number_code link v) (number-good link v link-fine) (let n = number-few link v in omega (arith, n))
+place-good bytes (Sum a b) = at-link-good (instr.Reg row.Add link (register_of Aarch64 a) (register_of Aarch64 b) ∷ [])
+    (sum-good (register_of Aarch64 a) (register_of Aarch64 b) (let s = register-small a in omega (arith, s)) (let s = register-small b in omega (arith, s))) (omega arith)
+place-good bytes (Index a v) = indexed-good bytes (register_of Aarch64 a) v (let s = register-small a in omega (arith, s))
+
+-- ---- rows
+load-row-good : (t : ValueType) (rd base count : ℕ) → Fine rd → base < 32 → count < 4096 → IsGood (instr.Scaled (load_row t) rd base count)
+load-row-good value_type.Char rd base count h b c = ((h.0, b, c), h.1, refl)
+load-row-good value_type.UnsignedChar rd base count h b c = ((h.0, b, c), h.1, refl)
+load-row-good value_type.Short rd base count h b c = ((h.0, b, c), h.1, refl)
+load-row-good value_type.UnsignedShort rd base count h b c = ((h.0, b, c), h.1, refl)
+load-row-good value_type.Int rd base count h b c = ((h.0, b, c), h.1, refl)
+load-row-good value_type.UnsignedInt rd base count h b c = ((h.0, b, c), h.1, refl)
+load-row-good value_type.Long rd base count h b c = ((h.0, b, c), h.1, refl)
+
+store-row-good : (t : StoreType) (from base count : ℕ) → from < 32 → base < 32 → count < 4096 → IsGood (instr.Scaled (store_row t) from base count)
+store-row-good store_type.Char from base count h b c = ((h, b, c), tt, refl)
+store-row-good store_type.Short from base count h b c = ((h, b, c), tt, refl)
+store-row-good store_type.Int from base count h b c = ((h, b, c), tt, refl)
+store-row-good store_type.Long from base count h b c = ((h, b, c), tt, refl)
+
+-- ---- the code of nodes
+-- good instructions, of which there are at most so many
+record IsFitCode (most : ℕ) (is : List Instr) : Type 0 where
+  good : AreGood is
+  few : length is ≤ most
+
+behind-place : (p : Place) (i : Instr) → IsGoodPlace p → IsGood i → IsFitCode 6 (p.code ++ i ∷ [])
+behind-place p i g h = let l = length-append p.code (i ∷ []) in let k = g.few in record { good = good-append p.code (i ∷ []) g.code (h, tt); few = omega (arith, l, k) }
+
+load-fits : (t : ValueType) (at : Addressing) (n : Node) → IsFitCode 6 (load_code t at n)
+load-fits t at n =
+    let a = address_of at (operand_at n 1) (operand_at n 2) in
+    let p = place_of (width t) a in
+    let g = place-good (width t) a in
+    let rd = register (operand_at n 0) in
+    behind-place p (instr.Scaled (load_row t) rd p.base p.count) g (load-row-good t rd p.base p.count (register-fine (operand_at n 0)) g.base g.count)
+
+store-fits : (t : StoreType) (at : Addressing) (n : Node) → IsFitCode 6 (store_code t at n)
+store-fits t at n =
+    let a = address_of at (operand_at n 0) (operand_at n 1) in
+    let p = place_of (store_width t) a in
+    let g = place-good (store_width t) a in
+    let from = operand_at n (stored_operand at) in
+    behind-place p (instr.Scaled (store_row t) (register from) p.base p.count) g (store-row-good t (register from) p.base p.count (register-fine from).0 g.base g.count)
+
+count-small : (t : ValueType) (k : ℕ) → k < 16 → stack_count t k < 4096
+count-small value_type.Char k few = omega (arith, few)
+count-small value_type.UnsignedChar k few = omega (arith, few)
+count-small value_type.Short k few = omega (arith, few)
+count-small value_type.UnsignedShort k few = omega (arith, few)
+count-small value_type.Int k few = omega (arith, few)
+count-small value_type.UnsignedInt k few = omega (arith, few)
+count-small value_type.Long k few = omega (arith, few)
+
+argument-load-fits : (t : ValueType) (rd k : ℕ) → Fine rd → k < 16 → IsFitCode 2 (argument_load t rd k)
+argument-load-fits t rd k h few = by (nat_lt k 8) refl
+  where
+    by : (b : Bool) → nat_lt k 8 ≡ b
+        → IsFitCode 2 (if b then instr.Imm Subi link 29 (home_distance k) false ∷ instr.Scaled (load_row t) rd link 0 ∷ [] else instr.Scaled (load_row t) rd 29 (stack_count t k) ∷ [])
+    by true e = record { good = (((omega arith, omega arith, omega (arith, few)), refl, refl), (load-row-good t rd link 0 h (omega arith) (omega arith), tt)); few = omega arith }
+    by false e = record { good = (load-row-good t rd 29 (stack_count t k) h (omega arith) (count-small t k few), tt); few = omega arith }
+
+argument-fits : (t : ValueType) (n : Node) → IsFitCode 2 (argument_code t n)
+argument-fits t n = by (nat_lt (slot (operand_at n 1)) 16) refl
+  where
+    by : (b : Bool) → nat_lt (slot (operand_at n 1)) 16 ≡ b → IsFitCode 2 (if b then argument_load t (register (operand_at n 0)) (slot (operand_at n 1)) else [])
+    by true e = argument-load-fits t (register (operand_at n 0)) (slot (operand_at n 1)) (register-fine (operand_at n 0)) (grind (arith, e))
+    by false e = record { good = tt; few = omega arith }
+
+-- ---- items
+-- good ones, of which there are at most so many instructions and so many fixes
+record AreFit (most fixes : ℕ) (xs : List Item) : Type 0 where
+  good : Each IsGoodItem xs
+  short : words_in xs ≤ most
+  fixed : (p : ℕ) → length (fixes_of p xs) ≤ fixes
+
+code-fit : (most : ℕ) (is : List Instr) → IsFitCode most is → AreFit most 0 (ones is)
+code-fit most is h = record {
+  good = ones-good is h.good;
+  short = let w = words-ones is in let f = h.few in omega (arith, w, f);
+  fixed = λ p. let e = ap length (fixes-ones p is) in omega (arith, e);
+}
+
+joined : (m n f g : ℕ) (xs ys : List Item) → AreFit m f xs → AreFit n g ys → AreFit (m + n) (f + g) (xs ++ ys)
+joined m n f g xs ys a b = record {
+  good = items-good xs ys a.good b.good;
+  short = let w = words_append xs ys in let s = a.short in let t = b.short in omega (arith, w, s, t);
+  fixed = λ p.
+      let e = ap length (fixes-append p xs ys) in
+      let l = length-append (fixes_of p xs) (fixes_of (p + bytes_in xs) ys) in
+      let s = a.fixed p in let t = b.fixed (p + bytes_in xs) in omega (arith, e, l, s, t);
+}
+
+fewer : (m n f g : ℕ) (xs : List Item) → m ≤ n → f ≤ g → AreFit m f xs → AreFit n g xs
+fewer m n f g xs l k a = record { good = a.good; short = let s = a.short in omega (arith, l, s); fixed = λ p. let s = a.fixed p in omega (arith, k, s) }
+
+into-fit : (rd : ℕ) (x : Operand) → Fine rd → AreFit 4 1 (into rd x)
+into-fit rd (operand.Reg r) h =
+    let i = instr.Reg row.Orr rd 31 (register_of Aarch64 r) in
+    fewer 1 4 0 1 (ones (i ∷ [])) (omega arith) (omega arith) (code-fit 1 (i ∷ []) record { good = (((h.0, omega arith, let s = register-small r in omega (arith, s)), h.1, refl), tt); few = omega arith })
+into-fit rd (operand.Number v) h = fewer 4 4 0 1 (ones (number_code rd v)) (omega arith) (omega arith) (code-fit 4 (number_code rd v) record { good = number-good rd v h; few = number-few rd v })
+into-fit rd (operand.Host name) h =
+    let v = host_address name in
+    fewer 4 4 0 1 (ones (number_code rd v)) (omega arith) (omega arith) (code-fit 4 (number_code rd v) record { good = number-good rd v h; few = number-few rd v })
+into-fit rd (operand.Label l) h = record { good = (h, tt); short = omega arith; fixed = λ p. omega arith }
+into-fit rd (operand.Slot k) h = record { good = tt; short = omega arith; fixed = λ p. omega arith }
+
+stack-push-fit : (j r : ℕ) → j < 16 → r < 32 → AreFit 1 0 (stack_push j r ∷ [])
+stack-push-fit j r few lt = code-fit 1 (instr.Scaled (store_row store_type.Long) r 31 (j - 8) ∷ []) record { good = (store-row-good store_type.Long r 31 (j - 8) lt (omega arith) (omega (arith, few)), tt); few = omega arith }
+
+linked-fit : (j : ℕ) (x : Operand) → j < 16 → AreFit 5 1 (into link x ++ stack_push j link ∷ [])
+linked-fit j x few = joined 4 1 1 0 (into link x) (stack_push j link ∷ []) (into-fit link x link-fine) (stack-push-fit j link few (omega arith))
+
+onto-fit : (j : ℕ) (x : Operand) → j < 16 → AreFit 5 1 (onto_stack j x)
+onto-fit j (operand.Reg r) few = fewer 1 5 0 1 (stack_push j (register_of Aarch64 r) ∷ []) (omega arith) (omega arith) (stack-push-fit j (register_of Aarch64 r) few (let s = register-small r in omega (arith, s)))
+onto-fit j (operand.Number v) few = linked-fit j (operand.Number v) few
+onto-fit j (operand.Host name) few = linked-fit j (operand.Host name) few
+onto-fit j (operand.Label l) few = linked-fit j (operand.Label l) few
+onto-fit j (operand.Slot k) few = linked-fit j (operand.Slot k) few
+
+-- the registers of arguments
+pub argument-fine : (j : ℕ) → Fine (slice_index (argument_registers Aarch64) j)
+argument-fine zero = (omega arith, refl)
+argument-fine (suc zero) = (omega arith, refl)
+argument-fine (suc (suc zero)) = (omega arith, refl)
+argument-fine (suc (suc (suc zero))) = (omega arith, refl)
+argument-fine (suc (suc (suc (suc zero)))) = (omega arith, refl)
+argument-fine (suc (suc (suc (suc (suc zero))))) = (omega arith, refl)
+argument-fine (suc (suc (suc (suc (suc (suc zero)))))) = (omega arith, refl)
+argument-fine (suc (suc (suc (suc (suc (suc (suc zero))))))) = (omega arith, refl)
+argument-fine (suc (suc (suc (suc (suc (suc (suc (suc j)))))))) = (omega arith, refl)
+
+push-fit : (j : ℕ) (n : Node) → j < 16 → AreFit 5 1 (push_code j n)
+push-fit j n few = by (nat_lt j 8)
+  where
+    by : (b : Bool) → AreFit 5 1 (if b then into (slice_index (argument_registers Aarch64) j) (operand_at n 0) else onto_stack j (operand_at n 0))
+    by true =
+        let rd = slice_index (argument_registers Aarch64) j in
+        fewer 4 5 1 1 (into rd (operand_at n 0)) (omega arith) (omega arith) (into-fit rd (operand_at n 0) (argument-fine j))
+    by false = onto-fit j (operand_at n 0) few
+
+-- ---- what is asked of items
+are-items : (most fixes : ℕ) (xs : List Item) → fixes ≤ 1 → AreFit most fixes xs → AreMemoryItems most xs
+are-items most fixes xs one a = record { appendable = good-items-are-appendable xs a.good; short = a.short; one_fix = λ p. let f = a.fixed p in omega (arith, one, f) }
+
+pub memory-items-fit : MemoryItemsFit
+memory-items-fit = record {
+  loads = λ t at n. are-items 6 0 (ones (load_code t at n)) (omega arith) (code-fit 6 (load_code t at n) (load-fits t at n));
+  stores = λ t at n. are-items 6 0 (ones (store_code t at n)) (omega arith) (code-fit 6 (store_code t at n) (store-fits t at n));
+  arguments = λ t n. are-items 2 0 (ones (argument_code t n)) (omega arith) (code-fit 2 (argument_code t n) (argument-fits t n));
+  pushes = λ j n few. are-items 5 1 (push_code j n) (omega arith) (push-fit j n few);
+}

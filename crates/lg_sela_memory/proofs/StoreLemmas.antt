@@ -1,0 +1,73 @@
+-- Stores.
+use Rattle.std.proofs.Common.{◌≡◌, ℕ, ◌*◌, ◌<◌, Bool, true, List, [], ◌∷◌, refl, ap, ◌∙◌, arith, length-append}
+use Rattle.lg_base.specs.Spaces.{mapped, stored}
+use Rattle.lg_base.specs.Words.{add_words}
+use Rattle.lg_base.specs.declared.target.Target.TheVariants.{Aarch64}
+use Rattle.lg_op.specs.declared.op.StoreType.{StoreType}
+use Rattle.lg_op.specs.declared.op.StoreType.TheVariants as store_type
+use Rattle.lg_operators.specs.Operators.{store_width}
+use Rattle.lg_a64.specs.declared.instruction.Instr.TheVariants as instr
+use Rattle.lg_cpu.specs.States.{CpuState, arrives}
+use Rattle.lg_cpu.specs.A64Step.{read, act}
+use Rattle.lg_temp.specs.Abis.{register_of}
+use Rattle.lg_carry.specs.Processors.{Seen}
+use Rattle.lg_carry.specs.Spills.{Does}
+use Rattle.lg_carry_a64.specs.A64Computers.{a64_scratch, a64_computer}
+use Rattle.lg_carry_a64.specs.A64Rows.{a64_rows, a64_seen}
+use Rattle.lg_carry_a64.proofs.ComputerLemmas.{is-computer, spellings-long}
+use Rattle.lg_carry_a64.proofs.HeldLemmas.{read-is}
+use Rattle.lg_carry_a64.proofs.RegisterLemmas.{register-small, register-off-link}
+use Rattle.lg_sel_nodes.specs.Straight.{spoils, from_to}
+use Rattle.lg_sel_nodes.proofs.ByteLemmas.{stored-same}
+use Rattle.lg_sel_values.proofs.ComputationLemmas.{pointwise}
+use Rattle.lg_sel_memory.specs.Stores.{IsWritable, StoresDo, HasStoreCode}
+use Rattle.lg_sel_memory.proofs.BehindLemmas.{told, seen_behind, behind-computed}
+use Rattle.lg_sela_memory.specs.Accesses.{store_row, place_of, a64_store}
+use Rattle.lg_sela_memory.proofs.EndLemmas.{off-scratch, access-does}
+use Rattle.lg_sela_memory.proofs.PlaceLemmas.{placed}
+
+-- a row stores by its type, wherever the address lies
+store-act : (t : StoreType) (q : CpuState) (base from count a : ℕ) → add_words (q.registers base) (count * store_width t) ≡ a → mapped q.bytes a (store_width t) ≡ true
+    → act (instr.Scaled (store_row t) from base count) q ≡ arrives (add_words q.pc 4) q.registers q.flags (stored q.bytes a (store_width t) (read q.registers from)) q.mark
+store-act store_type.Char q base from count a at there = rw (at, there) refl
+store-act store_type.Short q base from count a at there = rw (at, there) refl
+store-act store_type.Int q base from count a at there = rw (at, there) refl
+store-act store_type.Long q base from count a at there = rw (at, there) refl
+
+-- and does so in code
+pub store-does : (code : List ℕ) (trash : ℕ) (t : StoreType) (s : Seen) (base from count a v fp : ℕ) (T : ℕ → Bool) → from < 31 → add_words (s.registers base) (count * store_width t) ≡ a → s.registers from ≡ v → IsWritable s fp a (store_width t)
+    → Does (a64_rows code trash) (from_to s s.registers (stored s.bytes a (store_width t) v) s.flags) (instr.Scaled (store_row t) from base count ∷ []) fp 0 T
+store-does code trash t s base from count a v fp T small at holds writable = access-does code trash (instr.Scaled (store_row t) from base count) s s.registers (stored s.bytes a (store_width t) v) fp T
+    (λ q registers bytes.
+    let g : q.registers ≡ s.registers = pointwise q.registers s.registers registers in
+    let value : read q.registers from ≡ v = read-is q.registers from small ∙ registers from ∙ holds in
+    record {
+      registers = q.registers;
+      bytes = stored q.bytes a (store_width t) v;
+      effect = store-act t q base from count a (ap (λ h. add_words (h base) (count * store_width t)) g ∙ at) (writable q.bytes bytes)
+          ∙ ap (λ z. arrives (add_words q.pc 4) q.registers q.flags (stored q.bytes a (store_width t) z) q.mark) value;
+      registers_are = registers;
+      bytes_are = λ y off. stored-same s.bytes q.bytes a (store_width t) v y (bytes y off);
+    })
+
+pub stores-do : (code : List ℕ) (trash : ℕ) → StoresDo (a64_rows code trash) a64_scratch a64_store
+stores-do code trash frame t at b q a ok f address even writable =
+    let p = place_of (store_width t) at in
+    let s = a64_seen q in
+    let fp = s.registers 29 in
+    let rb = register_of Aarch64 b in
+    let M = a64_computer code trash in
+    let x = instr.Scaled (store_row t) rb p.base p.count in
+    let m = placed (store_width t) s.registers q.state.flags at ok f.seen.words in
+    let mid = seen_behind M p.code s in
+    let B = stored s.bytes a (store_width t) (s.registers rb) in
+    behind-computed M (is-computer code trash) p.code (x ∷ []) s s.registers B s.flags fp (spoils a64_scratch []) m.computes
+    (told (a64_rows code trash) mid mid.registers s.registers B B mid.flags s.flags (x ∷ []) fp 0 (spoils a64_scratch [])
+    (λ y free. m.keeps y (off-scratch y free)) (λ y off. refl) m.flags
+    (store-does code trash t mid p.base rb p.count a (s.registers rb) fp (spoils a64_scratch []) (let h = register-small b in omega (arith, h)) (m.makes ∙ address) (m.keeps rb (register-off-link b)) writable))
+
+pub has-store-code : (code : List ℕ) (trash : ℕ) → HasStoreCode (a64_rows code trash) a64_store
+has-store-code code trash frame t at b =
+    let p = place_of (store_width t) at in
+    let l = length-append p.code (instr.Scaled (store_row t) (register_of Aarch64 b) p.base p.count ∷ []) in
+    let long = spellings-long (a64_store frame t at b) in omega (arith, l, long)

@@ -1,0 +1,22 @@
+-- Loads, stores and nodes that read and pass arguments are carried by their code, wherever the processor runs it.
+use Rattle.std.specs.Prelude.{ℕ, ◌^◌, ◌<◌, ◌≤◌, List, length}
+use Rattle.lg_base.specs.Layout.{most_code}
+use Rattle.lg_carry_a64.specs.A64Rows.{a64_rows}
+use Rattle.lg_cpu.specs.Laws.{AreBytes}
+use Rattle.lg_a64.specs.Spelling.{IsInstr}
+use Rattle.lg_sel_memory.specs.Arguments.{ArgumentsCarry}
+use Rattle.lg_sel_memory.specs.Loads.{LoadsCarry}
+use Rattle.lg_sel_memory.specs.Pushes.{PushesCarry}
+use Rattle.lg_sel_memory.specs.Stores.{StoresCarry}
+use Rattle.lg_sela_memory.specs.Accesses.{a64_load, a64_store}
+use Rattle.lg_sela_memory.specs.ArgumentCode.{a64_argument}
+use Rattle.lg_sela_memory.specs.PushCode.{a64_push}
+
+pub record MemoryNodesCarry (code : List ℕ) (trash : ℕ) : Type 0 where
+  pub loads : LoadsCarry (a64_rows code trash) IsInstr a64_load
+  pub stores : StoresCarry (a64_rows code trash) IsInstr a64_store
+  pub arguments : ArgumentsCarry (a64_rows code trash) IsInstr a64_argument
+  pub pushes : PushesCarry (a64_rows code trash) IsInstr a64_push
+
+abbrev pub MemoryIsCarried : Type 0
+MemoryIsCarried = (code : List ℕ) (trash : ℕ) → length code ≤ most_code → AreBytes code → trash < 2 ^ 64 → MemoryNodesCarry code trash

@@ -1,0 +1,120 @@
+// The arguments of calls and of functions.
+
+ghost use Rattle.std.specs.Prelude.{◌≡◌, ◌+◌, ◌<◌, ◌≤◌, [], ◌∷◌, ◌++◌};
+ghost use Rattle.lg_sela_items.specs.declared.items.Item.TheVariants as item;
+ghost use Rattle.lg_sela_items.specs.Items.{ones, words_in};
+ghost use Rattle.lg_sela_memory.specs.ArgumentCode.{home_distance, stack_count, argument_load, argument_code};
+ghost use Rattle.lg_sela_memory.specs.PushCode.{into, stack_push, onto_stack, push_code};
+
+use crate::accesses::{load_row, scaled};
+use crate::operands::register;
+use lg_a64::{ImmOp, Instr, RegOp, ScaledOp};
+use lg_op::{Node, Operand, ValueType};
+use lg_operators::operators::width;
+use lg_sel_items::Items;
+use lg_sel_memory::operands::{operand, slot};
+use lg_sela_items::{FRAME_POINTER, Item, LINK, ZERO, imm, put_number, register_of, row};
+
+// The stack pointer, 31 as the base of an address.
+const STACK_POINTER: u8 = 31;
+
+// The word of an operand into a register: at most 4 instructions.
+fn put_into(rd: u8, operand: Operand, items: &mut Items<Item>)
+    requires { items.old ≡ [] }
+    ensures code { items.new ≡ into rd operand }
+    ensures few { words_in items.new ≤ 4 }
+{
+    match operand {
+        Operand::Reg(reg) => items.one(row(RegOp::Orr, rd, ZERO, register_of(reg))),
+        Operand::Number(value) => put_number(rd, value, items),
+        Operand::Host(name) => put_number(rd, name.address(), items),
+        Operand::Label(label) => items.push(Item::Address {
+            rd: rd,
+            label: label.0,
+        }),
+        Operand::Slot(_) => {}
+    }
+}
+
+// The word of a register into the stack word of an argument, which is the ninth or a later one, of at most 16.
+fn stack_push(index: u32, register: u8) -> Instr
+    requires { index < 16 }
+    ensures { item.One result ≡ stack_push index register }
+{
+    scaled(
+        ScaledOp::Str64,
+        register,
+        STACK_POINTER,
+        index.saturating_sub(8) as u16,
+    )
+}
+
+fn put_onto_stack(index: u32, operand: Operand, items: &mut Items<Item>)
+    requires few { index < 16 }
+    requires empty { items.old ≡ [] }
+    ensures { items.new ≡ onto_stack index operand }
+{
+    match operand {
+        Operand::Reg(reg) => items.one(stack_push(index, register_of(reg))),
+        _ => {
+            put_into(LINK, operand, items);
+            items.one(stack_push(index, LINK));
+        }
+    }
+}
+
+/// Appends the code of a node that passes an argument to no items: 1 to 5 instructions. The argument's number counts from 0, and is
+/// below 16.
+pub fn put_argument(index: u32, node: &Node, items: &mut Items<Item>)
+    requires few { index < 16 }
+    requires empty { items.old ≡ [] }
+    ensures { items.new ≡ push_code index node.now }
+{
+    if index < 8 {
+        put_into(index as u8, operand(node, 0), items);
+    } else {
+        put_onto_stack(index, operand(node, 0), items);
+    }
+}
+
+// How far below FP the home of an argument stands. The number is below 8.
+fn home_distance(index: u32) -> u16
+    requires { index < 8 }
+    ensures { result ≡ home_distance index }
+{
+    32 + 8 * index as u16
+}
+
+// How many accesses behind FP an argument stands in the caller's stack words. The number is below 16.
+fn stack_count(t: ValueType, index: u32) -> u16
+    requires { index < 16 }
+    ensures { result ≡ stack_count t index }
+{
+    ((16 + 8 * index.saturating_sub(8)) / width(t)) as u16
+}
+
+// An argument into a register: from its home, or from the caller's stack word. The number is below 16.
+fn put_argument_load(t: ValueType, rd: u8, index: u32, items: &mut Items<Item>)
+    requires few { index < 16 }
+    requires empty { items.old ≡ [] }
+    ensures { items.new ≡ ones (argument_load t rd index) }
+{
+    if index < 8 {
+        items.one(imm(ImmOp::Subi, LINK, FRAME_POINTER, home_distance(index)));
+        items.one(scaled(load_row(t), rd, LINK, 0));
+    } else {
+        items.one(scaled(load_row(t), rd, FRAME_POINTER, stack_count(t, index)));
+    }
+}
+
+/// Appends the code of a node that reads an argument of its function to no items: one or two instructions, or none where no function has
+/// so many arguments.
+pub fn put_getarg(t: ValueType, node: &Node, items: &mut Items<Item>)
+    requires { items.old ≡ [] }
+    ensures { items.new ≡ ones (argument_code t node.now) }
+{
+    let index = slot(operand(node, 1));
+    if index < 16 {
+        put_argument_load(t, register(operand(node, 0)), index, items);
+    }
+}
