@@ -1,58 +1,63 @@
--- Instructions that compute, and one behind them.
-use Rattle.std.proofs.Common.{◌≡◌, ℕ, ◌+◌, ◌*◌, ◌≤◌, true, List, [], ◌∷◌, ◌++◌, Option, refl, ap, ◌∙◌, arith, length, length-append}
+-- An instruction that loads or stores, and code behind code that computes.
+use Rattle.std.proofs.Common.{◌≡◌, ℕ, ◌+◌, ◌≤◌, Bool, true, false, List, [], ◌∷◌, ◌++◌, Option, refl, sym, ap, ◌∙◌, arith, subst}
 use Rattle.lg_base.specs.Layout.{code_base, most_code}
-use Rattle.lg_base.specs.Runs.{Status, Running}
 use Rattle.lg_base.specs.Words.{add_words}
 use Rattle.lg_rv.specs.declared.instruction.Instr.{Instr}
-use Rattle.lg_cpu.specs.Steps.{Run, after, status_of}
+use Rattle.lg_cpu.specs.Steps.{after, status_of}
 use Rattle.lg_cpu.specs.States.{CpuState}
 use Rattle.lg_cpu.specs.RvStep.{goes, act}
-use Rattle.lg_carry.specs.Blocks.{done, GoesThrough}
-use Rattle.lg_carry_rv.specs.RvRows.{rv_does}
+use Rattle.lg_carry.specs.Processors.{Seen}
+use Rattle.lg_carry.specs.Spills.{Does, in_slots}
 use Rattle.lg_carry_rv.specs.Computations.{all_compute, computed}
-use Rattle.lg_carry_rv.proofs.ComputationLemmas.{computations-run}
+use Rattle.lg_carry_rv.specs.RvComputers.{held_by, rv_computer}
+use Rattle.lg_carry_rv.specs.RvRows.{rv_does, rv_rows}
+use Rattle.lg_carry_rv.proofs.ComputationLemmas.{spellings-long}
+use Rattle.lg_carry_rv.proofs.ComputerLemmas.{is-computer, registers-computed}
 use Rattle.lg_carry_rv.proofs.RowLemmas.{went}
 use Rattle.lg_carry_rv.proofs.SlotLemmas.{pc-next, goes-on}
+use Rattle.lg_sel_nodes.specs.Straight.{from_to}
+use Rattle.lg_sel_values.specs.Computers.{Held}
+use Rattle.lg_sel_values.specs.Computers as computer
+use Rattle.lg_sel_memory.proofs.BehindLemmas.{no-slots, behind-computed}
 
--- the run goes through these instructions from q, and goes on behind them
-pub record GoesBehind (is : List Instr) (q : Run CpuState) : Type 0 where
-  pub through : GoesThrough rv_does (λ (r : Run CpuState). status_of r.progress) is q
-  pub runs : status_of (done rv_does is q).progress ≡ Running
-  pub behind : (done rv_does is q).state.pc ≡ q.state.pc + 4 * length is
+-- from a state an instruction leaves these registers and these bytes, but for the slots, and the next one follows
+pub record Accesses (x : Instr) (q : CpuState) (W : ℕ → ℕ) (M : ℕ → Option ℕ) (fp : ℕ) : Type 0 where
+  pub registers : ℕ → ℕ
+  pub bytes : ℕ → Option ℕ
+  pub effect : act x q ≡ goes (add_words q.pc 4) registers bytes q.mark
+  pub registers_are : (r : ℕ) → registers r ≡ W r
+  pub bytes_are : (a : ℕ) → in_slots fp a ≡ false → bytes a ≡ M a
 
-done-append : {Q I : Type 0} (does : I → Q → Q) (xs ys : List I) (q : Q) → done does (xs ++ ys) q ≡ done does ys (done does xs q)
-done-append does [] ys q = refl
-done-append does (i ∷ xs) ys q = done-append does xs ys (does i q)
-
-goes-append : {Q I : Type 0} (does : I → Q → Q) (status : Q → Status) (xs ys : List I) (q : Q) → GoesThrough does status xs q → GoesThrough does status ys (done does xs q) → GoesThrough does status (xs ++ ys) q
-goes-append does status [] ys q a b = b
-goes-append does status (i ∷ xs) ys q a b = (a.0, goes-append does status xs ys (does i q) a.1 b)
-
--- what the last one does
-pub record EndsWith (code : List Instr) (x : Instr) (q : Run CpuState) (registers : ℕ → ℕ) (bytes : ℕ → Option ℕ) : Type 0 where
-  pub goes : GoesBehind (code ++ x ∷ []) q
-  pub registers_are : (r : ℕ) → (done rv_does (code ++ x ∷ []) q).state.registers r ≡ registers r
-  pub bytes_are : (a : ℕ) → (done rv_does (code ++ x ∷ []) q).state.bytes a ≡ bytes a
-  pub mark : (done rv_does (code ++ x ∷ []) q).state.mark ≡ q.state.mark
-
-pub ends-with : (code : List Instr) (x : Instr) (q : Run CpuState) (registers : ℕ → ℕ) (bytes : ℕ → Option ℕ) → all_compute code ≡ true → status_of q.progress ≡ Running
-    → code_base ≤ q.state.pc → q.state.pc + 4 * length (code ++ x ∷ []) ≤ code_base + most_code
-    → ((r : CpuState) → ((y : ℕ) → r.registers y ≡ computed code q.state.registers y) → ((a : ℕ) → r.bytes a ≡ q.state.bytes a) → act x r ≡ goes (add_words r.pc 4) registers bytes r.mark)
-    → EndsWith code x q registers bytes
-ends-with code x q registers bytes computes runs low high does =
-    let long : length (code ++ x ∷ []) ≡ length code + 1 = length-append code (x ∷ []) in
-    let m = computations-run code q computes runs low (omega (arith, high, long)) in
-    let q1 = done rv_does code q in
-    let last : done rv_does (code ++ x ∷ []) q ≡ after q1 (goes (add_words q1.state.pc 4) registers bytes q1.state.mark) =
-    done-append rv_does code (x ∷ []) q ∙ went q1 (act x q1.state) m.runs ∙ ap (after q1) (does q1.state m.registers m.bytes) in
-    let near : q1.state.pc + 4 ≤ code_base + most_code = omega (arith, high, long, m.behind) in
+-- where it does so from each state that looks so, it is code that does so
+pub access-does : (code : List ℕ) (trash : ℕ) (x : Instr) (s : Seen) (W : ℕ → ℕ) (M : ℕ → Option ℕ) (fp : ℕ) (T : ℕ → Bool)
+    → ((q : CpuState) → ((r : ℕ) → q.registers r ≡ s.registers r) → ((a : ℕ) → in_slots fp a ≡ false → q.bytes a ≡ s.bytes a) → Accesses x q W M fp)
+    → Does (rv_rows code trash) (from_to s W M s.flags) (x ∷ []) fp 0 T
+access-does code trash x s W M fp T does q looks room =
+    let d = does q.state looks.has_registers looks.has_bytes in
+    let e : rv_does x q ≡ after q (goes (add_words q.state.pc 4) d.registers d.bytes q.state.mark) = went q (act x q.state) looks.runs ∙ ap (after q) d.effect in
+    let long = spellings-long (x ∷ []) in
+    let near : q.state.pc + 4 ≤ code_base + most_code = omega (arith, room.high, long) in
     record {
-      goes = record {
-        through = goes-append rv_does (λ (r : Run CpuState). status_of r.progress) code (x ∷ []) q m.through (m.runs, tt);
-        runs = ap (λ s. status_of s.progress) last ∙ goes-on q1.state.pc (omega (arith, low, m.behind)) near;
-        behind = ap (λ s. s.state.pc) last ∙ pc-next q1.state.pc near ∙ omega (arith, m.behind, long);
-      };
-      registers_are = λ r. ap (λ s. s.state.registers r) last;
-      bytes_are = λ a. ap (λ s. s.state.bytes a) last;
-      mark = ap (λ s. s.state.mark) last ∙ m.mark;
+      through = (looks.runs, tt);
+      runs = ap (λ r. status_of r.progress) e ∙ goes-on q.state.pc room.low near;
+      behind = ap (λ r. r.state.pc) e ∙ pc-next q.state.pc near ∙ omega (arith, long);
+      registers = λ y free. ap (λ r. r.state.registers y) e ∙ d.registers_are y;
+      bytes = λ y off. ap (λ r. r.state.bytes y) e ∙ d.bytes_are y off;
+      slots = λ y on. no-slots fp y on;
+      has_mark = ap (λ r. r.state.mark) e ∙ looks.has_mark;
+      has_flags = looks.has_flags;
     }
+
+-- ---- behind instructions that compute
+pub flags-kept : (is : List Instr) (w : Held) → (computer.computed held_by is w).flags ≡ w.flags
+flags-kept [] w = refl
+flags-kept (i ∷ is) w = flags-kept is (held_by i w)
+
+-- they change the registers alone
+pub behind-registers : (code : List ℕ) (trash : ℕ) (xs ys : List Instr) (s : Seen) (W : ℕ → ℕ) (M : ℕ → Option ℕ) (fp : ℕ) (T : ℕ → Bool) → all_compute xs ≡ true
+    → Does (rv_rows code trash) (from_to (record s { registers = computed xs s.registers }) W M s.flags) ys fp 0 T → Does (rv_rows code trash) (from_to s W M s.flags) (xs ++ ys) fp 0 T
+behind-registers code trash xs ys s W M fp T h does =
+    let w : Held = record { registers = s.registers; flags = s.flags } in
+    let same : computer.computed held_by xs w ≡ record { registers = computed xs s.registers; flags = s.flags } = λ i. record { registers = registers-computed xs w i; flags = flags-kept xs w i } in
+    behind-computed (rv_computer code trash) (is-computer code trash) xs ys s W M s.flags fp T h
+    (subst (λ (u : Held). Does (rv_rows code trash) (from_to (record s { registers = u.registers; flags = u.flags }) W M s.flags) ys fp 0 T) (sym same) does)

@@ -8,10 +8,8 @@ use Rattle.lg_op.specs.declared.node.Node.{Node}
 use Rattle.lg_op.specs.declared.op.ValueType.{ValueType}
 use Rattle.lg_op.specs.declared.op.StoreType.{StoreType}
 use Rattle.lg_op.specs.declared.op.Addressing.{Addressing}
-use Rattle.lg_op.specs.declared.op.Addressing.TheVariants as addressing
 use Rattle.lg_op.specs.declared.op.ValueType.TheVariants as value_type
 use Rattle.lg_op.specs.declared.operand.Operand.{Operand}
-use Rattle.lg_op.specs.declared.operand.Operand.TheVariants as operand
 use Rattle.lg_rv.specs.Spelling.{IsInstr}
 use Rattle.lg_rv.specs.declared.instruction.Instr.{Instr}
 use Rattle.lg_rv.specs.declared.instruction.Instr.TheVariants as instr
@@ -24,8 +22,8 @@ use Rattle.lg_carry_rv.proofs.RegisterLemmas.{register-small}
 use Rattle.lg_base.specs.declared.target.Target.TheVariants.{Riscv64}
 use Rattle.lg_temp.specs.Abis.{register_of}
 use Rattle.lg_sel_memory.specs.Accesses.{Address, Base, At, Sum, Index, address_of, IsAddress}
-use Rattle.lg_sel_memory.specs.Operands.{named, number, HasWords}
-use Rattle.lg_sel_memory.proofs.ReadLemmas.{number-small}
+use Rattle.lg_sel_memory.specs.Operands.{named, HasWords}
+use Rattle.lg_sel_memory.proofs.ReadLemmas.{address-small, words-of}
 use Rattle.lg_selr_memory.specs.Accesses.{link, register, Place, load_row, store_row, at_register, at_link, indexed, place_of, load_code, store_code}
 use Rattle.lg_selr_memory.specs.ArgumentCode.{argument_offset, argument_code}
 
@@ -87,17 +85,6 @@ place-fits (Sum a b) h =
     at-link-fits is (fewer 1 9 is (omega arith) (sum-fits (register_of Riscv64 a) (register_of Riscv64 b) (register-small a) (register-small b)))
 place-fits (Index a v) h = indexed-fits (register_of Riscv64 a) v (register-small a) h
 
--- the number of an address that operands give is a word
-address-small : (at : Addressing) (x y : Operand) → number x < 2 ^ 64 → number y < 2 ^ 64 → IsAddress (address_of at x y)
-address-small addressing.Register x y nx ny = tt
-address-small addressing.Immediate x y nx ny = nx
-address-small addressing.RegisterRegister x y nx ny = tt
-address-small addressing.RegisterImmediate (operand.Reg r) y nx ny = ny
-address-small addressing.RegisterImmediate (operand.Number v) y nx ny = nx
-address-small addressing.RegisterImmediate (operand.Host name) y nx ny = nx
-address-small addressing.RegisterImmediate (operand.Label l) y nx ny = nx
-address-small addressing.RegisterImmediate (operand.Slot k) y nx ny = nx
-
 -- ---- the code of nodes
 load-straight : (t : ValueType) (rd base : ℕ) (offset : ℤ) → is_straight (instr.Imm (load_row t) rd base offset) ≡ true
 load-straight value_type.Char rd base offset = refl
@@ -107,9 +94,6 @@ load-straight value_type.UnsignedShort rd base offset = refl
 load-straight value_type.Int rd base offset = refl
 load-straight value_type.UnsignedInt rd base offset = refl
 load-straight value_type.Long rd base offset = refl
-
-words-of : (n : Node) (k : ℕ) → HasWords n → number (operand_at n k) < 2 ^ 64
-words-of n k h = number-small (operand_at n k) (λ v e. h k v e)
 
 pub load-fits : (t : ValueType) (at : Addressing) (n : Node) → HasWords n → IsFitCode 10 (load_code t at n)
 load-fits t at n h =

@@ -1,12 +1,13 @@
 -- Passing an argument of a call.
 use Rattle.std.proofs.Common.{◌≡◌, ◌≢◌, ℕ, zero, suc, ◌+◌, ◌-◌, ◌*◌, ◌%◌, ◌^◌, ◌<◌, ◌≤◌, Bool, true, false, List, [], ◌∷◌, ◌++◌, refl, sym, ap, ◌∙◌, subst, arith, length, length-append}
-use Rattle.std.specs.Prelude.{pos, ◌==◌, nat_lt, if◌then◌else◌, slice_index}
+use Rattle.std.specs.Prelude.{Option, pos, ◌==◌, nat_lt, if◌then◌else◌, slice_index}
 use Rattle.lg_base.specs.Conventions.{argument_registers}
 use Rattle.lg_base.specs.HostNames.{host_address}
 use Rattle.lg_base.specs.Layout.{stack_argument}
-use Rattle.lg_base.specs.Spaces.{mapped, stored}
+use Rattle.lg_base.specs.Spaces.{stored}
 use Rattle.lg_base.specs.Words.{add_words}
 use Rattle.lg_base.specs.declared.target.Target.TheVariants.{Riscv64}
+use Rattle.lg_op.specs.declared.op.StoreType.TheVariants as store_type
 use Rattle.lg_op.specs.declared.operand.Operand.{Operand}
 use Rattle.lg_op.specs.declared.operand.Operand.TheVariants as operand
 use Rattle.lg_rv.specs.declared.instruction.Instr.{Instr}
@@ -15,31 +16,35 @@ use Rattle.lg_rv.specs.declared.instruction.StoreOp.TheVariants.{Sd}
 use Rattle.lg_cpu.specs.HostSteps.{put}
 use Rattle.lg_cpu.specs.States.{CpuState}
 use Rattle.lg_cpu.specs.Steps.{Run}
-use Rattle.lg_cpu.specs.RvStep.{read, goes, act}
+use Rattle.lg_cpu.specs.RvStep.{read}
 use Rattle.lg_temp.specs.Abis.{register_of}
+use Rattle.lg_carry.specs.Processors.{Seen}
 use Rattle.lg_carry.specs.Spills.{Does, with_register}
-use Rattle.lg_carry.proofs.StackLemmas.{within-where}
 use Rattle.lg_carry_rv.specs.Computations.{all_compute, computed}
-use Rattle.lg_carry_rv.specs.RvComputers.{rv_scratch}
+use Rattle.lg_carry_rv.specs.RvComputers.{rv_scratch, rv_computer}
 use Rattle.lg_carry_rv.specs.RvRows.{rv_rows, rv_seen}
 use Rattle.lg_carry_rv.specs.Numbers.{number_code}
 use Rattle.lg_carry_rv.proofs.NumberCodeLemmas.{numbers-are-loaded}
-use Rattle.lg_carry_rv.proofs.ComputationLemmas.{computations-run, pointwise, put-other, read-put, spellings-long}
+use Rattle.lg_carry_rv.proofs.ComputationLemmas.{pointwise, put-other, read-put, spellings-long}
+use Rattle.lg_carry_rv.proofs.ComputerLemmas.{is-computer, held-at}
 use Rattle.lg_carry_rv.proofs.RegisterLemmas.{read-of}
 use Rattle.lg_sel_nodes.specs.Straight.{spoils, from_to}
 use Rattle.lg_sel_nodes.specs.Stretches.{HasFrame}
-use Rattle.lg_sel_nodes.proofs.ByteLemmas.{stored-same}
+use Rattle.lg_sel_values.specs.Computers.{Held}
+use Rattle.lg_sel_values.proofs.ComputationLemmas.{computations-do}
 use Rattle.lg_sel_memory.specs.Pushes.{IsPassed, PushesDo, HasPushCode}
 use Rattle.lg_sel_memory.specs.Stores.{IsWritable}
+use Rattle.lg_sel_memory.proofs.BehindLemmas.{told, seen_behind}
 use Rattle.lg_sel_memory.proofs.ReadLemmas.{same-some, host-small}
 use Rattle.lg_selr_items.specs.declared.items.Item.{Item}
 use Rattle.lg_selr_items.specs.Items.{settled, bytes_in}
-use Rattle.lg_selr_items.proofs.ItemLemmas.{settled-append}
+use Rattle.lg_selr_items.proofs.ItemLemmas.{settled-append, settled-ones}
 use Rattle.lg_selr_memory.specs.Accesses.{link}
 use Rattle.lg_selr_memory.specs.PushCode.{into, stack_push, onto_stack, push_items, rv_push}
-use Rattle.lg_selr_memory.proofs.EndLemmas.{EndsWith, ends-with}
+use Rattle.lg_selr_memory.proofs.EndLemmas.{flags-kept, behind-registers}
 use Rattle.lg_selr_memory.proofs.PlaceLemmas.{off-scratch}
-use Rattle.lg_selr_memory.proofs.PutLemmas.{Puts, put-operand, settled-ones}
+use Rattle.lg_selr_memory.proofs.PutLemmas.{Puts, put-operand}
+use Rattle.lg_selr_memory.proofs.StoreLemmas.{store-does}
 
 -- ---- the registers of arguments
 argument-some : (j : ℕ) → j < 8 → (slice_index (argument_registers Riscv64) j ≢ 0) × (slice_index (argument_registers Riscv64) j < 32)
@@ -58,26 +63,21 @@ module _ (code : List ℕ) (trash : ℕ) (q : Run CpuState) (fp : ℕ) where
   abbrev w : ℕ → ℕ
   w = q.state.registers
 
-  puts-do : (is : List Instr) (rd v : ℕ) → Puts is w rd v → Does (rv_rows code trash) (from_to (rv_seen q) (with_register w rd v) q.state.bytes (rv_seen q).flags) is fp 0 (spoils rv_scratch [])
-  puts-do is rd v p q' looks room =
-      let same : q'.state.registers ≡ w = pointwise q'.state.registers w looks.has_registers in
-      let long = spellings-long is in
-      let m = computations-run is q' p.computes looks.runs room.low (omega (arith, room.high, long)) in record {
-        through = m.through;
-        runs = m.runs;
-        behind = m.behind ∙ omega (arith, long);
-        registers = λ y free. m.registers y ∙ (ap (λ h. computed is h y) same ∙ p.puts y);
-        bytes = λ y off. m.bytes y ∙ looks.has_bytes y off;
-        slots = λ y on. m.bytes y;
-        has_mark = m.mark ∙ looks.has_mark;
-        has_flags = refl;
-      }
+  abbrev s : Seen
+  s = rv_seen q
+
+  abbrev Leaves : (ℕ → ℕ) → (ℕ → Option ℕ) → List Instr → Type 0
+  Leaves W M is = Does (rv_rows code trash) (from_to s W M s.flags) is fp 0 (spoils rv_scratch [])
+
+  puts-do : (is : List Instr) (rd v : ℕ) → Puts is w rd v → Leaves (with_register w rd v) s.bytes is
+  puts-do is rd v p =
+      let M = rv_computer code trash in
+      let h : Held = record { registers = w; flags = s.flags } in
+      let mid = seen_behind M is s in
+      told (rv_rows code trash) s mid.registers (with_register w rd v) s.bytes s.bytes mid.flags s.flags is fp 0 (spoils rv_scratch [])
+      (λ y free. held-at is h y (with_register w rd v y) (p.puts y)) (λ y off. refl) (flags-kept is h) (computations-do M (is-computer code trash) is s fp 0 (spoils rv_scratch []) p.computes)
 
   -- ---- into a stack word
-  store-word : (r : CpuState) (from a offset : ℕ) → add_words (read r.registers 2) offset ≡ a → (a % 8 == 0) ≡ true → mapped r.bytes a 8 ≡ true
-      → act (instr.Store Sd 2 from (pos offset)) r ≡ goes (add_words r.pc 4) r.registers (stored r.bytes a 8 (read r.registers from)) r.mark
-  store-word r from a offset at even there = rw (at, even, there) refl
-
   -- instructions that compute the link alone, behind which a register holds the word
   record Prepares (pre : List Instr) (from v : ℕ) : Type 0 where
     computes : all_compute pre ≡ true
@@ -101,38 +101,22 @@ module _ (code : List ℕ) (trash : ℕ) (q : Run CpuState) (fp : ℕ) where
     address : (r : ℕ → ℕ) → r 2 ≡ w 2 → add_words (read r 2) (8 * (j - 8)) ≡ a
     address r e = let high = f.high in let large = f.large in omega (arith, e, few, high, large)
 
-    stores-do : (pre : List Instr) (from : ℕ) → Prepares pre from v
-        → Does (rv_rows code trash) (from_to (rv_seen q) w (stored q.state.bytes a 8 v) (rv_seen q).flags) (pre ++ instr.Store Sd 2 from (pos (8 * (j - 8))) ∷ []) fp 0 (spoils rv_scratch [])
-    stores-do pre from p q' looks room =
-        let same : q'.state.registers ≡ w = pointwise q'.state.registers w looks.has_registers in
+    stores-do : (pre : List Instr) (from : ℕ) → Prepares pre from v → Leaves w (stored s.bytes a 8 v) (pre ++ instr.Store Sd 2 from (pos (8 * (j - 8))) ∷ [])
+    stores-do pre from p =
         let x = instr.Store Sd 2 from (pos (8 * (j - 8))) in
-        let long = spellings-long (pre ++ x ∷ []) in
-        let end : EndsWith pre x q' (computed pre w) (stored q'.state.bytes a 8 v) =
-        ends-with pre x q' (computed pre w) (stored q'.state.bytes a 8 v) p.computes looks.runs room.low (omega (arith, room.high, long))
-        (λ r regs bytes.
-        let g : r.registers ≡ computed pre w = pointwise r.registers (computed pre w) (λ y. regs y ∙ ap (λ h. computed pre h y) same) in
-        let b : r.bytes ≡ q'.state.bytes = (λ k y. bytes y k) in
-        let value : read r.registers from ≡ v = ap (λ h. read h from) g ∙ p.holds in
-        store-word r from a (8 * (j - 8)) (address r.registers (ap (λ h. h 2) g ∙ p.keeps 2 (λ z. absurd (omega (arith, z))))) even (ap (λ h. mapped h a 8) b ∙ writable q'.state.bytes looks.has_bytes)
-        ∙ (λ k. goes (add_words r.pc 4) (g k) (stored (b k) a 8 (value k)) r.mark)) in
-        record {
-          through = end.goes.through;
-          runs = end.goes.runs;
-          behind = end.goes.behind ∙ omega (arith, long);
-          registers = λ y free. end.registers_are y ∙ p.keeps y (off-scratch y free).1;
-          bytes = λ y off. end.bytes_are y ∙ stored-same q.state.bytes q'.state.bytes a 8 v y (looks.has_bytes y off);
-          slots = λ y on. absurd (let z = within-where _ 0 y on in omega (arith, z.0, z.1));
-          has_mark = end.mark ∙ looks.has_mark;
-          has_flags = refl;
-        }
+        let mid : Seen = record s { registers = computed pre w } in
+        let B = stored s.bytes a 8 v in
+        behind-registers code trash pre (x ∷ []) s w B fp (spoils rv_scratch []) p.computes
+        (told (rv_rows code trash) mid mid.registers w B B s.flags s.flags (x ∷ []) fp 0 (spoils rv_scratch []) (λ y free. p.keeps y (off-scratch y free).1) (λ y off. refl) refl
+        (store-does code trash store_type.Long mid 2 from (pos (8 * (j - 8))) a v fp (spoils rv_scratch []) (address mid.registers (p.keeps 2 (λ z. absurd (omega (arith, z))))) even p.holds writable))
 
     linked : (to : ℕ → ℕ) (from : ℕ) (x : Operand) → IsPassed Riscv64 w to x v
-        → Does (rv_rows code trash) (from_to (rv_seen q) w (stored q.state.bytes a 8 v) (rv_seen q).flags) (settled to from (into link x ++ stack_push j link ∷ [])) fp 0 (spoils rv_scratch [])
+        → Leaves w (stored s.bytes a 8 v) (settled to from (into link x ++ stack_push j link ∷ []))
     linked to from x p =
-        subst (λ is. Does (rv_rows code trash) (from_to (rv_seen q) w (stored q.state.bytes a 8 v) (rv_seen q).flags) is fp 0 (spoils rv_scratch [])) (sym (settled-append to from (into link x) (stack_push j link ∷ [])))
+        subst (Leaves w (stored s.bytes a 8 v)) (sym (settled-append to from (into link x) (stack_push j link ∷ [])))
         (stores-do (settled to from (into link x)) 1 (by-link (settled to from (into link x)) v (put-operand x to from w 1 v (λ z. absurd (omega (arith, z))) (omega arith) p)))
 
-    onto : (to : ℕ → ℕ) (from : ℕ) (x : Operand) → IsPassed Riscv64 w to x v → Does (rv_rows code trash) (from_to (rv_seen q) w (stored q.state.bytes a 8 v) (rv_seen q).flags) (settled to from (onto_stack j x)) fp 0 (spoils rv_scratch [])
+    onto : (to : ℕ → ℕ) (from : ℕ) (x : Operand) → IsPassed Riscv64 w to x v → Leaves w (stored s.bytes a 8 v) (settled to from (onto_stack j x))
     onto to from (operand.Reg r) p =
         stores-do [] (register_of Riscv64 r) record { computes = refl; keeps = λ y ne. refl; holds = read-of w r ∙ same-some (w (register_of Riscv64 r)) v p.word }
     onto to from (operand.Number m) p = linked to from (operand.Number m) p

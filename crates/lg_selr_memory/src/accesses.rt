@@ -5,10 +5,11 @@ ghost use Rattle.lg_selr_items.specs.Items.{ones};
 ghost use Rattle.lg_sel_memory.specs.Accesses.{address_of};
 ghost use Rattle.lg_selr_memory.specs.Accesses.{load_row, store_row, link, at_register, at_link, indexed, place_of, load_code, store_code};
 
-use crate::operands::{number, operand, register};
+use crate::operands::register;
 use lg_op::{Addressing, Node, Operand, StoreType, ValueType};
 use lg_rv::{ImmOp, Instr, RegOp, StoreOp};
 use lg_sel_items::Items;
+use lg_sel_memory::operands::{number, operand};
 use lg_selr_items::{Item, is_short, low_part, put_number, row};
 
 // The link holds nothing that is needed behind a `prolog`.

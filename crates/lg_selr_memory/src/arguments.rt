@@ -3,17 +3,17 @@
 ghost use Rattle.std.specs.Prelude.{◌≡◌, [], ◌∷◌, ◌++◌, ◌<◌, slice_index};
 ghost use Rattle.lg_base.specs.Conventions.{argument_registers};
 ghost use Rattle.lg_base.specs.declared.target.Target.TheVariants.{Riscv64};
-ghost use Rattle.lg_meaning.specs.Steps.{slot};
 ghost use Rattle.lg_selr_items.specs.declared.items.Item.TheVariants as item;
 ghost use Rattle.lg_selr_items.specs.Items.{ones};
 ghost use Rattle.lg_selr_memory.specs.ArgumentCode.{argument_offset, argument_code};
 ghost use Rattle.lg_selr_memory.specs.PushCode.{into, stack_push, onto_stack, push_code};
 
 use crate::accesses::load_row;
-use crate::operands::{operand, register};
+use crate::operands::register;
 use lg_op::{Node, Operand, ValueType};
 use lg_rv::{ImmOp, Instr, StoreOp};
 use lg_sel_items::Items;
+use lg_sel_memory::operands::{operand, slot};
 use lg_selr_items::{Item, imm, put_number, register_of};
 
 // The link holds nothing that is needed behind a `prolog`.
@@ -87,16 +87,6 @@ fn argument_offset(index: u32) -> i32
         -(32 + 8 * index)
     } else {
         16 + 8 * (index - 8)
-    }
-}
-
-// The number of an argument that a node names.
-fn slot(operand: Operand) -> u32
-    ensures { result ≡ slot operand }
-{
-    match operand {
-        Operand::Slot(index) => index,
-        _ => 0,
     }
 }
 
