@@ -1,8 +1,16 @@
+pub mod ChainLemmas
 pub mod ControlLemmas
+pub mod EntranceLemmas
+pub mod FrameWordLemmas
+pub mod HostEntryLemmas
 pub mod LandingLemmas
+pub mod PaddingLemmas
 pub mod PrologLemmas
 pub mod RegisterLeapLemmas
+pub mod RegisterLemmas
 pub mod ReturnLemmas
 pub mod SilentLemmas
+pub mod StoreLemmas
+pub mod StretchLemmas
 pub mod SumBranchLemmas
 pub mod WalkLemmas

@@ -1,7 +1,10 @@
 pub mod Control
+pub mod Givens
+pub mod Paddings
 pub mod Prologs
 pub mod RegisterLeaps
 pub mod Returns
 pub mod SilentNodes
+pub mod Stores
 pub mod SumBranches
 pub mod Walks

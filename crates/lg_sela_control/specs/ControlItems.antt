@@ -1,0 +1,125 @@
+-- The items of the nodes that branch, jump, call and return, of `prolog`, of `.align`, and of those without code.
+use Rattle.std.specs.Prelude.{ℕ, Bool, List, [], ◌∷◌, ◌++◌, Option, Some, None}
+use Rattle.lg_base.specs.declared.target.Target.TheVariants.{Aarch64}
+use Rattle.lg_op.specs.declared.op.BranchSumOp.{BranchSumOp}
+use Rattle.lg_op.specs.declared.op.Condition.{Condition}
+use Rattle.lg_op.specs.declared.op.ControlOp.{ControlOp}
+use Rattle.lg_op.specs.declared.op.ControlOp.TheVariants as control
+use Rattle.lg_op.specs.declared.op.LastOperand.{LastOperand}
+use Rattle.lg_op.specs.declared.op.LastOperand.TheVariants as last_operand
+use Rattle.lg_op.specs.declared.op.Op.{Op}
+use Rattle.lg_op.specs.declared.op.Op.TheVariants as op
+use Rattle.lg_op.specs.declared.op.PlainOp.{PlainOp}
+use Rattle.lg_op.specs.declared.op.PlainOp.TheVariants as plain
+use Rattle.lg_op.specs.declared.operand.Label.{Label}
+use Rattle.lg_op.specs.declared.operand.Operand.{Operand}
+use Rattle.lg_op.specs.declared.operand.Operand.TheVariants as operand
+use Rattle.lg_a64.specs.declared.instruction.BranchOp.TheVariants.{B, Bl}
+use Rattle.lg_a64.specs.declared.instruction.BranchRegOp.{BranchRegOp}
+use Rattle.lg_a64.specs.declared.instruction.BranchRegOp.TheVariants.{Br, Blr}
+use Rattle.lg_a64.specs.declared.instruction.Cond.{Cond}
+use Rattle.lg_a64.specs.declared.instruction.Instr.{Instr}
+use Rattle.lg_a64.specs.declared.instruction.Instr.TheVariants as instr
+use Rattle.lg_a64.specs.declared.instruction.RegOp.TheVariants.{Orr}
+use Rattle.lg_temp.specs.Abis.{register_of}
+use Rattle.lg_carry_a64.specs.A64Rows.{zero_register, link}
+use Rattle.lg_carry_a64.specs.Numbers.{number_code}
+use Rattle.lg_sela_items.specs.declared.items.Item.{Item}
+use Rattle.lg_sela_items.specs.declared.items.Item.TheVariants.{One, Branch, CondBranch, Address}
+use Rattle.lg_sela_items.specs.Items.{ones}
+use Rattle.lg_sela_control.specs.Alignments.{align_code}
+use Rattle.lg_sela_control.specs.Branches.{comparison, taken}
+use Rattle.lg_sel_control.specs.Control as target_control
+use Rattle.lg_sel_nodes.specs.Immediates.{immediate}
+use Rattle.lg_sela_control.specs.Prologs.{prolog_code}
+use Rattle.lg_sela_control.specs.RegisterLeaps.{register_leap_code}
+use Rattle.lg_sela_control.specs.Returns.{result, return_code}
+use Rattle.lg_sela_control.specs.SumBranches.{sum_instruction, sum_taken}
+
+-- ---- operands
+-- the register in which an operand is: its own, or the link, into which its word is put
+abbrev pub second_register : Operand → ℕ
+second_register (operand.Reg b) = register_of Aarch64 b
+second_register x = link
+
+abbrev pub word_items : ℕ → Option ℕ → List Item
+word_items t None = []
+word_items t (Some v) = ones (number_code t v)
+
+abbrev pub second_items : Operand → List Item
+second_items (operand.Reg b) = []
+second_items x = word_items link (immediate x)
+
+-- ---- branches
+-- an instruction that sets the flags, and a branch to a label where the condition then holds
+abbrev pub branch_if_items : Instr → Cond → Label → List Item
+branch_if_items sets holds l = One sets ∷ CondBranch holds l.0 ∷ []
+
+abbrev pub branch_items : Condition → List Operand → List Item
+branch_items o (operand.Label l ∷ operand.Reg a ∷ x ∷ []) =
+    second_items x ++ branch_if_items (comparison o (register_of Aarch64 a) (second_register x)) (taken o) l
+branch_items o xs = []
+
+abbrev pub sum_items : BranchSumOp → List Operand → List Item
+sum_items o (operand.Label l ∷ operand.Reg a ∷ x ∷ []) =
+    second_items x ++ branch_if_items (sum_instruction o (register_of Aarch64 a) (second_register x)) (sum_taken o) l
+sum_items o xs = []
+
+-- ---- jumps, calls and returns
+abbrev pub jump_items : List Operand → List Item
+jump_items (operand.Label l ∷ []) = Branch B l.0 ∷ []
+jump_items xs = []
+
+abbrev pub call_items : List Operand → List Item
+call_items (operand.Label l ∷ []) = Branch Bl l.0 ∷ []
+call_items (operand.Host name ∷ []) = word_items link (immediate (operand.Host name)) ++ ones (instr.BranchReg Blr link ∷ [])
+call_items xs = []
+
+-- the word of the result, into its register
+abbrev pub result_items : Operand → List Item
+result_items (operand.Reg a) = One (instr.Reg Orr result zero_register (register_of Aarch64 a)) ∷ []
+result_items (operand.Label l) = Address result l.0 ∷ []
+result_items x = word_items result (immediate x)
+
+abbrev pub ret_items : List Operand → List Item
+ret_items (x ∷ []) = result_items x ++ ones return_code
+ret_items xs = []
+
+-- a branch to the word of a register
+abbrev pub register_leap_items : BranchRegOp → List Operand → List Item
+register_leap_items o (operand.Reg a ∷ []) = ones (register_leap_code o a)
+register_leap_items o xs = []
+
+abbrev pub leap_items : ControlOp → LastOperand → List Operand → List Item
+leap_items control.Jmp last_operand.Immediate xs = jump_items xs
+leap_items control.Jmp last_operand.Register xs = register_leap_items Br xs
+leap_items control.Call last_operand.Immediate xs = call_items xs
+leap_items control.Call last_operand.Register xs = register_leap_items Blr xs
+leap_items control.Finish last_operand.Immediate xs = call_items xs
+leap_items control.Finish last_operand.Register xs = register_leap_items Blr xs
+leap_items control.Ret last xs = ret_items xs
+leap_items o last xs = []
+
+-- ---- the others
+abbrev pub align_items : ℕ → List Operand → List Item
+align_items at (operand.Number n ∷ []) = ones (align_code at n)
+align_items at xs = []
+
+abbrev pub plain_items : PlainOp → List Operand → ℕ → ℕ → List Item
+plain_items plain.Prolog xs frame at = ones (prolog_code frame)
+plain_items plain.Epilog xs frame at = ones return_code
+plain_items plain.Ret xs frame at = ones return_code
+plain_items plain.Align xs frame at = align_items at xs
+plain_items o xs frame at = []
+
+-- ---- of a node in a function with a frame of so many bytes, whose code begins at an address
+abbrev pub control_items : Op → List Operand → ℕ → ℕ → List Item
+control_items (op.Branch o last) xs frame at = branch_items o xs
+control_items (op.BranchSum o last) xs frame at = sum_items o xs
+control_items (op.Control o last) xs frame at = leap_items o last xs
+control_items (op.Plain o) xs frame at = plain_items o xs frame at
+control_items o xs frame at = []
+
+-- the operations whose nodes have these items
+abbrev pub is_control : Op → Bool
+is_control o = target_control.is_control o
