@@ -24,12 +24,12 @@ module _ {L I : Type 0} (H : Holes L I) (is_store : I → Bool) (passes : (ℕ �
 
   -- for each test that the labels of the operands pass
   pub record FamiliesEmit (F : Families L) : Type 0 where
-    pub values : (is : ℕ → Bool) (n : Node) (choices : List Choice) → AllPass is n.operands → Emits is 1 (spills choices) (F.values n choices)
-    pub loads : (is : ℕ → Bool) (t : ValueType) (at : Addressing) (n : Node) → Emits is 1 0 (F.load t at n)
-    pub stores : (is : ℕ → Bool) (t : StoreType) (at : Addressing) (n : Node) → Emits is 1 1 (F.store t at n)
-    pub arguments : (is : ℕ → Bool) (t : ValueType) (n : Node) → Emits is 1 0 (F.argument t n)
-    pub results : (is : ℕ → Bool) (t : ValueType) (n : Node) (choices : List Choice) → AllPass is n.operands → Emits is 1 (spills choices) (F.result t n choices)
-    pub pushes : (is : ℕ → Bool) (j : ℕ) (n : Node) → AllPass is n.operands → Emits is 1 1 (F.push j n)
+    pub values : (is : ℕ → Bool) (frame : ℕ) (n : Node) (choices : List Choice) → AllPass is n.operands → Emits is 1 (spills choices) (F.values frame n choices)
+    pub loads : (is : ℕ → Bool) (frame : ℕ) (t : ValueType) (at : Addressing) (n : Node) → Emits is 1 0 (F.load frame t at n)
+    pub stores : (is : ℕ → Bool) (frame : ℕ) (t : StoreType) (at : Addressing) (n : Node) → Emits is 1 1 (F.store frame t at n)
+    pub arguments : (is : ℕ → Bool) (frame : ℕ) (t : ValueType) (n : Node) → Emits is 1 0 (F.argument frame t n)
+    pub results : (is : ℕ → Bool) (frame : ℕ) (t : ValueType) (n : Node) (choices : List Choice) → AllPass is n.operands → Emits is 1 (spills choices) (F.result frame t n choices)
+    pub pushes : (is : ℕ → Bool) (frame j : ℕ) (n : Node) → AllPass is n.operands → Emits is 1 1 (F.push frame j n)
     pub controls : (is : ℕ → Bool) (o : Op) (xs : List Operand) (frame at : ℕ) → is_free o ≡ false → AllPass is xs → Emits is 1 0 (F.control o xs frame at)
     pub prologs : (is : ℕ → Bool) (o : Op) (xs : List Operand) (frame at : ℕ) → is_free o ≡ true → Emits is 1 16 (F.control o xs frame at)
 
@@ -59,12 +59,12 @@ module _ {L I : Type 0} (H : Holes L I) (is_store : I → Bool) (passes : (ℕ �
 
     families : HoldsOfFamilies F AllEmit frame choices staged place
     families = record {
-      values = λ n is test h. more test (spills choices) (allowed choices n.op) (F.values n choices) (allowed-values choices n.op is) (f.values test n choices h);
-      loads = λ n t at e is h. own is n (op.Load t at) (F.load t at n) e refl (f.loads is t at n);
-      stores = λ n t at e is h. own is n (op.Store t at) (F.store t at n) e refl (f.stores is t at n);
-      arguments = λ n t e is h. own is n (op.Getarg t) (F.argument t n) e refl (f.arguments is t n);
-      results = λ n t e is h. saves is n (op.Retval t) (F.result t n choices) e (omega arith) (f.results is t n choices h);
-      pushes = λ n last e is h. own is n (op.Control control.Pusharg last) (F.push (staged_count staged) n) e refl (f.pushes is (staged_count staged) n h);
+      values = λ n is test h. more test (spills choices) (allowed choices n.op) (F.values frame n choices) (allowed-values choices n.op is) (f.values test frame n choices h);
+      loads = λ n t at e is h. own is n (op.Load t at) (F.load frame t at n) e refl (f.loads is frame t at n);
+      stores = λ n t at e is h. own is n (op.Store t at) (F.store frame t at n) e refl (f.stores is frame t at n);
+      arguments = λ n t e is h. own is n (op.Getarg t) (F.argument frame t n) e refl (f.arguments is frame t n);
+      results = λ n t e is h. saves is n (op.Retval t) (F.result frame t n choices) e (omega arith) (f.results is frame t n choices h);
+      pushes = λ n last e is h. own is n (op.Control control.Pusharg last) (F.push frame (staged_count staged) n) e refl (f.pushes is frame (staged_count staged) n h);
       controls = λ n k is h. controls-emit is n h;
     }
 

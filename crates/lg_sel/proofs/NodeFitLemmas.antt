@@ -20,7 +20,7 @@ use Rattle.lg_sel.proofs.FamilyLemmas.{HoldsOfFamilies, of-node}
 use Rattle.lg_sel.proofs.OperandLemmas.{word-at, has-words, control-ends}
 use Rattle.lg_sel.specs.Asked.{NamesBelow, NameBelow, IsAsked}
 use Rattle.lg_sel.specs.Families.{Families, is_value, staged_count, node_items}
-use Rattle.lg_sel.specs.Selected.{is_pusharg, IsWord, HaveWords}
+use Rattle.lg_sel.specs.Selected.{IsFrame, is_pusharg, IsWord, HaveWords}
 use Rattle.lg_sel_control.specs.Control.{is_control, ends_in_label}
 use Rattle.lg_sel_items.specs.Holes.{Each}
 use Rattle.lg_sel_memory.specs.Operands.{HasWords}
@@ -56,27 +56,27 @@ module _ {L : Type 0} (target : Target) (needs : Op → List Need) (F : Families
       pub names : Each (names_one_of labels) xs
 
     pub record FamiliesFit : Type 0 where
-      pub values : (n : Node) (live : Reg → Bool) (set : List Bool) (choices : List Choice) → is_value n.op ≡ true → AreMade n live set choices → NameBelow labels n.operands → Fit (F.values n choices)
-      pub loads : (n : Node) (t : ValueType) (at : Addressing) → HasWords n → Fit (F.load t at n)
-      pub stores : (n : Node) (t : StoreType) (at : Addressing) → HasWords n → Fit (F.store t at n)
-      pub arguments : (n : Node) (t : ValueType) → Fit (F.argument t n)
-      pub results : (n : Node) (t : ValueType) (live : Reg → Bool) (set : List Bool) (choices : List Choice) → n.op ≡ op.Retval t → InForm n → AreMade n live set choices → NameBelow labels n.operands → Fit (F.result t n choices)
-      pub pushes : (n : Node) (j : ℕ) → j < 16 → NamesBelow labels (operand_at n 0) → IsWord (operand_at n 0) → Fit (F.push j n)
-      pub controls : (n : Node) (frame place : ℕ) → is_control n.op ≡ true → InForm n → NameBelow labels n.operands → HaveWords n.operands → ends_in_label n.operands ≡ false → Fit (F.control n.op n.operands frame place)
+      pub values : (frame : ℕ) (n : Node) (live : Reg → Bool) (set : List Bool) (choices : List Choice) → IsFrame frame → is_value n.op ≡ true → AreMade n live set choices → NameBelow labels n.operands → Fit (F.values frame n choices)
+      pub loads : (frame : ℕ) (n : Node) (t : ValueType) (at : Addressing) → IsFrame frame → HasWords n → Fit (F.load frame t at n)
+      pub stores : (frame : ℕ) (n : Node) (t : StoreType) (at : Addressing) → IsFrame frame → HasWords n → Fit (F.store frame t at n)
+      pub arguments : (frame : ℕ) (n : Node) (t : ValueType) → IsFrame frame → Fit (F.argument frame t n)
+      pub results : (frame : ℕ) (n : Node) (t : ValueType) (live : Reg → Bool) (set : List Bool) (choices : List Choice) → IsFrame frame → n.op ≡ op.Retval t → InForm n → AreMade n live set choices → NameBelow labels n.operands → Fit (F.result frame t n choices)
+      pub pushes : (frame : ℕ) (n : Node) (j : ℕ) → IsFrame frame → j < 16 → NamesBelow labels (operand_at n 0) → IsWord (operand_at n 0) → Fit (F.push frame j n)
+      pub controls : (n : Node) (frame place : ℕ) → IsFrame frame → is_control n.op ≡ true → InForm n → NameBelow labels n.operands → HaveWords n.operands → ends_in_label n.operands ≡ false → Fit (F.control n.op n.operands frame place)
 
-    module _ (f : FamiliesFit) (frame : ℕ) (live : Reg → Bool) (staged : List Bool) (choices : List Choice) (place : ℕ) where
+    module _ (f : FamiliesFit) (frame : ℕ) (sized : IsFrame frame) (live : Reg → Bool) (staged : List Bool) (choices : List Choice) (place : ℕ) where
       abbrev Fits : Node → List L → Type 0
       Fits n xs = IsAsked target needs n live staged choices labels → Fit xs
 
       families : HoldsOfFamilies F Fits frame choices staged place
       families = record {
-        values = λ n is k. f.values n live k.chosen.set choices is (are-made n live staged choices labels k) k.named;
-        loads = λ n t at e k. f.loads n t at (has-words n k.words);
-        stores = λ n t at e k. f.stores n t at (has-words n k.words);
-        arguments = λ n t e k. f.arguments n t;
-        results = λ n t e k. f.results n t live k.chosen.set choices e k.formed (are-made n live staged choices labels k) k.named;
-        pushes = λ n last e k. f.pushes n (staged_count staged) (few-staged n live staged choices labels last k e) (named-at labels n.operands 0 k.named) (word-at n.operands 0 k.words);
-        controls = λ n is k. f.controls n frame place is k.formed k.named k.words (control-ends n is k.formed.forms k.takes);
+        values = λ n is k. f.values frame n live k.chosen.set choices sized is (are-made n live staged choices labels k) k.named;
+        loads = λ n t at e k. f.loads frame n t at sized (has-words n k.words);
+        stores = λ n t at e k. f.stores frame n t at sized (has-words n k.words);
+        arguments = λ n t e k. f.arguments frame n t sized;
+        results = λ n t e k. f.results frame n t live k.chosen.set choices sized e k.formed (are-made n live staged choices labels k) k.named;
+        pushes = λ n last e k. f.pushes frame n (staged_count staged) sized (few-staged n live staged choices labels last k e) (named-at labels n.operands 0 k.named) (word-at n.operands 0 k.words);
+        controls = λ n is k. f.controls n frame place sized is k.formed k.named k.words (control-ends n is k.formed.forms k.takes);
       }
 
       pub items-fit : (n : Node) → Fits n (node_items F n frame choices staged place)
@@ -85,12 +85,12 @@ module _ {L : Type 0} (target : Target) (needs : Op → List Need) (F : Families
   -- ---- items that write no register that is outside of the conventions
   module _ (stays : L → Type 0) where
     pub record FamiliesStay : Type 0 where
-      pub values : (n : Node) (live : Reg → Bool) (set : List Bool) (choices : List Choice) → AreMade n live set choices → Each stays (F.values n choices)
-      pub loads : (t : ValueType) (at : Addressing) (n : Node) → Each stays (F.load t at n)
-      pub stores : (t : StoreType) (at : Addressing) (n : Node) → Each stays (F.store t at n)
-      pub arguments : (t : ValueType) (n : Node) → Each stays (F.argument t n)
-      pub results : (t : ValueType) (n : Node) (live : Reg → Bool) (set : List Bool) (choices : List Choice) → AreMade n live set choices → Each stays (F.result t n choices)
-      pub pushes : (j : ℕ) (n : Node) → Each stays (F.push j n)
+      pub values : (frame : ℕ) (n : Node) (live : Reg → Bool) (set : List Bool) (choices : List Choice) → AreMade n live set choices → Each stays (F.values frame n choices)
+      pub loads : (frame : ℕ) (t : ValueType) (at : Addressing) (n : Node) → Each stays (F.load frame t at n)
+      pub stores : (frame : ℕ) (t : StoreType) (at : Addressing) (n : Node) → Each stays (F.store frame t at n)
+      pub arguments : (frame : ℕ) (t : ValueType) (n : Node) → Each stays (F.argument frame t n)
+      pub results : (frame : ℕ) (t : ValueType) (n : Node) (live : Reg → Bool) (set : List Bool) (choices : List Choice) → AreMade n live set choices → Each stays (F.result frame t n choices)
+      pub pushes : (frame j : ℕ) (n : Node) → Each stays (F.push frame j n)
       pub controls : (n : Node) (frame place : ℕ) → Each stays (F.control n.op n.operands frame place)
 
     module _ (f : FamiliesStay) (frame : ℕ) (live : Reg → Bool) (set staged : List Bool) (choices : List Choice) (place : ℕ) where
@@ -99,12 +99,12 @@ module _ {L : Type 0} (target : Target) (needs : Op → List Need) (F : Families
 
       stay-families : HoldsOfFamilies F Stay frame choices staged place
       stay-families = record {
-        values = λ n is are. f.values n live set choices are;
-        loads = λ n t at e are. f.loads t at n;
-        stores = λ n t at e are. f.stores t at n;
-        arguments = λ n t e are. f.arguments t n;
-        results = λ n t e are. f.results t n live set choices are;
-        pushes = λ n last e are. f.pushes (staged_count staged) n;
+        values = λ n is are. f.values frame n live set choices are;
+        loads = λ n t at e are. f.loads frame t at n;
+        stores = λ n t at e are. f.stores frame t at n;
+        arguments = λ n t e are. f.arguments frame t n;
+        results = λ n t e are. f.results frame t n live set choices are;
+        pushes = λ n last e are. f.pushes frame (staged_count staged) n;
         controls = λ n is are. f.controls n frame place;
       }
 

@@ -12,14 +12,15 @@ use Rattle.lg_op.specs.declared.operand.Operand.{Operand}
 use Rattle.lg_temp.specs.declared.choice.Choice.{Choice}
 
 -- those of nodes that compute values with these choices, that load, store, read an argument, read a result, and pass argument j; and those of the
--- nodes that branch, jump, call or return, of `prolog`, `.align` and those without code, with their operands, the size of the frame and the place
+-- nodes that branch, jump, call or return, of `prolog`, `.align` and those without code, with their operands and the place; each in a function with a
+-- frame of so many bytes
 pub record Families (L : Type 0) : Type 0 where
-  pub values : Node → List Choice → List L
-  pub load : ValueType → Addressing → Node → List L
-  pub store : StoreType → Addressing → Node → List L
-  pub argument : ValueType → Node → List L
-  pub result : ValueType → Node → List Choice → List L
-  pub push : ℕ → Node → List L
+  pub values : ℕ → Node → List Choice → List L
+  pub load : ℕ → ValueType → Addressing → Node → List L
+  pub store : ℕ → StoreType → Addressing → Node → List L
+  pub argument : ℕ → ValueType → Node → List L
+  pub result : ℕ → ValueType → Node → List Choice → List L
+  pub push : ℕ → ℕ → Node → List L
   pub control : Op → List Operand → ℕ → ℕ → List L
 
 -- the operations whose nodes compute values
@@ -36,15 +37,15 @@ staged_count staged = count_by (λ b. b) staged
 
 -- those of a node with this operation, in a function with such a frame, with these choices, where these arguments are staged and the code begins at a place
 abbrev pub items_of : {L : Type 0} → Families L → Op → Node → ℕ → List Choice → List Bool → ℕ → List L
-items_of F (op.Binary o last) n frame choices staged place = F.values n choices
-items_of F (op.Wide o last) n frame choices staged place = F.values n choices
-items_of F (op.Unary o) n frame choices staged place = F.values n choices
-items_of F (op.Plain plain.Movi) n frame choices staged place = F.values n choices
-items_of F (op.Load t at) n frame choices staged place = F.load t at n
-items_of F (op.Store t at) n frame choices staged place = F.store t at n
-items_of F (op.Getarg t) n frame choices staged place = F.argument t n
-items_of F (op.Retval t) n frame choices staged place = F.result t n choices
-items_of F (op.Control control.Pusharg last) n frame choices staged place = F.push (staged_count staged) n
+items_of F (op.Binary o last) n frame choices staged place = F.values frame n choices
+items_of F (op.Wide o last) n frame choices staged place = F.values frame n choices
+items_of F (op.Unary o) n frame choices staged place = F.values frame n choices
+items_of F (op.Plain plain.Movi) n frame choices staged place = F.values frame n choices
+items_of F (op.Load t at) n frame choices staged place = F.load frame t at n
+items_of F (op.Store t at) n frame choices staged place = F.store frame t at n
+items_of F (op.Getarg t) n frame choices staged place = F.argument frame t n
+items_of F (op.Retval t) n frame choices staged place = F.result frame t n choices
+items_of F (op.Control control.Pusharg last) n frame choices staged place = F.push frame (staged_count staged) n
 items_of F o n frame choices staged place = F.control n.op n.operands frame place
 
 abbrev pub node_items : {L : Type 0} → Families L → Node → ℕ → List Choice → List Bool → ℕ → List L

@@ -22,7 +22,7 @@ use Rattle.lg_sel.proofs.FinishedLemmas.{items-are-sparing}
 use Rattle.lg_sel.proofs.LabelLemmas.{names}
 use Rattle.lg_sel.proofs.StoreLemmas.{allowed, allowed-all}
 use Rattle.lg_sel.specs.Promises.{IsCarriedWhenFinished, AreInstructionsWhenFinished, IsSparingWhenFinished}
-use Rattle.lg_sel.specs.Selected.{IsAligned, IsFixOf}
+use Rattle.lg_sel.specs.Selected.{IsFrame, IsAligned, IsFixOf}
 use Rattle.lg_sel.specs.Stores.{rv_stores, own_stores}
 use Rattle.lg_sel_items.specs.Holes.{Each}
 use Rattle.lg_selr.proofs.Emissions.{Names}
@@ -42,12 +42,12 @@ use Rattle.lg_selr_items.specs.declared.items.Item.TheVariants.{One, Jump, Addre
 use Rattle.lg_temp.specs.Chosen.{spills}
 use Rattle.lg_temp.specs.declared.choice.Choice.{Choice}
 
-pub selected-carries : (node : Node) (frame : ℕ) (live : Reg → Bool) (staged : List Bool) (choices : List Choice) (old new : Buffer) (items : List Item) → IsAsked node live staged choices (length old.labels)
+pub selected-carries : (node : Node) (frame : ℕ) (live : Reg → Bool) (staged : List Bool) (choices : List Choice) (old new : Buffer) (items : List Item) → IsFrame frame → IsAsked node live staged choices (length old.labels)
     → items ≡ node_items node frame choices staged (length old.bytes) → words_in items ≤ 64 → AreAppended old new items → length old.bytes % 4 ≡ 0 → IsCarriedWhenFinished Riscv64 node frame live staged old new
-selected-carries node frame live staged choices old new items asked e few appended whole code trash c i word f n =
+selected-carries node frame live staged choices old new items sized asked e few appended whole code trash c i word f n =
     let place : ℕ = length old.bytes in
     let mine : List Item = node_items node frame choices staged place in
-    let fit = items-fit frame live staged choices (length old.labels) place node asked in
+    let fit = items-fit frame live staged choices (length old.labels) place node sized asked in
     let a : AreAppended old new mine = subst (AreAppended old new) e appended in
     let short : words_in mine ≤ 64 = subst (λ l. words_in l ≤ 64) e few in
     items-carry code trash c i frame live staged choices (length old.labels) place node
@@ -55,18 +55,18 @@ selected-carries node frame live staged choices old new items asked e few append
     (are-of-node old new code trash c i mine word a fit.instrs (items-within frame live staged choices (length old.labels) place node asked) short whole f)
 
 -- and its bytes are whole instructions
-pub selected-whole : (node : Node) (frame : ℕ) (live : Reg → Bool) (staged : List Bool) (choices : List Choice) (old new : Buffer) (items : List Item) → IsAsked node live staged choices (length old.labels)
+pub selected-whole : (node : Node) (frame : ℕ) (live : Reg → Bool) (staged : List Bool) (choices : List Choice) (old new : Buffer) (items : List Item) → IsFrame frame → IsAsked node live staged choices (length old.labels)
     → items ≡ node_items node frame choices staged (length old.bytes) → AreAppended old new items → AreInstructionsWhenFinished Riscv64 old new
-selected-whole node frame live staged choices old new items asked e appended =
-    let fit = items-fit frame live staged choices (length old.labels) (length old.bytes) node asked in
+selected-whole node frame live staged choices old new items sized asked e appended =
+    let fit = items-fit frame live staged choices (length old.labels) (length old.bytes) node sized asked in
     are-whole old new (node_items node frame choices staged (length old.bytes)) (subst (AreAppended old new) e appended) fit.instrs
 
 -- and store seldom
-pub selected-spares : (node : Node) (frame : ℕ) (live : Reg → Bool) (staged : List Bool) (choices : List Choice) (old new : Buffer) (items : List Item) → IsAsked node live staged choices (length old.labels)
+pub selected-spares : (node : Node) (frame : ℕ) (live : Reg → Bool) (staged : List Bool) (choices : List Choice) (old new : Buffer) (items : List Item) → IsFrame frame → IsAsked node live staged choices (length old.labels)
     → items ≡ node_items node frame choices staged (length old.bytes) → AreAppended old new items → IsSparingWhenFinished Riscv64 node choices old new
-selected-spares node frame live staged choices old new items asked e appended code c i other f =
+selected-spares node frame live staged choices old new items sized asked e appended code c i other f =
     let mine : List Item = node_items node frame choices staged (length old.bytes) in
-    let fit = items-fit frame live staged choices (length old.labels) (length old.bytes) node asked in
+    let fit = items-fit frame live staged choices (length old.labels) (length old.bytes) node sized asked in
     let emits = node-emits frame choices staged (length old.bytes) node in
     let few = stores-counted rv_holes rv_stores (Names (names node.operands)) 1 (allowed choices node.op) mine emits (slice_index c.addresses) (c.place i) in
     items-are-sparing rv_holes spelling IsInstr IsItem are-holes rv_stores old new code c i mine (spills choices + own_stores node.op) (subst (AreAppended old new) e appended) fit.instrs

@@ -8,6 +8,7 @@ use Rattle.lg_sel.proofs.LabelLemmas.{names, all-self}
 use Rattle.lg_sel.proofs.NodeEmissionLemmas as emission
 use Rattle.lg_sel.proofs.NodeFitLemmas as fit
 use Rattle.lg_sel.proofs.StoreLemmas.{allowed}
+use Rattle.lg_sel.specs.Selected.{IsFrame}
 use Rattle.lg_sel.specs.Stores.{rv_stores}
 use Rattle.lg_selr.proofs.ControlEmissions.{controls-emit, prologs-emit, retvals-emit}
 use Rattle.lg_selr.proofs.Emissions.{Names, Emits, more}
@@ -42,12 +43,12 @@ choices-fit n live staged choices k =
 -- ---- labels, fixes and stores
 families-emit : emission.FamiliesEmit rv_holes rv_stores Names rv_families
 families-emit = record {
-  values = values-emit;
-  loads = loads-emit;
-  stores = stores-emit;
-  arguments = arguments-emit;
-  results = λ is t n choices h. more is 1 1 0 _ _ (omega arith) (omega arith) (retvals-emit is t n.operands);
-  pushes = pushes-emit;
+  values = λ is frame n choices h. values-emit is n choices h;
+  loads = λ is frame t at n. loads-emit is t at n;
+  stores = λ is frame t at n. stores-emit is t at n;
+  arguments = λ is frame t n. arguments-emit is t n;
+  results = λ is frame t n choices h. more is 1 1 0 _ _ (omega arith) (omega arith) (retvals-emit is t n.operands);
+  pushes = λ is frame j n h. pushes-emit is j n h;
   controls = controls-emit;
   prologs = prologs-emit;
 }
@@ -64,13 +65,13 @@ plain labels most is code = record { instrs = items-ones is code.fit; names = na
 
 families-fit : (labels : ℕ) → fit.FamiliesFit Riscv64 needs rv_families IsItem NamesOneOf labels
 families-fit labels = record {
-  values = λ n live set choices is are named. record { instrs = (value-items-fit n live set choices are).fit; names = value-items-name labels n choices (are-below labels n.operands named) };
-  loads = λ n t at words. plain labels 10 (load_code t at n) (load-fits t at n words);
-  stores = λ n t at words. plain labels 10 (store_code t at n) (store-fits t at n words);
-  arguments = λ n t. plain labels 1 (argument_code t n) (argument-fits t n);
-  results = λ n t live set choices e formed are named. let emitted = retval-items-fit n t labels e formed in record { instrs = emitted.items; names = emitted.labels };
-  pushes = λ n j few named word. let good = push-good labels j n few (below labels _ named) word in record { instrs = good.fit.instrs; names = good.fit.names };
-  controls = λ n frame place is formed named words ends.
+  values = λ frame n live set choices sized is are named. record { instrs = (value-items-fit n live set choices are).fit; names = value-items-name labels n choices (are-below labels n.operands named) };
+  loads = λ frame n t at sized words. plain labels 10 (load_code t at n) (load-fits t at n words);
+  stores = λ frame n t at sized words. plain labels 10 (store_code t at n) (store-fits t at n words);
+  arguments = λ frame n t sized. plain labels 1 (argument_code t n) (argument-fits t n);
+  results = λ frame n t live set choices sized e formed are named. let emitted = retval-items-fit n t labels e formed in record { instrs = emitted.items; names = emitted.labels };
+  pushes = λ frame n j sized few named word. let good = push-good labels j n few (below labels _ named) word in record { instrs = good.fit.instrs; names = good.fit.names };
+  controls = λ n frame place sized is formed named words ends.
       let emitted = control-items-fit n labels frame place is formed (are-given labels n.operands named words) ends in
       record { instrs = emitted.items; names = emitted.labels };
 }
@@ -81,20 +82,20 @@ pub record AreEmittable (labels : ℕ) (items : List Item) : Type 0 where
   pub names : NameLabels labels items
   pub fixed : (p : ℕ) → length (fixes_of p items) ≤ 1
 
-pub items-fit : (frame : ℕ) (live : Reg → Bool) (staged : List Bool) (choices : List Choice) (labels place : ℕ) (n : Node) → IsAsked n live staged choices labels → AreEmittable labels (node_items n frame choices staged place)
-items-fit frame live staged choices labels place n k =
-    let fits = fit.items-fit Riscv64 needs rv_families IsItem NamesOneOf labels (families-fit labels) frame live staged choices place n k in
+pub items-fit : (frame : ℕ) (live : Reg → Bool) (staged : List Bool) (choices : List Choice) (labels place : ℕ) (n : Node) → IsFrame frame → IsAsked n live staged choices labels → AreEmittable labels (node_items n frame choices staged place)
+items-fit frame live staged choices labels place n sized k =
+    let fits = fit.items-fit Riscv64 needs rv_families IsItem NamesOneOf labels (families-fit labels) frame sized live staged choices place n k in
     record { instrs = fits.instrs; names = fits.names; fixed = (node-emits frame choices staged place n).fixed }
 
 -- ---- registers
 families-stay : fit.FamiliesStay Riscv64 needs rv_families StaysWithin
 families-stay = record {
-  values = λ n live set choices are. value-items-stay n live set choices are;
-  loads = λ t at n. memory-items-stay.loads t at n;
-  stores = λ t at n. memory-items-stay.stores t at n;
-  arguments = λ t n. memory-items-stay.arguments t n;
-  results = λ t n live set choices are. retval-items-stay t n.operands;
-  pushes = λ j n. memory-items-stay.pushes j n;
+  values = λ frame n live set choices are. value-items-stay n live set choices are;
+  loads = λ frame t at n. memory-items-stay.loads t at n;
+  stores = λ frame t at n. memory-items-stay.stores t at n;
+  arguments = λ frame t n. memory-items-stay.arguments t n;
+  results = λ frame t n live set choices are. retval-items-stay t n.operands;
+  pushes = λ frame j n. memory-items-stay.pushes j n;
   controls = λ n frame place. control-items-stay n frame place;
 }
 

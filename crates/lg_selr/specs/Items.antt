@@ -15,12 +15,12 @@ use Rattle.lg_temp.specs.declared.choice.Choice.{Choice}
 
 abbrev pub rv_families : Families Item
 rv_families = record {
-  values = value_items;
-  load = λ t at n. ones (load_code t at n);
-  store = λ t at n. ones (store_code t at n);
-  argument = λ t n. ones (argument_code t n);
-  result = λ t n choices. retval_items t n.operands;
-  push = push_code;
+  values = λ frame n choices. value_items n choices;
+  load = λ frame t at n. ones (load_code t at n);
+  store = λ frame t at n. ones (store_code t at n);
+  argument = λ frame t n. ones (argument_code t n);
+  result = λ frame t n choices. retval_items t n.operands;
+  push = λ frame j n. push_code j n;
   control = control_items;
 }
 

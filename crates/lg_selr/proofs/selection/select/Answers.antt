@@ -5,7 +5,7 @@ use Rattle.lg_op.specs.declared.node.Node.{Node}
 use Rattle.lg_op.specs.declared.operand.Operand.{Operand}
 use Rattle.lg_op.specs.declared.operand.Reg.{Reg}
 use Rattle.lg_selr.specs.Items.{node_items}
-use Rattle.lg_sel.specs.Selected.{is_pusharg, AreFirst, TakesLabelsWell, HaveWords}
+use Rattle.lg_sel.specs.Selected.{IsFrame, is_pusharg, AreFirst, TakesLabelsWell, HaveWords}
 use Rattle.lg_selr.specs.Selected.{AreChosen, IsAsked}
 use Rattle.lg_sel.proofs.AppendedLemmas.{short-appended, one-fixed}
 use Rattle.lg_selr.proofs.CarriedLemmas.{selected-carries, selected-whole, selected-spares, aligned-behind, at-most-256, appended-whole, appended-begins, appended-lead}
@@ -28,15 +28,15 @@ asked : (n : Node) (live : Reg → Bool) (staged : List Bool) (choices : List Ch
 asked n live staged choices labels xs formed chosen first named takes e words = record { formed = formed; chosen = chosen; first = first; named = named; takes = takes; words = subst HaveWords e words }
 
 -- the items are those of the node, and can be appended
-emittable : (n : Node) (frame : ℕ) (live : Reg → Bool) (staged : List Bool) (choices : List Choice) (labels place here : ℕ) (items : List Item) → IsAsked n live staged choices labels
+emittable : (n : Node) (frame : ℕ) (live : Reg → Bool) (staged : List Bool) (choices : List Choice) (labels place here : ℕ) (items : List Item) → IsFrame frame → IsAsked n live staged choices labels
     → items ≡ node_items n frame choices staged here → here ≡ place → AreEmittable labels items
-emittable n frame live staged choices labels place here items k e same =
-    subst (AreEmittable labels) (sym (e ∙ ap (node_items n frame choices staged) same)) (items-fit frame live staged choices labels place n k)
+emittable n frame live staged choices labels place here items sized k e same =
+    subst (AreEmittable labels) (sym (e ∙ ap (node_items n frame choices staged) same)) (items-fit frame live staged choices labels place n sized k)
 
 pub append-requires : goal.append-requires
 append-requires c =
     let k = asked c.args.node.now (has c.args.live_after) c.args.staged.arguments c.args.choices.now (length c.args.buf.now.labels) c.as_slice.result.now c.requires.formed c.requires.choices c.requires.staged c.requires.labels c.requires.immediates c.as_slice.ensures.value c.see_numbers.ensures in
-    let fit = emittable c.args.node.now c.args.frame (has c.args.live_after) c.args.staged.arguments c.args.choices.now (length c.args.buf.now.labels) (length c.args.buf.now.bytes) c.here.result c.put_items.new.items k c.put_items.ensures c.here.ensures.value in
+    let fit = emittable c.args.node.now c.args.frame (has c.args.live_after) c.args.staged.arguments c.args.choices.now (length c.args.buf.now.labels) (length c.args.buf.now.bytes) c.here.result c.put_items.new.items c.requires.frame k c.put_items.ensures c.here.ensures.value in
     let instrs = fit.instrs in
     let names = fit.names in
     let short = at-most-256 c.put_items.new.items (subst (λ l. words_in l ≤ 64) c.items.view_is c.items.invariant.1) in
@@ -58,27 +58,27 @@ returns-clause-short c = short-appended c.append.result c.args.buf.now c.append.
 pub returns-clause-one_fix : goal.returns-clause-one_fix
 returns-clause-one_fix c =
     let k = asked c.args.node.now (has c.args.live_after) c.args.staged.arguments c.args.choices.now (length c.args.buf.now.labels) c.as_slice.result.now c.requires.formed c.requires.choices c.requires.staged c.requires.labels c.requires.immediates c.as_slice.ensures.value c.see_numbers.ensures in
-    let fit = emittable c.args.node.now c.args.frame (has c.args.live_after) c.args.staged.arguments c.args.choices.now (length c.args.buf.now.labels) (length c.args.buf.now.bytes) c.here.result c.put_items.new.items k c.put_items.ensures c.here.ensures.value in
+    let fit = emittable c.args.node.now c.args.frame (has c.args.live_after) c.args.staged.arguments c.args.choices.now (length c.args.buf.now.labels) (length c.args.buf.now.bytes) c.here.result c.put_items.new.items c.requires.frame k c.put_items.ensures c.here.ensures.value in
     one-fixed c.append.result c.args.buf.now c.append.new.buf (length (fixes_of (length c.args.buf.now.bytes) c.put_items.new.items)) c.append.ensures.refused c.append.ensures.room (fit.fixed (length c.args.buf.now.bytes))
 
 pub returns-clause-carries : goal.returns-clause-carries
 returns-clause-carries c = λ went.
     let k = asked c.args.node.now (has c.args.live_after) c.args.staged.arguments c.args.choices.now (length c.args.buf.now.labels) c.as_slice.result.now c.requires.formed c.requires.choices c.requires.staged c.requires.labels c.requires.immediates c.as_slice.ensures.value c.see_numbers.ensures in
-    selected-carries c.args.node.now c.args.frame (has c.args.live_after) c.args.staged.arguments c.args.choices.now c.args.buf.now c.append.new.buf c.put_items.new.items k
+    selected-carries c.args.node.now c.args.frame (has c.args.live_after) c.args.staged.arguments c.args.choices.now c.args.buf.now c.append.new.buf c.put_items.new.items c.requires.frame k
     (c.put_items.ensures ∙ ap (node_items c.args.node.now c.args.frame c.args.choices.now c.args.staged.arguments) c.here.ensures.value) (subst (λ l. words_in l ≤ 64) c.items.view_is c.items.invariant.1)
     record { bytes = c.append.ensures.bytes went; fixes = c.append.ensures.fixes went } c.requires.whole
 
 pub returns-clause-instructions : goal.returns-clause-instructions
 returns-clause-instructions c = λ went.
     let k = asked c.args.node.now (has c.args.live_after) c.args.staged.arguments c.args.choices.now (length c.args.buf.now.labels) c.as_slice.result.now c.requires.formed c.requires.choices c.requires.staged c.requires.labels c.requires.immediates c.as_slice.ensures.value c.see_numbers.ensures in
-    selected-whole c.args.node.now c.args.frame (has c.args.live_after) c.args.staged.arguments c.args.choices.now c.args.buf.now c.append.new.buf c.put_items.new.items k
+    selected-whole c.args.node.now c.args.frame (has c.args.live_after) c.args.staged.arguments c.args.choices.now c.args.buf.now c.append.new.buf c.put_items.new.items c.requires.frame k
     (c.put_items.ensures ∙ ap (node_items c.args.node.now c.args.frame c.args.choices.now c.args.staged.arguments) c.here.ensures.value)
     record { bytes = c.append.ensures.bytes went; fixes = c.append.ensures.fixes went }
 
 pub returns-clause-sparing : goal.returns-clause-sparing
 returns-clause-sparing c = λ went.
     let k = asked c.args.node.now (has c.args.live_after) c.args.staged.arguments c.args.choices.now (length c.args.buf.now.labels) c.as_slice.result.now c.requires.formed c.requires.choices c.requires.staged c.requires.labels c.requires.immediates c.as_slice.ensures.value c.see_numbers.ensures in
-    selected-spares c.args.node.now c.args.frame (has c.args.live_after) c.args.staged.arguments c.args.choices.now c.args.buf.now c.append.new.buf c.put_items.new.items k
+    selected-spares c.args.node.now c.args.frame (has c.args.live_after) c.args.staged.arguments c.args.choices.now c.args.buf.now c.append.new.buf c.put_items.new.items c.requires.frame k
     (c.put_items.ensures ∙ ap (node_items c.args.node.now c.args.frame c.args.choices.now c.args.staged.arguments) c.here.ensures.value)
     record { bytes = c.append.ensures.bytes went; fixes = c.append.ensures.fixes went }
 
