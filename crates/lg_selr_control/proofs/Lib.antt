@@ -1,7 +1,6 @@
 pub mod AlignLemmas
 pub mod BranchLemmas
 pub mod CallLemmas
-pub mod ChainLemmas
 pub mod ComputedLemmas
 pub mod ControlLemmas
 pub mod FitLemmas
@@ -9,7 +8,6 @@ pub mod PrologLemmas
 pub mod ReturnLemmas
 pub mod RetvalLemmas
 pub mod StackFallLemmas
-pub mod StoreLemmas
 pub mod StretchLemmas
 pub mod SumBranchLemmas
 pub mod SumLemmas

@@ -1,15 +1,14 @@
 -- Returns leave their frame.
-use Rattle.std.proofs.Common.{◌≡◌, ℕ, zero, suc, ◌+◌, ◌-◌, ◌*◌, ◌%◌, ◌^◌, ◌<◌, ◌≤◌, ⊎_elim, Bool, true, false, List, [], ◌∷◌, Option, Some, None, refl, sym, ap}
+use Rattle.std.proofs.Common.{◌≡◌, ℕ, zero, suc, ◌+◌, ◌-◌, ◌*◌, ◌%◌, ◌^◌, ◌<◌, ◌≤◌, ⊎_elim, Bool, true, false, List, [], ◌∷◌, Option, Some, refl, sym, ap}
 use Rattle.std.proofs.Common.{◌∙◌, subst, arith, length, length-append}
 use Rattle.std.specs.Prelude.{◌==◌, ℤ, pos, negsuc, if◌then◌else◌, is_some}
 use Rattle.lg_base.specs.Conventions.{portable_register}
 use Rattle.lg_base.specs.Fields.{word_of}
 use Rattle.lg_base.specs.Layout.{frame_pointer, return_word, saved_word}
 use Rattle.lg_base.specs.Parts.{stack_base}
-use Rattle.lg_base.specs.Spaces.{loaded, number_at, byte_or_zero}
+use Rattle.lg_base.specs.Spaces.{loaded}
 use Rattle.lg_base.specs.Words.{add_words}
 use Rattle.lg_base.specs.declared.target.Target.TheVariants.{Riscv64}
-use Rattle.lg_base.proofs.SpaceLemmas.{mapped-all}
 use Rattle.lg_cells.specs.Cells.{within}
 use Rattle.lg_rv.specs.declared.instruction.Instr.{Instr}
 use Rattle.lg_rv.specs.declared.instruction.Instr.TheVariants as instr
@@ -32,7 +31,7 @@ use Rattle.lg_carry.specs.Blocks.{spellings, done}
 use Rattle.lg_carry.specs.Registers.{HasWord}
 use Rattle.lg_carry_rv.specs.Computations.{all_compute, computed, RunsComputations}
 use Rattle.lg_carry_rv.specs.Numbers.{high_part, low_part}
-use Rattle.lg_carry_rv.specs.RvRows.{rv_rows, rv_does}
+use Rattle.lg_carry_rv.specs.RvRows.{rv_rows, rv_does, is_straight}
 use Rattle.lg_carry_rv.proofs.ComputationLemmas.{computations-run}
 use Rattle.lg_carry_rv.proofs.NumberCodeLemmas.{numbers-are-loaded}
 use Rattle.lg_carry_rv.proofs.RowLemmas.{are-rows}
@@ -41,24 +40,13 @@ use Rattle.lg_sel_nodes.proofs.StraightLemmas.{in-room}
 use Rattle.lg_sel_nodes.proofs.StretchLemmas.{part-passes, passages-join}
 use Rattle.lg_sel_control.specs.Returns.{Returned, NoWord, OfRegister, OfNumber, OfLabel, returned_word, IsReturned, Departure, IsBack, ReturnsLead}
 use Rattle.lg_selr_control.specs.Returns.{return_code, result_code, returned_code}
-use Rattle.lg_selr_control.proofs.ChainLemmas.{RunsAt, next-at, Chain, chain-end, chain-more, block-of, straight-block}
+use Rattle.lg_sel_control.proofs.ChainLemmas.{RunsAt, next-at, Chain, chain-end, chain-more, block-of, straight-block, runs-there}
+use Rattle.lg_sel_control.proofs.FrameWordLemmas.{word_at, stack-word, same-word, saved-address, link-address, stack-address, pointer-address}
 use Rattle.lg_selr_control.proofs.ComputedLemmas.{all-straight, same-words}
 use Rattle.lg_selr_control.proofs.StretchLemmas.{spelled-size}
 use Rattle.lg_carry_rv.proofs.RegisterLemmas.{read-of}
-use Rattle.lg_selr_control.proofs.StretchLemmas.{aligned}
-use Rattle.lg_selr_control.proofs.WordLemmas.{runs-there, put-same}
-
--- ---- words of the frame
--- the word at an address, where there is memory
-abbrev pub word_at : (ℕ → Option ℕ) → ℕ → ℕ
-word_at m a = number_at (byte_or_zero m) a 8
-
-pub stack-word : (m : ℕ → Option ℕ) (a : ℕ) → ((j : ℕ) → within stack_base 0x100000 j ≡ true → is_some (m j) ≡ true) → 0x3FF00000 ≤ a → a + 8 ≤ 0x40000000
-    → HasWord m a (word_at m a)
-stack-word m a there low high = let e = mapped-all m a 8 (λ j le lt. there j (grind arith)) in ap (λ b. if b then Some (word_at m a) else None) e
-
-pub same-word : (m : ℕ → Option ℕ) (a v w : ℕ) → HasWord m a v → HasWord m a w → v ≡ w
-same-word m a v w h k = let e : Some v ≡ Some w = sym h ∙ k in cc
+use Rattle.lg_sel_control.proofs.StretchLemmas.{aligned}
+use Rattle.lg_selr_control.proofs.WordLemmas.{put-same}
 
 pub aligned-load : (a : ℕ) → a % 8 ≡ 0 → (a % 8 == 0) ≡ true
 aligned-load a h = rw h refl
@@ -69,18 +57,6 @@ pub load-act : (q : CpuState) (rd base address w : ℕ) (offset : ℤ) → read 
 load-act q rd base address w offset at e even held =
     ap (λ x. load_at q rd (add_words x (word_of offset)) 8 false) at ∙ ap (λ x. load_at q rd x 8 false) e
     ∙ ap (λ b. if b then loads q rd 8 false (loaded q.bytes address 8) else faults q Align) (aligned-load address even) ∙ ap (loads q rd 8 false) held
-
-saved-address : (sp v : ℕ) → v < 3 → 0x3FF00010 + 272 ≤ sp → sp ≤ 0x40000000 → add_words (sp - 16) (word_of (negsuc (7 + 8 * v))) ≡ saved_word (sp - 16) v
-saved-address sp v few low high = grind (arith, few, low, high)
-
-link-address : (sp : ℕ) → 0x3FF00010 + 272 ≤ sp → sp ≤ 0x40000000 → add_words (sp - 16) 8 ≡ return_word sp
-link-address sp low high = grind (arith, low, high)
-
-stack-address : (sp : ℕ) → 0x3FF00010 + 272 ≤ sp → sp ≤ 0x40000000 → add_words (sp - 16) 16 ≡ sp
-stack-address sp low high = grind (arith, low, high)
-
-pointer-address : (sp : ℕ) → 0x3FF00010 + 272 ≤ sp → sp ≤ 0x40000000 → add_words (sp - 16) 0 ≡ sp - 16
-pointer-address sp low high = grind (arith, low, high)
 
 -- the straight ones of a return
 abbrev six : List Instr
@@ -121,47 +97,47 @@ module _ (base n k : ℕ) (q : Run CpuState) (sp back : ℕ) (low : 0x3FF00010 +
   left = after s6 (goes back (put s6.state.registers 0 (add_words s6.state.pc 4)) m q.state.mark)
 
   a1 : RunsAt base n (suc k) s1
-  a1 = next-at base n k q _ _ _ (omega (arith, room)) at
+  a1 = next-at base n k q _ _ _ _ (omega (arith, room)) at
 
   a2 : RunsAt base n (suc (suc k)) s2
-  a2 = next-at base n (suc k) s1 _ _ _ (omega (arith, room)) a1
+  a2 = next-at base n (suc k) s1 _ _ _ _ (omega (arith, room)) a1
 
   a3 : RunsAt base n (suc (suc (suc k))) s3
-  a3 = next-at base n (suc (suc k)) s2 _ _ _ (omega (arith, room)) a2
+  a3 = next-at base n (suc (suc k)) s2 _ _ _ _ (omega (arith, room)) a2
 
   a4 : RunsAt base n (suc (suc (suc (suc k)))) s4
-  a4 = next-at base n (suc (suc (suc k))) s3 _ _ _ (omega (arith, room)) a3
+  a4 = next-at base n (suc (suc (suc k))) s3 _ _ _ _ (omega (arith, room)) a3
 
   a5 : RunsAt base n (suc (suc (suc (suc (suc k))))) s5
-  a5 = next-at base n (suc (suc (suc (suc k)))) s4 _ _ _ (omega (arith, room)) a4
+  a5 = next-at base n (suc (suc (suc (suc k)))) s4 _ _ _ _ (omega (arith, room)) a4
 
   a6 : RunsAt base n (suc (suc (suc (suc (suc (suc k)))))) s6
-  a6 = next-at base n (suc (suc (suc (suc (suc k))))) s5 _ _ _ (omega (arith, room)) a5
+  a6 = next-at base n (suc (suc (suc (suc (suc k))))) s5 _ _ _ _ (omega (arith, room)) a5
 
   saved : (v : ℕ) → v < 3 → (saved_word fp v % 8 ≡ 0) × HasWord m (saved_word fp v) (word_at m (saved_word fp v))
   saved v lt = (grind (arith, even, low, lt), stack-word m (saved_word fp v) seen (omega (arith, low, lt)) (omega (arith, high)))
 
-  pub chain : Chain return_code q left
+  pub chain : Chain act return_code q left
   chain =
-      chain-more _ _ q left (sets q.state 9 (word_at m (saved_word fp 0))) at.runs
+      chain-more act _ _ q left (sets q.state 9 (word_at m (saved_word fp 0))) at.runs
       (load-act q.state 9 fp (saved_word fp 0) _ (negsuc 7) pointer (saved-address sp 0 (omega arith) low high) (saved 0 (omega arith)).0
       (saved 0 (omega arith)).1)
-      (chain-more _ _ s1 left (sets s1.state 18 (word_at m (saved_word fp 1))) a1.runs
+      (chain-more act _ _ s1 left (sets s1.state 18 (word_at m (saved_word fp 1))) a1.runs
       (load-act s1.state 18 fp (saved_word fp 1) _ (negsuc 15) pointer (saved-address sp 1 (omega arith) low high) (saved 1 (omega arith)).0
       (saved 1 (omega arith)).1)
-      (chain-more _ _ s2 left (sets s2.state 19 (word_at m (saved_word fp 2))) a2.runs
+      (chain-more act _ _ s2 left (sets s2.state 19 (word_at m (saved_word fp 2))) a2.runs
       (load-act s2.state 19 fp (saved_word fp 2) _ (negsuc 23) pointer (saved-address sp 2 (omega arith) low high) (saved 2 (omega arith)).0
       (saved 2 (omega arith)).1)
-      (chain-more _ _ s3 left (sets s3.state 1 back) a3.runs
+      (chain-more act _ _ s3 left (sets s3.state 1 back) a3.runs
       (load-act s3.state 1 fp (return_word sp) back (pos 8) pointer (link-address sp low high) (grind (arith, even, low)) held)
-      (chain-more _ _ s4 left (sets s4.state 2 sp) a4.runs
+      (chain-more act _ _ s4 left (sets s4.state 2 sp) a4.runs
       (ap (λ x. sets s4.state 2 (add_words x 16)) pointer ∙ ap (sets s4.state 2) (stack-address sp low high))
-      (chain-more _ _ s5 left (sets s5.state 8 (word_at m fp)) a5.runs
+      (chain-more act _ _ s5 left (sets s5.state 8 (word_at m fp)) a5.runs
       (load-act s5.state 8 fp fp _ (pos 0) pointer (pointer-address sp low high) (grind (arith, even, low))
       (stack-word m fp seen (omega (arith, low)) (omega (arith, high))))
-      (chain-more _ _ s6 left (goes back (put s6.state.registers 0 (add_words s6.state.pc 4)) m q.state.mark) a6.runs
+      (chain-more act _ _ s6 left (goes back (put s6.state.registers 0 (add_words s6.state.pc 4)) m q.state.mark) a6.runs
       (lands-there s6.state 0 1 back refl near aligned)
-      (chain-end left)))))))
+      (chain-end act left)))))))
 
 -- ---- what stands in front of it
 no-change : (x : ℕ) → x < 2 ^ 64 → add_words x 0 ≡ x
@@ -271,12 +247,12 @@ module _ (code : List ℕ) (trash : ℕ) (small : length code ≤ most_code) (by
       let rows = are-rows code trash small bytes word in
       let here = at1.here in let long = spelled-size front in
       passages-join (rv_processor code trash) from high (length front) 7 q q1 u
-      (part-passes R IsInstr rows from [] front return_code q k (at ∙ omega arith) (straight-block front (all-straight front made.computes)) ran.through)
+      (part-passes R IsInstr rows from [] front return_code q k (at ∙ omega arith) (straight-block is_straight front (all-straight front made.computes)) ran.through)
       (subst (λ z. PassesIn (rv_processor code trash) from high 7 q1 z) left-chain.leads
       (part-passes R IsInstr rows from front return_code [] q1 k (omega (arith, here, long))
-      (block-of six (instr.Imm Jalr 0 1 (pos 0)) refl) left-chain.through))
+      (block-of is_straight six (instr.Imm Jalr 0 1 (pos 0)) refl) left-chain.through))
     where
-      left-chain : Chain return_code q1 u
+      left-chain : Chain act return_code q1 u
       left-chain = chain from (length front + 7) (length front) q1 sp back low-frame f.high even at1 (omega arith) pointer1 there1 held1 near back-aligned
 
   -- the words of the frame come back

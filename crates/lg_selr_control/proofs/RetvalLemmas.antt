@@ -15,6 +15,7 @@ use Rattle.lg_temp.specs.Abis.{register_of}
 use Rattle.lg_carry.specs.FinalNodes.{Code}
 use Rattle.lg_carry_rv.specs.RvComputers.{rv_scratch, rv_computer, IsComputed}
 use Rattle.lg_carry.specs.TextNodes.{IsInText}
+use Rattle.lg_carry_rv.specs.RvRows.{is_straight}
 use Rattle.lg_carry_rv.proofs.ComputerLemmas.{held-at, into}
 use Rattle.lg_carry_rv.proofs.RegisterLemmas.{register-nonzero, register-apart, register-small}
 use Rattle.lg_selr_values.specs.UnaryCode.{unary_code}
@@ -26,7 +27,7 @@ use Rattle.lg_selr_control.specs.ControlFits.{AreEmitted}
 use Rattle.lg_sel_control.proofs.ControlLemmas.{differ, never}
 use Rattle.lg_selr_control.proofs.FitLemmas.{plain-emitted}
 use Rattle.lg_selr_control.specs.Retvals.{extension, retval_node, retval_code, retval_items, RetvalsCarry, RetvalItemsFit}
-use Rattle.lg_selr_control.proofs.ChainLemmas.{straight-block}
+use Rattle.lg_sel_control.proofs.ChainLemmas.{straight-block}
 use Rattle.lg_selr_control.proofs.ComputedLemmas.{all-straight}
 
 extends : (t : ValueType) (x : ℕ) → unary_value (extension t) x ≡ typed t x
@@ -69,7 +70,7 @@ retvals-carry code trash c i t d line S x k =
       word = k.word;
       block = record {
         code = k.node;
-        block = straight-block (retval_code t d) (all-straight (retval_code t d) (unary-computes (extension t) (register_of Riscv64 d) 10));
+        block = straight-block is_straight (retval_code t d) (all-straight (retval_code t d) (unary-computes (extension t) (register_of Riscv64 d) 10));
       };
     }
     (computes-retval c i t d line named x)

@@ -3,6 +3,7 @@ use Rattle.std.proofs.Common.{◌≡◌, ◌≢◌, ℕ, suc, ◌+◌, ◌-◌, 
 use Rattle.std.specs.Prelude.{negsuc, nat_le, if◌then◌else◌}
 use Rattle.lg_base.specs.Fields.{word_of}
 use Rattle.lg_base.specs.Words.{add_words, sub_words, sign_32}
+use Rattle.lg_base.specs.declared.flags.Flags.TheVariants.{NoFlags}
 use Rattle.lg_rv.specs.declared.instruction.Instr.{Instr}
 use Rattle.lg_rv.specs.declared.instruction.Instr.TheVariants as instr
 use Rattle.lg_rv.specs.declared.instruction.ImmOp.TheVariants.{Addi, Addiw}
@@ -11,17 +12,17 @@ use Rattle.lg_rv.specs.declared.instruction.UpperOp.TheVariants.{Lui}
 use Rattle.lg_cpu.specs.Steps.{Run, after}
 use Rattle.lg_cpu.specs.HostSteps.{put}
 use Rattle.lg_cpu.specs.States.{CpuState}
-use Rattle.lg_cpu.specs.RvStep.{sets}
+use Rattle.lg_cpu.specs.RvStep.{sets, act}
 use Rattle.lg_carry_rv.specs.Numbers.{high_part, low_part}
 use Rattle.lg_selr_control.specs.Prologs.{fall_code}
-use Rattle.lg_selr_control.proofs.ChainLemmas.{RunsAt, next-at, Chain, chain-end, chain-more}
+use Rattle.lg_sel_control.proofs.ChainLemmas.{RunsAt, next-at, Chain, chain-end, chain-more}
 use Rattle.lg_selr_control.proofs.WordLemmas.{put-other, number-made}
 
 -- ---- the stack pointer falls
 -- a run in which so many instructions made the stack pointer fall
 pub record Falls (is : List Instr) (base n k size : ℕ) (q : Run CpuState) : Type 0 where
   pub end : Run CpuState
-  pub chain : Chain is q end
+  pub chain : Chain act is q end
   pub at : RunsAt base n (k + length is) end
   pub stack : end.state.registers 2 ≡ q.state.registers 2 - size
   pub others : (r : ℕ) → r ≢ 1 → r ≢ 2 → end.state.registers r ≡ q.state.registers r
@@ -43,8 +44,8 @@ module _ (base n k size : ℕ) (q : Run CpuState) (at : RunsAt base n k q) (few 
       let end = after q (sets q.state 2 (add_words (q.state.registers 2) (word_of (negsuc (size - 1))))) in
       record {
         end = end;
-        chain = chain-more _ [] q end (sets q.state 2 (add_words (q.state.registers 2) (word_of (negsuc (size - 1))))) at.runs refl (chain-end end);
-        at = subst (λ x. RunsAt base n x end) (omega arith) (next-at base n k q _ _ _ (omega (arith, le)) at);
+        chain = chain-more act _ [] q end (sets q.state 2 (add_words (q.state.registers 2) (word_of (negsuc (size - 1))))) at.runs refl (chain-end act end);
+        at = subst (λ x. RunsAt base n x end) (omega arith) (next-at base n k q _ _ _ _ (omega (arith, le)) at);
         stack = less (q.state.registers 2) size few room high;
         others = λ r one two. put-other q.state.registers 2 _ r two;
         bytes = refl;
@@ -59,12 +60,12 @@ module _ (base n k size : ℕ) (q : Run CpuState) (at : RunsAt base n k q) (few 
       let q2 = after q1 (sets q1.state 1 v2) in
       let v3 = sub_words (q.state.registers 2) v2 in
       let q3 = after q2 (sets q2.state 2 v3) in
-      let a1 = next-at base n k q (put q.state.registers 1 v1) q.state.bytes q.state.mark (omega (arith, le)) at in
-      let a2 = next-at base n (suc k) q1 (put q1.state.registers 1 v2) q.state.bytes q.state.mark (omega (arith, le)) a1 in
-      let a3 = next-at base n (suc (suc k)) q2 (put q2.state.registers 2 v3) q.state.bytes q.state.mark (omega (arith, le)) a2 in
+      let a1 = next-at base n k q (put q.state.registers 1 v1) NoFlags q.state.bytes q.state.mark (omega (arith, le)) at in
+      let a2 = next-at base n (suc k) q1 (put q1.state.registers 1 v2) NoFlags q.state.bytes q.state.mark (omega (arith, le)) a1 in
+      let a3 = next-at base n (suc (suc k)) q2 (put q2.state.registers 2 v3) NoFlags q.state.bytes q.state.mark (omega (arith, le)) a2 in
       record {
         end = q3;
-        chain = chain-more _ _ q q3 (sets q.state 1 v1) at.runs refl (chain-more _ _ q1 q3 (sets q1.state 1 v2) a1.runs refl (chain-more _ _ q2 q3 (sets q2.state 2 v3) a2.runs refl (chain-end q3)));
+        chain = chain-more act _ _ q q3 (sets q.state 1 v1) at.runs refl (chain-more act _ _ q1 q3 (sets q1.state 1 v2) a1.runs refl (chain-more act _ _ q2 q3 (sets q2.state 2 v3) a2.runs refl (chain-end act q3)));
         at = subst (λ x. RunsAt base n x q3) (omega arith) a3;
         stack = ap (sub_words (q.state.registers 2)) (number-made size (omega (arith, many)) (near-word size many)) ∙ differs (q.state.registers 2) size room high;
         others = λ r one two. put-other q2.state.registers 2 _ r two ∙ put-other q1.state.registers 1 _ r one ∙ put-other q.state.registers 1 _ r one;

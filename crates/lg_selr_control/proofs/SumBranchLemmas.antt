@@ -1,7 +1,5 @@
 -- Branches that add or subtract lead where they are to.
-use Rattle.std.proofs.Common.{◌≡◌, ◌≢◌, ℕ, ◌^◌, ◌<◌, ◌≤◌, Bool, true, false, List, refl, ap, ◌∙◌, arith, length, length-append}
-use Rattle.std.specs.Prelude.{◌==◌, if◌then◌else◌}
-use Rattle.std.proofs.lemmas.Bool.Decides.{nat_tests}
+use Rattle.std.proofs.Common.{◌≡◌, ◌≢◌, ℕ, ◌^◌, ◌<◌, ◌≤◌, List, ap, ◌∙◌, arith, length, length-append}
 use Rattle.lg_base.specs.Layout.{most_code}
 use Rattle.lg_base.specs.declared.target.Target.TheVariants.{Riscv64}
 use Rattle.lg_op.specs.declared.op.BranchSumOp.{BranchSumOp}
@@ -20,6 +18,7 @@ use Rattle.lg_carry_rv.specs.RvRows.{rv_rows}
 use Rattle.lg_carry_rv.proofs.ComputationLemmas.{computed-append, all-compute-append}
 use Rattle.lg_carry_rv.proofs.RegisterLemmas.{register-apart, register-nonzero}
 use Rattle.lg_sel_control.specs.SumBranches.{SumBranchesLead}
+use Rattle.lg_sel_control.proofs.RegisterLemmas.{with-word}
 use Rattle.lg_selr_control.specs.ControlItems.{second_register}
 use Rattle.lg_selr_control.specs.SumBranches.{sum_code, staying}
 use Rattle.lg_carry_rv.specs.RvComputers.{rv_scratch}
@@ -46,14 +45,6 @@ second-apart (operand.Host name) = λ z. cc
 second-apart (operand.Label l) = λ z. cc
 second-apart (operand.Slot k) = λ z. cc
 
--- the register holds the sum, and the others what they held
-with-sum : (u w : ℕ → ℕ) (r v z : ℕ) → u r ≡ v → (z ≢ r → u z ≡ w z) → u z ≡ with_register w r v z
-with-sum u w r v z e h = by (z == r) refl
-  where
-    by : (b : Bool) → (z == r) ≡ b → u z ≡ (if b then v else w z)
-    by true same = let i : z ≡ r = grind (arith, nat_tests, same) in ap u i ∙ e
-    by false other = h (λ i. absurd (grind (arith, nat_tests, other, i)))
-
 pub sum-branches-lead : (code : List ℕ) (trash : ℕ) → length code ≤ most_code → AreBytes code → trash < 2 ^ 64
     → SumBranchesLead (rv_rows code trash) rv_scratch IsInstr sum_branch_code
 sum-branches-lead code trash small bytes word frame o a b x y from to q f k there next runs at some ea hx eb hy =
@@ -71,5 +62,5 @@ sum-branches-lead code trash small bytes word frame o a b x y from to q f k ther
     (all-compute-append (second_code b) body made.computes (sum-computes o ra (second_register b))) few runs at (branch_sum_goes o x y) there next
     (ap (λ (u : ℕ → ℕ). is_taken (staying o) (read u 31) 0) all ∙ c.taken)
     (with_register w ra (branch_sum_value o x y))
-    (λ z z1 z31. with-sum (computed (before_sum_branch o a b) w) w ra (branch_sum_value o x y) z (ap (λ u. u ra) all ∙ c.value)
+    (λ z z1 z31. with-word (computed (before_sum_branch o a b) w) w ra (branch_sum_value o x y) z (ap (λ u. u ra) all ∙ c.value)
     (λ other. ap (λ u. u z) all ∙ c.others z z1 z31 other ∙ made.others z z1))

@@ -24,7 +24,7 @@ use Rattle.lg_temp.specs.Abis.{register_of}
 use Rattle.lg_carry.specs.Blocks.{done}
 use Rattle.lg_carry_rv.specs.Computations.{all_compute, computed, RunsComputations}
 use Rattle.lg_carry_rv.specs.Numbers.{number_code}
-use Rattle.lg_carry_rv.specs.RvRows.{rv_processor, rv_rows, rv_does}
+use Rattle.lg_carry_rv.specs.RvRows.{rv_processor, rv_rows, rv_does, is_straight}
 use Rattle.lg_carry_rv.proofs.ComputationLemmas.{computations-run}
 use Rattle.lg_carry_rv.proofs.NumberCodeLemmas.{numbers-are-loaded}
 use Rattle.lg_carry_rv.proofs.RowLemmas.{are-rows}
@@ -35,13 +35,14 @@ use Rattle.lg_sel_nodes.proofs.StretchLemmas.{part-passes, passages-join}
 use Rattle.lg_selr_control.specs.ControlItems.{second_register}
 use Rattle.lg_carry_rv.specs.RvComputers.{rv_scratch}
 use Rattle.lg_selr_control.specs.TwoWays.{jump_over, second_code}
-use Rattle.lg_selr_control.proofs.ChainLemmas.{straight-block}
+use Rattle.lg_sel_control.proofs.ChainLemmas.{straight-block, runs-there}
 use Rattle.lg_selr_control.proofs.ComputedLemmas.{all-straight, same-words}
 use Rattle.lg_selr_control.proofs.StretchLemmas.{spelled-size}
 use Rattle.lg_carry_rv.proofs.RegisterLemmas.{read-of}
-use Rattle.lg_selr_control.proofs.StretchLemmas.{aligned, one-passed}
+use Rattle.lg_selr_control.proofs.StretchLemmas.{one-passed}
+use Rattle.lg_sel_control.proofs.StretchLemmas.{aligned}
 use Rattle.lg_selr_control.proofs.WalkLemmas.{jumps-there}
-use Rattle.lg_selr_control.proofs.WordLemmas.{runs-there, put-same, put-other}
+use Rattle.lg_selr_control.proofs.WordLemmas.{put-same, put-other}
 
 -- ---- the second operand
 -- the second operand is put into its register, and nothing but x1 changes
@@ -122,7 +123,7 @@ module _ (code : List ℕ) (trash : ℕ) (small : length code ≤ most_code) (by
 
   pass : PassesIn (rv_processor code trash) from high (length front) q r
   pass = part-passes (rv_rows code trash) IsInstr (are-rows code trash small bytes word) from [] front (skip ∷ jump ∷ []) q k (at ∙ omega arith)
-      (straight-block front (all-straight front all)) m.through
+      (straight-block is_straight front (all-straight front all)) m.through
 
   here : r.state.pc ≡ from + 4 * length front
   here = m.behind ∙ omega (arith, at)

@@ -18,11 +18,13 @@ use Rattle.lg_carry_rv.specs.RvRows.{rv_processor, rv_rows}
 use Rattle.lg_sel_nodes.specs.Stretches.{behind, PassesIn}
 use Rattle.lg_sel_control.specs.RegisterLeaps.{RegisterJumpsWalk}
 use Rattle.lg_sel_control.specs.Walks.{JumpsWalk}
+use Rattle.lg_sel_control.proofs.ChainLemmas.{runs-there}
+use Rattle.lg_sel_control.proofs.StretchLemmas.{aligned}
 use Rattle.lg_selr_control.specs.Jumps.{jump_code}
 use Rattle.lg_selr_control.specs.RegisterLeaps.{register_jump_code}
 use Rattle.lg_carry_rv.proofs.RegisterLemmas.{read-of}
-use Rattle.lg_selr_control.proofs.StretchLemmas.{aligned, stands-high, one-passed, walked}
-use Rattle.lg_selr_control.proofs.WordLemmas.{distance-leads, runs-there, put-other}
+use Rattle.lg_selr_control.proofs.StretchLemmas.{stands-high, one-passed, walked}
+use Rattle.lg_selr_control.proofs.WordLemmas.{distance-leads, put-other}
 
 -- ---- jumps
 pub aligned-there : (to : ℕ) → to % 4 ≡ 0 → (to % 4 == 0) ≡ true
@@ -54,7 +56,7 @@ module _ (code : List ℕ) (trash : ℕ) (small : length code ≤ most_code) (by
       let does : act jump q.state ≡ e =
       ap (λ p. act (instr.Jal 0 (pos to -ℤ pos p)) q.state) (sym at)
       ∙ jumps-there q.state 0 to (omega (arith, high, at)) (let h = there.high in omega (arith, h)) (aligned to there.place) in
-      walked code trash small bytes word from (behind (rv_rows code trash) from (jump_code from to)) to 1 q (after q e)
+      walked code trash from (behind (rv_rows code trash) from (jump_code from to)) to 1 q (after q e)
       (subst (λ z. PassesIn (rv_processor code trash) from (behind (rv_rows code trash) from (jump_code from to)) 1 q (after q z)) does
       (one-passed code trash small bytes word from [] jump [] q k runs (at ∙ omega arith)))
       (omega arith) (λ lt. omega arith) (runs-there to there.low) refl (λ x ne. put-other q.state.registers 0 (add_words q.state.pc 4) x ne) refl refl
@@ -65,7 +67,7 @@ module _ (code : List ℕ) (trash : ℕ) (small : length code ≤ most_code) (by
       let e : Effect CpuState = goes to (put q.state.registers 0 (add_words q.state.pc 4)) q.state.bytes q.state.mark in
       let does : act jump q.state ≡ e =
       lands-there q.state 0 (register_of Riscv64 a) to (read-of q.state.registers a ∙ is) (let h = there.high in omega (arith, h)) (aligned to there.place) in
-      walked code trash small bytes word from (behind (rv_rows code trash) from (register_jump_code frame a)) to 1 q (after q e)
+      walked code trash from (behind (rv_rows code trash) from (register_jump_code frame a)) to 1 q (after q e)
       (subst (λ z. PassesIn (rv_processor code trash) from (behind (rv_rows code trash) from (register_jump_code frame a)) 1 q (after q z)) does
       (one-passed code trash small bytes word from [] jump [] q k runs (at ∙ omega arith)))
       (omega arith) (λ lt. omega arith) (runs-there to there.low) refl (λ x ne. put-other q.state.registers 0 (add_words q.state.pc 4) x ne) refl refl

@@ -1,21 +1,15 @@
 -- Addresses of instructions, and the words of distances.
-use Rattle.std.proofs.Common.{◌≡◌, ◌≢◌, ℕ, ◌+◌, ◌-◌, ◌*◌, ◌%◌, ◌^◌, ◌<◌, ◌≤◌, Bool, true, false, refl, arith}
+use Rattle.std.proofs.Common.{◌≡◌, ◌≢◌, ℕ, ◌+◌, ◌-◌, ◌*◌, ◌%◌, ◌^◌, ◌<◌, Bool, true, false, refl, arith}
 use Rattle.lg_carry_rv.specs.Numbers.{high_part, low_part}
-use Rattle.std.specs.Prelude.{pos, negsuc, nat_lt, ◌-ℤ◌, ◌==◌, if◌then◌else◌}
+use Rattle.std.specs.Prelude.{pos, negsuc, nat_lt, ◌-ℤ◌, if◌then◌else◌}
 use Rattle.std.proofs.lemmas.Int.{ints}
 use Rattle.lg_base.specs.Fields.{word_of}
-use Rattle.lg_base.specs.Layout.{stop_address, code_base}
 use Rattle.lg_base.specs.Words.{add_words, sign_32}
-use Rattle.lg_base.specs.Runs.{Running}
-use Rattle.lg_cpu.specs.Steps.{arrived, status_of}
 use Rattle.lg_cpu.specs.HostSteps.{put}
 
 -- a distance leads to its target
 pub distance-leads : (from to : ℕ) → from < 2 ^ 62 → to < 2 ^ 62 → add_words from (word_of (pos to -ℤ pos from)) ≡ to
 distance-leads from to h k = grind (arith, ints)
-
-pub runs-there : (pc : ℕ) → code_base ≤ pc → status_of (arrived pc) ≡ Running
-runs-there pc low = let n : (pc == stop_address) ≡ false = grind (arith, low) in rw n refl
 
 pub put-same : (w : ℕ → ℕ) (d v : ℕ) → put w d v d ≡ v
 put-same w d v = grind arith

@@ -1,13 +1,14 @@
 -- `.align`: instructions that do nothing, up to a multiple of the alignment.
-use Rattle.std.specs.Prelude.{◌≡◌, ℕ, zero, suc, ◌+◌, ◌-◌, ◌*◌, ◌/◌, ◌%◌, true, pos, List, [], ◌∷◌, length}
+use Rattle.std.specs.Prelude.{◌≡◌, ℕ, zero, suc, ◌+◌, ◌*◌, ◌%◌, true, pos, List, [], ◌∷◌, length}
 use Rattle.lg_op.specs.Forms.{is_alignment}
 use Rattle.lg_rv.specs.declared.instruction.Instr.{Instr}
 use Rattle.lg_rv.specs.declared.instruction.Instr.TheVariants as instr
 use Rattle.lg_rv.specs.declared.instruction.ImmOp.TheVariants.{Addi}
+use Rattle.lg_sel_control.specs.Paddings as paddings
 
 -- how many instructions lead from an address to the next multiple
 abbrev pub padding : ℕ → ℕ → ℕ
-padding at n = (n - at % n) % n / 4
+padding at n = paddings.padding at n
 
 abbrev pub idle : ℕ → List Instr
 idle zero = []
