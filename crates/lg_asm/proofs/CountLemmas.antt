@@ -2,7 +2,8 @@
 use Rattle.std.proofs.Common.{◌≡◌, ℕ, ◌+◌, ◌<◌, List, [], ◌∷◌, ◌++◌, length, refl, sym, ap, ◌∙◌, arith, add-one, below_more, length-append, Some}
 use Rattle.std.proofs.Math.ListN.{get_or-append}
 use Rattle.std.proofs.Math.Seq.{get_or-append_seam}
-use Rattle.std.specs.Prelude.{slice_get, slice_index}
+use Rattle.std.specs.Prelude.{cond, count_by, slice_get, slice_index}
+use Rattle.std.proofs.lemmas.List.Recursion.{is_count_by}
 use Rattle.std.specs.Option.{option_and_then}
 use Rattle.lg_base.specs.declared.target.Target.{Target}
 use Rattle.lg_node.specs.Checks.{IsAccepted}
@@ -12,10 +13,20 @@ use Rattle.lg_op.specs.declared.node.Node.{Node}
 use Rattle.lg_liveness.specs.Liveness.{LiveSets}
 use Rattle.lg_temp.specs.Chosen.{spills}
 use Rattle.lg_temp.specs.declared.choice.Choice.{Choice}
+use Rattle.lg_temp.specs.declared.choice.Choice.TheVariants.{Free, Own, Spill}
 use Rattle.lg_asm.specs.Assembled.{ArePushed}
 use Rattle.lg_asm.specs.Passed.{passed_behind}
-use Rattle.lg_asm.specs.NodeChoices.{live_behind, node_choices, choices_at, spills_of, spills_in}
+use Rattle.lg_asm.specs.NodeChoices.{live_behind, node_choices, choices_at, is_spill, spills_of, spills_in}
 use Rattle.lg_asm.proofs.WellLemmas.{passed-next, pushed-few}
+
+-- the registers that are saved, counted
+pub spills-are : (choices : List Choice) → spills choices ≡ count_by is_spill choices
+spills-are = is_count_by spills is_spill refl step
+  where
+    step : (choice : Choice) (choices : List Choice) → spills (choice ∷ choices) ≡ cond (is_spill choice) (1 + spills choices) (spills choices)
+    step (Spill register slot) choices = omega arith
+    step (Free register) choices = refl
+    step (Own register) choices = refl
 
 -- the counts of the first nodes
 pub record AreCounted (target : Target) (l : LabelledNodes) (sets : LiveSets) (xs : List ℕ) (passed saved count : ℕ) : Type 0 where

@@ -1,8 +1,8 @@
 -- The registers of the temporaries of nodes, by the registers that are live behind them.
-use Rattle.std.specs.Prelude.{ℕ, zero, suc, ◌+◌, Bool, List, [], Option, Some, None, slice_get, slice_index_or}
+use Rattle.std.specs.Prelude.{ℕ, zero, suc, ◌+◌, Bool, true, false, List, [], Option, Some, None, slice_get, slice_index_or}
 use Rattle.std.specs.Option.{option_and_then}
 use Rattle.lg_base.specs.declared.target.Target.{Target}
-use Rattle.lg_base.specs.declared.target.Target.TheVariants.{Riscv64}
+use Rattle.lg_base.specs.declared.target.Target.TheVariants.{Aarch64, Riscv64}
 use Rattle.lg_live.specs.RegSets.{has}
 use Rattle.lg_live.specs.declared.reg_set.RegSet.{RegSet}
 use Rattle.lg_liveness.specs.Liveness.{LiveSets}
@@ -11,9 +11,11 @@ use Rattle.lg_op.specs.declared.node.Node.{Node}
 use Rattle.lg_op.specs.declared.op.Op.{Op}
 use Rattle.lg_op.specs.declared.operand.Reg.{Reg}
 use Rattle.lg_sel.specs.Selected.{first_arguments}
-use Rattle.lg_selr_values.specs.ValueItems.{value_needs}
+use Rattle.lg_sela_values.specs.ValueItems as a64
+use Rattle.lg_selr_values.specs.ValueItems as rv
 use Rattle.lg_temp.specs.Chosen.{around, choices_of, spills}
 use Rattle.lg_temp.specs.declared.choice.Choice.{Choice}
+use Rattle.lg_temp.specs.declared.choice.Choice.TheVariants.{Spill}
 use Rattle.lg_temp.specs.declared.choice.Need.{Need}
 
 -- the set of the registers that are live behind a node; a node that is not there has none
@@ -25,7 +27,8 @@ live_behind sets i = has (set_behind sets i)
 
 -- what the temporaries of a node's code need on a target; those that are not built have no code
 abbrev pub needs_on : Target → Op → List Need
-needs_on Riscv64 o = value_needs o
+needs_on Aarch64 o = a64.value_needs o
+needs_on Riscv64 o = rv.value_needs o
 needs_on target o = []
 
 -- the choices for the needs of a node behind which these registers are live and before which so many arguments are pushed, which are staged there
@@ -37,6 +40,11 @@ abbrev pub choices_at : Target → List Node → LiveSets → ℕ → Option (Li
 choices_at target nodes sets i = option_and_then (node_choices target (live_behind sets i) (pushed nodes i)) (slice_get nodes i)
 
 -- ---- how many registers are saved
+-- a choice that is counted
+abbrev pub is_spill : Choice → Bool
+is_spill (Spill register slot) = true
+is_spill choice = false
+
 abbrev pub spills_of : Option (List Choice) → ℕ
 spills_of None = 0
 spills_of (Some choices) = spills choices

@@ -1,12 +1,11 @@
 // The choices of nodes, and how many registers are saved for them.
 
-ghost use Rattle.std.specs.Prelude.{◌≡◌, ◌≤◌, ◌+◌, Some, ◌<◌, length, IfOk};
+ghost use Rattle.std.specs.Prelude.{◌≡◌, ◌≤◌, ◌+◌, Some, ◌<◌, length, count_by, IfOk};
 ghost use Rattle.lg_asm.specs.Assembled.{ArePushed};
-ghost use Rattle.lg_asm.specs.NodeChoices.{node_choices, set_behind, spills_in};
+ghost use Rattle.lg_asm.specs.NodeChoices.{node_choices, set_behind, is_spill, spills_in};
 ghost use Rattle.lg_base.specs.declared.target.Target.{Target};
 ghost use Rattle.lg_live.specs.RegSets.{has};
 ghost use Rattle.lg_node.specs.Checks.{IsAccepted};
-ghost use Rattle.lg_temp.specs.Chosen.{spills};
 
 use crate::node::{first, pushed_behind};
 use crate::target::needs;
@@ -50,7 +49,7 @@ pub(crate) fn node_choices(
 // How many of these choices are saved.
 fn spills(choices: &[Choice]) -> u32
     requires { length choices.now ≤ 3 }
-    ensures { result ≡ spills choices.now }
+    ensures { result ≡ count_by is_spill choices.now }
 {
     choices
         .iter()

@@ -29,13 +29,13 @@ accepted_not l r accepted (inr a) = none_some (sym accepted.end ∙ a.here)
 
 code_once : (t : Target) (nodes size : ℕ) (r q : Refusal) → IsRefusedCode t nodes size r → IsRefusedCode t nodes size q → r ≡ q
 code_once X86_64 nodes size r q a b = a ∙ sym b
-code_once Aarch64 nodes size r q a b = a ∙ sym b
+code_once Aarch64 nodes size r q a b = a.0 ∙ sym b.0
 code_once Riscv64 nodes size r q a b = a.0 ∙ sym b.0
 
 -- code of a target that is built is refused only where it has no room
 only_full : (t : Target) (nodes size : ℕ) (r : Refusal) → IsBuilt t → IsRefusedCode t nodes size r → (r ≡ code_full) × MayBeFull nodes size
 only_full X86_64 nodes size r built a = absurd built
-only_full Aarch64 nodes size r built a = absurd built
+only_full Aarch64 nodes size r built a = a
 only_full Riscv64 nodes size r built a = a
 
 unit_once : (c : Command) (l : LabelledNodes) (r q : Refusal) → IsRefusedUnit c l r → IsRefusedUnit c l q → r ≡ q

@@ -5,7 +5,7 @@ use Rattle.lg_base.specs.declared.refusal.Refusal.{Refusal}
 pub use Rattle.lg_asm.specs.Built.{IsBuilt}
 use Rattle.lg_base.specs.declared.refusal.RefusalKind.TheVariants.{CodeFull, NotYet, TextTooLong}
 use Rattle.lg_base.specs.declared.target.Target.{Target}
-use Rattle.lg_base.specs.declared.target.Target.TheVariants.{Riscv64}
+use Rattle.lg_base.specs.declared.target.Target.TheVariants.{X86_64}
 use Rattle.lg_command.specs.Commands.{Command}
 use Rattle.lg_io.specs.NamedTexts.{NamedTexts, text_under}
 use Rattle.lg_node.specs.Nodes.{LabelledNodes}
@@ -32,8 +32,8 @@ MayBeFull nodes size = size < 256 * nodes + 256
 
 -- nodes that are accepted are refused where the target is not built, or where they have no room in the size
 abbrev pub IsRefusedCode : Target → (nodes size : ℕ) → Refusal → Type 0
-IsRefusedCode Riscv64 nodes size refusal = (refusal ≡ code_full) × MayBeFull nodes size
-IsRefusedCode target nodes size refusal = refusal ≡ not_yet
+IsRefusedCode X86_64 nodes size refusal = refusal ≡ not_yet
+IsRefusedCode target nodes size refusal = (refusal ≡ code_full) × MayBeFull nodes size
 
 abbrev pub IsRefusedAccepted : Command → LabelledNodes → Refusal → Type 0
 IsRefusedAccepted c l refusal = IsRefusedCode c.target (length l.nodes) c.size refusal

@@ -86,15 +86,14 @@ fn code_of(alloc: Global, command: &Command<'_>, text: &Accepted) -> Result<Code
     ensures refused { (r : Refusal) → result ≡ Err (Stop.Refused r) → IsRefusedAccepted (shown command.now) text.now.unit.nodes r }
 {
     match command.target {
-        Target::Riscv64 => assemble(
+        Target::Aarch64 | Target::Riscv64 => assemble(
             alloc,
             &text.unit,
             &text.shape,
-            Target::Riscv64,
+            command.target,
             command.size,
         ),
         Target::X86_64 => Err(Stop::Refused(refusal(RefusalKind::NotYet))),
-        Target::Aarch64 => Err(Stop::Refused(refusal(RefusalKind::NotYet))),
     }
 }
 

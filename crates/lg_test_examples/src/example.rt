@@ -28,11 +28,16 @@ pub enum Outcome {
 }
 
 // The words of the command, those behind the text with tabs between.
-fn words_of(alloc: Global, name: &str, args: &str) -> Result<Vec<String>, AllocError> {
+fn words_of(
+    alloc: Global,
+    target: &str,
+    name: &str,
+    args: &str,
+) -> Result<Vec<String>, AllocError> {
     let mut words = Vec::new(alloc);
     words.push(String::from_str(alloc, "lightning")?)?;
     words.push(String::from_str(alloc, "--target")?)?;
-    words.push(String::from_str(alloc, "riscv64")?)?;
+    words.push(String::from_str(alloc, target)?)?;
     words.push(format!(in alloc; "{name}.tst")?)?;
     for word in args.split('\t') {
         if !word.is_empty() {
@@ -77,14 +82,15 @@ fn status_in(line: &str) -> io::Result<u8> {
     }
 }
 
-/// Runs an example by its name and the words behind its text, with tabs between.
+/// Runs an example on a target, by its name and the words behind its text, with tabs between.
 pub fn run_example(
     rt: &(impl Files + Input + AllocGlobal),
+    target: &str,
     name: &str,
     args: &str,
 ) -> io::Result<Outcome> {
     let alloc = rt.alloc();
-    let words = words_of(alloc, name, args)?;
+    let words = words_of(alloc, target, name, args)?;
     let out = fs::read(rt, format!(in alloc; "{name}.out")?)?;
     let line = fs::read_to_string(rt, format!(in alloc; "{name}.status")?)?;
     let wanted = status_in(line.as_str())?;

@@ -95,10 +95,9 @@ fn takes_words(rt: HostRuntime) -> Result<(), Fail> {
 #[test]
 fn refuses_targets(rt: HostRuntime) -> Result<(), Fail> {
     let err = b"lightning: t.tst:0: refused 0 NotYet\n";
-    let others: [&[&str]; 4] = [
+    let others: [&[&str]; 3] = [
         &["lightning", "t.tst"],
         &["lightning", "--target", "x86_64", "t.tst"],
-        &["lightning", "--target", "aarch64", "t.tst"],
         &["lightning", "--mode", "mean", "t.tst"],
     ];
     for words in others {

@@ -35,6 +35,14 @@ pub fn plain<'a>(text: &'a [u8], out: &'a [u8], err: &'a [u8], status: u8) -> Ro
     }
 }
 
+/// The call on a text for AArch64.
+pub fn on_aarch64<'a>(text: &'a [u8], out: &'a [u8], err: &'a [u8], status: u8) -> Row<'a> {
+    Row {
+        words: &["lightning", "--target", "aarch64", "t.tst"],
+        ..plain(text, out, err, status)
+    }
+}
+
 /// The same in the mode `mean`.
 pub fn meant<'a>(text: &'a [u8], out: &'a [u8], err: &'a [u8], status: u8) -> Row<'a> {
     Row {

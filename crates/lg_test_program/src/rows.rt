@@ -2,7 +2,7 @@
 
 ghost use Rattle.std.specs.Prelude.{◌≤◌, length};
 
-use crate::row::{Row, begins, check, meant, plain};
+use crate::row::{Row, begins, check, meant, on_aarch64, plain};
 use crate::texts::{first_letter, kept_registers, wrapped_sum};
 use std::process::Abort;
 use std::test::Fail;
@@ -19,9 +19,10 @@ const ROWS: &[u8] =
         .data 16 fmt: .c \"%ld %ld %ld\\n\" .code prolog prepare pushargi fmt ellipsis pushargi $(1 << 4 | 3) pushargi $(-7 / 2) pushargi $(0xffffffffffffffff) finishi @printf ret epilog\x1f19 -3 -1\n\x1e\
         .data 40 fmt: .c \"[%5d|%-5d|%05d|%hhd|%x|%c|%%]\\n\" .code prolog prepare pushargi fmt ellipsis pushargi 42 pushargi 42 pushargi -42 pushargi 300 pushargi 255 pushargi 65 finishi @printf ret epilog\x1f[   42|42   |-0042|44|ff|A|%]\n";
 
-// A text that writes this and ends with this status: on RV64 it does what it means.
+// A text that writes this and ends with this status: on AArch64 and RV64 it does what it means.
 fn ends(rt: &(impl AllocGlobal + Abort), text: &[u8], out: &[u8], status: u8) -> Result<(), Fail> {
     check(rt, &plain(text, out, b"", status))?;
+    check(rt, &on_aarch64(text, out, b"", status))?;
     check(rt, &meant(text, out, b"", status))
 }
 
@@ -95,13 +96,15 @@ fn nfibs(rt: HostRuntime) -> Result<(), Fail> {
         "t.tst",
         "10",
     ];
-    check(
-        &rt,
-        &Row {
-            words: &words,
-            ..plain(NFIBS, out, b"", 0)
-        },
-    )?;
+    for words in [words, ["lightning", "--target", "aarch64", "t.tst", "10"]] {
+        check(
+            &rt,
+            &Row {
+                words: &words,
+                ..plain(NFIBS, out, b"", 0)
+            },
+        )?;
+    }
     check(
         &rt,
         &Row {
@@ -117,14 +120,17 @@ const ARGUMENTS: &[u8] =
 
 #[test]
 fn arguments(rt: HostRuntime) -> Result<(), Fail> {
-    let words = ["lightning", "--target", "riscv64", "t.tst", "a", "bc"];
-    check(
-        &rt,
-        &Row {
-            words: &words,
-            ..plain(ARGUMENTS, b"3 bc\n", b"", 0)
-        },
-    )
+    for target in ["riscv64", "aarch64"] {
+        let words = ["lightning", "--target", target, "t.tst", "a", "bc"];
+        check(
+            &rt,
+            &Row {
+                words: &words,
+                ..plain(ARGUMENTS, b"3 bc\n", b"", 0)
+            },
+        )?;
+    }
+    Ok(())
 }
 
 #[test]
@@ -170,6 +176,7 @@ fn undefined_steps(rt: HostRuntime) -> Result<(), Fail> {
     check(&rt, &meant(division, b"x", err, 120))?;
     // the code goes on as it likes behind the undefined step, and what was written before it stays
     begins(&rt, &plain(division, b"x", b"", 0))?;
+    begins(&rt, &on_aarch64(division, b"x", b"", 0))?;
     // a call leaves R0 undefined
     let behind =
         b".code prolog\nmovi %r0 65\nprepare pushargr %r0 finishi @putchar\naddi %r0 %r0 1\nret epilog";

@@ -7,7 +7,7 @@ use Rattle.lg_asm.specs.NodeChoices.{node_choices}
 use Rattle.lg_base.specs.declared.target.Target.{Target}
 use Rattle.lg_node.specs.Checks.{IsAccepted}
 use Rattle.lg_node.specs.Nodes.{LabelledNodes}
-use Rattle.lg_asm.proofs.CountLemmas.{AreCounted, none-counted, one-counted}
+use Rattle.lg_asm.proofs.CountLemmas.{spills-are, AreCounted, none-counted, one-counted}
 use Rattle.lg_asm.proofs.WellLemmas.{pushed-few}
 use Rattle.lg_asm.proofs.counts.counted.Goals as goal
 
@@ -32,7 +32,7 @@ pushed_behind-passed-requires c =
 pub nodes-preserved : goal.nodes-preserved
 nodes-preserved c =
     let more : c.in-Some.more ≡ c.nodes.saved + spills c.node_choices-choices.result =
-    sum c.nodes.saved c.spills.result c.in-Some.more (grind (arith, c.in-Some.ensures)) ∙ ap (λ k. c.nodes.saved + k) (c.spills.ensures ∙ ap spills c.as_slice.ensures.value) in
+    sum c.nodes.saved c.spills.result c.in-Some.more (grind (arith, c.in-Some.ensures)) ∙ ap (λ k. c.nodes.saved + k) (c.spills.ensures ∙ (sym (spills-are c.as_slice.result.now) ∙ ap spills c.as_slice.ensures.value)) in
     subst (λ xs. AreCounted c.args.target c.args.nodes.now c.args.live.now xs c.pushed_behind-passed.result c.in-Some.more (c.nodes.index + 1)) (sym (c.in_ok-push.ensures.items))
     (subst (λ k. AreCounted c.args.target c.args.nodes.now c.args.live.now (c.nodes.list.items ++ c.nodes.passed ∷ []) c.pushed_behind-passed.result k (c.nodes.index + 1)) (sym more)
     (subst (λ k. AreCounted c.args.target c.args.nodes.now c.args.live.now (c.nodes.list.items ++ c.nodes.passed ∷ []) k (c.nodes.saved + spills c.node_choices-choices.result) (c.nodes.index + 1)) (sym c.pushed_behind-passed.ensures)
