@@ -1,5 +1,6 @@
 pub mod ChainLemmas
 pub mod ControlLemmas
+pub mod DepartureLemmas
 pub mod EntranceLemmas
 pub mod FrameWordLemmas
 pub mod HostEntryLemmas

@@ -21,7 +21,7 @@ use Rattle.lg_cpu.specs.A64Step.{loads, load_at, sets, computes, act}
 use Rattle.lg_cpu.specs.HostSteps.{put}
 use Rattle.lg_cpu.specs.Laws.{AreBytes}
 use Rattle.lg_cpu.specs.States.{CpuState, goes_on}
-use Rattle.lg_cpu.specs.Steps.{Run, after, arrived, status_of}
+use Rattle.lg_cpu.specs.Steps.{Run, after, status_of}
 use Rattle.lg_temp.specs.Abis.{register_of}
 use Rattle.lg_carry.specs.Blocks.{done}
 use Rattle.lg_carry.specs.Registers.{HasWord}
@@ -40,8 +40,9 @@ use Rattle.lg_sel_nodes.proofs.StretchLemmas.{part-passes, passages-join}
 use Rattle.lg_sel_values.specs.Computers.{Held}
 use Rattle.lg_sel_values.proofs.ComputationLemmas.{RunsThrough}
 use Rattle.lg_sel_control.specs.Returns.{Returned, NoWord, OfRegister, OfNumber, OfLabel, returned_word, IsReturned, Departure, ReturnsLead}
-use Rattle.lg_sel_control.proofs.ChainLemmas.{RunsAt, next-at, Chain, chain-end, chain-more, block-of, runs-there}
-use Rattle.lg_sel_control.proofs.FrameWordLemmas.{word_at, stack-word, same-word, saved-address, link-address, stack-address, pointer-address}
+use Rattle.lg_sel_control.proofs.ChainLemmas.{RunsAt, next-at, Chain, chain-end, chain-more, block-of}
+use Rattle.lg_sel_control.proofs.DepartureLemmas.{IsLeft, departure}
+use Rattle.lg_sel_control.proofs.FrameWordLemmas.{word_at, stack-word, saved-address, link-address, stack-address, pointer-address}
 use Rattle.lg_sel_control.proofs.StoreLemmas.{HasStack}
 use Rattle.lg_sela_items.specs.Items.{low_quarter, next_quarter}
 use Rattle.lg_sela_values.proofs.UnaryCodeLemmas.{unary-computed, unary-keeps}
@@ -250,33 +251,29 @@ module _ (code : List ℕ) (trash : ℕ) (small : length code ≤ most_code) (by
       left-chain = chain from (length front + 7) (length front) q1 sp back low-frame f.high at1 (omega arith) pointer1 there1 held1
 
   -- the words of the frame come back
-  comes-back : (a x : ℕ) → 0x3FF00000 ≤ a → a + 8 ≤ 0x40000000 → HasWord q.state.bytes a x → word_at q1.state.bytes a ≡ x
-  comes-back a x l g h = same-word q1.state.bytes a (word_at q1.state.bytes a) x (stack-word q1.state.bytes a there1 l g)
-      (subst (λ b. HasWord b a x) (sym bytes-are) h)
-
-  words : (j x : ℕ) → j < 3 → HasWord q.state.bytes (saved_word (frame_pointer sp) j) x → u.state.registers (portable_register Aarch64 (j + 3)) ≡ x
-  words zero x lt h = let t = f.high in comes-back (saved_word (frame_pointer sp) 0) x (omega (arith, low-frame)) (omega (arith, t)) h
-  words (suc zero) x lt h = let t = f.high in comes-back (saved_word (frame_pointer sp) 1) x (omega (arith, low-frame)) (omega (arith, t)) h
-  words (suc (suc zero)) x lt h = let t = f.high in comes-back (saved_word (frame_pointer sp) 2) x (omega (arith, low-frame)) (omega (arith, t)) h
-  words (suc (suc (suc j))) x lt h = absurd (omega (arith, lt))
-
-  pub departs : Departure (a64_processor code trash) from high sp back (returned_word Aarch64 q.state.registers r) q
-  departs = record {
-    end = u;
-    steps = length front + 7;
-    passes = pass;
-    few = let z = made.few in omega (arith, z);
-    some = omega arith;
-    runs = λ low. runs-there back low;
-    ends = λ e. ap (λ z. status_of (arrived z)) e;
-    here = refl;
-    stack_is = refl;
-    pointer = λ x h. let t = f.high in comes-back (frame_pointer sp) x (omega (arith, low-frame)) (omega (arith, t)) h;
-    saved = words;
+  is-left : IsLeft (a64_processor code trash) sp back (returned_word Aarch64 q.state.registers r) q u
+  is-left = record {
+    saved = saved-words;
+    pointer = ap (λ b. word_at b (frame_pointer sp)) bytes-are;
+    stack = refl;
     result = λ x e. ap (λ g. g result) registers-are ∙ made.value x e;
     bytes = bytes-are;
     mark = ran.mark;
+    here = refl;
+    progress = refl;
   }
+    where
+      saved-words : (j : ℕ) → j < 3 → u.state.registers (portable_register Aarch64 (j + 3)) ≡ word_at q.state.bytes (saved_word (frame_pointer sp) j)
+      saved-words zero lt = ap (λ b. word_at b (saved_word (frame_pointer sp) 0)) bytes-are
+      saved-words (suc zero) lt = ap (λ b. word_at b (saved_word (frame_pointer sp) 1)) bytes-are
+      saved-words (suc (suc zero)) lt = ap (λ b. word_at b (saved_word (frame_pointer sp) 2)) bytes-are
+      saved-words (suc (suc (suc j))) lt = absurd (omega (arith, lt))
+
+  pub departs : Departure (a64_processor code trash) from high sp back (returned_word Aarch64 q.state.registers r) q
+  departs =
+      let z = made.few in
+      departure (a64_processor code trash) sp back (returned_word Aarch64 q.state.registers r) q u low-frame f.high f.seen.stack is-left from high (length front + 7) pass
+      (omega (arith, z)) (omega arith)
 
 pub returns-lead : (code : List ℕ) (trash : ℕ) → length code ≤ most_code → AreBytes code → trash < 2 ^ 64
     → ReturnsLead (a64_rows code trash) IsInstr returned_code

@@ -14,7 +14,7 @@ use Rattle.lg_rv.specs.declared.instruction.Instr.{Instr}
 use Rattle.lg_rv.specs.declared.instruction.Instr.TheVariants as instr
 use Rattle.lg_rv.specs.declared.instruction.ImmOp.TheVariants.{Ld, Addi, Jalr}
 use Rattle.lg_base.specs.declared.fault.FaultKind.TheVariants.{Align}
-use Rattle.lg_cpu.specs.Steps.{Run, after, arrived, faults, status_of}
+use Rattle.lg_cpu.specs.Steps.{Run, after, faults, status_of}
 use Rattle.lg_cpu.specs.HostSteps.{put}
 use Rattle.lg_cpu.specs.States.{CpuState}
 use Rattle.lg_cpu.specs.RvStep.{read, goes, sets, loads, load_at, act}
@@ -40,8 +40,9 @@ use Rattle.lg_sel_nodes.proofs.StraightLemmas.{in-room}
 use Rattle.lg_sel_nodes.proofs.StretchLemmas.{part-passes, passages-join}
 use Rattle.lg_sel_control.specs.Returns.{Returned, NoWord, OfRegister, OfNumber, OfLabel, returned_word, IsReturned, Departure, IsBack, ReturnsLead}
 use Rattle.lg_selr_control.specs.Returns.{return_code, result_code, returned_code}
-use Rattle.lg_sel_control.proofs.ChainLemmas.{RunsAt, next-at, Chain, chain-end, chain-more, block-of, straight-block, runs-there}
-use Rattle.lg_sel_control.proofs.FrameWordLemmas.{word_at, stack-word, same-word, saved-address, link-address, stack-address, pointer-address}
+use Rattle.lg_sel_control.proofs.ChainLemmas.{RunsAt, next-at, Chain, chain-end, chain-more, block-of, straight-block}
+use Rattle.lg_sel_control.proofs.DepartureLemmas.{IsLeft, departure}
+use Rattle.lg_sel_control.proofs.FrameWordLemmas.{word_at, stack-word, saved-address, link-address, stack-address, pointer-address}
 use Rattle.lg_selr_control.proofs.ComputedLemmas.{all-straight, same-words}
 use Rattle.lg_selr_control.proofs.StretchLemmas.{spelled-size}
 use Rattle.lg_carry_rv.proofs.RegisterLemmas.{read-of}
@@ -256,33 +257,29 @@ module _ (code : List ℕ) (trash : ℕ) (small : length code ≤ most_code) (by
       left-chain = chain from (length front + 7) (length front) q1 sp back low-frame f.high even at1 (omega arith) pointer1 there1 held1 near back-aligned
 
   -- the words of the frame come back
-  comes-back : (a x : ℕ) → 0x3FF00000 ≤ a → a + 8 ≤ 0x40000000 → HasWord q.state.bytes a x → word_at q1.state.bytes a ≡ x
-  comes-back a x l g h = same-word q1.state.bytes a (word_at q1.state.bytes a) x (stack-word q1.state.bytes a there1 l g)
-      (subst (λ b. HasWord b a x) (sym bytes-are) h)
-
-  words : (j x : ℕ) → j < 3 → HasWord q.state.bytes (saved_word (frame_pointer sp) j) x → u.state.registers (portable_register Riscv64 (j + 3)) ≡ x
-  words zero x lt h = let t = f.high in comes-back (saved_word (frame_pointer sp) 0) x (omega (arith, low-frame)) (omega (arith, t)) h
-  words (suc zero) x lt h = let t = f.high in comes-back (saved_word (frame_pointer sp) 1) x (omega (arith, low-frame)) (omega (arith, t)) h
-  words (suc (suc zero)) x lt h = let t = f.high in comes-back (saved_word (frame_pointer sp) 2) x (omega (arith, low-frame)) (omega (arith, t)) h
-  words (suc (suc (suc j))) x lt h = absurd (omega (arith, lt))
-
-  pub departs : Departure (rv_processor code trash) from high sp back (returned_word Riscv64 q.state.registers r) q
-  departs = record {
-    end = u;
-    steps = length front + 7;
-    passes = pass;
-    few = let z = made.few in omega (arith, z);
-    some = omega arith;
-    runs = λ low. runs-there back low;
-    ends = λ e. ap (λ z. status_of (arrived z)) e;
-    here = refl;
-    stack_is = refl;
-    pointer = λ x h. let t = f.high in comes-back (frame_pointer sp) x (omega (arith, low-frame)) (omega (arith, t)) h;
-    saved = words;
+  is-left : IsLeft (rv_processor code trash) sp back (returned_word Riscv64 q.state.registers r) q u
+  is-left = record {
+    saved = saved-words;
+    pointer = ap (λ b. word_at b (frame_pointer sp)) bytes-are;
+    stack = refl;
     result = λ x e. ap (λ g. g 10) registers-are ∙ made.value x e;
     bytes = bytes-are;
     mark = ran.mark;
+    here = refl;
+    progress = refl;
   }
+    where
+      saved-words : (j : ℕ) → j < 3 → u.state.registers (portable_register Riscv64 (j + 3)) ≡ word_at q.state.bytes (saved_word (frame_pointer sp) j)
+      saved-words zero lt = ap (λ b. word_at b (saved_word (frame_pointer sp) 0)) bytes-are
+      saved-words (suc zero) lt = ap (λ b. word_at b (saved_word (frame_pointer sp) 1)) bytes-are
+      saved-words (suc (suc zero)) lt = ap (λ b. word_at b (saved_word (frame_pointer sp) 2)) bytes-are
+      saved-words (suc (suc (suc j))) lt = absurd (omega (arith, lt))
+
+  pub departs : Departure (rv_processor code trash) from high sp back (returned_word Riscv64 q.state.registers r) q
+  departs =
+      let z = made.few in
+      departure (rv_processor code trash) sp back (returned_word Riscv64 q.state.registers r) q u low-frame f.high f.seen.stack is-left from high (length front + 7) pass
+      (omega (arith, z)) (omega arith)
 
 pub returns-lead : (code : List ℕ) (trash : ℕ) → length code ≤ most_code → AreBytes code → trash < 2 ^ 64
     → ReturnsLead (rv_rows code trash) IsInstr returned_code
