@@ -66,7 +66,7 @@ zero-apart x e = let z : x ≡ 0 = grind (arith, e) in (
     linked : (x : ℕ) → Some 1 ≡ Some x → x ≡ 0 → ⊥
     linked x same z = cc
 
-off-zero : (x : ℕ) → (x == 0) ≡ false → x ≢ 0
+pub off-zero : (x : ℕ) → (x == 0) ≡ false → x ≢ 0
 off-zero x e z = absurd (grind (arith, e, z))
 
 module _ (code : List ℕ) (trash : ℕ) where
