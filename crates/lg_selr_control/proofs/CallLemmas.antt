@@ -16,7 +16,6 @@ use Rattle.lg_temp.specs.Abis.{register_of}
 use Rattle.lg_rv.specs.Spelling.{IsInstr}
 use Rattle.lg_rv.specs.declared.instruction.Instr.TheVariants as instr
 use Rattle.lg_rv.specs.declared.instruction.ImmOp.TheVariants.{Jalr}
-use Rattle.lg_rv.specs.declared.instruction.UpperOp.TheVariants.{Lui}
 use Rattle.lg_cpu.specs.Laws.{AreBytes}
 use Rattle.lg_cpu.specs.Steps.{Run, Effect, after, arrived, faults, status_of}
 use Rattle.lg_cpu.specs.HostSteps.{put, behind_call, answer_at, returned}
@@ -116,8 +115,7 @@ module _ (code : List ℕ) (trash : ℕ) (small : length code ≤ most_code) (by
       let runs1 : status_of q1.progress ≡ Running = goes-on q.state.pc (omega (arith, low, at)) (omega (arith, high, at)) in
       let e : Effect CpuState = goes a (put q1.state.registers 1 (add_words q1.state.pc 4)) q1.state.bytes q1.state.mark in
       let u : Run CpuState = after q1 e in
-      let first : act (instr.Upper Lui 1 (high_part a)) q.state ≡ sets q.state 1 v1 = refl in
-      let chain : Chain act (host_code name) q u = chain-more act _ _ q u (sets q.state 1 v1) runs first
+      let chain : Chain act (host_code name) q u = chain-more act _ _ q u (sets q.state 1 v1) runs refl
       (chain-more act _ _ q1 u e runs1 (ap (jump_to q1.state 1) (entry-address name) ∙ ap (λ b. if b then e else faults q1.state Align) (ap (λ n. n == 0) (entry-aligned name)))
       (chain-end act u)) in
       let behind-it : ℕ = behind (rv_rows code trash) from (host_code name) in record {
