@@ -1,0 +1,133 @@
+-- What the rewritings promise, from which nodes stay and which targets they get.
+use Rattle.std.proofs.Common.{◌≡◌, inl, inr, ℕ, ◌<◌, Bool, List, Option, Some, None, length, map, refl, sym, ap, ◌∙◌, subst, arith, Ok, Err}
+use Rattle.std.specs.Prelude.{Result, IfOk, slice_get, slice_index}
+use Rattle.std.specs.List.{All}
+use Rattle.std.specs.Option.{option_map}
+use Rattle.std.proofs.lemmas.List.{length-map}
+use Rattle.std.proofs.lemmas.Option.{slice_get-map, slice_get-get_or, slice_get_within, get_or_from_slice_get}
+use Rattle.lg_op.specs.Nodes.{InForm}
+use Rattle.lg_op.specs.declared.node.Node.{Node}
+use Rattle.lg_op.specs.declared.operand.Label.{Label}
+use Rattle.lg_node.specs.Functions.{functions}
+use Rattle.lg_node.specs.Nodes.{LabelledNodes, MayStand}
+use Rattle.lg_node.proofs.FunctionLaws.{node_within}
+use Rattle.lg_node.specs.ShapeLaws.{has_target}
+use Rattle.lg_node.specs.Shapes.{TextShape, IsShapeOf}
+use Rattle.lg_opt.specs.Goals as goals
+use Rattle.lg_opt.specs.Hops.{HasNoIdleJumps}
+use Rattle.lg_opt.specs.Moves as moves
+use Rattle.lg_opt.specs.Moves.{HasNoIdleMoves}
+use Rattle.lg_opt.specs.Remaining.{rewritten, retargeted, no_targets, origins}
+use Rattle.lg_opt.specs.Rewritings.{marked, target_in, IsOrigin, IsSameNode, IsThreadedNode, KeepsLabels, CarriesAddresses, RunsAreDropped, RunsAreThreaded, IsDroppedTo, IsThreadedTo}
+use Rattle.lg_opt.proofs.DropLemmas.{drops-rewrite, are-dropped}
+use Rattle.lg_opt.proofs.JumpTidyLemmas.{no-idle-jumps}
+use Rattle.lg_opt.proofs.MoveTidyLemmas.{no-moves-left, keeps-moves}
+use Rattle.lg_opt.proofs.OriginLemmas.{rewritten-same, origins-same, origin-is, keeps-labels, carries-addresses}
+use Rattle.lg_opt.proofs.TargetLemmas.{threads-rewrite}
+use Rattle.lg_opt.proofs.ThreadedLemmas.{are-threaded}
+
+pub ok-weaker : {A E : Type 0} (P Q : A → Type 0) (r : Result A E) → ((x : A) → P x → Q x) → IfOk r P → IfOk r Q
+ok-weaker P Q (Ok x) f h = f x h
+ok-weaker P Q (Err e) f h = tt
+
+pub all-ok : {A E : Type 0} (P Q R S T : A → Type 0) (r : Result A E) → ((x : A) → P x → Q x → R x → S x → T x) → IfOk r P → IfOk r Q → IfOk r R → IfOk r S → IfOk r T
+all-ok P Q R S T (Ok x) f p q r s = f x p q r s
+all-ok P Q R S T (Err e) f p q r s = tt
+
+-- tables of the nodes that stay
+module _ (l : LabelledNodes) (stays : ℕ → Bool) (now : List Bool) (count : length now ≡ length l.nodes) (are : (i : ℕ) → i < length l.nodes → marked now i ≡ stays i) where
+  pub list-is : (table : List (Option Label)) (targets : ℕ → Option Label) → ((i : ℕ) → i < length l.nodes → target_in table i ≡ targets i) → All (MayStand (length l.nodes)) l.places
+      → (list : LabelledNodes) → list ≡ rewritten l (marked now) (target_in table) → list ≡ rewritten l stays targets
+  list-is table targets same placed list e = e ∙ rewritten-same l (marked now) stays (target_in table) targets are same placed
+
+  pub from-is : origins (marked now) (length now) ≡ origins stays (length l.nodes)
+  from-is = ap (origins (marked now)) count ∙ origins-same (marked now) stays (length l.nodes) are
+
+module _ (l : LabelledNodes) (shape : TextShape) (is : IsShapeOf l shape) (formed : All InForm l.nodes) (m : LabelledNodes) (new_shape : TextShape) (origin : List ℕ) where
+  module _ (d : IsDroppedTo l shape m new_shape origin) where
+    abbrev dm : LabelledNodes
+    dm = rewritten l (moves.stays l) no_targets
+
+    pub dropped-origin : IsOrigin IsSameNode l m origin
+    dropped-origin = subst (λ (x : LabelledNodes). IsOrigin IsSameNode l x origin) (sym d.nodes) (subst (IsOrigin IsSameNode l dm) (sym d.from) (origin-is l (moves.stays l) no_targets IsSameNode (λ i n e. refl)))
+
+    pub dropped-labels : KeepsLabels l m
+    dropped-labels = subst (KeepsLabels l) (sym d.nodes) (keeps-labels l (moves.stays l) no_targets)
+
+    pub dropped-moves : HasNoIdleMoves m
+    dropped-moves = subst HasNoIdleMoves (sym d.nodes) (no-moves-left l is.accepted formed)
+
+    pub dropped-addresses : CarriesAddresses l m
+    dropped-addresses = subst (CarriesAddresses l) (sym d.nodes) (carries-addresses l (moves.stays l) no_targets (drops-rewrite l) is.accepted)
+
+    pub dropped-runs : RunsAreDropped l shape m new_shape
+    dropped-runs = subst (λ (x : LabelledNodes). RunsAreDropped l shape x new_shape) (sym d.nodes)
+        (λ size A image args are. are-dropped l shape is formed A new_shape (subst (λ (x : LabelledNodes). new_shape.functions ≡ functions x.nodes) d.nodes d.shaped.functions) d.taken size are image args)
+
+  module _ (d : IsThreadedTo l shape m new_shape origin) where
+    abbrev tm : LabelledNodes
+    tm = rewritten l (goals.stays l) d.targets
+
+    stands-for : (i : ℕ) (n : Node) → slice_get l.nodes i ≡ Some n → IsThreadedNode n (retargeted (d.targets i) n)
+    stands-for i n e = by (d.targets i) refl
+      where
+        by : (o : Option Label) → d.targets i ≡ o → IsThreadedNode n (retargeted o n)
+        by None f = inl refl
+        by (Some y) f = inr ((d.are.others i n y e f).jumps, y, refl)
+
+    pub threaded-origin : IsOrigin IsThreadedNode l m origin
+    threaded-origin = subst (λ (x : LabelledNodes). IsOrigin IsThreadedNode l x origin) (sym d.nodes) (subst (IsOrigin IsThreadedNode l tm) (sym d.from) (origin-is l (goals.stays l) d.targets IsThreadedNode stands-for))
+
+    pub threaded-labels : KeepsLabels l m
+    threaded-labels = subst (KeepsLabels l) (sym d.nodes) (keeps-labels l (goals.stays l) d.targets)
+
+    pub threaded-jumps : HasNoIdleJumps m has_target
+    threaded-jumps = subst (λ (x : LabelledNodes). HasNoIdleJumps x has_target) (sym d.nodes) (no-idle-jumps l is.accepted formed d.targets d.are)
+
+    pub threaded-moves : HasNoIdleMoves l → HasNoIdleMoves m
+    threaded-moves h = subst HasNoIdleMoves (sym d.nodes) (keeps-moves l is.accepted formed d.targets d.are h)
+
+    pub threaded-addresses : CarriesAddresses l m
+    threaded-addresses = subst (CarriesAddresses l) (sym d.nodes) (carries-addresses l (goals.stays l) d.targets (threads-rewrite l is.accepted formed d.targets d.are) is.accepted)
+
+    pub threaded-runs : RunsAreThreaded l shape m new_shape
+    threaded-runs = subst (λ (x : LabelledNodes). RunsAreThreaded l shape x new_shape) (sym d.nodes)
+        (λ size A image args are. are-threaded l shape is formed d.targets d.are new_shape (subst (λ (x : LabelledNodes). new_shape.functions ≡ functions x.nodes) d.nodes d.shaped.functions) d.taken A size are image args)
+
+-- both, one behind the other
+pub origins-join : (l m n : LabelledNodes) (first second : List ℕ) → IsOrigin IsSameNode l m first → IsOrigin IsThreadedNode m n second → IsOrigin IsThreadedNode l n (map (slice_index first) second)
+origins-join l m n first second a b = record {
+  count = length-map second (slice_index first) ∙ b.count;
+  rises = λ i k lt less.
+      let few = length-map second (slice_index first) in
+      let y : k < length second = omega (arith, less, few) in
+      let z = within k y in
+      let up = a.rises (slice_index second i) (slice_index second k) (b.rises i k lt y) z in
+      let p = mapped i (omega arith) in let q = mapped k y in
+      omega (arith, up, p, q);
+  nodes = λ k x e.
+      let c = b.nodes k x e in
+      let o = a.nodes (slice_index second k) c.0 c.1 in
+      let y : k < length second = (let z = slice_get_within n.nodes k x e in omega (arith, b.count)) in
+      (o.0, ap (slice_get l.nodes) (mapped k y) ∙ o.1, subst (λ (u : Node). IsThreadedNode u x) o.2 c.2);
+}
+  where
+    mapped : (k : ℕ) → k < length second → slice_index (map (slice_index first) second) k ≡ slice_index first (slice_index second k)
+    mapped k lt = get_or_from_slice_get (map (slice_index first) second) k (slice_index first (slice_index second k)) 0 (slice_get-map (slice_index first) second k ∙ ap (option_map (slice_index first)) (slice_get-get_or second k 0 lt))
+
+    within : (k : ℕ) → k < length second → slice_index second k < length first
+    within k lt =
+        let at = node_within n.nodes k (omega (arith, lt, b.count)) in
+        let c = b.nodes k at.0 at.1 in
+        let z = slice_get_within m.nodes (slice_index second k) c.0 c.1 in
+        omega (arith, z, a.count)
+
+pub joins-within : (m n : LabelledNodes) (first second : List ℕ) → length first ≡ length m.nodes → IsOrigin IsThreadedNode m n second → (k : ℕ) → k < length second → slice_index second k < length first
+joins-within m n first second count b k lt =
+    let at = node_within n.nodes k (omega (arith, lt, b.count)) in
+    let c = b.nodes k at.0 at.1 in
+    let z = slice_get_within m.nodes (slice_index second k) c.0 c.1 in
+    omega (arith, z, count)
+
+pub labels-join : (l m n : LabelledNodes) → KeepsLabels l m → KeepsLabels m n → KeepsLabels l n
+labels-join l m n a b = record { words = b.words ∙ a.words; count = b.count ∙ a.count; images = λ x k e. a.images x k (b.images x k e) }

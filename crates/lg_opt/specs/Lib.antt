@@ -1,0 +1,11 @@
+pub mod Renumbered
+pub mod Remaining
+pub mod Paired
+pub mod Moves
+pub mod Hops
+pub mod Threads
+pub mod Goals
+pub mod SourceTables
+pub mod Runs
+pub mod Targets
+pub mod Rewritings

@@ -1,0 +1,90 @@
+-- What rewritten nodes are to the nodes that they were rewritten from.
+use Rattle.std.specs.Prelude.{◌≡◌, ◌⊎◌, ℕ, ◌<◌, Bool, true, false, List, [], Option, Some, None, length, replicate, slice_get, slice_index, slice_index_or}
+use Rattle.lg_op.specs.declared.node.Node.{Node}
+use Rattle.lg_op.specs.declared.operand.Label.{Label}
+use Rattle.lg_node.specs.declared.place.Place.TheVariants as place
+use Rattle.lg_node.specs.Nodes.{LabelledNodes}
+use Rattle.lg_node.specs.ShapeLaws.{has_target}
+use Rattle.lg_node.specs.Shapes.{TextShape, IsShapeOf}
+use Rattle.lg_meaning.specs.Addresses.{IsBound, AreAddresses}
+use Rattle.lg_rewritten.specs.Rewritten.{MeaningIsFollowed}
+use Rattle.lg_opt.specs.Goals as goals
+use Rattle.lg_opt.specs.Hops.{HasNoIdleJumps}
+use Rattle.lg_opt.specs.Moves.{HasNoIdleMoves}
+use Rattle.lg_opt.specs.Moves as moves
+use Rattle.lg_opt.specs.Remaining.{retargeted, rewritten, no_targets, origins}
+use Rattle.lg_opt.specs.Targets.{AreTargets}
+use Rattle.lg_opt.specs.Runs.{AreDropped, AreThreaded}
+
+-- each new node stands for the old one of a number, and the numbers rise
+pub record IsOrigin (Stands : Node → Node → Type 0) (l m : LabelledNodes) (origin : List ℕ) : Type 0 where
+  pub count : length origin ≡ length m.nodes
+  pub rises : (i k : ℕ) → i < k → k < length origin → slice_index origin i < slice_index origin k
+  pub nodes : (k : ℕ) (n : Node) → slice_get m.nodes k ≡ Some n → (old : Node) × (slice_get l.nodes (slice_index origin k) ≡ Some old) × Stands old n
+
+-- a node stands for itself
+abbrev pub IsSameNode : Node → Node → Type 0
+IsSameNode old n = n ≡ old
+
+-- or it is a branch or jump with another label as its target
+abbrev pub IsThreadedNode : Node → Node → Type 0
+IsThreadedNode old n = (n ≡ old) ⊎ ((has_target old.op ≡ true) × (y : Label) × (n ≡ retargeted (Some y) old))
+
+-- the labels are the same ones, and those of data are bound where they were
+pub record KeepsLabels (l m : LabelledNodes) : Type 0 where
+  pub words : m.words ≡ l.words
+  pub count : length m.places ≡ length l.places
+  pub images : (x k : ℕ) → IsBound m x (place.Image k) → IsBound l x (place.Image k)
+
+-- addresses of the labels in the new nodes are addresses of them in the old ones
+abbrev pub CarriesAddresses : LabelledNodes → LabelledNodes → Type 0
+CarriesAddresses l m = (size : ℕ) (addresses : List ℕ) → AreAddresses m size addresses → AreAddresses l size addresses
+
+-- over addresses of the labels in the new nodes the new run follows the old one, from each start
+abbrev pub RunsAreDropped : LabelledNodes → TextShape → LabelledNodes → TextShape → Type 0
+RunsAreDropped l shape m new_shape =
+    (size : ℕ) (addresses image args : List ℕ) → AreAddresses m size addresses → AreDropped l shape m new_shape addresses image args
+
+abbrev pub RunsAreThreaded : LabelledNodes → TextShape → LabelledNodes → TextShape → Type 0
+RunsAreThreaded l shape m new_shape =
+    (size : ℕ) (addresses image args : List ℕ) → AreAddresses m size addresses → AreThreaded l shape m new_shape addresses image args
+
+abbrev pub RunsAreFollowed : LabelledNodes → TextShape → LabelledNodes → TextShape → Type 0
+RunsAreFollowed l shape m new_shape =
+    (size : ℕ) (addresses image args : List ℕ) → AreAddresses m size addresses → MeaningIsFollowed l shape m new_shape addresses image args
+
+-- no needless move, no jump to a jump and none to what follows
+pub record IsTidy (l : LabelledNodes) : Type 0 where
+  pub moves : HasNoIdleMoves l
+  pub jumps : HasNoIdleJumps l has_target
+
+-- ---- tables
+-- what a table has of a node
+abbrev pub marked : List Bool → ℕ → Bool
+marked table i = slice_index_or table i false
+
+abbrev pub target_in : List (Option Label) → ℕ → Option Label
+target_in table i = slice_index_or table i None
+
+-- other targets are those of branches and jumps
+abbrev pub TargetsAreOfJumps : LabelledNodes → List (Option Label) → Type 0
+TargetsAreOfJumps l targets = (i : ℕ) (n : Node) (y : Label) → slice_get l.nodes i ≡ Some n → target_in targets i ≡ Some y → has_target n.op ≡ true
+
+-- no nodes, and these labels, none of them bound
+abbrev pub unbound : List (List ℕ) → LabelledNodes
+unbound words = record { nodes = []; words = words; places = replicate (length words) None }
+
+-- what dropping idle moves, and threading jumps, make of nodes: which nodes stay and which targets they get
+pub record IsDroppedTo (l : LabelledNodes) (shape : TextShape) (m : LabelledNodes) (new_shape : TextShape) (origin : List ℕ) : Type 0 where
+  pub nodes : m ≡ rewritten l (moves.stays l) no_targets
+  pub shaped : IsShapeOf m new_shape
+  pub taken : new_shape.taken ≡ shape.taken
+  pub from : origin ≡ origins (moves.stays l) (length l.nodes)
+
+pub record IsThreadedTo (l : LabelledNodes) (shape : TextShape) (m : LabelledNodes) (new_shape : TextShape) (origin : List ℕ) : Type 0 where
+  pub targets : ℕ → Option Label
+  pub are : AreTargets l targets
+  pub nodes : m ≡ rewritten l (goals.stays l) targets
+  pub shaped : IsShapeOf m new_shape
+  pub taken : new_shape.taken ≡ shape.taken
+  pub from : origin ≡ origins (goals.stays l) (length l.nodes)

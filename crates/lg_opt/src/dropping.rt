@@ -1,0 +1,46 @@
+// Moves that do nothing are dropped.
+
+ghost use Rattle.std.specs.Prelude.{◌≡◌, IfOk};
+ghost use Rattle.lg_node.specs.Shapes.{IsShapeOf};
+ghost use Rattle.lg_opt.specs.Moves.{HasNoIdleMoves};
+ghost use Rattle.lg_opt.specs.Rewritings.{IsOrigin, IsSameNode, KeepsLabels, CarriesAddresses, RunsAreDropped, IsDroppedTo};
+
+use crate::labels::labels_at;
+use crate::moves::staying;
+use crate::rebuilding::rebuilt;
+use crate::rewritten::{Rewritten, finished};
+use lg_base::refusal::OutOfMemory;
+use lg_node::{NodeList, Shape};
+use std::alloc::Global;
+
+// The nodes without the moves that do nothing.
+fn dropped(alloc: Global, nodes: &NodeList, shape: &Shape) -> Result<Rewritten, OutOfMemory>
+    requires { IsShapeOf nodes.now shape.now }
+    ensures { IfOk result (λ r. IsDroppedTo nodes.now shape.now r.nodes r.shape r.origin.items) }
+{
+    nodes.what_holds();
+    let labels = labels_at(alloc, nodes)?;
+    let stays = staying(alloc, nodes, &labels)?;
+    let list = rebuilt(alloc, nodes, &stays, &[])?;
+    finished(alloc, list, shape, &stays)
+}
+
+/// Drops each move that does nothing: of a register to itself, and of one to another where an earlier move of the same straight run has moved one
+/// of the two into the other and neither was written since. A label of a dropped node moves to the next that stays. The shape is that of the
+/// nodes. Time and memory go by the number of nodes and labels.
+///
+/// The new run makes a step where the old one stands at a node that stays, and rests at the others, over any addresses of the labels in the new
+/// nodes. No branch, jump, call or return is dropped.
+pub fn drop_moves(alloc: Global, nodes: &NodeList, shape: &Shape) -> Result<Rewritten, OutOfMemory>
+    requires { IsShapeOf nodes.now shape.now }
+    ensures shape { IfOk result (λ r. IsShapeOf r.nodes r.shape) }
+    ensures taken { IfOk result (λ r. r.shape.taken ≡ shape.now.taken) }
+    ensures origin { IfOk result (λ r. IsOrigin IsSameNode nodes.now r.nodes r.origin.items) }
+    ensures labels { IfOk result (λ r. KeepsLabels nodes.now r.nodes) }
+    ensures moves { IfOk result (λ r. HasNoIdleMoves r.nodes) }
+    ensures addresses { IfOk result (λ r. CarriesAddresses nodes.now r.nodes) }
+    ensures runs { IfOk result (λ r. RunsAreDropped nodes.now shape.now r.nodes r.shape) }
+{
+    nodes.what_holds();
+    dropped(alloc, nodes, shape)
+}

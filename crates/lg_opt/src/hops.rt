@@ -1,0 +1,94 @@
+// Where jumps lead: a table with the node to which the jumps from each node lead in the end.
+
+ghost use Rattle.std.specs.Prelude.{◌≡◌, ◌<◌, ◌≤◌, ◌+◌, ◌^◌, ℕ, length, slice_index, IfOk};
+ghost use Rattle.lg_node.specs.Nodes.{LabelledNodes};
+ghost use Rattle.lg_node.specs.Labels.{place_of};
+ghost use Rattle.lg_opt.specs.Hops.{AreHops, AreLeads, AreWithin, JumpsWithin, hop, is_jump};
+ghost use Rattle.lg_opt.specs.Targets.{target_node};
+
+use lg_base::refusal::OutOfMemory;
+use lg_node::{ControlOp, Label, LastOperand, Node, NodeList, Op, Operand, Place};
+use std::alloc::Global;
+
+// Where twice as many jumps lead, or more: each lead is followed once.
+fn double(table: &mut [u32])
+    requires { AreWithin table.old }
+    ensures within { AreWithin table.new }
+    ensures leads { (l : LabelledNodes) (w : ℕ) → AreLeads l w table.old → AreLeads l (w + w) table.new }
+{
+    for index in 0..table.len() {
+        table[index] = table[table[index] as usize];
+    }
+}
+
+// The place at which a label is bound, and None where it is not bound or there is no such label.
+fn place_of(nodes: &NodeList, label: Label) -> Option<Place>
+    ensures { result ≡ place_of nodes.now.places label }
+{
+    if label.0 < nodes.labels() {
+        nodes.place(label)
+    } else {
+        None
+    }
+}
+
+/// The node to which a branch or jump goes.
+pub fn target_node(nodes: &NodeList, node: &Node) -> u32
+    ensures { result ≡ target_node nodes.now node.now }
+{
+    match node.operands.as_slice() {
+        [Operand::Label(label), ..] => match place_of(nodes, *label) {
+            Some(Place::Node(target)) => target,
+            _ => 0,
+        },
+        _ => 0,
+    }
+}
+
+/// The node to which a jump goes; another node stays.
+pub fn hop(nodes: &NodeList, index: u32) -> u32
+    requires inside { index < length nodes.now.nodes }
+    ensures { result ≡ hop nodes.now index }
+{
+    let node = nodes.node(index);
+    if is_jump(node.op) {
+        target_node(nodes, &node)
+    } else {
+        index
+    }
+}
+
+/// Whether an operation is an unconditional jump to a label.
+pub fn is_jump(op: Op) -> bool
+    ensures { result ≡ is_jump op }
+{
+    matches!(op, Op::Control(ControlOp::Jmp, LastOperand::Immediate))
+}
+
+// Of each node where the jump at it goes.
+fn hops(alloc: Global, nodes: &NodeList) -> Result<Vec<u32>, OutOfMemory>
+    ensures { IfOk result (λ table. (length table.items ≡ length nodes.now.nodes) × AreHops nodes.now table.items) }
+{
+    let mut table = Vec::new(alloc);
+    for index in 0..nodes.len() {
+        table.push(hop(nodes, index))?;
+    }
+    Ok(table)
+}
+
+/// Of each node where the jumps from it lead: at least as many jumps on as there are nodes. So it leads to the node that is no jump where the jumps
+/// end, and to a jump where they never do.
+pub fn leads(alloc: Global, nodes: &NodeList) -> Result<Vec<u32>, OutOfMemory>
+    requires within { JumpsWithin nodes.now }
+    ensures { IfOk result
+        (λ table. (length table.items ≡ length nodes.now.nodes) × AreWithin table.items × AreLeads nodes.now (length nodes.now.nodes) table.items) }
+{
+    let mut table = hops(alloc, nodes)?;
+    let count = nodes.len() as u64;
+    let mut far: u64 = 1;
+    while far < count {
+        double(&mut table);
+        far = far + far;
+    }
+    Ok(table)
+}

@@ -1,0 +1,20 @@
+//! The rewrites of a text's nodes: moves that do nothing and jumps to jumps are taken out.
+#![tactic(auto)]
+
+mod dropping;
+mod drops;
+mod hops;
+mod labels;
+pub mod laws;
+mod moves;
+mod rebuilding;
+mod rewriting;
+mod rewritten;
+mod sources;
+mod targets;
+mod threading;
+
+pub use dropping::drop_moves;
+pub use rewriting::rewrite;
+pub use rewritten::Rewritten;
+pub use threading::thread;

@@ -1,0 +1,76 @@
+// Which moves do nothing.
+
+ghost use Rattle.std.specs.Prelude.{◌≡◌, ◌<◌, if◌then◌else◌, not, None, Some, Option, false, length, slice_get, slice_index_or, IfOk};
+ghost use Rattle.lg_op.specs.declared.operand.Reg.{Reg};
+ghost use Rattle.lg_carry.specs.Carries.{leaps};
+ghost use Rattle.lg_opt.specs.Moves.{behind_at, is_idle, move_of, stays};
+ghost use Rattle.lg_opt.specs.SourceTables.{source_of, AreStays};
+ghost use Rattle.lg_opt.specs.Targets.{AreLabelsAt};
+
+use crate::labels::is_labelled;
+use crate::sources::{Sources, move_of};
+use lg_base::refusal::OutOfMemory;
+use lg_node::{ControlOp, Label, Node, NodeList, Op, PlainOp};
+use std::alloc::Global;
+
+/// Whether an operation is a branch, jump, call or return: behind them a straight run is over.
+pub fn leaps(op: Op) -> bool
+    ensures { result ≡ leaps op }
+{
+    match op {
+        Op::Branch(_, _) | Op::BranchSum(_, _) => true,
+        Op::Control(ControlOp::Pusharg, _) => false,
+        Op::Control(_, _) => true,
+        Op::Plain(PlainOp::Ret | PlainOp::Epilog) => true,
+        _ => false,
+    }
+}
+
+// The sources at a node, of those behind the node before: none where a label is bound at it.
+fn at_node(sources: Sources, labelled: bool) -> Sources
+    ensures { (r : Reg) → source_of result r ≡ (if labelled then None else source_of sources r) }
+{
+    if labelled { Sources::none() } else { sources }
+}
+
+// The sources behind a node.
+fn behind(sources: Sources, node: &Node) -> Sources
+    ensures { (r : Reg) → source_of result r ≡ behind_at (source_of sources) (Some node.now) r }
+{
+    if leaps(node.op) {
+        Sources::none()
+    } else {
+        sources.behind(node)
+    }
+}
+
+// Whether a node is no move that does nothing.
+fn stays_here(sources: Sources, node: &Node) -> bool
+    ensures { result ≡ not (is_idle (source_of sources) (move_of node.now.op node.now.operands)) }
+{
+    match move_of(node) {
+        None => true,
+        Some(pair) => !sources.is_idle(pair),
+    }
+}
+
+/// Of each node whether it stays: all but the moves that do nothing.
+pub fn staying(
+    alloc: Global,
+    nodes: &NodeList,
+    labels: &[Option<Label>],
+) -> Result<Vec<bool>, OutOfMemory>
+    requires count { length labels.now ≡ length nodes.now.nodes }
+    requires labels { AreLabelsAt nodes.now labels.now }
+    ensures { IfOk result (λ table. (length table.items ≡ length nodes.now.nodes) × AreStays nodes.now table.items) }
+{
+    let mut table = Vec::new(alloc);
+    let mut sources = Sources::none();
+    for index in 0..nodes.len() {
+        let node = nodes.node(index);
+        let here = at_node(sources, is_labelled(labels, index));
+        table.push(stays_here(here, &node))?;
+        sources = behind(here, &node);
+    }
+    Ok(table)
+}

@@ -1,0 +1,52 @@
+// Jumps to jumps are threaded, and jumps to what follows are dropped.
+
+ghost use Rattle.std.specs.Prelude.{◌≡◌, IfOk};
+ghost use Rattle.lg_node.specs.ShapeLaws.{has_target};
+ghost use Rattle.lg_node.specs.Shapes.{IsShapeOf};
+ghost use Rattle.lg_opt.specs.Hops.{HasNoIdleJumps};
+ghost use Rattle.lg_opt.specs.Moves.{HasNoIdleMoves};
+ghost use Rattle.lg_opt.specs.Rewritings.{IsOrigin, IsThreadedNode, KeepsLabels, CarriesAddresses, RunsAreThreaded, IsThreadedTo};
+
+use crate::drops::{ends, staying};
+use crate::labels::labels_at;
+use crate::rebuilding::rebuilt;
+use crate::rewritten::{Rewritten, finished};
+use crate::targets::targets;
+use lg_base::refusal::OutOfMemory;
+use lg_node::{NodeList, Shape};
+use std::alloc::Global;
+
+// The nodes with their jumps threaded.
+fn threaded(alloc: Global, nodes: &NodeList, shape: &Shape) -> Result<Rewritten, OutOfMemory>
+    requires { IsShapeOf nodes.now shape.now }
+    ensures { IfOk result (λ r. IsThreadedTo nodes.now shape.now r.nodes r.shape r.origin.items) }
+{
+    nodes.what_holds();
+    let ends = ends(alloc, nodes)?;
+    let stays = staying(alloc, nodes, &ends)?;
+    let labels = labels_at(alloc, nodes)?;
+    let targets = targets(alloc, nodes, &ends, &labels)?;
+    let list = rebuilt(alloc, nodes, &stays, &targets)?;
+    finished(alloc, list, shape, &stays)
+}
+
+/// Leads each branch and `jmpi` that goes to a `jmpi` to where that leads in the end, unless the jumps from there turn for ever, and drops each
+/// `jmpi` that leads to the node that follows, until nothing is left to do. A label of a dropped node moves to the next that stays. The shape is
+/// that of the nodes. Memory goes by the number of nodes and labels, and time by that and at most 32 passes over a table of the nodes.
+///
+/// The new run follows the old one over any addresses of the labels in the new nodes, and steps at each node that is no `jmpi`; between two times
+/// at which the old run stands at one node, it steps at a branch, jump, call or return.
+pub fn thread(alloc: Global, nodes: &NodeList, shape: &Shape) -> Result<Rewritten, OutOfMemory>
+    requires { IsShapeOf nodes.now shape.now }
+    ensures shape { IfOk result (λ r. IsShapeOf r.nodes r.shape) }
+    ensures taken { IfOk result (λ r. r.shape.taken ≡ shape.now.taken) }
+    ensures origin { IfOk result (λ r. IsOrigin IsThreadedNode nodes.now r.nodes r.origin.items) }
+    ensures labels { IfOk result (λ r. KeepsLabels nodes.now r.nodes) }
+    ensures jumps { IfOk result (λ r. HasNoIdleJumps r.nodes has_target) }
+    ensures moves { IfOk result (λ r. HasNoIdleMoves nodes.now → HasNoIdleMoves r.nodes) }
+    ensures addresses { IfOk result (λ r. CarriesAddresses nodes.now r.nodes) }
+    ensures runs { IfOk result (λ r. RunsAreThreaded nodes.now shape.now r.nodes r.shape) }
+{
+    nodes.what_holds();
+    threaded(alloc, nodes, shape)
+}
