@@ -20,13 +20,17 @@ use Rattle.lg_meaning.specs.Starts.{start_state}
 use Rattle.lg_meaning.specs.States.{Frame}
 use Rattle.lg_node.specs.Nodes.{LabelledNodes}
 use Rattle.lg_node.specs.Preparations.{pushed}
+use Rattle.lg_node.specs.declared.unit.Unit.{Unit as TextUnit}
 use Rattle.lg_node.specs.Shapes.{TextShape, IsChecked, IsShapeOf}
+use Rattle.lg_op.specs.Nodes.{InForm}
 use Rattle.lg_op.specs.declared.node.Node.{Node}
+use Rattle.lg_opt.specs.Rewritings.{IsTidy, CarriesAddresses, RunsAreFollowed}
+use Rattle.std.specs.List.{All}
 use Rattle.lg_asm.specs.Built.{IsBuilt}
 use Rattle.lg_asm.specs.Lowered.{code_of, ArePlaces, AreOf, AreNodesWhole, AreNodesSparing}
 use Rattle.lg_asm.specs.NodeChoices.{spills_in}
 
--- the target, the bytes, the nodes with their shape, the registers that are live before and behind each, the places of the nodes and of the end, the
+-- the target, the bytes, the final nodes with their shape, the registers that are live before and behind each, the places of the nodes and of the end, the
 -- addresses of the labels, the index of the text's node from which each comes, and how many registers are saved for temporaries
 pub record Assembled : Type 0 where
   pub target : Target
@@ -39,21 +43,17 @@ pub record Assembled : Type 0 where
   pub origin : List ℕ
   pub spills : ℕ
 
--- each index leads to itself
-pub record IsIdentity (count : ℕ) (xs : List ℕ) : Type 0 where
-  pub long : length xs ≡ count
-  pub same : (i : ℕ) → i < count → slice_index xs i ≡ i
-
 -- how many arguments are pushed before each of the first nodes
 pub record ArePushed (nodes : List Node) (xs : List ℕ) (count : ℕ) : Type 0 where
   pub counted : length xs ≡ count
   pub each : (i : ℕ) → i < count → slice_index xs i ≡ pushed nodes i
   pub few : (i : ℕ) → i < count → slice_index xs i ≤ 16
 
--- the nodes are accepted and are those of the text; they stand at their places, between which are whole instructions with few stores; a label that is
--- bound at a node has the address of its place, and each node is carried, for the registers that are live before it
+-- the nodes are accepted and tidy; they stand at their places, between which are whole instructions with few stores; a label that is bound at a node has
+-- the address of its place, and each node is carried, for the registers that are live before it
 pub record IsCode (c : Assembled) : Type 0 where
-  pub checked : IsChecked c.nodes (Ok c.shape)
+  pub shape_is : IsShapeOf c.nodes c.shape
+  pub tidy : IsTidy c.nodes
   pub live_are : AreLive c.nodes c.shape c.live
   pub small : length c.bytes ≤ 1048576
   pub are_bytes : AreBytes c.bytes
@@ -63,13 +63,22 @@ pub record IsCode (c : Assembled) : Type 0 where
   pub instructions : AreNodesWhole c.target (length c.nodes.nodes) c.places c.bytes
   pub sparing : AreNodesSparing c.target c.nodes c.live c.places c.bytes
   pub carried : (trash i : ℕ) → trash < 2 ^ 64 → i < length c.nodes.nodes → Carries (processor_of c.target c.bytes trash) (code_of c.nodes c.shape c.labels c.places) (live_at c.live.before) i
-  pub identity : IsIdentity (length c.nodes.nodes) c.origin
   pub saved : c.spills ≡ spills_in c.target c.nodes.nodes c.live (length c.nodes.nodes)
 
 -- ---- laws
--- such code agrees with the portable meaning over every data part
+-- the final nodes come from those of a text with this shape: addresses of their labels are addresses of the text's, and over such their run follows
+-- the text's
+pub record ComesFrom (l : LabelledNodes) (shape : TextShape) (c : Assembled) : Type 0 where
+  pub checked : IsChecked l (Ok shape)
+  pub formed : All InForm l.nodes
+  pub addresses : CarriesAddresses l c.nodes
+  pub runs : RunsAreFollowed l shape c.nodes c.shape
+
+-- such code agrees with the portable meaning of the text over every data part
 abbrev pub CodeAgrees : Type 0
-CodeAgrees = (c : Assembled) (image : List ℕ) → IsCode c → IsBuilt c.target → AreBytes image → length image ≤ 0x1000000 → Agrees c.bytes c.labels (record { nodes = c.nodes; image = image }) c.target
+CodeAgrees =
+    (c : Assembled) (unit : TextUnit) (shape : TextShape) → IsCode c → ComesFrom unit.nodes shape c → IsBuilt c.target → AreBytes unit.image
+    → length unit.image ≤ 0x1000000 → Agrees c.bytes c.labels unit c.target
 
 -- the parts of the memory and the word that is in what nothing has set
 pub record MayStart (image args : List ℕ) (trash : ℕ) : Type 0 where

@@ -5,10 +5,10 @@ use Rattle.lg_asm.specs.Assembled.{Assembled}
 use Rattle.lg_liveness.specs.Liveness.{LiveSets}
 use Rattle.lg_asm.specs.declared.counts.Counts.{Counts}
 use Rattle.lg_asm.specs.declared.parts.TextBytes.{TextBytes}
-use Rattle.lg_asm.specs.declared.parts.TextNodes.{TextNodes}
+use Rattle.lg_opt.specs.declared.rewritten.Rewritten.{Rewritten}
 
 -- what is kept of code with these parts
-abbrev pub kept_of : Target → TextBytes → List ℕ → TextNodes → LiveSets → Counts → Assembled
+abbrev pub kept_of : Target → TextBytes → List ℕ → Rewritten → LiveSets → Counts → Assembled
 kept_of target text labels list live counts = record {
   target = target;
   bytes = text.bytes.items;

@@ -28,12 +28,7 @@ pub(crate) fn set_behind(live: &Live, index: u32) -> RegSet
 }
 
 /// The choices of a node behind which these registers are live and before which so many arguments are pushed.
-pub(crate) fn node_choices(
-    target: Target,
-    node: &Node,
-    live_after: RegSet,
-    passed: u32,
-) -> Choices
+pub(crate) fn node_choices(target: Target, node: &Node, live_after: RegSet, passed: u32) -> Choices
     requires { passed ≤ 16 }
     ensures { node_choices target (has live_after) passed node.now ≡ Some result }
 {

@@ -2,7 +2,7 @@
 
 ghost use Rattle.std.specs.Prelude.{◌≡◌, ◌+◌, ◌*◌, ◌<◌, ◌≤◌, length, IfOk, IfErr};
 ghost use Rattle.lg_cpu.specs.Laws.{AreBytes};
-ghost use Rattle.lg_asm.specs.Assembled.{IsIdentity, IsRefusedBy};
+ghost use Rattle.lg_asm.specs.Assembled.{IsRefusedBy};
 ghost use Rattle.lg_asm.specs.Built.{IsBuilt};
 ghost use Rattle.lg_asm.specs.Lowered.{IsGiven};
 ghost use Rattle.lg_base.specs.declared.target.Target.{Target};
@@ -10,8 +10,8 @@ ghost use Rattle.lg_liveness.specs.Liveness.{AreLive};
 ghost use Rattle.lg_node.specs.Shapes.{IsShapeOf};
 
 use crate::lowering::lower;
-use lg_base::code::{CodeBytes, Origin, Places};
-use lg_base::refusal::{OutOfMemory, Refusal, RefusalKind, Stop};
+use lg_base::code::{CodeBytes, Places};
+use lg_base::refusal::{Refusal, RefusalKind, Stop};
 use lg_base::target::Target;
 use lg_buf::CodeBuf;
 use lg_liveness::live::Live;
@@ -83,37 +83,5 @@ pub(crate) fn text_bytes(
         bytes: finished.bytes,
         places,
         tags: finished.places,
-    })
-}
-
-/// The nodes of code with their shape, and for each the index of the text's node from which it comes.
-#[derive(Drop)]
-pub(crate) struct TextNodes {
-    /// The nodes.
-    pub(crate) nodes: NodeList,
-    /// Their shape.
-    pub(crate) shape: Shape,
-    /// Where each comes from.
-    pub(crate) origin: Origin,
-}
-
-/// The nodes of a text as they are.
-pub(crate) fn text_nodes(
-    alloc: Global,
-    nodes: &NodeList,
-    shape: &Shape,
-) -> Result<TextNodes, OutOfMemory>
-    ensures nodes { IfOk result (λ t. t.nodes ≡ nodes.now) }
-    ensures shape { IfOk result (λ t. t.shape ≡ shape.now) }
-    ensures origin { IfOk result (λ t. IsIdentity (length nodes.now.nodes) t.origin.items) }
-{
-    let mut origin = Origin::with_room(alloc, nodes.len())?;
-    'nodes: for index in 0..nodes.len() {
-        origin.push(index);
-    }
-    Ok(TextNodes {
-        nodes: nodes.copy(alloc)?,
-        shape: shape.copy(alloc)?,
-        origin,
     })
 }

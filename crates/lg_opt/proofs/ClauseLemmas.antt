@@ -1,5 +1,5 @@
 -- What the rewritings promise, from which nodes stay and which targets they get.
-use Rattle.std.proofs.Common.{◌≡◌, inl, inr, ℕ, ◌<◌, Bool, List, Option, Some, None, length, map, refl, sym, ap, ◌∙◌, subst, arith, Ok, Err}
+use Rattle.std.proofs.Common.{◌≡◌, inl, inr, ℕ, ◌<◌, ◌≤◌, Bool, List, Option, Some, None, length, map, refl, sym, ap, ◌∙◌, subst, arith, Ok, Err}
 use Rattle.std.specs.Prelude.{Result, IfOk, slice_get, slice_index}
 use Rattle.std.specs.List.{All}
 use Rattle.std.specs.Option.{option_map}
@@ -21,6 +21,8 @@ use Rattle.lg_opt.specs.Remaining.{rewritten, retargeted, no_targets, origins}
 use Rattle.lg_opt.specs.Rewritings.{marked, target_in, IsOrigin, IsSameNode, IsThreadedNode, KeepsLabels, CarriesAddresses, RunsAreDropped, RunsAreThreaded, IsDroppedTo, IsThreadedTo}
 use Rattle.lg_opt.proofs.DropLemmas.{drops-rewrite, are-dropped}
 use Rattle.lg_opt.proofs.JumpTidyLemmas.{no-idle-jumps}
+use Rattle.lg_opt.proofs.MovedLemmas.{new-count}
+use Rattle.lg_opt.proofs.RemainingLemmas.{number-most}
 use Rattle.lg_opt.proofs.MoveTidyLemmas.{no-moves-left, keeps-moves}
 use Rattle.lg_opt.proofs.OriginLemmas.{rewritten-same, origins-same, origin-is, keeps-labels, carries-addresses}
 use Rattle.lg_opt.proofs.TargetLemmas.{threads-rewrite}
@@ -51,6 +53,9 @@ module _ (l : LabelledNodes) (shape : TextShape) (is : IsShapeOf l shape) (forme
     pub dropped-origin : IsOrigin IsSameNode l m origin
     dropped-origin = subst (λ (x : LabelledNodes). IsOrigin IsSameNode l x origin) (sym d.nodes) (subst (IsOrigin IsSameNode l dm) (sym d.from) (origin-is l (moves.stays l) no_targets IsSameNode (λ i n e. refl)))
 
+    pub dropped-few : length m.nodes ≤ length l.nodes
+    dropped-few = omega (arith, ap (λ (x : LabelledNodes). length x.nodes) d.nodes, new-count l (moves.stays l) no_targets, number-most (moves.stays l) (length l.nodes))
+
     pub dropped-labels : KeepsLabels l m
     dropped-labels = subst (KeepsLabels l) (sym d.nodes) (keeps-labels l (moves.stays l) no_targets)
 
@@ -77,6 +82,9 @@ module _ (l : LabelledNodes) (shape : TextShape) (is : IsShapeOf l shape) (forme
 
     pub threaded-origin : IsOrigin IsThreadedNode l m origin
     threaded-origin = subst (λ (x : LabelledNodes). IsOrigin IsThreadedNode l x origin) (sym d.nodes) (subst (IsOrigin IsThreadedNode l tm) (sym d.from) (origin-is l (goals.stays l) d.targets IsThreadedNode stands-for))
+
+    pub threaded-few : length m.nodes ≤ length l.nodes
+    threaded-few = omega (arith, ap (λ (x : LabelledNodes). length x.nodes) d.nodes, new-count l (goals.stays l) d.targets, number-most (goals.stays l) (length l.nodes))
 
     pub threaded-labels : KeepsLabels l m
     threaded-labels = subst (KeepsLabels l) (sym d.nodes) (keeps-labels l (goals.stays l) d.targets)

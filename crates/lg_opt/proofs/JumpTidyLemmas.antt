@@ -1,8 +1,8 @@
 -- Threaded nodes have no idle jumps, and no new idle moves.
-use Rattle.std.proofs.Common.{◌≡◌, ◌≢◌, ◌⊎◌, inl, inr, ⊎_elim, ℕ, zero, suc, ◌+◌, ◌-◌, ◌<◌, ◌≤◌, Bool, true, false, not, ◌&&◌, nat_lt, nat_le, Option, Some, length, refl, sym, ap, ◌∙◌, subst, arith, add-one}
-use Rattle.std.specs.Prelude.{if◌then◌else◌, slice_get}
+use Rattle.std.proofs.Common.{◌≡◌, ◌≢◌, ◌⊎◌, inl, inr, ⊎_elim, ℕ, zero, suc, ◌+◌, ◌-◌, ◌<◌, ◌≤◌, Bool, true, false, not, ◌&&◌, ◌||◌, nat_lt, nat_le, Option, Some, length, refl, sym, ap, ◌∙◌, subst, arith, add-one}
+use Rattle.std.specs.Prelude.{◌==◌, if◌then◌else◌, slice_get}
 use Rattle.std.specs.List.{All}
-use Rattle.std.proofs.lemmas.Bool.{cases_lt, lt-ltb, le-leb}
+use Rattle.std.proofs.lemmas.Bool.{cases_lt, cases_eq, eqb-true, eq-eqb, lt-ltb, le-leb}
 use Rattle.std.proofs.lemmas.Option.{slice_get_within}
 use Rattle.lg_base.specs.Runs.{iter}
 use Rattle.lg_temp.proofs.Steps.{iter-zero, iter-suc}
@@ -13,9 +13,10 @@ use Rattle.lg_node.specs.Checks.{IsAccepted}
 use Rattle.lg_node.specs.Nodes.{LabelledNodes}
 use Rattle.lg_node.specs.ShapeLaws.{has_target}
 use Rattle.lg_node.proofs.FunctionLaws.{node_within}
+use Rattle.lg_follow.proofs.Pigeons.{loud}
 use Rattle.lg_meaning.specs.Steps.{operand_at, node_of_label}
 use Rattle.lg_opt.specs.Goals.{lead, turns, goal_node, is_dropped, next_stays, stays}
-use Rattle.lg_opt.specs.Hops.{is_jump, is_jump_at, jump_at, hop_of, hop, Turns, HasNoIdleJumps}
+use Rattle.lg_opt.specs.Hops.{is_jump, is_jump_at, jump_at, hop_of, hop, ComesTwice, HasNoIdleJumps}
 use Rattle.lg_opt.specs.Remaining.{new_number, retargeted, rewritten}
 use Rattle.lg_opt.specs.Targets.{target_node, end_of, AreTargets}
 use Rattle.lg_opt.proofs.RemainingLemmas.{number-stays, number-le, number-lt}
@@ -25,6 +26,42 @@ use Rattle.lg_opt.proofs.TargetLemmas.{jump-there, jump-targets, jumps-within, t
 
 no : true ≡ false → ⊥
 no e = cc
+
+-- ---- among more times than places, two are at one place
+came : (ℕ → ℕ) → ℕ → ℕ → Bool
+came place y zero = false
+came place y (suc n) = (place n == place y) || came place y n
+
+came-there : (place : ℕ → ℕ) (y n : ℕ) → came place y n ≡ true → (x : ℕ) × (x < n) × (place x ≡ place y)
+unfolding came
+came-there place y zero e = cc
+came-there place y (suc n) e = by (place n == place y) refl e (came-there place y n)
+  where
+    by : (b : Bool) → (place n == place y) ≡ b → (b || came place y n) ≡ true → (came place y n ≡ true → (x : ℕ) × (x < n) × (place x ≡ place y)) → (x : ℕ) × (x < suc n) × (place x ≡ place y)
+    by true f e again = (n, omega arith, eqb-true (place n) (place y) f)
+    by false f e again = let g = again e in (g.0, omega (arith, g.1), g.2)
+
+came-is : (place : ℕ → ℕ) (y n x : ℕ) → x < n → place x ≡ place y → came place y n ≡ true
+unfolding came
+came-is place y zero x lt e = absurd (omega (arith, lt))
+came-is place y (suc n) x lt e = ⊎_elim
+    (λ same. ap (λ b. b || came place y n) (eq-eqb (place n) (place y) (ap place (sym same) ∙ e)))
+    (λ ne. ap (λ b. (place n == place y) || b) (came-is place y n x (omega (arith, lt, ne)) e) ∙ or-true (place n == place y))
+    (cases_eq x n)
+  where
+    or-true : (b : Bool) → (b || true) ≡ true
+    or-true true = refl
+    or-true false = refl
+
+repeats : (place : ℕ → ℕ) (n : ℕ) → ((x : ℕ) → place x < n) → (x : ℕ) × (y : ℕ) × (x < y) × (place x ≡ place y)
+repeats place n low =
+    let f = loud (λ y. not (came place y y)) place n low (λ x y lt e. (y, lt, omega arith, ap not (came-is place y y x lt e))) 0 in
+    let g = came-there place (0 + f.0) (0 + f.0) (turned (came place (0 + f.0) (0 + f.0)) f.2) in
+    (g.0, 0 + f.0, g.1, g.2)
+  where
+    turned : (b : Bool) → not b ≡ false → b ≡ true
+    turned true e = refl
+    turned false e = cc
 
 module _ (l : LabelledNodes) (a : IsAccepted l) (formed : All InForm l.nodes) (targets : ℕ → Option Label) (are : AreTargets l targets) where
   abbrev m : LabelledNodes
@@ -99,15 +136,25 @@ module _ (l : LabelledNodes) (a : IsAccepted l) (formed : All InForm l.nodes) (t
             ∙ ap nu (ap (λ b. if b then hop l f.to else lead l (hop l f.to)) on.1);
       }
 
-  still-turns : (k : ℕ) → k < length l.nodes → turns l k ≡ true → Turns m (nu k)
-  still-turns k lt e c = let b = stays-turning k lt e c in ap (jump_at m) b.at ∙ jumps-there b.from b.within b.turning
+  still-turns : (k : ℕ) → k < length l.nodes → turns l k ≡ true → ComesTwice m (nu k)
+  still-turns k lt e =
+      let f = repeats (λ c. iter (hop m) c (nu k)) (length m.nodes) low in
+      let b = stays-turning k lt e f.0 in
+      record { first = f.0; second = f.1; order = f.2; jump = ap (jump_at m) b.at ∙ jumps-there b.from b.within b.turning; same = f.3 }
+    where
+      low : (c : ℕ) → iter (hop m) c (nu k) < length m.nodes
+      low c =
+          let b = stays-turning k lt e c in
+          let f = settled b.from b.within b.turning in
+          let up = number-lt (stays l) f.to (length l.nodes) f.within f.kept in
+          omega (arith, up, b.at, f.number, new-count l (stays l) targets)
 
   -- ---- no label in front of a jump is named, unless it turns
-  turns-end : (k : ℕ) → k < length l.nodes → jump_at m (nu (end_of l k)) ≡ true → Turns m (nu (end_of l k))
+  turns-end : (k : ℕ) → k < length l.nodes → jump_at m (nu (end_of l k)) ≡ true → ComesTwice m (nu (end_of l k))
   turns-end k lt j = by (turns l k) refl
     where
-      by : (b : Bool) → turns l k ≡ b → Turns m (nu (end_of l k))
-      by true e = let z : end_of l k ≡ k = ap (λ b. if b then k else lead l k) e in subst (λ x. Turns m (nu x)) (sym z) (still-turns k lt e)
+      by : (b : Bool) → turns l k ≡ b → ComesTwice m (nu (end_of l k))
+      by true e = let z : end_of l k ≡ k = ap (λ b. if b then k else lead l k) e in subst (λ x. ComesTwice m (nu x)) (sym z) (still-turns k lt e)
       by false e =
           let z : end_of l k ≡ lead l k = ap (λ b. if b then k else lead l k) e in
           let within : lead l k < length l.nodes = inside l (jumps-within l a formed) k (length l.nodes) lt in
@@ -191,7 +238,7 @@ module _ (l : LabelledNodes) (a : IsAccepted l) (formed : All InForm l.nodes) (t
     last = λ k n e t j.
         let o = old-of k n e in
         let at = target-there k n e o t in
-        subst (Turns m) (sym at.0) (turns-end (target_node l o.node) at.1 (ap (jump_at m) (sym at.0) ∙ j));
+        subst (ComesTwice m) (sym at.0) (turns-end (target_node l o.node) at.1 (ap (jump_at m) (sym at.0) ∙ j));
     farther = λ k n e j same.
         let o = old-of k n e in
         let at = target-there k n e o (jump-targets n.op j) in

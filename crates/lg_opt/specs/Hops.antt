@@ -30,9 +30,13 @@ hop_of places i (Some n) = if is_jump n.op then node_of_label places (operand_at
 abbrev pub hop : LabelledNodes → ℕ → ℕ
 hop l i = hop_of l.places i (slice_get l.nodes i)
 
--- following the jumps from a node never comes to another node
-abbrev pub Turns : LabelledNodes → ℕ → Type 0
-Turns l i = (m : ℕ) → is_jump_at (slice_get l.nodes (iter (hop l) m i)) ≡ true
+-- following the jumps from a node comes to a node twice
+pub record ComesTwice (l : LabelledNodes) (i : ℕ) : Type 0 where
+  pub first : ℕ
+  pub second : ℕ
+  pub order : first < second
+  pub jump : jump_at l (iter (hop l) first i) ≡ true
+  pub same : iter (hop l) first i ≡ iter (hop l) second i
 
 -- a table has of each node where the jump at it goes
 abbrev pub AreHops : LabelledNodes → List ℕ → Type 0
@@ -57,8 +61,8 @@ abbrev pub JumpsWithin : LabelledNodes → Type 0
 JumpsWithin l = (i : ℕ) → i < length l.nodes → hop l i < length l.nodes
 
 -- ---- what is promised of the nodes that stay
--- no jump or branch names a label in front of a jump, unless following the jumps from there never ends; and no jump goes to the next node
+-- no jump or branch names a label in front of a jump, unless following the jumps from there comes to a node twice; and no jump goes to the next node
 pub record HasNoIdleJumps (l : LabelledNodes) (has_target : Op → Bool) : Type 0 where
   pub last : (i : ℕ) (n : Node) → slice_get l.nodes i ≡ Some n → has_target n.op ≡ true
-      → is_jump_at (slice_get l.nodes (node_of_label l.places (operand_at n 0))) ≡ true → Turns l (node_of_label l.places (operand_at n 0))
+      → is_jump_at (slice_get l.nodes (node_of_label l.places (operand_at n 0))) ≡ true → ComesTwice l (node_of_label l.places (operand_at n 0))
   pub farther : (i : ℕ) (n : Node) → slice_get l.nodes i ≡ Some n → is_jump n.op ≡ true → node_of_label l.places (operand_at n 0) ≢ suc i

@@ -1,6 +1,6 @@
 // Moves that do nothing are dropped.
 
-ghost use Rattle.std.specs.Prelude.{◌≡◌, IfOk};
+ghost use Rattle.std.specs.Prelude.{◌≡◌, ◌≤◌, length, IfOk};
 ghost use Rattle.lg_node.specs.Shapes.{IsShapeOf};
 ghost use Rattle.lg_opt.specs.Moves.{HasNoIdleMoves};
 ghost use Rattle.lg_opt.specs.Rewritings.{IsOrigin, IsSameNode, KeepsLabels, CarriesAddresses, RunsAreDropped, IsDroppedTo};
@@ -36,6 +36,7 @@ pub fn drop_moves(alloc: Global, nodes: &NodeList, shape: &Shape) -> Result<Rewr
     ensures shape { IfOk result (λ r. IsShapeOf r.nodes r.shape) }
     ensures taken { IfOk result (λ r. r.shape.taken ≡ shape.now.taken) }
     ensures origin { IfOk result (λ r. IsOrigin IsSameNode nodes.now r.nodes r.origin.items) }
+    ensures few { IfOk result (λ r. length r.nodes.nodes ≤ length nodes.now.nodes) }
     ensures labels { IfOk result (λ r. KeepsLabels nodes.now r.nodes) }
     ensures moves { IfOk result (λ r. HasNoIdleMoves r.nodes) }
     ensures addresses { IfOk result (λ r. CarriesAddresses nodes.now r.nodes) }

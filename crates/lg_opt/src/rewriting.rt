@@ -1,6 +1,6 @@
 // Both rewrites, one behind the other.
 
-ghost use Rattle.std.specs.Prelude.{◌≡◌, ◌<◌, ℕ, length, map, slice_index, IfOk};
+ghost use Rattle.std.specs.Prelude.{◌≡◌, ◌<◌, ◌≤◌, ℕ, length, map, slice_index, IfOk};
 ghost use Rattle.lg_node.specs.Shapes.{IsShapeOf};
 ghost use Rattle.lg_opt.specs.Rewritings.{IsOrigin, IsThreadedNode, KeepsLabels, CarriesAddresses, RunsAreFollowed, IsTidy};
 
@@ -34,6 +34,7 @@ pub fn rewrite(alloc: Global, nodes: &NodeList, shape: &Shape) -> Result<Rewritt
     ensures shape { IfOk result (λ r. IsShapeOf r.nodes r.shape) }
     ensures taken { IfOk result (λ r. r.shape.taken ≡ shape.now.taken) }
     ensures origin { IfOk result (λ r. IsOrigin IsThreadedNode nodes.now r.nodes r.origin.items) }
+    ensures few { IfOk result (λ r. length r.nodes.nodes ≤ length nodes.now.nodes) }
     ensures labels { IfOk result (λ r. KeepsLabels nodes.now r.nodes) }
     ensures tidy { IfOk result (λ r. IsTidy r.nodes) }
     ensures addresses { IfOk result (λ r. CarriesAddresses nodes.now r.nodes) }

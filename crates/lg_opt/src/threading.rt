@@ -1,6 +1,6 @@
 // Jumps to jumps are threaded, and jumps to what follows are dropped.
 
-ghost use Rattle.std.specs.Prelude.{◌≡◌, IfOk};
+ghost use Rattle.std.specs.Prelude.{◌≡◌, ◌≤◌, length, IfOk};
 ghost use Rattle.lg_node.specs.ShapeLaws.{has_target};
 ghost use Rattle.lg_node.specs.Shapes.{IsShapeOf};
 ghost use Rattle.lg_opt.specs.Hops.{HasNoIdleJumps};
@@ -41,6 +41,7 @@ pub fn thread(alloc: Global, nodes: &NodeList, shape: &Shape) -> Result<Rewritte
     ensures shape { IfOk result (λ r. IsShapeOf r.nodes r.shape) }
     ensures taken { IfOk result (λ r. r.shape.taken ≡ shape.now.taken) }
     ensures origin { IfOk result (λ r. IsOrigin IsThreadedNode nodes.now r.nodes r.origin.items) }
+    ensures few { IfOk result (λ r. length r.nodes.nodes ≤ length nodes.now.nodes) }
     ensures labels { IfOk result (λ r. KeepsLabels nodes.now r.nodes) }
     ensures jumps { IfOk result (λ r. HasNoIdleJumps r.nodes has_target) }
     ensures moves { IfOk result (λ r. HasNoIdleMoves nodes.now → HasNoIdleMoves r.nodes) }

@@ -22,6 +22,7 @@ use Rattle.lg_run.specs.Runs.{RunSays, MeanSays}
 use Rattle.lg_run.specs.declared.answer.Answer.{Answer}
 use Rattle.lg_run.specs.declared.answer.Answer.TheVariants.{Ended, Listed, Undefined, Refused, Usage, ReadFault, WriteFault, StepsOut, Fault, OutOfMemory}
 use Rattle.lg_run.specs.declared.answer.Done.{Done}
+use Rattle.lg_opt.specs.Rewritings.{IsTidy, IsOrigin, IsThreadedNode}
 
 -- what registers hold at first, and behind a call of a host function
 abbrev pub trash_word : ℕ
@@ -30,7 +31,7 @@ trash_word = 0x5A5A5A5A5A5A5A5A
 -- ---- code
 
 -- the code is that of the text under the command's file: the text has a unit, the unit is accepted, the code is made for the command's
--- target and fits its size, and agrees with the unit's meaning over the addresses of the code's labels
+-- target from the unit's nodes without needless moves and jumps, fits its size, and agrees with the unit's meaning over the addresses of its labels
 pub record IsCodeOf (c : Command) (held : Option NamedTexts) (code : Assembled) : Type 0 where
   pub text : List ℕ
   pub under : IsTextUnder held c.file text
@@ -41,7 +42,8 @@ pub record IsCodeOf (c : Command) (held : Option NamedTexts) (code : Assembled) 
   pub fits : ArgumentsFit c
   pub bytes : AreBytes (args_of c.arguments)
   pub target : code.target ≡ c.target
-  pub nodes : code.nodes ≡ unit.nodes
+  pub tidy : IsTidy code.nodes
+  pub origin : IsOrigin IsThreadedNode unit.nodes code.nodes code.origin
   pub size : length code.bytes ≤ c.size
   pub agrees : Agrees code.bytes code.labels unit c.target
 

@@ -11,6 +11,7 @@ ghost use Rattle.lg_cpu.specs.Laws.{AreBytes};
 ghost use Rattle.lg_node.specs.Shapes.{IsChecked};
 ghost use Rattle.lg_tst.specs.Answers.{IsWhole};
 ghost use Rattle.lg_run.specs.Changes.{TellsWrites, on_sink, on_texts};
+ghost use Rattle.lg_opt.specs.Rewritings.{IsTidy, IsOrigin, IsThreadedNode};
 ghost use Rattle.lg_run.specs.Refused.{IsBuilt, IsRefusedAccepted, most_text};
 ghost use Rattle.lg_run.specs.Work.{RanSays, TellsNoRead, TextDone, UnitDone, WorkDone};
 
@@ -80,7 +81,8 @@ fn code_of(alloc: Global, command: &Command<'_>, text: &Accepted) -> Result<Code
     requires checked { IsChecked text.now.unit.nodes (Ok text.now.shape) }
     ensures built { IfOk result (λ c. IsBuilt command.now.target) }
     ensures target { IfOk result (λ c. c.target ≡ command.now.target) }
-    ensures nodes { IfOk result (λ c. c.nodes ≡ text.now.unit.nodes) }
+    ensures tidy { IfOk result (λ c. IsTidy c.nodes) }
+    ensures origin { IfOk result (λ c. IsOrigin IsThreadedNode text.now.unit.nodes c.nodes c.origin) }
     ensures size { IfOk result (λ c. length c.bytes ≤ command.now.size) }
     ensures agrees { IfOk result (λ c. Agrees c.bytes c.labels text.now.unit command.now.target) }
     ensures refused { (r : Refusal) → result ≡ Err (Stop.Refused r) → IsRefusedAccepted (shown command.now) text.now.unit.nodes r }

@@ -137,35 +137,44 @@ fn arguments(rt: HostRuntime) -> Result<(), Fail> {
 fn endless_jump(rt: HostRuntime) -> Result<(), Fail> {
     let text = b".code prolog a: jmpi b b: jmpi a epilog";
     let err = b"lightning: steps out after 1000\n";
-    let words = [
-        "lightning",
-        "--target",
-        "riscv64",
-        "--steps",
-        "1000",
-        "t.tst",
-    ];
-    let meaning = [
-        "lightning",
-        "--mode=mean",
-        "--target=riscv64",
-        "--steps=1000",
-        "t.tst",
-    ];
-    check(
-        &rt,
-        &Row {
-            words: &words,
-            ..plain(text, b"", err, 125)
-        },
-    )?;
-    check(
-        &rt,
-        &Row {
-            words: &meaning,
-            ..plain(text, b"", err, 125)
-        },
-    )
+    for target in ["riscv64", "aarch64"] {
+        for mode in ["run", "mean"] {
+            let words = [
+                "lightning",
+                "--target",
+                target,
+                "--mode",
+                mode,
+                "--steps=1000",
+                "t.tst",
+            ];
+            check(
+                &rt,
+                &Row {
+                    words: &words,
+                    ..plain(text, b"", err, 125)
+                },
+            )?;
+        }
+    }
+    Ok(())
+}
+
+// Texts of moves that do nothing and of jumps to jumps: their code does what they mean.
+#[test]
+fn tidy_moves(rt: HostRuntime) -> Result<(), Fail> {
+    let moves =
+        b".code prolog movi %v0 7 movr %v1 %v0 movr %v0 %v1 movr %v1 %v1 jmpi a a: jmpi b b: prepare pushargr %v1 finishi @exit ret epilog";
+    let written =
+        b".code prolog movi %v1 7 movr %v0 %v1 movi %v1 3 movr %v0 %v1 prepare pushargr %v0 finishi @exit ret epilog";
+    let frame =
+        b".code prolog movi %v0 5 movr %v1 %fp movr %v1 %fp subr %v2 %v1 %fp addr %v0 %v0 %v2 prepare pushargr %v0 finishi @exit ret epilog";
+    let jumps =
+        b".code prolog movi %v0 1 jmpi c a: jmpi b b: addi %v0 %v0 2 beqi e %v0 9 c: jmpi d d: addi %v0 %v0 2 jmpi a e: prepare pushargr %v0 finishi @exit ret epilog";
+    ends(&rt, moves, b"", 7)?;
+    ends(&rt, written, b"", 3)?;
+    ends(&rt, frame, b"", 5)?;
+    ends(&rt, jumps, b"", 9)
 }
 
 #[test]

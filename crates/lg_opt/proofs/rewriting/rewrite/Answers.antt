@@ -1,4 +1,4 @@
-use Rattle.std.proofs.Common.{sym, ◌∙◌, subst}
+use Rattle.std.proofs.Common.{arith, sym, ◌∙◌, subst}
 use Rattle.lg_opt.specs.Rewritings.{IsOrigin, IsThreadedNode}
 use Rattle.lg_opt.proofs.ClauseLemmas.{origins-join, joins-within, labels-join}
 use Rattle.lg_opt.proofs.rewriting.rewrite.Goals as goal
@@ -20,6 +20,7 @@ returns c =
       shape = second.shape;
       taken = second.taken ∙ first.taken;
       origin = subst (IsOrigin IsThreadedNode l t.nodes) (sym c.in_ok-origin.ensures) (origins-join l d.nodes t.nodes d.origin.items t.origin.items first.origin second.origin);
+      few = omega (arith, first.few, second.few);
       labels = labels-join l d.nodes t.nodes first.labels second.labels;
       tidy = record { moves = second.moves first.moves; jumps = second.jumps };
       addresses = λ size A are. first.addresses size A (second.addresses size A are);

@@ -19,7 +19,8 @@ returns-in-Ok-clause-says g c = λ text is held under.
       fits = subst (λ a. length a ≤ most_args) c.requires.args c.requires.args_size;
       bytes = subst AreBytes (c.as_slice.ensures.value ∙ c.requires.args) c.see_bytes.ensures;
       target = made.target;
-      nodes = made.nodes;
+      tidy = made.tidy;
+      origin = made.origin;
       size = made.size;
       agrees = made.agrees;
     }) (on_sink g.O.Sink.taken g.O.Sink.faults c.args.out.now c.run_mode-ran.new.out) c.run_mode-ran.result.steps c.run_mode-ran.result.answer c.run_mode-ran.ensures.says
