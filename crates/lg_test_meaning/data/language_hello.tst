@@ -1,0 +1,10 @@
+.data 16
+greeting:
+.c "hello"
+.code
+    prolog
+    prepare
+        pushargi greeting
+    finishi @puts
+    ret
+    epilog

@@ -1,0 +1,1 @@
+.code prolog movi %r0 08 ret epilog

@@ -1,0 +1,1 @@
+.code prolog jmpi f ret epilog f: prolog ret epilog

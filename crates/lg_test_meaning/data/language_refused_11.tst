@@ -1,0 +1,1 @@
+.code prolog prepare pushargi 1 ret finishi @exit epilog

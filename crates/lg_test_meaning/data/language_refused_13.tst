@@ -1,0 +1,1 @@
+.code prolog getarg %r0 $n ret epilog

@@ -1,0 +1,1 @@
+.data 3 .c "abc" .code prolog ret epilog

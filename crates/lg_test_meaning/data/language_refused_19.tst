@@ -1,0 +1,1 @@
+.code prolog allocai 65536 $a allocai 1 $b ret epilog

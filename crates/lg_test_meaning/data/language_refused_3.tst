@@ -1,0 +1,1 @@
+.code prolog addr_d %r0 %r1 %r2 ret epilog

@@ -1,0 +1,1 @@
+.code prolog addr %r0 %r1 2 ret epilog

@@ -1,0 +1,1 @@
+.code prolog movi %r0 $(1 / 0) ret epilog

@@ -1,0 +1,1 @@
+.code x: prolog x: ret epilog

@@ -1,0 +1,1 @@
+.code prolog jmpi out ret epilog

@@ -1,0 +1,1 @@
+.code movi %r0 1 prolog ret epilog
