@@ -1,10 +1,12 @@
 // Work that is timed from outside. `names N` looks up each name of the instruction table N times; `text N` reads and checks
 // a text of N instructions, at most 65,000; `code N TIMES` assembles it for RV64 as well, so many times, from its bytes to
-// code; `straight N TIMES`, `branches N TIMES` and `jumps N TIMES` find the live registers of a text of N lines, at most 65,000, so many
-// times; `moves N TIMES` and `chain N TIMES` rewrite a text of N moves or jumps, at most 1,000,000, so many times; `emit N` emits 64 MiB in pieces of N bytes; `rv64 N`, `aarch64 N` and `x86_64 N` run N instructions
-// of a loop of five on the modelled processors; `steps N` follows the portable meaning of a loop for N steps. Without words it does a little of each.
+// code; `straight N TIMES`, `branches N TIMES` and `jumps N TIMES` find the live registers of a list of nodes of N lines, so many
+// times; `moves N TIMES` and `chain N TIMES` rewrite a list of N moves or jumps, so many times; `emit N` emits 64 MiB in pieces of
+// N bytes; `rv64 N`, `aarch64 N` and `x86_64 N` run N instructions of a loop of five on the modelled processors; `steps N` follows
+// the portable meaning of a loop for N steps. Without words it does a little of each.
 #![tactic(auto)]
 
+mod lists;
 mod liveness;
 mod meaning;
 mod names;
@@ -16,9 +18,8 @@ mod texts;
 use lg_base::refusal::{OutOfMemory, Stop};
 use lg_base::target::Target;
 use lg_mean_text::end::MeaningEnd;
-use liveness::Flow;
+use lists::Flow;
 use names::found;
-use rewrites::Lines;
 use std::{env, io, str};
 use texts::{Counts, read_and_assemble, read_and_check};
 
@@ -49,7 +50,7 @@ fn make_code(rt: &HostRuntime, instructions: u32, times: u32) -> io::Result<()> 
     }
 }
 
-// Finds the live registers of a text of so many lines, so many times.
+// Finds the live registers of a list of so many lines, so many times.
 fn find_live(rt: &HostRuntime, flow: Flow, lines: u32, times: u32) -> io::Result<()> {
     match liveness::find(rt.alloc(), flow, lines, times) {
         Ok(nodes) => println!(rt; "live at {nodes} nodes"),
@@ -58,9 +59,9 @@ fn find_live(rt: &HostRuntime, flow: Flow, lines: u32, times: u32) -> io::Result
     }
 }
 
-// Rewrites a text of so many lines, so many times.
-fn rewrite(rt: &HostRuntime, lines: Lines, count: u32, times: u32) -> io::Result<()> {
-    match rewrites::rewrite_text(rt.alloc(), lines, count, times) {
+// Rewrites a list of so many lines, so many times.
+fn rewrite(rt: &HostRuntime, flow: Flow, lines: u32, times: u32) -> io::Result<()> {
+    match rewrites::rewrite_list(rt.alloc(), flow, lines, times) {
         Ok(nodes) => println!(rt; "{nodes} nodes are left"),
         Err(Stop::Refused(refusal)) => println!(rt; "refused at line {}", refusal.line),
         Err(Stop::OutOfMemory) => println!(rt; "out of memory"),
@@ -109,8 +110,8 @@ fn main(rt: HostRuntime) -> io::Result<()> {
                 "straight" => find_live(&rt, Flow::Straight, times, again),
                 "branches" => find_live(&rt, Flow::Branches, times, again),
                 "jumps" => find_live(&rt, Flow::Jumps, times, again),
-                "moves" => rewrite(&rt, Lines::Moves, times, again),
-                "chain" => rewrite(&rt, Lines::Chain, times, again),
+                "moves" => rewrite(&rt, Flow::Moves, times, again),
+                "chain" => rewrite(&rt, Flow::Chain, times, again),
                 "emit" => emit(&rt, 0x400_0000, times),
                 "rv64" => run(&rt, Target::Riscv64, times),
                 "aarch64" => run(&rt, Target::Aarch64, times),
@@ -126,8 +127,8 @@ fn main(rt: HostRuntime) -> io::Result<()> {
             for flow in [Flow::Straight, Flow::Branches, Flow::Jumps] {
                 find_live(&rt, flow, 64, 1)?;
             }
-            for lines in [Lines::Moves, Lines::Chain] {
-                rewrite(&rt, lines, 64, 1)?;
+            for flow in [Flow::Moves, Flow::Chain] {
+                rewrite(&rt, flow, 64, 1)?;
             }
             emit(&rt, 1024, 4)?;
             for target in [Target::Riscv64, Target::Aarch64, Target::X86_64] {
