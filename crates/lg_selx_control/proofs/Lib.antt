@@ -1,0 +1,17 @@
+pub mod AlignLemmas
+pub mod BranchLemmas
+pub mod CallLemmas
+pub mod ComparisonLemmas
+pub mod ControlLemmas
+pub mod FitLemmas
+pub mod HostLemmas
+pub mod PrologLemmas
+pub mod ReturnLemmas
+pub mod SpareLemmas
+pub mod StretchLemmas
+pub mod SumBranchLemmas
+pub mod SumLemmas
+pub mod TargetLemmas
+pub mod TwoWayLemmas
+pub mod WalkLemmas
+pub mod WithinLemmas

@@ -1,0 +1,198 @@
+-- A `prolog` makes the frame.
+use Rattle.std.proofs.Common.{◌≡◌, ℕ, zero, suc, ◌+◌, ◌-◌, ◌*◌, ◌^◌, ◌<◌, ◌≤◌, ◌⊎◌, inl, inr, true, List, [], ◌∷◌, ◌++◌, Option, Some, refl, sym, ap, ◌∙◌, subst, arith, length}
+use Rattle.std.specs.Prelude.{negsuc, slice_index}
+use Rattle.std.specs.Option.{option_and_then}
+use Rattle.lg_base.specs.Conventions.{argument_registers, portable_register}
+use Rattle.lg_base.specs.Fields.{word_of}
+use Rattle.lg_base.specs.Layout.{most_code, stack_end, least_frame, frame_pointer, return_word, saved_word, home_word}
+use Rattle.lg_base.specs.Runs.{Running}
+use Rattle.lg_base.specs.Spaces.{mapped, stored}
+use Rattle.lg_base.specs.Words.{add_words}
+use Rattle.lg_base.specs.declared.flags.Flags.{Flags}
+use Rattle.lg_base.specs.declared.target.Target.TheVariants.{X86_64}
+use Rattle.lg_x86.specs.Spelling.{IsInstr}
+use Rattle.lg_x86.specs.declared.instruction.Instr.{Instr}
+use Rattle.lg_x86.specs.declared.instruction.Instr.TheVariants as instr
+use Rattle.lg_x86.specs.declared.instruction.LoadOp.TheVariants.{Lea}
+use Rattle.lg_x86.specs.declared.instruction.StoreOp.TheVariants.{St64}
+use Rattle.lg_cpu.specs.HostSteps.{put}
+use Rattle.lg_cpu.specs.Laws.{AreBytes}
+use Rattle.lg_cpu.specs.States.{CpuState}
+use Rattle.lg_cpu.specs.Steps.{Run, status_of}
+use Rattle.lg_cpu.specs.X86Step.{Scene, scene_of, made}
+use Rattle.lg_carry.specs.Processors.{IsSeen}
+use Rattle.lg_carry.specs.Registers.{HasWord}
+use Rattle.lg_carry.proofs.SpillLemmas.{stored-there}
+use Rattle.lg_carry.proofs.WordLemmas.{word-kept}
+use Rattle.lg_carry_x86.specs.MakingNodes.{scene}
+use Rattle.lg_carry_x86.specs.Makings.{makes}
+use Rattle.lg_carry_x86.specs.X86Rows.{x86_processor, x86_rows, x86_seen}
+use Rattle.lg_sel_nodes.specs.Stretches.{StandsAt, behind}
+use Rattle.lg_sel_control.specs.Prologs.{Entrance, PrologsLead}
+use Rattle.lg_sel_control.proofs.StoreLemmas.{word_below, with_stored, HasStack, mapped-below, stored-off, stored-word}
+use Rattle.lg_selx_control.specs.Branches.{lower, lowered}
+use Rattle.lg_selx_control.specs.Prologs.{stored_registers, store_word, stores_below, prolog_code}
+use Rattle.lg_selx_control.proofs.SpareLemmas.{lower-is}
+use Rattle.lg_selx_control.proofs.StretchLemmas.{Made, stands-high, made-passed}
+
+-- ---- the stores
+first-address : (sp : ℕ) → 0x3FF00010 + 272 ≤ sp → sp ≤ 0x40000000 → add_words (sp - 8) (word_of (negsuc 7)) ≡ sp - 16
+first-address sp low high = grind (arith, low, high)
+
+store-address : (sp k : ℕ) → 2 ≤ k → k < 13 → 0x3FF00010 + 272 ≤ sp → sp ≤ 0x40000000 → add_words (sp - 16) (word_of (negsuc (8 * k - 9))) ≡ word_below sp k
+store-address sp k some few low high = grind (arith, some, few, low, high)
+
+module _ (sp : ℕ) (low : 0x3FF00010 + 272 ≤ sp) (high : sp ≤ 0x40000000) where
+  store-made : (r k : ℕ) (w : ℕ → ℕ) (f : Flags) (m : ℕ → Option ℕ) → 2 ≤ k → k < 13 → w 5 ≡ sp - 16 → HasStack m
+      → made (store_word r k) (scene w f m) ≡ Some (scene w f (stored m (word_below sp k) 8 (w r)))
+  store-made r k w f m some few at there =
+      let address : add_words (w 5) (word_of (negsuc (8 * k - 9))) ≡ word_below sp k =
+      ap (λ x. add_words x (word_of (negsuc (8 * k - 9)))) at ∙ store-address sp k some few low high in
+      let is-there : mapped m (word_below sp k) 8 ≡ true = mapped-below m sp k few low high there in
+      rw (address, is-there) refl
+
+  stores-made : (rs : List ℕ) (k : ℕ) (rest : List Instr) (w : ℕ → ℕ) (f : Flags) (m : ℕ → Option ℕ) → 2 ≤ k → k + length rs ≤ 13 → w 5 ≡ sp - 16 → HasStack m
+      → makes (stores_below rs k ++ rest) (scene w f m) ≡ makes rest (scene w f (with_stored m w sp rs k))
+  stores-made [] k rest w f m some few at there = refl
+  stores-made (r ∷ rs) k rest w f m some few at there =
+      ap (option_and_then (makes (stores_below rs (suc k) ++ rest))) (store-made r k w f m some (omega (arith, few)) at there)
+      ∙ stores-made rs (suc k) rest w f (stored m (word_below sp k) 8 (w r)) (omega (arith, some)) (omega (arith, few)) at
+      (λ j e. stored-there m (word_below sp k) 8 (w r) j (there j e))
+
+  first-made : (w : ℕ → ℕ) (f : Flags) (m : ℕ → Option ℕ) → w 4 ≡ sp - 8 → HasStack m
+      → made (instr.Store St64 4 (negsuc 7) 5) (scene w f m) ≡ Some (scene w f (stored m (word_below sp 1) 8 (w 5)))
+  first-made w f m at there =
+      let address : add_words (w 4) (word_of (negsuc 7)) ≡ word_below sp 1 = ap (λ x. add_words x (word_of (negsuc 7))) at ∙ first-address sp low high in
+      let is-there : mapped m (word_below sp 1) 8 ≡ true = mapped-below m sp 1 (omega arith) low high there in
+      rw (address, is-there) refl
+
+-- ---- the code
+-- FP, and what is stored by it
+abbrev all_stored : List ℕ
+all_stored = 5 ∷ stored_registers
+
+module _ (size sp : ℕ) (w : ℕ → ℕ) (f : Flags) (m : ℕ → Option ℕ) (large : 272 ≤ size) (room : least_frame + size ≤ sp) (top : sp ≤ stack_end)
+    (at : w 4 ≡ sp - 8) (there : HasStack m) where
+  low : 0x3FF00010 + 272 ≤ sp
+  low = omega (arith, room, large)
+
+  abbrev end_registers : ℕ → ℕ
+  end_registers = put (put w 5 (sp - 16)) 4 (sp - size)
+
+  abbrev end_bytes : ℕ → Option ℕ
+  end_bytes = with_stored m w sp all_stored 1
+
+  prolog-makes : makes (prolog_code size) (scene w f m) ≡ Some (scene end_registers f end_bytes)
+  prolog-makes =
+      let rest : List Instr = stores_below stored_registers 2 ++ lowered size in
+      let m1 : ℕ → Option ℕ = stored m (word_below sp 1) 8 (w 5) in
+      ap (option_and_then (makes (instr.Load Lea 5 4 (negsuc 7) ∷ rest))) (first-made sp low top w f m at there)
+      ∙ ap (λ x. makes rest (scene (put w 5 x) f m1)) (ap (λ x. add_words x (word_of (negsuc 7))) at ∙ first-address sp low top)
+      ∙ stores-made sp low top stored_registers 2 (lowered size) (put w 5 (sp - 16)) f m1 (omega arith) (omega arith) refl
+      (λ j e. stored-there m (word_below sp 1) 8 (w 5) j (there j e))
+      ∙ ap (λ x. Some (scene (put (put w 5 (sp - 16)) 4 x) f end_bytes)) (lower-is size sp large room top)
+
+-- ---- what is then in the frame
+module _ (code : List ℕ) (trash : ℕ) (small : length code ≤ most_code) (bytes-small : AreBytes code) (trash-word : trash < 2 ^ 64)
+    (size from sp : ℕ) (q : Run CpuState) (seen : IsSeen (x86_seen q)) (large : 272 ≤ size) (room : least_frame + size ≤ sp) (top : sp ≤ stack_end)
+    (at : q.state.registers 4 ≡ sp - 8) (k : StandsAt (x86_rows code trash) IsInstr from (prolog_code size)) (runs : status_of q.progress ≡ Running)
+    (here : q.state.pc ≡ from) where
+  abbrev v : ℕ → ℕ
+  v = q.state.registers
+
+  abbrev b : ℕ → Option ℕ
+  b = with_stored q.state.bytes v sp all_stored 1
+
+  abbrev W : ℕ → ℕ
+  W = put (put v 5 (sp - 16)) 4 (sp - size)
+
+  room-is : 0x3FF00010 + 272 ≤ sp
+  room-is = omega (arith, room, large)
+
+  done-it : Made code trash small bytes-small trash-word from (prolog_code size) (scene W q.state.flags b) q
+  done-it = made-passed code trash small bytes-small trash-word from (prolog_code size) q (scene W q.state.flags b) k
+      (prolog-makes size sp v q.state.flags q.state.bytes large room top at (λ j e. seen.stack j e)) runs here
+      (stands-high code trash small bytes-small trash-word from (prolog_code size) (omega arith) k)
+
+  registers-are : done-it.end.state.registers ≡ W
+  registers-are = ap (λ (s : Scene). s.registers) done-it.scene
+
+  bytes-are : done-it.end.state.bytes ≡ b
+  bytes-are = ap (λ (s : Scene). s.bytes) done-it.scene
+
+  word-is : (j : ℕ) → j < 10 → HasWord b (word_below sp (1 + j)) (v (slice_index all_stored j))
+  word-is j lt = stored-word sp room-is all_stored 1 j q.state.bytes v (omega arith) seen.words (omega (arith, lt))
+
+  off : (a : ℕ) → (a + 88 < sp) ⊎ (sp ≤ a + 8) → b a ≡ q.state.bytes a
+  off a (inl h) = stored-off sp room-is all_stored 1 q.state.bytes v a (omega arith) (inl (omega (arith, h)))
+  off a (inr h) = stored-off sp room-is all_stored 1 q.state.bytes v a (omega arith) (inr (omega (arith, h)))
+
+  outside : (a : ℕ) → (a + 144 < sp) ⊎ (sp ≤ a) → b a ≡ q.state.bytes a
+  outside a (inl h) = off a (inl (omega (arith, h)))
+  outside a (inr h) = off a (inr (omega (arith, h)))
+
+  has : (a x : ℕ) → HasWord b a x → HasWord done-it.end.state.bytes a x
+  has a x h = subst (λ z. HasWord z a x) (sym bytes-are) h
+
+  return-stays : (address : ℕ) → HasWord q.state.bytes (return_word sp) address → HasWord b (return_word sp) address
+  return-stays address h = word-kept q.state.bytes b (return_word sp) address (λ j le lt. off j (inr (omega (arith, le, room-is)))) h
+
+  saved-is : (j : ℕ) → j < 3 → HasWord b (saved_word (frame_pointer sp) j) (v (portable_register X86_64 (j + 3)))
+  saved-is zero lt = subst (λ a. HasWord b a (v 3)) (omega (arith, room-is)) (word-is 1 (omega arith))
+  saved-is (suc zero) lt = subst (λ a. HasWord b a (v 13)) (omega (arith, room-is)) (word-is 2 (omega arith))
+  saved-is (suc (suc zero)) lt = subst (λ a. HasWord b a (v 14)) (omega (arith, room-is)) (word-is 3 (omega arith))
+  saved-is (suc (suc (suc j))) lt = absurd (omega (arith, lt))
+
+  home-is : (j : ℕ) → j < length (argument_registers X86_64)
+      → HasWord b (home_word (frame_pointer sp) j) (v (slice_index (argument_registers X86_64) j))
+  home-is zero lt = subst (λ a. HasWord b a (v 7)) (omega (arith, room-is)) (word-is 4 (omega arith))
+  home-is (suc zero) lt = subst (λ a. HasWord b a (v 6)) (omega (arith, room-is)) (word-is 5 (omega arith))
+  home-is (suc (suc zero)) lt = subst (λ a. HasWord b a (v 2)) (omega (arith, room-is)) (word-is 6 (omega arith))
+  home-is (suc (suc (suc zero))) lt = subst (λ a. HasWord b a (v 1)) (omega (arith, room-is)) (word-is 7 (omega arith))
+  home-is (suc (suc (suc (suc zero)))) lt = subst (λ a. HasWord b a (v 8)) (omega (arith, room-is)) (word-is 8 (omega arith))
+  home-is (suc (suc (suc (suc (suc zero))))) lt = subst (λ a. HasWord b a (v 9)) (omega (arith, room-is)) (word-is 9 (omega arith))
+  home-is (suc (suc (suc (suc (suc (suc j)))))) lt = absurd (omega (arith, lt))
+
+  portable-is : (r : ℕ) → r < 6 → W (portable_register X86_64 r) ≡ v (portable_register X86_64 r)
+  portable-is zero lt = refl
+  portable-is (suc zero) lt = refl
+  portable-is (suc (suc zero)) lt = refl
+  portable-is (suc (suc (suc zero))) lt = refl
+  portable-is (suc (suc (suc (suc zero)))) lt = refl
+  portable-is (suc (suc (suc (suc (suc zero))))) lt = refl
+  portable-is (suc (suc (suc (suc (suc (suc r)))))) lt = absurd (omega (arith, lt))
+
+  argument-is : (j : ℕ) → j < length (argument_registers X86_64)
+      → W (slice_index (argument_registers X86_64) j) ≡ v (slice_index (argument_registers X86_64) j)
+  argument-is zero lt = refl
+  argument-is (suc zero) lt = refl
+  argument-is (suc (suc zero)) lt = refl
+  argument-is (suc (suc (suc zero))) lt = refl
+  argument-is (suc (suc (suc (suc zero)))) lt = refl
+  argument-is (suc (suc (suc (suc (suc zero))))) lt = refl
+  argument-is (suc (suc (suc (suc (suc (suc j)))))) lt = absurd (omega (arith, lt))
+
+  pub enters : Entrance (x86_processor code trash) from (behind (x86_rows code trash) from (prolog_code size)) sp size q
+  enters = record {
+    end = done-it.end;
+    steps = length (prolog_code size);
+    passes = done-it.passes;
+    few = omega arith;
+    some = omega arith;
+    runs = done-it.runs;
+    here = done-it.here;
+    back = λ address h. has (return_word sp) address (return-stays address h);
+    caller = has (frame_pointer sp) (v 5) (word-is 0 (omega arith));
+    saved = λ j lt. has (saved_word (frame_pointer sp) j) (v (portable_register X86_64 (j + 3))) (saved-is j lt);
+    homes = λ j lt. has (home_word (frame_pointer sp) j) (v (slice_index (argument_registers X86_64) j)) (home-is j lt);
+    pointer = ap (λ g. g 5) registers-are;
+    stack_is = ap (λ g. g 4) registers-are;
+    portable = λ r lt. ap (λ g. g (portable_register X86_64 r)) registers-are ∙ portable-is r lt;
+    arguments = λ j lt. ap (λ g. g (slice_index (argument_registers X86_64) j)) registers-are ∙ argument-is j lt;
+    bytes = λ a h. ap (λ g. g a) bytes-are ∙ outside a h;
+    mark = done-it.mark;
+  }
+
+pub prologs-lead : (code : List ℕ) (trash : ℕ) → length code ≤ most_code → AreBytes code → trash < 2 ^ 64 → PrologsLead (x86_rows code trash) IsInstr prolog_code
+prologs-lead code trash small bytes word frame from stack q seen large room top even is k runs at =
+    enters code trash small bytes word frame from stack q seen large room top is k runs at

@@ -1,0 +1,170 @@
+-- No item of a node that branches, jumps, calls or returns, of `prolog` or `.align` writes a register that is outside of the conventions.
+use Rattle.std.proofs.Common.{ℕ, zero, suc, ◌-◌, List, [], ◌∷◌, Option, Some, None, Bool, refl}
+use Rattle.std.specs.Prelude.{true, false, ◌==◌, ◌&&◌, ◌^◌, nat_lt, if◌then◌else◌}
+use Rattle.lg_base.specs.HostNames.{host_address}
+use Rattle.lg_base.specs.Words.{signed_view}
+use Rattle.lg_base.specs.declared.target.Target.TheVariants.{X86_64}
+use Rattle.lg_op.specs.declared.op.BranchSumOp.{BranchSumOp}
+use Rattle.lg_op.specs.declared.op.Condition.{Condition}
+use Rattle.lg_op.specs.declared.op.ControlOp.{ControlOp}
+use Rattle.lg_op.specs.declared.op.ControlOp.TheVariants as control
+use Rattle.lg_op.specs.declared.op.LastOperand.{LastOperand}
+use Rattle.lg_op.specs.declared.op.LastOperand.TheVariants as last_operand
+use Rattle.lg_op.specs.declared.op.Op.{Op}
+use Rattle.lg_op.specs.declared.op.Op.TheVariants as op
+use Rattle.lg_op.specs.declared.op.PlainOp.{PlainOp}
+use Rattle.lg_op.specs.declared.op.PlainOp.TheVariants as plain
+use Rattle.lg_op.specs.declared.operand.Operand.{Operand}
+use Rattle.lg_op.specs.declared.operand.Operand.TheVariants as operand
+use Rattle.lg_op.specs.declared.operand.Reg.{Reg}
+use Rattle.lg_x86.specs.declared.instruction.ImmOp.TheVariants.{Cmpi}
+use Rattle.lg_x86.specs.declared.instruction.Instr.{Instr}
+use Rattle.lg_x86.specs.declared.instruction.Instr.TheVariants as instr
+use Rattle.lg_temp.specs.Abis.{register_of}
+use Rattle.lg_carry_x86.specs.Destinations.{WritesWithin}
+use Rattle.lg_carry_x86.specs.Numbers.{is_half, number_row}
+use Rattle.lg_sel_nodes.specs.Immediates.{immediate}
+use Rattle.lg_selx_items.specs.Items.{ones, StayWithin}
+use Rattle.lg_selx_items.proofs.WithinLemmas.{In, portable, Within, join, stay-append, stay-ones}
+use Rattle.lg_selx_values.specs.Scratch.{again}
+use Rattle.lg_selx_control.specs.Alignments.{padding, idle, align_code}
+use Rattle.lg_selx_control.specs.Branches.{comparison, is_difference, lowered, wide_comparison, number_comparison, word_comparison, before_branch}
+use Rattle.lg_selx_control.specs.ControlFits.{ControlItemsStay}
+use Rattle.lg_selx_control.specs.ControlItems.{branch_items, sum_items, jump_items, call_items, word_items, result_items, ret_items}
+use Rattle.lg_selx_control.specs.ControlItems.{register_jump_items, register_call_items, leap_items, align_items, plain_items, control_items}
+use Rattle.lg_selx_control.specs.HostCalls.{host_code}
+use Rattle.lg_selx_control.specs.Prologs.{stored_registers, stores_below, prolog_code}
+use Rattle.lg_selx_control.specs.RegisterLeaps.{register_jump_code, register_call_code}
+use Rattle.lg_selx_control.specs.Returns.{result, return_code}
+use Rattle.lg_selx_control.specs.SumBranches.{sum_row, sum_number, number_sum, word_sum, before_sum_branch}
+
+-- ---- branches, jumps, calls and returns
+number : (r v : ℕ) → In r → WritesWithin (number_row r v)
+number r v h = by (nat_lt v (2 ^ 32)) (is_half v)
+  where
+    by : (b c : Bool) → WritesWithin (if b then instr.Movi32 r v else if c then instr.Movs32 r (signed_view v) else instr.Movi64 r v)
+    by true c = (h, tt)
+    by false true = (h, tt)
+    by false false = (h, tt)
+
+wide : (o : Condition) (frame a v : ℕ) → In a → Within (wide_comparison (comparison o) frame a v)
+wide o frame a v h = by (a == 5)
+  where
+    by : (b : Bool) → Within (if b then number_row 4 v ∷ (instr.RmReg (comparison o) a 4 ∷ lowered frame)
+        else number_row 5 v ∷ (instr.RmReg (comparison o) a 5 ∷ again frame))
+    by true = (number 4 v refl, ((h, tt), ((refl, tt), tt)))
+    by false = (number 5 v refl, ((h, tt), ((refl, tt), tt)))
+
+compared : (o : Condition) (frame a : ℕ) (x : Option ℕ) → In a → Within (word_comparison o frame a x)
+compared o frame a None h = tt
+compared o frame a (Some v) h = by (is_difference o && is_half v)
+  where
+    by : (b : Bool) → Within (if b then instr.Imm Cmpi a (signed_view v) ∷ [] else wide_comparison (comparison o) frame a v)
+    by true = ((h, tt), tt)
+    by false = wide o frame a v h
+
+before : (frame : ℕ) (o : Condition) (a : Reg) (x : Operand) → Within (before_branch frame o a x)
+before frame o a (operand.Reg b) = ((portable a, tt), tt)
+before frame o a (operand.Number v) = compared o frame (register_of X86_64 a) (Some v) (portable a)
+before frame o a (operand.Host name) = compared o frame (register_of X86_64 a) (Some (host_address name)) (portable a)
+before frame o a (operand.Label l) = tt
+before frame o a (operand.Slot k) = tt
+
+added : (o : BranchSumOp) (frame a v : ℕ) → In a → Within (number_sum o frame a v)
+added o frame a v h = by (is_half v)
+  where
+    by : (b : Bool)
+        → Within (if b then instr.Imm (sum_number o) a (signed_view v) ∷ [] else number_row 5 v ∷ (instr.RmReg (sum_row o) a 5 ∷ again frame))
+    by true = ((h, tt), tt)
+    by false = (number 5 v refl, ((h, tt), ((refl, tt), tt)))
+
+before-sum : (frame : ℕ) (o : BranchSumOp) (a : Reg) (x : Operand) → Within (before_sum_branch frame o a x)
+before-sum frame o a (operand.Reg b) = ((portable a, tt), tt)
+before-sum frame o a (operand.Number v) = added o frame (register_of X86_64 a) v (portable a)
+before-sum frame o a (operand.Host name) = added o frame (register_of X86_64 a) (host_address name) (portable a)
+before-sum frame o a (operand.Label l) = tt
+before-sum frame o a (operand.Slot k) = tt
+
+branched : (frame : ℕ) (o : Condition) (xs : List Operand) → StayWithin (branch_items frame o xs)
+branched frame o (operand.Label l ∷ operand.Reg a ∷ x ∷ []) =
+    stay-append (ones (before_branch frame o a x)) _ (stay-ones (before_branch frame o a x) (before frame o a x)) (tt, tt)
+branched frame o xs = tt
+
+summed : (frame : ℕ) (o : BranchSumOp) (xs : List Operand) → StayWithin (sum_items frame o xs)
+summed frame o (operand.Label l ∷ operand.Reg a ∷ x ∷ []) =
+    stay-append (ones (before_sum_branch frame o a x)) _ (stay-ones (before_sum_branch frame o a x) (before-sum frame o a x)) (tt, tt)
+summed frame o xs = tt
+
+jumped : (xs : List Operand) → StayWithin (jump_items xs)
+jumped (operand.Label l ∷ []) = (tt, tt)
+jumped xs = tt
+
+called : (xs : List Operand) → StayWithin (call_items xs)
+called (operand.Label l ∷ []) = (tt, tt)
+called (operand.Host name ∷ []) = stay-ones (host_code name) ((refl, tt), ((refl, tt), ((refl, tt), tt)))
+called xs = tt
+
+results : (x : Operand) → StayWithin (result_items x)
+results (operand.Reg r) = ((refl, tt), tt)
+results (operand.Label l) = (refl, tt)
+results (operand.Number v) = (number result v refl, tt)
+results (operand.Host name) = (number result (host_address name) refl, tt)
+results (operand.Slot k) = tt
+
+returns : StayWithin (ones return_code)
+returns = ((refl, tt), ((refl, tt), ((refl, tt), ((refl, tt), ((refl, tt), ((refl, tt), tt))))))
+
+returned : (xs : List Operand) → StayWithin (ret_items xs)
+returned (x ∷ []) = stay-append (result_items x) (ones return_code) (results x) returns
+returned xs = tt
+
+register-jumped : (xs : List Operand) → StayWithin (register_jump_items xs)
+register-jumped (operand.Reg a ∷ []) = ((refl, tt), tt)
+register-jumped xs = tt
+
+register-called : (xs : List Operand) → StayWithin (register_call_items xs)
+register-called (operand.Reg a ∷ []) = ((refl, tt), ((refl, tt), ((refl, tt), tt)))
+register-called xs = tt
+
+leaps : (o : ControlOp) (last : LastOperand) (xs : List Operand) → StayWithin (leap_items o last xs)
+leaps control.Jmp last_operand.Immediate xs = jumped xs
+leaps control.Jmp last_operand.Register xs = register-jumped xs
+leaps control.Call last_operand.Immediate xs = called xs
+leaps control.Call last_operand.Register xs = register-called xs
+leaps control.Finish last_operand.Immediate xs = called xs
+leaps control.Finish last_operand.Register xs = register-called xs
+leaps control.Ret last xs = returned xs
+leaps control.Pusharg last xs = tt
+
+-- ---- the others
+idles : (k : ℕ) → Within (idle k)
+idles zero = tt
+idles (suc k) = (tt, idles k)
+
+aligned : (at : ℕ) (xs : List Operand) → StayWithin (align_items at xs)
+aligned at (operand.Number n ∷ []) = stay-ones (align_code at n) (idles (padding at n))
+aligned at xs = tt
+
+below : (rs : List ℕ) (k : ℕ) → Within (stores_below rs k)
+below [] k = tt
+below (r ∷ rs) k = (tt, below rs (suc k))
+
+begins : (frame : ℕ) → Within (prolog_code frame)
+begins frame = (tt, ((refl, tt), join (stores_below stored_registers 2) (lowered frame) (below stored_registers 2) ((refl, tt), tt)))
+
+plainly : (o : PlainOp) (xs : List Operand) (frame at : ℕ) → StayWithin (plain_items o xs frame at)
+plainly plain.Prolog xs frame at = stay-ones (prolog_code frame) (begins frame)
+plainly plain.Epilog xs frame at = returns
+plainly plain.Ret xs frame at = returns
+plainly plain.Align xs frame at = aligned at xs
+plainly o xs frame at = tt
+
+stay : (o : Op) (xs : List Operand) (frame at : ℕ) → StayWithin (control_items o xs frame at)
+stay (op.Branch o last) xs frame at = branched frame o xs
+stay (op.BranchSum o last) xs frame at = summed frame o xs
+stay (op.Control o last) xs frame at = leaps o last xs
+stay (op.Plain o) xs frame at = plainly o xs frame at
+stay o xs frame at = tt
+
+pub control-items-stay : ControlItemsStay
+control-items-stay n frame at = stay n.op n.operands frame at

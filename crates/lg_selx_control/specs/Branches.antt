@@ -1,0 +1,75 @@
+-- What a branch compares, and the condition on which it is taken.
+use Rattle.std.specs.Prelude.{ℕ, ◌-◌, ◌==◌, ◌&&◌, Bool, true, false, if◌then◌else◌, ℤ, negsuc, List, [], ◌∷◌, Option, Some, None}
+use Rattle.lg_base.specs.Words.{signed_view}
+use Rattle.lg_base.specs.declared.target.Target.TheVariants.{X86_64}
+use Rattle.lg_op.specs.declared.op.Condition.{Condition}
+use Rattle.lg_op.specs.declared.op.Condition.TheVariants as condition
+use Rattle.lg_op.specs.declared.operand.Operand.{Operand}
+use Rattle.lg_op.specs.declared.operand.Operand.TheVariants as operand
+use Rattle.lg_op.specs.declared.operand.Reg.{Reg}
+use Rattle.lg_x86.specs.declared.instruction.Cond.{Cond}
+use Rattle.lg_x86.specs.declared.instruction.Cond.TheVariants as cond
+use Rattle.lg_x86.specs.declared.instruction.ImmOp.TheVariants.{Cmpi}
+use Rattle.lg_x86.specs.declared.instruction.Instr.{Instr}
+use Rattle.lg_x86.specs.declared.instruction.Instr.TheVariants as instr
+use Rattle.lg_x86.specs.declared.instruction.LoadOp.TheVariants.{Lea}
+use Rattle.lg_x86.specs.declared.instruction.RmRegOp.{RmRegOp}
+use Rattle.lg_x86.specs.declared.instruction.RmRegOp.TheVariants as row
+use Rattle.lg_temp.specs.Abis.{register_of}
+use Rattle.lg_carry_x86.specs.Numbers.{is_half, number_row}
+use Rattle.lg_sel_nodes.specs.Immediates.{immediate}
+use Rattle.lg_selx_values.specs.Scratch.{again}
+
+-- the flags are those of the difference of two words, and for bits those of their conjunction
+abbrev pub comparison : Condition → RmRegOp
+comparison condition.Ms = row.Test
+comparison condition.Mc = row.Test
+comparison o = row.Cmp
+
+-- whether a difference is asked for: no row tests the bits of a number
+abbrev pub is_difference : Condition → Bool
+is_difference condition.Ms = false
+is_difference condition.Mc = false
+is_difference o = true
+
+-- and what then holds of them where the condition holds
+abbrev pub taken : Condition → Cond
+taken condition.Lt = cond.Less
+taken condition.LtU = cond.Below
+taken condition.Le = cond.LessOrEqual
+taken condition.LeU = cond.BelowOrEqual
+taken condition.Ge = cond.GreaterOrEqual
+taken condition.GeU = cond.AboveOrEqual
+taken condition.Gt = cond.Greater
+taken condition.GtU = cond.Above
+taken condition.Eq = cond.Equal
+taken condition.Ne = cond.NotEqual
+taken condition.Ms = cond.NotEqual
+taken condition.Mc = cond.Equal
+
+-- how far the stack pointer, rsp, 4, lies from FP, rbp, 5, in a frame of so many bytes
+abbrev pub lower : ℕ → ℤ
+lower frame = negsuc (frame - 17)
+
+-- the stack pointer again, from FP
+abbrev pub lowered : ℕ → List Instr
+lowered frame = instr.Load Lea 4 5 (lower frame) ∷ []
+
+-- a number of more than 32 bits is loaded into FP, which is made again from the stack pointer; and where the first operand is FP, into the stack
+-- pointer, which is made again from FP. Neither changes a flag
+abbrev pub wide_comparison : RmRegOp → ℕ → ℕ → ℕ → List Instr
+wide_comparison r frame a v =
+    if a == 5 then number_row 4 v ∷ (instr.RmReg r a 4 ∷ lowered frame) else number_row 5 v ∷ (instr.RmReg r a 5 ∷ again frame)
+
+abbrev pub number_comparison : Condition → ℕ → ℕ → ℕ → List Instr
+number_comparison o frame a v =
+    if is_difference o && is_half v then instr.Imm Cmpi a (signed_view v) ∷ [] else wide_comparison (comparison o) frame a v
+
+abbrev pub word_comparison : Condition → ℕ → ℕ → Option ℕ → List Instr
+word_comparison o frame a None = []
+word_comparison o frame a (Some v) = number_comparison o frame a v
+
+-- what stands before the jump of a branch
+abbrev pub before_branch : ℕ → Condition → Reg → Operand → List Instr
+before_branch frame o a (operand.Reg b) = instr.RmReg (comparison o) (register_of X86_64 a) (register_of X86_64 b) ∷ []
+before_branch frame o a x = word_comparison o frame (register_of X86_64 a) (immediate x)

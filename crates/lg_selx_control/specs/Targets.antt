@@ -1,0 +1,37 @@
+-- What the code of x86-64 does wherever it stands, as the laws of every target ask for it.
+use Rattle.std.specs.Prelude.{ℕ, ◌^◌, ◌<◌, ◌≤◌, List, length}
+use Rattle.lg_base.specs.Layout.{most_code}
+use Rattle.lg_x86.specs.Spelling.{IsInstr}
+use Rattle.lg_x86.specs.declared.instruction.Instr.{Instr}
+use Rattle.lg_cpu.specs.Laws.{AreBytes}
+use Rattle.lg_carry_x86.specs.X86Computers.{x86_scratch}
+use Rattle.lg_carry_x86.specs.X86Rows.{x86_rows}
+use Rattle.lg_sel_control.specs.Control.{Codes, Controls}
+use Rattle.lg_selx_control.specs.Alignments.{align_code}
+use Rattle.lg_selx_control.specs.Calls.{call_code}
+use Rattle.lg_selx_control.specs.HostCalls.{host_code, x86_ready}
+use Rattle.lg_selx_control.specs.Jumps.{jump_code}
+use Rattle.lg_selx_control.specs.Prologs.{prolog_code}
+use Rattle.lg_selx_control.specs.RegisterLeaps.{register_jump_code, register_call_code}
+use Rattle.lg_selx_control.specs.Returns.{returned_code}
+use Rattle.lg_selx_control.specs.TwoWays.{branch_code, sum_branch_code}
+
+abbrev pub x86_control : Codes Instr
+x86_control = record {
+  branch = branch_code;
+  sum_branch = sum_branch_code;
+  jump = jump_code;
+  register_jump = register_jump_code;
+  call = call_code;
+  host_call = host_code;
+  register_call = register_call_code;
+  ret = returned_code;
+  prolog = prolog_code;
+  align = align_code;
+}
+
+abbrev pub IsX86 : List ℕ → ℕ → Type 0
+IsX86 code trash = Controls (x86_rows code trash) x86_scratch IsInstr x86_ready x86_control
+
+abbrev pub IsTarget : Type 0
+IsTarget = (code : List ℕ) (trash : ℕ) → length code ≤ most_code → AreBytes code → trash < 2 ^ 64 → IsX86 code trash
