@@ -1,5 +1,5 @@
 -- `.align` walks to a multiple.
-use Rattle.std.proofs.Common.{◌≡◌, ℕ, zero, suc, ◌+◌, ◌-◌, ◌%◌, ◌^◌, ◌<◌, ◌≤◌, ◌⊎◌, ⊎_elim, true, false, List, Some, refl, sym, ap, ◌∙◌, subst, arith, length}
+use Rattle.std.proofs.Common.{◌≡◌, ℕ, zero, suc, ◌+◌, ◌%◌, ◌^◌, ◌<◌, ◌≤◌, ◌⊎◌, ⊎_elim, true, false, List, Some, refl, sym, ap, ◌∙◌, subst, arith, length}
 use Rattle.lg_base.specs.Layout.{most_code}
 use Rattle.lg_op.specs.Forms.{is_alignment}
 use Rattle.lg_x86.specs.Spelling.{IsInstr, spelling}

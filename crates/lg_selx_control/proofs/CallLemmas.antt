@@ -1,5 +1,5 @@
 -- Calls on x86-64 push the address behind them.
-use Rattle.std.proofs.Common.{◌≡◌, ◌≢◌, ℕ, zero, suc, ◌+◌, ◌-◌, ◌^◌, ◌<◌, ◌≤◌, ◌⊎◌, inl, inr, true, false, List, [], ◌∷◌, ◌++◌, Option, Some, None, refl, sym, ap, ◌∙◌, arith, length}
+use Rattle.std.proofs.Common.{◌≡◌, ◌≢◌, ℕ, zero, suc, ◌+◌, ◌-◌, ◌^◌, ◌<◌, ◌≤◌, ◌⊎◌, true, false, List, [], ◌∷◌, ◌++◌, Some, None, refl, ap, ◌∙◌, arith, length}
 use Rattle.std.specs.Prelude.{pos, ◌-ℤ◌, slice_index, if◌then◌else◌}
 use Rattle.lg_base.specs.Conventions.{argument_registers, portable_register}
 use Rattle.lg_base.specs.HostNames.{host_address}
@@ -25,7 +25,7 @@ use Rattle.lg_cpu.specs.HostSteps.{put}
 use Rattle.lg_cpu.specs.Laws.{AreBytes}
 use Rattle.lg_cpu.specs.States.{CpuState}
 use Rattle.lg_cpu.specs.Steps.{Run, Effect, after, arrived, status_of}
-use Rattle.lg_cpu.specs.X86Step.{Scene, scene_of, goes, goes_with, pushes, takes_al, does}
+use Rattle.lg_cpu.specs.X86Step.{scene_of, goes, goes_with, pushes, takes_al, does}
 use Rattle.lg_temp.specs.Abis.{register_of}
 use Rattle.lg_carry_x86.specs.MakingNodes.{scene}
 use Rattle.lg_carry_x86.specs.Makings.{makes}
@@ -39,7 +39,7 @@ use Rattle.lg_selx_values.proofs.RegisterLemmas.{put-same, put-other}
 use Rattle.lg_selx_control.specs.Calls.{call_code}
 use Rattle.lg_selx_control.specs.HostCalls.{host_code, x86_ready}
 use Rattle.lg_selx_control.specs.RegisterLeaps.{register_call_code}
-use Rattle.lg_selx_control.proofs.StretchLemmas.{front_high, front_run, front_state, front-top, front-passed}
+use Rattle.lg_selx_control.proofs.StretchLemmas.{front_run, front_state, front-top, front-passed}
 use Rattle.lg_selx_control.proofs.WalkLemmas.{leads-there}
 
 -- ---- the word that is pushed

@@ -22,7 +22,7 @@ use Rattle.lg_op.specs.declared.operand.Label.{Label}
 use Rattle.lg_op.specs.declared.operand.Operand.{Operand}
 use Rattle.lg_op.specs.declared.operand.Operand.TheVariants as operand
 use Rattle.lg_op.specs.declared.operand.Reg.{Reg}
-use Rattle.lg_x86.specs.Spelling.{IsInstr, IsNumber32}
+use Rattle.lg_x86.specs.Spelling.{IsNumber32}
 use Rattle.lg_x86.specs.declared.instruction.Cond.{Cond}
 use Rattle.lg_x86.specs.declared.instruction.ImmOp.TheVariants.{Cmpi}
 use Rattle.lg_x86.specs.declared.instruction.Instr.{Instr}
@@ -38,17 +38,17 @@ use Rattle.lg_sel_control.proofs.ControlLemmas.{differ, never, never-sum, host-s
 use Rattle.lg_selx_items.specs.declared.items.Item.{Item}
 use Rattle.lg_selx_items.specs.declared.items.Item.TheVariants.{Jump}
 use Rattle.lg_selx_items.specs.declared.items.JumpKind.TheVariants.{Near, NearIf}
-use Rattle.lg_selx_items.specs.Items.{blanks, fixes_of, AreItems, ones, move_size}
+use Rattle.lg_selx_items.specs.Items.{blanks, fixes_of, AreItems, ones}
 use Rattle.lg_selx_items.proofs.ItemLemmas.{words_append, items-append, names-append, fixes-append, words-ones, names-ones, fixes-ones, ones-append}
 use Rattle.lg_selx_values.specs.Scratch.{again}
 use Rattle.lg_selx_values.proofs.RegisterLemmas.{register-portable}
 use Rattle.lg_selx_control.specs.Alignments.{padding, idle, align_code}
-use Rattle.lg_selx_control.specs.Branches.{comparison, is_difference, lower, lowered, wide_comparison, number_comparison, before_branch, taken}
+use Rattle.lg_selx_control.specs.Branches.{comparison, is_difference, lowered, wide_comparison, number_comparison, before_branch, taken}
 use Rattle.lg_selx_control.specs.ControlFits.{IsGiven, AreGiven, AreEmitted, ControlItemsFit}
-use Rattle.lg_selx_control.specs.ControlItems.{branch_if_items, register_jump_items, register_call_items, result_items, control_items, is_control}
+use Rattle.lg_selx_control.specs.ControlItems.{branch_if_items, register_jump_items, register_call_items, control_items, is_control}
 use Rattle.lg_selx_control.specs.ControlLaws.{ends_in_label}
 use Rattle.lg_selx_control.specs.HostCalls.{host_code}
-use Rattle.lg_selx_control.specs.Prologs.{stored_registers, store_word, stores_below, prolog_code}
+use Rattle.lg_selx_control.specs.Prologs.{stored_registers, stores_below, prolog_code}
 use Rattle.lg_selx_control.specs.RegisterLeaps.{register_jump_code, register_call_code}
 use Rattle.lg_selx_control.specs.Returns.{result, return_code}
 use Rattle.lg_selx_control.specs.SumBranches.{sum_row, sum_number, number_sum, before_sum_branch, sum_taken}
@@ -146,15 +146,14 @@ stores-fit (r ∷ rs) k h few =
 
 prolog-fits : (size : ℕ) → size < 0x40000000 → AreItems (ones (prolog_code size))
 unfolding all-below
-prolog-fits size h =
-    (
-      (omega arith, low-number 7 (omega arith), omega arith),
-      (
-        (omega arith, omega arith, low-number 7 (omega arith)),
-        subst AreItems (sym (ones-append (stores_below stored_registers 2) (lowered size)))
+prolog-fits size h = (
+  (omega arith, low-number 7 (omega arith), omega arith),
+  (
+    (omega arith, omega arith, low-number 7 (omega arith)),
+    subst AreItems (sym (ones-append (stores_below stored_registers 2) (lowered size)))
         (items-append (ones (stores_below stored_registers 2)) (ones (lowered size)) (stores-fit stored_registers 2 refl (omega arith)) (lowered-fits size h)),
-      ),
-    )
+  ),
+)
 
 host-near : (name : HostName) → host_address name < 2 ^ 32
 host-near host.Printf = omega arith

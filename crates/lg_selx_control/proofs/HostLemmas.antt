@@ -11,10 +11,10 @@ use Rattle.lg_base.specs.declared.fault.FaultKind.TheVariants.{Host as HostFault
 use Rattle.lg_base.specs.declared.host_name.HostName.{HostName}
 use Rattle.lg_base.specs.declared.target.Target.TheVariants.{X86_64}
 use Rattle.lg_host.specs.Host.{Host, Gives, Exits}
-use Rattle.lg_cpu.specs.HostSteps.{put, clobbered, behind_call, answer_at, returned}
+use Rattle.lg_cpu.specs.HostSteps.{clobbered, behind_call, answer_at, returned}
 use Rattle.lg_cpu.specs.Laws.{AreBytes, IsSound}
 use Rattle.lg_cpu.specs.States.{CpuState}
-use Rattle.lg_cpu.specs.Steps.{Run, after, arrived, faults, status_of}
+use Rattle.lg_cpu.specs.Steps.{Run, after, faults, status_of}
 use Rattle.lg_cpu.specs.X86Operators.{no_flags}
 use Rattle.lg_cpu.specs.X86Step.{popped, takes_al, enter_with, effect_at, effect}
 use Rattle.lg_cpu.proofs.X86SoundLemmas.{x86-stays-sound}
@@ -77,12 +77,12 @@ module _ (code : List ℕ) (trash : ℕ) (small : length code ≤ most_code) (by
         let z = answered q name stack back (Gives v d to xs) arr e in
         let u : Run CpuState = after q (returned (Gives v d to xs) back (popped q.state.registers trash) no_flags q.state) in
         let is-sound : IsSound u.state = subst (λ (r : Run CpuState). IsSound r.state) (sym (went q (effect code trash q.state) arr.runs) ∙ z)
-            (x86-stays-sound code trash q.state bytes word record {
-              pc = arr.small;
-              words = arr.seen.words;
-              bytes = arr.seen.bytes;
-              mark = arr.seen.high;
-            }) in
+        (x86-stays-sound code trash q.state bytes word record {
+          pc = arr.small;
+          words = arr.seen.words;
+          bytes = arr.seen.bytes;
+          mark = arr.seen.high;
+        }) in
         let w : ℕ → ℕ = q.state.registers in
         let rises : ℕ = add_words (w 4) 8 in
         subst (λ r. Answers (x86_processor code trash) stack back v d to xs q r) (sym z) record {

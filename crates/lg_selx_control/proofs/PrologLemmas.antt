@@ -19,7 +19,7 @@ use Rattle.lg_cpu.specs.HostSteps.{put}
 use Rattle.lg_cpu.specs.Laws.{AreBytes}
 use Rattle.lg_cpu.specs.States.{CpuState}
 use Rattle.lg_cpu.specs.Steps.{Run, status_of}
-use Rattle.lg_cpu.specs.X86Step.{Scene, scene_of, made}
+use Rattle.lg_cpu.specs.X86Step.{Scene, made}
 use Rattle.lg_carry.specs.Processors.{IsSeen}
 use Rattle.lg_carry.specs.Registers.{HasWord}
 use Rattle.lg_carry.proofs.SpillLemmas.{stored-there}
@@ -30,7 +30,7 @@ use Rattle.lg_carry_x86.specs.X86Rows.{x86_processor, x86_rows, x86_seen}
 use Rattle.lg_sel_nodes.specs.Stretches.{StandsAt, behind}
 use Rattle.lg_sel_control.specs.Prologs.{Entrance, PrologsLead}
 use Rattle.lg_sel_control.proofs.StoreLemmas.{word_below, with_stored, HasStack, mapped-below, stored-off, stored-word}
-use Rattle.lg_selx_control.specs.Branches.{lower, lowered}
+use Rattle.lg_selx_control.specs.Branches.{lowered}
 use Rattle.lg_selx_control.specs.Prologs.{stored_registers, store_word, stores_below, prolog_code}
 use Rattle.lg_selx_control.proofs.SpareLemmas.{lower-is}
 use Rattle.lg_selx_control.proofs.StretchLemmas.{Made, stands-high, made-passed}

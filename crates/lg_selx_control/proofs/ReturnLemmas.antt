@@ -1,11 +1,11 @@
 -- Returns leave their frame.
-use Rattle.std.proofs.Common.{◌≡◌, ◌≢◌, ℕ, zero, suc, ◌+◌, ◌-◌, ◌*◌, ◌^◌, ◌<◌, ◌≤◌, true, List, [], ◌∷◌, ◌++◌, Option, Some, refl, sym, ap, ◌∙◌, subst, arith, length}
+use Rattle.std.proofs.Common.{◌≡◌, ℕ, zero, suc, ◌+◌, ◌-◌, ◌^◌, ◌<◌, ◌≤◌, List, [], ◌∷◌, ◌++◌, Option, Some, refl, ap, ◌∙◌, subst, arith, length}
 use Rattle.std.proofs.Common.{append_assoc, length-append}
 use Rattle.std.specs.Prelude.{ℤ, pos, negsuc}
 use Rattle.std.specs.Option.{option_and_then}
 use Rattle.lg_base.specs.Conventions.{portable_register}
 use Rattle.lg_base.specs.Fields.{word_of}
-use Rattle.lg_base.specs.Layout.{code_base, most_code, frame_pointer, return_word, saved_word}
+use Rattle.lg_base.specs.Layout.{most_code, frame_pointer, return_word, saved_word}
 use Rattle.lg_base.specs.Runs.{Running}
 use Rattle.lg_base.specs.Spaces.{loaded}
 use Rattle.lg_base.specs.Words.{add_words}
@@ -35,7 +35,7 @@ use Rattle.lg_sel_control.proofs.FrameWordLemmas.{word_at, stack-word, saved-add
 use Rattle.lg_sel_control.proofs.StoreLemmas.{HasStack}
 use Rattle.lg_selx_values.proofs.BinaryCodeLemmas.{some-same}
 use Rattle.lg_selx_control.specs.Returns.{restore_code, result_code, returned_code}
-use Rattle.lg_selx_control.proofs.StretchLemmas.{front_high, front_run, front_state, front-passed}
+use Rattle.lg_selx_control.proofs.StretchLemmas.{front_run, front_state, front-passed}
 
 -- ---- the word that is returned
 -- it is in rax, and FP stays

@@ -1,8 +1,8 @@
 -- FP and the stack pointer, each of which code may spoil and make again from the other.
-use Rattle.std.proofs.Common.{◌≡◌, ◌≢◌, ℕ, ◌+◌, ◌-◌, ◌<◌, ◌≤◌, Option, Some, sym, ap, ◌∙◌, arith}
+use Rattle.std.proofs.Common.{◌≡◌, ◌≢◌, ℕ, ◌+◌, ◌-◌, ◌≤◌, Option, Some, sym, ap, ◌∙◌, arith}
 use Rattle.std.specs.Prelude.{pos}
 use Rattle.lg_base.specs.Fields.{word_of}
-use Rattle.lg_base.specs.Layout.{least_frame, stack_end, frame_pointer}
+use Rattle.lg_base.specs.Layout.{least_frame, stack_end}
 use Rattle.lg_base.specs.Words.{add_words}
 use Rattle.lg_base.specs.declared.flags.Flags.{Flags}
 use Rattle.lg_base.specs.declared.target.Target.TheVariants.{X86_64}

@@ -1,5 +1,5 @@
 -- Instructions of x86-64 that stand in the code, and runs over them.
-use Rattle.std.proofs.Common.{◌≡◌, ℕ, ◌+◌, ◌^◌, ◌<◌, ◌≤◌, List, [], ◌∷◌, ◌++◌, Some, sym, ap, ◌∙◌, subst, arith, length, append-nil, length-append}
+use Rattle.std.proofs.Common.{◌≡◌, ℕ, ◌+◌, ◌^◌, ◌<◌, ◌≤◌, List, [], ◌∷◌, ◌++◌, Some, sym, ap, ◌∙◌, arith, length, append-nil, length-append}
 use Rattle.lg_base.specs.Layout.{code_base, most_code}
 use Rattle.lg_base.specs.Runs.{Running}
 use Rattle.lg_base.specs.Words.{add_words}
@@ -69,8 +69,8 @@ module _ (code : List ℕ) (trash : ℕ) (small : length code ≤ most_code) (by
     pub front-behind : front_run.state.pc ≡ from + length (spellings spelling front)
     front-behind = front-ran.behind ∙ ap (λ n. n + length (spellings spelling front)) at
 
-    pub front-state : front_run.state ≡ front_state
-    front-state = same-state front_run.state (from + length (spellings spelling front)) t q.state.mark front-behind front-ran.scene front-ran.mark
+    pub front-left : front_run.state ≡ front_state
+    front-left = same-state front_run.state (from + length (spellings spelling front)) t q.state.mark front-behind front-ran.scene front-ran.mark
 
     pub front-next : add_words (from + length (spellings spelling front)) (length (spelling x)) ≡ front_high
     front-next =
@@ -86,7 +86,7 @@ module _ (code : List ℕ) (trash : ℕ) (small : length code ≤ most_code) (by
         front-ran.through)
         (stretches.one-passed (x86_rows code trash) IsInstr rows from front x [] front_run (after front_run e) k front-ran.runs front-behind
         (went front_run (act x (length (spelling x)) front_run.state) front-ran.runs
-        ∙ ap (after front_run) (ap (act x (length (spelling x))) front-state ∙ ap (λ pc. does x pc front_state) front-next ∙ is)))
+        ∙ ap (after front_run) (ap (act x (length (spelling x))) front-left ∙ ap (λ pc. does x pc front_state) front-next ∙ is)))
 
   -- ---- instructions that make a scene, and no other
   pub record Made (from : ℕ) (is : List Instr) (t : Scene) (q : Run CpuState) : Type 0 where

@@ -1,5 +1,5 @@
 -- What a sum or difference of a branch makes of the registers and the flags.
-use Rattle.std.proofs.Common.{◌≡◌, ◌≢◌, ℕ, ◌-◌, ◌^◌, ◌<◌, ◌≤◌, Bool, true, false, List, [], ◌∷◌, Some, refl, sym, ap, ◌∙◌, subst, arith, length}
+use Rattle.std.proofs.Common.{◌≡◌, ◌≢◌, ℕ, ◌^◌, ◌<◌, ◌≤◌, Bool, true, false, [], ◌∷◌, Some, refl, sym, ap, ◌∙◌, subst, arith, length}
 use Rattle.std.specs.Prelude.{if◌then◌else◌}
 use Rattle.std.specs.Option.{option_and_then}
 use Rattle.lg_base.specs.HostNames.{host_address}
@@ -26,7 +26,7 @@ use Rattle.lg_carry_x86.proofs.NumberCodeLemmas.{view-word, row-loads}
 use Rattle.lg_sel_nodes.specs.Leaps.{second_word}
 use Rattle.lg_selx_values.specs.Scratch.{again}
 use Rattle.lg_selx_values.proofs.BinaryCodeLemmas.{some-same}
-use Rattle.lg_selx_values.proofs.RegisterLemmas.{put-same, put-other, register-not-frame, register-portable}
+use Rattle.lg_selx_values.proofs.RegisterLemmas.{put-other, register-not-frame, register-portable}
 use Rattle.lg_selx_control.specs.SumBranches.{sum_row, sum_number, sum_taken, number_sum, before_sum_branch}
 use Rattle.lg_selx_control.proofs.ComparisonLemmas.{Tells}
 use Rattle.lg_selx_control.proofs.SpareLemmas.{IsFramed, pointer-behind}

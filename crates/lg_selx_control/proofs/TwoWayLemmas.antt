@@ -22,7 +22,7 @@ use Rattle.lg_sel_nodes.specs.Stretches.{StandsAt, behind, Way}
 use Rattle.lg_sel_control.proofs.ChainLemmas.{runs-there}
 use Rattle.lg_selx_control.specs.TwoWays.{branch_if}
 use Rattle.lg_selx_control.proofs.ComparisonLemmas.{Tells}
-use Rattle.lg_selx_control.proofs.StretchLemmas.{front_high, front_run, front_state, front-size, front-top, front-passed}
+use Rattle.lg_selx_control.proofs.StretchLemmas.{front_run, front_state, front-size, front-top, front-passed}
 use Rattle.lg_selx_control.proofs.WalkLemmas.{leads-there}
 
 -- the jump, where what stands before it tells whether it is taken

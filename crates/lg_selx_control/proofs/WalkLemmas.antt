@@ -1,5 +1,5 @@
 -- Jumps, by labels and registers, walk where they lead.
-use Rattle.std.proofs.Common.{◌≡◌, ℕ, ◌+◌, ◌^◌, ◌<◌, ◌≤◌, false, List, [], ◌∷◌, refl, ap, ◌∙◌, arith, length}
+use Rattle.std.proofs.Common.{◌≡◌, ℕ, ◌+◌, ◌^◌, ◌<◌, ◌≤◌, false, List, [], refl, ap, ◌∙◌, arith, length}
 use Rattle.std.specs.Prelude.{pos, ◌-ℤ◌}
 use Rattle.std.proofs.lemmas.Int.{ints}
 use Rattle.lg_base.specs.Fields.{word_of}
@@ -24,7 +24,7 @@ use Rattle.lg_sel_control.proofs.ChainLemmas.{runs-there}
 use Rattle.lg_sel_control.proofs.StretchLemmas.{walked}
 use Rattle.lg_selx_control.specs.Jumps.{jump_code}
 use Rattle.lg_selx_control.specs.RegisterLeaps.{register_jump_code}
-use Rattle.lg_selx_control.proofs.StretchLemmas.{front_high, front_run, front_state, front-top, front-passed}
+use Rattle.lg_selx_control.proofs.StretchLemmas.{front_state, front-top, front-passed}
 
 -- so many bytes lead from an address to another
 distance-leads : (from to : ℕ) → from < 2 ^ 62 → to < 2 ^ 62 → add_words from (word_of (pos to -ℤ pos from)) ≡ to

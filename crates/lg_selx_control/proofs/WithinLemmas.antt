@@ -1,5 +1,5 @@
 -- No item of a node that branches, jumps, calls or returns, of `prolog` or `.align` writes a register that is outside of the conventions.
-use Rattle.std.proofs.Common.{ℕ, zero, suc, ◌-◌, List, [], ◌∷◌, Option, Some, None, Bool, refl}
+use Rattle.std.proofs.Common.{ℕ, zero, suc, List, [], ◌∷◌, Option, Some, None, Bool, refl}
 use Rattle.std.specs.Prelude.{true, false, ◌==◌, ◌&&◌, ◌^◌, nat_lt, if◌then◌else◌}
 use Rattle.lg_base.specs.HostNames.{host_address}
 use Rattle.lg_base.specs.Words.{signed_view}
@@ -18,25 +18,22 @@ use Rattle.lg_op.specs.declared.operand.Operand.{Operand}
 use Rattle.lg_op.specs.declared.operand.Operand.TheVariants as operand
 use Rattle.lg_op.specs.declared.operand.Reg.{Reg}
 use Rattle.lg_x86.specs.declared.instruction.ImmOp.TheVariants.{Cmpi}
-use Rattle.lg_x86.specs.declared.instruction.Instr.{Instr}
 use Rattle.lg_x86.specs.declared.instruction.Instr.TheVariants as instr
 use Rattle.lg_temp.specs.Abis.{register_of}
 use Rattle.lg_carry_x86.specs.Destinations.{WritesWithin}
 use Rattle.lg_carry_x86.specs.Numbers.{is_half, number_row}
-use Rattle.lg_sel_nodes.specs.Immediates.{immediate}
 use Rattle.lg_selx_items.specs.Items.{ones, StayWithin}
 use Rattle.lg_selx_items.proofs.WithinLemmas.{In, portable, Within, join, stay-append, stay-ones}
 use Rattle.lg_selx_values.specs.Scratch.{again}
 use Rattle.lg_selx_control.specs.Alignments.{padding, idle, align_code}
-use Rattle.lg_selx_control.specs.Branches.{comparison, is_difference, lowered, wide_comparison, number_comparison, word_comparison, before_branch}
+use Rattle.lg_selx_control.specs.Branches.{comparison, is_difference, lowered, wide_comparison, word_comparison, before_branch}
 use Rattle.lg_selx_control.specs.ControlFits.{ControlItemsStay}
-use Rattle.lg_selx_control.specs.ControlItems.{branch_items, sum_items, jump_items, call_items, word_items, result_items, ret_items}
+use Rattle.lg_selx_control.specs.ControlItems.{branch_items, sum_items, jump_items, call_items, result_items, ret_items}
 use Rattle.lg_selx_control.specs.ControlItems.{register_jump_items, register_call_items, leap_items, align_items, plain_items, control_items}
 use Rattle.lg_selx_control.specs.HostCalls.{host_code}
 use Rattle.lg_selx_control.specs.Prologs.{stored_registers, stores_below, prolog_code}
-use Rattle.lg_selx_control.specs.RegisterLeaps.{register_jump_code, register_call_code}
 use Rattle.lg_selx_control.specs.Returns.{result, return_code}
-use Rattle.lg_selx_control.specs.SumBranches.{sum_row, sum_number, number_sum, word_sum, before_sum_branch}
+use Rattle.lg_selx_control.specs.SumBranches.{sum_row, sum_number, number_sum, before_sum_branch}
 
 -- ---- branches, jumps, calls and returns
 number : (r v : ℕ) → In r → WritesWithin (number_row r v)

@@ -2,4 +2,12 @@
 //! it carries them.
 #![tactic(auto)]
 
+mod branches;
+mod control;
+mod frames;
 pub mod laws;
+mod leaps;
+mod pointers;
+mod sums;
+
+pub use control::put_control;

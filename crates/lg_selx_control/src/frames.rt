@@ -1,0 +1,147 @@
+// Functions that begin and return, and places at a multiple.
+
+ghost use Rattle.std.specs.Prelude.{◌≡◌, ◌+◌, ◌<◌, ◌≤◌, true, [], ◌∷◌, ◌++◌};
+ghost use Rattle.lg_op.specs.Forms.{is_alignment, admit, plain_forms};
+ghost use Rattle.lg_op.specs.declared.form.Form.TheVariants as form;
+ghost use Rattle.lg_selx_control.specs.Alignments.{padding, idle};
+ghost use Rattle.lg_selx_control.specs.ControlItems.{align_items, plain_items};
+ghost use Rattle.lg_selx_control.specs.Prologs.{prolog_code};
+ghost use Rattle.lg_selx_control.specs.Returns.{return_code};
+ghost use Rattle.lg_selx_items.specs.Items.{words_in, ones};
+
+use crate::pointers::{FRAME_POINTER, STACK_POINTER, lea, stack_again};
+use lg_op::{Operand, PlainOp};
+use lg_sel_items::Items;
+use lg_selx_items::Item;
+use lg_x86::{BareOp, Instr, LoadOp, StoreOp};
+
+// The registers of V0, V1 and V2: rbx, r13 and r14.
+const V0: u8 = 3;
+
+const V1: u8 = 13;
+
+const V2: u8 = 14;
+
+// A word of the frame is stored by FP or the stack pointer.
+fn store(base: u8, disp: i32, reg: u8) -> Instr
+    ensures { result ≡ Instr.Store (StoreOp.St64) base disp reg }
+{
+    Instr::Store {
+        op: StoreOp::St64,
+        base,
+        disp,
+        reg,
+    }
+}
+
+// What a `prolog` does: the caller's FP goes below the return address, and FP points there; V0, V1, V2 and the arguments in rdi, rsi, rdx, rcx, r8 and
+// r9 go below, and the stack pointer falls.
+fn prolog_code(size: u32) -> [Instr; 12]
+    requires some { 272 ≤ size }
+    requires small { size < 0x4000_0000 }
+    ensures { result ≡ prolog_code size }
+{
+    [
+        store(STACK_POINTER, -8, FRAME_POINTER),
+        lea(FRAME_POINTER, STACK_POINTER, -8),
+        store(FRAME_POINTER, -8, V0),
+        store(FRAME_POINTER, -16, V1),
+        store(FRAME_POINTER, -24, V2),
+        store(FRAME_POINTER, -32, 7),
+        store(FRAME_POINTER, -40, 6),
+        store(FRAME_POINTER, -48, 2),
+        store(FRAME_POINTER, -56, 1),
+        store(FRAME_POINTER, -64, 8),
+        store(FRAME_POINTER, -72, 9),
+        stack_again(size),
+    ]
+}
+
+// A word of the frame is loaded by FP.
+fn load(reg: u8, disp: i32) -> Instr
+    ensures { result ≡ Instr.Load (LoadOp.Ld64) reg 5 disp }
+{
+    Instr::Load {
+        op: LoadOp::Ld64,
+        reg,
+        base: FRAME_POINTER,
+        disp,
+    }
+}
+
+// What a return does.
+fn return_code() -> [Instr; 6]
+    ensures { result ≡ return_code }
+{
+    [
+        load(V0, -8),
+        load(V1, -16),
+        load(V2, -24),
+        lea(STACK_POINTER, FRAME_POINTER, 8),
+        load(FRAME_POINTER, 0),
+        Instr::Bare { op: BareOp::Ret },
+    ]
+}
+
+// Appends a return.
+pub(crate) fn put_return(items: &mut Items<Item>)
+    requires { words_in items.old ≤ 50 }
+    ensures { items.new ≡ items.old ++ ones return_code }
+{
+    items.all(&return_code());
+}
+
+// Appends so many instructions that do nothing.
+#[tactic(auto, using(lg_selx_items::proofs::ItemLemmas::words_append))]
+fn put_idle(count: u32, items: &mut Items<Item>)
+    requires { words_in items.old + count ≤ 64 }
+    ensures { items.new ≡ items.old ++ ones (idle count) }
+{
+    if count > 0 {
+        items.one(Instr::Bare { op: BareOp::Nop });
+        put_idle(count - 1, items);
+    }
+}
+
+// How many of them lead from an address to a multiple of an alignment.
+fn padding(at: u32, alignment: u32) -> u32
+    requires { is_alignment alignment ≡ true }
+    ensures value { result ≡ padding at alignment }
+    ensures few { result ≤ 63 }
+{
+    (alignment - at % alignment) % alignment
+}
+
+// Appends the items of `.align` to none.
+fn put_align(at: u32, operands: &[Operand], items: &mut Items<Item>)
+    requires empty { items.old ≡ [] }
+    requires formed { admit (form.Alignment ∷ []) operands.now ≡ true }
+    ensures { items.new ≡ align_items at operands.now }
+{
+    match operands {
+        [Operand::Number(alignment)] => put_idle(padding(at, *alignment as u32), items),
+        _ => {}
+    }
+}
+
+// Appends the items of an operation without a family to none.
+pub(crate) fn put_plain(
+    op: PlainOp,
+    operands: &[Operand],
+    frame: u32,
+    at: u32,
+    items: &mut Items<Item>,
+)
+    requires empty { items.old ≡ [] }
+    requires formed { admit (plain_forms op) operands.now ≡ true }
+    requires some { 272 ≤ frame }
+    requires small { frame < 0x4000_0000 }
+    ensures { items.new ≡ plain_items op operands.now frame at }
+{
+    match op {
+        PlainOp::Prolog => items.all(&prolog_code(frame)),
+        PlainOp::Epilog | PlainOp::Ret => put_return(items),
+        PlainOp::Align => put_align(at, operands, items),
+        _ => {}
+    }
+}
