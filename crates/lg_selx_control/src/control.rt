@@ -14,8 +14,8 @@ use lg_selx_items::Item;
 
 /// Appends the items of a node that branches, jumps, calls or returns, of a `prolog`, an `.align` or a node without code, to none.
 ///
-/// `frame` is the size of the frame of the node's function in bytes, and `at` the address at which the node's code begins. The node has the
-/// operands of its operation.
+/// `frame` is the size of the frame of the node's function in bytes, from 272 to 0x3FFF_FFFF, and `at` the address at which the node's code begins.
+/// The node has the operands of its operation.
 pub fn put_control(node: &Node, frame: u32, at: u32, items: &mut Items<Item>)
     requires empty { items.old ≡ [] }
     requires formed { InForm node.now }
