@@ -1,6 +1,7 @@
 pub mod AluLemmas
 pub mod BinaryCodeLemmas
 pub mod CarriedCodeLemmas
+pub mod EndLemmas
 pub mod NeedLemmas
 pub mod NodeLemmas
 pub mod NumberLemmas
@@ -13,4 +14,5 @@ pub mod RegisterNodeLemmas
 pub mod UnaryLemmas
 pub mod WideCodeLemmas
 pub mod WideNodeLemmas
+pub mod WideNumberLemmas
 pub mod WordLemmas

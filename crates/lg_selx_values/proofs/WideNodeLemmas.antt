@@ -4,18 +4,22 @@ use Rattle.std.specs.Prelude.{◌==◌, ◌||◌}
 use Rattle.lg_base.specs.declared.target.Target.TheVariants.{X86_64}
 use Rattle.lg_op.specs.declared.op.WideOp.{WideOp}
 use Rattle.lg_op.specs.declared.op.WideOp.TheVariants as wide
+use Rattle.lg_op.specs.declared.op.LastOperand.{LastOperand}
+use Rattle.lg_op.specs.declared.op.LastOperand.TheVariants as last_operand
 use Rattle.lg_op.specs.declared.node.Node.{Node}
 use Rattle.lg_op.specs.declared.operand.Reg.{Reg}
 use Rattle.lg_op.specs.declared.operand.Reg.TheVariants.{Fp}
+use Rattle.lg_op.specs.declared.operand.Operand.{Operand}
 use Rattle.lg_op.specs.declared.operand.Operand.TheVariants as operand
 use Rattle.lg_operators.specs.Operators.{wide_value}
 use Rattle.lg_live.specs.Registers.{is_same}
 use Rattle.lg_live.specs.Uses.{is_read, is_written}
-use Rattle.lg_meaning.specs.States.{State, reg}
+use Rattle.lg_meaning.specs.States.{State, reg, value}
 use Rattle.lg_meaning.specs.Steps.{Undefined, on, with_reg}
 use Rattle.lg_meaning.specs.Texts.{step}
 use Rattle.lg_temp.specs.Abis.{register_of}
-use Rattle.lg_temp.specs.Chosen.{is_named}
+use Rattle.lg_temp.specs.Chosen.{around, is_named}
+use Rattle.lg_temp.specs.Choices.{AreFor}
 use Rattle.lg_temp.specs.declared.choice.Need.TheVariants.{Only}
 use Rattle.lg_temp.specs.declared.choice.Choice.{Choice}
 use Rattle.lg_carry.specs.FinalNodes.{Code}
@@ -24,33 +28,39 @@ use Rattle.lg_carry.specs.TextNodes.{IsInText}
 use Rattle.lg_carry.proofs.StackLemmas.{or-cases}
 use Rattle.lg_sel_nodes.specs.Straight.{HoldsRead, is_taken}
 use Rattle.lg_sel_nodes.proofs.RegisterLemmas.{same-self}
+use Rattle.lg_sel_values.specs.ValueNodes.{wide_node}
 use Rattle.lg_sel_values.proofs.ResultLemmas.{or-false, step-is, TwoGiven, two-given}
 use Rattle.lg_x86.specs.declared.instruction.Instr.{Instr}
 use Rattle.lg_carry_x86.specs.MakingNodes.{StepsBy, MakesNode}
-use Rattle.lg_selx_values.specs.RegisterNodes.{wide_registers, WideRegistersCarry}
-use Rattle.lg_selx_values.specs.WideCode.{wide_code}
+use Rattle.lg_selx_values.specs.RegisterNodes.{wide_registers, WideRegistersCarry, WideNumbersCarry}
+use Rattle.lg_selx_values.specs.WideCode.{wide_code, wide_number_code}
 use Rattle.lg_selx_values.specs.Words.{MakesPair}
 use Rattle.lg_selx_values.proofs.NeedLemmas.{named-apart, same-register}
 use Rattle.lg_selx_values.proofs.NodeLemmas.{holding, in-frame, some-spelled}
 use Rattle.lg_selx_values.proofs.PairLemmas.{registers-apart, or-left, or-right, holds-two, writes-first, writes-second}
 use Rattle.lg_selx_values.proofs.RegisterLemmas.{register-portable, register-not-frame}
 use Rattle.lg_selx_values.proofs.RegisterNodeLemmas.{two-named, chosen-carries}
-use Rattle.lg_selx_values.proofs.WideCodeLemmas.{wide-pairs-are-made}
+use Rattle.lg_selx_values.proofs.WideCodeLemmas.{some-same, wide-pairs-are-made}
+use Rattle.lg_selx_values.proofs.WideNumberLemmas.{wide-numbers-are-made}
 
-module _ (c : Code) (i frame : ℕ) (o : WideOp) (d e a b : Reg) (line : ℕ) (nd : d ≢ Fp) (ne : e ≢ Fp) (apart : d ≢ e) (t : IsInText c i (wide_registers o d e a b line)) (choices : List Choice) (body : List Instr) (some : 0 < length body)
-    (pair : (s : State) (q : Seen) (m k : ℕ) (p : ℕ × ℕ) → HoldsRead X86_64 (wide_registers o d e a b line) frame s q → q.registers (register_of X86_64 a) ≡ m → reg s b ≡ Some k → wide_value o m k ≡ Some p
+both-written : (o : WideOp) (last : LastOperand) (d e a : Reg) (x : Operand) (line : ℕ) (q : Reg) → is_written (wide_node o last d e a x line) q ≡ (is_same e q || is_same d q)
+both-written o last_operand.Register d e a x line q = or-false (is_same e q || is_same d q)
+both-written o last_operand.Immediate d e a x line q = or-false (is_same e q || is_same d q)
+
+module _ (c : Code) (i frame : ℕ) (o : WideOp) (last : LastOperand) (d e a : Reg) (x : Operand) (line : ℕ) (nd : d ≢ Fp) (ne : e ≢ Fp) (apart : d ≢ e) (t : IsInText c i (wide_node o last d e a x line)) (choices : List Choice) (body : List Instr) (some : 0 < length body)
+    (pair : (s : State) (q : Seen) (m k : ℕ) (p : ℕ × ℕ) → HoldsRead X86_64 (wide_node o last d e a x line) frame s q → q.registers (register_of X86_64 a) ≡ m → value c.addresses s x ≡ Some k → wide_value o m k ≡ Some p
     → MakesPair choices body (register_of X86_64 d) (register_of X86_64 e) p (holding q)) where
   abbrev n : Node
-  n = wide_registers o d e a b line
+  n = wide_node o last d e a x line
 
   abbrev to : State → ℕ × ℕ → State
   to s p = on (with_reg (with_reg s (operand.Reg d) p.0) (operand.Reg e) p.1)
 
   abbrev Given : State → Type 0
-  Given s = TwoGiven (reg s a) (reg s b) (wide_value o) (λ m k p. to s p) (step c.nodes c.shape c.addresses s)
+  Given s = TwoGiven (reg s a) (value c.addresses s x) (wide_value o) (λ m k p. to s p) (step c.nodes c.shape c.addresses s)
 
   writes : (q : Reg) → is_written n q ≡ (is_same e q || is_same d q)
-  writes q = or-false (is_same e q || is_same d q)
+  writes q = both-written o last d e a x line q
 
   reads-first : a ≢ Fp → is_read n a ≡ true
   reads-first k = or-left _ false (or-left _ false (or-right _ (is_same a a) (same-self a k)))
@@ -58,7 +68,7 @@ module _ (c : Code) (i frame : ℕ) (o : WideOp) (d e a b : Reg) (line : ℕ) (n
   wide-makes : MakesNode c i n frame choices body
   wide-makes = record {
     some = some-spelled body some;
-    steps = λ s q at h. by s q h (two-given (reg s a) (reg s b) (wide_value o) (λ m k p. to s p) (step c.nodes c.shape c.addresses s) (step-is c i n s t at));
+    steps = λ s q at h. by s q h (two-given (reg s a) (value c.addresses s x) (wide_value o) (λ m k p. to s p) (step c.nodes c.shape c.addresses s) (step-is c i n s t at));
   }
     where
       by : (s : State) (q : Seen) → HoldsRead X86_64 n frame s q → (step c.nodes c.shape c.addresses s ≡ Undefined) ⊎ Given s → (step c.nodes c.shape c.addresses s ≡ Undefined) ⊎ StepsBy c n choices body s q
@@ -86,6 +96,25 @@ code-some wide.DivU frame d e a b = omega arith
 needs-small : (r : ℕ) → is_named (Only 0 ∷ Only 2 ∷ []) r ≡ true → r < 3
 needs-small r e = grind (arith, e)
 
+-- a register that is neither of the node's own nor taken is not spoilt
+kept : (o : WideOp) (last : LastOperand) (d e a : Reg) (x : Operand) (line : ℕ) (live : Reg → Bool) (staged : List Bool) (choices : List Choice)
+    → AreFor (around X86_64 (wide_node o last d e a x line) live staged) (Only 0 ∷ Only 2 ∷ []) [] (Only 0 ∷ Only 2 ∷ []) choices
+    → (r : ℕ) → is_taken choices r ≡ false → r ≢ register_of X86_64 d → r ≢ register_of X86_64 e → (z : Bool) → ((r == 0) || (r == 2)) ≡ z → z ≡ false
+kept o last d e a x line live staged choices chosen r free f g false z = refl
+kept o last d e a x line live staged choices chosen r free f g true z =
+    let s = named-apart (wide_node o last d e a x line) live staged (Only 0 ∷ Only 2 ∷ []) choices r (λ q. is_same e q || is_same d q) (both-written o last d e a x line) chosen (two-named r z) free in
+    absurd (apart_of s.register s.is (or-cases (is_same e s.register) (is_same d s.register) s.among))
+  where
+    apart_of : (p : Reg) → register_of X86_64 p ≡ r → (is_same e p ≡ true) ⊎ (is_same d p ≡ true) → ⊥
+    apart_of p is (inl h) = g (sym (same-register e p h ∙ is))
+    apart_of p is (inr h) = f (sym (same-register d p h ∙ is))
+
+number-code-some : (o : WideOp) (frame d e a v : ℕ) → 0 < length (wide_number_code o frame d e a v)
+number-code-some wide.Mul frame d e a v = omega arith
+number-code-some wide.MulU frame d e a v = omega arith
+number-code-some wide.Div frame d e a v = omega arith
+number-code-some wide.DivU frame d e a v = omega arith
+
 pub wide-registers-carry : WideRegistersCarry
 wide-registers-carry code trash c i frame o d e a b line live choices nd ne apart k =
     let n = wide_registers o d e a b line in
@@ -97,19 +126,26 @@ wide-registers-carry code trash c i frame o d e a b line live choices nd ne apar
     let pd = register-portable d in
     let pe = register-portable e in
     chosen-carries code trash c i frame n live choices body refl refl needs-small (omega arith) k
-    (wide-makes c i frame o d e a b line nd ne apart k.in_text choices body (code-some o frame rd re ra rb)
+    (wide-makes c i frame o last_operand.Register d e a (operand.Reg b) line nd ne apart k.in_text choices body (code-some o frame rd re ra rb)
     (λ s q x y p h ex ey ep.
     let eb : q.registers rb ≡ y = h.registers b y (λ z. or-left _ false (or-left _ false (or-left _ (is_same a b) (same-self b z)))) ey in
     let same : wide_value o (q.registers ra) (q.registers rb) ≡ wide_value o x y = (λ j. wide_value o (ex j) (eb j)) in
     wide-pairs-are-made choices frame rd re ra rb (holding q) (registers-apart X86_64 d e nd ne apart) pd.no_rdx pe.no_rdx (register-not-frame d nd) (register-not-frame e ne) pd.no_stack pe.no_stack (register-portable a).no_rdx (in-frame n frame s q h)
-    (λ r free f g. kept r free f g ((r == 0) || (r == 2)) refl) o p (same ∙ ep)))
-  where
-    kept : (r : ℕ) → is_taken choices r ≡ false → r ≢ register_of X86_64 d → r ≢ register_of X86_64 e → (z : Bool) → ((r == 0) || (r == 2)) ≡ z → z ≡ false
-    kept r free f g false z = refl
-    kept r free f g true z =
-        let s = named-apart (wide_registers o d e a b line) live k.staged (Only 0 ∷ Only 2 ∷ []) choices r (λ q. is_same e q || is_same d q) (λ q. or-false (is_same e q || is_same d q)) k.chosen (two-named r z) free in
-        absurd (apart_of s.register s.is (or-cases (is_same e s.register) (is_same d s.register) s.among))
-      where
-        apart_of : (p : Reg) → register_of X86_64 p ≡ r → (is_same e p ≡ true) ⊎ (is_same d p ≡ true) → ⊥
-        apart_of p is (inl h) = g (sym (same-register e p h ∙ is))
-        apart_of p is (inr h) = f (sym (same-register d p h ∙ is))
+    (λ r free f g. kept o last_operand.Register d e a (operand.Reg b) line live k.staged choices k.chosen r free f g ((r == 0) || (r == 2)) refl) o p (same ∙ ep)))
+
+pub wide-numbers-carry : WideNumbersCarry
+wide-numbers-carry code trash c i frame o d e a x v line live choices nd ne apart small given k =
+    let n = wide_node o last_operand.Immediate d e a x line in
+    let rd = register_of X86_64 d in
+    let re = register_of X86_64 e in
+    let ra = register_of X86_64 a in
+    let body = wide_number_code o frame rd re ra v in
+    let pd = register-portable d in
+    let pe = register-portable e in
+    chosen-carries code trash c i frame n live choices body refl refl needs-small (omega arith) k
+    (wide-makes c i frame o last_operand.Immediate d e a x line nd ne apart k.in_text choices body (number-code-some o frame rd re ra v)
+    (λ s q m y p h em ey ep.
+    let z : v ≡ y = some-same v y (sym (given s) ∙ ey) in
+    let same : wide_value o (q.registers ra) v ≡ wide_value o m y = (λ j. wide_value o (em j) (z j)) in
+    wide-numbers-are-made choices frame rd re ra v (holding q) (registers-apart X86_64 d e nd ne apart) pd.no_rdx pe.no_rdx (register-not-frame d nd) (register-not-frame e ne) pd.no_stack pe.no_stack small (in-frame n frame s q h)
+    (λ r free f g. kept o last_operand.Immediate d e a x line live k.staged choices k.chosen r free f g ((r == 0) || (r == 2)) refl) o p (same ∙ ep)))

@@ -32,7 +32,7 @@ use Rattle.lg_selx_values.specs.BinaryCode.{register_code, number_form_code}
 use Rattle.lg_selx_values.specs.CarriedCode.{carried_register_code, carried_number_code}
 use Rattle.lg_selx_values.specs.Needs.{value_needs}
 use Rattle.lg_selx_values.specs.UnaryCode.{unary_code, retval_code}
-use Rattle.lg_selx_values.specs.WideCode.{wide_code}
+use Rattle.lg_selx_values.specs.WideCode.{wide_code, wide_number_code}
 
 -- a node whose registers for its needs are chosen, whatever is live behind it and whatever is staged, and whose code is this, with saves and restores
 pub record IsChosen (code : List ℕ) (trash : ℕ) (c : Code) (i frame : ℕ) (n : Node) (live : Reg → Bool) (choices : List Choice) (body : List Instr) : Type 0 where
@@ -107,3 +107,11 @@ CarriedNumbersCarry =
     → is_carried o ≡ true → d ≢ Fp → v < 2 ^ 64 → ((s : State) → value c.addresses s x ≡ Some v)
     → IsChosen code trash c i frame (binary_node o last_operand.Immediate d a x line) live choices (carried_number_code o frame (register_of X86_64 d) (register_of X86_64 a) v)
     → CarriesNode (x86_processor code trash) c i (binary_node o last_operand.Immediate d a x line) (numbered live)
+
+abbrev pub WideNumbersCarry : Type 0
+WideNumbersCarry =
+    (code : List ℕ) (trash : ℕ) (c : Code) (i frame : ℕ) (o : WideOp) (d e a : Reg) (x : Operand) (v line : ℕ) (live : Reg → Bool) (choices : List Choice)
+    → d ≢ Fp → e ≢ Fp → d ≢ e → v < 2 ^ 64 → ((s : State) → value c.addresses s x ≡ Some v)
+    → IsChosen code trash c i frame (wide_node o last_operand.Immediate d e a x line) live choices
+    (wide_number_code o frame (register_of X86_64 d) (register_of X86_64 e) (register_of X86_64 a) v)
+    → CarriesNode (x86_processor code trash) c i (wide_node o last_operand.Immediate d e a x line) (numbered live)

@@ -1,9 +1,9 @@
 // What holds of the code of the nodes that compute values. The functions do nothing: their contracts are the laws.
 
 ghost use Rattle.lg_selx_values.specs.NumberLaws.{NumberRowsAreMade};
-ghost use Rattle.lg_selx_values.specs.NumberWords.{NumbersAreMade};
+ghost use Rattle.lg_selx_values.specs.NumberWords.{NumbersAreMade, WideNumbersAreMade};
 ghost use Rattle.lg_selx_values.specs.RegisterNodes.{BinaryRegistersCarry, CarriedRegistersCarry, WideRegistersCarry};
-ghost use Rattle.lg_selx_values.specs.RegisterNodes.{BinaryNumbersCarry, CarriedNumbersCarry, UnariesCarry, MovisCarry, RetvalsCarry};
+ghost use Rattle.lg_selx_values.specs.RegisterNodes.{BinaryNumbersCarry, CarriedNumbersCarry, WideNumbersCarry, UnariesCarry, MovisCarry, RetvalsCarry};
 ghost use Rattle.lg_selx_values.specs.WordLaws.{BinariesAreMade, CarriedAreMade, WidePairsAreMade};
 
 /// The code of an operation on two registers that sets no carry gives a register its word, whichever of the registers are equal.
@@ -69,4 +69,14 @@ pub fn binary_numbers_are_carried()
 /// So is one that sets the carry.
 pub fn carried_numbers_are_carried()
     ensures { CarriedNumbersCarry }
+{}
+
+/// The code of an operation on a register and a number with two results gives two registers their words.
+pub fn wide_numbers_are_made()
+    ensures { WideNumbersAreMade }
+{}
+
+/// A node of a register and a word of the text with two results is carried.
+pub fn wide_numbers_are_carried()
+    ensures { WideNumbersCarry }
 {}
