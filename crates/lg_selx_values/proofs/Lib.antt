@@ -2,6 +2,9 @@ pub mod AluLemmas
 pub mod BinaryCodeLemmas
 pub mod CarriedCodeLemmas
 pub mod EndLemmas
+pub mod FormLemmas
+pub mod GivenLemmas
+pub mod ItemNodeLemmas
 pub mod NeedLemmas
 pub mod NodeLemmas
 pub mod NumberLemmas
@@ -11,7 +14,9 @@ pub mod PairLemmas
 pub mod QuotientLemmas
 pub mod RegisterLemmas
 pub mod RegisterNodeLemmas
+pub mod SettledLemmas
 pub mod UnaryLemmas
+pub mod ValueNodeLemmas
 pub mod WideCodeLemmas
 pub mod WideNodeLemmas
 pub mod WideNumberLemmas

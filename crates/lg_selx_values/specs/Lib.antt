@@ -6,6 +6,9 @@ pub mod NumberWords
 pub mod RegisterNodes
 pub mod Scratch
 pub mod UnaryCode
+pub mod ValueFits
+pub mod ValueItems
+pub mod ValueLaws
 pub mod WideCode
 pub mod WordLaws
 pub mod Words

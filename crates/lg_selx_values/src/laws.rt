@@ -4,6 +4,7 @@ ghost use Rattle.lg_selx_values.specs.NumberLaws.{NumberRowsAreMade};
 ghost use Rattle.lg_selx_values.specs.NumberWords.{NumbersAreMade, WideNumbersAreMade};
 ghost use Rattle.lg_selx_values.specs.RegisterNodes.{BinaryRegistersCarry, CarriedRegistersCarry, WideRegistersCarry};
 ghost use Rattle.lg_selx_values.specs.RegisterNodes.{BinaryNumbersCarry, CarriedNumbersCarry, WideNumbersCarry, UnariesCarry, MovisCarry, RetvalsCarry};
+ghost use Rattle.lg_selx_values.specs.ValueLaws.{ValueNodesCarry};
 ghost use Rattle.lg_selx_values.specs.WordLaws.{BinariesAreMade, CarriedAreMade, WidePairsAreMade};
 
 /// The code of an operation on two registers that sets no carry gives a register its word, whichever of the registers are equal.
@@ -79,4 +80,10 @@ pub fn wide_numbers_are_made()
 /// A node of a register and a word of the text with two results is carried.
 pub fn wide_numbers_are_carried()
     ensures { WideNumbersCarry }
+{}
+
+/// Each node that computes a value, or two, is carried by its items, for all choices for its needs, whatever is live behind it and whatever is
+/// staged.
+pub fn value_nodes_are_carried()
+    ensures { ValueNodesCarry }
 {}

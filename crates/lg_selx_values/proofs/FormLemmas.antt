@@ -1,0 +1,106 @@
+-- The operands of nodes that compute values.
+use Rattle.std.proofs.Common.{◌≡◌, ◌≢◌, Bool, true, false, List, [], ◌∷◌, refl, ap, ◌∙◌}
+use Rattle.std.specs.Prelude.{◌&&◌}
+use Rattle.lg_op.specs.Forms.{admits, admit}
+use Rattle.lg_op.specs.declared.form.Form.{Form}
+use Rattle.lg_op.specs.declared.form.Form.TheVariants.{Write, Read}
+use Rattle.lg_op.specs.declared.operand.Reg.{Reg}
+use Rattle.lg_op.specs.declared.operand.Reg.TheVariants.{R0, R1, R2, V0, V1, V2, Fp}
+use Rattle.lg_op.specs.declared.operand.Operand.{Operand}
+use Rattle.lg_op.specs.declared.operand.Operand.TheVariants as operand
+
+and-true : (b c : Bool) → (b && c) ≡ true → (b ≡ true) × (c ≡ true)
+and-true true c e = (refl, e)
+and-true false c e = cc
+
+-- a register that is written, and one that is read
+pub record IsTarget (x : Operand) : Type 0 where
+  pub register : Reg
+  pub is : x ≡ operand.Reg register
+  pub named : register ≢ Fp
+
+pub record IsSource (x : Operand) : Type 0 where
+  pub register : Reg
+  pub is : x ≡ operand.Reg register
+
+pub is-target : (x : Operand) → admits Write x ≡ true → IsTarget x
+is-target (operand.Reg R0) h = record { register = R0; is = refl; named = λ e. cc }
+is-target (operand.Reg R1) h = record { register = R1; is = refl; named = λ e. cc }
+is-target (operand.Reg R2) h = record { register = R2; is = refl; named = λ e. cc }
+is-target (operand.Reg V0) h = record { register = V0; is = refl; named = λ e. cc }
+is-target (operand.Reg V1) h = record { register = V1; is = refl; named = λ e. cc }
+is-target (operand.Reg V2) h = record { register = V2; is = refl; named = λ e. cc }
+is-target (operand.Reg Fp) h = cc
+is-target (operand.Number v) h = cc
+is-target (operand.Label l) h = cc
+is-target (operand.Host name) h = cc
+is-target (operand.Slot k) h = cc
+
+pub is-source : (x : Operand) → admits Read x ≡ true → IsSource x
+is-source (operand.Reg r) h = record { register = r; is = refl }
+is-source (operand.Number v) h = cc
+is-source (operand.Label l) h = cc
+is-source (operand.Host name) h = cc
+is-source (operand.Slot k) h = cc
+
+-- the operands of so many forms
+pub record OneOperand (f : Form) (xs : List Operand) : Type 0 where
+  pub x : Operand
+  pub are : xs ≡ x ∷ []
+  pub first : admits f x ≡ true
+
+pub record TwoOperands (f g : Form) (xs : List Operand) : Type 0 where
+  pub x : Operand
+  pub y : Operand
+  pub are : xs ≡ x ∷ y ∷ []
+  pub first : admits f x ≡ true
+  pub second : admits g y ≡ true
+
+pub record ThreeOperands (f g h : Form) (xs : List Operand) : Type 0 where
+  pub x : Operand
+  pub y : Operand
+  pub z : Operand
+  pub are : xs ≡ x ∷ y ∷ z ∷ []
+  pub first : admits f x ≡ true
+  pub second : admits g y ≡ true
+  pub third : admits h z ≡ true
+
+pub record FourOperands (f g h k : Form) (xs : List Operand) : Type 0 where
+  pub x : Operand
+  pub y : Operand
+  pub z : Operand
+  pub w : Operand
+  pub are : xs ≡ x ∷ y ∷ z ∷ w ∷ []
+  pub first : admits f x ≡ true
+  pub second : admits g y ≡ true
+  pub third : admits h z ≡ true
+  pub fourth : admits k w ≡ true
+
+no-more : (xs : List Operand) → admit [] xs ≡ true → xs ≡ []
+no-more [] e = refl
+no-more (x ∷ xs) e = cc
+
+one : (f : Form) (fs : List Form) (xs : List Operand) → admit (f ∷ fs) xs ≡ true → (x : Operand) × (ys : List Operand) × (xs ≡ x ∷ ys) × (admits f x ≡ true) × (admit fs ys ≡ true)
+one f fs [] e = cc
+one f fs (x ∷ xs) e = let b = and-true (admits f x) (admit fs xs) e in (x, xs, refl, b.0, b.1)
+
+pub one-operand : (f : Form) (xs : List Operand) → admit (f ∷ []) xs ≡ true → OneOperand f xs
+one-operand f xs e = let a = one f [] xs e in record { x = a.0; are = a.2 ∙ ap (λ r. a.0 ∷ r) (no-more a.1 a.4); first = a.3 }
+
+pub two-operands : (f g : Form) (xs : List Operand) → admit (f ∷ g ∷ []) xs ≡ true → TwoOperands f g xs
+two-operands f g xs e =
+    let a = one f (g ∷ []) xs e in
+    let b = one g [] a.1 a.4 in
+    record { x = a.0; y = b.0; are = a.2 ∙ ap (λ r. a.0 ∷ r) (b.2 ∙ ap (λ r. b.0 ∷ r) (no-more b.1 b.4)); first = a.3; second = b.3 }
+
+pub three-operands : (f g h : Form) (xs : List Operand) → admit (f ∷ g ∷ h ∷ []) xs ≡ true → ThreeOperands f g h xs
+three-operands f g h xs e =
+    let a = one f (g ∷ h ∷ []) xs e in
+    let b = two-operands g h a.1 a.4 in
+    record { x = a.0; y = b.x; z = b.y; are = a.2 ∙ ap (λ r. a.0 ∷ r) b.are; first = a.3; second = b.first; third = b.second }
+
+pub four-operands : (f g h k : Form) (xs : List Operand) → admit (f ∷ g ∷ h ∷ k ∷ []) xs ≡ true → FourOperands f g h k xs
+four-operands f g h k xs e =
+    let a = one f (g ∷ h ∷ k ∷ []) xs e in
+    let b = three-operands g h k a.1 a.4 in
+    record { x = a.0; y = b.x; z = b.y; w = b.z; are = a.2 ∙ ap (λ r. a.0 ∷ r) b.are; first = a.3; second = b.first; third = b.second; fourth = b.third }
