@@ -1,6 +1,7 @@
 pub mod AluLemmas
 pub mod BinaryCodeLemmas
 pub mod CarriedCodeLemmas
+pub mod ChoiceLemmas
 pub mod EndLemmas
 pub mod FormLemmas
 pub mod GivenLemmas
@@ -14,8 +15,10 @@ pub mod PairLemmas
 pub mod QuotientLemmas
 pub mod RegisterLemmas
 pub mod RegisterNodeLemmas
+pub mod RowLemmas
 pub mod SettledLemmas
 pub mod UnaryLemmas
+pub mod ValueFitLemmas
 pub mod ValueNodeLemmas
 pub mod WideCodeLemmas
 pub mod WideNodeLemmas

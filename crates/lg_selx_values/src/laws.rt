@@ -4,6 +4,7 @@ ghost use Rattle.lg_selx_values.specs.NumberLaws.{NumberRowsAreMade};
 ghost use Rattle.lg_selx_values.specs.NumberWords.{NumbersAreMade, WideNumbersAreMade};
 ghost use Rattle.lg_selx_values.specs.RegisterNodes.{BinaryRegistersCarry, CarriedRegistersCarry, WideRegistersCarry};
 ghost use Rattle.lg_selx_values.specs.RegisterNodes.{BinaryNumbersCarry, CarriedNumbersCarry, WideNumbersCarry, UnariesCarry, MovisCarry, RetvalsCarry};
+ghost use Rattle.lg_selx_values.specs.ValueFits.{ChoicesHaveSlots, ValueItemsFit, ValueItemsName, ValueItemsStay};
 ghost use Rattle.lg_selx_values.specs.ValueLaws.{ValueNodesCarry};
 ghost use Rattle.lg_selx_values.specs.WordLaws.{BinariesAreMade, CarriedAreMade, WidePairsAreMade};
 
@@ -86,4 +87,25 @@ pub fn wide_numbers_are_carried()
 /// staged.
 pub fn value_nodes_are_carried()
     ensures { ValueNodesCarry }
+{}
+
+/// The choices for the needs of a node are at most two, and have slots of a frame.
+pub fn choices_have_slots()
+    ensures { ChoicesHaveSlots }
+{}
+
+/// The items of a node with choices for its needs are in the ranges of their instructions, of which there are at most 12, with at most 192 bytes,
+/// and each is followed by the next.
+pub fn value_items_fit()
+    ensures { ValueItemsFit }
+{}
+
+/// They name no labels but those of the operands.
+pub fn value_items_name_labels()
+    ensures { ValueItemsName }
+{}
+
+/// They write no register that is outside of the conventions.
+pub fn value_items_stay()
+    ensures { ValueItemsStay }
 {}
