@@ -2,6 +2,7 @@ pub mod AluLemmas
 pub mod BinaryCodeLemmas
 pub mod CarriedCodeLemmas
 pub mod ChoiceLemmas
+pub mod EmissionLemmas
 pub mod EndLemmas
 pub mod FormLemmas
 pub mod GivenLemmas

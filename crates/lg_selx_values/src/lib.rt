@@ -1,4 +1,6 @@
 //! The code of x86-64 for the nodes that compute values: what it is made of, and that it carries them.
 #![tactic(auto)]
 
+mod binary;
 pub mod laws;
+mod moves;
