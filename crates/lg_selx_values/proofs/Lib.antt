@@ -16,6 +16,7 @@ pub mod PairLemmas
 pub mod QuotientLemmas
 pub mod RegisterLemmas
 pub mod RegisterNodeLemmas
+pub mod RoomLemmas
 pub mod RowLemmas
 pub mod SettledLemmas
 pub mod UnaryLemmas

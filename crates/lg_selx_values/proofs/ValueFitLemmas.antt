@@ -102,7 +102,7 @@ module _ (frame : ℕ) (Q : Item → Type 0) (S : ℕ → Type 0) (h : HoldsOfRo
   wide-are o d e a (operand.Label l) fd fe fa s = none
   wide-are o d e a (operand.Slot k) fd fe fa s = none
 
-  body-are : (o : Op) (xs : List Operand) → ((i : ℕ) → Has S (operand_in xs i)) → Are 8 (body_items frame o xs)
+  pub body-are : (o : Op) (xs : List Operand) → ((i : ℕ) → Has S (operand_in xs i)) → Are 8 (body_items frame o xs)
   body-are (op.Binary o last) xs s = binary-are o (register_in xs 0) (register_in xs 1) (operand_in xs 2) (fine-at xs 0) (fine-at xs 1) (s 2)
   body-are (op.Wide o last) xs s = wide-are o (register_in xs 0) (register_in xs 1) (register_in xs 2) (operand_in xs 3) (fine-at xs 0) (fine-at xs 1) (fine-at xs 2) (s 3)
   body-are (op.Unary o) xs s = of 3 (unary_code o (register_in xs 0) (register_in xs 1)) (omega arith) (unary-made frame P S h o (register_in xs 0) (register_in xs 1) (fine-at xs 0) (fine-at xs 1).0)
@@ -207,7 +207,7 @@ rows-within frame = record {
   again = (refl, tt);
 }
 
-any-number : (x : Operand) → Has (λ v. ⊤) x
+pub any-number : (x : Operand) → Has (λ v. ⊤) x
 any-number (operand.Number v) = tt
 any-number (operand.Reg r) = tt
 any-number (operand.Host name) = tt

@@ -21,9 +21,13 @@ wide_code wide.MulU frame d e a b = RmReg alu.Mov 2 b ∷ RmReg alu.Mov 0 a ∷ 
 wide_code wide.Div frame d e a b = RmReg alu.Mov 2 b ∷ RmReg alu.Mov 0 a ∷ RmReg alu.Mov 5 2 ∷ Bare Cqo ∷ Unary Idiv 5 ∷ (results d e ++ again frame)
 wide_code wide.DivU frame d e a b = RmReg alu.Mov 2 b ∷ RmReg alu.Mov 0 a ∷ RmReg alu.Mov 5 2 ∷ Movi32 2 0 ∷ Unary Div 5 ∷ (results d e ++ again frame)
 
+-- that behind the move of the first word to rax
+abbrev pub rest_code : WideOp → ℕ → ℕ → ℕ → ℕ → List Instr
+rest_code wide.Mul frame d e v = number_row 2 v ∷ (Unary Imul1 2 ∷ results d e)
+rest_code wide.MulU frame d e v = number_row 2 v ∷ (Unary Mul 2 ∷ results d e)
+rest_code wide.Div frame d e v = number_row 5 v ∷ (Bare Cqo ∷ Unary Idiv 5 ∷ (results d e ++ again frame))
+rest_code wide.DivU frame d e v = number_row 5 v ∷ (Movi32 2 0 ∷ Unary Div 5 ∷ (results d e ++ again frame))
+
 -- d and e = a op v
 abbrev pub wide_number_code : WideOp → ℕ → ℕ → ℕ → ℕ → ℕ → List Instr
-wide_number_code wide.Mul frame d e a v = RmReg alu.Mov 0 a ∷ (number_row 2 v ∷ (Unary Imul1 2 ∷ results d e))
-wide_number_code wide.MulU frame d e a v = RmReg alu.Mov 0 a ∷ (number_row 2 v ∷ (Unary Mul 2 ∷ results d e))
-wide_number_code wide.Div frame d e a v = RmReg alu.Mov 0 a ∷ (number_row 5 v ∷ (Bare Cqo ∷ Unary Idiv 5 ∷ (results d e ++ again frame)))
-wide_number_code wide.DivU frame d e a v = RmReg alu.Mov 0 a ∷ (number_row 5 v ∷ (Movi32 2 0 ∷ Unary Div 5 ∷ (results d e ++ again frame)))
+wide_number_code o frame d e a v = RmReg alu.Mov 0 a ∷ rest_code o frame d e v

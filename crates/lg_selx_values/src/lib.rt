@@ -2,5 +2,11 @@
 #![tactic(auto)]
 
 mod binary;
+mod carried;
 pub mod laws;
 mod moves;
+mod unary;
+mod values;
+mod wide;
+
+pub use values::value_items;

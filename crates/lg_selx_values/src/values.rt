@@ -1,0 +1,208 @@
+// The nodes that compute values.
+
+ghost use Rattle.std.specs.Prelude.{◌≡◌, ◌+◌, ◌*◌, ◌<◌, ◌≤◌, [], ◌∷◌, ◌++◌, length, slice_index_or};
+ghost use Rattle.lg_carry_x86.specs.X86Rows.{slot_offset};
+ghost use Rattle.lg_operators.specs.Operators.{is_carried};
+ghost use Rattle.lg_selx_items.specs.Items.{ones, words_in};
+ghost use Rattle.lg_selx_values.specs.ValueItems.{load_items, binary_code, binary_number_code, binary_items, wide_items, register_for, body_items, save, restore, saved_items, value_items, HaveSlots};
+
+use crate::binary::{number_form_code, register_code};
+use crate::carried::{carried_number_code, carried_register_code};
+use crate::moves::SCRATCH;
+use crate::unary::{retval_code, unary_code};
+use crate::wide::{wide_code, wide_number_code};
+use lg_op::{BinaryOp, Label, Node, Op, Operand, PlainOp, Reg, ValueType, WideOp};
+use lg_sel_items::Items;
+use lg_selx_items::{Item, put_number, register_of};
+use lg_temp::choice::{Choice, Choices};
+use lg_x86::{Instr, LoadOp, StoreOp};
+
+// The register of an operand that is one, and else 0.
+fn register_for(operand: Operand) -> u8
+    ensures { result ≡ register_for operand }
+{
+    match operand {
+        Operand::Reg(reg) => register_of(reg),
+        _ => 0,
+    }
+}
+
+// An operand by its place, and the number 0 where there is none.
+fn operand_in(operands: &[Operand], index: usize) -> Operand
+    ensures { result ≡ slice_index_or operands.now index (Operand.Number 0) }
+{
+    match operands.get(index) {
+        Some(operand) => *operand,
+        None => Operand::Number(0),
+    }
+}
+
+// Whether an operation sets the carry.
+fn is_carried(op: BinaryOp) -> bool
+    ensures { result ≡ is_carried op }
+{
+    match op {
+        BinaryOp::Addc | BinaryOp::Subc | BinaryOp::Addx | BinaryOp::Subx => true,
+        _ => false,
+    }
+}
+
+// Appends the instruction that puts the word of an immediate into a register. There is room for it. Of a register nothing is appended.
+fn load_items(reg: u8, x: Operand, items: &mut Items<Item>)
+    requires { words_in items.old < 64 }
+    ensures { items.new ≡ items.old ++ load_items reg x }
+{
+    match x {
+        Operand::Number(value) => put_number(reg, value, items),
+        Operand::Host(name) => put_number(reg, name.address(), items),
+        Operand::Label(Label(label)) => items.push(Item::Address { reg, label }),
+        Operand::Reg(_) | Operand::Slot(_) => {}
+    }
+}
+
+// Appends the code of `d = a op b`, with the carry where the operation sets it: at most 7 instructions, for which there is room.
+fn binary_code(op: BinaryOp, frame: u32, d: u8, a: u8, b: u8, items: &mut Items<Item>)
+    requires low { 272 ≤ frame }
+    requires high { frame ≤ 65808 }
+    requires room { words_in items.old + 7 ≤ 64 }
+    ensures { items.new ≡ items.old ++ ones (binary_code op frame d a b) }
+{
+    if is_carried(op) {
+        carried_register_code(op, frame, d, a, b, items);
+    } else {
+        register_code(op, frame, d, a, b, items);
+    }
+}
+
+// Appends that of `d = a op value`: at most 6 instructions, for which there is room.
+fn binary_number_code(op: BinaryOp, frame: u32, d: u8, a: u8, value: u64, items: &mut Items<Item>)
+    requires low { 272 ≤ frame }
+    requires high { frame ≤ 65808 }
+    requires room { words_in items.old + 6 ≤ 64 }
+    ensures { items.new ≡ items.old ++ ones (binary_number_code op frame d a value) }
+{
+    if is_carried(op) {
+        carried_number_code(op, frame, d, a, value, items);
+    } else {
+        number_form_code(op, frame, d, a, value, items);
+    }
+}
+
+// Appends the code of `d = a op x`: at most 7 instructions, for which there is room. `x` is no label.
+fn binary_items(op: BinaryOp, frame: u32, d: u8, a: u8, x: Operand, items: &mut Items<Item>)
+    requires low { 272 ≤ frame }
+    requires high { frame ≤ 65808 }
+    requires room { words_in items.old + 7 ≤ 64 }
+    ensures { items.new ≡ items.old ++ binary_items op frame d a x }
+{
+    match x {
+        Operand::Reg(b) => binary_code(op, frame, d, a, register_of(b), items),
+        Operand::Number(value) => binary_number_code(op, frame, d, a, value, items),
+        Operand::Host(name) => binary_number_code(op, frame, d, a, name.address(), items),
+        Operand::Label(_) | Operand::Slot(_) => {}
+    }
+}
+
+// Appends the code of `d, e = a op x`: at most 8 instructions, for which there is room. `x` is no label.
+fn wide_items(op: WideOp, frame: u32, d: u8, e: u8, a: u8, x: Operand, items: &mut Items<Item>)
+    requires low { 272 ≤ frame }
+    requires high { frame ≤ 65808 }
+    requires room { words_in items.old + 8 ≤ 64 }
+    ensures { items.new ≡ items.old ++ wide_items op frame d e a x }
+{
+    match x {
+        Operand::Reg(b) => wide_code(op, frame, d, e, a, register_of(b), items),
+        Operand::Number(value) => wide_number_code(op, frame, d, e, a, value, items),
+        Operand::Host(name) => wide_number_code(op, frame, d, e, a, name.address(), items),
+        Operand::Label(_) | Operand::Slot(_) => {}
+    }
+}
+
+// Appends the code of an operation with its operands: at most 8 instructions, for which there is room.
+fn body_items(frame: u32, op: Op, operands: &[Operand], items: &mut Items<Item>)
+    requires low { 272 ≤ frame }
+    requires high { frame ≤ 65808 }
+    requires room { words_in items.old + 8 ≤ 64 }
+    ensures { items.new ≡ items.old ++ body_items frame op operands.now }
+{
+    let x = operand_in(operands, 0);
+    let y = operand_in(operands, 1);
+    let z = operand_in(operands, 2);
+    let last = operand_in(operands, 3);
+    let d = register_for(x);
+    match op {
+        Op::Binary(o, _) => binary_items(o, frame, d, register_for(y), z, items),
+        Op::Wide(o, _) => wide_items(o, frame, d, register_for(y), register_for(z), last, items),
+        Op::Unary(o) => unary_code(o, d, register_for(y), items),
+        Op::Plain(PlainOp::Movi) => load_items(d, y, items),
+        Op::Retval(value) => retval_code(value, d, items),
+        _ => {}
+    }
+}
+
+// Where a spill slot lies from FP.
+fn slot_offset(slot: u32) -> i32
+    requires { slot < 5 }
+    ensures { result ≡ slot_offset slot }
+{
+    -96 - 8 * (slot as i32)
+}
+
+// Saves a register in a slot.
+fn save(reg: u8, slot: u32) -> Instr
+    requires { slot < 5 }
+    ensures { result ≡ save reg slot }
+{
+    Instr::Store {
+        op: StoreOp::St64,
+        base: SCRATCH,
+        disp: slot_offset(slot),
+        reg,
+    }
+}
+
+// Restores a register from a slot.
+fn restore(reg: u8, slot: u32) -> Instr
+    requires { slot < 5 }
+    ensures { result ≡ restore reg slot }
+{
+    Instr::Load {
+        op: LoadOp::Ld64,
+        reg,
+        base: SCRATCH,
+        disp: slot_offset(slot),
+    }
+}
+
+// Appends the code of a node with each register that is saved: at most 8 instructions and two for each choice, for which there is room.
+#[tactic(auto, using(crate::proofs::EmissionLemmas::one_words, crate::proofs::RoomLemmas::saved_words))]
+fn saved_items(frame: u32, node: &Node, choices: &[Choice], items: &mut Items<Item>)
+    requires low { 272 ≤ frame }
+    requires high { frame ≤ 65808 }
+    requires slots { HaveSlots choices.now }
+    requires room { words_in items.old + 8 + 2 * length choices.now ≤ 64 }
+    ensures { items.new ≡ items.old ++ saved_items choices.now (body_items frame node.now.op node.now.operands) }
+{
+    match choices {
+        [] => body_items(frame, node.op, node.operands.as_slice(), items),
+        [Choice::Spill { reg, slot }, rest @ ..] => {
+            items.one(save(*reg, *slot));
+            saved_items(frame, node, rest, items);
+            items.one(restore(*reg, *slot));
+        }
+        [Choice::Free(_) | Choice::Own(_), rest @ ..] => saved_items(frame, node, rest, items),
+    }
+}
+
+/// Appends the code of a node that computes a value, or two, in a function with such a frame: at most 12 instructions, for which there is
+/// room. Of every other node no code is appended but saves and restores. There are two choices at most.
+pub fn value_items(frame: u32, node: &Node, choices: &Choices, items: &mut Items<Item>)
+    requires low { 272 ≤ frame }
+    requires high { frame ≤ 65808 }
+    requires few { length choices.now ≤ 2 }
+    requires slots { HaveSlots choices.now }
+    requires room { words_in items.old + 12 ≤ 64 }
+    ensures { items.new ≡ items.old ++ value_items frame node.now choices.now }
+{
+    saved_items(frame, node, choices.as_slice(), items);
+}
