@@ -1,5 +1,5 @@
 -- The choices for the needs of nodes that compute values: at most two, of registers that there are, with slots of a frame.
-use Rattle.std.proofs.Common.{◌≡◌, ℕ, ◌+◌, ◌<◌, ◌≤◌, Bool, List, [], ◌∷◌, ◌++◌, length, refl, sym, subst, arith}
+use Rattle.std.proofs.Common.{◌≡◌, ◌+◌, ◌<◌, ◌≤◌, List, [], ◌∷◌, ◌++◌, length, refl, sym, subst, arith}
 use Rattle.std.specs.Prelude.{⊤}
 use Rattle.lg_op.specs.declared.op.Op.{Op}
 use Rattle.lg_op.specs.declared.op.Op.TheVariants as op
@@ -13,7 +13,7 @@ use Rattle.lg_temp.specs.Chosen.{Around, spills}
 use Rattle.lg_temp.specs.Choices.{AreFor}
 use Rattle.lg_selx_items.specs.GoodItems.{Fine}
 use Rattle.lg_selx_values.specs.Needs.{value_needs}
-use Rattle.lg_selx_values.specs.ValueFits.{AreSlots, ChoicesHaveSlots}
+use Rattle.lg_selx_values.specs.ValueFits.{ChoicesHaveSlots}
 use Rattle.lg_selx_values.specs.ValueItems.{HaveSlots}
 
 -- needs that name registers

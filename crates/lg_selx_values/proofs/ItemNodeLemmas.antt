@@ -1,5 +1,5 @@
 -- Nodes of each form are carried by their items.
-use Rattle.std.proofs.Common.{◌≡◌, ◌≢◌, ℕ, ◌<◌, Bool, true, false, List, [], ◌∷◌, refl, ap, subst, ◌∙◌, sym}
+use Rattle.std.proofs.Common.{◌≡◌, ◌≢◌, ℕ, ◌<◌, Bool, true, false, List, [], ◌∷◌, refl, ap, subst, sym}
 use Rattle.std.specs.Prelude.{if◌then◌else◌, slice_index, slice_index_or}
 use Rattle.lg_base.specs.declared.target.Target.TheVariants.{X86_64}
 use Rattle.lg_op.specs.Forms.{admits}
@@ -29,13 +29,13 @@ use Rattle.lg_carry_x86.specs.Numbers.{number_row}
 use Rattle.lg_carry_x86.specs.Places.{IsInCode}
 use Rattle.lg_carry_x86.specs.X86Rows.{x86_processor}
 use Rattle.lg_selx_items.specs.declared.items.Item.{Item}
-use Rattle.lg_selx_items.specs.Items.{settled, ones}
+use Rattle.lg_selx_items.specs.Items.{settled}
 use Rattle.lg_selx_values.specs.BinaryCode.{register_code, number_form_code}
 use Rattle.lg_selx_values.specs.CarriedCode.{carried_register_code, carried_number_code}
 use Rattle.lg_selx_values.specs.Needs.{value_needs}
 use Rattle.lg_selx_values.specs.RegisterNodes.{IsChosen}
 use Rattle.lg_selx_values.specs.UnaryCode.{unary_code, retval_code}
-use Rattle.lg_selx_values.specs.ValueItems.{binary_code, binary_number_code, binary_items, wide_items, body_items, value_items}
+use Rattle.lg_selx_values.specs.ValueItems.{binary_code, binary_number_code, body_items, value_items}
 use Rattle.lg_selx_values.specs.ValueLaws.{AreWords, AreUnlabelled, takes_label}
 use Rattle.lg_selx_values.specs.WideCode.{wide_code, wide_number_code}
 use Rattle.lg_selx_values.proofs.GivenLemmas.{is-load, is-given}

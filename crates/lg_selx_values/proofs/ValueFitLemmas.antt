@@ -1,6 +1,6 @@
 -- The items of a node that are emitted.
-use Rattle.std.proofs.Common.{◌≡◌, ℕ, zero, suc, ◌+◌, ◌-◌, ◌*◌, ◌^◌, ◌<◌, ◌≤◌, Bool, true, false, List, [], ◌∷◌, ◌++◌, length, length-append, refl, arith}
-use Rattle.std.specs.Prelude.{⊤, nat_lt, if◌then◌else◌, pos, negsuc, ◌≤ℤ◌}
+use Rattle.std.proofs.Common.{ℕ, zero, suc, ◌+◌, ◌-◌, ◌*◌, ◌^◌, ◌<◌, ◌≤◌, Bool, true, false, List, [], ◌∷◌, length, length-append, refl, arith}
+use Rattle.std.specs.Prelude.{⊤, nat_lt, if◌then◌else◌, pos}
 use Rattle.std.proofs.lemmas.Int.{ints}
 use Rattle.lg_base.specs.HostNames.{host_address}
 use Rattle.lg_base.specs.Words.{signed_view}
@@ -13,7 +13,6 @@ use Rattle.lg_op.specs.declared.op.PlainOp.TheVariants as plain
 use Rattle.lg_op.specs.declared.op.WideOp.{WideOp}
 use Rattle.lg_op.specs.declared.operand.Operand.{Operand}
 use Rattle.lg_op.specs.declared.operand.Operand.TheVariants as operand
-use Rattle.lg_op.specs.declared.operand.Reg.{Reg}
 use Rattle.lg_temp.specs.declared.choice.Choice.{Choice}
 use Rattle.lg_temp.specs.declared.choice.Choice.TheVariants.{Free, Own, Spill}
 use Rattle.lg_temp.specs.Abis.{register_of}
@@ -36,7 +35,7 @@ use Rattle.lg_selx_items.proofs.GoodLemmas.{number-good, good-items-are-appendab
 use Rattle.lg_selx_items.proofs.ItemLemmas.{words_append, words-ones, names-append, names-ones}
 use Rattle.lg_selx_items.proofs.WithinLemmas.{In, portable}
 use Rattle.lg_selx_values.specs.UnaryCode.{unary_code, retval_code}
-use Rattle.lg_selx_values.specs.ValueFits.{AreValueItems, IsNumber, AreNumbers, ValueItemsFit, NamesBelow, NameBelow, ValueItemsName, ValueItemsStay}
+use Rattle.lg_selx_values.specs.ValueFits.{IsNumber, AreNumbers, ValueItemsFit, NamesBelow, NameBelow, ValueItemsName, ValueItemsStay}
 use Rattle.lg_selx_values.specs.ValueItems.{load_items, binary_code, binary_number_code, binary_items, wide_items, operand_in, register_for, register_in, body_items, save, restore, saved_items, value_items}
 use Rattle.lg_selx_values.specs.WideCode.{wide_code, wide_number_code}
 use Rattle.lg_selx_values.proofs.ChoiceLemmas.{AreSaved, chosen-well, slots-of}

@@ -1,5 +1,5 @@
 -- The code of the operations with two results.
-use Rattle.std.proofs.Common.{◌≡◌, ◌≢◌, ℕ, ◌-◌, ◌<◌, ◌^◌, Bool, true, false, List, ◌++◌, Some, refl, sym, ap, ◌∙◌}
+use Rattle.std.proofs.Common.{◌≡◌, ◌≢◌, ℕ, ◌-◌, ◌<◌, ◌^◌, Bool, true, false, List, ◌++◌, Some, refl, ap, ◌∙◌}
 use Rattle.std.specs.Prelude.{◌==◌, ◌||◌, not}
 use Rattle.std.specs.Option.{option_and_then}
 use Rattle.lg_base.specs.Words.{add_words, mul_words, high_product, high_product_signed, quotient, remainder, quotient_signed, remainder_signed}

@@ -1,5 +1,5 @@
 -- The code of the operations with two results on a register and a number.
-use Rattle.std.proofs.Common.{◌≡◌, ◌≢◌, ℕ, ◌-◌, ◌<◌, ◌^◌, Bool, false, List, ◌∷◌, ◌++◌, Some, refl, ap, ◌∙◌, arith}
+use Rattle.std.proofs.Common.{◌≡◌, ◌≢◌, ℕ, ◌-◌, ◌<◌, ◌^◌, false, List, ◌∷◌, ◌++◌, Some, refl, ap, ◌∙◌, arith}
 use Rattle.std.specs.Prelude.{◌==◌, ◌||◌, not}
 use Rattle.std.specs.Option.{option_and_then}
 use Rattle.lg_base.specs.Words.{add_words, mul_words, high_product, high_product_signed, quotient, remainder, quotient_signed, remainder_signed}

@@ -4,7 +4,9 @@ ghost use Rattle.std.specs.Prelude.{◌≡◌, ◌+◌, ◌≤◌, ◌++◌, ◌
 ghost use Rattle.lg_selx_items.specs.Items.{ones, words_in};
 ghost use Rattle.lg_selx_values.specs.BinaryCode.{ordered, commuting, difference, product, compared, shifted, divided, cond_of, register_code, with_number, compared_number, shifted_number, divided_number, number_form_code};
 
-use crate::moves::{RAX, RCX, RDX, SCRATCH, again, behind_move, behind_number, ext, imm, moved, one, sign};
+use crate::moves::{
+    RAX, RCX, RDX, SCRATCH, again, behind_move, behind_number, ext, imm, moved, one, sign,
+};
 use lg_op::BinaryOp;
 use lg_sel_items::Items;
 use lg_selx_items::{Item, is_half, mov, row};
@@ -170,7 +172,15 @@ pub(crate) fn register_code(op: BinaryOp, frame: u32, d: u8, a: u8, b: u8, items
 /// Appends the code of a row with a number, which stands in the instruction where 32 bits hold it, and else in rbp: at most 4 instructions, for
 /// which there is room.
 #[tactic(auto, using(crate::proofs::EmissionLemmas::ones_twice, crate::proofs::EmissionLemmas::moved_words))]
-pub(crate) fn with_number(op: ImmOp, alu: RmRegOp, frame: u32, d: u8, a: u8, value: u64, items: &mut Items<Item>)
+pub(crate) fn with_number(
+    op: ImmOp,
+    alu: RmRegOp,
+    frame: u32,
+    d: u8,
+    a: u8,
+    value: u64,
+    items: &mut Items<Item>,
+)
     requires low { 272 ≤ frame }
     requires high { frame ≤ 65808 }
     requires room { words_in items.old + 4 ≤ 64 }
@@ -197,7 +207,12 @@ fn compared_number(cond: Cond, frame: u32, d: u8, a: u8, value: u64, items: &mut
     } else {
         moved(d, a, items);
         let compare = row(RmRegOp::Cmp, d, SCRATCH);
-        behind_number(SCRATCH, value, &[compare, told(cond, d), widened(d), again(frame)], items);
+        behind_number(
+            SCRATCH,
+            value,
+            &[compare, told(cond, d), widened(d), again(frame)],
+            items,
+        );
     }
 }
 
@@ -224,7 +239,12 @@ fn divided_signed_number(frame: u32, r: u8, d: u8, a: u8, value: u64, items: &mu
 {
     items.one(mov(RAX, a));
     let divide = one(UnaryOp::Idiv, SCRATCH);
-    behind_number(SCRATCH, value, &[sign(), divide, mov(d, r), again(frame)], items);
+    behind_number(
+        SCRATCH,
+        value,
+        &[sign(), divide, mov(d, r), again(frame)],
+        items,
+    );
 }
 
 // Appends that of a quotient of words by a number, or its remainder: 6 instructions, for which there is room.
@@ -238,7 +258,12 @@ fn divided_unsigned_number(frame: u32, r: u8, d: u8, a: u8, value: u64, items: &
     items.one(mov(RAX, a));
     let high = Instr::Movi32 { reg: RDX, imm: 0 };
     let divide = one(UnaryOp::Div, SCRATCH);
-    behind_number(SCRATCH, value, &[high, divide, mov(d, r), again(frame)], items);
+    behind_number(
+        SCRATCH,
+        value,
+        &[high, divide, mov(d, r), again(frame)],
+        items,
+    );
 }
 
 // Appends the code that turns `d` and adds a number: at most 5 instructions, for which there is room.
@@ -274,11 +299,23 @@ fn product_number(frame: u32, d: u8, a: u8, value: u64, items: &mut Items<Item>)
     ensures { items.new ≡ items.old ++ ones (number_form_code (BinaryOp.Mul) frame d a value) }
 {
     moved(d, a, items);
-    behind_number(SCRATCH, value, &[ext(RegRmOp::Imul, d, SCRATCH), again(frame)], items);
+    behind_number(
+        SCRATCH,
+        value,
+        &[ext(RegRmOp::Imul, d, SCRATCH), again(frame)],
+        items,
+    );
 }
 
 /// Appends the code of `d = a op value`: at most 6 instructions, for which there is room.
-pub(crate) fn number_form_code(op: BinaryOp, frame: u32, d: u8, a: u8, value: u64, items: &mut Items<Item>)
+pub(crate) fn number_form_code(
+    op: BinaryOp,
+    frame: u32,
+    d: u8,
+    a: u8,
+    value: u64,
+    items: &mut Items<Item>,
+)
     requires low { 272 ≤ frame }
     requires high { frame ≤ 65808 }
     requires room { words_in items.old + 6 ≤ 64 }

@@ -33,7 +33,14 @@ fn taken_away(op: RmRegOp, frame: u32, d: u8, a: u8, b: u8, items: &mut Items<It
 
 /// Appends the code of `d = a op b` with its carry: at most 4 instructions, for which there is room. Of an operation that sets no carry nothing
 /// is appended.
-pub(crate) fn carried_register_code(op: BinaryOp, frame: u32, d: u8, a: u8, b: u8, items: &mut Items<Item>)
+pub(crate) fn carried_register_code(
+    op: BinaryOp,
+    frame: u32,
+    d: u8,
+    a: u8,
+    b: u8,
+    items: &mut Items<Item>,
+)
     requires low { 272 ≤ frame }
     requires high { frame ≤ 65808 }
     requires room { words_in items.old + 4 ≤ 64 }
@@ -50,7 +57,14 @@ pub(crate) fn carried_register_code(op: BinaryOp, frame: u32, d: u8, a: u8, b: u
 
 /// Appends the code of `d = a op value` with its carry: at most 4 instructions, for which there is room. Of an operation that sets no carry
 /// nothing is appended.
-pub(crate) fn carried_number_code(op: BinaryOp, frame: u32, d: u8, a: u8, value: u64, items: &mut Items<Item>)
+pub(crate) fn carried_number_code(
+    op: BinaryOp,
+    frame: u32,
+    d: u8,
+    a: u8,
+    value: u64,
+    items: &mut Items<Item>,
+)
     requires low { 272 ≤ frame }
     requires high { frame ≤ 65808 }
     requires room { words_in items.old + 4 ≤ 64 }

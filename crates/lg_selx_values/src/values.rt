@@ -196,7 +196,7 @@ fn saved_items(frame: u32, node: &Node, choices: &[Choice], items: &mut Items<It
 
 /// Appends the code of a node that computes a value, or two, in a function with such a frame: at most 12 instructions, for which there is
 /// room. Of every other node no code is appended but saves and restores. There are two choices at most.
-pub fn value_items(frame: u32, node: &Node, choices: &Choices, items: &mut Items<Item>)
+pub fn value_items(node: &Node, frame: u32, choices: &Choices, items: &mut Items<Item>)
     requires low { 272 ≤ frame }
     requires high { frame ≤ 65808 }
     requires few { length choices.now ≤ 2 }

@@ -39,7 +39,16 @@ pub(crate) fn wide_code(op: WideOp, frame: u32, d: u8, e: u8, a: u8, b: u8, item
         WideOp::Mul => items.all(&[second, first, multiply, low, high]),
         WideOp::MulU => items.all(&[second, first, multiply_unsigned, low, high]),
         WideOp::Div => items.all(&[second, first, divisor, sign(), divide, low, high, back]),
-        WideOp::DivU => items.all(&[second, first, divisor, zero(), divide_unsigned, low, high, back]),
+        WideOp::DivU => items.all(&[
+            second,
+            first,
+            divisor,
+            zero(),
+            divide_unsigned,
+            low,
+            high,
+            back,
+        ]),
     }
 }
 
@@ -61,13 +70,26 @@ fn rest_code(op: WideOp, frame: u32, d: u8, e: u8, value: u64, items: &mut Items
         WideOp::Mul => behind_number(RDX, value, &[multiply, low, high], items),
         WideOp::MulU => behind_number(RDX, value, &[multiply_unsigned, low, high], items),
         WideOp::Div => behind_number(SCRATCH, value, &[sign(), divide, low, high, back], items),
-        WideOp::DivU => behind_number(SCRATCH, value, &[zero(), divide_unsigned, low, high, back], items),
+        WideOp::DivU => behind_number(
+            SCRATCH,
+            value,
+            &[zero(), divide_unsigned, low, high, back],
+            items,
+        ),
     }
 }
 
 /// Appends the code that makes two words of `a` and a number: at most 7 instructions, for which there is room.
 #[tactic(auto, using(crate::proofs::EmissionLemmas::ones_after, crate::proofs::EmissionLemmas::one_words))]
-pub(crate) fn wide_number_code(op: WideOp, frame: u32, d: u8, e: u8, a: u8, value: u64, items: &mut Items<Item>)
+pub(crate) fn wide_number_code(
+    op: WideOp,
+    frame: u32,
+    d: u8,
+    e: u8,
+    a: u8,
+    value: u64,
+    items: &mut Items<Item>,
+)
     requires low { 272 ≤ frame }
     requires high { frame ≤ 65808 }
     requires room { words_in items.old + 7 ≤ 64 }
