@@ -19,6 +19,7 @@ pub mod RegisterNodeLemmas
 pub mod RoomLemmas
 pub mod RowLemmas
 pub mod SettledLemmas
+pub mod SpellingLemmas
 pub mod UnaryLemmas
 pub mod ValueFitLemmas
 pub mod ValueNodeLemmas

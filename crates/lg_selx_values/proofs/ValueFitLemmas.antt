@@ -1,5 +1,5 @@
 -- The items of a node that are emitted.
-use Rattle.std.proofs.Common.{ℕ, zero, suc, ◌+◌, ◌-◌, ◌*◌, ◌^◌, ◌<◌, ◌≤◌, Bool, true, false, List, [], ◌∷◌, length, length-append, refl, arith}
+use Rattle.std.proofs.Common.{ℕ, zero, suc, ◌+◌, ◌-◌, ◌*◌, ◌^◌, ◌<◌, ◌≤◌, Bool, true, false, List, [], ◌∷◌, length, refl, arith}
 use Rattle.std.specs.Prelude.{⊤, nat_lt, if◌then◌else◌, pos}
 use Rattle.std.proofs.lemmas.Int.{ints}
 use Rattle.lg_base.specs.HostNames.{host_address}
@@ -11,16 +11,16 @@ use Rattle.lg_op.specs.declared.op.Op.TheVariants as op
 use Rattle.lg_op.specs.declared.op.BinaryOp.{BinaryOp}
 use Rattle.lg_op.specs.declared.op.PlainOp.TheVariants as plain
 use Rattle.lg_op.specs.declared.op.WideOp.{WideOp}
+use Rattle.lg_op.specs.declared.node.Node.{Node}
 use Rattle.lg_op.specs.declared.operand.Operand.{Operand}
 use Rattle.lg_op.specs.declared.operand.Operand.TheVariants as operand
 use Rattle.lg_temp.specs.declared.choice.Choice.{Choice}
 use Rattle.lg_temp.specs.declared.choice.Choice.TheVariants.{Free, Own, Spill}
 use Rattle.lg_temp.specs.Abis.{register_of}
 use Rattle.lg_temp.specs.Chosen.{around}
-use Rattle.lg_x86.specs.Spelling.{spelling, IsNumber32}
+use Rattle.lg_x86.specs.Spelling.{IsNumber32}
 use Rattle.lg_x86.specs.declared.instruction.Instr.{Instr}
 use Rattle.lg_x86.specs.declared.instruction.Instr.TheVariants.{Movi32, Movs32, Movi64}
-use Rattle.lg_x86.proofs.SizeLemmas.{sized}
 use Rattle.lg_carry_x86.specs.Destinations.{WritesWithin}
 use Rattle.lg_carry_x86.specs.Numbers.{is_half, number_row}
 use Rattle.lg_carry_x86.specs.X86Rows.{slot_offset}
@@ -29,7 +29,7 @@ use Rattle.lg_sel_items.specs.Holes.{Each}
 use Rattle.lg_sel_items.proofs.ListLemmas.{each-append}
 use Rattle.lg_selx_items.specs.declared.items.Item.{Item}
 use Rattle.lg_selx_items.specs.declared.items.Item.TheVariants.{One, Address}
-use Rattle.lg_selx_items.specs.Items.{blank, words_in, blanks, ones, StaysWithin, NameLabels}
+use Rattle.lg_selx_items.specs.Items.{words_in, ones, StaysWithin, NameLabels}
 use Rattle.lg_selx_items.specs.GoodItems.{Fine, IsGood, IsGoodItem}
 use Rattle.lg_selx_items.proofs.GoodLemmas.{number-good, good-items-are-appendable}
 use Rattle.lg_selx_items.proofs.ItemLemmas.{words_append, words-ones, names-append, names-ones}
@@ -41,6 +41,7 @@ use Rattle.lg_selx_values.specs.WideCode.{wide_code, wide_number_code}
 use Rattle.lg_selx_values.proofs.ChoiceLemmas.{AreSaved, chosen-well, slots-of}
 use Rattle.lg_selx_values.proofs.GivenLemmas.{host-small}
 use Rattle.lg_selx_values.proofs.RegisterLemmas.{register-portable}
+use Rattle.lg_selx_values.proofs.SpellingLemmas.{IsShort, rows-short, address-short, save-short, restore-short, bytes-few}
 use Rattle.lg_selx_values.proofs.RowLemmas.{HoldsOfRows, Holds, rax-fine, binary-made, binary-number-made, unary-made, retval-made, wide-made, wide-number-made}
 
 -- ---- registers and numbers of operands
@@ -158,14 +159,22 @@ number-at (x ∷ xs) zero h = by x h.0
     by (operand.Slot k) h = tt
 number-at (x ∷ xs) (suc i) h = number-at xs i h.1
 
--- an item has at most 16 bytes
-bytes-few : (xs : List Item) → length (blanks xs) ≤ 16 * words_in xs
-bytes-few [] = omega arith
-bytes-few (x ∷ xs) =
-    let s = (sized (blank x)).short in
-    let l = length-append (spelling (blank x)) (blanks xs) in
-    let m = bytes-few xs in
-    omega (arith, s, l, m)
+pub any-number : (x : Operand) → Has (λ v. ⊤) x
+any-number (operand.Number v) = tt
+any-number (operand.Reg r) = tt
+any-number (operand.Host name) = tt
+any-number (operand.Label l) = tt
+any-number (operand.Slot k) = tt
+
+-- each item is spelled in few bytes
+each-short : (frame : ℕ) (n : Node) (choices : List Choice) → AreSaved choices → Each IsShort (value_items frame n choices)
+each-short frame n choices saved =
+    let rows = rows-short frame in
+    let address : (t l : ℕ) → Fine t → IsShort (Address t l) = λ t l f. address-short t l in
+    let saves : (r k : ℕ) → Fine r → k < 5 → IsShort (One (save r k)) = λ r k f l. save-short r k in
+    let restores : (r k : ℕ) → Fine r → k < 5 → IsShort (One (restore r k)) = λ r k f l. restore-short r k in
+    let body = body-are frame IsShort (λ v. ⊤) rows (λ name. tt) address saves restores n.op n.operands (λ i. any-number (operand_in n.operands i)) in
+    (saved-are frame IsShort (λ v. ⊤) rows (λ name. tt) address saves restores choices (body_items frame n.op n.operands) 8 saved body).each
 
 pub value-items-fit : ValueItemsFit
 value-items-fit frame n live staged choices low high numbers h =
@@ -179,7 +188,7 @@ value-items-fit frame n live staged choices low high numbers h =
     let items = good-items-are-appendable (value_items frame n choices) all.each in
     let few = all.few in
     let two = well.few in
-    let bytes = bytes-few (value_items frame n choices) in
+    let bytes = bytes-few (value_items frame n choices) (each-short frame n choices well.saved) in
     record { few = well.few; slots = slots-of choices well.saved; fit = items.fit; short = omega (arith, few, two); small = omega (arith, few, two, bytes); block = items.block }
 
 -- ---- the conventions
@@ -205,13 +214,6 @@ rows-within frame = record {
   sign = (refl, tt);
   again = (refl, tt);
 }
-
-pub any-number : (x : Operand) → Has (λ v. ⊤) x
-any-number (operand.Number v) = tt
-any-number (operand.Reg r) = tt
-any-number (operand.Host name) = tt
-any-number (operand.Label l) = tt
-any-number (operand.Slot k) = tt
 
 pub value-items-stay : ValueItemsStay
 value-items-stay frame n live staged choices h =

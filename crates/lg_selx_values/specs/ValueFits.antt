@@ -14,14 +14,14 @@ use Rattle.lg_selx_items.specs.Items.{words_in, blanks, settled, AreItems, NameL
 use Rattle.lg_selx_values.specs.Needs.{value_needs}
 use Rattle.lg_selx_values.specs.ValueItems.{value_items, HaveSlots}
 
--- at most two registers are chosen; the items are in the ranges of their instructions, of which there are at most 12, with at most 192 bytes in all, and
+-- at most two registers are chosen; the items are in the ranges of their instructions, of which there are at most 12, with at most 128 bytes in all, and
 -- each is followed by the next
 pub record AreValueItems (frame : ℕ) (n : Node) (choices : List Choice) : Type 0 where
   pub few : length choices ≤ 2
   pub slots : HaveSlots choices
   pub fit : AreItems (value_items frame n choices)
   pub short : words_in (value_items frame n choices) ≤ 12
-  pub small : length (blanks (value_items frame n choices)) ≤ 192
+  pub small : length (blanks (value_items frame n choices)) ≤ 128
   pub block : (to : ℕ → ℕ) (at : ℕ) → IsBlock is_straight (settled to at (value_items frame n choices))
 
 -- numbers are words

@@ -94,7 +94,7 @@ pub fn choices_have_slots()
     ensures { ChoicesHaveSlots }
 {}
 
-/// The items of a node with choices for its needs are in the ranges of their instructions, of which there are at most 12, with at most 192 bytes,
+/// The items of a node with choices for its needs are in the ranges of their instructions, of which there are at most 12, with at most 128 bytes,
 /// and each is followed by the next.
 pub fn value_items_fit()
     ensures { ValueItemsFit }
