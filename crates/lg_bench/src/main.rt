@@ -128,7 +128,7 @@ fn main(rt: HostRuntime) -> io::Result<()> {
                 find_live(&rt, flow, 64, 1)?;
             }
             for flow in [Flow::Moves, Flow::Chain] {
-                rewrite(&rt, flow, 64, 1)?;
+                rewrite(&rt, flow, 65_000, 1)?;
             }
             emit(&rt, 1024, 4)?;
             for target in [Target::Riscv64, Target::Aarch64, Target::X86_64] {

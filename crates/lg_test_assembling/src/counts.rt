@@ -23,12 +23,17 @@ const ROWS: &[u8] =
         00.code prolog movi %v0 4 movi %v1 5 movi %v2 6 prepare pushargi 1 pushargi 2 pushargi 3 pushargi 4 pushargi 5 pushargi 6 pushargi 7 pushargi 8 addcr %v0 %v0 %v1 addxr %v0 %v0 %v1 pushargr %v0 pushargr %v1 pushargr %v2 finishi f retr %v2 epilog f: prolog ret epilog";
 
 // In the table a row is the digit of how many nodes the code of a text has, and then the text; between rows stands 1E: moves that do nothing and jumps to
-// jumps, jumps that turn, of which one goes to what follows, jumps to what follows, and a move whose source is written between.
+// jumps; jumps that turn, of which one goes to what follows; jumps to what follows; a move whose source is written between; a chain into a circle; moves of
+// FP; a move between two equal ones, that writes neither of their registers and that writes one.
 const NODES: &[u8] =
     b"8.code prolog movi %v0 7 movr %v1 %v0 movr %v0 %v1 movr %v1 %v1 jmpi a a: jmpi b b: prepare pushargr %v1 finishi @exit ret epilog\x1e\
         3.code prolog a: jmpi b b: jmpi a epilog\x1e\
         3.code prolog jmpi a a: jmpi b b: jmpi c c: ret epilog\x1e\
-        6.code prolog movr %v0 %v1 movi %v1 3 movr %v0 %v1 ret epilog";
+        6.code prolog movr %v0 %v1 movi %v1 3 movr %v0 %v1 ret epilog\x1e\
+        3.code prolog jmpi a a: jmpi b b: jmpi c c: jmpi b epilog\x1e\
+        4.code prolog movr %v0 %fp movr %v0 %fp ret epilog\x1e\
+        5.code prolog movr %v0 %v1 movr %v2 %v0 movr %v0 %v1 ret epilog\x1e\
+        6.code prolog movr %v0 %v1 movr %v1 %v2 movr %v0 %v1 ret epilog";
 
 /// What is counted of code.
 #[derive(Clone, Copy)]
