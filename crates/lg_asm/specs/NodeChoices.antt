@@ -2,7 +2,7 @@
 use Rattle.std.specs.Prelude.{ℕ, zero, suc, ◌+◌, Bool, true, false, List, [], Option, Some, None, slice_get, slice_index_or}
 use Rattle.std.specs.Option.{option_and_then}
 use Rattle.lg_base.specs.declared.target.Target.{Target}
-use Rattle.lg_base.specs.declared.target.Target.TheVariants.{Aarch64, Riscv64}
+use Rattle.lg_base.specs.declared.target.Target.TheVariants.{X86_64, Aarch64, Riscv64}
 use Rattle.lg_live.specs.RegSets.{has}
 use Rattle.lg_live.specs.declared.reg_set.RegSet.{RegSet}
 use Rattle.lg_liveness.specs.Liveness.{LiveSets}
@@ -13,6 +13,7 @@ use Rattle.lg_op.specs.declared.operand.Reg.{Reg}
 use Rattle.lg_sel.specs.Selected.{first_arguments}
 use Rattle.lg_sela_values.specs.ValueItems as a64
 use Rattle.lg_selr_values.specs.ValueItems as rv
+use Rattle.lg_selx_values.specs.Needs as x86
 use Rattle.lg_temp.specs.Chosen.{around, choices_of, spills}
 use Rattle.lg_temp.specs.declared.choice.Choice.{Choice}
 use Rattle.lg_temp.specs.declared.choice.Choice.TheVariants.{Spill}
@@ -25,11 +26,11 @@ set_behind sets i = slice_index_or sets.behind i (record { 0 = 0 })
 abbrev pub live_behind : LiveSets → ℕ → Reg → Bool
 live_behind sets i = has (set_behind sets i)
 
--- what the temporaries of a node's code need on a target; those that are not built have no code
+-- what the temporaries of a node's code need on a target
 abbrev pub needs_on : Target → Op → List Need
+needs_on X86_64 o = x86.value_needs o
 needs_on Aarch64 o = a64.value_needs o
 needs_on Riscv64 o = rv.value_needs o
-needs_on target o = []
 
 -- the choices for the needs of a node behind which these registers are live and before which so many arguments are pushed, which are staged there
 abbrev pub node_choices : Target → (Reg → Bool) → ℕ → Node → Option (List Choice)

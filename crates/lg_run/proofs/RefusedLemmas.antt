@@ -4,7 +4,6 @@ use Rattle.std.specs.Prelude.{Result, Ok, Err}
 use Rattle.std.proofs.lemmas.Bool.{cases_lt}
 use Rattle.lg_base.specs.declared.refusal.Refusal.{Refusal}
 use Rattle.lg_base.specs.declared.target.Target.{Target}
-use Rattle.lg_base.specs.declared.target.Target.TheVariants.{Aarch64, Riscv64, X86_64}
 use Rattle.lg_command.specs.Commands.{Command}
 use Rattle.lg_io.specs.NamedTexts.{NamedTexts}
 use Rattle.lg_node.specs.Nodes.{LabelledNodes}
@@ -28,15 +27,11 @@ accepted_not l r accepted (inl a) = none_some (sym (accepted.nodes a.at a.within
 accepted_not l r accepted (inr a) = none_some (sym accepted.end ∙ a.here)
 
 code_once : (t : Target) (nodes size : ℕ) (r q : Refusal) → IsRefusedCode t nodes size r → IsRefusedCode t nodes size q → r ≡ q
-code_once X86_64 nodes size r q a b = a ∙ sym b
-code_once Aarch64 nodes size r q a b = a.0 ∙ sym b.0
-code_once Riscv64 nodes size r q a b = a.0 ∙ sym b.0
+code_once t nodes size r q a b = a.0 ∙ sym b.0
 
 -- code of a target that is built is refused only where it has no room
 only_full : (t : Target) (nodes size : ℕ) (r : Refusal) → IsBuilt t → IsRefusedCode t nodes size r → (r ≡ code_full) × MayBeFull nodes size
-only_full X86_64 nodes size r built a = absurd built
-only_full Aarch64 nodes size r built a = a
-only_full Riscv64 nodes size r built a = a
+only_full t nodes size r built a = a
 
 unit_once : (c : Command) (l : LabelledNodes) (r q : Refusal) → IsRefusedUnit c l r → IsRefusedUnit c l q → r ≡ q
 unit_once c l r q (inl a) (inl b) = checked_once l r q a b

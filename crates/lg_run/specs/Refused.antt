@@ -3,9 +3,8 @@ use Rattle.std.specs.Prelude.{◌≡◌, ◌⊎◌, ℕ, ◌+◌, ◌*◌, ◌<�
 use Rattle.lg_base.specs.Arguments.{args_of, most_args, args_too_long}
 use Rattle.lg_base.specs.declared.refusal.Refusal.{Refusal}
 pub use Rattle.lg_asm.specs.Built.{IsBuilt}
-use Rattle.lg_base.specs.declared.refusal.RefusalKind.TheVariants.{CodeFull, NotYet, TextTooLong}
+use Rattle.lg_base.specs.declared.refusal.RefusalKind.TheVariants.{CodeFull, TextTooLong}
 use Rattle.lg_base.specs.declared.target.Target.{Target}
-use Rattle.lg_base.specs.declared.target.Target.TheVariants.{X86_64}
 use Rattle.lg_command.specs.Commands.{Command}
 use Rattle.lg_io.specs.NamedTexts.{NamedTexts, text_under}
 use Rattle.lg_node.specs.Nodes.{LabelledNodes}
@@ -20,9 +19,6 @@ most_text = 16777216
 abbrev pub text_too_long : Refusal
 text_too_long = record { kind = TextTooLong; line = 0 }
 
-abbrev pub not_yet : Refusal
-not_yet = record { kind = NotYet; line = 0 }
-
 abbrev pub code_full : Refusal
 code_full = record { kind = CodeFull; line = 0 }
 
@@ -30,9 +26,8 @@ code_full = record { kind = CodeFull; line = 0 }
 abbrev pub MayBeFull : (nodes size : ℕ) → Type 0
 MayBeFull nodes size = size < 256 * nodes + 256
 
--- nodes that are accepted are refused where the target is not built, or where they have no room in the size
+-- nodes that are accepted are refused where they have no room in the size
 abbrev pub IsRefusedCode : Target → (nodes size : ℕ) → Refusal → Type 0
-IsRefusedCode X86_64 nodes size refusal = refusal ≡ not_yet
 IsRefusedCode target nodes size refusal = (refusal ≡ code_full) × MayBeFull nodes size
 
 abbrev pub IsRefusedAccepted : Command → LabelledNodes → Refusal → Type 0

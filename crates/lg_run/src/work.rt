@@ -24,7 +24,6 @@ use lg_asm::{Code, assemble};
 use lg_base::args::args_image;
 use lg_base::image::ArgImage;
 use lg_base::refusal::{Refusal, RefusalKind, Stop};
-use lg_base::target::Target;
 use lg_command::{Command, Mode};
 use lg_cpu::cpu::Cpu;
 use lg_io::sink::Sink;
@@ -74,7 +73,7 @@ fn refusal(kind: RefusalKind) -> Refusal
     Refusal { kind, line: 0 }
 }
 
-// The code of an accepted text. A text for a target that is not built is refused.
+// The code of an accepted text.
 fn code_of(alloc: Global, command: &Command<'_>, text: &Accepted) -> Result<Code, Stop>
     requires range { IsInRange command.now }
     requires whole { IsWhole text.now.unit }
@@ -87,16 +86,7 @@ fn code_of(alloc: Global, command: &Command<'_>, text: &Accepted) -> Result<Code
     ensures agrees { IfOk result (λ c. Agrees c.bytes c.labels text.now.unit command.now.target) }
     ensures refused { (r : Refusal) → result ≡ Err (Stop.Refused r) → IsRefusedAccepted (shown command.now) text.now.unit.nodes r }
 {
-    match command.target {
-        Target::Aarch64 | Target::Riscv64 => assemble(
-            alloc,
-            &text.unit,
-            &text.shape,
-            command.target,
-            command.size,
-        ),
-        Target::X86_64 => Err(Stop::Refused(refusal(RefusalKind::NotYet))),
-    }
+    assemble(alloc, &text.unit, &text.shape, command.target, command.size)
 }
 
 // Runs code.

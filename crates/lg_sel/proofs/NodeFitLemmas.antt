@@ -56,11 +56,11 @@ module _ {L : Type 0} (target : Target) (needs : Op → List Need) (F : Families
       pub names : Each (names_one_of labels) xs
 
     pub record FamiliesFit : Type 0 where
-      pub values : (frame : ℕ) (n : Node) (live : Reg → Bool) (set : List Bool) (choices : List Choice) → IsFrame frame → is_value n.op ≡ true → AreMade n live set choices → NameBelow labels n.operands → Fit (F.values frame n choices)
+      pub values : (frame : ℕ) (n : Node) (live : Reg → Bool) (set : List Bool) (choices : List Choice) → IsFrame frame → is_value n.op ≡ true → AreMade n live set choices → NameBelow labels n.operands → HaveWords n.operands → Fit (F.values frame n choices)
       pub loads : (frame : ℕ) (n : Node) (t : ValueType) (at : Addressing) → IsFrame frame → HasWords n → Fit (F.load frame t at n)
       pub stores : (frame : ℕ) (n : Node) (t : StoreType) (at : Addressing) → IsFrame frame → HasWords n → Fit (F.store frame t at n)
       pub arguments : (frame : ℕ) (n : Node) (t : ValueType) → IsFrame frame → Fit (F.argument frame t n)
-      pub results : (frame : ℕ) (n : Node) (t : ValueType) (live : Reg → Bool) (set : List Bool) (choices : List Choice) → IsFrame frame → n.op ≡ op.Retval t → InForm n → AreMade n live set choices → NameBelow labels n.operands → Fit (F.result frame t n choices)
+      pub results : (frame : ℕ) (n : Node) (t : ValueType) (live : Reg → Bool) (set : List Bool) (choices : List Choice) → IsFrame frame → n.op ≡ op.Retval t → InForm n → AreMade n live set choices → NameBelow labels n.operands → HaveWords n.operands → Fit (F.result frame t n choices)
       pub pushes : (frame : ℕ) (n : Node) (j : ℕ) → IsFrame frame → j < 16 → NamesBelow labels (operand_at n 0) → IsWord (operand_at n 0) → Fit (F.push frame j n)
       pub controls : (n : Node) (frame place : ℕ) → IsFrame frame → is_control n.op ≡ true → InForm n → NameBelow labels n.operands → HaveWords n.operands → ends_in_label n.operands ≡ false → Fit (F.control n.op n.operands frame place)
 
@@ -70,11 +70,11 @@ module _ {L : Type 0} (target : Target) (needs : Op → List Need) (F : Families
 
       families : HoldsOfFamilies F Fits frame choices staged place
       families = record {
-        values = λ n is k. f.values frame n live k.chosen.set choices sized is (are-made n live staged choices labels k) k.named;
+        values = λ n is k. f.values frame n live k.chosen.set choices sized is (are-made n live staged choices labels k) k.named k.words;
         loads = λ n t at e k. f.loads frame n t at sized (has-words n k.words);
         stores = λ n t at e k. f.stores frame n t at sized (has-words n k.words);
         arguments = λ n t e k. f.arguments frame n t sized;
-        results = λ n t e k. f.results frame n t live k.chosen.set choices sized e k.formed (are-made n live staged choices labels k) k.named;
+        results = λ n t e k. f.results frame n t live k.chosen.set choices sized e k.formed (are-made n live staged choices labels k) k.named k.words;
         pushes = λ n last e k. f.pushes frame n (staged_count staged) sized (few-staged n live staged choices labels last k e) (named-at labels n.operands 0 k.named) (word-at n.operands 0 k.words);
         controls = λ n is k. f.controls n frame place sized is k.formed k.named k.words (control-ends n is k.formed.forms k.takes);
       }

@@ -31,7 +31,7 @@ word-at [] k words = omega arith
 word-at (x ∷ xs) zero words = words.0
 word-at (x ∷ xs) (suc k) words = word-at xs k words.1
 
-word-is : (x : Operand) (v : ℕ) → x ≡ operand.Number v → IsWord x → v < 2 ^ 64
+pub word-is : (x : Operand) (v : ℕ) → x ≡ operand.Number v → IsWord x → v < 2 ^ 64
 word-is (operand.Number w) v e word = let same : w ≡ v = cc in omega (arith, same, word)
 word-is (operand.Reg r) v e word = cc
 word-is (operand.Label l) v e word = cc

@@ -75,11 +75,11 @@ passed labels (operand.Slot k) named l e = cc
 
 families-fit : (labels : ℕ) → fit.FamiliesFit Aarch64 needs a64_families IsItem NamesOneOf labels
 families-fit labels = record {
-  values = λ frame n live set choices sized is are named. values labels n live set choices are named;
+  values = λ frame n live set choices sized is are named words. values labels n live set choices are named;
   loads = λ frame n t at sized words. record { instrs = (memory-items-fit.loads t at n).appendable.fit; names = memory-items-name.loads labels t at n };
   stores = λ frame n t at sized words. record { instrs = (memory-items-fit.stores t at n).appendable.fit; names = memory-items-name.stores labels t at n };
   arguments = λ frame n t sized. record { instrs = (memory-items-fit.arguments t n).appendable.fit; names = memory-items-name.arguments labels t n };
-  results = λ frame n t live set choices sized e formed are named. values labels n live set choices are named;
+  results = λ frame n t live set choices sized e formed are named words. values labels n live set choices are named;
   pushes = λ frame n j sized few named word.
       record { instrs = (memory-items-fit.pushes j n few).appendable.fit; names = memory-items-name.pushes labels j n (passed labels (operand_at n 0) named) };
   controls = λ n frame place sized is formed named words ends.

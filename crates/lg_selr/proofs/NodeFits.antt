@@ -65,11 +65,11 @@ plain labels most is code = record { instrs = items-ones is code.fit; names = na
 
 families-fit : (labels : ℕ) → fit.FamiliesFit Riscv64 needs rv_families IsItem NamesOneOf labels
 families-fit labels = record {
-  values = λ frame n live set choices sized is are named. record { instrs = (value-items-fit n live set choices are).fit; names = value-items-name labels n choices (are-below labels n.operands named) };
+  values = λ frame n live set choices sized is are named words. record { instrs = (value-items-fit n live set choices are).fit; names = value-items-name labels n choices (are-below labels n.operands named) };
   loads = λ frame n t at sized words. plain labels 10 (load_code t at n) (load-fits t at n words);
   stores = λ frame n t at sized words. plain labels 10 (store_code t at n) (store-fits t at n words);
   arguments = λ frame n t sized. plain labels 1 (argument_code t n) (argument-fits t n);
-  results = λ frame n t live set choices sized e formed are named. let emitted = retval-items-fit n t labels e formed in record { instrs = emitted.items; names = emitted.labels };
+  results = λ frame n t live set choices sized e formed are named words. let emitted = retval-items-fit n t labels e formed in record { instrs = emitted.items; names = emitted.labels };
   pushes = λ frame n j sized few named word. let good = push-good labels j n few (below labels _ named) word in record { instrs = good.fit.instrs; names = good.fit.names };
   controls = λ n frame place sized is formed named words ends.
       let emitted = control-items-fit n labels frame place is formed (are-given labels n.operands named words) ends in

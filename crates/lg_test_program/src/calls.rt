@@ -91,10 +91,9 @@ fn takes_words(rt: HostRuntime) -> Result<(), Fail> {
     Ok(())
 }
 
-// The text is accepted, and its target is not built yet.
+// Without a target it is x86-64.
 #[test]
-fn refuses_targets(rt: HostRuntime) -> Result<(), Fail> {
-    let err = b"lightning: t.tst:0: refused 0 NotYet\n";
+fn takes_targets(rt: HostRuntime) -> Result<(), Fail> {
     let others: [&[&str]; 3] = [
         &["lightning", "t.tst"],
         &["lightning", "--target", "x86_64", "t.tst"],
@@ -105,7 +104,7 @@ fn refuses_targets(rt: HostRuntime) -> Result<(), Fail> {
             &rt,
             &Row {
                 words,
-                ..plain(first_letter(), b"", err, 121)
+                ..plain(first_letter(), b"A", b"", 3)
             },
         )?;
     }

@@ -2,7 +2,7 @@
 
 ghost use Rattle.std.specs.Prelude.{◌≤◌, length};
 
-use crate::row::call;
+use crate::row::{self, Row, call, plain};
 use lg_io::memory_sink::MemorySink;
 use lg_io::memory_texts::MemoryTexts;
 use std::alloc::Global;
@@ -10,7 +10,7 @@ use std::process::Abort;
 use std::test::Fail;
 
 // In the tables a row is what stands behind the file's name, then 1F and the text; between rows stands 1E. A text that is right but for
-// having no function is refused with kind 20. The target is one that is not built, so a text that is right is refused with kind 0.
+// having no function is refused with kind 20.
 
 // The rows of single refusals.
 const ROWS: &[u8] = b"1: refused 20 NoCode\x1f\x1e\
@@ -103,11 +103,9 @@ const EXPRESSIONS: &[u8] =
 
 // Statements and their operands.
 const STATEMENTS: &[u8] = b"1: refused 7 LabelMissing\x1fprolog movi %r0 ret epilog\x1e\
-        0: refused 0 NotYet\x1fprolog movi %r0 ret ret: ret epilog\x1e\
         1: refused 3 FloatRefused\x1ffoo_f\x1e\
         1: refused 3 FloatRefused\x1fx_d_y\x1e\
         1: refused 3 FloatRefused\x1f_f\x1e\
-        0: refused 0 NotYet\x1floop_f: prolog movi %r0 x_f x_f: ret epilog name a_d\x1e\
         1: refused 3 FloatRefused\x1f.data 4 .c 1 .f\x1e\
         1: refused 4 BadOperand\x1f.data 4 .c .f\x1e\
         1: refused 2 UnknownName\x1f.x_f\x1e\
@@ -133,7 +131,6 @@ const STATEMENTS: &[u8] = b"1: refused 7 LabelMissing\x1fprolog movi %r0 ret epi
         1: refused 4 BadOperand\x1f.data -1\x1e\
         1: refused 4 BadOperand\x1f.data 16777217\x1e\
         2: refused 2 UnknownName\x1f.data 4\n.data 4\x1e\
-        0: refused 0 NotYet\x1fprolog movi %r0 e epilog e:\x1e\
         1: refused 6 LabelTwice\x1fprolog arg $a allocai 8 $a\x1e\
         2: refused 6 LabelTwice\x1fprolog arg $x epilog\narg $x";
 
@@ -163,14 +160,10 @@ const CHECKS: &[u8] = b"2: refused 9 FunctionOpen\x1fprolog jmpi x\nprolog x: re
         1: refused 10 TargetOutside\x1fprolog jmpi x\nret x:\x1e\
         2: refused 9 FunctionOpen\x1f\nprolog jmpi x x: ret\x1e\
         1: refused 10 TargetOutside\x1fprolog calli f ret epilog f: .align 16 prolog ret epilog\x1e\
-        0: refused 0 NotYet\x1fprolog calli f ret epilog .align 16 f: prolog ret epilog\x1e\
-        0: refused 0 NotYet\x1fprolog prepare arg $a addi %r0 %r0 1 retval %r0 .align 4 finishi @puts epilog\x1e\
-        0: refused 0 NotYet\x1fprolog x: prepare finishi @puts epilog\x1e\
         1: refused 11 BadCall\x1fprolog prepare x: finishi @puts epilog\x1e\
         1: refused 7 LabelMissing\x1fjmpi x\x1e\
         1: refused 8 NotInFunction\x1fret\x1e\
         2: refused 8 NotInFunction\x1fprolog ret epilog\njmpi x x: prolog ret epilog\x1e\
-        0: refused 0 NotYet\x1f.data 8 d: .code prolog addi %r0 %r0 d epilog\x1e\
         1: refused 10 TargetOutside\x1f.data 8 d: .code prolog jmpi d epilog\x1e\
         1: refused 10 TargetOutside\x1fx: prolog jmpi x epilog\x1e\
         1: refused 10 TargetOutside\x1fprolog addi %r0 %r0 x x: epilog\x1e\
@@ -178,11 +171,20 @@ const CHECKS: &[u8] = b"2: refused 9 FunctionOpen\x1fprolog jmpi x\nprolog x: re
         1: refused 20 NoCode\x1f.align 8\x1e\
         1: refused 10 TargetOutside\x1fjmpi x x:\x1e\
         1: refused 20 NoCode\x1f\n\n.data 8\x1e\
-        0: refused 0 NotYet\x1fprolog allocai 65536 $x epilog\x1e\
         2: refused 11 BadCall\x1fprolog\nellipsis epilog\x1e\
         1: refused 2 UnknownName\x1fprolog va_start %r0 epilog\x1e\
         2: refused 12 TooManyArgs\x1fprolog arg $a arg $b arg $c arg $d arg $e arg $f arg $g arg $h arg $i arg $j arg $k arg $l arg $m arg $n arg $o arg $p\narg $q epilog\x1e\
         2: refused 12 TooManyArgs\x1fprolog prepare pushargi 1 pushargi 2 pushargi 3 pushargi 4 pushargi 5 pushargi 6 pushargi 7 pushargi 8 pushargi 9 pushargi 10 pushargi 11 pushargi 12 pushargi 13 pushargi 14 pushargi 15 pushargi 16\npushargi 17 finishi @puts epilog";
+
+// Texts that are right, and run; between them stands 1E.
+const RIGHT: &[u8] = b"prolog movi %r0 ret ret: ret epilog\x1e\
+        loop_f: prolog movi %r0 x_f x_f: ret epilog name a_d\x1e\
+        prolog movi %r0 e epilog e:\x1e\
+        prolog calli f ret epilog .align 16 f: prolog ret epilog\x1e\
+        prolog prepare arg $a addi %r0 %r0 1 retval %r0 .align 4 finishi @puts epilog\x1e\
+        prolog x: prepare finishi @puts epilog\x1e\
+        .data 8 d: .code prolog addi %r0 %r0 d epilog\x1e\
+        prolog allocai 65536 $x epilog";
 
 // Where a row's text begins, behind the byte 1F.
 fn text_place(row: &[u8]) -> usize
@@ -223,13 +225,28 @@ fn check(rt: &(impl AllocGlobal + Abort), words: &Vec<String>, row: &[u8]) -> Re
 #[test]
 fn refuses_texts(rt: HostRuntime) -> Result<(), Fail> {
     let mut words = Vec::new(rt.alloc());
-    for word in ["lightning", "--target", "x86_64", "t.tst"] {
+    for word in ["lightning", "t.tst"] {
         words.push(String::from_str(rt.alloc(), word)?)?;
     }
     for table in [ROWS, TOKENS, EXPRESSIONS, STATEMENTS, PLACES, CHECKS] {
         for row in table.split(|byte| *byte == 0x1e) {
             check(&rt, &words, row)?;
         }
+    }
+    Ok(())
+}
+
+// A text that is right has code, and its first step does not end it.
+#[test]
+fn takes_right_texts(rt: HostRuntime) -> Result<(), Fail> {
+    for text in RIGHT.split(|byte| *byte == 0x1e) {
+        row::check(
+            &rt,
+            &Row {
+                words: &["lightning", "--steps=1", "t.tst"],
+                ..plain(text, b"", b"lightning: steps out after 1\n", 125)
+            },
+        )?;
     }
     Ok(())
 }

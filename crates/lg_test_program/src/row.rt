@@ -43,6 +43,14 @@ pub fn on_aarch64<'a>(text: &'a [u8], out: &'a [u8], err: &'a [u8], status: u8) 
     }
 }
 
+/// The call on a text for x86-64, which is the target where none is named.
+pub fn on_x86_64<'a>(text: &'a [u8], out: &'a [u8], err: &'a [u8], status: u8) -> Row<'a> {
+    Row {
+        words: &["lightning", "t.tst"],
+        ..plain(text, out, err, status)
+    }
+}
+
 /// The same in the mode `mean`.
 pub fn meant<'a>(text: &'a [u8], out: &'a [u8], err: &'a [u8], status: u8) -> Row<'a> {
     Row {

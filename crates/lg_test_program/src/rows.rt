@@ -2,7 +2,7 @@
 
 ghost use Rattle.std.specs.Prelude.{◌≤◌, length};
 
-use crate::row::{Row, begins, check, meant, on_aarch64, plain};
+use crate::row::{Row, begins, check, meant, on_aarch64, on_x86_64, plain};
 use crate::texts::{first_letter, kept_registers, wrapped_sum};
 use std::process::Abort;
 use std::test::Fail;
@@ -19,10 +19,11 @@ const ROWS: &[u8] =
         .data 16 fmt: .c \"%ld %ld %ld\\n\" .code prolog prepare pushargi fmt ellipsis pushargi $(1 << 4 | 3) pushargi $(-7 / 2) pushargi $(0xffffffffffffffff) finishi @printf ret epilog\x1f19 -3 -1\n\x1e\
         .data 40 fmt: .c \"[%5d|%-5d|%05d|%hhd|%x|%c|%%]\\n\" .code prolog prepare pushargi fmt ellipsis pushargi 42 pushargi 42 pushargi -42 pushargi 300 pushargi 255 pushargi 65 finishi @printf ret epilog\x1f[   42|42   |-0042|44|ff|A|%]\n";
 
-// A text that writes this and ends with this status: on AArch64 and RV64 it does what it means.
+// A text that writes this and ends with this status: on each target it does what it means.
 fn ends(rt: &(impl AllocGlobal + Abort), text: &[u8], out: &[u8], status: u8) -> Result<(), Fail> {
     check(rt, &plain(text, out, b"", status))?;
     check(rt, &on_aarch64(text, out, b"", status))?;
+    check(rt, &on_x86_64(text, out, b"", status))?;
     check(rt, &meant(text, out, b"", status))
 }
 
@@ -96,7 +97,9 @@ fn nfibs(rt: HostRuntime) -> Result<(), Fail> {
         "t.tst",
         "10",
     ];
-    for words in [words, ["lightning", "--target", "aarch64", "t.tst", "10"]] {
+    let aarch64 = ["lightning", "--target", "aarch64", "t.tst", "10"];
+    let x86_64 = ["lightning", "--target", "x86_64", "t.tst", "10"];
+    for words in [words, aarch64, x86_64] {
         check(
             &rt,
             &Row {
@@ -120,7 +123,7 @@ const ARGUMENTS: &[u8] =
 
 #[test]
 fn arguments(rt: HostRuntime) -> Result<(), Fail> {
-    for target in ["riscv64", "aarch64"] {
+    for target in ["riscv64", "aarch64", "x86_64"] {
         let words = ["lightning", "--target", target, "t.tst", "a", "bc"];
         check(
             &rt,
@@ -137,7 +140,7 @@ fn arguments(rt: HostRuntime) -> Result<(), Fail> {
 fn endless_jump(rt: HostRuntime) -> Result<(), Fail> {
     let text = b".code prolog a: jmpi b b: jmpi a epilog";
     let err = b"lightning: steps out after 1000\n";
-    for target in ["riscv64", "aarch64"] {
+    for target in ["riscv64", "aarch64", "x86_64"] {
         for mode in ["run", "mean"] {
             let words = [
                 "lightning",

@@ -1,0 +1,12 @@
+pub mod CarriedLemmas
+pub mod ControlEmissions
+pub mod Emissions
+pub mod FinishedLemmas
+pub mod MemoryEmissions
+pub mod NodeFits
+pub mod NodeLemmas
+pub mod OperandLemmas
+pub mod PlaceLemmas
+pub mod SizeLemmas
+pub mod SmallLemmas
+pub mod ValueEmissions

@@ -1,0 +1,200 @@
+-- Each node is carried by its items.
+use Rattle.std.proofs.Common.{◌≡◌, ℕ, ◌+◌, ◌<◌, Bool, true, false, List, [], ◌∷◌, refl, sym, ap, subst, ◌∙◌, arith}
+use Rattle.std.specs.Prelude.{slice_get, slice_index}
+use Rattle.std.specs.List.{list_any}
+use Rattle.lg_base.specs.Layout.{code_base}
+use Rattle.lg_base.specs.declared.target.Target.TheVariants.{X86_64}
+use Rattle.lg_op.specs.Forms.{forms_of, admit}
+use Rattle.lg_op.specs.declared.node.Node.{Node}
+use Rattle.lg_op.specs.declared.op.Op.{Op}
+use Rattle.lg_op.specs.declared.op.Op.TheVariants as op
+use Rattle.lg_op.specs.declared.op.ControlOp.TheVariants as control
+use Rattle.lg_op.specs.declared.op.PlainOp.TheVariants as plain
+use Rattle.lg_op.specs.declared.op.LastOperand.{LastOperand}
+use Rattle.lg_op.specs.declared.op.LastOperand.TheVariants as last_operand
+use Rattle.lg_op.specs.declared.op.Addressing.{Addressing}
+use Rattle.lg_op.specs.declared.op.StoreType.{StoreType}
+use Rattle.lg_op.specs.declared.op.ValueType.{ValueType}
+use Rattle.lg_op.specs.declared.operand.Operand.{Operand}
+use Rattle.lg_op.specs.declared.operand.Operand.TheVariants as operand
+use Rattle.lg_op.specs.declared.operand.Reg.{Reg}
+use Rattle.lg_carry.specs.Carries.{leaps, leaps_at}
+use Rattle.lg_carry.specs.FinalNodes.{Code}
+use Rattle.lg_carry.specs.NodeCode.{numbered, CarriesNode}
+use Rattle.lg_node.specs.Preparations.{pushed}
+use Rattle.lg_carry_x86.specs.Places.{IsInCode}
+use Rattle.lg_carry.specs.Passages.{IsNodeCode}
+use Rattle.lg_carry_x86.specs.X86Rows.{x86_processor, x86_rows}
+use Rattle.lg_x86.specs.Spelling.{IsInstr}
+use Rattle.lg_x86.specs.declared.instruction.Instr.{Instr}
+use Rattle.lg_sel.proofs.CountLemmas.{count-is}
+use Rattle.lg_sel.proofs.FamilyLemmas.{HoldsOfFamilies, of-node}
+use Rattle.lg_sel.proofs.OperandLemmas.{has-words, leads_nowhere, unlabelled, no-labels, control-ends, loads-lead, stores-lead, operands-are}
+use Rattle.lg_sel.specs.Families.{is_value, staged_count}
+use Rattle.lg_sel_memory.specs.Operands.{is_label}
+use Rattle.lg_selx.specs.Items.{x86_families, node_items}
+use Rattle.lg_sel.specs.Selected.{IsFrame, is_pusharg, may_take_label, IsNodeOf}
+use Rattle.lg_selx.specs.Selected.{IsAsked}
+use Rattle.lg_sel.proofs.NodeFitLemmas.{few-staged}
+use Rattle.lg_meaning.specs.Steps.{operand_at}
+use Rattle.lg_selx.proofs.OperandLemmas.{are-given, are-numbers, are-unlabelled, are-words, are-control-words}
+use Rattle.lg_selx.proofs.PlaceLemmas.{control-items-at}
+use Rattle.lg_selx_control.specs.ControlFits.{AreEmitted}
+use Rattle.lg_selx_control.specs.ControlItems.{control_items, is_control}
+use Rattle.lg_selx_control.specs.ControlLaws.{ends_in_label}
+use Rattle.lg_selx_control.specs.Standing.{StandsInCode}
+use Rattle.lg_selx_control.proofs.ControlLemmas.{control-nodes-carry}
+use Rattle.lg_selx_control.proofs.FitLemmas.{control-items-fit}
+use Rattle.lg_selx_items.specs.declared.items.Item.{Item}
+use Rattle.lg_selx_items.specs.Items.{words_in, settled, ones}
+use Rattle.lg_selx_items.specs.GoodItems.{AreAppendable}
+use Rattle.lg_selx_items.specs.OfNodes.{AreOfNode}
+use Rattle.lg_selx_items.proofs.ItemLemmas.{settled-ones}
+use Rattle.lg_selx_items.proofs.NodeLemmas.{items-are-node-code, items-are-in-code}
+use Rattle.lg_selx_memory.specs.Accesses.{load_code, store_code}
+use Rattle.lg_selx_memory.specs.ArgumentCode.{argument_code}
+use Rattle.lg_selx_memory.specs.PushCode.{push_code}
+use Rattle.lg_selx_memory.proofs.FitLemmas.{memory-items-fit}
+use Rattle.lg_selx_memory.proofs.MemoryNodeLemmas.{memory-is-carried}
+use Rattle.lg_selx_values.specs.Needs.{value_needs}
+use Rattle.lg_selx_values.specs.ValueItems.{computes_value, value_items}
+use Rattle.lg_selx_values.specs.ValueLaws.{AreUnlabelled, takes_label}
+use Rattle.lg_selx_values.proofs.ValueFitLemmas.{value-items-fit}
+use Rattle.lg_selx_values.proofs.ValueNodeLemmas.{value-nodes-carry}
+use Rattle.lg_temp.specs.declared.choice.Choice.{Choice}
+use Rattle.lg_temp.specs.Choices.{AreFor}
+use Rattle.lg_temp.specs.Chosen.{around}
+use Rattle.lg_temp.proofs.ChoiceLemmas.{choices-are-for}
+use Rattle.lg_carry.specs.TextNodes.{IsInText}
+
+true-false : {A : Type 0} → true ≡ false → A
+true-false e = cc
+
+-- ---- a node of a text
+-- one that is no branch, jump, call or return need have no code
+falls : (c : Code) (i : ℕ) (n : Node) (items : List Item) → IsInText c i n → leaps n.op ≡ false → leaps_at (slice_get c.nodes.nodes i) ≡ true → 0 < words_in items
+falls c i n items t stays leaping = true-false (sym leaping ∙ (ap leaps_at t.here ∙ stays))
+
+-- its instructions, none of which names a label, are a block of it
+plain-code : (code : List ℕ) (trash : ℕ) (c : Code) (i : ℕ) (n : Node) (is : List Instr) → IsInText c i n → leaps n.op ≡ false → AreAppendable (ones is) → AreOfNode code trash c i (ones is) → IsInCode code trash c i is
+plain-code code trash c i n is t stays fit a =
+    let to : ℕ → ℕ = slice_index c.addresses in
+    subst (IsInCode code trash c i) (settled-ones to (c.place i) is) (items-are-in-code code trash c i (ones is) a (falls c i n (ones is) t stays) (fit.block to (c.place i)))
+
+-- what is known of a node, of which the code begins at a place of the buffer
+pub record IsKnown (c : Code) (i : ℕ) (n : Node) (frame : ℕ) (live : Reg → Bool) (staged : List Bool) (choices : List Choice) (labels place : ℕ) : Type 0 where
+  pub node : IsNodeOf 1 n frame staged c i
+  pub asked : IsAsked n live staged choices labels
+  pub address : c.place i ≡ code_base + place
+
+-- the nodes that compute values are those of the family, and go on behind them
+value-computes : (o : Op) → is_value o ≡ true → computes_value o ≡ true
+value-computes (op.Binary o last) is = refl
+value-computes (op.Wide o last) is = refl
+value-computes (op.Unary o) is = refl
+value-computes (op.Plain plain.Movi) is = refl
+value-computes o is = cc
+
+value-stays : (o : Op) → is_value o ≡ true → leaps o ≡ false
+value-stays (op.Binary o last) is = refl
+value-stays (op.Wide o last) is = refl
+value-stays (op.Unary o) is = refl
+value-stays (op.Plain plain.Movi) is = refl
+value-stays o is = cc
+
+-- where one takes no label, no operand may be one
+value-may : (o : Op) → is_value o ≡ true → takes_label o ≡ false → may_take_label o ≡ false
+value-may (op.Binary o last) is t = refl
+value-may (op.Wide o last) is t = refl
+value-may (op.Unary o) is t = refl
+value-may (op.Plain plain.Movi) is t = true-false t
+value-may o is t = cc
+
+value-leads : (o : Op) → is_value o ≡ true → takes_label o ≡ false → leads_nowhere (forms_of o) ≡ true
+value-leads (op.Binary o last_operand.Register) is t = refl
+value-leads (op.Binary o last_operand.Immediate) is t = refl
+value-leads (op.Wide o last_operand.Register) is t = refl
+value-leads (op.Wide o last_operand.Immediate) is t = refl
+value-leads (op.Unary o) is t = refl
+value-leads (op.Plain plain.Movi) is t = true-false t
+value-leads o is t = cc
+
+module _ (code : List ℕ) (trash : ℕ) (c : Code) (i frame : ℕ) (sized : IsFrame frame) (live : Reg → Bool) (staged : List Bool) (choices : List Choice) (labels place : ℕ) where
+  abbrev Carries : Node → List Item → Type 0
+  Carries n items = IsKnown c i n frame live staged choices labels place → AreOfNode code trash c i items → CarriesNode (x86_processor code trash) c i n (numbered live)
+
+  -- a frame is a number of 31 bits
+  small : frame < 0x40000000
+  small = let h = sized.high in omega (arith, h)
+
+  none-labels : (n : Node) (o : Op) → n.op ≡ o → may_take_label o ≡ false → leads_nowhere (forms_of o) ≡ true → IsKnown c i n frame live staged choices labels place → list_any is_label n.operands ≡ false
+  none-labels n o e may leads k =
+      no-labels (forms_of n.op) n.operands (ap (λ q. leads_nowhere (forms_of q)) e ∙ leads) (operands-are c i n k.node.text) (unlabelled n (ap may_take_label e ∙ may) k.asked.takes)
+
+  -- a value that takes no label has none
+  no-value-labels : (n : Node) → may_take_label n.op ≡ false → leads_nowhere (forms_of n.op) ≡ true → IsKnown c i n frame live staged choices labels place → AreUnlabelled n.operands
+  no-value-labels n may leads k = are-unlabelled n.operands (none-labels n n.op refl may leads k)
+
+  values : (n : Node) → computes_value n.op ≡ true → leaps n.op ≡ false → (takes_label n.op ≡ false → may_take_label n.op ≡ false) → (takes_label n.op ≡ false → leads_nowhere (forms_of n.op) ≡ true) → Carries n (value_items frame n choices)
+  values n computes stays may leads k a =
+      let set = k.asked.chosen.set in
+      let are : AreFor (around X86_64 n live set) (value_needs n.op) [] (value_needs n.op) choices = choices-are-for (around X86_64 n live set) (value_needs n.op) choices k.asked.chosen.chosen in
+      let fit = value-items-fit frame n live set choices sized.low sized.high (are-numbers n.operands k.asked.words) are in
+      value-nodes-carry code trash c i frame n live set choices computes (are-words c.addresses k.node.low n.operands k.asked.words) (λ t. no-value-labels n (may t) (leads t) k) are (λ j below. k.asked.chosen.holds j (k.node.pushed_are j below)) k.node.text
+      k.node.frame_is (items-are-in-code code trash c i (value_items frame n choices) a (falls c i n (value_items frame n choices) k.node.text stays) (fit.block (slice_index c.addresses) (c.place i)))
+
+  loads : (n : Node) (t : ValueType) (at : Addressing) → n.op ≡ op.Load t at → Carries n (ones (load_code frame t at n))
+  loads n t at e k a =
+      let words = has-words n k.asked.words in
+      (memory-is-carried code trash a.small a.bytes a.word).loads c i n t at frame (numbered live) e (none-labels n (op.Load t at) e refl (loads-lead at) k) words k.node.text k.node.frame_is
+      (plain-code code trash c i n (load_code frame t at n) k.node.text (ap leaps e) (memory-items-fit.loads frame t at n small words).appendable a).block
+
+  stores : (n : Node) (t : StoreType) (at : Addressing) → n.op ≡ op.Store t at → Carries n (ones (store_code frame t at n))
+  stores n t at e k a =
+      let words = has-words n k.asked.words in
+      (memory-is-carried code trash a.small a.bytes a.word).stores c i n t at frame (numbered live) e (none-labels n (op.Store t at) e refl (stores-lead at) k) words k.node.text k.node.frame_is
+      (plain-code code trash c i n (store_code frame t at n) k.node.text (ap leaps e) (memory-items-fit.stores frame t at n small words).appendable a).block
+
+  arguments : (n : Node) (t : ValueType) → n.op ≡ op.Getarg t → Carries n (ones (argument_code frame t n))
+  arguments n t e k a =
+      (memory-is-carried code trash a.small a.bytes a.word).arguments c i n t frame (numbered live) e k.node.text k.node.frame_is
+      (plain-code code trash c i n (argument_code frame t n) k.node.text (ap leaps e) (memory-items-fit.arguments frame t n small).appendable a).block
+
+  pushes : (n : Node) (last : LastOperand) → n.op ≡ op.Control control.Pusharg last → Carries n (push_code frame (staged_count staged) n)
+  pushes n last e k a =
+      let j = staged_count staged in
+      let to : ℕ → ℕ = slice_index c.addresses in
+      let fit = memory-items-fit.pushes frame j n small (few-staged n live staged choices labels last k.asked e) (has-words n k.asked.words 0) in
+      let stands = items-are-in-code code trash c i (push_code frame j n) a (falls c i n (push_code frame j n) k.node.text (ap leaps e)) (fit.appendable.block to (c.place i)) in
+      (memory-is-carried code trash a.small a.bytes a.word).pushes c i n last frame (numbered live) e (has-words n k.asked.words) k.node.names k.node.text k.node.frame_is
+      (subst (λ m. IsInCode code trash c i (settled to (c.place i) (push_code frame m n))) (count-is (pushed c.nodes.nodes i) staged (k.node.exact (ap is_pusharg e))) stands).block
+
+  controls : (n : Node) → is_control n.op ≡ true → Carries n (control_items n.op n.operands frame place)
+  controls n is k a =
+      let ends : ends_in_label n.operands ≡ false = control-ends n is (operands-are c i n k.node.text) k.asked.takes in
+      let to : ℕ → ℕ = slice_index c.addresses in
+      let items = control_items n.op n.operands frame place in
+      let fit : AreEmitted labels (leaps n.op) items = control-items-fit n labels frame place small is (k.node.text.formed n k.node.text.here) (are-given labels n.operands k.asked.named k.asked.words) ends in
+      let stands : StandsInCode code trash c i (settled to (c.place i) items) = record {
+        small = a.small;
+        bytes = a.bytes;
+        word = a.word;
+        node = items-are-node-code code trash c i items a (λ leaping. fit.some (sym (ap leaps_at k.node.text.here) ∙ leaping));
+      } in
+      let same : items ≡ control_items n.op n.operands frame (c.place i) = sym (control-items-at n.op n.operands frame place (operands-are c i n k.node.text)) ∙ ap (control_items n.op n.operands frame) (sym k.address) in
+      control-nodes-carry code trash c i n frame (numbered live) is k.node.places (are-control-words c.addresses k.node.low n.operands k.asked.words) ends k.node.frame_is k.node.text
+      (subst (λ l. StandsInCode code trash c i (settled to (c.place i) l)) same stands)
+
+  families : HoldsOfFamilies x86_families Carries frame choices staged place
+  families = record {
+    values = λ n is. values n (value-computes n.op is) (value-stays n.op is) (value-may n.op is) (value-leads n.op is);
+    loads = loads;
+    stores = stores;
+    arguments = arguments;
+    results = λ n t e. values n (ap computes_value e) (ap leaps e) (λ no. ap may_take_label e) (λ no. ap (λ o. leads_nowhere (forms_of o)) e);
+    pushes = pushes;
+    controls = controls;
+  }
+
+  pub items-carry : (n : Node) → Carries n (node_items n frame choices staged place)
+  items-carry = of-node x86_families Carries frame choices staged place families

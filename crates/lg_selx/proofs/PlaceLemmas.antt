@@ -1,0 +1,24 @@
+-- The code of a node is the same at a place of the buffer and at its address.
+use Rattle.std.proofs.Common.{◌≡◌, ℕ, ◌+◌, ◌-◌, ◌%◌, true, List, [], ◌∷◌, refl, ap}
+use Rattle.lg_base.specs.Layout.{code_base}
+use Rattle.lg_op.specs.Forms.{is_alignment, admit, forms_of}
+use Rattle.lg_op.specs.declared.op.Op.{Op}
+use Rattle.lg_op.specs.declared.op.Op.TheVariants as op
+use Rattle.lg_op.specs.declared.op.PlainOp.TheVariants as plain
+use Rattle.lg_op.specs.declared.operand.Operand.{Operand}
+use Rattle.lg_op.specs.declared.operand.Operand.TheVariants as operand
+use Rattle.lg_sel.proofs.PlaceLemmas.{remainder, and-first}
+use Rattle.lg_selx_control.specs.Alignments.{padding, idle}
+use Rattle.lg_selx_control.specs.ControlItems.{align_items, control_items}
+use Rattle.lg_selx_items.specs.Items.{ones}
+
+same-padding : (p n : ℕ) → is_alignment n ≡ true → padding (code_base + p) n ≡ padding p n
+same-padding p n h = ap (λ (r : ℕ). (n - r) % n) (remainder p n h)
+
+align-at : (p : ℕ) (xs : List Operand) → admit (forms_of (op.Plain plain.Align)) xs ≡ true → align_items (code_base + p) xs ≡ align_items p xs
+align-at p (operand.Number n ∷ []) a = ap (λ k. ones (idle k)) (same-padding p n (and-first (is_alignment n) true a))
+align-at p xs a = refl
+
+pub control-items-at : (o : Op) (xs : List Operand) (frame p : ℕ) → admit (forms_of o) xs ≡ true → control_items o xs frame (code_base + p) ≡ control_items o xs frame p
+control-items-at (op.Plain plain.Align) xs frame p a = align-at p xs a
+control-items-at o xs frame p a = refl

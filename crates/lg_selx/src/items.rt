@@ -1,0 +1,49 @@
+// The items of a node.
+
+ghost use Rattle.std.specs.Prelude.{◌≡◌, ◌<◌, ◌≤◌, [], true, length};
+ghost use Rattle.lg_op.specs.Nodes.{InForm};
+ghost use Rattle.lg_selx.specs.Items.{node_items};
+ghost use Rattle.lg_sel.specs.Selected.{IsFrame, AreFirst, is_pusharg};
+ghost use Rattle.lg_selx_values.specs.ValueItems.{HaveSlots};
+
+use lg_op::{ControlOp, Node, Op, PlainOp};
+use lg_sel::operands::staged_count;
+use lg_sel_items::Items;
+use lg_selx_control::put_control;
+use lg_selx_items::Item;
+use lg_selx_memory::{put_argument, put_getarg, put_load, put_store};
+use lg_selx_values::value_items;
+use lg_temp::choice::{Choices, Staged};
+
+// Appends the items of a node to none. Its code begins at a place of the buffer.
+pub(crate) fn put_items(
+    node: &Node,
+    frame: u32,
+    choices: &Choices,
+    staged: &Staged,
+    place: u32,
+    items: &mut Items<Item>,
+)
+    requires formed { InForm node.now }
+    requires frame { IsFrame frame }
+    requires few { length choices.now ≤ 2 }
+    requires slots { HaveSlots choices.now }
+    requires staged { is_pusharg node.now.op ≡ true → AreFirst staged.now.arguments }
+    requires empty { items.old ≡ [] }
+    ensures { items.new ≡ node_items node.now frame choices.now staged.now.arguments place }
+{
+    match node.op {
+        Op::Binary(_, _)
+        | Op::Wide(_, _)
+        | Op::Unary(_)
+        | Op::Plain(PlainOp::Movi)
+        | Op::Retval(_) => value_items(node, frame, choices, items),
+        Op::Load(t, at) => put_load(frame, t, at, node, items),
+        Op::Store(t, at) => put_store(frame, t, at, node, items),
+        Op::Getarg(t) => put_getarg(t, node, items),
+        Op::Control(ControlOp::Pusharg, _) => {
+            put_argument(frame, staged_count(staged), node, items)
+        }
+        _ => put_control(node, frame, place, items),
+    }
+}

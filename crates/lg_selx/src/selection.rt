@@ -1,0 +1,67 @@
+// The code of a node into a buffer.
+
+ghost use Rattle.std.specs.Prelude.{◌≡◌, ◌+◌, ◌%◌, ◌<◌, ◌≤◌, ◌++◌, true, false, drop, length, IsTrue};
+ghost use Rattle.std.specs.List.{All};
+ghost use Rattle.lg_node.specs.Functions.{is_prolog};
+ghost use Rattle.lg_sel.specs.Asked.{NameBelow};
+ghost use Rattle.lg_op.specs.Nodes.{InForm};
+ghost use Rattle.lg_live.specs.RegSets.{has};
+ghost use Rattle.lg_sel.specs.Selected.{IsFrame, AreFirst, is_pusharg, TakesLabelsWell, IsAligned, IsFixOf};
+ghost use Rattle.lg_sel.specs.Promises.{IsCarriedWhenFinished, AreInstructionsWhenFinished, IsSparingWhenFinished};
+ghost use Rattle.lg_selx.specs.Selected.{AreChosen};
+ghost use Rattle.lg_base.specs.declared.target.Target.{Target};
+
+use crate::items::put_items;
+use lg_buf::CodeBuf;
+use lg_live::reg_set::RegSet;
+use lg_op::Node;
+use lg_sel::operands::see_numbers;
+use lg_sel_items::{Items, append};
+use lg_temp::choice::{Choices, Staged};
+
+/// Appends the code of a node to a buffer, or answers false and changes nothing, which it does only where fewer than 256 bytes are free.
+///
+/// `frame` is the size of the frame of the node's function in bytes, a multiple of 16 from 272 to 65,808. The choices are those of
+/// `choose` for `needs` of the node, `live_after`, and a set of arguments that holds `staged`. At a `pushargr` or `pushargi` `staged` holds
+/// the arguments that were pushed before it, of which there are fewer than 16. The node has the operands of its operation; it names code
+/// labels of the buffer, and one in the place of an immediate only at `movi`, `pushargi` and `reti`. There is room for a fix.
+///
+/// Behind an `.align` the place is a multiple of its number, and a `prolog` has bytes. Each new fix lies behind what the buffer held, names a label
+/// of the node, and reaches every place within 1 MiB. Once the fixes of the buffer are patched, the code is whole instructions, and carries
+/// the node where the registers of `live_after` are live behind it: no step of it but one of a host function changes a register that is outside of
+/// the conventions. It has one store for each choice that saves a register, and one more at stores, `pushargr` and `pushargi`; that of a `prolog` may
+/// have more.
+#[must_use]
+pub fn select(
+    node: &Node,
+    frame: u32,
+    choices: &Choices,
+    live_after: RegSet,
+    staged: Staged,
+    buf: &mut CodeBuf,
+) -> bool
+    requires formed { InForm node.now }
+    requires frame { IsFrame frame }
+    requires choices { AreChosen node.now (has live_after) staged.arguments choices.now }
+    requires staged { is_pusharg node.now.op ≡ true → AreFirst staged.arguments }
+    requires labels { NameBelow (length buf.old.labels) node.now.operands }
+    requires immediates { TakesLabelsWell node.now }
+    requires room { 0 < buf.old.room }
+    ensures refused { result ≡ false → (buf.new ≡ buf.old) × (buf.old.size < length buf.old.bytes + 256) }
+    ensures bytes { IsTrue result → buf.new.bytes ≡ buf.old.bytes ++ drop (length buf.old.bytes) buf.new.bytes }
+    ensures short { length buf.new.bytes ≤ length buf.old.bytes + 256 }
+    ensures fixes { IsTrue result → buf.new.fixes ≡ buf.old.fixes ++ drop (length buf.old.fixes) buf.new.fixes }
+    ensures one_fix { buf.old.room ≤ buf.new.room + 1 }
+    ensures others { buf.new ≡ record buf.old { bytes = buf.new.bytes; fixes = buf.new.fixes; room = buf.new.room } }
+    ensures aligned { IsTrue result → IsAligned node.now (length buf.new.bytes) }
+    ensures begins { IsTrue result → is_prolog node.now.op ≡ true → length buf.old.bytes < length buf.new.bytes }
+    ensures lead { IsTrue result → All (IsFixOf 1 (length buf.old.bytes) node.now) (drop (length buf.old.fixes) buf.new.fixes) }
+    ensures instructions { IsTrue result → AreInstructionsWhenFinished Target.X86_64 buf.old buf.new }
+    ensures sparing { IsTrue result → IsSparingWhenFinished Target.X86_64 node.now choices.now buf.old buf.new }
+    ensures carries { IsTrue result → IsCarriedWhenFinished Target.X86_64 node.now frame (has live_after) staged.arguments buf.old buf.new }
+{
+    see_numbers(node.operands.as_slice());
+    let mut items = Items::new(buf.allocator());
+    put_items(node, frame, choices, &staged, buf.here(), &mut items);
+    append(&items, buf)
+}

@@ -1,0 +1,289 @@
+-- The items of loads, stores and arguments: their numbers are in the ranges of their instructions, there are few, and each is followed by the next.
+use Rattle.std.proofs.Common.{◌≡◌, ◌≢◌, ℕ, zero, suc, ◌+◌, ◌-◌, ◌*◌, ◌^◌, ◌<◌, ◌≤◌, Bool, true, false, List, [], ◌∷◌, ◌++◌, length, refl, ap, arith, length-append}
+use Rattle.std.specs.Prelude.{◌==◌, ◌||◌, nat_lt, slice_index, if◌then◌else◌, ℤ, pos, negsuc}
+use Rattle.std.proofs.lemmas.Int.{ints}
+use Rattle.lg_base.specs.Conventions.{argument_registers}
+use Rattle.lg_base.specs.HostNames.{host_address}
+use Rattle.lg_base.specs.Words.{signed_view}
+use Rattle.lg_base.specs.declared.target.Target.TheVariants.{X86_64}
+use Rattle.lg_op.specs.declared.node.Node.{Node}
+use Rattle.lg_op.specs.declared.op.Addressing.{Addressing}
+use Rattle.lg_op.specs.declared.op.Addressing.TheVariants as addressing
+use Rattle.lg_op.specs.declared.op.StoreType.{StoreType}
+use Rattle.lg_op.specs.declared.op.StoreType.TheVariants as store_type
+use Rattle.lg_op.specs.declared.op.ValueType.{ValueType}
+use Rattle.lg_op.specs.declared.operand.Operand.{Operand}
+use Rattle.lg_op.specs.declared.operand.Operand.TheVariants as operand
+use Rattle.lg_x86.specs.Spelling.{IsNumber32}
+use Rattle.lg_x86.specs.declared.instruction.Instr.{Instr}
+use Rattle.lg_x86.specs.declared.instruction.Instr.TheVariants as instr
+use Rattle.lg_x86.specs.declared.instruction.RmRegOp.TheVariants.{Mov}
+use Rattle.lg_x86.specs.declared.instruction.StoreOp.TheVariants.{St64}
+use Rattle.lg_meaning.specs.Steps.{operand_at, stored_operand, slot}
+use Rattle.lg_temp.specs.Abis.{register_of}
+use Rattle.lg_carry_x86.specs.Numbers.{is_half, number_row}
+use Rattle.lg_carry_x86.proofs.NumberCodeLemmas.{half-number}
+use Rattle.lg_sel_items.specs.Holes.{Each}
+use Rattle.lg_sel_memory.specs.Accesses.{Address, Base, At, Sum, Index, address_of, IsAddress}
+use Rattle.lg_sel_memory.specs.Operands.{named, number}
+use Rattle.lg_sel_memory.proofs.ReadLemmas.{host-small}
+use Rattle.lg_selx_items.specs.declared.items.Item.{Item}
+use Rattle.lg_selx_items.specs.GoodItems.{Fine, IsGood, AreGood, IsGoodItem}
+use Rattle.lg_selx_items.specs.Items.{blanks, words_in, fixes_of, ones}
+use Rattle.lg_selx_items.proofs.GoodLemmas.{good-append, number-good, ones-good, items-good, good-items-are-appendable}
+use Rattle.lg_selx_items.proofs.ItemLemmas.{words_append, fixes-append, words-ones, fixes-ones}
+use Rattle.lg_selx_items.proofs.WithinLemmas.{portable}
+use Rattle.lg_selx_values.specs.Scratch.{again}
+use Rattle.lg_selx_values.proofs.RegisterLemmas.{register-portable}
+use Rattle.lg_selx_control.specs.Branches.{lowered}
+use Rattle.lg_selx_memory.specs.Accesses.{register, load_row, store_row, Place, at_register, at_spare, indexed, place_of, remade, behind, indexes, load_spare, store_spare, load_into, store_from, load_code, store_code}
+use Rattle.lg_selx_memory.specs.ArgumentCode.{argument_offset, argument_load, argument_code}
+use Rattle.lg_selx_memory.specs.MemoryFits.{AreMemoryItems, MemoryItemsFit}
+use Rattle.lg_selx_memory.specs.PushCode.{into, stack_push, onto_stack, push_code}
+
+register-fine : (x : Operand) → Fine (register x)
+register-fine x = ((register-portable (named x)).small, portable (named x))
+
+-- ---- numbers of 32 bits
+near-number : (n : ℕ) → n < 0x40000000 → IsNumber32 (pos n)
+near-number n h = (grind (arith, ints, h), grind (arith, ints, h))
+
+low-number : (n : ℕ) → n < 0x40000000 → IsNumber32 (negsuc n)
+low-number n h = (grind (arith, ints, h), grind (arith, ints, h))
+
+-- ---- spare registers
+load-spare-fine : (d : ℕ) (at : Address) → Fine d → Fine (load_spare d at)
+load-spare-fine d at h = by (indexes d at)
+  where
+    by : (b : Bool) → Fine (if b then 5 else d)
+    by true = (omega arith, refl)
+    by false = h
+
+store-spare-fine : (from : ℕ) (at : Address) → Fine (store_spare from at)
+store-spare-fine from at = by (indexes 5 at || (from == 5))
+  where
+    by : (b : Bool) → Fine (if b then 4 else 5)
+    by true = (omega arith, refl)
+    by false = (omega arith, refl)
+
+-- good instructions, of which there are at most so many
+record IsFitCode (most : ℕ) (is : List Instr) : Type 0 where
+  good : AreGood is
+  few : length is ≤ most
+
+again-good : (frame : ℕ) → frame < 0x40000000 → IsFitCode 1 (again frame)
+again-good frame h = record { good = (((omega arith, omega arith, near-number (frame - 16) (omega (arith, h))), (refl, tt), refl), tt); few = omega arith }
+
+lowered-good : (frame : ℕ) → frame < 0x40000000 → IsFitCode 1 (lowered frame)
+lowered-good frame h = record { good = (((omega arith, omega arith, low-number (frame - 17) (omega (arith, h))), (refl, tt), refl), tt); few = omega arith }
+
+remade-good : (frame t : ℕ) → frame < 0x40000000 → IsFitCode 1 (remade frame t)
+remade-good frame t h = by (t == 4) (t == 5)
+  where
+    by : (b c : Bool) → IsFitCode 1 (if b then lowered frame else if c then again frame else [])
+    by true c = lowered-good frame h
+    by false true = again-good frame h
+    by false false = record { good = tt; few = omega arith }
+
+-- ---- places
+record IsGoodPlace (p : Place) : Type 0 where
+  code : AreGood p.code
+  few : length p.code ≤ 2
+  base : p.base < 16
+  disp : IsNumber32 p.disp
+
+at-register-good : (r : ℕ) (disp : ℤ) → r < 16 → IsNumber32 disp → IsGoodPlace (at_register r disp)
+at-register-good r disp lt h = record { code = tt; few = omega arith; base = lt; disp = h }
+
+at-spare-good : (t : ℕ) (is : List Instr) → Fine t → AreGood is → length is ≤ 2 → IsGoodPlace (at_spare t is)
+at-spare-good t is fine h few = record { code = h; few = few; base = fine.0; disp = near-number 0 (omega arith) }
+
+indexed-good : (t a v : ℕ) → Fine t → a < 16 → a ≢ 4 → v < 2 ^ 64 → IsGoodPlace (indexed t a v)
+indexed-good t a v fine la off small = by (is_half v) refl
+  where
+    by : (b : Bool) → is_half v ≡ b → IsGoodPlace (if b then at_register a (signed_view v) else at_spare t (number_row t v ∷ (instr.Lea2 t t a ∷ [])))
+    by true e = at-register-good a (signed_view v) la (half-number v small e)
+    by false e =
+        at-spare-good t (number_row t v ∷ (instr.Lea2 t t a ∷ [])) fine
+        (number-good t v fine small, (((fine.0, fine.0, la, off), (fine.1, tt), refl), tt)) (omega arith)
+
+place-good : (t : ℕ) (at : Address) → Fine t → IsAddress at → IsGoodPlace (place_of t at)
+place-good t (Base a) fine ok = at-register-good (register_of X86_64 a) (pos 0) (register-portable a).small (near-number 0 (omega arith))
+place-good t (At v) fine ok = at-spare-good t (number_row t v ∷ []) fine (number-good t v fine ok, tt) (omega arith)
+place-good t (Sum a b) fine ok =
+    at-spare-good t (instr.Lea2 t (register_of X86_64 a) (register_of X86_64 b) ∷ []) fine
+    (((fine.0, (register-portable a).small, (register-portable b).small, (register-portable b).no_stack), (fine.1, tt), refl), tt) (omega arith)
+place-good t (Index a v) fine ok = indexed-good t (register_of X86_64 a) v fine (register-portable a).small (register-portable a).no_stack ok
+
+-- ---- addresses of nodes
+number-word : (x : Operand) → ((v : ℕ) → x ≡ operand.Number v → v < 2 ^ 64) → number x < 2 ^ 64
+number-word (operand.Number v) h = h v refl
+number-word (operand.Host name) h = host-small name
+number-word (operand.Reg r) h = omega arith
+number-word (operand.Label l) h = omega arith
+number-word (operand.Slot k) h = omega arith
+
+address-fine : (at : Addressing) (x y : Operand) → ((v : ℕ) → x ≡ operand.Number v → v < 2 ^ 64) → ((v : ℕ) → y ≡ operand.Number v → v < 2 ^ 64)
+    → IsAddress (address_of at x y)
+address-fine addressing.Register x y h k = tt
+address-fine addressing.Immediate x y h k = number-word x h
+address-fine addressing.RegisterRegister x y h k = tt
+address-fine addressing.RegisterImmediate (operand.Reg r) y h k = number-word y k
+address-fine addressing.RegisterImmediate (operand.Number v) y h k = number-word (operand.Number v) h
+address-fine addressing.RegisterImmediate (operand.Host name) y h k = number-word (operand.Host name) h
+address-fine addressing.RegisterImmediate (operand.Label l) y h k = number-word (operand.Label l) h
+address-fine addressing.RegisterImmediate (operand.Slot s) y h k = number-word (operand.Slot s) h
+
+-- ---- rows
+load-row-good : (t : ValueType) (rd base : ℕ) (disp : ℤ) → Fine rd → base < 16 → IsNumber32 disp → IsGood (instr.Load (load_row t) rd base disp)
+load-row-good t rd base disp h b d = ((h.0, b, d), (h.1, tt), refl)
+
+store-row-good : (t : StoreType) (base : ℕ) (disp : ℤ) (from : ℕ) → base < 16 → IsNumber32 disp → from < 16 → IsGood (instr.Store (store_row t) base disp from)
+store-row-good t base disp from b d h = ((b, d, h), tt, refl)
+
+-- ---- the code of nodes
+behind-good : (frame : ℕ) (p : Place) → frame < 0x40000000 → IsFitCode 1 (behind frame p)
+behind-good frame p h = by p.spare
+  where
+    by : (b : Bool) → IsFitCode 1 (if b then remade frame p.base else [])
+    by true = remade-good frame p.base h
+    by false = record { good = tt; few = omega arith }
+
+around-place : (frame : ℕ) (p : Place) (i : Instr) → frame < 0x40000000 → IsGoodPlace p → IsGood i → IsFitCode 4 (p.code ++ i ∷ behind frame p)
+around-place frame p i lt g h =
+    let b = behind-good frame p lt in
+    let l = length-append p.code (i ∷ behind frame p) in
+    let k = g.few in
+    let f = b.few in record { good = good-append p.code (i ∷ behind frame p) g.code (h, b.good); few = omega (arith, l, k, f) }
+
+load-fits : (frame : ℕ) (t : ValueType) (d : ℕ) (at : Address) → frame < 0x40000000 → Fine d → IsAddress at → IsFitCode 4 (load_into frame t d at)
+load-fits frame t d at lt fine ok =
+    let p = place_of (load_spare d at) at in
+    let g = place-good (load_spare d at) at (load-spare-fine d at fine) ok in
+    around-place frame p (instr.Load (load_row t) d p.base p.disp) lt g (load-row-good t d p.base p.disp fine g.base g.disp)
+
+store-fits : (frame : ℕ) (t : StoreType) (from : ℕ) (at : Address) → frame < 0x40000000 → from < 16 → IsAddress at → IsFitCode 4 (store_from frame t from at)
+store-fits frame t from at lt few ok =
+    let p = place_of (store_spare from at) at in
+    let g = place-good (store_spare from at) at (store-spare-fine from at) ok in
+    around-place frame p (instr.Store (store_row t) p.base p.disp from) lt g (store-row-good t p.base p.disp from g.base g.disp few)
+
+offset-number : (k : ℕ) → k < 16 → IsNumber32 (argument_offset k)
+offset-number k few = by (nat_lt k 6)
+  where
+    by : (b : Bool) → IsNumber32 (if b then negsuc (31 + 8 * k) else pos (16 + 8 * (k - 6)))
+    by true = low-number (31 + 8 * k) (omega (arith, few))
+    by false = near-number (16 + 8 * (k - 6)) (omega (arith, few))
+
+argument-fits : (frame : ℕ) (t : ValueType) (n : Node) → IsFitCode 1 (argument_code frame t n)
+argument-fits frame t n = by (nat_lt (slot (operand_at n 1)) 16) refl
+  where
+    by : (b : Bool) → nat_lt (slot (operand_at n 1)) 16 ≡ b → IsFitCode 1 (if b then argument_load t (register (operand_at n 0)) (slot (operand_at n 1)) else [])
+    by true e =
+        let k = slot (operand_at n 1) in
+        record {
+          good = (load-row-good t (register (operand_at n 0)) 5 (argument_offset k) (register-fine (operand_at n 0)) (omega arith) (offset-number k (grind (arith, e))), tt);
+          few = omega arith;
+        }
+    by false e = record { good = tt; few = omega arith }
+
+-- ---- items
+-- good ones, of which there are at most so many instructions and so many fixes
+record AreFit (most fixes : ℕ) (xs : List Item) : Type 0 where
+  good : Each IsGoodItem xs
+  short : words_in xs ≤ most
+  fixed : (p : ℕ) → length (fixes_of p xs) ≤ fixes
+
+code-fit : (most : ℕ) (is : List Instr) → IsFitCode most is → AreFit most 0 (ones is)
+code-fit most is h = record {
+  good = ones-good is h.good;
+  short = let w = words-ones is in let f = h.few in omega (arith, w, f);
+  fixed = λ p. let e = ap length (fixes-ones p is) in omega (arith, e);
+}
+
+joined : (m n f g : ℕ) (xs ys : List Item) → AreFit m f xs → AreFit n g ys → AreFit (m + n) (f + g) (xs ++ ys)
+joined m n f g xs ys a b = record {
+  good = items-good xs ys a.good b.good;
+  short = let w = words_append xs ys in let s = a.short in let t = b.short in omega (arith, w, s, t);
+  fixed = λ p.
+      let e = ap length (fixes-append p xs ys) in
+      let l = length-append (fixes_of p xs) (fixes_of (p + length (blanks xs)) ys) in
+      let s = a.fixed p in let t = b.fixed (p + length (blanks xs)) in omega (arith, e, l, s, t);
+}
+
+fewer : (m n f g : ℕ) (xs : List Item) → m ≤ n → f ≤ g → AreFit m f xs → AreFit n g xs
+fewer m n f g xs l k a = record { good = a.good; short = let s = a.short in omega (arith, l, s); fixed = λ p. let s = a.fixed p in omega (arith, k, s) }
+
+number-fit : (rd v : ℕ) → Fine rd → v < 2 ^ 64 → AreFit 1 1 (ones (number_row rd v ∷ []))
+number-fit rd v h small =
+    fewer 1 1 0 1 (ones (number_row rd v ∷ [])) (omega arith) (omega arith)
+    (code-fit 1 (number_row rd v ∷ []) record { good = (number-good rd v h small, tt); few = omega arith })
+
+into-fit : (rd : ℕ) (x : Operand) → Fine rd → ((v : ℕ) → x ≡ operand.Number v → v < 2 ^ 64) → AreFit 1 1 (into rd x)
+into-fit rd (operand.Reg r) h words =
+    let i = instr.RmReg Mov rd (register_of X86_64 r) in
+    fewer 1 1 0 1 (ones (i ∷ [])) (omega arith) (omega arith)
+    (code-fit 1 (i ∷ []) record { good = (((h.0, (register-portable r).small), (h.1, tt), refl), tt); few = omega arith })
+into-fit rd (operand.Number v) h words = number-fit rd v h (words v refl)
+into-fit rd (operand.Host name) h words = number-fit rd (host_address name) h (host-small name)
+into-fit rd (operand.Label l) h words = record { good = (h, tt); short = omega arith; fixed = λ p. omega arith }
+into-fit rd (operand.Slot k) h words = record { good = tt; short = omega arith; fixed = λ p. omega arith }
+
+push-good : (j r : ℕ) → j < 16 → r < 16 → IsGood (instr.Store St64 4 (pos (8 * (j - 6))) r)
+push-good j r few lt = store-row-good store_type.Long 4 (pos (8 * (j - 6))) r (omega arith) (near-number (8 * (j - 6)) (omega (arith, few))) lt
+
+through-fit : (frame j : ℕ) (x : Operand) → frame < 0x40000000 → j < 16 → ((v : ℕ) → x ≡ operand.Number v → v < 2 ^ 64)
+    → AreFit 3 1 (into 5 x ++ stack_push j 5 ∷ ones (again frame))
+through-fit frame j x lt few words =
+    joined 1 2 1 0 (into 5 x) (stack_push j 5 ∷ ones (again frame)) (into-fit 5 x (omega arith, refl) words)
+    (code-fit 2 (instr.Store St64 4 (pos (8 * (j - 6))) 5 ∷ again frame)
+    record { good = (push-good j 5 few (omega arith), (again-good frame lt).good); few = omega arith })
+
+onto-fit : (frame j : ℕ) (x : Operand) → frame < 0x40000000 → j < 16 → ((v : ℕ) → x ≡ operand.Number v → v < 2 ^ 64) → AreFit 3 1 (onto_stack frame j x)
+onto-fit frame j (operand.Reg r) lt few words =
+    let i = instr.Store St64 4 (pos (8 * (j - 6))) (register_of X86_64 r) in
+    fewer 1 3 0 1 (ones (i ∷ [])) (omega arith) (omega arith)
+    (code-fit 1 (i ∷ []) record { good = (push-good j (register_of X86_64 r) few (register-portable r).small, tt); few = omega arith })
+onto-fit frame j (operand.Number v) lt few words = through-fit frame j (operand.Number v) lt few words
+onto-fit frame j (operand.Host name) lt few words = through-fit frame j (operand.Host name) lt few words
+onto-fit frame j (operand.Label l) lt few words = through-fit frame j (operand.Label l) lt few words
+onto-fit frame j (operand.Slot k) lt few words = through-fit frame j (operand.Slot k) lt few words
+
+-- the registers of arguments
+pub argument-fine : (j : ℕ) → Fine (slice_index (argument_registers X86_64) j)
+argument-fine zero = (omega arith, refl)
+argument-fine (suc zero) = (omega arith, refl)
+argument-fine (suc (suc zero)) = (omega arith, refl)
+argument-fine (suc (suc (suc zero))) = (omega arith, refl)
+argument-fine (suc (suc (suc (suc zero)))) = (omega arith, refl)
+argument-fine (suc (suc (suc (suc (suc zero))))) = (omega arith, refl)
+argument-fine (suc (suc (suc (suc (suc (suc j)))))) = (omega arith, refl)
+
+push-fit : (frame j : ℕ) (n : Node) → frame < 0x40000000 → j < 16 → ((v : ℕ) → operand_at n 0 ≡ operand.Number v → v < 2 ^ 64) → AreFit 3 1 (push_code frame j n)
+push-fit frame j n lt few words = by (nat_lt j 6)
+  where
+    by : (b : Bool) → AreFit 3 1 (if b then into (slice_index (argument_registers X86_64) j) (operand_at n 0) else onto_stack frame j (operand_at n 0))
+    by true =
+        let rd = slice_index (argument_registers X86_64) j in
+        fewer 1 3 1 1 (into rd (operand_at n 0)) (omega arith) (omega arith) (into-fit rd (operand_at n 0) (argument-fine j) words)
+    by false = onto-fit frame j (operand_at n 0) lt few words
+
+-- ---- what is asked of items
+are-items : (most fixes : ℕ) (xs : List Item) → fixes ≤ 1 → AreFit most fixes xs → AreMemoryItems most xs
+are-items most fixes xs one a = record { appendable = good-items-are-appendable xs a.good; short = a.short; one_fix = λ p. let f = a.fixed p in omega (arith, one, f) }
+
+pub memory-items-fit : MemoryItemsFit
+memory-items-fit = record {
+  loads = λ frame t at n lt words.
+      are-items 4 0 (ones (load_code frame t at n)) (omega arith)
+      (code-fit 4 (load_code frame t at n)
+      (load-fits frame t (register (operand_at n 0)) (address_of at (operand_at n 1) (operand_at n 2)) lt (register-fine (operand_at n 0))
+      (address-fine at (operand_at n 1) (operand_at n 2) (words 1) (words 2))));
+  stores = λ frame t at n lt words.
+      are-items 4 0 (ones (store_code frame t at n)) (omega arith)
+      (code-fit 4 (store_code frame t at n)
+      (store-fits frame t (register (operand_at n (stored_operand at))) (address_of at (operand_at n 0) (operand_at n 1)) lt
+      (register-fine (operand_at n (stored_operand at))).0 (address-fine at (operand_at n 0) (operand_at n 1) (words 0) (words 1))));
+  arguments = λ frame t n lt. are-items 1 0 (ones (argument_code frame t n)) (omega arith) (code-fit 1 (argument_code frame t n) (argument-fits frame t n));
+  pushes = λ frame j n lt few words. are-items 3 1 (push_code frame j n) (omega arith) (push-fit frame j n lt few words);
+}

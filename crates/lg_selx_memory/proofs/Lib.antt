@@ -1,0 +1,10 @@
+pub mod ArgumentLemmas
+pub mod EndLemmas
+pub mod FitLemmas
+pub mod LoadLemmas
+pub mod MemoryNodeLemmas
+pub mod PlaceLemmas
+pub mod PushLemmas
+pub mod PutLemmas
+pub mod StoreLemmas
+pub mod WithinLemmas

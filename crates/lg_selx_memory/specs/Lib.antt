@@ -1,0 +1,5 @@
+pub mod Accesses
+pub mod ArgumentCode
+pub mod MemoryFits
+pub mod MemoryNodes
+pub mod PushCode

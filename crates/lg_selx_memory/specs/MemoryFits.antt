@@ -1,0 +1,47 @@
+-- What is asked of the items of loads, stores and arguments that are emitted.
+use Rattle.std.specs.Prelude.{◌≡◌, ℕ, ◌^◌, ◌<◌, ◌≤◌, List, length}
+use Rattle.lg_op.specs.declared.node.Node.{Node}
+use Rattle.lg_op.specs.declared.op.Addressing.{Addressing}
+use Rattle.lg_op.specs.declared.op.StoreType.{StoreType}
+use Rattle.lg_op.specs.declared.op.ValueType.{ValueType}
+use Rattle.lg_op.specs.declared.operand.Label.{Label}
+use Rattle.lg_op.specs.declared.operand.Operand.TheVariants as operand
+use Rattle.lg_meaning.specs.Steps.{operand_at}
+use Rattle.lg_sel_memory.specs.Operands.{HasWords}
+use Rattle.lg_selx_items.specs.declared.items.Item.{Item}
+use Rattle.lg_selx_items.specs.GoodItems.{AreAppendable}
+use Rattle.lg_selx_items.specs.Items.{words_in, fixes_of, ones, NameLabels, StayWithin}
+use Rattle.lg_selx_memory.specs.Accesses.{load_code, store_code}
+use Rattle.lg_selx_memory.specs.ArgumentCode.{argument_code}
+use Rattle.lg_selx_memory.specs.PushCode.{push_code}
+
+-- the registers that the items write: none that is outside of the conventions
+pub record MemoryItemsStay : Type 0 where
+  pub loads : (frame : ℕ) (t : ValueType) (at : Addressing) (n : Node) → StayWithin (ones (load_code frame t at n))
+  pub stores : (frame : ℕ) (t : StoreType) (at : Addressing) (n : Node) → StayWithin (ones (store_code frame t at n))
+  pub arguments : (frame : ℕ) (t : ValueType) (n : Node) → StayWithin (ones (argument_code frame t n))
+  pub pushes : (frame j : ℕ) (n : Node) → StayWithin (push_code frame j n)
+
+-- the items are in the ranges of their instructions, of which there are at most so many, with at most one fix, and each is followed by the next
+pub record AreMemoryItems (most : ℕ) (items : List Item) : Type 0 where
+  pub appendable : AreAppendable items
+  pub short : words_in items ≤ most
+  pub one_fix : (p : ℕ) → length (fixes_of p items) ≤ 1
+
+-- in a frame whose size is a number of 31 bits, where the numbers of the operands are words
+pub record MemoryItemsFit : Type 0 where
+  pub loads : (frame : ℕ) (t : ValueType) (at : Addressing) (n : Node) → frame < 0x40000000 → HasWords n
+      → AreMemoryItems 4 (ones (load_code frame t at n))
+  pub stores : (frame : ℕ) (t : StoreType) (at : Addressing) (n : Node) → frame < 0x40000000 → HasWords n
+      → AreMemoryItems 4 (ones (store_code frame t at n))
+  pub arguments : (frame : ℕ) (t : ValueType) (n : Node) → frame < 0x40000000 → AreMemoryItems 1 (ones (argument_code frame t n))
+  pub pushes : (frame j : ℕ) (n : Node) → frame < 0x40000000 → j < 16 → ((v : ℕ) → operand_at n 0 ≡ operand.Number v → v < 2 ^ 64)
+      → AreMemoryItems 3 (push_code frame j n)
+
+-- the items name no label but that of the operand which is passed
+pub record MemoryItemsName : Type 0 where
+  pub loads : (labels frame : ℕ) (t : ValueType) (at : Addressing) (n : Node) → NameLabels labels (ones (load_code frame t at n))
+  pub stores : (labels frame : ℕ) (t : StoreType) (at : Addressing) (n : Node) → NameLabels labels (ones (store_code frame t at n))
+  pub arguments : (labels frame : ℕ) (t : ValueType) (n : Node) → NameLabels labels (ones (argument_code frame t n))
+  pub pushes : (labels frame j : ℕ) (n : Node) → ((l : Label) → operand_at n 0 ≡ operand.Label l → l.0 < labels)
+      → NameLabels labels (push_code frame j n)

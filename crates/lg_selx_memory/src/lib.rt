@@ -1,0 +1,11 @@
+//! The code of the nodes that use memory and pass arguments, on x86-64: what it is made of, and that it carries them.
+#![tactic(auto)]
+
+mod accesses;
+mod arguments;
+pub mod laws;
+mod operands;
+mod pointers;
+
+pub use accesses::{put_load, put_store};
+pub use arguments::{put_argument, put_getarg};

@@ -1,0 +1,43 @@
+// FP and the stack pointer, each of which is made again from the other.
+
+ghost use Rattle.std.specs.Prelude.{◌≡◌, ◌≤◌, ◌<◌, ◌-◌, pos};
+ghost use Rattle.lg_x86.specs.declared.instruction.LoadOp.TheVariants.{Lea};
+ghost use Rattle.lg_selx_control.specs.Branches.{lower};
+
+use lg_x86::{Instr, LoadOp};
+
+/// The stack pointer, rsp.
+pub(crate) const STACK_POINTER: u8 = 4;
+
+/// FP, rbp.
+pub(crate) const FRAME_POINTER: u8 = 5;
+
+// A register gets an address.
+fn lea(reg: u8, base: u8, disp: i32) -> Instr
+    ensures { result ≡ Instr.Load Lea reg base disp }
+{
+    Instr::Load {
+        op: LoadOp::Lea,
+        reg,
+        base,
+        disp,
+    }
+}
+
+// FP again, from the stack pointer.
+pub(crate) fn pointer_again(frame: u32) -> Instr
+    requires some { 272 ≤ frame }
+    requires small { frame < 0x4000_0000 }
+    ensures { result ≡ Instr.Load Lea 5 4 (pos (frame - 16)) }
+{
+    lea(FRAME_POINTER, STACK_POINTER, (frame - 16) as i32)
+}
+
+// The stack pointer again, from FP.
+pub(crate) fn stack_again(frame: u32) -> Instr
+    requires some { 272 ≤ frame }
+    requires small { frame < 0x4000_0000 }
+    ensures { result ≡ Instr.Load Lea 4 5 (lower frame) }
+{
+    lea(STACK_POINTER, FRAME_POINTER, -((frame - 17) as i32) - 1)
+}
