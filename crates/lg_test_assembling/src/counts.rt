@@ -11,16 +11,16 @@ use lg_tst::parse;
 use std::alloc::Global;
 use std::test::Fail;
 
-// In the table a row is the letters of how many registers are saved for temporaries on AArch64 and on RV64, `0` or `1`, and then a text; between rows
+// In the table a row is the digits of how many registers are saved for temporaries on AArch64, RV64 and x86-64, and then a text; between rows
 // stands 1E. In the first rows a register is dead wherever a temporary is needed. Then all registers are live and eight arguments are staged, where
 // RV64 reads the carry, and where AArch64 divides by a number; in the last row only those are live that calls keep.
 const ROWS: &[u8] =
-    b"00.code prolog movi %v0 300 remi %v0 %v0 256 prepare pushargr %v0 finishi @exit ret epilog\x1e\
-        00.data 32 fmt: .c \"%d %d %d %d %d %d %d %d %d %d\\n\" .code prolog arg $argc getarg %r0 $argc addi %r1 %r0 1 addi %r2 %r0 2 addi %v0 %r0 3 addi %v1 %r0 4 addi %v2 %r0 46 prepare pushargi fmt ellipsis pushargr %r0 pushargr %r0 pushargr %r0 pushargr %r0 pushargr %r0 subr %v2 %v1 %v2 pushargr %r0 pushargr %r1 pushargr %r2 pushargr %v0 pushargr %v2 finishi @printf ret epilog\x1e\
-        00.data 32 fmt: .c \"%d %d %d %d %d %d %d %d %d %d\\n\" .code prolog arg $argc getarg %r0 $argc addi %r1 %r0 1 addi %r2 %r0 2 addi %v0 %r0 3 addi %v1 %r0 4 addi %v2 %r0 46 prepare pushargi fmt ellipsis pushargi 10 pushargi 20 pushargi 30 pushargi 40 pushargi 50 remr %v2 %v2 %v1 pushargr %r0 pushargr %r1 pushargr %r2 pushargr %v0 pushargr %v2 finishi @printf ret epilog\x1e\
-        01.code prolog movi %r0 1 movi %r1 2 movi %r2 3 movi %v0 4 movi %v1 5 movi %v2 6 prepare pushargi 1 pushargi 2 pushargi 3 pushargi 4 pushargi 5 pushargi 6 pushargi 7 pushargi 8 addcr %r0 %r0 %r1 addxr %r0 %r0 %r1 pushargr %r0 pushargr %r1 pushargr %r2 pushargr %v0 pushargr %v1 pushargr %v2 finishi f ret epilog f: prolog ret epilog\x1e\
-        10.code prolog movi %r0 1 movi %r1 2 movi %r2 3 movi %v0 4 movi %v1 5 movi %v2 6 prepare pushargi 1 pushargi 2 pushargi 3 pushargi 4 pushargi 5 pushargi 6 pushargi 7 pushargi 8 remi %r0 %r0 7 pushargr %r0 pushargr %r1 pushargr %r2 pushargr %v0 pushargr %v1 pushargr %v2 finishi f ret epilog f: prolog ret epilog\x1e\
-        00.code prolog movi %v0 4 movi %v1 5 movi %v2 6 prepare pushargi 1 pushargi 2 pushargi 3 pushargi 4 pushargi 5 pushargi 6 pushargi 7 pushargi 8 addcr %v0 %v0 %v1 addxr %v0 %v0 %v1 pushargr %v0 pushargr %v1 pushargr %v2 finishi f retr %v2 epilog f: prolog ret epilog";
+    b"000.code prolog movi %v0 300 remi %v0 %v0 256 prepare pushargr %v0 finishi @exit ret epilog\x1e\
+        000.data 32 fmt: .c \"%d %d %d %d %d %d %d %d %d %d\\n\" .code prolog arg $argc getarg %r0 $argc addi %r1 %r0 1 addi %r2 %r0 2 addi %v0 %r0 3 addi %v1 %r0 4 addi %v2 %r0 46 prepare pushargi fmt ellipsis pushargr %r0 pushargr %r0 pushargr %r0 pushargr %r0 pushargr %r0 subr %v2 %v1 %v2 pushargr %r0 pushargr %r1 pushargr %r2 pushargr %v0 pushargr %v2 finishi @printf ret epilog\x1e\
+        002.data 32 fmt: .c \"%d %d %d %d %d %d %d %d %d %d\\n\" .code prolog arg $argc getarg %r0 $argc addi %r1 %r0 1 addi %r2 %r0 2 addi %v0 %r0 3 addi %v1 %r0 4 addi %v2 %r0 46 prepare pushargi fmt ellipsis pushargi 10 pushargi 20 pushargi 30 pushargi 40 pushargi 50 remr %v2 %v2 %v1 pushargr %r0 pushargr %r1 pushargr %r2 pushargr %v0 pushargr %v2 finishi @printf ret epilog\x1e\
+        010.code prolog movi %r0 1 movi %r1 2 movi %r2 3 movi %v0 4 movi %v1 5 movi %v2 6 prepare pushargi 1 pushargi 2 pushargi 3 pushargi 4 pushargi 5 pushargi 6 pushargi 7 pushargi 8 addcr %r0 %r0 %r1 addxr %r0 %r0 %r1 pushargr %r0 pushargr %r1 pushargr %r2 pushargr %v0 pushargr %v1 pushargr %v2 finishi f ret epilog f: prolog ret epilog\x1e\
+        101.code prolog movi %r0 1 movi %r1 2 movi %r2 3 movi %v0 4 movi %v1 5 movi %v2 6 prepare pushargi 1 pushargi 2 pushargi 3 pushargi 4 pushargi 5 pushargi 6 pushargi 7 pushargi 8 remi %r0 %r0 7 pushargr %r0 pushargr %r1 pushargr %r2 pushargr %v0 pushargr %v1 pushargr %v2 finishi f ret epilog f: prolog ret epilog\x1e\
+        000.code prolog movi %v0 4 movi %v1 5 movi %v2 6 prepare pushargi 1 pushargi 2 pushargi 3 pushargi 4 pushargi 5 pushargi 6 pushargi 7 pushargi 8 addcr %v0 %v0 %v1 addxr %v0 %v0 %v1 pushargr %v0 pushargr %v1 pushargr %v2 finishi f retr %v2 epilog f: prolog ret epilog";
 
 // In the table a row is the digit of how many nodes the code of a text has, and then the text; between rows stands 1E: moves that do nothing and jumps to
 // jumps; jumps that turn, of which one goes to what follows; jumps to what follows; a move whose source is written between; a chain into a circle; moves of
@@ -76,7 +76,7 @@ fn counted(alloc: Global, target: Target, text: &[u8]) -> Counts
 #[test]
 fn registers_are_saved_where_none_is_dead(rt: HostRuntime) -> Result<(), Fail> {
     for row in ROWS.split(|byte| *byte == 0x1e) {
-        if let [first, second, text @ ..] = row {
+        if let [first, second, third, text @ ..] = row {
             let aarch64 = counted(rt.alloc(), Target::Aarch64, text);
             let riscv64 = counted(rt.alloc(), Target::Riscv64, text);
             assert_eq!(rt;
