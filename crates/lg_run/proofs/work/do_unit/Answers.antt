@@ -1,9 +1,10 @@
-use Rattle.std.proofs.Common.{◌≤◌, length, ◌∙◌, subst}
+use Rattle.std.proofs.Common.{◌≤◌, inr, length, refl, sym, ap, ◌∙◌, subst, Err}
 use Rattle.lg_base.specs.Arguments.{most_args}
 use Rattle.lg_command.specs.Commands.{shown}
 use Rattle.lg_cpu.specs.Laws.{AreBytes}
 use Rattle.lg_run.specs.Changes.{on_sink}
-use Rattle.lg_run.proofs.WorkLemmas.{run_answers}
+use Rattle.lg_run.specs.Refused.{IsRefusedAs}
+use Rattle.lg_run.proofs.WorkLemmas.{run_answers, stopped_says}
 use Rattle.lg_run.proofs.work.do_unit.Goals as goal
 
 pub returns-in-Ok-clause-says : goal.returns-in-Ok-clause-says
@@ -24,3 +25,17 @@ returns-in-Ok-clause-says g c = λ text is held under.
       size = made.size;
       agrees = made.agrees;
     }) (on_sink g.O.Sink.taken g.O.Sink.faults c.args.out.now c.run_mode-ran.new.out) c.run_mode-ran.result.steps c.run_mode-ran.result.answer c.run_mode-ran.ensures.says
+
+pub returns-in-Err-clause-says : goal.returns-in-Err-clause-says
+returns-in-Err-clause-says g c = λ text is held under.
+    let out = on_sink g.O.Sink.taken g.O.Sink.faults c.args.out.now c.args.out.now in
+    let done = c.without_code.result in
+    stopped_says (shown c.args.command.now) held done.code done.steps out done.answer c.in-Err.stop
+    record { refused = λ r e. c.without_code.ensures.0 ∙ c.stopped.ensures.refused r e; memory = λ e. c.without_code.ensures.0 ∙ c.stopped.ensures.memory e }
+    record { none = c.without_code.ensures.1; still = record { steps_none = c.without_code.ensures.2; out_same = refl } }
+    (λ r e. inr record {
+      fits = subst (λ a. length a ≤ most_args) c.requires.args c.requires.args_size;
+      text = text;
+      under = under;
+      refused = inr (is.0, subst (λ x. IsRefusedAs (shown c.args.command.now) x r) (sym is.1) (inr (c.requires.checked.0.accepted, c.in-Err.ensures.refused r (ap Err e))));
+    })
