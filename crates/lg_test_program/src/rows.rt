@@ -189,6 +189,8 @@ fn undefined_steps(rt: HostRuntime) -> Result<(), Fail> {
     // the code goes on as it likes behind the undefined step, and what was written before it stays
     begins(&rt, &plain(division, b"x", b"", 0))?;
     begins(&rt, &on_aarch64(division, b"x", b"", 0))?;
+    let fault = b"lightning: fault Divide at 0x10000062 after 25\n";
+    check(&rt, &on_x86_64(division, b"x", fault, 126))?;
     // a call leaves R0 undefined
     let behind =
         b".code prolog\nmovi %r0 65\nprepare pushargr %r0 finishi @putchar\naddi %r0 %r0 1\nret epilog";
