@@ -54,35 +54,20 @@ fn word_in_front(bytes: &[u8]) -> u32
 fn decode_word(word: u32) -> Option<Instr>
     ensures { result ≡ instr_of word }
 {
-    let top = Top::get(word);
-    let sort = Sort::get(word);
-    if top / 4 == 0x05 || top / 4 == 0x25 {
-        return decode_branch(word);
-    }
-    match top {
-        0x9a => match sort {
-            4 => decode_csinc(word),
-            _ => decode_reg(word),
-        },
-        0xda => match sort {
-            6 => decode_reverse(word),
-            _ => decode_reg(word),
-        },
-        0x9b => match sort {
-            0 => decode_mul_add(word),
-            _ => decode_reg(word),
-        },
-        0xf8 => match sort {
-            3 => decode_ldrx(word),
-            _ => decode_unscaled(word),
-        },
-        0x91 | 0xb1 | 0xd1 | 0xf1 => decode_imm(word),
-        0xd2 | 0x92 | 0xf2 => decode_wide(word),
-        0x93 | 0xd3 => decode_bitfield(word),
-        0xf9 | 0xb9 | 0x79 | 0x39 => decode_scaled(word),
-        0x54 => decode_branch_if(word),
-        0xd6 => decode_branch_reg(word),
-        0xd5 => decode_nop(word),
+    match (Top::get(word), Sort::get(word)) {
+        (0x9a, 4) => decode_csinc(word),
+        (0xda, 6) => decode_reverse(word),
+        (0x9b, 0) => decode_mul_add(word),
+        (0xf8, 3) => decode_ldrx(word),
+        (0xf8, _) => decode_unscaled(word),
+        (0x91 | 0xb1 | 0xd1 | 0xf1, _) => decode_imm(word),
+        (0xd2 | 0x92 | 0xf2, _) => decode_wide(word),
+        (0x93 | 0xd3, _) => decode_bitfield(word),
+        (0xf9 | 0xb9 | 0x79 | 0x39, _) => decode_scaled(word),
+        (0x54, _) => decode_branch_if(word),
+        (0xd6, _) => decode_branch_reg(word),
+        (0xd5, _) => decode_nop(word),
+        (top, _) if top / 4 == 0x05 || top / 4 == 0x25 => decode_branch(word),
         _ => decode_reg(word),
     }
 }

@@ -1,7 +1,7 @@
 -- What is kept of code, and what follows from it.
 use Rattle.std.specs.Prelude.{◌≡◌, ℕ, ◌+◌, ◌*◌, ◌^◌, ◌<◌, ◌≤◌, Bool, List, [], Ok, length, slice_index}
 use Rattle.lg_base.specs.Arguments.{most_args}
-use Rattle.lg_base.specs.Layout.{code_base}
+use Rattle.lg_base.specs.Layout.{code_base, most_code}
 use Rattle.lg_base.specs.declared.refusal.RefusalKind.TheVariants.{CodeFull}
 use Rattle.lg_base.specs.declared.refusal.Stop.{Stop}
 use Rattle.lg_base.specs.declared.refusal.Stop.TheVariants as stop
@@ -26,8 +26,7 @@ use Rattle.lg_op.specs.Nodes.{InForm}
 use Rattle.lg_op.specs.declared.node.Node.{Node}
 use Rattle.lg_opt.specs.Rewritings.{IsTidy, CarriesAddresses, RunsAreFollowed}
 use Rattle.std.specs.List.{All}
-use Rattle.lg_asm.specs.Built.{IsBuilt}
-use Rattle.lg_asm.specs.Lowered.{code_of, ArePlaces, AreOf, AreNodesWhole, AreNodesSparing}
+use Rattle.lg_asm.specs.Lowered.{code_of, ArePlaces, AreOf, AreNodesWhole, AreNodesSparing, AreNodesShort}
 use Rattle.lg_asm.specs.NodeChoices.{spills_in}
 
 -- the target, the bytes, the final nodes with their shape, the registers that are live before and behind each, the places of the nodes and of the end, the
@@ -49,19 +48,21 @@ pub record ArePushed (nodes : List Node) (xs : List ℕ) (count : ℕ) : Type 0 
   pub each : (i : ℕ) → i < count → slice_index xs i ≡ pushed nodes i
   pub few : (i : ℕ) → i < count → slice_index xs i ≤ 16
 
--- the nodes are accepted and tidy; they stand at their places, between which are whole instructions with few stores; a label that is bound at a node has
--- the address of its place, and each node is carried, for the registers that are live before it
+-- the nodes are accepted and tidy; they stand at their places, between which are whole instructions with few stores, and of what leads back to a label
+-- the shortest that reach it; a label that is bound at a node has the address of its place, and each node is carried, for the registers that are live
+-- before it
 pub record IsCode (c : Assembled) : Type 0 where
   pub shape_is : IsShapeOf c.nodes c.shape
   pub tidy : IsTidy c.nodes
   pub live_are : AreLive c.nodes c.shape c.live
-  pub small : length c.bytes ≤ 1048576
+  pub small : length c.bytes ≤ most_code
   pub are_bytes : AreBytes c.bytes
   pub ordered : ArePlaces c.nodes c.places (length c.bytes)
   pub addresses : AreAddresses c.nodes (length c.bytes) c.labels
   pub addressed : AreOf c.nodes c.places c.labels
   pub instructions : AreNodesWhole c.target (length c.nodes.nodes) c.places c.bytes
   pub sparing : AreNodesSparing c.target c.nodes c.live c.places c.bytes
+  pub shortest : AreNodesShort c.target c.nodes c.places c.bytes
   pub carried : (trash i : ℕ) → trash < 2 ^ 64 → i < length c.nodes.nodes → Carries (processor_of c.target c.bytes trash) (code_of c.nodes c.shape c.labels c.places) (live_at c.live.before) i
   pub saved : c.spills ≡ spills_in c.target c.nodes.nodes c.live (length c.nodes.nodes)
 
@@ -77,7 +78,7 @@ pub record ComesFrom (l : LabelledNodes) (shape : TextShape) (c : Assembled) : T
 -- such code agrees with the portable meaning of the text over every data part
 abbrev pub CodeAgrees : Type 0
 CodeAgrees =
-    (c : Assembled) (unit : TextUnit) (shape : TextShape) → IsCode c → ComesFrom unit.nodes shape c → IsBuilt c.target → AreBytes unit.image
+    (c : Assembled) (unit : TextUnit) (shape : TextShape) → IsCode c → ComesFrom unit.nodes shape c → AreBytes unit.image
     → length unit.image ≤ 0x1000000 → Agrees c.bytes c.labels unit c.target
 
 -- the parts of the memory and the word that is in what nothing has set
@@ -91,7 +92,7 @@ pub record MayStart (image args : List ℕ) (trash : ℕ) : Type 0 where
 -- the processor at the start of the code of an accepted text stands for the meaning at its start, whatever is live
 abbrev pub StartStands : Type 0
 StartStands =
-    (target : Target) (c : Code) (code image args : List ℕ) (trash : ℕ) (live : Frame → ℕ → Bool) (S : ℕ → Bool) → IsBuilt target → MayStart image args trash → IsShapeOf c.nodes c.shape
+    (target : Target) (c : Code) (code image args : List ℕ) (trash : ℕ) (live : Frame → ℕ → Bool) (S : ℕ → Bool) → MayStart image args trash → IsShapeOf c.nodes c.shape
     → c.place 0 ≡ code_base → Stands (processor_of target code trash) c live (start_state image args) [] (run_from target image args trash) S
 
 -- ---- refusals

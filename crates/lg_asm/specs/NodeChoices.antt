@@ -1,5 +1,5 @@
 -- The registers of the temporaries of nodes, by the registers that are live behind them.
-use Rattle.std.specs.Prelude.{ℕ, zero, suc, ◌+◌, Bool, true, false, List, [], Option, Some, None, slice_get, slice_index_or}
+use Rattle.std.specs.Prelude.{ℕ, zero, suc, ◌+◌, Bool, true, false, List, Option, Some, None, slice_get, slice_index_or}
 use Rattle.std.specs.Option.{option_and_then}
 use Rattle.lg_base.specs.declared.target.Target.{Target}
 use Rattle.lg_base.specs.declared.target.Target.TheVariants.{X86_64, Aarch64, Riscv64}
@@ -11,9 +11,9 @@ use Rattle.lg_op.specs.declared.node.Node.{Node}
 use Rattle.lg_op.specs.declared.op.Op.{Op}
 use Rattle.lg_op.specs.declared.operand.Reg.{Reg}
 use Rattle.lg_sel.specs.Selected.{first_arguments}
-use Rattle.lg_sela_values.specs.ValueItems as a64
-use Rattle.lg_selr_values.specs.ValueItems as rv
-use Rattle.lg_selx_values.specs.Needs as x86
+use Rattle.lg_sela.specs.Selected as a64
+use Rattle.lg_selr.specs.Selected as rv
+use Rattle.lg_selx.specs.Selected as x86
 use Rattle.lg_temp.specs.Chosen.{around, choices_of, spills}
 use Rattle.lg_temp.specs.declared.choice.Choice.{Choice}
 use Rattle.lg_temp.specs.declared.choice.Choice.TheVariants.{Spill}
@@ -28,9 +28,9 @@ live_behind sets i = has (set_behind sets i)
 
 -- what the temporaries of a node's code need on a target
 abbrev pub needs_on : Target → Op → List Need
-needs_on X86_64 o = x86.value_needs o
-needs_on Aarch64 o = a64.value_needs o
-needs_on Riscv64 o = rv.value_needs o
+needs_on X86_64 o = x86.needs o
+needs_on Aarch64 o = a64.needs o
+needs_on Riscv64 o = rv.needs o
 
 -- the choices for the needs of a node behind which these registers are live and before which so many arguments are pushed, which are staged there
 abbrev pub node_choices : Target → (Reg → Bool) → ℕ → Node → Option (List Choice)

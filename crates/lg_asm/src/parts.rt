@@ -3,8 +3,8 @@
 ghost use Rattle.std.specs.Prelude.{◌≡◌, ◌+◌, ◌*◌, ◌<◌, ◌≤◌, length, IfOk, IfErr};
 ghost use Rattle.lg_cpu.specs.Laws.{AreBytes};
 ghost use Rattle.lg_asm.specs.Assembled.{IsRefusedBy};
-ghost use Rattle.lg_asm.specs.Built.{IsBuilt};
 ghost use Rattle.lg_asm.specs.Lowered.{IsGiven};
+ghost use Rattle.lg_base.specs.Layout.{most_code};
 ghost use Rattle.lg_base.specs.declared.target.Target.{Target};
 ghost use Rattle.lg_liveness.specs.Liveness.{AreLive};
 ghost use Rattle.lg_node.specs.Shapes.{IsShapeOf};
@@ -53,10 +53,9 @@ pub(crate) fn text_bytes(
     target: Target,
     size: u32,
 ) -> Result<TextBytes, Stop>
-    requires built { IsBuilt target }
     requires shape { IsShapeOf nodes.now shape.now }
     requires live { AreLive nodes.now shape.now live.now }
-    requires size { size ≤ 1048576 }
+    requires size { size ≤ most_code }
     ensures given { IfOk result (λ t. IsGiven target nodes.now shape.now live.now size t.places.items t.tags.items t.bytes.items) }
     ensures refused { IfErr result (IsRefusedBy (length nodes.now.nodes) size) }
 {

@@ -1,11 +1,10 @@
 -- The kinds of refusal, by number and by name.
 use Rattle.std.specs.Prelude.{ℕ, List, codes}
 use Rattle.lg_base.specs.declared.refusal.RefusalKind.{RefusalKind}
-use Rattle.lg_base.specs.declared.refusal.RefusalKind.TheVariants.{NotYet, BadToken, UnknownName, FloatRefused, BadOperand, BadExpr, LabelTwice, LabelMissing, NotInFunction, FunctionOpen, TargetOutside, BadCall, TooManyArgs, NoSuchArg, UnknownHost, DataFull, TextTooLong, TooManyNodes, CodeFull, FrameTooBig, NoCode, ArgsTooLong}
+use Rattle.lg_base.specs.declared.refusal.RefusalKind.TheVariants.{BadToken, UnknownName, FloatRefused, BadOperand, BadExpr, LabelTwice, LabelMissing, NotInFunction, FunctionOpen, TargetOutside, BadCall, TooManyArgs, NoSuchArg, UnknownHost, DataFull, TextTooLong, TooManyNodes, CodeFull, FrameTooBig, NoCode, ArgsTooLong, BadDirective, BadMacro, ExpandTooMuch}
 
 -- the number that the program prints
 abbrev pub number_of_kind : RefusalKind → ℕ
-number_of_kind NotYet = 0
 number_of_kind BadToken = 1
 number_of_kind UnknownName = 2
 number_of_kind FloatRefused = 3
@@ -27,10 +26,12 @@ number_of_kind CodeFull = 18
 number_of_kind FrameTooBig = 19
 number_of_kind NoCode = 20
 number_of_kind ArgsTooLong = 21
+number_of_kind BadDirective = 22
+number_of_kind BadMacro = 23
+number_of_kind ExpandTooMuch = 24
 
 -- the name that the program prints
 abbrev pub name_of_kind : RefusalKind → List ℕ
-name_of_kind NotYet = codes "NotYet"
 name_of_kind BadToken = codes "BadToken"
 name_of_kind UnknownName = codes "UnknownName"
 name_of_kind FloatRefused = codes "FloatRefused"
@@ -52,3 +53,6 @@ name_of_kind CodeFull = codes "CodeFull"
 name_of_kind FrameTooBig = codes "FrameTooBig"
 name_of_kind NoCode = codes "NoCode"
 name_of_kind ArgsTooLong = codes "ArgsTooLong"
+name_of_kind BadDirective = codes "BadDirective"
+name_of_kind BadMacro = codes "BadMacro"
+name_of_kind ExpandTooMuch = codes "ExpandTooMuch"

@@ -26,8 +26,6 @@ impl<T: Drop> From<AllocFailed<T>> for OutOfMemory {
 /// The kinds of refusal. The program prints a kind by its number and its name.
 #[derive(Clone, Copy, Debug, PartialEq, Eq)]
 pub enum RefusalKind {
-    /// 0: the text is right, and the program does not assemble it yet.
-    NotYet,
     /// 1: a token is malformed.
     BadToken,
     /// 2: a token stands at a statement's place and is no statement of its section.
@@ -70,6 +68,12 @@ pub enum RefusalKind {
     NoCode,
     /// 21: the argument part would pass 1,048,576 bytes.
     ArgsTooLong,
+    /// 22: a directive of the preprocessor is none of the list, or not of its form.
+    BadDirective,
+    /// 23: the arguments of a macro are not closed, or their number is not that of its parameters.
+    BadMacro,
+    /// 24: the expansion of macros, or what they replace, is too long or nested too deeply.
+    ExpandTooMuch,
 }
 
 /// A refused text: what is wrong, and in which line. Lines count from 1; 0 says that no line is to blame.
@@ -93,12 +97,11 @@ pub enum Stop {
 }
 
 impl RefusalKind {
-    /// The number of the kind, 0 to 21.
+    /// The number of the kind, 1 to 24.
     pub fn number(self) -> u32
         ensures { result ≡ number_of_kind self }
     {
         match self {
-            RefusalKind::NotYet => 0,
             RefusalKind::BadToken => 1,
             RefusalKind::UnknownName => 2,
             RefusalKind::FloatRefused => 3,
@@ -120,6 +123,9 @@ impl RefusalKind {
             RefusalKind::FrameTooBig => 19,
             RefusalKind::NoCode => 20,
             RefusalKind::ArgsTooLong => 21,
+            RefusalKind::BadDirective => 22,
+            RefusalKind::BadMacro => 23,
+            RefusalKind::ExpandTooMuch => 24,
         }
     }
 
@@ -128,7 +134,6 @@ impl RefusalKind {
         ensures { result.now ≡ name_of_kind self }
     {
         match self {
-            RefusalKind::NotYet => "NotYet",
             RefusalKind::BadToken => "BadToken",
             RefusalKind::UnknownName => "UnknownName",
             RefusalKind::FloatRefused => "FloatRefused",
@@ -150,6 +155,9 @@ impl RefusalKind {
             RefusalKind::FrameTooBig => "FrameTooBig",
             RefusalKind::NoCode => "NoCode",
             RefusalKind::ArgsTooLong => "ArgsTooLong",
+            RefusalKind::BadDirective => "BadDirective",
+            RefusalKind::BadMacro => "BadMacro",
+            RefusalKind::ExpandTooMuch => "ExpandTooMuch",
         }
     }
 }

@@ -1,6 +1,6 @@
 // Work that is timed from outside. `names N` looks up each name of the instruction table N times; `text N` reads and checks
-// a text of N instructions, at most 65,000; `code N TIMES` assembles it for RV64 as well, so many times, from its bytes to
-// code; `straight N TIMES`, `branches N TIMES` and `jumps N TIMES` find the live registers of a list of nodes of N lines, so many
+// a text of N instructions, at most 1,000,000; `code N TIMES` assembles it for RV64 as well, so many times, from its bytes to
+// code; `far N TIMES` does so with a text in which a branch and calls lead over N instructions; `straight N TIMES`, `branches N TIMES` and `jumps N TIMES` find the live registers of a list of nodes of N lines, so many
 // times; `moves N TIMES` and `chain N TIMES` rewrite a list of N moves or jumps, so many times; `emit N` emits 64 MiB in pieces of
 // N bytes; `rv64 N`, `aarch64 N` and `x86_64 N` run N instructions of a loop of five on the modelled processors; `steps N` follows
 // the portable meaning of a loop for N steps. Without words it does a little of each.
@@ -21,7 +21,7 @@ use lg_mean_text::end::MeaningEnd;
 use lists::Flow;
 use names::found;
 use std::{env, io, str};
-use texts::{Counts, read_and_assemble, read_and_check};
+use texts::{Counts, Shape, read_and_assemble, read_and_check};
 
 // Looks up each name so many times.
 fn look_up(rt: &HostRuntime, times: u32) -> io::Result<()> {
@@ -34,7 +34,7 @@ fn look_up(rt: &HostRuntime, times: u32) -> io::Result<()> {
 
 // Reads and checks a text of so many instructions.
 fn read(rt: &HostRuntime, instructions: u32) -> io::Result<()> {
-    match read_and_check(rt.alloc(), instructions) {
+    match read_and_check(rt.alloc(), Shape::Straight, instructions) {
         Ok(Counts { nodes, functions }) => println!(rt; "{nodes} nodes, {functions} functions"),
         Err(Stop::Refused(refusal)) => println!(rt; "refused at line {}", refusal.line),
         Err(Stop::OutOfMemory) => println!(rt; "out of memory"),
@@ -42,8 +42,8 @@ fn read(rt: &HostRuntime, instructions: u32) -> io::Result<()> {
 }
 
 // Reads, checks and assembles a text of so many instructions, so many times.
-fn make_code(rt: &HostRuntime, instructions: u32, times: u32) -> io::Result<()> {
-    match read_and_assemble(rt.alloc(), instructions, times) {
+fn make_code(rt: &HostRuntime, shape: Shape, instructions: u32, times: u32) -> io::Result<()> {
+    match read_and_assemble(rt.alloc(), shape, instructions, times) {
         Ok(bytes) => println!(rt; "{bytes} bytes of code"),
         Err(Stop::Refused(refusal)) => println!(rt; "refused at line {}", refusal.line),
         Err(Stop::OutOfMemory) => println!(rt; "out of memory"),
@@ -106,7 +106,8 @@ fn main(rt: HostRuntime) -> io::Result<()> {
             match mode.as_str() {
                 "names" => look_up(&rt, times),
                 "text" => read(&rt, times),
-                "code" => make_code(&rt, times, again),
+                "code" => make_code(&rt, Shape::Straight, times, again),
+                "far" => make_code(&rt, Shape::Far, times, again),
                 "straight" => find_live(&rt, Flow::Straight, times, again),
                 "branches" => find_live(&rt, Flow::Branches, times, again),
                 "jumps" => find_live(&rt, Flow::Jumps, times, again),
@@ -123,7 +124,8 @@ fn main(rt: HostRuntime) -> io::Result<()> {
         _ => {
             look_up(&rt, 1)?;
             read(&rt, 64)?;
-            make_code(&rt, 64, 1)?;
+            make_code(&rt, Shape::Straight, 64, 1)?;
+            make_code(&rt, Shape::Far, 64, 1)?;
             for flow in [Flow::Straight, Flow::Branches, Flow::Jumps] {
                 find_live(&rt, flow, 64, 1)?;
             }

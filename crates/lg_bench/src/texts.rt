@@ -1,9 +1,9 @@
-// A text of many instructions.
+// Texts of many instructions.
 
 ghost use Rattle.std.specs.Prelude.{◌≤◌, length, IfOk};
 
 use lg_asm::assemble;
-use lg_base::refusal::{OutOfMemory, Stop};
+use lg_base::refusal::{OutOfMemory, Refusal, RefusalKind, Stop};
 use lg_base::target::Target;
 use lg_node::check;
 use lg_tst::parse;
@@ -17,29 +17,65 @@ pub struct Counts {
     pub functions: u32,
 }
 
-// A function with so many instructions, at most 65,000.
-fn text(alloc: Global, instructions: u32) -> Result<Vec<u8>, OutOfMemory>
-    ensures { IfOk result (λ t. length t.items ≤ 16777216) }
-{
-    let mut text = Vec::from_slice(alloc, b"prolog movi %r0 0\n")?;
-    let times = if instructions < 65_000 {
+/// What a text of many additions is.
+#[derive(Clone, Copy)]
+pub enum Shape {
+    /// One function.
+    Straight,
+    /// A function with a branch over the additions, and two calls of it behind them.
+    Far,
+}
+
+// So many additions, at most 1,000,000.
+fn additions(text: &mut Vec<u8>, instructions: u32, addition: &[u8]) -> Result<(), OutOfMemory> {
+    let times = if instructions < 1_000_000 {
         instructions
     } else {
-        65_000
+        1_000_000
     };
-    for i in 0..times {
-        text.extend_from_slice(b"addi %r0 %r0 1\n")?;
+    for _ in 0..times {
+        text.extend_from_slice(addition)?;
     }
-    text.extend_from_slice(b"retr %r0 epilog\n")?;
+    Ok(())
+}
+
+// A text with so many additions, at most 1,000,000.
+fn text(alloc: Global, shape: Shape, instructions: u32) -> Result<Vec<u8>, OutOfMemory> {
+    let mut text = Vec::new(alloc);
+    match shape {
+        Shape::Straight => {
+            text.extend_from_slice(b"prolog movi %r0 0\n")?;
+            additions(&mut text, instructions, b"addi %r0 %r0 1\n")?;
+            text.extend_from_slice(b"retr %r0 epilog\n")?;
+        }
+        Shape::Far => {
+            text.extend_from_slice(b"jmpi main f: prolog arg $a getarg %v0 $a blei out %v0 0\n")?;
+            additions(&mut text, instructions, b"addi %v0 %v0 99999\n")?;
+            text.extend_from_slice(b"out: retr %v0 epilog main: prolog\n")?;
+            text.extend_from_slice(b"prepare pushargi 0 finishi f retval %v1\n")?;
+            text.extend_from_slice(b"prepare pushargi 5 finishi f retval %v2 ret epilog\n")?;
+        }
+    }
     Ok(text)
 }
 
-/// Reads and checks a text of so many instructions, at most 65,000.
-pub fn read_and_check(alloc: Global, instructions: u32) -> Result<Counts, Stop> {
-    let text = match text(alloc, instructions) {
-        Ok(text) => text,
-        Err(OutOfMemory) => return Err(Stop::OutOfMemory),
-    };
+// The same text, where it is not too long to be read.
+fn short_text(alloc: Global, shape: Shape, instructions: u32) -> Result<Vec<u8>, Stop>
+    ensures { IfOk result (λ t. length t.items ≤ 16777216) }
+{
+    match text(alloc, shape, instructions) {
+        Ok(text) if text.len() <= 16_777_216 => Ok(text),
+        Ok(_) => Err(Stop::Refused(Refusal {
+            kind: RefusalKind::TextTooLong,
+            line: 0,
+        })),
+        Err(OutOfMemory) => Err(Stop::OutOfMemory),
+    }
+}
+
+/// Reads and checks a text of so many additions, at most 1,000,000.
+pub fn read_and_check(alloc: Global, shape: Shape, instructions: u32) -> Result<Counts, Stop> {
+    let text = short_text(alloc, shape, instructions)?;
     let unit = parse(alloc, &text)?;
     let shape = check(alloc, &unit)?;
     Ok(Counts {
@@ -48,22 +84,24 @@ pub fn read_and_check(alloc: Global, instructions: u32) -> Result<Counts, Stop> 
     })
 }
 
-// How many bytes of code a text of so many instructions becomes on RV64.
+// How many bytes of code a text becomes on RV64.
 fn code_bytes(alloc: Global, text: &[u8]) -> Result<u32, Stop>
     requires { length text.now ≤ 16777216 }
 {
     let unit = parse(alloc, text)?;
     let shape = check(alloc, &unit)?;
-    let code = assemble(alloc, &unit, &shape, Target::Riscv64, 1_048_576)?;
+    let code = assemble(alloc, &unit, &shape, Target::Riscv64, 67_108_864)?;
     Ok(code.bytes().len())
 }
 
-/// Reads, checks and assembles a text of so many instructions, at most 65,000, so many times, and tells how many bytes its code has.
-pub fn read_and_assemble(alloc: Global, instructions: u32, times: u32) -> Result<u32, Stop> {
-    let text = match text(alloc, instructions) {
-        Ok(text) => text,
-        Err(OutOfMemory) => return Err(Stop::OutOfMemory),
-    };
+/// Reads, checks and assembles a text of so many additions, at most 1,000,000, so many times, and tells how many bytes its code has.
+pub fn read_and_assemble(
+    alloc: Global,
+    shape: Shape,
+    instructions: u32,
+    times: u32,
+) -> Result<u32, Stop> {
+    let text = short_text(alloc, shape, instructions)?;
     let mut bytes = 0;
     for _ in 0..times {
         bytes = code_bytes(alloc, &text)?;

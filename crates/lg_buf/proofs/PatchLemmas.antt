@@ -5,7 +5,7 @@ use Rattle.lg_base.specs.Fields.{part, signed}
 use Rattle.lg_base.specs.Immediates.{branch_bits, jump_bits}
 use Rattle.lg_base.specs.WordFronts.{word_at}
 use Rattle.lg_buf.specs.declared.fixes.FixKind.{FixKind}
-use Rattle.lg_buf.specs.declared.fixes.FixKind.TheVariants.{X86Rel8, X86Rel32, X86Abs32, A64Branch26, A64Cond19, A64MovPair, RvBranch, RvJal, RvLuiAddi}
+use Rattle.lg_buf.specs.declared.fixes.FixKind.TheVariants.{X86Rel8, X86Rel32, X86Abs32, A64Branch26, A64Cond19, A64MovPair, RvBranch, RvJal, RvLuiAddi, RvAuipcJalr}
 use Rattle.lg_buf.specs.declared.fixes.Fix.{Fix}
 use Rattle.lg_buf.specs.FixFields.{fix_len, field_number, field_rest, branch_rest, cond_rest, move_rest}
 use Rattle.lg_buf.specs.Fixing.{Patched, origin_of}
@@ -39,6 +39,7 @@ module _ (new old : List ℕ) where
   number_same RvBranch place same = ap (λ w. signed 4096 (branch_bits w)) (word_same place same)
   number_same RvJal place same = ap (λ w. signed 1048576 (jump_bits w)) (word_same place same)
   number_same RvLuiAddi place same = λ j. (signed 524288 (part 12 20 (first_same place same j)) *ℤ pos 4096) +ℤ signed 2048 (part 20 12 (second_same place same j))
+  number_same RvAuipcJalr place same = λ j. (signed 524288 (part 12 20 (first_same place same j)) *ℤ pos 4096) +ℤ signed 2048 (part 20 12 (second_same place same j))
 
   pub rest_same : (kind : FixKind) (place : ℕ) → SameIn place (fix_len kind) → field_rest kind new place ≡ field_rest kind old place
   rest_same X86Rel8 place same = refl
@@ -50,6 +51,7 @@ module _ (new old : List ℕ) where
   rest_same RvBranch place same = ap (λ w. (branch_rest w, 0)) (word_same place same)
   rest_same RvJal place same = ap (λ w. (part 0 12 w, 0)) (word_same place same)
   rest_same RvLuiAddi place same = λ j. (part 0 12 (first_same place same j), part 0 20 (second_same place same j))
+  rest_same RvAuipcJalr place same = λ j. (part 0 12 (first_same place same j), part 0 20 (second_same place same j))
 
 -- a byte of one fix is none of a fix that is apart
 byte_outside : (i : ℕ) (f g : Fix) → AreApart f g → f.place ≤ i → i < f.place + fix_len f.kind → IsOutside i g

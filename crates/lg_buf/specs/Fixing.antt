@@ -2,7 +2,7 @@
 use Rattle.std.specs.Prelude.{◌≡◌, ℕ, ◌+◌, ◌%◌, ◌<◌, ◌≤◌, ◌⊎◌, pos, ◌+ℤ◌, List, length, slice_index}
 use Rattle.lg_base.specs.Layout.{code_base}
 use Rattle.lg_buf.specs.declared.fixes.FixKind.{FixKind}
-use Rattle.lg_buf.specs.declared.fixes.FixKind.TheVariants.{X86Rel8, X86Rel32, X86Abs32, A64Branch26, A64Cond19, A64MovPair, RvBranch, RvJal, RvLuiAddi}
+use Rattle.lg_buf.specs.declared.fixes.FixKind.TheVariants.{X86Rel8, X86Rel32, X86Abs32, A64Branch26, A64Cond19, A64MovPair, RvBranch, RvJal, RvLuiAddi, RvAuipcJalr}
 use Rattle.lg_buf.specs.FixFields.{fix_len, field_number, field_rest}
 
 -- from where the number of the field counts: a distance from the instruction's end on x86-64, which the field ends,
@@ -17,6 +17,7 @@ origin_of A64MovPair place = 0
 origin_of RvBranch place = place
 origin_of RvJal place = place
 origin_of RvLuiAddi place = 0
+origin_of RvAuipcJalr place = place
 
 -- to where it leads: a distance to the target, an address to the target behind the first address of code
 abbrev pub goal_of : FixKind → ℕ → ℕ
@@ -29,6 +30,7 @@ goal_of A64MovPair target = code_base + target
 goal_of RvBranch target = target
 goal_of RvJal target = target
 goal_of RvLuiAddi target = code_base + target
+goal_of RvAuipcJalr target = target
 
 -- the field of the fix leads to the target
 abbrev pub Fixed : List ℕ → ℕ → FixKind → ℕ → Type 0
@@ -38,7 +40,8 @@ Fixed bytes place kind target = pos (origin_of kind place) +ℤ field_number kin
 abbrev pub IsWithin : ℕ → ℕ → ℕ → Type 0
 IsWithin half from to = (from ≤ to + half) × (to < from + half)
 
--- a field can lead to the target. `lui` and `addi` reach up to 524,287 * 4,096 + 2,047
+-- a field can lead to the target. `lui` and `addi` reach up to 524,287 * 4,096 + 2,047; so do `auipc` and `jalr`, and down to 524,288 * 4,096 + 2,048 before
+-- themselves
 abbrev pub Fits : FixKind → ℕ → ℕ → Type 0
 Fits X86Rel8 place target = IsWithin 128 (place + 1) target
 Fits X86Rel32 place target = IsWithin 2147483648 (place + 4) target
@@ -49,6 +52,7 @@ Fits A64MovPair place target = code_base + target < 4294967296
 Fits RvBranch place target = IsWithin 4096 place target × (target % 2 ≡ place % 2)
 Fits RvJal place target = IsWithin 1048576 place target × (target % 2 ≡ place % 2)
 Fits RvLuiAddi place target = code_base + target < 2147481600
+Fits RvAuipcJalr place target = (place ≤ target + 2147485696) × (target < place + 2147481600)
 
 -- the field leads to the target, and nothing but the field's own bits changed
 pub record Patched (kind : FixKind) (place target : ℕ) (old new : List ℕ) : Type 0 where

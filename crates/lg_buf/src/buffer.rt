@@ -90,6 +90,13 @@ impl CodeBuf {
         self.allocator
     }
 
+    /// How many bytes there can be: the size that `new` was given.
+    pub fn size(&self) -> u32
+        ensures { result ≡ self.now.size }
+    {
+        self.store.size()
+    }
+
     /// The place behind the last byte, which is the number of bytes.
     pub fn here(&self) -> u32
         ensures value { result ≡ length self.now.bytes }

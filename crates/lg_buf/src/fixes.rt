@@ -28,6 +28,8 @@ pub enum FixKind {
     RvJal,
     /// RV64: the address, in the upper 20 bits of a word and the 12 signed bits of the next (`lui`, `addi`).
     RvLuiAddi,
+    /// RV64: the distance from the first word, in its upper 20 bits and the 12 signed bits of the next (`auipc`, `jalr`).
+    RvAuipcJalr,
 }
 
 /// A label of a buffer, by its number.
@@ -52,7 +54,7 @@ impl FixKind {
     {
         match self {
             FixKind::X86Rel8 => 1,
-            FixKind::A64MovPair | FixKind::RvLuiAddi => 8,
+            FixKind::A64MovPair | FixKind::RvLuiAddi | FixKind::RvAuipcJalr => 8,
             FixKind::X86Rel32
             | FixKind::X86Abs32
             | FixKind::A64Branch26
@@ -88,6 +90,11 @@ impl FixKind {
             }
             // the address is at most 0x7FFF_F7FF: 524,287 * 4,096 and 2,047
             FixKind::RvLuiAddi => target < 0x6FFF_F800,
+            // 524,288 * 4,096 and 2,048 bytes back, 524,287 * 4,096 and 2,047 on
+            FixKind::RvAuipcJalr => {
+                place as u64 <= target as u64 + 0x8000_0800
+                    && (target as u64) < place as u64 + 0x7FFF_F800
+            }
         }
     }
 }

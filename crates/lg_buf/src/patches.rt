@@ -9,8 +9,8 @@ ghost use Rattle.lg_buf.specs.Buffers.{AreSound, AreDone, IsReady, place_of};
 use crate::fixes::{Fix, FixKind, Label32};
 use crate::store::Store;
 use crate::words::{
-    distance, with_branch, with_branch_26, with_cond_19, with_immediate, with_jump, with_move_16,
-    with_upper,
+    distance, far_distance, with_branch, with_branch_26, with_cond_19, with_immediate, with_jump,
+    with_move_16, with_upper,
 };
 
 // the first address of code
@@ -120,6 +120,21 @@ fn patch_lui_addi(store: &mut Store, place: u32, target: u32)
     store.rewrite(place + 4, with_immediate(lower, address % 0x1000));
 }
 
+fn patch_auipc_jalr(store: &mut Store, place: u32, target: u32)
+    requires inside { place + 8 ≤ length store.old.items }
+    requires fits { Fits FixKind.RvAuipcJalr place target }
+    ensures patched { Patched FixKind.RvAuipcJalr place target store.old.items store.new.items }
+    ensures size { store.new.size ≡ store.old.size }
+{
+    // places fit 32 bits
+    let _len = store.len();
+    let (high, low) = far_distance(place, target);
+    let upper = store.reread(place);
+    let lower = store.reread(place + 4);
+    store.rewrite(place, with_upper(upper, high));
+    store.rewrite(place + 4, with_immediate(lower, low));
+}
+
 fn patch_fitting(store: &mut Store, place: u32, kind: FixKind, target: u32)
     requires inside { place + fix_len kind ≤ length store.old.items }
     requires fits { Fits kind place target }
@@ -136,6 +151,7 @@ fn patch_fitting(store: &mut Store, place: u32, kind: FixKind, target: u32)
         FixKind::RvBranch => patch_branch(store, place, target),
         FixKind::RvJal => patch_jal(store, place, target),
         FixKind::RvLuiAddi => patch_lui_addi(store, place, target),
+        FixKind::RvAuipcJalr => patch_auipc_jalr(store, place, target),
     }
 }
 

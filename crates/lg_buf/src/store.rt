@@ -72,6 +72,13 @@ impl Store {
         })
     }
 
+    /// How many bytes there can be.
+    pub(crate) fn size(&self) -> u32
+        ensures { result ≡ self.now.size }
+    {
+        self.size
+    }
+
     /// How many bytes there are.
     pub(crate) fn len(&self) -> u32
         ensures length { result ≡ length self.now.items }

@@ -1,11 +1,12 @@
 // The bits of distances, and instruction words with a number in their field and every bit beside the field as it was.
 
-ghost use Rattle.std.specs.Prelude.{◌≡◌, ◌<◌, ◌≤◌, ◌+◌, ◌%◌, pos, ◌+ℤ◌};
+ghost use Rattle.std.specs.Prelude.{◌≡◌, ◌<◌, ◌≤◌, ◌+◌, ◌%◌, pos, ◌+ℤ◌, ◌*ℤ◌};
 ghost use Rattle.lg_base.specs.Fields.{part, signed};
 ghost use Rattle.lg_base.specs.Immediates.{branch_bits, jump_bits};
 ghost use Rattle.lg_buf.specs.FixFields.{branch_rest, cond_rest, move_rest};
-ghost use Rattle.lg_buf.specs.Fixing.{IsWithin};
+ghost use Rattle.lg_buf.specs.Fixing.{IsWithin, Fits};
 
+use crate::fixes::FixKind;
 use lg_base::field::Field;
 
 /// The bits of the distance as a signed number of `half + half` values, of which it is one.
@@ -24,6 +25,20 @@ pub(crate) fn distance(half: u64, from: u64, to: u32) -> u32
     } else {
         (to + half + half - from) as u32
     }
+}
+
+/// The distance from a place to another one in two parts: how many times 4,096 as a signed number of 20 bits, rounded to the nearest, since the other
+/// part is a signed number of 12 bits.
+pub(crate) fn far_distance(from: u32, to: u32) -> (u32, u32)
+    requires { Fits FixKind.RvAuipcJalr from to }
+    ensures high { result.0 < 1048576 }
+    ensures low { result.1 < 4096 }
+    ensures leads { pos from +ℤ ((signed 524288 result.0 *ℤ pos 4096) +ℤ signed 2048 result.1) ≡ pos to }
+{
+    let rounded = to as u64 + 0x1_0000_0800 - from as u64;
+    let high = rounded / 0x1000 % 0x10_0000;
+    let low = (rounded + 0x800) % 0x1000;
+    (high as u32, low as u32)
 }
 
 /// A branch of RV64 whose offset has these 13 bits, the lowest of which is 0.

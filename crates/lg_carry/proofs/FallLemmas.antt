@@ -68,7 +68,7 @@ module _ (t : Text) (n : Node) (s : State) where
   falls (op.Plain plain.Allocai) e = refl
   falls (op.Plain plain.Align) e = refl
   falls (op.Load v at) e = needed k (address t.addresses s at n 1) _ (λ a. needed k (read s a (width v)) _ (λ w. refl))
-  falls (op.Store v at) e = needed k (address t.addresses s at n 0) _ (λ a. needed k (value t.addresses s (operand_at n (stored_operand at))) _ (λ w. where_true k ((a % store_width v == 0) && writable (is_open s) a (store_width v)) (quiet (on_with_carry (record s { mem = stored s.mem a (store_width v) w }))) refl))
+  falls (op.Store v at) e = needed k (address t.addresses s at n 0) _ (λ a. needed k (value t.addresses s (operand_at n (stored_operand at))) _ (λ w. where_true k (writable (is_open s) a (store_width v)) (quiet (on_with_carry (record s { mem = stored s.mem a (store_width v) w }))) refl))
   falls (op.Retval v) e = needed k s.answer _ (λ w. operated (operand_at n 0) (Some (typed v w)))
   falls (op.Getarg v) e = needed k (slice_get s.frame.args (slot (operand_at n 1))) _ (λ w. operated (operand_at n 0) (Some (typed v w)))
 

@@ -53,7 +53,7 @@ follows r i h low running = by r.progress refl running
     by : (p : Progress) → r.progress ≡ p → status_of (on_going p (after r (act i (length (spelling i)) r.state)) r).progress ≡ Running → (on_going p (after r (act i (length (spelling i)) r.state)) r).state.pc ≡ r.state.pc + length (spelling i)
     by Goes is e =
         let s = straight-does i (add_words r.state.pc (length (spelling i))) r.state h in
-        ap (λ z. z.to.pc) s ∙ with-next r.state (add_words r.state.pc (length (spelling i))) (fault_of i) (made i (scene_of r.state)) (ap (λ z. status_of z.progress) (sym s) ∙ e) ∙ small-sum r.state.pc (length (spelling i)) low (sized i).short
+        ap (λ z. z.to.pc) s ∙ with-next r.state (add_words r.state.pc (length (spelling i))) (fault_of i) (made i (scene_of r.state)) (ap (λ z. status_of z.progress) (sym s) ∙ e) ∙ small-sum r.state.pc (length (spelling i)) low (let few = (sized i).short in omega (arith, few))
     by (EndedWith n) is e = absurd (ended n (ap status_of (sym is) ∙ e))
     by (Faulted kind) is e = absurd (bad (ap status_of (sym is) ∙ e))
 

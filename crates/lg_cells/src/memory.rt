@@ -2,7 +2,7 @@
 
 ghost use Rattle.std.specs.Prelude.{◌≡◌, ℕ, ◌+◌, ◌-◌, ◌<◌, ◌≤◌, ◌^◌, ◌⊎◌, length, IsTrue, IfOk, if◌then◌else◌};
 ghost use Rattle.lg_base.specs.Spaces.{put_some, raised, loaded, stored};
-ghost use Rattle.lg_cells.specs.Cells.{cell_of, first_cells};
+ghost use Rattle.lg_cells.specs.Cells.{cell_of, is_room, first_cells};
 ghost use Rattle.lg_cells.specs.Memories.{byte_at, room_at, place_of, without, opened, closed, first_bytes, first_room, writable, cell_at, IsSameSize};
 
 use crate::cell::{Cell, closed_cells, fill, put_bytes};
@@ -130,18 +130,34 @@ impl CellMemory {
         self.cell(address).is_room()
     }
 
+    // The cell so many addresses behind one; behind the last address there is none.
+    fn cell_behind(&self, address: u64, count: u64) -> Cell
+        requires { count < 8 }
+        ensures value { result ≡ cell_at self.now (address + count) }
+        ensures end { IsTrue (is_room result) → address + count < 2 ^ 64 }
+    {
+        match place(
+            self.data_size,
+            self.args_size,
+            self.mark,
+            address.wrapping_add(count),
+        ) {
+            Some(at) => self.cells[at],
+            None => Cell::Closed,
+        }
+    }
+
     /// The number in `width` bytes from an address on, the lowest byte first. None exactly where one of them was never written or
-    /// can't stand there. `width` is at most 8, and the bytes end by 2^64.
+    /// can't stand there, as bytes behind the last address. `width` is at most 8.
     pub fn load(&self, address: u64, width: u32) -> Option<u64>
-        requires narrow { width ≤ 8 }
-        requires end { address + width ≤ 2 ^ 64 }
+        requires { width ≤ 8 }
         ensures { result ≡ loaded (byte_at self.now) address width }
     {
         let mut value: u64 = 0;
         let mut left = width as u64;
         while left > 0 {
             left -= 1;
-            match self.byte(address + left) {
+            match self.cell_behind(address, left).byte() {
                 Some(byte) => value = value * 256 + byte as u64,
                 None => return None,
             }
@@ -149,14 +165,14 @@ impl CellMemory {
         Some(value)
     }
 
-    /// Whether each of `width` bytes from an address on can be written. `width` is at most 8, and the bytes end by 2^64.
+    /// Whether each of `width` bytes from an address on can be written; bytes behind the last address can't. `width` is at most 8.
     pub fn can_store(&self, address: u64, width: u32) -> bool
-        requires narrow { width ≤ 8 }
-        requires end { address + width ≤ 2 ^ 64 }
-        ensures { result ≡ writable (room_at self.now) address width }
+        requires { width ≤ 8 }
+        ensures value { result ≡ writable (room_at self.now) address width }
+        ensures end { IsTrue result → address + width ≤ 2 ^ 64 }
     {
         for i in 0..width as u64 {
-            if !self.is_room(address + i) {
+            if !self.cell_behind(address, i).is_room() {
                 return false;
             }
         }

@@ -12,19 +12,21 @@ use Rattle.lg_command.specs.declared.command.Command.{Command as Held}
 use Rattle.lg_command.specs.declared.command.Mode.{Mode}
 use Rattle.lg_command.specs.declared.command.Mode.TheVariants as mode
 
--- what is done with the text of a file, for which target, with at most so many steps and so many bytes of code, and the words of the
--- arguments, which begin with the file
+-- what is done with the text of a file, for which target, with at most so many steps and so many bytes of code, the seed of the generator, whether
+-- the statistics are told, and the words of the arguments, which begin with the file
 pub record Command : Type 0 where
   pub mode : Mode
   pub target : Target
   pub steps : ℕ
   pub size : ℕ
+  pub seed : ℕ
+  pub stats : Bool
   pub file : Text
   pub arguments : List Text
 
 abbrev pub mode_of : Option Text → Mode
 mode_of None = mode.Run
-mode_of (Some t) = if bytes_eq t (codes "mean") then mode.Mean else mode.Run
+mode_of (Some t) = if bytes_eq t (codes "list") then mode.List else (if bytes_eq t (codes "mean") then mode.Mean else (if bytes_eq t (codes "gen") then mode.Gen else mode.Run))
 
 abbrev pub target_of : Option Text → Target
 target_of None = target.X86_64
@@ -47,6 +49,11 @@ number_of other (Some t) = let digits = without_leading_plus t in if is_number d
 abbrev pub between : ℕ → ℕ → ℕ → ℕ
 between least most n = min (max n least) most
 
+-- a flag's value says that it was given
+abbrev pub is_told : Option Text → Bool
+is_told None = false
+is_told (Some t) = bytes_eq t (codes "true")
+
 abbrev pub file_of : List Row → Text
 file_of rows = unwrap_or (first_of (codes "FILE") rows) (codes "-")
 
@@ -56,7 +63,9 @@ command_of rows = record {
   mode = mode_of (first_of (codes "mode") rows);
   target = target_of (first_of (codes "target") rows);
   steps = between 1 1000000000000 (number_of 1000000000 (one_of (codes "steps") rows));
-  size = between 256 1048576 (number_of 1048576 (one_of (codes "code") rows));
+  size = between 256 67108864 (number_of 1048576 (one_of (codes "code") rows));
+  seed = number_of 1 (one_of (codes "seed") rows);
+  stats = is_told (first_of (codes "stats") rows);
   file = file_of rows;
   arguments = file_of rows ∷ unwrap_or (all_of (codes "ARG") rows) [];
 }
@@ -90,11 +99,12 @@ HasFault words = (app : App) → IsApp app → fault_of app words ≢ []
 
 -- a command as it is held
 abbrev pub shown : Held → Command
-shown c = record { mode = c.mode; target = c.target; steps = c.steps; size = c.size; file = c.file.now; arguments = texts_of c.arguments.items }
+shown c = record { mode = c.mode; target = c.target; steps = c.steps; size = c.size; seed = c.seed; stats = c.stats; file = c.file.now; arguments = texts_of c.arguments.items }
 
 -- its numbers are in their ranges, and its arguments begin with the file
 pub record IsInRange (c : Held) : Type 0 where
   pub steps_most : c.steps ≤ 1000000000000
   pub size_least : 256 ≤ c.size
-  pub size_most : c.size ≤ 1048576
+  pub size_most : c.size ≤ 67108864
+  pub seed_most : c.seed < 2 ^ 64
   pub some : 0 < length c.arguments.items

@@ -3,7 +3,7 @@ use Rattle.std.specs.Prelude.{◌≡◌, ℕ, true, List, [], ◌∷◌, Some, m
 use Rattle.std.specs.Borrow.{Bor}
 use Rattle.clap.specs.Words.{App, Rule, Text, new_app, new_rule, with_rule}
 use Rattle.clap.specs.Lexer.{usize_max}
-use Rattle.clap.specs.declared.builder.action.ArgAction.TheVariants.{Set, Append}
+use Rattle.clap.specs.declared.builder.action.ArgAction.TheVariants.{Set, SetTrue, Append}
 use Rattle.clap.specs.declared.builder.value_parser.ValueParser.TheVariants as vp
 
 -- texts that stand somewhere
@@ -14,7 +14,7 @@ abbrev pub lent : Lent → List Text
 lent texts = map (λ s. s.now) texts.now
 
 abbrev pub mode_words : List Text
-mode_words = codes "run" ∷ codes "mean" ∷ []
+mode_words = codes "run" ∷ codes "list" ∷ codes "mean" ∷ codes "gen" ∷ []
 
 abbrev pub target_words : List Text
 target_words = codes "x86_64" ∷ codes "aarch64" ∷ codes "riscv64" ∷ []
@@ -29,7 +29,13 @@ abbrev pub steps_rule : Rule
 steps_rule = record (new_rule (codes "steps")) { long = Some (codes "steps"); action = Some Set; defaults = codes "1000000000" ∷ []; parser = Some (vp.Unsigned 1 1000000000000) }
 
 abbrev pub code_rule : Rule
-code_rule = record (new_rule (codes "code")) { long = Some (codes "code"); action = Some Set; defaults = codes "1048576" ∷ []; parser = Some (vp.Unsigned 256 1048576) }
+code_rule = record (new_rule (codes "code")) { long = Some (codes "code"); action = Some Set; defaults = codes "1048576" ∷ []; parser = Some (vp.Unsigned 256 67108864) }
+
+abbrev pub seed_rule : Rule
+seed_rule = record (new_rule (codes "seed")) { long = Some (codes "seed"); action = Some Set; defaults = codes "1" ∷ []; parser = Some (vp.Unsigned 0 18446744073709551615) }
+
+abbrev pub stats_rule : Rule
+stats_rule = record (new_rule (codes "stats")) { long = Some (codes "stats"); action = Some SetTrue }
 
 abbrev pub file_rule : Rule
 file_rule = record (new_rule (codes "FILE")) { action = Some Set; defaults = codes "-" ∷ [] }
@@ -54,7 +60,9 @@ without_help a = record a { top = record a.top { disable_help_flag = true } }
 -- the command; the words of a mode and of a target are lent to clap as slices, which stand at some addresses
 abbrev pub app_with : Lent → Lent → App
 app_with modes targets =
-    with_rule (with_rule (with_rule (with_rule (with_rule (with_rule (without_help (new_app (codes "lightning"))) (mode_rule modes)) (target_rule targets)) steps_rule) code_rule) file_rule) rest_rule
+    let named = with_rule (with_rule (without_help (new_app (codes "lightning"))) (mode_rule modes)) (target_rule targets) in
+    let numbered = with_rule (with_rule (with_rule named steps_rule) code_rule) seed_rule in
+    with_rule (with_rule (with_rule numbered stats_rule) file_rule) rest_rule
 
 pub record IsApp (app : App) : Type 0 where
   pub modes : Lent

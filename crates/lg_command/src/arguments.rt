@@ -2,12 +2,12 @@
 
 ghost use Rattle.std.specs.Prelude.{◌≡◌, IfOk, false};
 ghost use Rattle.clap.specs.Words.{app_of, rule_of};
-ghost use Rattle.lg_command.specs.Rules.{IsApp, IsModeRule, IsTargetRule, steps_rule, code_rule, file_rule, rest_rule};
+ghost use Rattle.lg_command.specs.Rules.{IsApp, IsModeRule, IsTargetRule, steps_rule, code_rule, seed_rule, stats_rule, file_rule, rest_rule};
 
 use clap::{Arg, ArgAction, Command, value_parser};
 use std::alloc::{AllocError, Global};
 
-static MODES: [&str; 2] = ["run", "mean"];
+static MODES: [&str; 4] = ["run", "list", "mean", "gen"];
 
 static TARGETS: [&str; 3] = ["x86_64", "aarch64", "riscv64"];
 
@@ -52,7 +52,27 @@ fn code_argument<'a>(alloc: Global) -> Arg<'a>
         .long("code")
         .action(ArgAction::Set)
         .default_value("1048576")
-        .value_parser(value_parser!(u64).range(256..=1_048_576))
+        .value_parser(value_parser!(u64).range(256..=67_108_864))
+}
+
+fn seed_argument<'a>(alloc: Global) -> Arg<'a>
+    ensures rule { rule_of result ≡ seed_rule }
+    ensures local { result.global ≡ false }
+{
+    Arg::new(alloc, "seed")
+        .long("seed")
+        .action(ArgAction::Set)
+        .default_value("1")
+        .value_parser(value_parser!(u64))
+}
+
+fn stats_argument<'a>(alloc: Global) -> Arg<'a>
+    ensures rule { rule_of result ≡ stats_rule }
+    ensures local { result.global ≡ false }
+{
+    Arg::new(alloc, "stats")
+        .long("stats")
+        .action(ArgAction::SetTrue)
 }
 
 fn file_argument<'a>(alloc: Global) -> Arg<'a>
@@ -83,6 +103,8 @@ pub fn command<'a>(alloc: Global) -> Result<Command<'a>, AllocError>
         .arg(target_argument(alloc))?
         .arg(steps_argument(alloc))?
         .arg(code_argument(alloc))?
+        .arg(seed_argument(alloc))?
+        .arg(stats_argument(alloc))?
         .arg(file_argument(alloc))?
         .arg(rest_argument(alloc))
 }

@@ -7,8 +7,12 @@ use lg_base::target::Target;
 pub enum Mode {
     /// Its code runs.
     Run,
+    /// The listing of its code is written.
+    List,
     /// Its portable meaning runs, over the addresses of the code's labels.
     Mean,
+    /// The code of the generator's text runs.
+    Gen,
 }
 
 /// What the words of the command ask for.
@@ -22,6 +26,10 @@ pub struct Command<'a> {
     pub steps: u64,
     /// The most bytes of the code.
     pub size: u32,
+    /// The number from which the generator begins.
+    pub seed: u64,
+    /// Whether a line tells the code's size and the run's steps.
+    pub stats: bool,
     /// The name of the text.
     pub file: &'a str,
     /// The words of the arguments: the name of the text, and what follows it.

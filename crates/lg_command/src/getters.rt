@@ -3,7 +3,7 @@
 ghost use Rattle.std.specs.Prelude.{◌≡◌, ◌∷◌, [], ◌++◌, ◌≤◌, IfOk, OnOk, map, option_map, unwrap_or, codes};
 ghost use Rattle.clap.specs.Words.{found_of, rows_of, first_of, one_of, all_of};
 ghost use Rattle.lg_base.specs.Arguments.{texts_of};
-ghost use Rattle.lg_command.specs.Commands.{mode_of, target_of, number_of, between, file_of};
+ghost use Rattle.lg_command.specs.Commands.{mode_of, target_of, number_of, between, is_told, file_of};
 
 use crate::command::Mode;
 use clap::ArgMatches;
@@ -16,7 +16,9 @@ fn mode_named(word: Option<&str>) -> Mode
     ensures { result ≡ mode_of (option_map (λ s. s.now) word.entry) }
 {
     match word {
+        Some("list") => Mode::List,
         Some("mean") => Mode::Mean,
+        Some("gen") => Mode::Gen,
         _ => Mode::Run,
     }
 }
@@ -65,9 +67,30 @@ pub fn steps(matches: &ArgMatches<'_>) -> u64
 
 /// The most bytes of the code.
 pub fn size(matches: &ArgMatches<'_>) -> u32
-    ensures { result ≡ between 256 1048576 (number_of 1048576 (one_of (codes "code") (rows_of (found_of matches.now)))) }
+    ensures { result ≡ between 256 67108864 (number_of 1048576 (one_of (codes "code") (rows_of (found_of matches.now)))) }
 {
-    number(matches, "code", 1_048_576).clamp(256, 1_048_576) as u32
+    number(matches, "code", 1_048_576).clamp(256, 67_108_864) as u32
+}
+
+/// The number from which the generator begins.
+pub fn seed(matches: &ArgMatches<'_>) -> u64
+    ensures { result ≡ number_of 1 (one_of (codes "seed") (rows_of (found_of matches.now))) }
+{
+    number(matches, "seed", 1)
+}
+
+// Whether a word is that of a flag that was given.
+fn is_told(word: Option<&str>) -> bool
+    ensures { result ≡ is_told (option_map (λ s. s.now) word.entry) }
+{
+    matches!(word, Some("true"))
+}
+
+/// Whether a line tells the code's size and the run's steps.
+pub fn stats(matches: &ArgMatches<'_>) -> bool
+    ensures { result ≡ is_told (first_of (codes "stats") (rows_of (found_of matches.now))) }
+{
+    is_told(matches.get_str("stats"))
 }
 
 /// The name of the text.

@@ -5,13 +5,13 @@ ghost use Rattle.lg_base.specs.Arguments.{texts_of};
 ghost use Rattle.lg_command.specs.Commands.{IsCommand, IsInRange, AreNoCommand, shown};
 
 use crate::command::{Command, WordsStop};
-use crate::getters::{arguments, file, mode, size, steps, target};
+use crate::getters::{arguments, file, mode, seed, size, stats, steps, target};
 use crate::matches::matches_of;
 use lg_base::refusal::OutOfMemory;
 use std::alloc::Global;
 
 /// What the words of the command ask for, the first of which is the program's name. They are read as one simple command of clap:
-/// `lightning [--mode M] [--target T] [--steps N] [--code N] [FILE [ARG]...]`. `Usage` comes only for words that clap does not take.
+/// `lightning [--mode M] [--target T] [--steps N] [--code N] [--seed N] [--stats] [FILE [ARG]...]`. `Usage` comes only for words that clap does not take.
 pub fn read_words<'a>(alloc: Global, words: &'a Vec<String>) -> Result<Command<'a>, WordsStop>
     ensures command { IfOk result (λ c. IsCommand (texts_of words.entry.now.items) (shown c)) }
     ensures range { IfOk result IsInRange }
@@ -25,6 +25,8 @@ pub fn read_words<'a>(alloc: Global, words: &'a Vec<String>) -> Result<Command<'
             target: target(&matches),
             steps: steps(&matches),
             size: size(&matches),
+            seed: seed(&matches),
+            stats: stats(&matches),
             file,
             arguments,
         }),

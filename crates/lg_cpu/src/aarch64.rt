@@ -232,8 +232,12 @@ impl Aarch64 {
         ensures { Does (reg_effect op rd a b (a64_state self.old)) (a64_inner self.old) (a64_inner self.new) result }
     {
         let value = reg_value(op, self.flags, a, b);
-        let flags = reg_flags(op, self.flags, a, b);
-        self.set_with(rd, value, flags)
+        match op {
+            RegOp::Adds | RegOp::Subs | RegOp::Adcs | RegOp::Sbcs | RegOp::Ands => {
+                self.set_with(rd, value, reg_flags(op, self.flags, a, b))
+            }
+            _ => self.set(rd, value),
+        }
     }
 
     // Branches where a condition holds.

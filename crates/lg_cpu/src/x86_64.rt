@@ -10,12 +10,12 @@ mod operators;
 mod start;
 
 use self::flags::{
-    alu_flags, carry_for, condition, negation_flags, no_flags, product_flags, reg_rm_flags,
-    shift_flags,
+    bit_flags, condition, difference_flags, negation_flags, no_flags, product_flags, reg_rm_flags,
+    shift_flags, sum_flags,
 };
 use self::operators::{
-    alu_of, alu_value, high_signed, is_kept_by, needs_high, needs_high_signed, reg_rm_value,
-    shift_value, sign_word,
+    alu_of, alu_value, high_signed, needs_high, needs_high_signed, reg_rm_value, shift_value,
+    sign_word,
 };
 use crate::answer::CpuStep;
 use crate::board::{Board, CODE, STOP};
@@ -72,7 +72,8 @@ impl X86_64 {
     ghost use Rattle.lg_x86.specs.declared.instruction.Instr.{Instr};
     ghost use Rattle.lg_cpu.specs.RvStep.{in_code};
     ghost use Rattle.lg_cpu.specs.States.{goes_on};
-    ghost use Rattle.lg_cpu.specs.X86Operators.{bit, condition};
+    ghost use Rattle.lg_cpu.specs.X86Operators.{bit, bit_flags, condition};
+    ghost use Rattle.lg_x86.specs.declared.instruction.RmRegOp.{RmRegOp};
     ghost use Rattle.lg_cpu.specs.X86Step.{with_register, with_flags, with_wide, combined_with, combined, loads, sets_loaded, stores};
     ghost use Rattle.lg_cpu.specs.X86Step.{shifted, sets_quotient, one_register};
     ghost use Rattle.lg_cpu.specs.X86Step.{pops, pushes, sets_byte, goes_where, returns, does, fetch};
@@ -132,28 +133,73 @@ impl X86_64 {
         self.go(next)
     }
 
-    // Combines a register and a word, with a carry.
-    fn combine_with(&mut self, next: u64, op: RmRegOp, rm: u8, b: u64, carry: bool) -> CpuStep
+    // Adds a word and a carry to a register.
+    fn add(&mut self, next: u64, rm: u8, b: u64, carry: bool) -> CpuStep
         requires { rm < 16 }
-        ensures { Leads next (combined_with op rm b (bit carry) (x86_scene self.old)) self.old self.new result }
+        ensures { Leads next (combined_with RmRegOp.Adc rm b (bit carry) (x86_scene self.old)) self.old self.new result }
     {
         let a = self.registers[rm as usize];
-        let flags = alu_flags(op, self.flags, a, b, carry);
-        if is_kept_by(op) {
-            self.set_flags(next, flags)
-        } else {
-            self.set(next, rm, alu_value(op, a, b, carry), flags)
-        }
+        let sum = alu_value(RmRegOp::Adc, a, b, carry);
+        self.set(next, rm, sum, sum_flags(a, b, carry, sum))
     }
 
-    // And with the carry that the row reads.
+    // Subtracts a word and a borrow from a register.
+    fn subtract(&mut self, next: u64, rm: u8, b: u64, borrow: bool) -> CpuStep
+        requires { rm < 16 }
+        ensures { Leads next (combined_with RmRegOp.Sbb rm b (bit borrow) (x86_scene self.old)) self.old self.new result }
+    {
+        let a = self.registers[rm as usize];
+        let difference = alu_value(RmRegOp::Sbb, a, b, borrow);
+        self.set(
+            next,
+            rm,
+            difference,
+            difference_flags(a, b, borrow, difference),
+        )
+    }
+
+    // Sets a register to bits, and the flags by them.
+    fn set_bits(&mut self, next: u64, rm: u8, bits: u64) -> CpuStep
+        requires { rm < 16 }
+        ensures { Leads next (with_register (x86_scene self.old) rm bits (bit_flags bits)) self.old self.new result }
+    {
+        self.set(next, rm, bits, bit_flags(bits))
+    }
+
+    // Combines a register and a word, with the carry that the row reads.
     fn combine(&mut self, next: u64, op: RmRegOp, rm: u8, b: u64) -> CpuStep
         requires { rm < 16 }
         ensures { Makes next FaultKind.Flag (combined op rm b (x86_scene self.old)) self.old self.new result }
     {
-        match carry_for(op, self.flags.carry()) {
-            Some(carry) => self.combine_with(next, op, rm, b, carry),
-            None => CpuStep::Fault(FaultKind::Flag),
+        let a = self.registers[rm as usize];
+        match op {
+            RmRegOp::Add => {
+                let sum = a.wrapping_add(b);
+                self.set(next, rm, sum, sum_flags(a, b, false, sum))
+            }
+            RmRegOp::Sub => {
+                let difference = a.wrapping_sub(b);
+                self.set(
+                    next,
+                    rm,
+                    difference,
+                    difference_flags(a, b, false, difference),
+                )
+            }
+            RmRegOp::Cmp => self.set_flags(next, difference_flags(a, b, false, a.wrapping_sub(b))),
+            RmRegOp::Or => self.set_bits(next, rm, a | b),
+            RmRegOp::And => self.set_bits(next, rm, a & b),
+            RmRegOp::Xor => self.set_bits(next, rm, a ^ b),
+            RmRegOp::Test => self.set_flags(next, bit_flags(a & b)),
+            RmRegOp::Mov => self.set(next, rm, b, self.flags),
+            RmRegOp::Adc => match self.flags.carry() {
+                Some(carry) => self.add(next, rm, b, carry),
+                None => CpuStep::Fault(FaultKind::Flag),
+            },
+            RmRegOp::Sbb => match self.flags.carry() {
+                Some(borrow) => self.subtract(next, rm, b, borrow),
+                None => CpuStep::Fault(FaultKind::Flag),
+            },
         }
     }
 

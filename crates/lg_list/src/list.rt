@@ -9,7 +9,6 @@ ghost use Rattle.lg_list.specs.Lines.{rendered, label_line};
 ghost use Rattle.lg_list.specs.Lines.Entry.{Label, Node, Code};
 ghost use Rattle.lg_base.specs.Layout.{code_base, most_code};
 ghost use Rattle.lg_list.specs.Listing.{labels_at, bytes_between, node_entries, nodes_from, listing, Placed, AreAddressed};
-ghost use Rattle.lg_list.specs.Back.{IsListable};
 
 use crate::instruction::decode;
 use crate::line::Line;
@@ -167,7 +166,8 @@ pub fn list<O: Sink>(
     labels: &LabelAddresses,
     out: &mut O,
 ) -> Result<(), SinkFault>
-    requires { IsListable target code.now.items places.now.items nodes.now labels.now }
+    requires placed { Placed places.now.items (length nodes.now.nodes) (length code.now.items) }
+    requires addressed { AreAddressed nodes.now.places places.now.items labels.now }
     ensures { Wrote (O.taken out.old) (O.taken out.new) (O.faults out.old) (O.faults out.new) result (listing target code.now.items places.now.items nodes.now) }
 {
     let line = first_line(target, code.len());

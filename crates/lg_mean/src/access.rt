@@ -1,6 +1,6 @@
 // Loads and stores of the portable machine. Each method answers whether the step is defined.
 
-ghost use Rattle.std.specs.Prelude.{◌≡◌, ◌<◌, ◌≤◌, ◌-◌, ◌+◌, ◌%◌, ◌^◌, ◌==◌, ◌&&◌, ◌⊎◌, ℕ, length, Bool, true, false, if◌then◌else◌, IsTrue, Option, None};
+ghost use Rattle.std.specs.Prelude.{◌≡◌, ◌<◌, ◌≤◌, ◌-◌, ◌+◌, ◌^◌, ◌&&◌, ℕ, length, Bool, true, false, if◌then◌else◌, IsTrue, Option, None};
 ghost use Rattle.lg_base.specs.Spaces.{loaded, stored};
 ghost use Rattle.lg_cells.specs.Memories.{writable};
 ghost use Rattle.lg_meaning.specs.States.{is_open};
@@ -12,15 +12,6 @@ ghost use Rattle.lg_mean.specs.Says.{AreKnown, Does};
 use crate::machine::{Machine, operand};
 use lg_node::{Addressing, Node, Operand, StoreType, ValueType};
 use lg_operators::operators;
-
-// Whether an address is a multiple of a width.
-fn is_aligned(address: u64, width: u32) -> bool
-    requires { (width ≡ 1) ⊎ ((width ≡ 2) ⊎ ((width ≡ 4) ⊎ (width ≡ 8))) }
-    ensures value { result ≡ (address % width == 0) }
-    ensures end { IsTrue result → address + width ≤ 2 ^ 64 }
-{
-    address % width as u64 == 0
-}
 
 // Whether an address is the sum of two operands.
 fn is_indexed(addressing: Addressing) -> bool
@@ -63,8 +54,7 @@ impl Machine {
 
     // The number in so many bytes at an address, where each lies in a part and was written.
     fn number(&self, address: u64, width: u32) -> Option<u64>
-        requires narrow { width ≤ 8 }
-        requires end { address + width ≤ 2 ^ 64 }
+        requires { width ≤ 8 }
         ensures { result ≡ (if writable (is_open (state_of self.now)) address width then loaded (state_of self.now).mem address width else None) }
     {
         self.memory.load(address, width)
@@ -74,12 +64,7 @@ impl Machine {
     fn read(&self, value_type: ValueType, address: u64) -> Option<u64>
         ensures { result ≡ read (state_of self.now) address (width value_type) }
     {
-        let width = operators::width(value_type);
-        if is_aligned(address, width) {
-            self.number(address, width)
-        } else {
-            None
-        }
+        self.number(address, operators::width(value_type))
     }
 
     // O1 = what stands at an address.
@@ -116,11 +101,11 @@ impl Machine {
 
     // Whether so many bytes at an address can be written.
     fn can_write(&self, store_type: StoreType, address: u64) -> bool
-        ensures value { result ≡ ((address % store_width store_type == 0) && writable (is_open (state_of self.now)) address (store_width store_type)) }
+        ensures value { result ≡ writable (is_open (state_of self.now)) address (store_width store_type) }
         ensures end { IsTrue result → address + store_width store_type ≤ 2 ^ 64 }
     {
-        let width = operators::store_width(store_type);
-        is_aligned(address, width) && self.memory.can_store(address, width)
+        self.memory
+            .can_store(address, operators::store_width(store_type))
     }
 
     // Writes bytes that can be written.

@@ -1,6 +1,6 @@
 -- Outside of the stack no step takes a byte out.
 use Rattle.std.proofs.Common.{◌≡◌, inl, inr, ℕ, zero, suc, ◌+◌, ◌-◌, ◌<◌, ◌≤◌, Bool, true, false, List, [], ◌∷◌, Option, Some, None, refl, sym, ap, ◌∙◌, subst, arith}
-use Rattle.std.specs.Prelude.{◌==◌, ◌&&◌, ◌%◌, ◌/◌, is_some, slice_get, nat_le, if◌then◌else◌}
+use Rattle.std.specs.Prelude.{◌==◌, ◌%◌, ◌/◌, is_some, slice_get, nat_le, if◌then◌else◌}
 use Rattle.std.proofs.lemmas.Option.{same_Some}
 use Rattle.lg_base.specs.HostNames.{host_by_address}
 use Rattle.lg_base.specs.Spaces.{put_some, stored}
@@ -102,7 +102,7 @@ module _ (s : State) where
       need_on (Grows s) (address A s at n 0) _ (λ a h. need_on (Grows s) (value A s (operand_at n (stored_operand at))) _ (λ v g. by a v))
     where
       by : (a v : ℕ) → OnGoes (Grows s) (store_to s t a v)
-      by a v = when_on (Grows s) ((a % store_width t == 0) && writable (is_open s) a (store_width t)) _ (λ may. record { data_size = refl; args_size = refl; mark = omega arith; bytes = λ b lt h. stored_stays (store_width t) s.mem a v b h })
+      by a v = when_on (Grows s) (writable (is_open s) a (store_width t)) _ (λ may. record { data_size = refl; args_size = refl; mark = omega arith; bytes = λ b lt h. stored_stays (store_width t) s.mem a v b h })
 
   -- ---- calls
   ends_grow : (h : Host) → OnGives h (Writes (memory s.mem (is_open s) s.mark)) → OnGoes (Grows s) (host_end s h)

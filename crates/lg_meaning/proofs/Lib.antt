@@ -1,3 +1,4 @@
+pub mod AccessLemmas
 pub mod AddressLemmas
 pub mod ArriveLemmas
 pub mod CallLemmas

@@ -1,7 +1,5 @@
 -- Steps that prepare a call, and stores, keep the fit.
 use Rattle.std.proofs.Common.{◌≡◌, ℕ, ◌+◌, true, false, List, [], ◌∷◌, ◌++◌, Some, refl, sym, ap, ◌∙◌, length, length-append}
-use Rattle.std.specs.Prelude.{◌&&◌, ◌==◌, ◌%◌}
-use Rattle.std.proofs.lemmas.Bool.{and_parts}
 use Rattle.lg_op.specs.declared.node.Node.{Node}
 use Rattle.lg_op.specs.declared.op.Addressing.{Addressing}
 use Rattle.lg_op.specs.declared.op.LastOperand.{LastOperand}
@@ -80,11 +78,11 @@ module _ (l : LabelledNodes) (shape : TextShape) (s : State) (n : Node) (x : AtN
       behind = prepared_next l shape s n x ∙ still (prepared_before l.nodes s.at) n.op silent
 
       by : (a v : ℕ) → OnGoes (FitsWell l shape) (store_to s t a v)
-      by a v = when_on (FitsWell l shape) ((a % store_width t == 0) && writable (is_open s) a (store_width t)) _ (λ may. next_fits l shape s n x _ (rw e refl) (rw e refl) (rw e refl) record {
+      by a v = when_on (FitsWell l shape) (writable (is_open s) a (store_width t)) _ (λ may. next_fits l shape s n x _ (rw e refl) (rw e refl) (rw e refl) record {
         at = refl;
         frame = refl;
         callers = refl;
-        memory = stored_stands (is_open s) (store_width t) s.mem a v (and_parts (a % store_width t == 0) (writable (is_open s) a (store_width t)) may).1 x.well.fits.memory;
+        memory = stored_stands (is_open s) (store_width t) s.mem a v may x.well.fits.memory;
         heap = x.well.heap;
         pushed = x.well.fits.pushed ∙ sym (ap pushed_of behind);
         variadic = x.well.fits.variadic ∙ sym (ap variadic_of behind);

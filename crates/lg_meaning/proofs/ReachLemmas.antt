@@ -187,7 +187,7 @@ module _ (l : LabelledNodes) (shape : TextShape) (s : State) (n : Node) (is : Is
   comes_of (op.Plain plain.Allocai) e k = onward (ap way_of e) (quiet (on s)) refl
   comes_of (op.Plain plain.Align) e k = onward (ap way_of e) (quiet (on s)) refl
   comes_of (op.Load v at) e k = falls_onward (ap way_of e) (load_step A n v at s) (load_falls s A n v at)
-  comes_of (op.Store t at) e k = onward (ap way_of e) (store_step A n t at s) (need_on IsOnward (address A s at n 0) _ (λ a h. need_on IsOnward (value A s (operand_at n (stored_operand at))) _ (λ v g. when_on IsOnward ((a % store_width t == 0) && writable (is_open s) a (store_width t)) (quiet (on_with_carry (record s { mem = stored s.mem a (store_width t) v }))) (λ c. refl))))
+  comes_of (op.Store t at) e k = onward (ap way_of e) (store_step A n t at s) (need_on IsOnward (address A s at n 0) _ (λ a h. need_on IsOnward (value A s (operand_at n (stored_operand at))) _ (λ v g. when_on IsOnward (writable (is_open s) a (store_width t)) (quiet (on_with_carry (record s { mem = stored s.mem a (store_width t) v }))) (λ c. refl))))
   comes_of (op.Retval v) e k = falls_onward (ap way_of e) (retval_step n v s) (retval_falls s n v)
   comes_of (op.Getarg v) e k = falls_onward (ap way_of e) (getarg_step n v s) (getarg_falls s n v)
 

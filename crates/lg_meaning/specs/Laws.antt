@@ -1,5 +1,5 @@
 -- What holds of the portable meaning: laws for the crates that hold its state and follow its runs.
-use Rattle.std.specs.Prelude.{◌≡◌, ℕ, ◌+◌, ◌*◌, ◌≤◌, true, false, List, Some, length, slice_get}
+use Rattle.std.specs.Prelude.{◌≡◌, ℕ, ◌+◌, ◌*◌, ◌<◌, ◌≤◌, true, false, List, Some, length, slice_get}
 use Rattle.std.specs.List.{All}
 use Rattle.lg_base.specs.Arguments.{most_args}
 use Rattle.lg_base.specs.Runs.{IsMachine, EndsSilently}
@@ -8,12 +8,13 @@ use Rattle.lg_op.specs.Nodes.{InForm}
 use Rattle.lg_node.specs.Nodes.{LabelledNodes}
 use Rattle.lg_node.specs.Functions.{home, is_prolog_at}
 use Rattle.lg_node.specs.Shapes.{TextShape, IsShapeOf}
-use Rattle.lg_meaning.specs.States.{State}
+use Rattle.lg_cells.specs.Memories.{writable}
+use Rattle.lg_meaning.specs.States.{State, is_open}
 use Rattle.lg_meaning.specs.Steps.{Goes}
 use Rattle.lg_meaning.specs.Texts.{step}
 use Rattle.lg_meaning.specs.Addresses.{AreAddresses, AreWithin, plain_addresses}
 use Rattle.lg_meaning.specs.Fits.{Fits, FitsWell, IsRunning, IsBeginning}
-use Rattle.lg_meaning.specs.Parts.{Grows, HoldsParts}
+use Rattle.lg_meaning.specs.Parts.{Grows, HoldsParts, LiesInOnePart}
 use Rattle.lg_meaning.specs.Stacks.{HasSmallParts, OpensLocalsAlone}
 use Rattle.lg_meaning.specs.Starts.{start_state}
 use Rattle.lg_meaning.specs.Means.{run_at, behind, machine, mean_from, mean}
@@ -55,6 +56,11 @@ MeansHoldParts = (l : LabelledNodes) (shape : TextShape) (addresses image args :
 -- where a state fits, only the locals of the frames are open in the stack
 abbrev pub FitsOpensLocals : Type 0
 FitsOpensLocals = (l : LabelledNodes) (shape : TextShape) (s : State) → FitsWell l shape s → HasSmallParts s → OpensLocalsAlone s
+
+-- where each byte of an access is open, the access lies in one part: no two of them are that near
+abbrev pub AccessesLieInOnePart : Type 0
+AccessesLieInOnePart = (l : LabelledNodes) (shape : TextShape) (s : State) (a w : ℕ)
+    → FitsWell l shape s → HasSmallParts s → 0 < w → w ≤ 8 → writable (is_open s) a w ≡ true → LiesInOnePart s a w
 
 -- ---- runs
 -- a run that is over stays, what was written stays written, and a step that ends a run or is undefined writes nothing

@@ -179,15 +179,15 @@ abbrev pub jump_step : Text → Node → State → Outcome
 jump_step t n s = need (value t.addresses s (operand_at n 0)) (λ w. need (jump_target t s.at w) (λ k. quiet (to s k)))
 
 -- ---- memory
--- the number of so many bytes, where each lies in a part and was written, and the address is a multiple of their number
+-- the number of so many bytes, where each lies in a part and was written; the address may be any
 abbrev pub read : State → ℕ → ℕ → Option ℕ
-read s a w = if (a % w == 0) && writable (is_open s) a w then loaded s.mem a w else None
+read s a w = if writable (is_open s) a w then loaded s.mem a w else None
 
 abbrev pub load_to : State → ValueType → ℕ → Operand → Outcome
 load_to s t a d = need (read s a (width t)) (λ v. quiet (on_with_carry (with_reg s d (typed t v))))
 
 abbrev pub store_to : State → StoreType → ℕ → ℕ → Outcome
-store_to s t a v = when ((a % store_width t == 0) && writable (is_open s) a (store_width t)) (quiet (on_with_carry (record s { mem = stored s.mem a (store_width t) v })))
+store_to s t a v = when (writable (is_open s) a (store_width t)) (quiet (on_with_carry (record s { mem = stored s.mem a (store_width t) v })))
 
 -- whether an address is the sum of two operands
 abbrev pub is_indexed : Addressing → Bool

@@ -2,7 +2,7 @@
 // contracts are the laws.
 
 ghost use Rattle.lg_meaning.specs.Reaching.{StepsReachSuccessors, TakenLabelsAreSuccessors};
-ghost use Rattle.lg_meaning.specs.Laws.{StartsFit, StepsKeepFit, MeansFit, FramesAreOfFunctions, StepsGrow, MeansHoldParts, FitsOpensLocals, MeansAreMachines, StepsAreMeans, PlainAddressesAre};
+ghost use Rattle.lg_meaning.specs.Laws.{StartsFit, StepsKeepFit, MeansFit, FramesAreOfFunctions, StepsGrow, MeansHoldParts, FitsOpensLocals, AccessesLieInOnePart, MeansAreMachines, StepsAreMeans, PlainAddressesAre};
 
 use lg_node::laws::{accepted_nodes_are_well_shaped, accepted_nodes_have_functions};
 
@@ -61,6 +61,12 @@ pub fn parts_are_held()
 /// 1,048,576.
 pub fn only_locals_are_open_in_the_stack()
     ensures { FitsOpensLocals }
+{}
+
+/// A load or a store of 1 to 8 bytes, each of which may be accessed, lies in one part, in a state that fits: no access goes from one part
+/// over to another, whatever its address is a multiple of. The data part has at most 16,777,216 bytes, the argument part at most 1,048,576.
+pub fn accesses_lie_in_one_part()
+    ensures { AccessesLieInOnePart }
 {}
 
 /// Runs of the portable meaning are those of a machine: one that ended or became undefined stays, what is written stays written, and

@@ -1,5 +1,5 @@
 -- What the operations of the instruction set make of words.
-use Rattle.std.specs.Prelude.{ℕ, ◌+◌, ◌-◌, ◌%◌, ◌^◌, ◌==◌, ◌&&◌, ◌||◌, not, Bool, true, false, nat_lt, if◌then◌else◌, Option, Some, None, bit_and, bit_or, bit_xor}
+use Rattle.std.specs.Prelude.{ℕ, ◌+◌, ◌-◌, ◌%◌, ◌^◌, ◌==◌, ◌&&◌, ◌||◌, not, Bool, true, false, if◌then◌else◌, Option, Some, None, bit_and, bit_or, bit_xor}
 use Rattle.lg_base.specs.Words.{add_words, sub_words, mul_words, negated, complement, high_product, high_product_signed, quotient, remainder, quotient_signed, remainder_signed, shifted_left, shifted_right, shifted_right_signed, is_less, is_less_signed, word_of_test, carry_out, borrow_out, sum_overflows, difference_overflows}
 use Rattle.lg_base.specs.Wide.{zero_part_of, sign_part_of, swapped}
 use Rattle.lg_op.specs.declared.op.BinaryOp.{BinaryOp}
@@ -31,18 +31,15 @@ is_least_by_minus_one a b = (a == 2 ^ 63) && (b == 2 ^ 64 - 1)
 abbrev pub divides : ℕ → ℕ → Bool
 divides a b = not ((b == 0) || is_least_by_minus_one a b)
 
--- the word of a shift by a count below 64, of a quotient or of a remainder, or none where it is undefined
+-- the word of a quotient or of a remainder, or none where it is undefined
 abbrev pub partial_value : BinaryOp → ℕ → ℕ → Option ℕ
-partial_value binary.Lsh a b = word_where (nat_lt b 64) (shifted_left a b)
-partial_value binary.Rsh a b = word_where (nat_lt b 64) (shifted_right_signed a b)
-partial_value binary.RshU a b = word_where (nat_lt b 64) (shifted_right a b)
 partial_value binary.Div a b = word_where (divides a b) (quotient_signed a b)
 partial_value binary.DivU a b = word_where (not (b == 0)) (quotient a b)
 partial_value binary.Rem a b = word_where (divides a b) (remainder_signed a b)
 partial_value binary.RemU a b = word_where (not (b == 0)) (remainder a b)
 partial_value op a b = None
 
--- the word of two words, or none where it is undefined; the operations that set the carry stand below
+-- the word of two words, or none where it is undefined: a shift is by its count modulo 64; the operations that set the carry stand below
 abbrev pub binary_value : BinaryOp → ℕ → ℕ → Option ℕ
 binary_value binary.Add a b = Some (add_words a b)
 binary_value binary.Sub a b = Some (sub_words a b)
@@ -61,6 +58,9 @@ binary_value binary.Gt a b = Some (word_of_test (is_less_signed b a))
 binary_value binary.GtU a b = Some (word_of_test (is_less b a))
 binary_value binary.Eq a b = Some (word_of_test (a == b))
 binary_value binary.Ne a b = Some (word_of_test (not (a == b)))
+binary_value binary.Lsh a b = Some (shifted_left a (b % 64))
+binary_value binary.Rsh a b = Some (shifted_right_signed a (b % 64))
+binary_value binary.RshU a b = Some (shifted_right a (b % 64))
 binary_value op a b = partial_value op a b
 
 -- the operations that set the carry

@@ -18,14 +18,11 @@ fn divides(a: u64, b: u64) -> bool
     !(b == 0 || (a == 0x8000_0000_0000_0000 && b == 0xFFFF_FFFF_FFFF_FFFF))
 }
 
-// The word of a shift, a quotient or a remainder, or None where it is undefined; None of the others.
+// The word of a quotient or a remainder, or None where it is undefined; None of the others.
 fn partial(op: BinaryOp, a: u64, b: u64) -> Option<u64>
     ensures { result ≡ partial_value op a b }
 {
     match op {
-        BinaryOp::Lsh if b < 64 => Some(a << b),
-        BinaryOp::Rsh if b < 64 => Some(shift_right_signed(a, b as u32)),
-        BinaryOp::RshU if b < 64 => Some(a >> b),
         BinaryOp::Div if divides(a, b) => Some(divide_signed(a, b)),
         BinaryOp::DivU if b != 0 => Some(a / b),
         BinaryOp::Rem if divides(a, b) => Some(remain_signed(a, b)),
@@ -34,8 +31,8 @@ fn partial(op: BinaryOp, a: u64, b: u64) -> Option<u64>
     }
 }
 
-/// The word of two words, for an operation with two operands and one result that sets no carry; None where it is undefined: a shift by
-/// 64 or more, a zero divisor, and the signed quotient or remainder of the least word by -1. None for operations that set the carry.
+/// The word of two words, for an operation with two operands and one result that sets no carry. A shift is by its count modulo 64. None
+/// where it is undefined: a zero divisor, and the signed quotient or remainder of the least word by -1; and for operations that set the carry.
 pub fn binary(op: BinaryOp, a: u64, b: u64) -> Option<u64>
     ensures { result ≡ binary_value op a b }
 {
@@ -57,6 +54,9 @@ pub fn binary(op: BinaryOp, a: u64, b: u64) -> Option<u64>
         BinaryOp::GtU => Some(u64::from(a > b)),
         BinaryOp::Eq => Some(u64::from(a == b)),
         BinaryOp::Ne => Some(u64::from(a != b)),
+        BinaryOp::Lsh => Some(a << (b % 64)),
+        BinaryOp::Rsh => Some(shift_right_signed(a, (b % 64) as u32)),
+        BinaryOp::RshU => Some(a >> (b % 64)),
         _ => partial(op, a, b),
     }
 }

@@ -11,14 +11,14 @@ use Rattle.lg_pre.specs.Expanded.{one_line, lines_in, finishes, table_by, start_
 use Rattle.lg_pre.specs.Given.{fed, feeds_in, gives_text}
 use Rattle.lg_pre.specs.Pieces.{Piece, piece_at, between}
 use Rattle.lg_pre.specs.declared.expander.Expander.{Expander}
-use Rattle.lg_pre.specs.declared.stop.Fault.{Fault}
+use Rattle.lg_base.specs.declared.refusal.Refusal.{Refusal}
 use Rattle.lg_pre.proofs.CallLemmas.{between_cons, between_end}
 
 pub fed_more : (pieces : List Piece) (at end : ℕ) (given next : List ℕ) → at < end → end ≤ length pieces → gives_text (piece_at pieces at).line (feeds_in (piece_at pieces at).text) given ≡ Ok next → fed (between (at + 1) end pieces) next ≡ fed (between at end pieces) given
 unfolding fed
 fed_more pieces at end given next h inside e = rw (between_cons at end pieces h inside, e) refl
 
-pub fed_stop : (pieces : List Piece) (at end : ℕ) (given : List ℕ) (fault : Fault) → at < end → end ≤ length pieces → gives_text (piece_at pieces at).line (feeds_in (piece_at pieces at).text) given ≡ Err fault → fed (between at end pieces) given ≡ Err fault
+pub fed_stop : (pieces : List Piece) (at end : ℕ) (given : List ℕ) (fault : Refusal) → at < end → end ≤ length pieces → gives_text (piece_at pieces at).line (feeds_in (piece_at pieces at).text) given ≡ Err fault → fed (between at end pieces) given ≡ Err fault
 unfolding fed
 fed_stop pieces at end given fault h inside e = rw (between_cons at end pieces h inside, e) refl
 
@@ -35,7 +35,7 @@ lines_more (suc k) text s next at n h room e =
     let one : suc k - 1 ≡ k = omega arith in let test : nat_le (length text) at ≡ false = grind (arith, nat_tests) in
     rw (one, test, e) refl
 
-pub lines_stop : (k : ℕ) (text : List Piece) (s : Expander) (at : ℕ) (fault : Fault) → at < length text → length text ≤ at + k → one_line text s at ≡ Err fault → lines_in k text s at ≡ Err fault
+pub lines_stop : (k : ℕ) (text : List Piece) (s : Expander) (at : ℕ) (fault : Refusal) → at < length text → length text ≤ at + k → one_line text s at ≡ Err fault → lines_in k text s at ≡ Err fault
 unfolding lines_in
 lines_stop zero text s at fault h room e = absurd (omega (arith, h, room))
 lines_stop (suc k) text s at fault h room e =

@@ -4,8 +4,8 @@ use Rattle.lg_pre.specs.Macros.{refuse}
 use Rattle.lg_pre.specs.declared.conditions.Condition.{Condition}
 use Rattle.lg_pre.specs.declared.directive.Directive.{Directive}
 use Rattle.lg_pre.specs.declared.directive.Directive.TheVariants.{If, IfDefined, Else, EndIf}
-use Rattle.lg_pre.specs.declared.stop.Fault.{Fault}
-use Rattle.lg_pre.specs.declared.stop.FaultKind.TheVariants.{BadDirective}
+use Rattle.lg_base.specs.declared.refusal.Refusal.{Refusal}
+use Rattle.lg_base.specs.declared.refusal.RefusalKind.TheVariants.{BadDirective}
 use Rattle.lg_pre.specs.Pieces.{Piece}
 
 abbrev pub innermost : List Condition → Option Condition
@@ -27,11 +27,11 @@ abbrev pub is_full : List Condition → Bool
 is_full conditions = nat_le 64 (length conditions)
 
 -- a further condition, of which at most 64 may be open
-abbrev pub opens : List Condition → ℕ → Bool → Bool → Result (List Condition) Fault
+abbrev pub opens : List Condition → ℕ → Bool → Bool → Result (List Condition) Refusal
 opens conditions line around chosen = if is_full conditions then refuse BadDirective line
     else Ok (conditions ++ record { line = line; chosen = chosen; around = around; other = false } ∷ [])
 
-abbrev pub closes_by : List Condition → ℕ → Option Condition → Result (List Condition) Fault
+abbrev pub closes_by : List Condition → ℕ → Option Condition → Result (List Condition) Refusal
 closes_by conditions line None = refuse BadDirective line
 closes_by conditions line (Some c) = Ok (outer conditions)
 
@@ -39,7 +39,7 @@ abbrev pub turned : Condition → Condition
 turned c = record { line = c.line; chosen = c.around && not c.chosen; around = c.around; other = true }
 
 -- the other group of a condition: the second of them is none
-abbrev pub turns_by : List Condition → ℕ → Option Condition → Result (List Condition) Fault
+abbrev pub turns_by : List Condition → ℕ → Option Condition → Result (List Condition) Refusal
 turns_by conditions line None = refuse BadDirective line
 turns_by conditions line (Some c) = if c.other then refuse BadDirective line else Ok (outer conditions ++ turned c ∷ [])
 
@@ -52,14 +52,14 @@ abbrev pub is_crowded : List Condition → List Piece → Bool
 is_crowded conditions rest = is_around (innermost conditions) && not (length rest == 0)
 
 -- #else and #endif
-abbrev pub turns_at : List Condition → ℕ → List Piece → Result (List Condition) Fault
+abbrev pub turns_at : List Condition → ℕ → List Piece → Result (List Condition) Refusal
 turns_at conditions line rest = if is_crowded conditions rest then refuse BadDirective line else turns_by conditions line (innermost conditions)
 
-abbrev pub closes_at : List Condition → ℕ → List Piece → Result (List Condition) Fault
+abbrev pub closes_at : List Condition → ℕ → List Piece → Result (List Condition) Refusal
 closes_at conditions line rest = if is_crowded conditions rest then refuse BadDirective line else closes_by conditions line (innermost conditions)
 
 -- what a skipped group reads: conditional directives by their names
-abbrev pub skipped : List Condition → ℕ → List Piece → Directive → Result (List Condition) Fault
+abbrev pub skipped : List Condition → ℕ → List Piece → Directive → Result (List Condition) Refusal
 skipped conditions line rest If = opens conditions line false false
 skipped conditions line rest (IfDefined wanted) = opens conditions line false false
 skipped conditions line rest Else = turns_at conditions line rest

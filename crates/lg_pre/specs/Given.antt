@@ -4,22 +4,22 @@ use Rattle.lg_pre.specs.Expansion.{expand_in, named, step}
 use Rattle.lg_pre.specs.Macros.{◌>>=◌, refuse, most}
 use Rattle.lg_pre.specs.Pieces.{Piece}
 use Rattle.lg_pre.specs.declared.macros.Macro.{Macro}
-use Rattle.lg_pre.specs.declared.stop.Fault.{Fault}
-use Rattle.lg_pre.specs.declared.stop.FaultKind.TheVariants.{ExpandTooMuch}
+use Rattle.lg_base.specs.declared.refusal.Refusal.{Refusal}
+use Rattle.lg_base.specs.declared.refusal.RefusalKind.TheVariants.{ExpandTooMuch}
 
 -- a text of a line behind what is given: at most 16,777,216 bytes in all
-abbrev pub gives_text : ℕ → List ℕ → List ℕ → Result (List ℕ) Fault
+abbrev pub gives_text : ℕ → List ℕ → List ℕ → Result (List ℕ) Refusal
 gives_text line text given = if nat_lt most (length given + length text) then refuse ExpandTooMuch line else Ok (given ++ text)
 
-abbrev pub gives : Piece → List ℕ → Result (List ℕ) Fault
+abbrev pub gives : Piece → List ℕ → Result (List ℕ) Refusal
 gives p given = gives_text p.line p.text given
 
-unfoldable pub given_all : List Piece → List ℕ → Result (List ℕ) Fault
+unfoldable pub given_all : List Piece → List ℕ → Result (List ℕ) Refusal
 given_all [] given = Ok given
 given_all (p ∷ pieces) given = gives p given >>= given_all pieces
 
 -- the lines between two directives: each outermost name is expanded, and what it gives is given, before the next one
-unfoldable pub flushed : List Macro → ℕ → List Piece → List ℕ → ℕ → Result (List ℕ × ℕ) Fault
+unfoldable pub flushed : List Macro → ℕ → List Piece → List ℕ → ℕ → Result (List ℕ × ℕ) Refusal
 flushed table zero pieces given sum = Ok (given, sum)
 flushed table (suc k) [] given sum = Ok (given, sum)
 flushed table (suc k) (p ∷ rest) given sum = step table (expand_in table 200) [] p rest ([], sum)
@@ -29,7 +29,7 @@ abbrev pub feeds_in : List ℕ → List ℕ
 feeds_in text = filter (λ b. b == 10) text
 
 -- the line feeds of pieces alone
-unfoldable pub fed : List Piece → List ℕ → Result (List ℕ) Fault
+unfoldable pub fed : List Piece → List ℕ → Result (List ℕ) Refusal
 fed [] given = Ok given
 fed (p ∷ pieces) given = gives_text p.line (feeds_in p.text) given >>= fed pieces
 

@@ -11,8 +11,8 @@ use Rattle.lg_pre.specs.Macros.{◌>>=◌, refuse, place_in}
 use Rattle.lg_pre.specs.Pieces.{Piece, piece_at, is_white, is_byte, is_word}
 use Rattle.lg_pre.specs.declared.macros.Macro.{Macro}
 use Rattle.lg_pre.specs.declared.pieces.PieceKind.TheVariants.{Number}
-use Rattle.lg_pre.specs.declared.stop.Fault.{Fault}
-use Rattle.lg_pre.specs.declared.stop.FaultKind.TheVariants.{BadDirective}
+use Rattle.lg_base.specs.declared.refusal.Refusal.{Refusal}
+use Rattle.lg_base.specs.declared.refusal.RefusalKind.TheVariants.{BadDirective}
 
 -- ---- `defined NAME` and `defined(NAME)`
 
@@ -80,18 +80,18 @@ abbrev pub worth_of : List Piece → List ℕ
 worth_of [] = []
 worth_of (p ∷ pieces) = worth p ++ worth_of pieces
 
-abbrev pub sure : {A : Type 0} → ℕ → Option A → Result A Fault
+abbrev pub sure : {A : Type 0} → ℕ → Option A → Result A Refusal
 sure line None = refuse BadDirective line
 sure line (Some x) = Ok x
 
-abbrev pub is_chosen : ℕ → List ℕ → Result Bool Fault
+abbrev pub is_chosen : ℕ → List ℕ → Result Bool Refusal
 is_chosen line bytes = sure line (value_of bytes) >>= (λ value. Ok (not (value == 0)))
 
 -- an expression with its questions answered and its macros replaced
-abbrev pub question : List Macro → ℕ → List Piece → ℕ → Result (List Piece × ℕ) Fault
+abbrev pub question : List Macro → ℕ → List Piece → ℕ → Result (List Piece × ℕ) Refusal
 question table line pieces sum = expand_in table 201 line [] (resolved table pieces) ([], sum)
 
 -- whether the group of an #if is chosen, and the sum of replacements behind its expression
-abbrev pub asks : List Macro → ℕ → List Piece → ℕ → Result (Bool × ℕ) Fault
+abbrev pub asks : List Macro → ℕ → List Piece → ℕ → Result (Bool × ℕ) Refusal
 asks table line pieces sum = if length pieces == 0 then refuse BadDirective line
     else question table line pieces sum >>= (λ given. is_chosen line (worth_of given.0) >>= (λ chosen. Ok (chosen, given.1)))

@@ -7,7 +7,7 @@ ghost use Rattle.lg_pre.specs.Macros.{CountsAs};
 use crate::directive::Directive;
 use crate::macros::refused;
 use crate::pieces::Pieces;
-use crate::stop::{FaultKind, Stop};
+use lg_base::refusal::{RefusalKind, Stop};
 use std::alloc::Global;
 use std::marker::Model;
 
@@ -69,7 +69,7 @@ impl Conditions {
         ensures { CountsAs result self.new (opens self.old line around chosen) }
     {
         if self.is_full() {
-            return Err(refused(FaultKind::BadDirective, line));
+            return Err(refused(RefusalKind::BadDirective, line));
         }
         self.push(Condition {
             line,
@@ -119,10 +119,10 @@ impl Conditions {
         ensures { CountsAs result self.new (closes_at self.old line rest.now) }
     {
         if self.is_crowded(rest) {
-            return Err(refused(FaultKind::BadDirective, line));
+            return Err(refused(RefusalKind::BadDirective, line));
         }
         match self.innermost() {
-            None => Err(refused(FaultKind::BadDirective, line)),
+            None => Err(refused(RefusalKind::BadDirective, line)),
             Some(_) => {
                 self.drop_innermost();
                 Ok(())
@@ -135,11 +135,11 @@ impl Conditions {
         ensures { CountsAs result self.new (turns_at self.old line rest.now) }
     {
         if self.is_crowded(rest) {
-            return Err(refused(FaultKind::BadDirective, line));
+            return Err(refused(RefusalKind::BadDirective, line));
         }
         match self.innermost() {
-            None => Err(refused(FaultKind::BadDirective, line)),
-            Some(condition) if condition.other => Err(refused(FaultKind::BadDirective, line)),
+            None => Err(refused(RefusalKind::BadDirective, line)),
+            Some(condition) if condition.other => Err(refused(RefusalKind::BadDirective, line)),
             Some(condition) => {
                 self.drop_innermost();
                 self.push(Condition {

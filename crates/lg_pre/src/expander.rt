@@ -19,9 +19,8 @@ use crate::macros::{Table, Work, refused};
 use crate::pieces::Pieces;
 use crate::plain_text::PlainText;
 use crate::questions::asks;
-use crate::stop::{FaultKind, Stop};
 use crate::text::{line_len, mark_in, text_pieces};
-use lg_base::refusal::OutOfMemory;
+use lg_base::refusal::{OutOfMemory, RefusalKind, Stop};
 use std::alloc::Global;
 
 /// What a text has come to: macros, open conditions, the lines that wait for the next directive, bytes given, and the sum of replacements.
@@ -40,7 +39,7 @@ fn define(alloc: Global, table: &mut Table, line: u32, rest: &Pieces) -> Result<
 {
     match written(alloc, rest) {
         Err(OutOfMemory) => Err(Stop::OutOfMemory),
-        Ok(None) => Err(refused(FaultKind::BadDirective, line)),
+        Ok(None) => Err(refused(RefusalKind::BadDirective, line)),
         Ok(Some(entry)) => match table.define(entry) {
             Ok(()) => Ok(()),
             Err(OutOfMemory) => Err(Stop::OutOfMemory),
@@ -54,7 +53,7 @@ fn undefine(alloc: Global, table: &mut Table, line: u32, rest: &Pieces) -> Resul
 {
     match one_word(alloc, rest) {
         Err(OutOfMemory) => Err(Stop::OutOfMemory),
-        Ok(None) => Err(refused(FaultKind::BadDirective, line)),
+        Ok(None) => Err(refused(RefusalKind::BadDirective, line)),
         Ok(Some(name)) => {
             table.undefine(name.as_bytes());
             Ok(())
@@ -82,7 +81,7 @@ fn open_named(
 {
     match one_word(alloc, rest) {
         Err(OutOfMemory) => Err(Stop::OutOfMemory),
-        Ok(None) => Err(refused(FaultKind::BadDirective, line)),
+        Ok(None) => Err(refused(RefusalKind::BadDirective, line)),
         Ok(Some(name)) => {
             let is = table.place_in(name.as_bytes()).is_some();
             conditions.open(line, true, is_as_wanted(wanted, is))
@@ -96,7 +95,7 @@ impl Expander {
         ensures { CountsAs result self.new (opens_if self.old line rest.now) }
     {
         if self.conditions.is_full() {
-            return Err(refused(FaultKind::BadDirective, line));
+            return Err(refused(RefusalKind::BadDirective, line));
         }
         let chosen = asks(alloc, &self.table, line, rest, &mut self.sum)?;
         self.conditions.open(line, true, chosen)
@@ -127,7 +126,7 @@ impl Expander {
             Directive::If => self.open_if(alloc, line, rest),
             Directive::Else => self.conditions.turn(line, rest),
             Directive::EndIf => self.conditions.close(line, rest),
-            Directive::Unknown => Err(refused(FaultKind::BadDirective, line)),
+            Directive::Unknown => Err(refused(RefusalKind::BadDirective, line)),
         }
     }
 
@@ -267,7 +266,7 @@ impl Expander {
         self.flush_lines(alloc)?;
         match self.conditions.innermost() {
             None => Ok(self.given),
-            Some(condition) => Err(refused(FaultKind::BadDirective, condition.line)),
+            Some(condition) => Err(refused(RefusalKind::BadDirective, condition.line)),
         }
     }
 }

@@ -1,23 +1,28 @@
 // Bytes of a text.
 
-ghost use Rattle.std.specs.Prelude.{◌≡◌, ◌++◌, [], length, OnOk, IfOk};
+ghost use Rattle.std.specs.Prelude.{◌≡◌, ◌≤◌, ◌++◌, [], length, OnOk, IfOk};
 
 use lg_base::refusal::OutOfMemory;
 use std::alloc::Global;
 use std::marker::Model;
 
-/// Bytes of a text, as its expansion. A contract sees them as a list.
+// The most bytes of a text.
+const MOST: usize = 16_777_216;
+
+/// Bytes of a text, as its expansion: at most 16,777,216. A contract sees them as a list.
 #[derive(Drop)]
 pub struct PlainText {
     bytes: Vec<u8>,
 }
 
 impl Model for PlainText {
-    ghost use Rattle.std.specs.Prelude.{ℕ, List};
+    ghost use Rattle.std.specs.Prelude.{ℕ, List, length, ◌≤◌};
 
     ghost Value = { List ℕ };
 
     ghost view = { λ t. t.bytes.items };
+
+    ghost invariant = { λ t. length t.bytes.items ≤ 16777216 };
 }
 
 impl PlainText {
@@ -30,17 +35,21 @@ impl PlainText {
         }
     }
 
-    /// A copy of bytes.
+    /// A copy of bytes. There is no room for more than a text may have.
     pub(crate) fn of(alloc: Global, text: &[u8]) -> Result<PlainText, OutOfMemory>
         ensures { IfOk result (λ r. r ≡ text.now) }
     {
+        if text.len() > MOST {
+            return Err(OutOfMemory);
+        }
         let bytes = Vec::from_slice(alloc, text)?;
         Ok(PlainText { bytes })
     }
 
     /// The bytes.
     pub fn as_bytes(&self) -> &[u8]
-        ensures { result.now ≡ self.now }
+        ensures value { result.now ≡ self.now }
+        ensures short { length result.now ≤ 16777216 }
     {
         self.bytes.as_slice()
     }
@@ -52,10 +61,13 @@ impl PlainText {
         self.bytes.as_slice().len()
     }
 
-    /// Adds bytes.
+    /// Adds bytes. There is no room for more than a text may have.
     pub(crate) fn extend(&mut self, text: &[u8]) -> Result<(), OutOfMemory>
         ensures { OnOk result (self.new ≡ self.old ++ text.now) }
     {
+        if text.len() > MOST - self.bytes.len() {
+            return Err(OutOfMemory);
+        }
         self.bytes.extend_from_slice(text)?;
         Ok(())
     }

@@ -12,8 +12,7 @@ use crate::expansion::expand;
 use crate::macros::{Table, Work, refused};
 use crate::pieces::{PieceKind, Pieces};
 use crate::plain_text::PlainText;
-use crate::stop::{FaultKind, Stop};
-use lg_base::refusal::OutOfMemory;
+use lg_base::refusal::{OutOfMemory, RefusalKind, Stop};
 use lg_lex::{Lexer, TokenKind};
 use std::alloc::Global;
 
@@ -213,7 +212,7 @@ fn is_chosen(alloc: Global, line: u32, pieces: &Pieces) -> Result<bool, Stop>
         Err(OutOfMemory) => Err(Stop::OutOfMemory),
         Ok(text) if text.len() > MOST => Err(Stop::OutOfMemory),
         Ok(text) => match value_in(text.as_bytes()) {
-            None => Err(refused(FaultKind::BadDirective, line)),
+            None => Err(refused(RefusalKind::BadDirective, line)),
             Some(value) => Ok(value != 0),
         },
     }
@@ -230,7 +229,7 @@ pub(crate) fn asks(
     ensures { GivesAs result sum.new (asks table.now line pieces.now sum.old) }
 {
     if pieces.len() == 0 {
-        return Err(refused(FaultKind::BadDirective, line));
+        return Err(refused(RefusalKind::BadDirective, line));
     }
     let expanded = question(alloc, table, line, pieces, sum)?;
     is_chosen(alloc, line, &expanded)

@@ -8,10 +8,10 @@ use Rattle.lg_command.specs.Commands.{AreNoCommand, Command, HasFault, IsCommand
 use Rattle.lg_command.specs.declared.command.Mode.{Mode}
 use Rattle.lg_command.specs.declared.command.Mode.TheVariants as mode
 use Rattle.lg_run.specs.Causes.{Causes, FaultCause, HasCode, StepsOutCause, UndefinedCause}
-use Rattle.lg_run.specs.Changes.{SinkChange, TextsChange, TellsReads, TellsWrites}
+use Rattle.lg_run.specs.Changes.{SinkChange, TextsChange, TellsReads, TellsWrites, Took}
 use Rattle.lg_run.specs.Refused.{IsRefusedCall}
 use Rattle.lg_run.specs.Runs.{HasRun, HasMeant}
-use Rattle.lg_run.specs.Says.{AskedSays, IsCodeOf, IsStill, IsUntouched, ModeSays, NoCommandSays, ReportSays, Says, code_meaning, code_run, file_in}
+use Rattle.lg_run.specs.Says.{AskedSays, IsCodeOf, IsStill, IsUntouched, ModeSays, NoCommandSays, ReadsFile, ReportSays, RunsCode, Says, code_meaning, code_run, lines_of, listing_of}
 use Rattle.lg_run.specs.declared.answer.Answer.{Answer}
 use Rattle.lg_run.specs.declared.answer.Answer.TheVariants.{Ended, Listed, Undefined, Refused, Usage, ReadFault, WriteFault, StepsOut, Fault, OutOfMemory}
 use Rattle.lg_run.specs.declared.answer.Done.{Done}
@@ -60,9 +60,9 @@ module _ (words : List (List ℕ)) (texts : TextsChange) (out : SinkChange) (cod
   refused_of None r h = absurd h.1
   refused_of (Some c) r h = ((c, h.0, h.1.says.1), h.1.says.0)
 
-  read_of : (asked : Option Command) → AskedSays words asked texts out code steps ReadFault → IsUntouched code steps out
+  read_of : (asked : Option Command) → AskedSays words asked texts out code steps ReadFault → IsUntouched code steps out × ((c : Command) × IsCommand words c × ReadsFile c.mode)
   read_of None h = absurd h.1
-  read_of (Some c) h = h.1.says
+  read_of (Some c) h = (h.1.says.0, (c, h.0, h.1.says.1))
 
   memory_of : (asked : Option Command) → AskedSays words asked texts out code steps OutOfMemory → IsStill steps out
   memory_of None h = h.0.still
@@ -89,15 +89,32 @@ module _ (words : List (List ℕ)) (texts : TextsChange) (out : SinkChange) (cod
   steps_cause : (c : Command) (m : Mode) (ran : Assembled) (made : IsCodeOf c texts.held ran) → ModeSays m c ran made.unit steps out StepsOut → StepsOutCause m c ran made.unit
   steps_cause c mode.Run ran made says =
       let going = subst (HasRun (code_run c ran made.unit)) says.0 says.1 in (going, lasts c texts.held ran made c.steps going)
+  steps_cause c mode.List ran made says = absurd says
+  steps_cause c mode.Gen ran made says =
+      let going = subst (HasRun (code_run c ran made.unit)) says.0 says.1 in (going, lasts c texts.held ran made c.steps going)
   steps_cause c mode.Mean ran made says = subst (HasMeant (code_meaning c ran made.unit)) says.0 says.1
 
   fault_cause : (c : Command) (m : Mode) (ran : Assembled) (made : IsCodeOf c texts.held ran) (kind : FaultKind) (pc : ℕ) → c.mode ≡ m → ModeSays m c ran made.unit steps out (Fault kind pc) → FaultCause steps c ran made.unit
-  fault_cause c mode.Run ran made kind pc is says = (is, undefined_at c texts.held ran made steps kind says.2)
+  fault_cause c mode.Run ran made kind pc is says = (subst RunsCode (sym is) tt, undefined_at c texts.held ran made steps kind says.2)
+  fault_cause c mode.List ran made kind pc is says = absurd says
+  fault_cause c mode.Gen ran made kind pc is says = (subst RunsCode (sym is) tt, undefined_at c texts.held ran made steps kind says.2)
   fault_cause c mode.Mean ran made kind pc is says = absurd says
 
   undefined_cause : (c : Command) (m : Mode) (ran : Assembled) (made : IsCodeOf c texts.held ran) (line : ℕ) → c.mode ≡ m → ModeSays m c ran made.unit steps out (Undefined line) → UndefinedCause steps line c ran made.unit
   undefined_cause c mode.Run ran made line is says = absurd says
+  undefined_cause c mode.List ran made line is says = absurd says
+  undefined_cause c mode.Gen ran made line is says = absurd says
   undefined_cause c mode.Mean ran made line is says = (is, says.0, says.1, says.2, says.3)
+
+  listed_cause : (c : Command) (m : Mode) (ran : Assembled) (made : IsCodeOf c texts.held ran) → c.mode ≡ m → ModeSays m c ran made.unit steps out Listed → (c.mode ≡ mode.List) × Took out (listing_of ran)
+  listed_cause c mode.Run ran made is says = absurd says
+  listed_cause c mode.List ran made is says = (is, says.1)
+  listed_cause c mode.Gen ran made is says = absurd says
+  listed_cause c mode.Mean ran made is says = absurd says
+
+  listed_of : (asked : Option Command) → AskedSays words asked texts out code steps Listed → HasCode words texts.held code (λ c ran unit. (c.mode ≡ mode.List) × Took out (listing_of ran))
+  listed_of None h = absurd h.1
+  listed_of (Some c) h = let r = h.1.says in record { command = c; asked = h.0; ran = r.ran; is = r.is; made = r.made; here = listed_cause c c.mode r.ran r.made refl r.says }
 
   steps_out_of : (asked : Option Command) → AskedSays words asked texts out code steps StepsOut → HasCode words texts.held code (λ c ran unit. StepsOutCause c.mode c ran unit)
   steps_out_of None h = absurd h.1
@@ -113,8 +130,8 @@ module _ (words : List (List ℕ)) (texts : TextsChange) (out : SinkChange) (cod
 
 -- ---- the answer
 -- an answer other than a write fault is the inner one
-inner_is : (file : List ℕ) (steps : ℕ) (err : SinkChange) (inner outer a : Answer) → ReportSays file steps err inner outer → outer ≡ a → (WriteFault ≡ a → ⊥) → inner ≡ a
-inner_is file steps err inner outer a report is other = elim report [
+inner_is : (lines : List ℕ) (err : SinkChange) (inner outer a : Answer) → ReportSays lines err inner outer → outer ≡ a → (WriteFault ≡ a → ⊥) → inner ≡ a
+inner_is lines err inner outer a report is other = elim report [
   | inl h ↦ sym h.0 ∙ is
   | inr h ↦ absurd (other (sym h.0 ∙ is))
 ]
@@ -133,7 +150,7 @@ causes words texts out err done s = record {
     ],
   );
   refused = λ r e. (refused_of words texts out done.code done.steps s.asked r (here (Refused r) e (λ h. cc))).0;
-  read_fault = λ e. reads_of words texts out done.code done.steps s.asked ReadFault (here ReadFault e (λ h. cc));
+  read_fault = λ e. let says = here ReadFault e (λ h. cc) in (reads_of words texts out done.code done.steps s.asked ReadFault says, (read_of words texts out done.code done.steps s.asked says).1);
   write_fault = λ e. elim s.report [
     | inl h ↦ inl (writes_of words texts out done.code done.steps s.asked WriteFault (subst (AskedSays words s.asked texts out done.code done.steps) (sym h.0 ∙ e) s.says))
     | inr h ↦ inr h.1
@@ -150,14 +167,15 @@ causes words texts out err done s = record {
     | inl h ↦ let same = h.1 in absurd (omega (arith, same, lt))
     | inr h ↦ h.0
   ];
+  listed = λ e. listed_of words texts out done.code done.steps s.asked (here Listed e (λ h. cc));
   steps_out = λ e. steps_out_of words texts out done.code done.steps s.asked (here StepsOut e (λ h. cc));
   fault = λ kind pc e. fault_of words texts out done.code done.steps s.asked kind pc (here (Fault kind pc) e (λ h. cc));
   undefined = λ line e. undefined_of words texts out done.code done.steps s.asked line (here (Undefined line) e (λ h. cc));
   usage_still = λ e. (usage_of words texts out done.code done.steps s.asked (here Usage e (λ h. cc))).1;
   refused_still = λ r e. (refused_of words texts out done.code done.steps s.asked r (here (Refused r) e (λ h. cc))).1;
-  read_still = λ e. read_of words texts out done.code done.steps s.asked (here ReadFault e (λ h. cc));
+  read_still = λ e. (read_of words texts out done.code done.steps s.asked (here ReadFault e (λ h. cc))).0;
   memory_still = λ e. memory_of words texts out done.code done.steps s.asked (here OutOfMemory e (λ h. cc));
 }
   where
     here : (a : Answer) → done.answer ≡ a → (WriteFault ≡ a → ⊥) → AskedSays words s.asked texts out done.code done.steps a
-    here a is other = subst (AskedSays words s.asked texts out done.code done.steps) (inner_is (file_in s.asked) done.steps err s.inner done.answer a s.report is other) s.says
+    here a is other = subst (AskedSays words s.asked texts out done.code done.steps) (inner_is (lines_of s.asked done.code done.steps s.inner) err s.inner done.answer a s.report is other) s.says

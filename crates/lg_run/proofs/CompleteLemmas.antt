@@ -15,12 +15,12 @@ use Rattle.lg_tst.specs.Units.{unit_of}
 use Rattle.lg_run.specs.Changes.{SinkChange, TellsReads, TellsWrites, TextsChange}
 use Rattle.lg_run.specs.Complete.{AnswersCode, AnswersCommand, AnswersMeaning, AnswersRun, Comes, Completeness, IsCompleteIn, IsCompleteMean, IsCompleteRun, IsFit}
 use Rattle.lg_run.specs.Runs.{HasMeant, MeanSays, RunSays}
-use Rattle.lg_run.specs.Says.{AnswerSays, AskedSays, CodeSays, IsCodeOf, ModeSays, NoCommandSays, Ran, TellsFaults, code_meaning, code_run}
+use Rattle.lg_run.specs.Says.{AnswerSays, AskedSays, CodeSays, IsCodeOf, ListSays, ModeSays, NoCommandSays, Ran, TellsFaults, code_meaning, code_run}
 use Rattle.lg_run.specs.declared.answer.Answer.{Answer}
 use Rattle.lg_run.specs.declared.answer.Answer.TheVariants.{Ended, Listed, Undefined, Refused, Usage, ReadFault, WriteFault, StepsOut, Fault, OutOfMemory}
 use Rattle.lg_run.proofs.AgreementLemmas.{ends_in_time, meant_later, run_later, undefined_at}
 use Rattle.lg_run.proofs.OverLemmas.{bad_running, ended_running}
-use Rattle.lg_run.proofs.RefusedLemmas.{call_for_room, call_once}
+use Rattle.lg_run.proofs.RefusedLemmas.{call_for_room, call_once, text_same}
 use Rattle.lg_run.proofs.SameLemmas.{answer_same, none_some, ok_same, some_same}
 
 -- ---- want of memory
@@ -34,12 +34,17 @@ memory_meaning Running = inr refl
 memory_meaning (runs.Ended status) = inr refl
 memory_meaning Bad = (0, inr refl)
 
-memory_in : (m : Mode) (c : Command) (code : Assembled) (unit : TextUnit) → IsCompleteIn m c code unit OutOfMemory
-memory_in mode.Run c code unit = record {
+memory_of_run : (c : Command) (code : Assembled) (unit : TextUnit) → IsCompleteRun c code unit OutOfMemory
+memory_of_run c code unit = record {
   stands = memory_run (code_run c code unit c.steps).progress;
   ends = λ m status time is. inr refl;
   sound = λ sound kind pc e. cc (e);
 }
+
+memory_in : (m : Mode) (c : Command) (code : Assembled) (unit : TextUnit) → IsCompleteIn m c code unit OutOfMemory
+memory_in mode.Run c code unit = memory_of_run c code unit
+memory_in mode.List c code unit = inr refl
+memory_in mode.Gen c code unit = memory_of_run c code unit
 memory_in mode.Mean c code unit = record {
   stands = memory_meaning (code_meaning c code unit c.steps).status;
   ends = λ m status time is. inr refl;
@@ -142,8 +147,23 @@ module _ (c : Command) (held : Option NamedTexts) (code : Assembled) (made : IsC
   complete_mean steps out ReadFault says other = absurd says
   complete_mean steps out OutOfMemory says other = absurd says
 
+  -- ---- the listing
+  complete_list : (steps : ℕ) (out : SinkChange) (a : Answer) → ListSays code steps out a → (a ≡ WriteFault → ⊥) → Comes a Listed
+  complete_list steps out Listed says other = inl refl
+  complete_list steps out WriteFault says other = absurd (other refl)
+  complete_list steps out (Ended status) says other = absurd says
+  complete_list steps out StepsOut says other = absurd says
+  complete_list steps out (Fault kind pc) says other = absurd says
+  complete_list steps out (Undefined line) says other = absurd says
+  complete_list steps out (Refused refusal) says other = absurd says
+  complete_list steps out Usage says other = absurd says
+  complete_list steps out ReadFault says other = absurd says
+  complete_list steps out OutOfMemory says other = absurd says
+
   complete_in : (m : Mode) (steps : ℕ) (out : SinkChange) (a : Answer) → ModeSays m c code made.unit steps out a → (a ≡ WriteFault → ⊥) → IsCompleteIn m c code made.unit a
   complete_in mode.Run steps out a says other = complete_run steps out a says other
+  complete_in mode.List steps out a says other = complete_list steps out a says other
+  complete_in mode.Gen steps out a says other = complete_run steps out a says other
   complete_in mode.Mean steps out a says other = complete_mean steps out a says other
 
 -- ---- the command's answer
@@ -151,8 +171,7 @@ module _ (c : Command) (told : NamedTexts) (out : SinkChange) (code : Option Ass
   -- code that ran is that of a fit unit
   unit_same : (unit : TextUnit) (ran : Assembled) → IsFit c told unit → (made : IsCodeOf c (Some told) ran) → made.unit ≡ unit
   unit_same unit ran fit made =
-      let text = some_same (sym made.under ∙ fit.under) in
-      ok_same (sym made.reads.1 ∙ ap unit_of text ∙ fit.reads.1)
+      ok_same (sym made.reads ∙ ap unit_of (text_same c.mode c told made.text fit.text made.given fit.given) ∙ fit.reads)
 
   ran_complete : (a : Answer) (unit : TextUnit) (ran : Assembled) → IsFit c told unit → Ran c (Some told) code steps out a → (a ≡ WriteFault → ⊥) → code ≡ Some ran → IsCompleteIn c.mode c ran unit a
   ran_complete a unit ran fit r other there =
@@ -161,7 +180,7 @@ module _ (c : Command) (told : NamedTexts) (out : SinkChange) (code : Option Ass
 
   ran_answers : (a : Answer) → Ran c (Some told) code steps out a → (a ≡ WriteFault → ⊥) → AnswersCommand c told code a
   ran_answers a r other = record {
-    refuses = λ refusal full refused. let m = r.made in absurd (full (call_for_room c told m.text m.unit refusal m.fits m.under m.reads m.accepted m.built refused).0);
+    refuses = λ refusal full refused. let m = r.made in absurd (full (call_for_room c told m.text m.unit refusal m.reads m.accepted m.fits m.given refused).0);
     makes = λ unit fit. inl (subst IsSome (sym r.is) refl);
     runs = λ unit ran fit there. ran_complete a unit ran fit r other there;
   }
@@ -174,7 +193,7 @@ module _ (c : Command) (told : NamedTexts) (out : SinkChange) (code : Option Ass
   answers WriteFault says read write = absurd (write refl)
   answers ReadFault says read write = absurd (read refl)
   answers Usage says read write = absurd says
-  answers Listed says read write = absurd says
+  answers Listed says read write = ran_answers Listed says write
   answers OutOfMemory says read write = record {
     refuses = λ refusal full refused. inr refl;
     makes = λ unit fit. inr refl;
@@ -188,7 +207,7 @@ module _ (c : Command) (told : NamedTexts) (out : SinkChange) (code : Option Ass
     where
       room : (unit : TextUnit) → IsFit c told unit → ⊥
       room unit fit =
-          let full = (call_for_room c told fit.text unit q fit.fits fit.under fit.reads fit.accepted fit.built says.1).1 in
+          let full = (call_for_room c told fit.text unit q fit.reads fit.accepted fit.fits fit.given says.1).1 in
           let enough = fit.room in omega (arith, full, enough)
 
 -- whatever the texts tell
@@ -207,7 +226,7 @@ module _ (c : Command) (held : Option NamedTexts) (out : SinkChange) (code : Opt
   answers_code WriteFault says read write = absurd (write refl)
   answers_code ReadFault says read write = absurd (read refl)
   answers_code Usage says read write = absurd says
-  answers_code Listed says read write = absurd says
+  answers_code Listed says read write = ran_code Listed says write
   answers_code OutOfMemory says read write = record {
     long = λ long. inr refl;
     runs = λ ran there. let made = subst (CodeSays c held) there says.1 in (made, memory_in c.mode c ran made.unit);
@@ -215,7 +234,7 @@ module _ (c : Command) (held : Option NamedTexts) (out : SinkChange) (code : Opt
   answers_code (Refused q) says read write = record {
     long = λ long. elim says.1 [
       | inl h ↦ inl (ap Refused h.0)
-      | inr h ↦ let fits = h.fits in absurd (omega (arith, long, fits))
+      | inr h ↦ let fits = h.0 in absurd (omega (arith, long, fits))
     ];
     runs = λ ran there. absurd (none_some (sym says.0.none ∙ there));
   }

@@ -8,3 +8,4 @@ pub mod RefusedLemmas
 pub mod RunLemmas
 pub mod SameLemmas
 pub mod WorkLemmas
+pub mod ListLemmas

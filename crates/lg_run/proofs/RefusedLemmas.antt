@@ -1,17 +1,22 @@
 -- A text is refused for one reason.
-use Rattle.std.proofs.Common.{◌≡◌, ℕ, inl, inr, List, length, Some, sym, ap, ◌∙◌, subst, arith, ⊎_elim}
+use Rattle.std.proofs.Common.{◌≡◌, ℕ, inl, inr, List, length, Option, Some, sym, ap, ◌∙◌, subst, arith, ⊎_elim}
 use Rattle.std.specs.Prelude.{Result, Ok, Err}
 use Rattle.std.proofs.lemmas.Bool.{cases_lt}
 use Rattle.lg_base.specs.declared.refusal.Refusal.{Refusal}
 use Rattle.lg_base.specs.declared.target.Target.{Target}
 use Rattle.lg_command.specs.Commands.{Command}
+use Rattle.lg_command.specs.declared.command.Mode.{Mode}
+use Rattle.lg_command.specs.declared.command.Mode.TheVariants as mode
 use Rattle.lg_io.specs.NamedTexts.{NamedTexts}
 use Rattle.lg_node.specs.Nodes.{LabelledNodes}
 use Rattle.lg_node.specs.Checks.{IsAccepted, IsRefused, refusal_at}
 use Rattle.lg_node.specs.declared.unit.Unit.{Unit as TextUnit}
 use Rattle.lg_tst.specs.Units.{unit_of}
-use Rattle.lg_run.specs.Refused.{ArgumentsFit, IsBuilt, IsRefusedAs, IsRefusedCall, IsRefusedCode, IsRefusedText, IsRefusedUnit, IsTextUnder, IsUnitOf, MayBeFull, TextsAreRefusedOnce, code_full}
-use Rattle.lg_run.proofs.SameLemmas.{none_some, some_same}
+use Rattle.lg_made.specs.Made.{made}
+use Rattle.lg_pre.specs.Expanded.{expanded}
+use Rattle.lg_run.specs.Refused.{ArgumentsFit, Expands, IsExpandedUnder, IsRefusedAs, IsRefusedCall, IsRefusedCode, IsRefusedExpansion, IsRefusedIn, IsRefusedRead, IsRefusedText, IsRefusedUnder, IsRefusedUnit, IsTextIn, IsTextUnder, IsUnitOf, MayBeFull, TextsAreRefusedOnce, code_full}
+use Rattle.lg_run.specs.Says.{ReadsFile}
+use Rattle.lg_run.proofs.SameLemmas.{none_some, ok_same, some_same}
 
 checked_once : (l : LabelledNodes) (r q : Refusal) → IsRefused l r → IsRefused l q → r ≡ q
 checked_once l r q (inl a) (inl b) =
@@ -29,10 +34,6 @@ accepted_not l r accepted (inr a) = none_some (sym accepted.end ∙ a.here)
 code_once : (t : Target) (nodes size : ℕ) (r q : Refusal) → IsRefusedCode t nodes size r → IsRefusedCode t nodes size q → r ≡ q
 code_once t nodes size r q a b = a.0 ∙ sym b.0
 
--- code of a target that is built is refused only where it has no room
-only_full : (t : Target) (nodes size : ℕ) (r : Refusal) → IsBuilt t → IsRefusedCode t nodes size r → (r ≡ code_full) × MayBeFull nodes size
-only_full t nodes size r built a = a
-
 unit_once : (c : Command) (l : LabelledNodes) (r q : Refusal) → IsRefusedUnit c l r → IsRefusedUnit c l q → r ≡ q
 unit_once c l r q (inl a) (inl b) = checked_once l r q a b
 unit_once c l r q (inl a) (inr b) = absurd (accepted_not l r b.0 a)
@@ -43,38 +44,100 @@ as_once : (c : Command) (read : Result TextUnit Refusal) (r q : Refusal) → IsR
 as_once c (Err fault) r q a b = a ∙ sym b
 as_once c (Ok unit) r q a b = unit_once c unit.nodes r q a b
 
-pub text_once : (c : Command) (text : List ℕ) (r q : Refusal) → IsRefusedText c text r → IsRefusedText c text q → r ≡ q
-text_once c text r q (inl a) (inl b) = a.0 ∙ sym b.0
-text_once c text r q (inl a) (inr b) = let long = a.1 in let short = b.0 in absurd (omega (arith, long, short))
-text_once c text r q (inr a) (inl b) = let short = a.0 in let long = b.1 in absurd (omega (arith, long, short))
-text_once c text r q (inr a) (inr b) = as_once c (unit_of text) r q a.1 b.1
+text_once : (c : Command) (text : List ℕ) (r q : Refusal) → IsRefusedText c text r → IsRefusedText c text q → r ≡ q
+text_once c text r q a b = as_once c (unit_of text) r q a b
 
--- a text whose unit is accepted, and whose target is built, is refused only where its code has no room
-pub only_for_room : (c : Command) (text : List ℕ) (unit : TextUnit) (r : Refusal) → IsUnitOf text unit → IsAccepted unit.nodes → IsBuilt c.target → IsRefusedText c text r
-    → (r ≡ code_full) × MayBeFull (length unit.nodes.nodes) c.size
-only_for_room c text unit r is accepted built (inl a) = let long = a.1 in let short = is.0 in absurd (omega (arith, long, short))
-only_for_room c text unit r is accepted built (inr a) = at (subst (λ u. IsRefusedAs c u r) is.1 a.1)
+expansion_once : (c : Command) (expansion : Result (List ℕ) Refusal) (r q : Refusal) → IsRefusedExpansion c expansion r → IsRefusedExpansion c expansion q → r ≡ q
+expansion_once c (Err fault) r q a b = a ∙ sym b
+expansion_once c (Ok text) r q a b = text_once c text r q a b
+
+read_once : (c : Command) (read : List ℕ) (r q : Refusal) → IsRefusedRead c read r → IsRefusedRead c read q → r ≡ q
+read_once c read r q (inl a) (inl b) = a.0 ∙ sym b.0
+read_once c read r q (inl a) (inr b) = let long = a.1 in let short = b.0 in absurd (omega (arith, long, short))
+read_once c read r q (inr a) (inl b) = let short = a.0 in let long = b.1 in absurd (omega (arith, long, short))
+read_once c read r q (inr a) (inr b) = expansion_once c (expanded read) r q a.1 b.1
+
+-- a text whose unit is accepted is refused only where its code has no room
+text_for_room : (c : Command) (text : List ℕ) (unit : TextUnit) (r : Refusal) → IsUnitOf text unit → IsAccepted unit.nodes → IsRefusedText c text r → (r ≡ code_full) × MayBeFull (length unit.nodes.nodes) c.size
+text_for_room c text unit r is accepted refused = at (subst (λ u. IsRefusedAs c u r) is refused)
   where
     at : IsRefusedUnit c unit.nodes r → (r ≡ code_full) × MayBeFull (length unit.nodes.nodes) c.size
-    at (inl refused) = absurd (accepted_not unit.nodes r accepted refused)
-    at (inr refused) = only_full c.target (length unit.nodes.nodes) c.size r built refused.1
+    at (inl checked) = absurd (accepted_not unit.nodes r accepted checked)
+    at (inr full) = full.1
+
+-- and so is what expands to it
+read_for_room : (c : Command) (read text : List ℕ) (unit : TextUnit) (r : Refusal) → Expands read text → IsUnitOf text unit → IsAccepted unit.nodes → IsRefusedRead c read r
+    → (r ≡ code_full) × MayBeFull (length unit.nodes.nodes) c.size
+read_for_room c read text unit r expands is accepted (inl a) = let long = a.1 in let short = expands.0 in absurd (omega (arith, long, short))
+read_for_room c read text unit r expands is accepted (inr a) = text_for_room c text unit r is accepted (subst (λ e. IsRefusedExpansion c e r) expands.1 a.1)
 
 pub refused_once : TextsAreRefusedOnce
-refused_once c text r refused = (
-  λ q other. text_once c text q r other refused,
-  λ unit is accepted built room. let full = (only_for_room c text unit r is accepted built refused).1 in omega (arith, full, room),
+refused_once c read r refused = (
+  λ q other. read_once c read q r other refused,
+  λ text unit expands is accepted room. let full = (read_for_room c read text unit r expands is accepted refused).1 in omega (arith, full, room),
 )
 
 -- ---- calls, where the texts are told
+under_once : (c : Command) (told : NamedTexts) (r q : Refusal) → IsRefusedUnder c (Some told) r → IsRefusedUnder c (Some told) q → r ≡ q
+under_once c told r q a b = read_once c b.0 r q (subst (λ t. IsRefusedRead c t r) (some_same (sym a.1 ∙ b.1)) a.2) b.2
+
+in_once : (m : Mode) (c : Command) (told : NamedTexts) (r q : Refusal) → IsRefusedIn m c (Some told) r → IsRefusedIn m c (Some told) q → r ≡ q
+in_once mode.Run c told r q a b = under_once c told r q a b
+in_once mode.List c told r q a b = under_once c told r q a b
+in_once mode.Mean c told r q a b = under_once c told r q a b
+in_once mode.Gen c told r q a b = text_once c (made c.seed) r q a b
+
 pub call_once : (c : Command) (told : NamedTexts) (r q : Refusal) → IsRefusedCall c (Some told) r → IsRefusedCall c (Some told) q → r ≡ q
 call_once c told r q (inl a) (inl b) = a.0 ∙ sym b.0
-call_once c told r q (inl a) (inr b) = let long = a.1 in let short = b.fits in absurd (omega (arith, long, short))
-call_once c told r q (inr a) (inl b) = let short = a.fits in let long = b.1 in absurd (omega (arith, long, short))
-call_once c told r q (inr a) (inr b) = text_once c b.text r q (subst (λ t. IsRefusedText c t r) (some_same (sym a.under ∙ b.under)) a.refused) b.refused
+call_once c told r q (inl a) (inr b) = let long = a.1 in let short = b.0 in absurd (omega (arith, long, short))
+call_once c told r q (inr a) (inl b) = let short = a.0 in let long = b.1 in absurd (omega (arith, long, short))
+call_once c told r q (inr a) (inr b) = in_once c.mode c told r q a.1 b.1
 
--- a call on a text whose unit is accepted and whose target is built
-pub call_for_room : (c : Command) (told : NamedTexts) (text : List ℕ) (unit : TextUnit) (r : Refusal) → ArgumentsFit c → IsTextUnder (Some told) c.file text → IsUnitOf text unit → IsAccepted unit.nodes → IsBuilt c.target
-    → IsRefusedCall c (Some told) r → (r ≡ code_full) × MayBeFull (length unit.nodes.nodes) c.size
-call_for_room c told text unit r fits under is accepted built (inl a) = let long = a.1 in absurd (omega (arith, long, fits))
-call_for_room c told text unit r fits under is accepted built (inr a) =
-    only_for_room c text unit r is accepted built (subst (λ t. IsRefusedText c t r) (some_same (sym a.under ∙ under)) a.refused)
+module _ (c : Command) (told : NamedTexts) (text : List ℕ) (unit : TextUnit) (r : Refusal) (is : IsUnitOf text unit) (accepted : IsAccepted unit.nodes) where
+  under_for_room : IsExpandedUnder (Some told) c.file text → IsRefusedUnder c (Some told) r → (r ≡ code_full) × MayBeFull (length unit.nodes.nodes) c.size
+  under_for_room given a = read_for_room c given.0 text unit r given.2 is accepted (subst (λ t. IsRefusedRead c t r) (some_same (sym a.1 ∙ given.1)) a.2)
+
+  in_for_room : (m : Mode) → IsTextIn m c (Some told) text → IsRefusedIn m c (Some told) r → (r ≡ code_full) × MayBeFull (length unit.nodes.nodes) c.size
+  in_for_room mode.Run given a = under_for_room given a
+  in_for_room mode.List given a = under_for_room given a
+  in_for_room mode.Mean given a = under_for_room given a
+  in_for_room mode.Gen given a = text_for_room c text unit r is accepted (subst (λ t. IsRefusedText c t r) (sym given) a)
+
+  -- a call on a text whose unit is accepted
+  pub call_for_room : ArgumentsFit c → IsTextIn c.mode c (Some told) text → IsRefusedCall c (Some told) r → (r ≡ code_full) × MayBeFull (length unit.nodes.nodes) c.size
+  call_for_room fits given (inl a) = let long = a.1 in absurd (omega (arith, long, fits))
+  call_for_room fits given (inr a) = in_for_room c.mode given a.1
+
+-- a command has one text
+same_under : (c : Command) (told : NamedTexts) (text other : List ℕ) → IsExpandedUnder (Some told) c.file text → IsExpandedUnder (Some told) c.file other → text ≡ other
+same_under c told text other a b = ok_same (sym a.2.1 ∙ ap expanded (some_same (sym a.1 ∙ b.1)) ∙ b.2.1)
+
+pub text_same : (m : Mode) (c : Command) (told : NamedTexts) (text other : List ℕ) → IsTextIn m c (Some told) text → IsTextIn m c (Some told) other → text ≡ other
+text_same mode.Run c told text other a b = same_under c told text other a b
+text_same mode.List c told text other a b = same_under c told text other a b
+text_same mode.Mean c told text other a b = same_under c told text other a b
+text_same mode.Gen c told text other a b = a ∙ sym b
+
+-- ---- what is known of parts, and of the command
+module _ (c : Command) (held : Option NamedTexts) (r : Refusal) where
+  -- what is read is the file's
+  pub read_refused : (m : Mode) (read : List ℕ) → ReadsFile m → IsTextUnder held c.file read → IsRefusedRead c read r → IsRefusedIn m c held r
+  read_refused mode.Run read file under refused = (read, under, refused)
+  read_refused mode.List read file under refused = (read, under, refused)
+  read_refused mode.Mean read file under refused = (read, under, refused)
+  read_refused mode.Gen read file under refused = absurd file
+
+  under_refused : (text : List ℕ) → IsExpandedUnder held c.file text → IsRefusedText c text r → IsRefusedUnder c held r
+  under_refused text given refused = (given.0, given.1, inr (given.2.0, subst (λ e. IsRefusedExpansion c e r) (sym given.2.1) refused))
+
+  pub text_refused : (m : Mode) (text : List ℕ) → IsTextIn m c held text → IsRefusedText c text r → IsRefusedIn m c held r
+  text_refused mode.Run text given refused = under_refused text given refused
+  text_refused mode.List text given refused = under_refused text given refused
+  text_refused mode.Mean text given refused = under_refused text given refused
+  text_refused mode.Gen text given refused = subst (λ t. IsRefusedText c t r) given refused
+
+pub text_in : (m : Mode) (c : Command) (held : Option NamedTexts) (read text : List ℕ) → ReadsFile m → IsTextUnder held c.file read → Expands read text → IsTextIn m c held text
+text_in mode.Run c held read text file under expands = (read, under, expands)
+text_in mode.List c held read text file under expands = (read, under, expands)
+text_in mode.Mean c held read text file under expands = (read, under, expands)
+text_in mode.Gen c held read text file under expands = absurd file

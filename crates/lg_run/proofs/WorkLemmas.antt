@@ -50,20 +50,35 @@ module _ (c : Command) (code : Assembled) (unit : TextUnit) (out : SinkChange) (
   mean_started (Fault kind pc) h = h
   mean_started OutOfMemory h = absurd h
 
+  -- the generator's code runs as any
+  pub made_started : (a : Answer) → StartSays mode.Run c code unit out steps a → StartSays mode.Gen c code unit out steps a
+  made_started (Ended status) h = h
+  made_started Listed h = h
+  made_started (Undefined line) h = h
+  made_started (Refused refusal) h = h
+  made_started Usage h = h
+  made_started ReadFault h = h
+  made_started WriteFault h = h
+  made_started StepsOut h = h
+  made_started (Fault kind pc) h = h
+  made_started OutOfMemory h = h
+
   no_refusal : (m : Mode) (r : Refusal) → ModeSays m c code unit steps out (Refused r) → ⊥
   no_refusal mode.Run r h = h
+  no_refusal mode.List r h = h
+  no_refusal mode.Gen r h = h
   no_refusal mode.Mean r h = h
 
   no_usage : (m : Mode) → ModeSays m c code unit steps out Usage → ⊥
   no_usage mode.Run h = h
+  no_usage mode.List h = h
+  no_usage mode.Gen h = h
   no_usage mode.Mean h = h
-
-  no_listing : (m : Mode) → ModeSays m c code unit steps out Listed → ⊥
-  no_listing mode.Run h = h
-  no_listing mode.Mean h = h
 
   no_read : (m : Mode) → ModeSays m c code unit steps out ReadFault → ⊥
   no_read mode.Run h = h
+  no_read mode.List h = h
+  no_read mode.Gen h = h
   no_read mode.Mean h = h
 
   -- a run tells no fault of texts
@@ -88,7 +103,7 @@ run_answers c held code made out steps WriteFault h = record { ran = code; is = 
 run_answers c held code made out steps StepsOut h = record { ran = code; is = refl; made = made; says = h }
 run_answers c held code made out steps (Fault kind pc) h = record { ran = code; is = refl; made = made; says = h }
 run_answers c held code made out steps OutOfMemory h = (h, made)
-run_answers c held code made out steps Listed h = absurd (no_listing c code made.unit out steps c.mode h)
+run_answers c held code made out steps Listed h = record { ran = code; is = refl; made = made; says = h }
 run_answers c held code made out steps (Refused refusal) h = absurd (no_refusal c code made.unit out steps c.mode refusal h)
 run_answers c held code made out steps Usage h = absurd (no_usage c code made.unit out steps c.mode h)
 run_answers c held code made out steps ReadFault h = absurd (no_read c code made.unit out steps c.mode h)

@@ -12,11 +12,11 @@ use Rattle.lg_io.specs.NamedTexts.{NamedTexts}
 use Rattle.lg_meaning.specs.Means as means
 use Rattle.lg_meaning.specs.Texts.{line_at}
 use Rattle.lg_node.specs.declared.unit.Unit.{Unit as TextUnit}
-use Rattle.lg_run.specs.Changes.{SinkChange, TextsChange}
+use Rattle.lg_run.specs.Changes.{SinkChange, TextsChange, Took}
 use Rattle.lg_run.specs.Refused.{IsRefusedCall}
 use Rattle.lg_run.specs.Runs.{HasMeant, HasRun}
-use Rattle.lg_run.specs.Says.{IsCodeOf, IsStill, IsUntouched, code_meaning, code_run}
-use Rattle.lg_run.specs.declared.answer.Answer.TheVariants.{Undefined, Refused, Usage, ReadFault, WriteFault, StepsOut, Fault, OutOfMemory}
+use Rattle.lg_run.specs.Says.{IsCodeOf, IsStill, IsUntouched, ReadsFile, RunsCode, code_meaning, code_run, listing_of}
+use Rattle.lg_run.specs.declared.answer.Answer.TheVariants.{Listed, Undefined, Refused, Usage, ReadFault, WriteFault, StepsOut, Fault, OutOfMemory}
 use Rattle.lg_run.specs.declared.answer.Done.{Done}
 
 -- the words ask for a command, there is code of its text's unit, and this holds of them
@@ -40,11 +40,13 @@ Lasts nodes steps meaning = ((k : ℕ) → k ≤ steps / 64 → HasMeant meaning
 -- the steps ran out
 abbrev pub StepsOutCause : Mode → Command → Assembled → TextUnit → Type 0
 StepsOutCause mode.Run c code unit = HasRun (code_run c code unit) c.steps × Lasts (length unit.nodes.nodes) c.steps (code_meaning c code unit)
+StepsOutCause mode.List c code unit = ⊥
+StepsOutCause mode.Gen c code unit = HasRun (code_run c code unit) c.steps × Lasts (length unit.nodes.nodes) c.steps (code_meaning c code unit)
 StepsOutCause mode.Mean c code unit = HasMeant (code_meaning c code unit) c.steps
 
 -- the run of code faulted behind so many steps
 abbrev pub FaultCause : (steps : ℕ) → Command → Assembled → TextUnit → Type 0
-FaultCause steps c code unit = (c.mode ≡ mode.Run) × IsUndefinedWithin ((steps + 2) * (length unit.nodes.nodes + 1)) (code_meaning c code unit)
+FaultCause steps c code unit = RunsCode c.mode × IsUndefinedWithin ((steps + 2) * (length unit.nodes.nodes + 1)) (code_meaning c code unit)
 
 -- the step of the meaning behind so many is the first that is undefined, at this line
 abbrev pub UndefinedCause : (steps line : ℕ) → Command → Assembled → TextUnit → Type 0
@@ -59,11 +61,13 @@ pub record Causes (words : List (List ℕ)) (texts : TextsChange) (out err : Sin
   pub no_command : HasFault words → (done.code ≡ None) × ((done.answer ≡ Usage) ⊎ ((done.answer ≡ OutOfMemory) ⊎ ((done.answer ≡ WriteFault) × Rose err.faults err.faults')))
   pub refused : (refusal : Refusal) → done.answer ≡ Refused refusal → (c : Command) × IsCommand words c × IsRefusedCall c texts.held refusal
   -- a fault of the outside is told only where a count rose, and each that rose is told
-  pub read_fault : done.answer ≡ ReadFault → Rose texts.faults texts.faults'
+  pub read_fault : done.answer ≡ ReadFault → Rose texts.faults texts.faults' × ((c : Command) × IsCommand words c × ReadsFile c.mode)
   pub write_fault : done.answer ≡ WriteFault → Rose out.faults out.faults' ⊎ Rose err.faults err.faults'
   pub read_told : texts.faults < texts.faults' → (done.answer ≡ ReadFault) ⊎ ((done.answer ≡ WriteFault) × Rose err.faults err.faults')
   pub out_told : out.faults < out.faults' → done.answer ≡ WriteFault
   pub err_told : err.faults < err.faults' → done.answer ≡ WriteFault
+  -- a listing is told only where it is asked for, and all of it was written
+  pub listed : done.answer ≡ Listed → HasCode words texts.held done.code (λ c code unit. (c.mode ≡ mode.List) × Took out (listing_of code))
   -- the rows on runs
   pub steps_out : done.answer ≡ StepsOut → HasCode words texts.held done.code (λ c code unit. StepsOutCause c.mode c code unit)
   pub fault : (kind : FaultKind) (pc : ℕ) → done.answer ≡ Fault kind pc → HasCode words texts.held done.code (FaultCause done.steps)

@@ -10,11 +10,11 @@ use Rattle.lg_command.specs.declared.command.Mode.{Mode}
 use Rattle.lg_command.specs.declared.command.Mode.TheVariants as mode
 use Rattle.lg_cpu.specs.Steps.{Progress, Goes, EndedWith, Faulted}
 use Rattle.lg_io.specs.Counts.{Rose}
-use Rattle.lg_io.specs.NamedTexts.{NamedTexts, text_under}
+use Rattle.lg_io.specs.NamedTexts.{NamedTexts}
 use Rattle.lg_node.specs.Checks.{IsAccepted}
 use Rattle.lg_node.specs.declared.unit.Unit.{Unit as TextUnit}
 use Rattle.lg_run.specs.Changes.{SinkChange, TextsChange}
-use Rattle.lg_run.specs.Refused.{ArgumentsFit, IsBuilt, IsRefusedCall, IsUnitOf, code_full}
+use Rattle.lg_run.specs.Refused.{ArgumentsFit, IsRefusedCall, IsTextIn, IsUnitOf, code_full}
 use Rattle.lg_run.specs.Says.{IsCodeOf, Says, code_meaning, code_run}
 use Rattle.lg_run.specs.declared.answer.Answer.{Answer}
 use Rattle.lg_run.specs.declared.answer.Answer.TheVariants as answer
@@ -41,7 +41,7 @@ AnswersMeaning Running a = Comes a answer.StepsOut
 AnswersMeaning (Ended status) a = Comes a (answer.Ended status)
 AnswersMeaning Bad a = (line : ℕ) × Comes a (answer.Undefined line)
 
--- in the mode `run`: the answer says where the run stands; where the meaning ends in time, that end is the answer; and there is no fault
+-- where code runs: the answer says where the run stands; where the meaning ends in time, that end is the answer; and there is no fault
 -- where the meaning is never undefined
 pub record IsCompleteRun (c : Command) (code : Assembled) (unit : TextUnit) (a : Answer) : Type 0 where
   pub stands : AnswersRun (code_run c code unit c.steps).progress a
@@ -56,16 +56,17 @@ pub record IsCompleteMean (c : Command) (code : Assembled) (unit : TextUnit) (a 
 
 abbrev pub IsCompleteIn : Mode → Command → Assembled → TextUnit → Answer → Type 0
 IsCompleteIn mode.Run c code unit a = IsCompleteRun c code unit a
+IsCompleteIn mode.List c code unit a = Comes a answer.Listed
+IsCompleteIn mode.Gen c code unit a = IsCompleteRun c code unit a
 IsCompleteIn mode.Mean c code unit a = IsCompleteMean c code unit a
 
--- the text of the file has this unit, which is accepted, its target is built and its code has room
+-- the command's text has this unit, which is accepted and whose code has room
 pub record IsFit (c : Command) (told : NamedTexts) (unit : TextUnit) : Type 0 where
   pub fits : ArgumentsFit c
   pub text : List ℕ
-  pub under : text_under told c.file ≡ Some text
+  pub given : IsTextIn c.mode c (Some told) text
   pub reads : IsUnitOf text unit
   pub accepted : IsAccepted unit.nodes
-  pub built : IsBuilt c.target
   pub room : 256 * length unit.nodes.nodes + 256 ≤ c.size
 
 -- what is answered to a command: arguments that are too long are refused, and code that is there runs as it means

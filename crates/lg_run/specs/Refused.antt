@@ -2,14 +2,17 @@
 use Rattle.std.specs.Prelude.{◌≡◌, ◌⊎◌, ℕ, ◌+◌, ◌*◌, ◌<◌, ◌≤◌, List, length, Option, Some, None, Result, Ok, Err, ⊤}
 use Rattle.lg_base.specs.Arguments.{args_of, most_args, args_too_long}
 use Rattle.lg_base.specs.declared.refusal.Refusal.{Refusal}
-pub use Rattle.lg_asm.specs.Built.{IsBuilt}
 use Rattle.lg_base.specs.declared.refusal.RefusalKind.TheVariants.{CodeFull, TextTooLong}
 use Rattle.lg_base.specs.declared.target.Target.{Target}
 use Rattle.lg_command.specs.Commands.{Command}
+use Rattle.lg_command.specs.declared.command.Mode.{Mode}
+use Rattle.lg_command.specs.declared.command.Mode.TheVariants as mode
 use Rattle.lg_io.specs.NamedTexts.{NamedTexts, text_under}
+use Rattle.lg_made.specs.Made.{made}
 use Rattle.lg_node.specs.Nodes.{LabelledNodes}
 use Rattle.lg_node.specs.Checks.{IsAccepted, IsRefused}
 use Rattle.lg_node.specs.declared.unit.Unit.{Unit as TextUnit}
+use Rattle.lg_pre.specs.Expanded.{expanded}
 use Rattle.lg_tst.specs.Units.{unit_of}
 
 -- the most bytes of a text
@@ -42,38 +45,67 @@ abbrev pub IsRefusedAs : Command → Result TextUnit Refusal → Refusal → Typ
 IsRefusedAs c (Err fault) refusal = refusal ≡ fault
 IsRefusedAs c (Ok unit) refusal = IsRefusedUnit c unit.nodes refusal
 
--- a text is too long, or it is refused as its unit is
+-- a text is refused as its unit is
 abbrev pub IsRefusedText : Command → List ℕ → Refusal → Type 0
-IsRefusedText c text refusal =
-    ((refusal ≡ text_too_long) × (most_text < length text)) ⊎ ((length text ≤ most_text) × IsRefusedAs c (unit_of text) refusal)
+IsRefusedText c text refusal = IsRefusedAs c (unit_of text) refusal
 
--- what a text of the allowed length is read as
+-- its expansion is refused, or the text that it expands to
+abbrev pub IsRefusedExpansion : Command → Result (List ℕ) Refusal → Refusal → Type 0
+IsRefusedExpansion c (Err fault) refusal = refusal ≡ fault
+IsRefusedExpansion c (Ok text) refusal = IsRefusedText c text refusal
+
+-- what is read is too long, or its expansion is refused
+abbrev pub IsRefusedRead : Command → List ℕ → Refusal → Type 0
+IsRefusedRead c read refusal =
+    ((refusal ≡ text_too_long) × (most_text < length read)) ⊎ ((length read ≤ most_text) × IsRefusedExpansion c (expanded read) refusal)
+
+-- what is read expands to a text
+abbrev pub Expands : (read text : List ℕ) → Type 0
+Expands read text = (length read ≤ most_text) × (expanded read ≡ Ok text)
+
+-- a text is read as this unit
 abbrev pub IsUnitOf : List ℕ → TextUnit → Type 0
-IsUnitOf text unit = (length text ≤ most_text) × (unit_of text ≡ Ok unit)
+IsUnitOf text unit = unit_of text ≡ Ok unit
 
 -- the text is the one under this name; where the texts are not told it may be any
 abbrev pub IsTextUnder : Option NamedTexts → List ℕ → List ℕ → Type 0
 IsTextUnder None name text = ⊤
 IsTextUnder (Some texts) name text = text_under texts name ≡ Some text
 
+-- the text is the expansion of what stands under a name
+abbrev pub IsExpandedUnder : Option NamedTexts → List ℕ → List ℕ → Type 0
+IsExpandedUnder held name text = (read : List ℕ) × IsTextUnder held name read × Expands read text
+
+-- the text of a command: the generator's for its seed, or the expansion of what stands under the name of its file
+abbrev pub IsTextIn : Mode → Command → Option NamedTexts → List ℕ → Type 0
+IsTextIn mode.Run c held text = IsExpandedUnder held c.file text
+IsTextIn mode.List c held text = IsExpandedUnder held c.file text
+IsTextIn mode.Mean c held text = IsExpandedUnder held c.file text
+IsTextIn mode.Gen c held text = text ≡ made c.seed
+
 -- the words of the arguments fit the argument part
 abbrev pub ArgumentsFit : Command → Type 0
 ArgumentsFit c = length (args_of c.arguments) ≤ most_args
 
--- a refusal that speaks of the text of the file
-pub record IsRefusedFile (c : Command) (held : Option NamedTexts) (refusal : Refusal) : Type 0 where
-  pub fits : ArgumentsFit c
-  pub text : List ℕ
-  pub under : IsTextUnder held c.file text
-  pub refused : IsRefusedText c text refusal
+-- a refusal that speaks of what stands under the name of the file
+abbrev pub IsRefusedUnder : Command → Option NamedTexts → Refusal → Type 0
+IsRefusedUnder c held refusal = (read : List ℕ) × IsTextUnder held c.file read × IsRefusedRead c read refusal
 
--- the arguments are too long, or the text of the file is refused
+-- a refusal of the command's text
+abbrev pub IsRefusedIn : Mode → Command → Option NamedTexts → Refusal → Type 0
+IsRefusedIn mode.Run c held refusal = IsRefusedUnder c held refusal
+IsRefusedIn mode.List c held refusal = IsRefusedUnder c held refusal
+IsRefusedIn mode.Mean c held refusal = IsRefusedUnder c held refusal
+IsRefusedIn mode.Gen c held refusal = IsRefusedText c (made c.seed) refusal
+
+-- the arguments are too long, or they fit and the text is refused
 abbrev pub IsRefusedCall : Command → Option NamedTexts → Refusal → Type 0
-IsRefusedCall c held refusal = ((refusal ≡ args_too_long) × (most_args < length (args_of c.arguments))) ⊎ IsRefusedFile c held refusal
+IsRefusedCall c held refusal =
+    ((refusal ≡ args_too_long) × (most_args < length (args_of c.arguments))) ⊎ (ArgumentsFit c × IsRefusedIn c.mode c held refusal)
 
--- a text is refused for one reason, and not where its unit is accepted and its code is built and has room
+-- what is read is refused for one reason, and not where the unit of its expansion is accepted and its code has room
 abbrev pub TextsAreRefusedOnce : Type 0
 TextsAreRefusedOnce =
-    (c : Command) (text : List ℕ) (refusal : Refusal) → IsRefusedText c text refusal
-    → ((other : Refusal) → IsRefusedText c text other → other ≡ refusal)
-    × ((unit : TextUnit) → IsUnitOf text unit → IsAccepted unit.nodes → IsBuilt c.target → 256 * length unit.nodes.nodes + 256 ≤ c.size → ⊥)
+    (c : Command) (read : List ℕ) (refusal : Refusal) → IsRefusedRead c read refusal
+    → ((other : Refusal) → IsRefusedRead c read other → other ≡ refusal)
+    × ((text : List ℕ) (unit : TextUnit) → Expands read text → IsUnitOf text unit → IsAccepted unit.nodes → 256 * length unit.nodes.nodes + 256 ≤ c.size → ⊥)

@@ -1,5 +1,5 @@
 -- What the top call says.
-use Rattle.std.specs.Prelude.{◌≡◌, ◌⊎◌, ℕ, ◌≤◌, List, [], length, Option, Some, None, IfSome}
+use Rattle.std.specs.Prelude.{◌≡◌, ◌⊎◌, ⊤, ℕ, ◌≤◌, List, [], ◌++◌, length, Option, Some, None, IfSome, codes}
 use Rattle.lg_base.specs.Arguments.{args_of}
 use Rattle.lg_asm.specs.Assembled.{Assembled}
 use Rattle.lg_carry.specs.Agreement.{Agrees, shape_of_unit}
@@ -12,12 +12,13 @@ use Rattle.lg_cpu.specs.Steps.{Run}
 use Rattle.lg_cpu.specs.Targets.{run_at}
 use Rattle.lg_io.specs.Counts.{Rose}
 use Rattle.lg_io.specs.NamedTexts.{NamedTexts}
+use Rattle.lg_list.specs.Listing.{listing}
 use Rattle.lg_meaning.specs.Means as means
 use Rattle.lg_node.specs.Checks.{IsAccepted}
 use Rattle.lg_node.specs.declared.unit.Unit.{Unit as TextUnit}
 use Rattle.lg_run.specs.Changes.{TextsChange, SinkChange, Took, TookPart, TellsReads, TellsWrites}
-use Rattle.lg_run.specs.Lines.{line_of}
-use Rattle.lg_run.specs.Refused.{ArgumentsFit, IsBuilt, IsRefusedCall, IsTextUnder, IsUnitOf}
+use Rattle.lg_run.specs.Lines.{line_of, stats_of}
+use Rattle.lg_run.specs.Refused.{ArgumentsFit, IsRefusedCall, IsTextIn, IsUnitOf}
 use Rattle.lg_run.specs.Runs.{RunSays, MeanSays}
 use Rattle.lg_run.specs.declared.answer.Answer.{Answer}
 use Rattle.lg_run.specs.declared.answer.Answer.TheVariants.{Ended, Listed, Undefined, Refused, Usage, ReadFault, WriteFault, StepsOut, Fault, OutOfMemory}
@@ -28,17 +29,31 @@ use Rattle.lg_opt.specs.Rewritings.{IsTidy, IsOrigin, IsThreadedNode}
 abbrev pub trash_word : ℕ
 trash_word = 0x5A5A5A5A5A5A5A5A
 
+-- ---- modes
+-- the modes in which code runs
+abbrev pub RunsCode : Mode → Type 0
+RunsCode mode.Run = ⊤
+RunsCode mode.List = ⊥
+RunsCode mode.Mean = ⊥
+RunsCode mode.Gen = ⊤
+
+-- and those in which a file is read
+abbrev pub ReadsFile : Mode → Type 0
+ReadsFile mode.Run = ⊤
+ReadsFile mode.List = ⊤
+ReadsFile mode.Mean = ⊤
+ReadsFile mode.Gen = ⊥
+
 -- ---- code
 
--- the code is that of the text under the command's file: the text has a unit, the unit is accepted, the code is made for the command's
+-- the code is that of the command's text: the text has a unit, the unit is accepted, the code is made for the command's
 -- target from the unit's nodes without needless moves and jumps, fits its size, and agrees with the unit's meaning over the addresses of its labels
 pub record IsCodeOf (c : Command) (held : Option NamedTexts) (code : Assembled) : Type 0 where
   pub text : List ℕ
-  pub under : IsTextUnder held c.file text
+  pub given : IsTextIn c.mode c held text
   pub unit : TextUnit
   pub reads : IsUnitOf text unit
   pub accepted : IsAccepted unit.nodes
-  pub built : IsBuilt c.target
   pub fits : ArgumentsFit c
   pub bytes : AreBytes (args_of c.arguments)
   pub target : code.target ≡ c.target
@@ -58,12 +73,24 @@ code_run c code unit n = run_at c.target code.bytes unit.image (args_of c.argume
 abbrev pub code_meaning : Command → Assembled → TextUnit → ℕ → means.Run
 code_meaning c code unit k = means.mean unit.nodes (shape_of_unit unit) code.labels unit.image (args_of c.arguments) k
 
--- what an answer says of the run that the mode asks for
+-- the listing of code
+unfoldable pub listing_of : Assembled → List ℕ
+listing_of code = listing code.target code.bytes code.places code.nodes
+
+-- what an answer says of a listing: nothing ran, and out took it, or a part of it
+abbrev pub ListSays : Assembled → (steps : ℕ) → SinkChange → Answer → Type 0
+ListSays code steps out Listed = (steps ≡ 0) × Took out (listing_of code)
+ListSays code steps out WriteFault = (steps ≡ 0) × TookPart out (listing_of code)
+ListSays code steps out answer = ⊥
+
+-- what an answer says of what the mode asks for
 abbrev pub ModeSays : Mode → Command → Assembled → TextUnit → (steps : ℕ) → SinkChange → Answer → Type 0
 ModeSays mode.Run c code unit steps out answer = RunSays (code_run c code unit) c.steps steps out answer
+ModeSays mode.List c code unit steps out answer = ListSays code steps out answer
+ModeSays mode.Gen c code unit steps out answer = RunSays (code_run c code unit) c.steps steps out answer
 ModeSays mode.Mean c code unit steps out answer = MeanSays unit.nodes (code_meaning c code unit) c.steps steps out answer
 
--- there is code, and it, or its meaning, ran so
+-- there is code, and it, or its meaning, ran so, or was listed so
 pub record Ran (c : Command) (held : Option NamedTexts) (code : Option Assembled) (steps : ℕ) (out : SinkChange) (answer : Answer) : Type 0 where
   pub ran : Assembled
   pub is : code ≡ Some ran
@@ -90,10 +117,10 @@ AnswerSays c held code steps out (Fault kind pc) = Ran c held code steps out (Fa
 AnswerSays c held code steps out (Undefined line) = Ran c held code steps out (Undefined line)
 AnswerSays c held code steps out WriteFault = Ran c held code steps out WriteFault
 AnswerSays c held code steps out (Refused refusal) = IsUntouched code steps out × IsRefusedCall c held refusal
-AnswerSays c held code steps out ReadFault = IsUntouched code steps out
+AnswerSays c held code steps out ReadFault = IsUntouched code steps out × ReadsFile c.mode
 AnswerSays c held code steps out OutOfMemory = IsStill steps out × CodeSays c held code
 AnswerSays c held code steps out Usage = ⊥
-AnswerSays c held code steps out Listed = ⊥
+AnswerSays c held code steps out Listed = Ran c held code steps out Listed
 
 -- a fault of texts and of out came exactly where that is the answer
 pub record TellsFaults (texts : TextsChange) (out : SinkChange) (answer : Answer) : Type 0 where
@@ -115,19 +142,26 @@ abbrev pub AskedSays : List (List ℕ) → Option Command → TextsChange → Si
 AskedSays words None texts out code steps answer = IsUntouched code steps out × NoCommandSays words answer × TellsFaults texts out answer
 AskedSays words (Some c) texts out code steps answer = IsCommand words c × WorkSays c texts out code steps answer
 
-abbrev pub file_in : Option Command → List ℕ
-file_in None = []
-file_in (Some c) = c.file
+-- the name of the text in the line of a refusal
+abbrev pub name_in : Mode → Command → List ℕ
+name_in mode.Run c = c.file
+name_in mode.List c = c.file
+name_in mode.Mean c = c.file
+name_in mode.Gen c = codes "gen"
 
--- the line of the inner answer stands on err and that is the answer, or a part of it stands there and the answer is a write fault
-abbrev pub ReportSays : List ℕ → (steps : ℕ) → SinkChange → (inner outer : Answer) → Type 0
-ReportSays file steps err inner outer =
-    ((outer ≡ inner) × (err.faults' ≡ err.faults) × Took err (line_of file steps inner))
-    ⊎ ((outer ≡ WriteFault) × Rose err.faults err.faults' × TookPart err (line_of file steps inner))
+-- the lines on err: the statistics, and the line of the answer
+abbrev pub lines_of : Option Command → Option Assembled → (steps : ℕ) → Answer → List ℕ
+lines_of None code steps answer = line_of [] steps answer
+lines_of (Some c) code steps answer = stats_of c.stats code steps answer ++ line_of (name_in c.mode c) steps answer
+
+-- the lines of the inner answer stand on err and that is the answer, or a part of them stands there and the answer is a write fault
+abbrev pub ReportSays : (lines : List ℕ) → SinkChange → (inner outer : Answer) → Type 0
+ReportSays lines err inner outer =
+    ((outer ≡ inner) × (err.faults' ≡ err.faults) × Took err lines) ⊎ ((outer ≡ WriteFault) × Rose err.faults err.faults' × TookPart err lines)
 
 -- the clause of the top call
 pub record Says (words : List (List ℕ)) (texts : TextsChange) (out err : SinkChange) (done : Done) : Type 0 where
   pub asked : Option Command
   pub inner : Answer
   pub says : AskedSays words asked texts out done.code done.steps inner
-  pub report : ReportSays (file_in asked) done.steps err inner done.answer
+  pub report : ReportSays (lines_of asked done.code done.steps inner) err inner done.answer

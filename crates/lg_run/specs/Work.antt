@@ -6,7 +6,7 @@ use Rattle.lg_command.specs.declared.command.Mode.{Mode}
 use Rattle.lg_io.specs.NamedTexts.{NamedTexts}
 use Rattle.lg_node.specs.declared.unit.Unit.{Unit as TextUnit}
 use Rattle.lg_run.specs.Changes.{TextsChange, SinkChange, TellsReads}
-use Rattle.lg_run.specs.Refused.{IsTextUnder, IsUnitOf}
+use Rattle.lg_run.specs.Refused.{IsTextIn, IsTextUnder, IsUnitOf}
 use Rattle.lg_run.specs.Says.{AnswerSays, IsStill, ModeSays, WorkSays}
 use Rattle.lg_run.specs.declared.answer.Answer.{Answer}
 use Rattle.lg_run.specs.declared.answer.Answer.TheVariants.{OutOfMemory}
@@ -27,13 +27,17 @@ DoneSays c held out done = AnswerSays c held done.code done.steps out done.answe
 abbrev pub WorkDone : Command → TextsChange → SinkChange → Done → Type 0
 WorkDone c texts out done = WorkSays c texts out done.code done.steps done.answer
 
--- this was done with a text
+-- this was done with the command's text
 abbrev pub TextDone : Command → List ℕ → SinkChange → Done → Type 0
-TextDone c text out done = (held : Option NamedTexts) → IsTextUnder held c.file text → DoneSays c held out done
+TextDone c text out done = (held : Option NamedTexts) → IsTextIn c.mode c held text → DoneSays c held out done
 
 -- and with any that has this unit
 abbrev pub UnitDone : Command → TextUnit → SinkChange → Done → Type 0
 UnitDone c unit out done = (text : List ℕ) → IsUnitOf text unit → TextDone c text out done
+
+-- this was done with what stands under the name of the file
+abbrev pub ReadDone : Command → List ℕ → SinkChange → Done → Type 0
+ReadDone c read out done = (held : Option NamedTexts) → IsTextUnder held c.file read → DoneSays c held out done
 
 -- no fault of texts is told
 abbrev pub TellsNoRead : Answer → Type 0

@@ -1,10 +1,11 @@
-//! The top call: it reads the words of the command and a text, makes code of the text, and runs the code on a
-//! model of the processor, or the text's portable meaning.
+//! The top call: it reads the words of the command and a text, expands the text, makes code of it, and runs the code on a
+//! model of the processor, or the text's portable meaning, or lists the code.
 #![tactic(auto)]
 
 pub mod answer;
 pub mod laws;
 mod lines;
+mod listing;
 mod mean;
 mod reading;
 mod run;

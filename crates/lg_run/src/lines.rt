@@ -1,10 +1,11 @@
 // The lines on err.
 
-ghost use Rattle.std.specs.Prelude.{[]};
+ghost use Rattle.std.specs.Prelude.{◌≡◌, [], ◌++◌, Some};
 ghost use Rattle.lg_run.specs.Changes.{WroteTo, on_sink};
-ghost use Rattle.lg_run.specs.Lines.{line_of, refusal_line};
+ghost use Rattle.lg_run.specs.Lines.{code_stats, is_write_fault, line_of, refusal_line, stats_line, stats_of};
 
 use crate::answer::Answer;
+use lg_asm::Code;
 use lg_base::fault::FaultKind;
 use lg_base::refusal::Refusal;
 use lg_io::digits::{Digits, Radix};
@@ -113,7 +114,7 @@ pub fn write_line<E: Sink>(
         Answer::Usage => write_parts(
             err,
             &[
-                b"lightning: usage: lightning [--mode M] [--target T] [--steps N] [--code N] [FILE [ARG]...]\n",
+                b"lightning: usage: lightning [--mode M] [--target T] [--steps N] [--code N] [--seed N] [--stats] [FILE [ARG]...]\n",
             ],
         ),
         Answer::ReadFault => write_parts(err, &[b"lightning: read fault\n"]),
@@ -121,5 +122,91 @@ pub fn write_line<E: Sink>(
         Answer::StepsOut => write_steps_out(steps, err),
         Answer::Fault { kind, pc } => write_fault(kind, pc, steps, err),
         Answer::OutOfMemory => write_parts(err, &[b"lightning: out of memory\n"]),
+    }
+}
+
+// Writes the line of the statistics, by their digits.
+fn write_numbers<E: Sink>(
+    bytes: u64,
+    nodes: u64,
+    spills: u64,
+    steps: u64,
+    err: &mut E,
+) -> Result<(), SinkFault>
+    ensures { WroteTo (on_sink E.taken E.faults err.old err.new) result (stats_line bytes nodes spills steps) }
+{
+    let bytes = Digits::of(bytes, Radix::Decimal);
+    let nodes = Digits::of(nodes, Radix::Decimal);
+    let spills = Digits::of(spills, Radix::Decimal);
+    let steps = Digits::of(steps, Radix::Decimal);
+    write_parts(
+        err,
+        &[
+            b"bytes ",
+            bytes.as_slice(),
+            b" nodes ",
+            nodes.as_slice(),
+            b" spills ",
+            spills.as_slice(),
+            b" steps ",
+            steps.as_slice(),
+            b"\n",
+        ],
+    )
+}
+
+// Writes the statistics of code and of a run of so many steps.
+fn write_code_stats<E: Sink>(code: &Code, steps: u64, err: &mut E) -> Result<(), SinkFault>
+    ensures { WroteTo (on_sink E.taken E.faults err.old err.new) result (code_stats (Some code.now) steps) }
+{
+    write_numbers(
+        u64::from(code.bytes().len()),
+        u64::from(code.nodes().len()),
+        u64::from(code.spills()),
+        steps,
+        err,
+    )
+}
+
+// Whether an answer is a write fault.
+fn is_write_fault(answer: Answer) -> bool
+    ensures { result ≡ is_write_fault answer }
+{
+    matches!(answer, Answer::WriteFault)
+}
+
+// Writes the statistics where they are asked for, there is code, and out did not fail.
+fn write_stats<E: Sink>(
+    told: bool,
+    code: &Option<Code>,
+    answer: Answer,
+    steps: u64,
+    err: &mut E,
+) -> Result<(), SinkFault>
+    ensures { WroteTo (on_sink E.taken E.faults err.old err.new) result (stats_of told code.now steps answer) }
+{
+    if !told || is_write_fault(answer) {
+        return Ok(());
+    }
+    match code {
+        Some(code) => write_code_stats(code, steps, err),
+        None => Ok(()),
+    }
+}
+
+/// Writes the lines of an answer to a command: the statistics, where they are asked for, and the line of the answer.
+pub fn write_lines<E: Sink>(
+    told: bool,
+    file: &str,
+    code: &Option<Code>,
+    answer: Answer,
+    steps: u64,
+    err: &mut E,
+) -> Result<(), SinkFault>
+    ensures { WroteTo (on_sink E.taken E.faults err.old err.new) result (stats_of told code.now steps answer ++ line_of file.now steps answer) }
+{
+    match write_stats(told, code, answer, steps, err) {
+        Ok(()) => write_line(file, answer, steps, err),
+        Err(fault) => Err(fault),
     }
 }

@@ -1,24 +1,56 @@
 // The top call.
 
+ghost use Rattle.std.specs.Prelude.{◌≡◌, [], Some};
 ghost use Rattle.lg_base.specs.Arguments.{texts_of};
+ghost use Rattle.lg_command.specs.Commands.{shown};
 ghost use Rattle.lg_run.specs.Causes.{Causes};
 ghost use Rattle.lg_run.specs.Changes.{on_sink, on_texts};
-ghost use Rattle.lg_run.specs.Says.{ReportSays, Says};
+ghost use Rattle.lg_run.specs.Lines.{line_of};
+ghost use Rattle.lg_run.specs.Says.{ReportSays, Says, lines_of, name_in};
 
 use crate::answer::{Answer, Done};
-use crate::lines::write_line;
+use crate::lines::{write_line, write_lines};
 use crate::work::{without_code, work};
-use lg_command::{WordsStop, read_words};
+use lg_command::{Command, Mode, WordsStop, read_words};
 use lg_io::sink::Sink;
 use lg_io::texts::Texts;
 use std::alloc::Global;
 
-/// Writes the line of an answer to `err`: none where the run ended. Where that fails, the answer is a write fault.
-pub fn report<E: Sink>(file: &str, answer: Answer, steps: u64, err: &mut E) -> Answer
-    ensures { ReportSays file.now steps (on_sink E.taken E.faults err.old err.new) answer result }
+// The name of a command's text in the line of a refusal.
+fn name_in<'a>(command: &Command<'a>) -> &'a str
+    ensures { result.now ≡ name_in command.now.mode (shown command.now) }
 {
-    match write_line(file, answer, steps, err) {
+    match command.mode {
+        Mode::Gen => "gen",
+        Mode::Run | Mode::List | Mode::Mean => command.file,
+    }
+}
+
+/// Writes the line of an answer to words that ask for no command. Where that fails, the answer is a write fault.
+pub fn report_words<E: Sink>(answer: Answer, err: &mut E) -> Answer
+    ensures { ReportSays (line_of [] 0 answer) (on_sink E.taken E.faults err.old err.new) answer result }
+{
+    match write_line("", answer, 0, err) {
         Ok(()) => answer,
+        Err(_) => Answer::WriteFault,
+    }
+}
+
+/// Writes the lines of what was done for a command: the statistics, where they are asked for, and the line of the answer, which a run that ended
+/// has not. Where that fails, the answer is a write fault.
+pub fn report<E: Sink>(command: &Command<'_>, done: &Done, err: &mut E) -> Answer
+    ensures { let lines = lines_of (Some (shown command.now)) done.now.code done.now.steps done.now.answer in
+        ReportSays lines (on_sink E.taken E.faults err.old err.new) done.now.answer result }
+{
+    match write_lines(
+        command.stats,
+        name_in(command),
+        &done.code,
+        done.answer,
+        done.steps,
+        err,
+    ) {
+        Ok(()) => done.answer,
         Err(_) => Answer::WriteFault,
     }
 }
@@ -39,22 +71,23 @@ fn answer<T: Texts, O: Sink, E: Sink>(
     match read_words(alloc, words) {
         Ok(command) => {
             let done = work(alloc, &command, texts, out);
-            let answer = report(command.file, done.answer, done.steps, err);
+            let answer = report(&command, &done, err);
             Done {
                 answer,
                 code: done.code,
                 steps: done.steps,
             }
         }
-        Err(WordsStop::Usage) => without_code(report("", Answer::Usage, 0, err)),
-        Err(WordsStop::OutOfMemory) => without_code(report("", Answer::OutOfMemory, 0, err)),
+        Err(WordsStop::Usage) => without_code(report_words(Answer::Usage, err)),
+        Err(WordsStop::OutOfMemory) => without_code(report_words(Answer::OutOfMemory, err)),
     }
 }
 
-/// Reads the words of the command, and the text of its file; makes code of the text's unit for the command's target, and runs the code on a
-/// model of the processor, or, with `--mode mean`, the unit's portable meaning over the addresses of the code's labels, for at most
-/// so many steps as the command says. What the run writes goes to `out`, and the line of every answer but a run's end to `err`. All
-/// memory is taken before the first step.
+/// Reads the words of the command, and the text of its file, which it expands, or makes the generator's text (`--mode gen`); makes code of the text's unit
+/// for the command's target, and runs the code on a model of the processor, or, with `--mode mean`, the unit's portable meaning over the
+/// addresses of the code's labels, for at most so many steps as the command says; or, with `--mode list`, writes the code's listing. What the run writes
+/// and the listing go to `out`, and the statistics and the line of every answer but an end to `err`. All memory is taken before the first step and before
+/// the first line.
 pub fn lightning<T: Texts, O: Sink, E: Sink>(
     alloc: Global,
     words: &Vec<String>,

@@ -10,12 +10,14 @@ ghost use Rattle.lg_command.specs.declared.command.Mode.TheVariants as modes;
 ghost use Rattle.lg_cpu.specs.Laws.{AreBytes};
 ghost use Rattle.lg_node.specs.Shapes.{IsChecked};
 ghost use Rattle.lg_tst.specs.Answers.{IsWhole};
-ghost use Rattle.lg_run.specs.Changes.{TellsWrites, on_sink, on_texts};
+ghost use Rattle.lg_run.specs.Changes.{TellsWrites, TextsChange, on_sink, on_texts};
 ghost use Rattle.lg_opt.specs.Rewritings.{IsTidy, IsOrigin, IsThreadedNode};
-ghost use Rattle.lg_run.specs.Refused.{IsBuilt, IsRefusedAccepted, most_text};
-ghost use Rattle.lg_run.specs.Work.{RanSays, TellsNoRead, TextDone, UnitDone, WorkDone};
+ghost use Rattle.lg_run.specs.Refused.{IsRefusedAccepted, most_text};
+ghost use Rattle.lg_run.specs.Says.{ReadsFile};
+ghost use Rattle.lg_run.specs.Work.{RanSays, ReadDone, TellsNoRead, TextDone, UnitDone, WorkDone};
 
 use crate::answer::{Answer, Done};
+use crate::listing::list_code;
 use crate::mean::run_meaning;
 use crate::reading::{Accepted, read_unit};
 use crate::run::{Ran, run};
@@ -28,7 +30,9 @@ use lg_command::{Command, Mode};
 use lg_cpu::cpu::Cpu;
 use lg_io::sink::Sink;
 use lg_io::texts::Texts;
+use lg_made::made;
 use lg_mean::portable::Portable;
+use lg_pre::expand;
 use std::alloc::Global;
 
 // What registers hold at first, and behind a call of a host function.
@@ -78,7 +82,6 @@ fn code_of(alloc: Global, command: &Command<'_>, text: &Accepted) -> Result<Code
     requires range { IsInRange command.now }
     requires whole { IsWhole text.now.unit }
     requires checked { IsChecked text.now.unit.nodes (Ok text.now.shape) }
-    ensures built { IfOk result (λ c. IsBuilt command.now.target) }
     ensures target { IfOk result (λ c. c.target ≡ command.now.target) }
     ensures tidy { IfOk result (λ c. IsTidy c.nodes) }
     ensures origin { IfOk result (λ c. IsOrigin IsThreadedNode text.now.unit.nodes c.nodes c.origin) }
@@ -102,7 +105,6 @@ fn run_code<O: Sink>(
     requires args { args.now ≡ args_of (texts_of command.now.arguments.items) }
     requires args_size { length args.now ≤ most_args }
     requires whole { IsWhole text.now.unit }
-    requires built { IsBuilt command.now.target }
     requires target { code.now.target ≡ command.now.target }
     requires size { length code.now.bytes ≤ command.now.size }
     ensures says { RanSays modes.Run (shown command.now) code.now text.now.unit (on_sink O.taken O.faults out.old out.new) result }
@@ -146,7 +148,7 @@ fn run_mean<O: Sink>(
     }
 }
 
-// Runs code, or in the mode `mean` its meaning.
+// Runs code, or in the mode `mean` its meaning, or in the mode `list` writes its listing.
 fn run_mode<O: Sink>(
     alloc: Global,
     command: &Command<'_>,
@@ -160,7 +162,6 @@ fn run_mode<O: Sink>(
     requires args_size { length args.now ≤ most_args }
     requires whole { IsWhole text.now.unit }
     requires checked { IsChecked text.now.unit.nodes (Ok text.now.shape) }
-    requires built { IsBuilt command.now.target }
     requires target { code.now.target ≡ command.now.target }
     requires size { length code.now.bytes ≤ command.now.size }
     requires agrees { Agrees code.now.bytes code.now.labels text.now.unit command.now.target }
@@ -168,7 +169,8 @@ fn run_mode<O: Sink>(
     ensures writes { TellsWrites result.answer (on_sink O.taken O.faults out.old out.new) }
 {
     match command.mode {
-        Mode::Run => run_code(alloc, command, args, text, code, out),
+        Mode::Run | Mode::Gen => run_code(alloc, command, args, text, code, out),
+        Mode::List => list_code(command, text, code, out),
         Mode::Mean => run_mean(alloc, command, args, text, code, out),
     }
 }
@@ -211,7 +213,7 @@ fn do_unit<O: Sink>(
     }
 }
 
-// Reads the unit of a text, and does what is asked for.
+// Reads the unit of the command's text, and does what is asked for.
 fn do_text<O: Sink>(
     alloc: Global,
     command: &Command<'_>,
@@ -233,7 +235,66 @@ fn do_text<O: Sink>(
     }
 }
 
-/// Reads the text of a command's file, and does what is asked for. Words of arguments that are too long are refused first.
+// Expands what was read, and does what is asked for.
+fn do_read<O: Sink>(
+    alloc: Global,
+    command: &Command<'_>,
+    args: &ArgImage,
+    read: &[u8],
+    out: &mut O,
+) -> Done
+    requires file { ReadsFile command.now.mode }
+    requires range { IsInRange command.now }
+    requires args { args.now ≡ args_of (texts_of command.now.arguments.items) }
+    requires args_size { length args.now ≤ most_args }
+    requires short { length read.now ≤ most_text }
+    ensures says { ReadDone (shown command.now) read.now (on_sink O.taken O.faults out.old out.new) result }
+    ensures writes { TellsWrites result.answer (on_sink O.taken O.faults out.old out.new) }
+    ensures reads { TellsNoRead result.answer }
+{
+    match expand(alloc, read) {
+        Ok(text) => do_text(alloc, command, args, text.as_bytes(), out),
+        Err(stop) => without_code(stopped(stop)),
+    }
+}
+
+// Reads what stands under the name of a command's file, and does what is asked for.
+fn do_file<T: Texts, O: Sink>(
+    alloc: Global,
+    command: &Command<'_>,
+    args: &ArgImage,
+    texts: &mut T,
+    out: &mut O,
+) -> Done
+    requires file { ReadsFile command.now.mode }
+    requires range { IsInRange command.now }
+    requires args { args.now ≡ args_of (texts_of command.now.arguments.items) }
+    requires args_size { length args.now ≤ most_args }
+    ensures { WorkDone (shown command.now) (on_texts T.held T.faults texts.old texts.new) (on_sink O.taken O.faults out.old out.new) result }
+{
+    match read_text(alloc, command.file, texts) {
+        Ok(read) => do_read(alloc, command, args, &read, out),
+        Err(ReadStop::ReadFault) => without_code(Answer::ReadFault),
+        Err(ReadStop::TooLong) => without_code(Answer::Refused(refusal(RefusalKind::TextTooLong))),
+        Err(ReadStop::OutOfMemory) => without_code(Answer::OutOfMemory),
+    }
+}
+
+// Makes the generator's text, and does what is asked for.
+fn do_made<O: Sink>(alloc: Global, command: &Command<'_>, args: &ArgImage, out: &mut O) -> Done
+    requires made { command.now.mode ≡ modes.Gen }
+    requires range { IsInRange command.now }
+    requires args { args.now ≡ args_of (texts_of command.now.arguments.items) }
+    requires args_size { length args.now ≤ most_args }
+    ensures { (t : TextsChange) → t.faults' ≡ t.faults → WorkDone (shown command.now) t (on_sink O.taken O.faults out.old out.new) result }
+{
+    match made(alloc, command.seed) {
+        Ok(text) => do_text(alloc, command, args, text.as_slice(), out),
+        Err(_) => without_code(Answer::OutOfMemory),
+    }
+}
+
+/// Reads the text of a command's file, or makes the generator's, and does what is asked for. Words of arguments that are too long are refused first.
 pub fn work<T: Texts, O: Sink>(
     alloc: Global,
     command: &Command<'_>,
@@ -247,10 +308,8 @@ pub fn work<T: Texts, O: Sink>(
         Ok(args) => args,
         Err(stop) => return without_code(stopped(stop)),
     };
-    match read_text(alloc, command.file, texts) {
-        Ok(text) => do_text(alloc, command, &args, &text, out),
-        Err(ReadStop::ReadFault) => without_code(Answer::ReadFault),
-        Err(ReadStop::TooLong) => without_code(Answer::Refused(refusal(RefusalKind::TextTooLong))),
-        Err(ReadStop::OutOfMemory) => without_code(Answer::OutOfMemory),
+    match command.mode {
+        Mode::Gen => do_made(alloc, command, &args, out),
+        Mode::Run | Mode::List | Mode::Mean => do_file(alloc, command, &args, texts, out),
     }
 }

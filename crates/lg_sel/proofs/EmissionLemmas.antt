@@ -1,8 +1,7 @@
 -- What the items of a node have beside their instructions: the labels that they name, their fixes, and how many of the instructions store.
-use Rattle.std.proofs.Common.{◌≡◌, ℕ, ◌+◌, ◌≤◌, Bool, true, false, List, [], ◌∷◌, ◌++◌, length, refl, ap, ◌∙◌, arith, length-append}
+use Rattle.std.proofs.Common.{◌≡◌, ℕ, ◌+◌, ◌≤◌, Bool, true, false, List, [], ◌∷◌, ◌++◌, length, ap, ◌∙◌, arith, length-append}
 use Rattle.std.specs.Prelude.{count_by, if◌then◌else◌}
 use Rattle.std.proofs.lemmas.List.{append-nil}
-use Rattle.lg_buf.specs.declared.fixes.Fix.{Fix}
 use Rattle.lg_sel.proofs.StoreLemmas.{stores_among, count-is, among-append}
 use Rattle.lg_sel_items.specs.Holes.{Holes, blanks, settled, fixes_of, Each, ones}
 use Rattle.lg_sel_items.proofs.ListLemmas.{each-append, settled-append, settled-ones, fixes-append, fixes-ones}

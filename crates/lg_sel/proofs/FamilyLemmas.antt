@@ -20,8 +20,8 @@ node_of o xs line = record { op = o; operands = xs; line = line }
 -- a fact of a node and its items, for each family
 pub record HoldsOfFamilies {L : Type 0} (F : Families L) (P : Node → List L → Type 0) (frame : ℕ) (choices : List Choice) (staged : List Bool) (place : ℕ) : Type 0 where
   pub values : (n : Node) → is_value n.op ≡ true → P n (F.values frame n choices)
-  pub loads : (n : Node) (t : ValueType) (at : Addressing) → n.op ≡ op.Load t at → P n (F.load frame t at n)
-  pub stores : (n : Node) (t : StoreType) (at : Addressing) → n.op ≡ op.Store t at → P n (F.store frame t at n)
+  pub loads : (n : Node) (t : ValueType) (at : Addressing) → n.op ≡ op.Load t at → P n (F.load frame t at n choices)
+  pub stores : (n : Node) (t : StoreType) (at : Addressing) → n.op ≡ op.Store t at → P n (F.store frame t at n choices)
   pub arguments : (n : Node) (t : ValueType) → n.op ≡ op.Getarg t → P n (F.argument frame t n)
   pub results : (n : Node) (t : ValueType) → n.op ≡ op.Retval t → P n (F.result frame t n choices)
   pub pushes : (n : Node) (last : LastOperand) → n.op ≡ op.Control control.Pusharg last → P n (F.push frame (staged_count staged) n)

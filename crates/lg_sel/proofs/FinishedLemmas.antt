@@ -1,5 +1,5 @@
 -- From a finished buffer to the items of a node.
-use Rattle.std.proofs.Common.{◌≡◌, ℕ, ◌+◌, ◌-◌, ◌≤◌, true, List, ◌++◌, length, drop, take, refl, sym, ap, subst, ◌∙◌, arith, length-append}
+use Rattle.std.proofs.Common.{◌≡◌, ℕ, ◌+◌, ◌-◌, ◌≤◌, true, false, List, ◌∷◌, ◌++◌, length, drop, take, refl, sym, ap, subst, ◌∙◌, arith, length-append}
 use Rattle.std.specs.Prelude.{Bool, slice_index, count_by}
 use Rattle.std.specs.List.{All}
 use Rattle.std.proofs.Math.Seq.{take-append_seam}
@@ -11,6 +11,7 @@ use Rattle.lg_carry.specs.FinalNodes.{Code}
 use Rattle.lg_carry.specs.Rows.{Rows}
 use Rattle.lg_sel.specs.Finished.{AreAppended, ItemsAreOfNode, ItemsAreWhole, ItemsAreSparing}
 use Rattle.lg_sel.specs.Selected.{IsFinished, AreWhole, part_of}
+use Rattle.lg_sel.specs.Shorts.{LeadsBy}
 use Rattle.lg_sel.specs.Stores.{StoresAtMost}
 use Rattle.lg_sel_items.specs.Holes.{Holes, blanks, settled, fixes_of, Each, IsApartFrom, StandAt, IsSettled, AreHoles}
 use Rattle.lg_sel_items.proofs.HoleLemmas.{items-are-settled, settled-bytes}
@@ -67,6 +68,32 @@ module _ {L I : Type 0} (H : Holes L I) (spelling : I → List ℕ) (fits : I �
     bytes_are = whole-there.bytes_are;
     few = subst (λ (p : ℕ). count_by is_store (settled H to p items) ≤ most) f.here few;
   }
+
+  leading-there : (is_relative : I → Bool) (has_form : ℕ → List I → Type 0) (front : List I) (leap : I) (rest : List I)
+      → settled H to (code_base + place) items ≡ front ++ leap ∷ rest → Each (λ i. is_relative i ≡ false) front → is_relative leap ≡ true
+      → has_form (place + length (spellings spelling front)) (leap ∷ rest)
+      → LeadsBy spelling fits is_relative has_form place (part_of code place (length new.bytes - place))
+  unfolding whole-there
+  leading-there is_relative has_form front leap rest same before leads form = record {
+    front = front;
+    leap = leap;
+    rest = rest;
+    fit = subst (All fits) same whole-there.fit;
+    bytes_are = whole-there.bytes_are ∙ ap (spellings spelling) same;
+    before = before;
+    leads = leads;
+    form = form;
+  }
+
+-- where the items become instructions of which the first do not count from their own place, and the others have a form, so do the bytes
+pub items-lead : {L I : Type 0} (H : Holes L I) (spelling : I → List ℕ) (fits : I → Type 0) (is_item : L → Type 0) → AreHoles H spelling fits is_item
+    → (is_relative : I → Bool) (has_form : ℕ → List I → Type 0) (old new : Buffer) (code : List ℕ) (c : Code) (i : ℕ) (items : List L)
+    → AreAppended H old new items → Each is_item items → IsFinished old new code c i → (front : List I) (leap : I) (rest : List I)
+    → settled H (slice_index c.addresses) (code_base + length old.bytes) items ≡ front ++ leap ∷ rest → Each (λ i. is_relative i ≡ false) front → is_relative leap ≡ true
+    → has_form (length old.bytes + length (spellings spelling front)) (leap ∷ rest)
+    → LeadsBy spelling fits is_relative has_form (length old.bytes) (part_of code (length old.bytes) (length new.bytes - length old.bytes))
+items-lead H spelling fits is_item holes is_relative has_form old new code c i items a ok f =
+    leading-there H spelling fits is_item holes old new code c i items a ok f is_relative has_form
 
 pub items-are-of-node : {L Q I : Type 0} (H : Holes L I) (R : Rows Q I) (fits stays : I → Type 0) (is_item : L → Type 0) → AreHoles H R.spelling fits is_item → ItemsAreOfNode H R fits stays is_item
 items-are-of-node H R fits stays is_item holes old new c i items a ok stay few place_is f =

@@ -8,4 +8,5 @@ pub mod NodeEmissionLemmas
 pub mod NodeFitLemmas
 pub mod OperandLemmas
 pub mod PlaceLemmas
+pub mod ReachLemmas
 pub mod StoreLemmas

@@ -1,5 +1,6 @@
 -- The items of each node name the labels of its operands, have at most one fix, and store as often as they may, where those of each family do.
-use Rattle.std.proofs.Common.{◌≡◌, ℕ, ◌+◌, ◌≤◌, Bool, true, false, List, refl, sym, ap, subst, arith}
+use Rattle.std.proofs.Common.{◌≡◌, ℕ, ◌≤◌, Bool, true, false, List, refl, sym, subst, arith, ◌+◌, ap}
+use Rattle.lg_base.specs.declared.target.Target.{Target}
 use Rattle.lg_op.specs.declared.node.Node.{Node}
 use Rattle.lg_op.specs.declared.op.Addressing.{Addressing}
 use Rattle.lg_op.specs.declared.op.ControlOp.TheVariants as control
@@ -18,15 +19,15 @@ use Rattle.lg_sel_items.specs.Holes.{Holes}
 use Rattle.lg_temp.specs.Chosen.{spills}
 use Rattle.lg_temp.specs.declared.choice.Choice.{Choice}
 
-module _ {L I : Type 0} (H : Holes L I) (is_store : I → Bool) (passes : (ℕ → Bool) → L → Type 0) where
+module _ {L I : Type 0} (target : Target) (H : Holes L I) (is_store : I → Bool) (passes : (ℕ → Bool) → L → Type 0) where
   abbrev pub Emits : (ℕ → Bool) → ℕ → ℕ → List L → Type 0
   Emits is fixes stores xs = emission.Emits H is_store (passes is) fixes stores xs
 
   -- for each test that the labels of the operands pass
   pub record FamiliesEmit (F : Families L) : Type 0 where
     pub values : (is : ℕ → Bool) (frame : ℕ) (n : Node) (choices : List Choice) → AllPass is n.operands → Emits is 1 (spills choices) (F.values frame n choices)
-    pub loads : (is : ℕ → Bool) (frame : ℕ) (t : ValueType) (at : Addressing) (n : Node) → Emits is 1 0 (F.load frame t at n)
-    pub stores : (is : ℕ → Bool) (frame : ℕ) (t : StoreType) (at : Addressing) (n : Node) → Emits is 1 1 (F.store frame t at n)
+    pub loads : (is : ℕ → Bool) (frame : ℕ) (t : ValueType) (at : Addressing) (n : Node) (choices : List Choice) → Emits is 1 (spills choices) (F.load frame t at n choices)
+    pub stores : (is : ℕ → Bool) (frame : ℕ) (t : StoreType) (at : Addressing) (n : Node) (choices : List Choice) → Emits is 1 (spills choices + own_stores target (op.Store t at)) (F.store frame t at n choices)
     pub arguments : (is : ℕ → Bool) (frame : ℕ) (t : ValueType) (n : Node) → Emits is 1 0 (F.argument frame t n)
     pub results : (is : ℕ → Bool) (frame : ℕ) (t : ValueType) (n : Node) (choices : List Choice) → AllPass is n.operands → Emits is 1 (spills choices) (F.result frame t n choices)
     pub pushes : (is : ℕ → Bool) (frame j : ℕ) (n : Node) → AllPass is n.operands → Emits is 1 1 (F.push frame j n)
@@ -38,30 +39,30 @@ module _ {L I : Type 0} (H : Holes L I) (is_store : I → Bool) (passes : (ℕ �
     more is s t xs h a = emission.emits-more H is_store (passes is) 1 1 s t xs (omega arith) h a
 
     abbrev AllEmit : Node → List L → Type 0
-    AllEmit n xs = (is : ℕ → Bool) → AllPass is n.operands → Emits is 1 (allowed choices n.op) xs
+    AllEmit n xs = (is : ℕ → Bool) → AllPass is n.operands → Emits is 1 (allowed target choices n.op) xs
 
     -- the code of an operation that is no `prolog` may have its own stores
-    own : (is : ℕ → Bool) (n : Node) (o : Op) (xs : List L) → n.op ≡ o → is_free o ≡ false → Emits is 1 (own_stores o) xs → Emits is 1 (allowed choices n.op) xs
-    own is n o xs e other a = subst (λ q. Emits is 1 (allowed choices q) xs) (sym e) (more is (own_stores o) (allowed choices o) xs (allowed-own choices o other) a)
+    own : (is : ℕ → Bool) (n : Node) (o : Op) (xs : List L) → n.op ≡ o → is_free o ≡ false → Emits is 1 (own_stores target o) xs → Emits is 1 (allowed target choices n.op) xs
+    own is n o xs e other a = subst (λ q. Emits is 1 (allowed target choices q) xs) (sym e) (more is (own_stores target o) (allowed target choices o) xs (allowed-own target choices o other) a)
 
     -- and those of its saves
-    saves : (is : ℕ → Bool) (n : Node) (o : Op) (xs : List L) → n.op ≡ o → spills choices ≤ allowed choices o → Emits is 1 (spills choices) xs → Emits is 1 (allowed choices n.op) xs
-    saves is n o xs e h a = subst (λ q. Emits is 1 (allowed choices q) xs) (sym e) (more is (spills choices) (allowed choices o) xs h a)
+    saves : (is : ℕ → Bool) (n : Node) (o : Op) (xs : List L) → n.op ≡ o → spills choices ≤ allowed target choices o → Emits is 1 (spills choices) xs → Emits is 1 (allowed target choices n.op) xs
+    saves is n o xs e h a = subst (λ q. Emits is 1 (allowed target choices q) xs) (sym e) (more is (spills choices) (allowed target choices o) xs h a)
 
-    controls-emit : (is : ℕ → Bool) (n : Node) → AllPass is n.operands → Emits is 1 (allowed choices n.op) (F.control n.op n.operands frame place)
+    controls-emit : (is : ℕ → Bool) (n : Node) → AllPass is n.operands → Emits is 1 (allowed target choices n.op) (F.control n.op n.operands frame place)
     controls-emit is n h = by (is_free n.op) refl
       where
-        by : (b : Bool) → is_free n.op ≡ b → Emits is 1 (allowed choices n.op) (F.control n.op n.operands frame place)
-        by false e = more is 0 (allowed choices n.op) (F.control n.op n.operands frame place) (omega arith) (f.controls is n.op n.operands frame place e h)
+        by : (b : Bool) → is_free n.op ≡ b → Emits is 1 (allowed target choices n.op) (F.control n.op n.operands frame place)
+        by false e = more is 0 (allowed target choices n.op) (F.control n.op n.operands frame place) (omega arith) (f.controls is n.op n.operands frame place e h)
         by true e =
-            let most = allowed-free choices n.op e in
-            more is 16 (allowed choices n.op) (F.control n.op n.operands frame place) (omega (arith, most)) (f.prologs is n.op n.operands frame place e)
+            let most = allowed-free target choices n.op e in
+            more is 16 (allowed target choices n.op) (F.control n.op n.operands frame place) (omega (arith, most)) (f.prologs is n.op n.operands frame place e)
 
     families : HoldsOfFamilies F AllEmit frame choices staged place
     families = record {
-      values = λ n is test h. more test (spills choices) (allowed choices n.op) (F.values frame n choices) (allowed-values choices n.op is) (f.values test frame n choices h);
-      loads = λ n t at e is h. own is n (op.Load t at) (F.load frame t at n) e refl (f.loads is frame t at n);
-      stores = λ n t at e is h. own is n (op.Store t at) (F.store frame t at n) e refl (f.stores is frame t at n);
+      values = λ n is test h. more test (spills choices) (allowed target choices n.op) (F.values frame n choices) (allowed-values target choices n.op is) (f.values test frame n choices h);
+      loads = λ n t at e is h. saves is n (op.Load t at) (F.load frame t at n choices) e (omega arith) (f.loads is frame t at n choices);
+      stores = λ n t at e is h. subst (λ q. Emits is 1 (allowed target choices q) (F.store frame t at n choices)) (sym e) (f.stores is frame t at n choices);
       arguments = λ n t e is h. own is n (op.Getarg t) (F.argument frame t n) e refl (f.arguments is frame t n);
       results = λ n t e is h. saves is n (op.Retval t) (F.result frame t n choices) e (omega arith) (f.results is frame t n choices h);
       pushes = λ n last e is h. own is n (op.Control control.Pusharg last) (F.push frame (staged_count staged) n) e refl (f.pushes is frame (staged_count staged) n h);

@@ -2,6 +2,7 @@
 use Rattle.std.proofs.Common.{◌≡◌, ℕ, ◌+◌, ◌≤◌, Bool, true, false, List, [], ◌∷◌, ◌++◌, refl, ap, arith}
 use Rattle.std.specs.Prelude.{cond, count_by, if◌then◌else◌}
 use Rattle.std.proofs.lemmas.List.Recursion.{is_count_by}
+use Rattle.lg_base.specs.declared.target.Target.{Target}
 use Rattle.lg_op.specs.declared.op.Op.{Op}
 use Rattle.lg_op.specs.declared.op.Op.TheVariants as op
 use Rattle.lg_op.specs.declared.op.PlainOp.TheVariants as plain
@@ -39,21 +40,21 @@ module _ {I : Type 0} (is_store : I → Bool) where
 
 -- ---- of a node
 -- how many its code may have: any number at a `prolog`, of which 16 is enough
-abbrev pub allowed : List Choice → Op → ℕ
-allowed choices o = if is_free o then 16 else spills choices + own_stores o
+abbrev pub allowed : Target → List Choice → Op → ℕ
+allowed target choices o = if is_free o then 16 else spills choices + own_stores target o
 
-pub allowed-values : (choices : List Choice) (o : Op) → is_value o ≡ true → spills choices ≤ allowed choices o
-allowed-values choices (op.Binary o last) is = omega arith
-allowed-values choices (op.Wide o last) is = omega arith
-allowed-values choices (op.Unary o) is = omega arith
-allowed-values choices (op.Plain plain.Movi) is = omega arith
-allowed-values choices o is = cc
+pub allowed-values : (target : Target) (choices : List Choice) (o : Op) → is_value o ≡ true → spills choices ≤ allowed target choices o
+allowed-values target choices (op.Binary o last) is = omega arith
+allowed-values target choices (op.Wide o last) is = omega arith
+allowed-values target choices (op.Unary o) is = omega arith
+allowed-values target choices (op.Plain plain.Movi) is = omega arith
+allowed-values target choices o is = cc
 
-pub allowed-own : (choices : List Choice) (o : Op) → is_free o ≡ false → own_stores o ≤ allowed choices o
-allowed-own choices o other = let e = ap (λ b. if b then 16 else spills choices + own_stores o) other in omega (arith, e)
+pub allowed-own : (target : Target) (choices : List Choice) (o : Op) → is_free o ≡ false → own_stores target o ≤ allowed target choices o
+allowed-own target choices o other = let e = ap (λ b. if b then 16 else spills choices + own_stores target o) other in omega (arith, e)
 
-pub allowed-all : (choices : List Choice) (o : Op) (n : ℕ) → is_free o ≡ false → n ≤ allowed choices o → n ≤ spills choices + own_stores o
-allowed-all choices o n other h = let e = ap (λ b. if b then 16 else spills choices + own_stores o) other in omega (arith, e, h)
+pub allowed-all : (target : Target) (choices : List Choice) (o : Op) (n : ℕ) → is_free o ≡ false → n ≤ allowed target choices o → n ≤ spills choices + own_stores target o
+allowed-all target choices o n other h = let e = ap (λ b. if b then 16 else spills choices + own_stores target o) other in omega (arith, e, h)
 
-pub allowed-free : (choices : List Choice) (o : Op) → is_free o ≡ true → allowed choices o ≡ 16
-allowed-free choices o free = ap (λ b. if b then 16 else spills choices + own_stores o) free
+pub allowed-free : (target : Target) (choices : List Choice) (o : Op) → is_free o ≡ true → allowed target choices o ≡ 16
+allowed-free target choices o free = ap (λ b. if b then 16 else spills choices + own_stores target o) free

@@ -4,5 +4,6 @@ pub mod Finished
 pub mod Needs
 pub mod Promises
 pub mod Selected
+pub mod Shorts
 pub mod Stores
 pub mod Targets

@@ -1,10 +1,10 @@
 -- What is asked of a node and its buffer, and when the buffer is finished, on every target.
-use Rattle.std.specs.Prelude.{◌≡◌, ℕ, ◌+◌, ◌-◌, ◌%◌, ◌^◌, ◌<◌, ◌≤◌, ◌||◌, Bool, true, false, List, [], ◌∷◌, ◌++◌, length, take, drop, replicate, slice_index, slice_index_or, Option, Some, ⊤}
+use Rattle.std.specs.Prelude.{◌≡◌, ℕ, ◌+◌, ◌-◌, ◌%◌, ◌^◌, ◌<◌, ◌≤◌, ◌||◌, Bool, true, false, List, [], ◌∷◌, ◌++◌, length, take, drop, replicate, slice_index, slice_index_or, Option, Some, None, ⊤}
 use Rattle.std.specs.List.{All, list_any}
 use Rattle.lg_base.specs.Layout.{code_base, most_code}
 use Rattle.lg_base.specs.declared.target.Target.{Target}
 use Rattle.lg_buf.specs.declared.fixes.Fix.{Fix}
-use Rattle.lg_buf.specs.Buffers.{Buffer, AreDone}
+use Rattle.lg_buf.specs.Buffers.{Buffer, AreDone, place_of}
 use Rattle.lg_buf.specs.Fixing.{IsWithin, Fits}
 use Rattle.lg_carry.specs.Blocks.{spellings}
 use Rattle.lg_carry.specs.FinalNodes.{Code}
@@ -24,6 +24,7 @@ use Rattle.lg_op.specs.declared.operand.Operand.{Operand}
 use Rattle.lg_op.specs.declared.operand.Operand.TheVariants as operand
 use Rattle.lg_op.specs.declared.operand.Reg.{Reg}
 use Rattle.lg_sel_items.specs.Holes.{IsApartFrom, HaveAddresses}
+use Rattle.lg_sel_items.specs.Reaches.{near_size}
 use Rattle.lg_temp.specs.declared.choice.Choice.{Choice}
 use Rattle.lg_temp.specs.declared.choice.Need.{Need}
 use Rattle.lg_temp.specs.Chosen.{around, choices_of}
@@ -87,12 +88,19 @@ HaveWords [] = ⊤
 HaveWords (x ∷ xs) = IsWord x × HaveWords xs
 
 -- ---- what follows
--- a field that lies behind a place leads to a label of the node, and reaches every place within 1 MiB at which an instruction may stand, which is
--- a multiple of the unit
-pub record IsFixOf (unit place : ℕ) (n : Node) (f : Fix) : Type 0 where
-  pub from : place ≤ f.place
+-- where a field at a place may be led in a buffer of this size: to the place of its label, if that is bound, and else to every place, which lies within
+-- 1 MiB where the size is no more
+abbrev pub MayBeLed : ℕ → ℕ → ℕ → Option ℕ → Type 0
+MayBeLed size place target (Some bound) = target ≡ bound
+MayBeLed size place target None = size ≤ near_size → IsWithin near_size place target
+
+-- a field that lies behind the bytes of the old buffer leads to a label of the node, and reaches every place to which it may be led, at which an
+-- instruction may stand, which is a multiple of the unit
+pub record IsFixOf (unit : ℕ) (old : Buffer) (n : Node) (f : Fix) : Type 0 where
+  pub from : length old.bytes ≤ f.place
   pub names : list_any (is_label f.label.0) n.operands ≡ true
-  pub reaches : (target : ℕ) → target % unit ≡ 0 → target ≤ most_code → IsWithin 1048576 f.place target → Fits f.kind f.place target
+  pub reaches : (target : ℕ) → target % unit ≡ 0 → target ≤ most_code → f.place ≤ most_code → MayBeLed old.size f.place target (place_of old.labels f.label.0)
+      → Fits f.kind f.place target
 
 -- a buffer whose fixes are patched, in which the bytes and the fixes that were appended to an old buffer stand where they were appended, and
 -- no other fix has one of the bytes: of the final code, node i has these bytes, and each label has the address of its place

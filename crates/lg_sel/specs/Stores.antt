@@ -13,6 +13,8 @@ use Rattle.lg_op.specs.declared.op.ControlOp.TheVariants as control
 use Rattle.lg_op.specs.declared.op.Op.{Op}
 use Rattle.lg_op.specs.declared.op.Op.TheVariants as op
 use Rattle.lg_op.specs.declared.op.PlainOp.TheVariants as plain
+use Rattle.lg_op.specs.declared.op.StoreType.{StoreType}
+use Rattle.lg_operators.specs.Operators.{store_width}
 use Rattle.lg_rv.specs.Spelling as rv
 use Rattle.lg_rv.specs.declared.instruction.Instr.{Instr as RvInstr}
 use Rattle.lg_rv.specs.declared.instruction.Instr.TheVariants as rv_instr
@@ -40,11 +42,16 @@ rv_stores (rv_instr.Store o rs1 rs2 imm) = true
 rv_stores i = false
 
 -- ---- which nodes do
+-- how many rows store by a type: RV64 refuses one of several bytes at an address that is no multiple of their number, so a byte is stored at a time
+abbrev pub rows_stored : Target → StoreType → ℕ
+rows_stored Riscv64 t = store_width t
+rows_stored target t = 1
+
 -- the stores that a node has beside those that save its temporaries
-abbrev pub own_stores : Op → ℕ
-own_stores (op.Store t at) = 1
-own_stores (op.Control control.Pusharg last) = 1
-own_stores o = 0
+abbrev pub own_stores : Target → Op → ℕ
+own_stores target (op.Store t at) = rows_stored target t
+own_stores target (op.Control control.Pusharg last) = 1
+own_stores target o = 0
 
 -- a `prolog` may have any number
 abbrev pub is_free : Op → Bool

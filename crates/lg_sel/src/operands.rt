@@ -1,11 +1,49 @@
 //! What a target's code asks of a node's operands and of the arguments that are staged.
 
-ghost use Rattle.std.specs.Prelude.{◌≡◌};
+ghost use Rattle.std.specs.Prelude.{◌≡◌, ◌≢◌, ℕ, ◌≤◌, Some, length, slice_get};
+ghost use Rattle.lg_base.specs.Layout.{most_code};
+ghost use Rattle.lg_buf.specs.Buffers.{place_of};
+ghost use Rattle.lg_op.specs.declared.operand.Label.{Label};
+ghost use Rattle.lg_sel.specs.Asked.{NameBelow};
 ghost use Rattle.lg_sel.specs.Families.{staged_count};
 ghost use Rattle.lg_sel.specs.Selected.{IsWord, HaveWords};
 
+use lg_buf::{CodeBuf, Label32};
 use lg_op::Operand;
+use lg_sel_items::{NEAR_SIZE, Reach};
 use lg_temp::choice::Staged;
+
+// The most bytes of code.
+const MOST_CODE: u32 = 0x400_0000;
+
+// The reach of code that leads forward in a buffer of this size.
+fn forward_reach(size: u32) -> Reach {
+    if size <= NEAR_SIZE {
+        Reach::Near
+    } else {
+        Reach::Far
+    }
+}
+
+/// The reach with which to begin for a node with these operands: the shortest, but where it leads to a label that is not bound yet the one that a
+/// buffer of this size asks for. Behind the last place of code it is the longest.
+pub fn first_reach(operands: &[Operand], buf: &CodeBuf) -> Reach
+    requires { NameBelow (length buf.now.labels) operands.now }
+    ensures low { result ≢ Reach.Far → length buf.now.bytes ≤ most_code }
+    ensures bound { (l : Label) (goal : ℕ) → slice_get operands.now 0 ≡ Some (Operand.Label l) → place_of buf.now.labels l.0 ≡ Some goal
+        → length buf.now.bytes ≤ most_code → result ≡ Reach.Short }
+{
+    if buf.here() > MOST_CODE {
+        return Reach::Far;
+    }
+    match operands {
+        [Operand::Label(label), ..] => match buf.bound(Label32(label.0)) {
+            Some(_) => Reach::Short,
+            None => forward_reach(buf.size()),
+        },
+        _ => Reach::Short,
+    }
+}
 
 /// How many arguments are staged.
 pub fn staged_count(staged: &Staged) -> u32

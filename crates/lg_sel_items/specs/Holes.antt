@@ -1,5 +1,5 @@
 -- Items of any target: as they are emitted, with 0 in the fields of labels, and once the labels have places.
-use Rattle.std.specs.Prelude.{◌≡◌, ℕ, ◌+◌, ◌<◌, ◌≤◌, ◌⊎◌, List, [], ◌∷◌, ◌++◌, length, drop, slice_index, Option, Some, ⊤}
+use Rattle.std.specs.Prelude.{◌≡◌, ℕ, ◌+◌, ◌<◌, ◌≤◌, ◌⊎◌, List, [], ◌∷◌, ◌++◌, length, drop, slice_index, Option, Some, None, ⊤}
 use Rattle.std.specs.List.{All}
 use Rattle.lg_base.specs.Layout.{code_base}
 use Rattle.lg_buf.specs.declared.fixes.Fix.{Fix}
@@ -25,6 +25,11 @@ blank_of H x = H.blank x
 
 abbrev pub fix_at : {L I : Type 0} → Holes L I → ℕ → L → List Fix
 fix_at H place x = H.fix_of place x
+
+-- the fix of an item, if it has one
+abbrev pub listed : Option Fix → List Fix
+listed None = []
+listed (Some f) = f ∷ []
 
 -- ---- lists of items
 -- how many instructions they have

@@ -1,3 +1,4 @@
 pub mod GoodItems
 pub mod Holes
 pub mod NodeItems
+pub mod Reaches

@@ -3,7 +3,7 @@
 ghost use Rattle.std.specs.Prelude.{◌≡◌, ◌+◌, ◌<◌, ◌≤◌, ◌^◌, ◌++◌, ◌↔◌, length, false, IsTrue};
 ghost use Rattle.std.specs.List.{All};
 ghost use Rattle.lg_buf.specs.Buffers.{EndsWithin};
-ghost use Rattle.lg_sel_items.specs.Holes.{blanks, fixes_of, Each};
+ghost use Rattle.lg_sel_items.specs.Holes.{blank_of, blanks, fix_at, fixes_of, Each};
 
 use crate::item::Item;
 use crate::items::Items;
@@ -53,6 +53,24 @@ fn spell_all<L: Item>(items: &[L], bytes: &mut SmallVec<u8, 256>)
     }
 }
 
+// Makes the fix of an item whose bytes stand at a place, behind those of all fixes.
+fn fix_one<L: Item>(item: &L, place: u32, buf: &mut CodeBuf)
+    requires item { L.is_item item.now }
+    requires emitted { place + length (blank_of L.holes item.now) ≤ length buf.old.bytes }
+    requires small { length buf.old.bytes < 2 ^ 32 }
+    requires apart { All (EndsWithin place) buf.old.fixes }
+    requires label { L.names_one_of (length buf.old.labels) item.now }
+    requires room { length (fix_at L.holes place item.now) ≤ buf.old.room }
+    ensures fixes { buf.new.fixes ≡ buf.old.fixes ++ fix_at L.holes place item.now }
+    ensures ends { All (EndsWithin (place + length (blank_of L.holes item.now))) (fix_at L.holes place item.now) }
+    ensures room { buf.new.room + length (fix_at L.holes place item.now) ≡ buf.old.room }
+    ensures others { buf.new ≡ record buf.old { fixes = buf.new.fixes; room = buf.new.room } }
+{
+    if let Some(fix) = item.fix(place) {
+        buf.fix(fix.place, fix.kind, fix.label);
+    }
+}
+
 // Makes the fixes of all items, whose bytes stand from a place on, behind those of all fixes.
 fn fix_all<L: Item>(items: &[L], place: u32, buf: &mut CodeBuf)
     requires items { Each L.is_item items.now }
@@ -68,7 +86,7 @@ fn fix_all<L: Item>(items: &[L], place: u32, buf: &mut CodeBuf)
     match items {
         [] => {}
         [item, rest @ ..] => {
-            item.fix(place, buf);
+            fix_one(item, place, buf);
             fix_all(rest, place + item.size(), buf);
         }
     }

@@ -1,11 +1,9 @@
 // What an item is.
 
-ghost use Rattle.std.specs.Prelude.{◌≡◌, ℕ, ◌+◌, ◌<◌, ◌≤◌, List, ◌++◌, length};
-ghost use Rattle.std.specs.List.{All};
-ghost use Rattle.lg_buf.specs.Buffers.{EndsWithin};
-ghost use Rattle.lg_sel_items.specs.Holes.{Holes, words_of, blank_of, fix_at};
+ghost use Rattle.std.specs.Prelude.{◌≡◌, ℕ, ◌+◌, ◌<◌, ◌≤◌, ◌^◌, List, ◌++◌, length, IfSome};
+ghost use Rattle.lg_sel_items.specs.Holes.{Holes, words_of, blank_of, fix_at, listed, IsWithin};
 
-use lg_buf::CodeBuf;
+use lg_buf::Fix;
 use smallvec::SmallVec;
 use std::default::Default;
 
@@ -43,17 +41,13 @@ pub trait Item: Copy + Drop + Default {
         requires { is_item self.now }
         ensures { result ≡ length (blank_of holes self.now) };
 
-    /// Makes the fix of an item whose bytes stand at a place, behind those of all fixes. It ends within the item's bytes.
-    fn fix(&self, place: u32, buf: &mut CodeBuf)
+    /// The fix of an item whose bytes stand at a place, if it names a label. It lies within the item's bytes.
+    fn fix(&self, place: u32) -> Option<Fix>
         requires item { is_item self.now }
-        requires emitted { place + length (blank_of holes self.now) ≤ length buf.old.bytes }
-        requires apart { All (EndsWithin place) buf.old.fixes }
-        requires label { names_one_of (length buf.old.labels) self.now }
-        requires room { length (fix_at holes place self.now) ≤ buf.old.room }
-        ensures fixes { buf.new.fixes ≡ buf.old.fixes ++ fix_at holes place self.now }
-        ensures ends { All (EndsWithin (place + length (blank_of holes self.now))) (fix_at holes place self.now) }
-        ensures room { buf.new.room + length (fix_at holes place self.now) ≡ buf.old.room }
-        ensures others { buf.new ≡ record buf.old { fixes = buf.new.fixes; room = buf.new.room } };
+        requires small { place + length (blank_of holes self.now) < 2 ^ 32 }
+        ensures fix { listed result ≡ fix_at holes place self.now }
+        ensures within { IfSome result (λ f. IsWithin place (length (blank_of holes self.now)) f) }
+        ensures label { (labels : ℕ) → names_one_of labels self.now → IfSome result (λ f. f.label.0 < labels) };
 
     /// It has an instruction.
     ghost some: { (x : Self) → 0 < words_of holes x };

@@ -6,7 +6,9 @@ mod emission;
 mod item;
 mod items;
 pub mod laws;
+mod reach;
 
 pub use emission::append;
 pub use item::Item;
 pub use items::Items;
+pub use reach::{NEAR_SIZE, Reach, lead};

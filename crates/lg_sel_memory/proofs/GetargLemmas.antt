@@ -156,7 +156,7 @@ module _ {Q I : Type 0} (R : Rows Q I) (scratch : ℕ → Bool) (fits : I → Ty
           (subst (λ p'. IsReadable (R.processor.seen q) p' a (width t) part) (sym p) readable) (part-less v t)))
 
       steps-to : StepsTo R scratch c n [] is s (R.processor.seen q)
-      steps-to = writes-word R scratch c n is s (R.processor.seen q) d named (on (with_reg s (operand.Reg d) (typed t v))) (typed t v)
+      steps-to = writes-word R scratch c n [] is s (R.processor.seen q) d named (on (with_reg s (operand.Reg d) (typed t v))) (typed t v)
           (λ r. numbered-same (is_written n) (is_same d) (λ m. or-false (is_same d m)) r)
           (steps-so x s at ∙ ap (λ z. need z (λ y. operate s (operand.Reg d) (Some (typed t y)))) given)
           record { at = refl; frame = refl; callers = refl; pushed = refl; mem = refl; mark = refl; data_size = refl; args_size = refl; answer = refl }

@@ -1,5 +1,5 @@
 -- Loads and stores with each kind of address are carried.
-use Rattle.std.proofs.Common.{◌≡◌, ◌≢◌, ℕ, ◌^◌, ◌<◌, Bool, true, false, List, [], ◌∷◌, Option, Some, refl, sym, ap, ◌∙◌, arith, subst}
+use Rattle.std.proofs.Common.{◌≡◌, ◌≢◌, ℕ, ◌^◌, ◌<◌, Bool, true, false, List, [], ◌∷◌, Option, Some, refl, sym, ap, ◌∙◌, arith, subst, length}
 use Rattle.std.specs.Prelude.{◌||◌}
 use Rattle.std.specs.List.{list_any}
 use Rattle.lg_base.specs.Words.{add_words}
@@ -17,20 +17,26 @@ use Rattle.lg_op.specs.declared.operand.Operand.TheVariants as operand
 use Rattle.lg_op.specs.declared.node.Node.{Node}
 use Rattle.lg_live.specs.Registers.{is_same}
 use Rattle.lg_meaning.specs.States.{State, reg, value}
-use Rattle.lg_meaning.specs.Steps.{need, load_to, store_to}
+use Rattle.lg_meaning.specs.Steps.{need, load_to, store_to, operand_at, stored_operand}
+use Rattle.lg_temp.specs.declared.choice.Choice.{Choice}
+use Rattle.lg_carry.specs.Blocks.{spellings}
+use Rattle.lg_carry.specs.Carries.{leaps}
 use Rattle.lg_carry.specs.FinalNodes.{Code}
 use Rattle.lg_carry.specs.NodeBlocks.{IsNodeBlock}
 use Rattle.lg_carry.specs.NodeCode.{numbered, CarriesNode}
 use Rattle.lg_carry.specs.Rows.{Rows}
-use Rattle.lg_carry.specs.TextNodes.{IsInText, IsFrameOf}
+use Rattle.lg_carry.specs.Spills.{wrapped}
+use Rattle.lg_carry.specs.TextNodes.{IsInText, IsFrameOf, stands_inside}
 use Rattle.lg_sel_nodes.specs.Isas.{IsIsa}
+use Rattle.lg_sel_nodes.specs.Straight.{ComputesNode}
 use Rattle.lg_sel_nodes.proofs.RegisterLemmas.{same-self}
+use Rattle.lg_sel_nodes.proofs.StraightLemmas.{AreHarmless, none-harmless, harmless, computing-nodes-carry, plain-nodes-carry}
 use Rattle.lg_sel_memory.specs.Accesses.{Base, At, Sum, Index, address_of}
-use Rattle.lg_sel_memory.specs.Loads.{LoadCode, LoadsDo, HasCode, load_of, LoadsCarry}
-use Rattle.lg_sel_memory.specs.Operands.{number, is_label, names_label, HasWords}
-use Rattle.lg_sel_memory.specs.Stores.{StoreCode, StoresDo, HasStoreCode, store_of, StoresCarry}
+use Rattle.lg_sel_memory.specs.Loads.{LoadCode, LoadDoes, LoadsDo, HasCode, LoadsCarry, LoadsWithTemporariesCarry}
+use Rattle.lg_sel_memory.specs.Operands.{named, number, is_label, names_label, HasWords}
+use Rattle.lg_sel_memory.specs.Stores.{StoreCode, StoreDoes, StoresDo, HasStoreCode, StoresCarry, StoresWithTemporariesCarry}
 use Rattle.lg_sel_memory.proofs.FormLemmas.{nothing-left, starts-written, starts-read, starts-number}
-use Rattle.lg_sel_memory.proofs.LoadLemmas.{load-carried}
+use Rattle.lg_sel_memory.proofs.LoadLemmas.{load-computes}
 use Rattle.lg_sel_memory.proofs.ReadLemmas.{sum, same-some, parts, or-true, or-first, or-false, numbered-same, numbered-none, number-small, with_op, stepped}
 use Rattle.lg_sel_memory.proofs.StoreLemmas.{store-carried}
 
@@ -51,98 +57,101 @@ held-offset : {u : ℕ} (x : Option ℕ) (v a : ℕ) → ((b : ℕ) → x ≡ So
 held-offset {u} x v a f e = turned u v ∙ held-sum (Some v) x a (λ b g. same-some v b g) f e
 
 -- ---- loads
-module _ {Q I : Type 0} (R : Rows Q I) (scratch : ℕ → Bool) (fits : I → Type 0) (isa : IsIsa R scratch fits) (code : LoadCode I) (lead : LoadsDo R scratch code) (some : HasCode R code)
-    (c : Code) (i : ℕ) (t : ValueType) (frame : ℕ) (is-frame : IsFrameOf c i frame) (S : ℕ → Bool) (line : ℕ) (d : Reg) (named : d ≢ Fp) where
+module _ {Q I : Type 0} (R : Rows Q I) (scratch : ℕ → Bool) (c : Code) (i : ℕ) (t : ValueType) (frame : ℕ) (choices : List Choice) (body : List I) (some : 0 < length (spellings R.spelling body))
+    (line : ℕ) (d : Reg) (named : d ≢ Fp) where
   abbrev node : Addressing → List Operand → Node
   node at xs = record { op = op.Load t at; operands = operand.Reg d ∷ xs; line = line }
 
-  abbrev Carried : Addressing → List Operand → Type 0
-  Carried at xs = HasWords (node at xs) → IsInText c i (node at xs) → IsNodeBlock R fits c i (load_of code frame t at (node at xs)) → CarriesNode R.processor c i (node at xs) S
+  abbrev Computed : Addressing → List Operand → Type 0
+  Computed at xs = HasWords (node at xs) → IsInText c i (node at xs) → LoadDoes R scratch choices frame t d (address_of at (operand_at (node at xs) 1) (operand_at (node at xs) 2)) body
+      → ComputesNode R scratch c i (node at xs) frame choices body
 
   only-d : (r : ℕ) → numbered (λ m. is_same d m || false) r ≡ numbered (is_same d) r
   only-d r = numbered-same (λ m. is_same d m || false) (is_same d) (λ m. or-false (is_same d m)) r
 
-  by-register : (a : Reg) → Carried addressing.Register (operand.Reg a ∷ [])
-  by-register a words x k =
+  by-register : (a : Reg) → Computed addressing.Register (operand.Reg a ∷ [])
+  by-register a words x lead =
       let n = node addressing.Register (operand.Reg a ∷ []) in
-      load-carried R scratch fits isa code lead some c i n t S d named (Base a) tt frame (λ s. reg s a) refl refl
+      load-computes R scratch c i n t d named (Base a) tt frame choices body lead some (λ s. reg s a)
       (λ s q v h e. h.registers a v (λ ne. or-first (is_same a a) false (same-self a ne)) e)
-      only-d (λ s at. stepped c i n s x at) x is-frame k
+      only-d (λ s at. stepped c i n s x at)
 
-  by-number : (v : Operand) → number v < 2 ^ 64 → ((A : List ℕ) (s : State) → value A s v ≡ Some (number v)) → Carried addressing.Immediate (v ∷ [])
-  by-number v small gives words x k =
+  by-number : (v : Operand) → number v < 2 ^ 64 → ((A : List ℕ) (s : State) → value A s v ≡ Some (number v)) → Computed addressing.Immediate (v ∷ [])
+  by-number v small gives words x lead =
       let n = node addressing.Immediate (v ∷ []) in
-      load-carried R scratch fits isa code lead some c i n t S d named (At (number v)) small frame (λ s. Some (number v)) refl refl
+      load-computes R scratch c i n t d named (At (number v)) small frame choices body lead some (λ s. Some (number v))
       (λ s q a h e. same-some (number v) a e)
-      only-d (λ s at. stepped c i n s x at ∙ ap (λ z. need z (λ a. load_to s t a (operand.Reg d))) (gives c.addresses s)) x is-frame k
+      only-d (λ s at. stepped c i n s x at ∙ ap (λ z. need z (λ a. load_to s t a (operand.Reg d))) (gives c.addresses s))
 
-  by-registers : (a b : Reg) → Carried addressing.RegisterRegister (operand.Reg a ∷ operand.Reg b ∷ [])
-  by-registers a b words x k =
+  by-registers : (a b : Reg) → Computed addressing.RegisterRegister (operand.Reg a ∷ operand.Reg b ∷ [])
+  by-registers a b words x lead =
       let n = node addressing.RegisterRegister (operand.Reg a ∷ operand.Reg b ∷ []) in
-      load-carried R scratch fits isa code lead some c i n t S d named (Sum a b) tt frame (λ s. sum (reg s a) (reg s b)) refl refl
+      load-computes R scratch c i n t d named (Sum a b) tt frame choices body lead some (λ s. sum (reg s a) (reg s b))
       (λ s q v h e. held-sum (reg s a) (reg s b) v
       (λ y ey. h.registers a y (λ ne. or-first (is_same b a || is_same a a) false (ap (λ z. is_same b a || z) (same-self a ne) ∙ or-true (is_same b a))) ey)
       (λ y ey. h.registers b y (λ ne. or-first (is_same b b || is_same a b) false (or-first (is_same b b) (is_same a b) (same-self b ne))) ey) e)
-      only-d (λ s at. stepped c i n s x at) x is-frame k
+      only-d (λ s at. stepped c i n s x at)
 
-  by-index : (a : Reg) (v : Operand) → number v < 2 ^ 64 → ((A : List ℕ) (s : State) → value A s v ≡ Some (number v)) → Carried addressing.RegisterImmediate (operand.Reg a ∷ v ∷ [])
-  by-index a v small gives words x k =
+  by-index : (a : Reg) (v : Operand) → number v < 2 ^ 64 → ((A : List ℕ) (s : State) → value A s v ≡ Some (number v)) → Computed addressing.RegisterImmediate (operand.Reg a ∷ v ∷ [])
+  by-index a v small gives words x lead =
       let n = node addressing.RegisterImmediate (operand.Reg a ∷ v ∷ []) in
-      load-carried R scratch fits isa code lead some c i n t S d named (Index a (number v)) small frame (λ s. sum (reg s a) (Some (number v))) refl refl
+      load-computes R scratch c i n t d named (Index a (number v)) small frame choices body lead some (λ s. sum (reg s a) (Some (number v)))
       (λ s q b h e. held-index (reg s a) (number v) b (λ y ey. h.registers a y (λ ne. or-first (is_same a a) false (same-self a ne)) ey) e)
-      only-d (λ s at. stepped c i n s x at ∙ ap (λ z. need (sum (reg s a) z) (λ y. load_to s t y (operand.Reg d))) (gives c.addresses s)) x is-frame k
+      only-d (λ s at. stepped c i n s x at ∙ ap (λ z. need (sum (reg s a) z) (λ y. load_to s t y (operand.Reg d))) (gives c.addresses s))
 
-  load-law : (at : Addressing) (xs : List Operand) → admit (address_forms at) xs ≡ true → list_any is_label xs ≡ false → Carried at xs
+  load-law : (at : Addressing) (xs : List Operand) → admit (address_forms at) xs ≡ true → list_any is_label xs ≡ false → Computed at xs
   load-law addressing.Register xs e none =
       let a = starts-read [] xs e in
       let xs-are : xs ≡ operand.Reg a.register ∷ [] = a.is ∙ ap (λ ys. operand.Reg a.register ∷ ys) (nothing-left a.rest a.admitted) in
-      subst (Carried addressing.Register) (sym xs-are) (by-register a.register)
+      subst (Computed addressing.Register) (sym xs-are) (by-register a.register)
   load-law addressing.Immediate xs e none =
       let v = starts-number [] xs none e in
       let xs-are : xs ≡ v.constant ∷ [] = v.is ∙ ap (λ ys. v.constant ∷ ys) (nothing-left v.rest v.admitted) in
-      subst (Carried addressing.Immediate) (sym xs-are) (λ words. by-number v.constant (number-small v.constant (λ m z. words 1 m z)) v.gives words)
+      subst (Computed addressing.Immediate) (sym xs-are) (λ words. by-number v.constant (number-small v.constant (λ m z. words 1 m z)) v.gives words)
   load-law addressing.RegisterRegister xs e none =
       let a = starts-read (form.Read ∷ []) xs e in
       let b = starts-read [] a.rest a.admitted in
       let xs-are : xs ≡ operand.Reg a.register ∷ operand.Reg b.register ∷ [] =
       a.is ∙ ap (λ ys. operand.Reg a.register ∷ ys) (b.is ∙ ap (λ ys. operand.Reg b.register ∷ ys) (nothing-left b.rest b.admitted)) in
-      subst (Carried addressing.RegisterRegister) (sym xs-are) (by-registers a.register b.register)
+      subst (Computed addressing.RegisterRegister) (sym xs-are) (by-registers a.register b.register)
   load-law addressing.RegisterImmediate xs e none =
       let a = starts-read (form.Immediate ∷ []) xs e in
       let v = starts-number [] a.rest (no-label a.register a.rest (ap (list_any is_label) (sym a.is) ∙ none)) a.admitted in
       let xs-are : xs ≡ operand.Reg a.register ∷ v.constant ∷ [] =
       a.is ∙ ap (λ ys. operand.Reg a.register ∷ ys) (v.is ∙ ap (λ ys. v.constant ∷ ys) (nothing-left v.rest v.admitted)) in
-      subst (Carried addressing.RegisterImmediate) (sym xs-are) (λ words. by-index a.register v.constant (number-small v.constant (λ m z. words 2 m z)) v.gives words)
+      subst (Computed addressing.RegisterImmediate) (sym xs-are) (λ words. by-index a.register v.constant (number-small v.constant (λ m z. words 2 m z)) v.gives words)
 
 -- ---- stores
-module _ {Q I : Type 0} (R : Rows Q I) (scratch : ℕ → Bool) (fits : I → Type 0) (isa : IsIsa R scratch fits) (code : StoreCode I) (lead : StoresDo R scratch code) (some : HasStoreCode R code)
-    (c : Code) (i : ℕ) (t : StoreType) (frame : ℕ) (is-frame : IsFrameOf c i frame) (S : ℕ → Bool) (line : ℕ) where
+module _ {Q I : Type 0} (R : Rows Q I) (scratch : ℕ → Bool) (fits : I → Type 0) (isa : IsIsa R scratch fits) (c : Code) (i : ℕ) (t : StoreType) (frame : ℕ) (is-frame : IsFrameOf c i frame) (S : ℕ → Bool)
+    (choices : List Choice) (body : List I) (some : 0 < length (spellings R.spelling body)) (line : ℕ) where
   abbrev store : Addressing → List Operand → Node
   store at xs = record { op = op.Store t at; operands = xs; line = line }
 
   abbrev Stores : Addressing → List Operand → Type 0
-  Stores at xs = HasWords (store at xs) → IsInText c i (store at xs) → IsNodeBlock R fits c i (store_of code frame t at (store at xs)) → CarriesNode R.processor c i (store at xs) S
+  Stores at xs = HasWords (store at xs) → IsInText c i (store at xs) → AreHarmless R c i (store at xs) S choices
+      → StoreDoes R scratch choices frame t (address_of at (operand_at (store at xs) 0) (operand_at (store at xs) 1)) (named (operand_at (store at xs) (stored_operand at))) body
+      → IsNodeBlock R fits c i (wrapped R choices body) → CarriesNode R.processor c i (store at xs) S
 
   at-register : (a b : Reg) → Stores addressing.Register (operand.Reg a ∷ operand.Reg b ∷ [])
-  at-register a b words x k =
+  at-register a b words x harm lead k =
       let n = store addressing.Register (operand.Reg a ∷ operand.Reg b ∷ []) in
-      store-carried R scratch fits isa code lead some c i n t S b (Base a) tt frame (λ s. reg s a) (λ s. reg s b) refl refl
+      store-carried R scratch fits isa c i n t S b (Base a) tt frame choices body lead some harm (λ s. reg s a) (λ s. reg s b) refl refl
       (λ s q v h e. h.registers a v (λ ne. ap (λ z. is_same b a || z) (same-self a ne) ∙ or-true (is_same b a)) e)
       (λ s q v h e. h.registers b v (λ ne. or-first (is_same b b) (is_same a b) (same-self b ne)) e)
       numbered-none (λ s at. stepped c i n s x at) x is-frame k
 
   at-number : (v : Operand) (b : Reg) → number v < 2 ^ 64 → ((A : List ℕ) (s : State) → value A s v ≡ Some (number v)) → Stores addressing.Immediate (v ∷ operand.Reg b ∷ [])
-  at-number v b small gives words x k =
+  at-number v b small gives words x harm lead k =
       let n = store addressing.Immediate (v ∷ operand.Reg b ∷ []) in
-      store-carried R scratch fits isa code lead some c i n t S b (At (number v)) small frame (λ s. Some (number v)) (λ s. reg s b) refl refl
+      store-carried R scratch fits isa c i n t S b (At (number v)) small frame choices body lead some harm (λ s. Some (number v)) (λ s. reg s b) refl refl
       (λ s q a h e. same-some (number v) a e)
       (λ s q y h e. h.registers b y (λ ne. or-first (is_same b b) false (same-self b ne)) e)
       numbered-none (λ s at. stepped c i n s x at ∙ ap (λ z. need z (λ y. need (reg s b) (λ u. store_to s t y u))) (gives c.addresses s)) x is-frame k
 
   at-registers : (a b d : Reg) → Stores addressing.RegisterRegister (operand.Reg a ∷ operand.Reg b ∷ operand.Reg d ∷ [])
-  at-registers a b d words x k =
+  at-registers a b d words x harm lead k =
       let n = store addressing.RegisterRegister (operand.Reg a ∷ operand.Reg b ∷ operand.Reg d ∷ []) in
-      store-carried R scratch fits isa code lead some c i n t S d (Sum a b) tt frame (λ s. sum (reg s a) (reg s b)) (λ s. reg s d) refl refl
+      store-carried R scratch fits isa c i n t S d (Sum a b) tt frame choices body lead some harm (λ s. sum (reg s a) (reg s b)) (λ s. reg s d) refl refl
       (λ s q v h e. held-sum (reg s a) (reg s b) v
       (λ y ey. h.registers a y (λ ne. ap (λ z. (is_same d a || is_same b a) || z) (same-self a ne) ∙ or-true (is_same d a || is_same b a)) ey)
       (λ y ey. h.registers b y (λ ne. or-first (is_same d b || is_same b b) (is_same a b) (ap (λ z. is_same d b || z) (same-self b ne) ∙ or-true (is_same d b))) ey) e)
@@ -151,14 +160,13 @@ module _ {Q I : Type 0} (R : Rows Q I) (scratch : ℕ → Bool) (fits : I → Ty
 
   at-index : (v : Operand) (b d : Reg) → ((r : Reg) → v ≢ operand.Reg r) → number v < 2 ^ 64 → ((A : List ℕ) (s : State) → value A s v ≡ Some (number v))
       → Stores addressing.RegisterImmediate (v ∷ operand.Reg b ∷ operand.Reg d ∷ [])
-  at-index v b d plain small gives words x k =
+  at-index v b d plain small gives words x harm lead k =
       let n = store addressing.RegisterImmediate (v ∷ operand.Reg b ∷ operand.Reg d ∷ []) in
-      store-carried R scratch fits isa code lead some c i n t S d (Index b (number v)) small frame (λ s. sum (Some (number v)) (reg s b)) (λ s. reg s d) refl refl
+      store-carried R scratch fits isa c i n t S d (Index b (number v)) small frame choices body (subst (λ a. StoreDoes R scratch choices frame t a d body) (address-is v b plain) lead) some harm (λ s. sum (Some (number v)) (reg s b)) (λ s. reg s d) refl refl
       (λ s q a h e. held-offset (reg s b) (number v) a
       (λ y ey. h.registers b y (λ ne. or-first (is_same d b || is_same b b) false (ap (λ z. is_same d b || z) (same-self b ne) ∙ or-true (is_same d b))) ey) e)
       (λ s q y h e. h.registers d y (λ ne. or-first (is_same d d || is_same b d) false (or-first (is_same d d) (is_same b d) (same-self d ne))) e)
-      numbered-none (λ s at. stepped c i n s x at ∙ ap (λ z. need (sum z (reg s b)) (λ y. need (reg s d) (λ u. store_to s t y u))) (gives c.addresses s)) x is-frame
-      (subst (λ a. IsNodeBlock R fits c i (code frame t a d)) (address-is v b plain) k)
+      numbered-none (λ s at. stepped c i n s x at ∙ ap (λ z. need (sum z (reg s b)) (λ y. need (reg s d) (λ u. store_to s t y u))) (gives c.addresses s)) x is-frame k
     where
       address-is : (v : Operand) (b : Reg) → ((r : Reg) → v ≢ operand.Reg r) → address_of addressing.RegisterImmediate v (operand.Reg b) ≡ Index b (number v)
       address-is (operand.Number k) b g = refl
@@ -196,27 +204,62 @@ module _ {Q I : Type 0} (R : Rows Q I) (scratch : ℕ → Bool) (fits : I → Ty
       subst (Stores addressing.RegisterImmediate) (sym xs-are) (λ words. at-index v.constant b.register d.register v.plain (number-small v.constant (λ m z. words 0 m z)) v.gives words)
 
 -- ---- nodes
-abbrev IsCarried : {Q I : Type 0} → Rows Q I → (I → Type 0) → Code → ℕ → (ℕ → Bool) → (Node → List I) → Node → Type 0
-IsCarried R fits c i S code m = names_label m ≡ false → HasWords m → IsInText c i m → IsNodeBlock R fits c i (code m) → CarriesNode R.processor c i m S
+-- a load is computed, and a store carried, by code that does so with its address
+abbrev IsComputed : {Q I : Type 0} → Rows Q I → (ℕ → Bool) → Code → ℕ → ValueType → Addressing → ℕ → List Choice → List I → Node → Type 0
+IsComputed R scratch c i t at frame choices body m =
+    names_label m ≡ false → HasWords m → IsInText c i m → LoadDoes R scratch choices frame t (named (operand_at m 0)) (address_of at (operand_at m 1) (operand_at m 2)) body
+    → ComputesNode R scratch c i m frame choices body
+
+abbrev IsCarried : {Q I : Type 0} → Rows Q I → (ℕ → Bool) → (I → Type 0) → Code → ℕ → StoreType → Addressing → ℕ → (ℕ → Bool) → List Choice → List I → Node → Type 0
+IsCarried R scratch fits c i t at frame S choices body m =
+    names_label m ≡ false → HasWords m → IsInText c i m → AreHarmless R c i m S choices
+    → StoreDoes R scratch choices frame t (address_of at (operand_at m 0) (operand_at m 1)) (named (operand_at m (stored_operand at))) body
+    → IsNodeBlock R fits c i (wrapped R choices body) → CarriesNode R.processor c i m S
 
 module _ {Q I : Type 0} (R : Rows Q I) (scratch : ℕ → Bool) (fits : I → Type 0) (isa : IsIsa R scratch fits) where
-  pub loads-carry : (code : LoadCode I) → LoadsDo R scratch code → HasCode R code → LoadsCarry R fits code
-  loads-carry code lead some c i n t at frame S e none words x is-frame k = subst (IsCarried R fits c i S (load_of code frame t at)) (ap (with_op n) (sym e)) with-op none words x k
+  loads-compute : (c : Code) (i : ℕ) (n : Node) (t : ValueType) (at : Addressing) (frame : ℕ) (choices : List Choice) (body : List I) → 0 < length (spellings R.spelling body) → n.op ≡ op.Load t at
+      → IsComputed R scratch c i t at frame choices body n
+  loads-compute c i n t at frame choices body some e none words x lead = subst (IsComputed R scratch c i t at frame choices body) (ap (with_op n) (sym e)) with-op none words x lead
     where
       formed : admit (forms_of (op.Load t at)) n.operands ≡ true
       formed = ap (λ o. admit (forms_of o) n.operands) (sym e) ∙ (x.formed n x.here).forms
 
-      with-op : IsCarried R fits c i S (load_of code frame t at) (with_op n (op.Load t at))
+      with-op : IsComputed R scratch c i t at frame choices body (with_op n (op.Load t at))
       with-op =
           let d = starts-written (address_forms at) n.operands formed in
-          subst (λ xs. IsCarried R fits c i S (load_of code frame t at) record { op = op.Load t at; operands = xs; line = n.line }) (sym d.is)
-          (λ none' words' x' k'. load-law R scratch fits isa code lead some c i t frame is-frame S n.line d.register d.named at d.rest d.admitted none' words' x' k')
+          subst (λ xs. IsComputed R scratch c i t at frame choices body record { op = op.Load t at; operands = xs; line = n.line }) (sym d.is)
+          (λ none' words' x' lead'. load-law R scratch c i t frame choices body some n.line d.register d.named at d.rest d.admitted none' words' x' lead')
 
-  pub stores-carry : (code : StoreCode I) → StoresDo R scratch code → HasStoreCode R code → StoresCarry R fits code
-  stores-carry code lead some c i n t at frame S e none words x is-frame k = subst (IsCarried R fits c i S (store_of code frame t at)) (ap (with_op n) (sym e)) with-op none words x k
+  stores-go : (c : Code) (i : ℕ) (n : Node) (t : StoreType) (at : Addressing) (frame : ℕ) → IsFrameOf c i frame → (S : ℕ → Bool) (choices : List Choice) (body : List I) → 0 < length (spellings R.spelling body)
+      → n.op ≡ op.Store t at → IsCarried R scratch fits c i t at frame S choices body n
+  stores-go c i n t at frame is-frame S choices body some e none words x harm lead k = subst (IsCarried R scratch fits c i t at frame S choices body) (ap (with_op n) (sym e)) with-op none words x harm lead k
     where
       formed : admit (forms_of (op.Store t at)) n.operands ≡ true
       formed = ap (λ o. admit (forms_of o) n.operands) (sym e) ∙ (x.formed n x.here).forms
 
-      with-op : IsCarried R fits c i S (store_of code frame t at) (with_op n (op.Store t at))
-      with-op none' words' x' k' = store-law R scratch fits isa code lead some c i t frame is-frame S n.line at n.operands formed none' words' x' k'
+      with-op : IsCarried R scratch fits c i t at frame S choices body (with_op n (op.Store t at))
+      with-op none' words' x' harm' lead' k' = store-law R scratch fits isa c i t frame is-frame S choices body some n.line at n.operands formed none' words' x' harm' lead' k'
+
+  -- ---- without temporaries
+  pub loads-carry : (code : LoadCode I) → LoadsDo R scratch code → HasCode R code → LoadsCarry R fits code
+  loads-carry code lead some c i n t at frame S e none words x is-frame k =
+      let d = named (operand_at n 0) in
+      let a = address_of at (operand_at n 1) (operand_at n 2) in
+      plain-nodes-carry R scratch fits isa c i n frame S (code frame t d a) (ap stands_inside e) (ap leaps e) x is-frame k
+      (loads-compute c i n t at frame [] (code frame t d a) (some frame t d a) e none words x (lead frame t d a))
+
+  pub stores-carry : (code : StoreCode I) → StoresDo R scratch code → HasStoreCode R code → StoresCarry R fits code
+  stores-carry code lead some c i n t at frame S e none words x is-frame k =
+      let a = address_of at (operand_at n 0) (operand_at n 1) in
+      let b = named (operand_at n (stored_operand at)) in
+      stores-go c i n t at frame is-frame S [] (code frame t a b) (some frame t a b) e none words x (none-harmless R scratch fits isa c i n S) (lead frame t a b) k
+
+  -- ---- with temporaries
+  pub loads-with-temporaries-carry : LoadsWithTemporariesCarry R scratch fits
+  loads-with-temporaries-carry c i n t at frame live staged needs choices body e none words well few chosen pushes x is-frame k some lead =
+      computing-nodes-carry R scratch fits isa c i n frame live staged needs choices body (ap stands_inside e) (ap leaps e) well few chosen pushes x is-frame k
+      (loads-compute c i n t at frame choices body some e none words x lead)
+
+  pub stores-with-temporaries-carry : StoresWithTemporariesCarry R scratch fits
+  stores-with-temporaries-carry c i n t at frame live staged needs choices body e none words well few chosen pushes x is-frame k some lead =
+      stores-go c i n t at frame is-frame (numbered live) choices body some e none words x (harmless R scratch fits isa c i n live staged needs choices well few chosen pushes) lead k

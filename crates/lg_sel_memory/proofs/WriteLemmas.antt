@@ -14,6 +14,7 @@ use Rattle.lg_meaning.specs.States.{State, number}
 use Rattle.lg_meaning.specs.Steps.{Goes, with_reg}
 use Rattle.lg_meaning.specs.Texts.{step}
 use Rattle.lg_temp.specs.Abis.{register_of}
+use Rattle.lg_temp.specs.declared.choice.Choice.{Choice}
 use Rattle.lg_base.specs.CarryFlags.{carry_of}
 use Rattle.lg_carry.specs.FinalNodes.{Code}
 use Rattle.lg_carry.specs.NodeCode.{numbered}
@@ -31,7 +32,7 @@ with-same w d v = grind arith
 pub with-other : (w : ℕ → ℕ) (d v x : ℕ) → x ≢ d → with_register w d v x ≡ w x
 with-other w d v x ne = grind (arith, ne)
 
-module _ {Q I : Type 0} (R : Rows Q I) (scratch : ℕ → Bool) (c : Code) (n : Node) (body : List I) (s : State) (q : Seen) (d : Reg) (named : d ≢ Fp) (to : State) (v : ℕ)
+module _ {Q I : Type 0} (R : Rows Q I) (scratch : ℕ → Bool) (c : Code) (n : Node) (choices : List Choice) (body : List I) (s : State) (q : Seen) (d : Reg) (named : d ≢ Fp) (to : State) (v : ℕ)
     (writes : (r : ℕ) → numbered (is_written n) r ≡ numbered (is_same d) r) where
   abbrev target : Target
   target = R.processor.target
@@ -59,7 +60,7 @@ module _ {Q I : Type 0} (R : Rows Q I) (scratch : ℕ → Bool) (c : Code) (n : 
 
   pub writes-word : step c.nodes c.shape c.addresses s ≡ Goes to [] → GoesOn s to → to.regs ≡ (with_reg s (operand.Reg d) v).regs
       → ((u : ℕ → ℕ) → ((x : ℕ) → carry_register target ≡ Some x → u x ≡ q.registers x) → HoldsCarry target u (carry_of q.flags) to.carry)
-      → Does R (from_to q (with_register q.registers rd v) q.bytes q.flags) body (frame_pointer s.frame.sp) (spilled []) (spoils scratch []) → StepsTo R scratch c n [] body s q
+      → Does R (from_to q (with_register q.registers rd v) q.bytes q.flags) body (frame_pointer s.frame.sp) (spilled choices) (spoils scratch choices) → StepsTo R scratch c n choices body s q
   writes-word goes on regs carry does = record {
     to = to;
     goes = goes;

@@ -1,9 +1,9 @@
 // What holds of loads, stores and arguments on every target. The functions do nothing: their contracts are the laws.
 
 ghost use Rattle.lg_sel_memory.specs.Arguments.{ArgumentCode, ArgumentsDo, HasArgumentCode, ArgumentsCarry};
-ghost use Rattle.lg_sel_memory.specs.Loads.{LoadCode, LoadsDo, HasCode, LoadsCarry};
+ghost use Rattle.lg_sel_memory.specs.Loads.{LoadCode, LoadsDo, HasCode, LoadsCarry, LoadsWithTemporariesCarry};
 ghost use Rattle.lg_sel_memory.specs.Pushes.{PushCode, PushesDo, HasPushCode, PushesCarry};
-ghost use Rattle.lg_sel_memory.specs.Stores.{StoreCode, StoresDo, HasStoreCode, StoresCarry};
+ghost use Rattle.lg_sel_memory.specs.Stores.{StoreCode, StoresDo, HasStoreCode, StoresCarry, StoresWithTemporariesCarry};
 
 use lg_sel_nodes::laws::Isa;
 
@@ -24,6 +24,11 @@ pub fn loads_are_carried<T: Loads>()
     ensures { LoadsCarry T.rows T.fits T.load }
 {}
 
+/// So is one by code with temporaries, saved and restored where no register is free.
+pub fn loads_with_temporaries_are_carried<T: Isa>()
+    ensures { LoadsWithTemporariesCarry T.rows T.scratch T.fits }
+{}
+
 /// A target that stores.
 pub trait Stores: Isa {
     /// The code of a store of a register to an address, in a frame of so many bytes.
@@ -39,6 +44,11 @@ pub trait Stores: Isa {
 /// A store is carried by such code, however it names its address.
 pub fn stores_are_carried<T: Stores>()
     ensures { StoresCarry T.rows T.fits T.store }
+{}
+
+/// So is one by code with temporaries.
+pub fn stores_with_temporaries_are_carried<T: Isa>()
+    ensures { StoresWithTemporariesCarry T.rows T.scratch T.fits }
 {}
 
 /// A target that reads arguments of its functions.

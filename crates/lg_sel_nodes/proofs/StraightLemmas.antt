@@ -1,10 +1,10 @@
 -- Nodes whose code goes straight on to the next node: how it leads there, and that it is carried.
-use Rattle.std.proofs.Common.{◌≡◌, ◌≢◌, ℕ, ◌+◌, ◌-◌, ◌%◌, ◌<◌, ◌≤◌, ◌⊎◌, inl, inr, Bool, true, false, List, [], ◌∷◌, ◌++◌, Option, Some, None, refl, sym, ap, ◌∙◌, subst, arith, length, drop, length-append, append-nil, zero-add}
+use Rattle.std.proofs.Common.{◌≡◌, ◌≢◌, ℕ, ◌+◌, ◌-◌, ◌%◌, ◌<◌, ◌≤◌, ◌⊎◌, ⊎_elim, inl, inr, Bool, true, false, List, [], ◌∷◌, ◌++◌, Option, Some, None, refl, sym, ap, ◌∙◌, subst, arith, length, drop, length-append, append-nil, zero-add}
 use Rattle.std.specs.Prelude.{◌||◌, ◌&&◌, not, slice_get, slice_index, slice_index_or, if◌then◌else◌}
 use Rattle.std.proofs.lemmas.List.{length-drop}
 use Rattle.std.proofs.lemmas.Option.{slice_get_within}
 use Rattle.lg_base.specs.Conventions.{argument_registers, portable_register, frame_register, stack_register, carry_register}
-use Rattle.lg_base.specs.Layout.{code_base, most_code, frame_pointer}
+use Rattle.lg_base.specs.Layout.{code_base, most_code, frame_pointer, stack_end}
 use Rattle.lg_base.specs.Parts.{stack_base, heap_base}
 use Rattle.lg_base.specs.Runs.{Running}
 use Rattle.lg_base.specs.declared.target.Target.{Target}
@@ -22,7 +22,7 @@ use Rattle.lg_node.specs.Functions.{home, is_epilog, is_epilog_at, frame_of}
 use Rattle.lg_node.specs.declared.function.Function.{Function}
 use Rattle.lg_node.specs.Preparations.{pushed}
 use Rattle.lg_live.specs.Uses.{is_read, is_written}
-use Rattle.lg_meaning.specs.States.{Frame, State, number, in_any_locals, is_open}
+use Rattle.lg_meaning.specs.States.{Frame, State, number, in_locals, in_any_locals, is_open}
 use Rattle.lg_meaning.specs.Steps.{Goes, Undefined, function_here}
 use Rattle.lg_meaning.specs.Texts.{step}
 use Rattle.lg_meaning.specs.Laws.{IsFormedAt}
@@ -57,7 +57,7 @@ use Rattle.lg_carry.proofs.NodeBlockLemmas.{node-blocks-lead}
 use Rattle.lg_carry.proofs.TextShapeLemmas.{inner, shaped}
 use Rattle.lg_carry.proofs.SpillLemmas.{saves-restore}
 use Rattle.lg_carry.proofs.SpillChoiceLemmas.{choices-in-order}
-use Rattle.lg_carry.proofs.StackLemmas.{stacked-running, stacked-high, slot-where, open-where, locals-off}
+use Rattle.lg_carry.proofs.StackLemmas.{stacked-running, stacked-high, slot-where, open-where, locals-off, within-where, or-cases}
 use Rattle.lg_carry.proofs.TemporariesApartLemmas.{none-stood-for, none-staged, tried-spare}
 use Rattle.lg_sel_nodes.specs.Isas.{IsIsa}
 use Rattle.lg_carry.specs.TextNodes.{IsInText, IsFrameOf, IsBehindProlog, stands_inside}
@@ -153,6 +153,14 @@ frame-held target c i frames s q S at inside st frame is =
       whole = let p = f.stack in ap (λ x. x % 16) p ∙ all.0;
       whole_frame = ap (λ x. x % 16) size ∙ tower.2;
     }
+
+-- the locals of all frames lie below the end of the stack
+locals-below-end : (low : ℕ) (fs : List Frame) (a : ℕ) → AreStacked low fs → in_any_locals fs a ≡ true → a < stack_end
+locals-below-end low [] a t e = cc
+locals-below-end low (f ∷ fs) a t e = ⊎_elim
+    (λ here. let z = within-where (f.sp - 144 - f.locals) f.locals a here in let h = stacked-high f.sp fs t.3 in omega (arith, z.0, z.1, t.0, t.1, h.1))
+    (λ there. locals-below-end f.sp fs a t.3 there)
+    (or-cases (in_locals f a) (in_any_locals fs a) e)
 
 -- a carry stays held while its register and the flag stay
 is-moved : (o : Option ℕ) (w u : ℕ → ℕ) (f : Option Bool) (b : Bool) → ((x : ℕ) → o ≡ Some x → u x ≡ w x) → CarryIs o w f b → CarryIs o u f b
@@ -285,6 +293,14 @@ module _ {Q I : Type 0} (R : Rows Q I) (scratch : ℕ → Bool) (fits : I → Ty
         by on z (inl l) = let low = st.low in omega (arith, z.0, l, tower.0, tower.1, low)
         by on z (inr l) = locals-off (lowest s.frame) s.frame s.callers _ tower l z.0 (omega (arith, z.1))
 
+    -- and it lies below the end of the stack
+    pub open-below : (a : ℕ) → is_open s a ≡ true → a < stack_end
+    open-below a may = by (open-where s (R.processor.seen q).bytes a st.parts (omega (arith, st.mark, st.seen.high)) may)
+      where
+        by : (a < 0x30400000) ⊎ (in_any_locals (s.frame ∷ s.callers) a ≡ true) → a < stack_end
+        by (inl l) = omega (arith, l)
+        by (inr l) = locals-below-end (lowest s.frame) (s.frame ∷ s.callers) a tower l
+
     -- the words that the node reads
     pub read-before : (frame : ℕ) → IsFrameOf c i frame → HoldsRead target n frame s (R.processor.seen q)
     read-before frame is-frame = record {
@@ -295,6 +311,7 @@ module _ {Q I : Type 0} (R : Rows Q I) (scratch : ℕ → Bool) (fits : I → Ty
       memory = st.memory;
       pointer = fp-held;
       off_slots = λ a b e. open-off a (st.fits.memory a b e);
+      below = λ a b e. open-below a (st.fits.memory a b e);
     }
 
     -- ---- the body leaves these registers and bytes and this flag

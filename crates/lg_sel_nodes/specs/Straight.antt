@@ -2,7 +2,7 @@
 -- does.
 use Rattle.std.specs.Prelude.{◌≡◌, ◌≢◌, ℕ, ◌+◌, ◌<◌, ◌≤◌, ◌==◌, ◌||◌, ◌⊎◌, Bool, true, false, List, [], ◌∷◌, length, slice_index_or, Option, Some, None}
 use Rattle.lg_base.specs.Conventions.{portable_register, frame_register, carry_register}
-use Rattle.lg_base.specs.Layout.{frame_pointer}
+use Rattle.lg_base.specs.Layout.{frame_pointer, stack_end}
 use Rattle.lg_base.specs.declared.target.Target.{Target}
 use Rattle.lg_op.specs.declared.node.Node.{Node}
 use Rattle.lg_op.specs.declared.operand.Reg.{Reg}
@@ -46,7 +46,8 @@ abbrev pub spoils : (ℕ → Bool) → List Choice → ℕ → Bool
 spoils scratch choices x = is_taken choices x || scratch x
 
 -- ---- the registers before the code and behind it
--- words, among them those of the state that the node reads, FP and the stack pointer, the carry, the result of a call, and the portable memory
+-- words, among them those of the state that the node reads, FP and the stack pointer, the carry, the result of a call, and the portable memory, which lies
+-- off the spill slots and below the end of the stack
 pub record HoldsRead (target : Target) (n : Node) (frame : ℕ) (s : State) (q : Seen) : Type 0 where
   pub in_frame : HasFrame target frame q
   pub registers : (a : Reg) (x : ℕ) → (a ≢ Fp → is_read n a ≡ true) → reg s a ≡ Some x → q.registers (register_of target a) ≡ x
@@ -55,6 +56,7 @@ pub record HoldsRead (target : Target) (n : Node) (frame : ℕ) (s : State) (q :
   pub memory : HasMemory s q.bytes
   pub pointer : q.registers (frame_register target) ≡ frame_pointer s.frame.sp
   pub off_slots : (a b : ℕ) → s.mem a ≡ Some b → in_slots (frame_pointer s.frame.sp) a ≡ false
+  pub below : (a b : ℕ) → s.mem a ≡ Some b → a < stack_end
 
 -- the words that the step from s to t writes, and the carry behind it; the step changes no other register
 pub record HoldsWritten (target : Target) (n : Node) (s t : State) (u : ℕ → ℕ) (flag : Flags) : Type 0 where

@@ -1,5 +1,6 @@
 -- The items of the nodes that branch, jump, call and return, of `prolog`, `.align` and of those without code; none but those of a `prolog` store.
 use Rattle.std.proofs.Common.{◌≡◌, ℕ, zero, suc, ◌+◌, ◌≤◌, Bool, true, false, List, [], ◌∷◌, ◌++◌, refl, arith}
+use Rattle.std.specs.Prelude.{pos}
 use Rattle.lg_a64.specs.declared.instruction.BranchOp.TheVariants.{B, Bl}
 use Rattle.lg_a64.specs.declared.instruction.BranchRegOp.{BranchRegOp}
 use Rattle.lg_a64.specs.declared.instruction.BranchRegOp.TheVariants.{Br, Blr}
@@ -29,17 +30,19 @@ use Rattle.lg_sel.proofs.LabelLemmas.{Passes, AllPass}
 use Rattle.lg_sel.proofs.StoreLemmas as stores
 use Rattle.lg_sel.specs.Stores.{a64_stores, is_free}
 use Rattle.lg_sel_nodes.specs.Immediates.{immediate}
+use Rattle.lg_sel_items.specs.declared.reach.Reach.{Reach}
+use Rattle.lg_sel_items.specs.declared.reach.Reach.TheVariants.{Short, Near, Far}
 use Rattle.lg_sela.proofs.Emissions.{NoneStores, Emits, none, append, more, instructions, plain, number, address, branch, branch_if, front, behind}
 use Rattle.lg_sela_control.specs.Alignments.{padding, idle, align_code}
-use Rattle.lg_sela_control.specs.Branches.{comparison, taken}
-use Rattle.lg_sela_control.specs.ControlItems.{second_register, word_items, second_items, branch_if_items, branch_items, sum_items, jump_items, call_items, result_items, ret_items, register_leap_items, leap_items, align_items, plain_items, control_items, is_control}
+use Rattle.lg_sela_control.specs.Branches.{comparison, taken, turned}
+use Rattle.lg_sela_control.specs.ControlItems.{second_register, word_items, second_items, leads_items, branch_if_items, branch_items, sum_items, jump_items, call_items, result_items, ret_items, register_leap_items, leap_items, align_items, plain_items, control_items, is_control}
 use Rattle.lg_sela_control.specs.Prologs.{prolog_code}
 use Rattle.lg_sela_control.specs.RegisterLeaps.{register_leap_code}
 use Rattle.lg_sela_control.specs.Returns.{result, return_code}
 use Rattle.lg_sela_control.specs.SumBranches.{sum_instruction, sum_taken}
 use Rattle.lg_sela_items.specs.Items.{ones}
 use Rattle.lg_sela_items.specs.declared.items.Item.{Item}
-use Rattle.lg_sela_items.specs.declared.items.Item.TheVariants.{CondBranch}
+use Rattle.lg_sela_items.specs.declared.items.Item.TheVariants.{Branch}
 use Rattle.lg_temp.specs.Abis.{register_of}
 
 -- ---- instructions
@@ -59,68 +62,74 @@ idle-none (suc k) = idle-none k
 prolog-few : (frame : ℕ) → stores.stores_among a64_stores (prolog_code frame) ≤ 16
 prolog-few frame = omega arith
 
--- ---- items
-module _ (is : ℕ → Bool) where
-  word : (t : ℕ) (x : Operand) → Emits is 0 0 (word_items t (immediate x))
-  word t (operand.Number v) = number is 0 t v
-  word t (operand.Host name) = number is 0 t (host_address name)
-  word t (operand.Reg r) = none is 0 0
-  word t (operand.Label l) = none is 0 0
-  word t (operand.Slot k) = none is 0 0
+-- what leads to a label
+leads-emit : (reach : Reach) (is : ℕ → Bool) (holds : Cond) (l : Label) → is l.0 ≡ true → Emits reach is 1 0 (leads_items reach holds l)
+leads-emit Short is holds l h = branch_if Short is holds l.0 h
+leads-emit Near is holds l h = branch_if Near is holds l.0 h
+leads-emit Far is holds l h = front Far is 1 0 (instr.BranchIf (turned holds) (pos 2) ∷ []) (Branch B l.0 ∷ []) refl (branch Far is B l.0 h)
 
-  compared : (x : Operand) → Emits is 0 0 (second_items x)
-  compared (operand.Reg r) = none is 0 0
+-- ---- items
+module _ (reach : Reach) (is : ℕ → Bool) where
+  word : (t : ℕ) (x : Operand) → Emits reach is 0 0 (word_items t (immediate x))
+  word t (operand.Number v) = number reach is 0 t v
+  word t (operand.Host name) = number reach is 0 t (host_address name)
+  word t (operand.Reg r) = none reach is 0 0
+  word t (operand.Label l) = none reach is 0 0
+  word t (operand.Slot k) = none reach is 0 0
+
+  compared : (x : Operand) → Emits reach is 0 0 (second_items x)
+  compared (operand.Reg r) = none reach is 0 0
   compared (operand.Number v) = word link (operand.Number v)
   compared (operand.Host name) = word link (operand.Host name)
   compared (operand.Label l) = word link (operand.Label l)
   compared (operand.Slot k) = word link (operand.Slot k)
 
-  branches : (sets : Instr) (holds : Cond) (l : Label) → NoneStores (sets ∷ []) → is l.0 ≡ true → Emits is 1 0 (branch_if_items sets holds l)
-  branches sets holds l few h = front is 1 0 (sets ∷ []) (CondBranch holds l.0 ∷ []) few (branch_if is holds l.0 h)
+  branches : (sets : Instr) (holds : Cond) (l : Label) → NoneStores (sets ∷ []) → is l.0 ≡ true → Emits reach is 1 0 (branch_if_items reach sets holds l)
+  branches sets holds l few h = front reach is 1 0 (sets ∷ []) (leads_items reach holds l) few (leads-emit reach is holds l h)
 
-  branched : (o : Condition) (xs : List Operand) → AllPass is xs → Emits is 1 0 (branch_items o xs)
+  branched : (o : Condition) (xs : List Operand) → AllPass is xs → Emits reach is 1 0 (branch_items reach o xs)
   branched o (operand.Label l ∷ operand.Reg a ∷ x ∷ []) h =
       let r : ℕ = register_of Aarch64 a in
       let s : ℕ = second_register x in
-      append is 0 1 0 0 (second_items x) (branch_if_items (comparison o r s) (taken o) l) (compared x) (branches (comparison o r s) (taken o) l (comparison-none o r s) h.0)
-  branched o xs h = none is 1 0
+      append reach is 0 1 0 0 (second_items x) (branch_if_items reach (comparison o r s) (taken o) l) (compared x) (branches (comparison o r s) (taken o) l (comparison-none o r s) h.0)
+  branched o xs h = none reach is 1 0
 
-  summed : (o : BranchSumOp) (xs : List Operand) → AllPass is xs → Emits is 1 0 (sum_items o xs)
+  summed : (o : BranchSumOp) (xs : List Operand) → AllPass is xs → Emits reach is 1 0 (sum_items reach o xs)
   summed o (operand.Label l ∷ operand.Reg a ∷ x ∷ []) h =
       let r : ℕ = register_of Aarch64 a in
       let s : ℕ = second_register x in
-      append is 0 1 0 0 (second_items x) (branch_if_items (sum_instruction o r s) (sum_taken o) l) (compared x) (branches (sum_instruction o r s) (sum_taken o) l (sum-none o r s) h.0)
-  summed o xs h = none is 1 0
+      append reach is 0 1 0 0 (second_items x) (branch_if_items reach (sum_instruction o r s) (sum_taken o) l) (compared x) (branches (sum_instruction o r s) (sum_taken o) l (sum-none o r s) h.0)
+  summed o xs h = none reach is 1 0
 
-  wider : (xs : List Item) → Emits is 0 0 xs → Emits is 1 0 xs
-  wider xs a = more is 0 1 0 0 xs (omega arith) (omega arith) a
+  wider : (xs : List Item) → Emits reach is 0 0 xs → Emits reach is 1 0 xs
+  wider xs a = more reach is 0 1 0 0 xs (omega arith) (omega arith) a
 
-  jumped : (xs : List Operand) → AllPass is xs → Emits is 1 0 (jump_items xs)
-  jumped (operand.Label l ∷ []) h = branch is B l.0 h.0
-  jumped xs h = none is 1 0
+  jumped : (xs : List Operand) → AllPass is xs → Emits reach is 1 0 (jump_items xs)
+  jumped (operand.Label l ∷ []) h = branch reach is B l.0 h.0
+  jumped xs h = none reach is 1 0
 
-  called : (xs : List Operand) → AllPass is xs → Emits is 1 0 (call_items xs)
-  called (operand.Label l ∷ []) h = branch is Bl l.0 h.0
+  called : (xs : List Operand) → AllPass is xs → Emits reach is 1 0 (call_items xs)
+  called (operand.Label l ∷ []) h = branch reach is Bl l.0 h.0
   called (operand.Host name ∷ []) h =
-      behind is 1 0 (word_items link (immediate (operand.Host name))) (instr.BranchReg Blr link ∷ []) (wider (word_items link (immediate (operand.Host name))) (word link (operand.Host name))) refl
-  called xs h = none is 1 0
+      behind reach is 1 0 (word_items link (immediate (operand.Host name))) (instr.BranchReg Blr link ∷ []) (wider (word_items link (immediate (operand.Host name))) (word link (operand.Host name))) refl
+  called xs h = none reach is 1 0
 
-  result-emits : (x : Operand) → Passes is x → Emits is 1 0 (result_items x)
-  result-emits (operand.Reg a) h = plain is 1 (instr.Reg Orr result zero_register (register_of Aarch64 a) ∷ []) refl
-  result-emits (operand.Label l) h = address is result l.0 h
+  result-emits : (x : Operand) → Passes is x → Emits reach is 1 0 (result_items x)
+  result-emits (operand.Reg a) h = plain reach is 1 (instr.Reg Orr result zero_register (register_of Aarch64 a) ∷ []) refl
+  result-emits (operand.Label l) h = address reach is result l.0 h
   result-emits (operand.Number v) h = wider (result_items (operand.Number v)) (word result (operand.Number v))
   result-emits (operand.Host name) h = wider (result_items (operand.Host name)) (word result (operand.Host name))
   result-emits (operand.Slot k) h = wider (result_items (operand.Slot k)) (word result (operand.Slot k))
 
-  returned : (xs : List Operand) → AllPass is xs → Emits is 1 0 (ret_items xs)
-  returned (x ∷ []) h = behind is 1 0 (result_items x) return_code (result-emits x h.0) refl
-  returned xs h = none is 1 0
+  returned : (xs : List Operand) → AllPass is xs → Emits reach is 1 0 (ret_items xs)
+  returned (x ∷ []) h = behind reach is 1 0 (result_items x) return_code (result-emits x h.0) refl
+  returned xs h = none reach is 1 0
 
-  leapt : (o : BranchRegOp) (xs : List Operand) → Emits is 1 0 (register_leap_items o xs)
-  leapt o (operand.Reg a ∷ []) = plain is 1 (register_leap_code o a) refl
-  leapt o xs = none is 1 0
+  leapt : (o : BranchRegOp) (xs : List Operand) → Emits reach is 1 0 (register_leap_items o xs)
+  leapt o (operand.Reg a ∷ []) = plain reach is 1 (register_leap_code o a) refl
+  leapt o xs = none reach is 1 0
 
-  leaps : (o : ControlOp) (last : LastOperand) (xs : List Operand) → AllPass is xs → Emits is 1 0 (leap_items o last xs)
+  leaps : (o : ControlOp) (last : LastOperand) (xs : List Operand) → AllPass is xs → Emits reach is 1 0 (leap_items o last xs)
   leaps control.Jmp last_operand.Immediate xs h = jumped xs h
   leaps control.Jmp last_operand.Register xs h = leapt Br xs
   leaps control.Call last_operand.Immediate xs h = called xs h
@@ -128,25 +137,25 @@ module _ (is : ℕ → Bool) where
   leaps control.Finish last_operand.Immediate xs h = called xs h
   leaps control.Finish last_operand.Register xs h = leapt Blr xs
   leaps control.Ret last xs h = returned xs h
-  leaps control.Pusharg last xs h = none is 1 0
+  leaps control.Pusharg last xs h = none reach is 1 0
 
-  aligned : (at : ℕ) (xs : List Operand) → Emits is 1 0 (align_items at xs)
-  aligned at (operand.Number n ∷ []) = plain is 1 (align_code at n) (idle-none (padding at n))
-  aligned at xs = none is 1 0
+  aligned : (at : ℕ) (xs : List Operand) → Emits reach is 1 0 (align_items at xs)
+  aligned at (operand.Number n ∷ []) = plain reach is 1 (align_code at n) (idle-none (padding at n))
+  aligned at xs = none reach is 1 0
 
-  pub controls-emit : (o : Op) (xs : List Operand) (frame at : ℕ) → is_free o ≡ false → AllPass is xs → Emits is 1 0 (control_items o xs frame at)
+  pub controls-emit : (o : Op) (xs : List Operand) (frame at : ℕ) → is_free o ≡ false → AllPass is xs → Emits reach is 1 0 (control_items reach o xs frame at)
   controls-emit (op.Branch o last) xs frame at other h = branched o xs h
   controls-emit (op.BranchSum o last) xs frame at other h = summed o xs h
   controls-emit (op.Control o last) xs frame at other h = leaps o last xs h
   controls-emit (op.Plain plain_op.Prolog) xs frame at other h = cc
-  controls-emit (op.Plain plain_op.Epilog) xs frame at other h = plain is 1 return_code refl
-  controls-emit (op.Plain plain_op.Ret) xs frame at other h = plain is 1 return_code refl
+  controls-emit (op.Plain plain_op.Epilog) xs frame at other h = plain reach is 1 return_code refl
+  controls-emit (op.Plain plain_op.Ret) xs frame at other h = plain reach is 1 return_code refl
   controls-emit (op.Plain plain_op.Align) xs frame at other h = aligned at xs
-  controls-emit (op.Plain plain_op.Movi) xs frame at other h = none is 1 0
-  controls-emit (op.Plain o) xs frame at other h = none is 1 0
-  controls-emit o xs frame at other h = none is 1 0
+  controls-emit (op.Plain plain_op.Movi) xs frame at other h = none reach is 1 0
+  controls-emit (op.Plain o) xs frame at other h = none reach is 1 0
+  controls-emit o xs frame at other h = none reach is 1 0
 
   -- a `prolog` has no fix
-  pub prologs-emit : (o : Op) (xs : List Operand) (frame at : ℕ) → is_free o ≡ true → Emits is 1 16 (control_items o xs frame at)
-  prologs-emit (op.Plain plain_op.Prolog) xs frame at free = instructions is 1 16 (prolog_code frame) (prolog-few frame)
+  pub prologs-emit : (o : Op) (xs : List Operand) (frame at : ℕ) → is_free o ≡ true → Emits reach is 1 16 (control_items reach o xs frame at)
+  prologs-emit (op.Plain plain_op.Prolog) xs frame at free = instructions reach is 1 16 (prolog_code frame) (prolog-few frame)
   prologs-emit o xs frame at free = cc

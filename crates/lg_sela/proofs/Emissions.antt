@@ -11,16 +11,19 @@ use Rattle.lg_a64.specs.declared.instruction.WideOp.TheVariants.{Movk}
 use Rattle.lg_sel.proofs.EmissionLemmas as emission
 use Rattle.lg_sel.proofs.StoreLemmas as stores
 use Rattle.lg_sel.specs.Stores.{a64_stores}
+use Rattle.lg_sel_items.specs.declared.reach.Reach.{Reach}
+use Rattle.lg_sel_items.specs.declared.reach.Reach.TheVariants.{Far}
 use Rattle.lg_sela_items.specs.Items.{a64_holes, ones}
 use Rattle.lg_sela_items.specs.declared.items.Item.{Item}
 use Rattle.lg_sela_items.specs.declared.items.Item.TheVariants.{One, Branch, CondBranch, Address}
 
--- the label of an item passes a test
-abbrev pub Names : (ℕ → Bool) → Item → Type 0
-Names is (One i) = ⊤
-Names is (Branch op label) = is label ≡ true
-Names is (CondBranch cond label) = is label ≡ true
-Names is (Address rd label) = is label ≡ true
+-- the label of an item passes a test, and its reach is that of the node
+abbrev pub Names : Reach → (ℕ → Bool) → Item → Type 0
+Names r is (One i) = ⊤
+Names r is (Branch op label) = is label ≡ true
+Names Far is (CondBranch cond label) = ⊥
+Names r is (CondBranch cond label) = is label ≡ true
+Names r is (Address rd label) = is label ≡ true
 
 abbrev pub NoneStores : List Instr → Type 0
 NoneStores is = stores.NoneStores a64_stores is
@@ -42,26 +45,26 @@ negative-none rd v = stores.none-if a64_stores (v / 2 ^ 16 % 2 ^ 16 == 65535) []
 pub number-none : (rd v : ℕ) → NoneStores (number_code rd v)
 number-none rd v = stores.none-if a64_stores (nat_lt (complement v) (2 ^ 32)) (negative_code rd v) (positive_code rd v) (negative-none rd v) (positive-none rd v)
 
-module _ (is : ℕ → Bool) where
+module _ (reach : Reach) (is : ℕ → Bool) where
   abbrev pub Emits : ℕ → ℕ → List Item → Type 0
-  Emits fixes stores xs = emission.Emits a64_holes a64_stores (Names is) fixes stores xs
+  Emits fixes stores xs = emission.Emits a64_holes a64_stores (Names reach is) fixes stores xs
 
   pub none : (f s : ℕ) → Emits f s []
-  none f s = emission.emits-more a64_holes a64_stores (Names is) 0 f 0 s [] (omega arith) (omega arith) (emission.emits-none a64_holes a64_stores (Names is))
+  none f s = emission.emits-more a64_holes a64_stores (Names reach is) 0 f 0 s [] (omega arith) (omega arith) (emission.emits-none a64_holes a64_stores (Names reach is))
 
   pub append : (f g s t : ℕ) (xs ys : List Item) → Emits f s xs → Emits g t ys → Emits (f + g) (s + t) (xs ++ ys)
-  append f g s t xs ys a b = emission.emits-append a64_holes a64_stores (Names is) f g s t xs ys a b
+  append f g s t xs ys a b = emission.emits-append a64_holes a64_stores (Names reach is) f g s t xs ys a b
 
   pub more : (f g s t : ℕ) (xs : List Item) → f ≤ g → s ≤ t → Emits f s xs → Emits g t xs
-  more f g s t xs h k a = emission.emits-more a64_holes a64_stores (Names is) f g s t xs h k a
+  more f g s t xs h k a = emission.emits-more a64_holes a64_stores (Names reach is) f g s t xs h k a
 
   pub either : (f s : ℕ) (b : Bool) (xs ys : List Item) → Emits f s xs → Emits f s ys → Emits f s (if b then xs else ys)
-  either f s b xs ys x y = emission.emits-if a64_holes a64_stores (Names is) f s b xs ys x y
+  either f s b xs ys x y = emission.emits-if a64_holes a64_stores (Names reach is) f s b xs ys x y
 
   -- instructions, of which at most so many store, and of which none does
   pub instructions : (f s : ℕ) (code : List Instr) → stores.stores_among a64_stores code ≤ s → Emits f s (ones code)
   instructions f s code few =
-      more 0 f s s (ones code) (omega arith) (omega arith) (emission.emits-ones a64_holes a64_stores (Names is) One (λ to at i. refl) (λ place i. refl) (λ i. tt) s code few)
+      more 0 f s s (ones code) (omega arith) (omega arith) (emission.emits-ones a64_holes a64_stores (Names reach is) One (λ to at i. refl) (λ place i. refl) (λ i. tt) s code few)
 
   pub plain : (f : ℕ) (code : List Instr) → NoneStores code → Emits f 0 (ones code)
   plain f code h = instructions f 0 code (omega (arith, h))
@@ -70,13 +73,13 @@ module _ (is : ℕ → Bool) where
   number f rd v = plain f (number_code rd v) (number-none rd v)
 
   pub address : (rd label : ℕ) → is label ≡ true → Emits 1 0 (Address rd label ∷ [])
-  address rd label h = emission.emits-item a64_holes a64_stores (Names is) (Address rd label) h (λ place. omega arith) (λ to at. omega arith)
+  address rd label h = emission.emits-item a64_holes a64_stores (Names reach is) (Address rd label) h (λ place. omega arith) (λ to at. omega arith)
 
   pub branch : (op : BranchOp) (label : ℕ) → is label ≡ true → Emits 1 0 (Branch op label ∷ [])
-  branch op label h = emission.emits-item a64_holes a64_stores (Names is) (Branch op label) h (λ place. omega arith) (λ to at. omega arith)
+  branch op label h = emission.emits-item a64_holes a64_stores (Names reach is) (Branch op label) h (λ place. omega arith) (λ to at. omega arith)
 
-  pub branch_if : (cond : Cond) (label : ℕ) → is label ≡ true → Emits 1 0 (CondBranch cond label ∷ [])
-  branch_if cond label h = emission.emits-item a64_holes a64_stores (Names is) (CondBranch cond label) h (λ place. omega arith) (λ to at. omega arith)
+  pub branch_if : (cond : Cond) (label : ℕ) → Names reach is (CondBranch cond label) → Emits 1 0 (CondBranch cond label ∷ [])
+  branch_if cond label h = emission.emits-item a64_holes a64_stores (Names reach is) (CondBranch cond label) h (λ place. omega arith) (λ to at. omega arith)
 
   -- with plain instructions in front of items, and behind them
   pub front : (f s : ℕ) (code : List Instr) (ys : List Item) → NoneStores code → Emits f s ys → Emits f s (ones code ++ ys)

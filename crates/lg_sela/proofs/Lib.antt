@@ -7,4 +7,5 @@ pub mod NodeFits
 pub mod NodeLemmas
 pub mod OperandLemmas
 pub mod PlaceLemmas
+pub mod ShortLemmas
 pub mod ValueEmissions

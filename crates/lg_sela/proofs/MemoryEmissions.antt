@@ -23,6 +23,7 @@ use Rattle.lg_sel.proofs.LabelLemmas.{Passes, AllPass, passes-at}
 use Rattle.lg_sel.proofs.StoreLemmas as stores
 use Rattle.lg_sel.specs.Stores.{a64_stores}
 use Rattle.lg_sel_memory.specs.Accesses.{Address, Base, At, Sum, Index, address_of}
+use Rattle.lg_sel_items.specs.declared.reach.Reach.{Reach}
 use Rattle.lg_sela.proofs.Emissions.{NoneStores, number-none, Emits, none, append, more, either, instructions, plain, number, address}
 use Rattle.lg_sela_items.specs.Items.{ones}
 use Rattle.lg_sela_items.specs.declared.items.Item.{Item}
@@ -72,42 +73,42 @@ argument-none t rd k =
     (instr.Scaled (load_row t) rd frame_pointer (stack_count t k) ∷ []) (load-none t rd link 0) (load-none t rd frame_pointer (stack_count t k))
 
 -- ---- items
-module _ (is : ℕ → Bool) where
-  pub loads-emit : (t : ValueType) (at : Addressing) (n : Node) → Emits is 1 0 (ones (load_code t at n))
-  loads-emit t at n = plain is 1 (load_code t at n) (loading-none t (register (operand_at n 0)) (width t) (address_of at (operand_at n 1) (operand_at n 2)))
+module _ (reach : Reach) (is : ℕ → Bool) where
+  pub loads-emit : (t : ValueType) (at : Addressing) (n : Node) → Emits reach is 1 0 (ones (load_code t at n))
+  loads-emit t at n = plain reach is 1 (load_code t at n) (loading-none t (register (operand_at n 0)) (width t) (address_of at (operand_at n 1) (operand_at n 2)))
 
-  pub stores-emit : (t : StoreType) (at : Addressing) (n : Node) → Emits is 1 1 (ones (store_code t at n))
+  pub stores-emit : (t : StoreType) (at : Addressing) (n : Node) → Emits reach is 1 1 (ones (store_code t at n))
   stores-emit t at n =
-      instructions is 1 1 (store_code t at n) (storing-one t (register (operand_at n (stored_operand at))) (store_width t) (address_of at (operand_at n 0) (operand_at n 1)))
+      instructions reach is 1 1 (store_code t at n) (storing-one t (register (operand_at n (stored_operand at))) (store_width t) (address_of at (operand_at n 0) (operand_at n 1)))
 
-  pub arguments-emit : (t : ValueType) (n : Node) → Emits is 1 0 (ones (argument_code t n))
-  arguments-emit t n = plain is 1 (argument_code t n)
+  pub arguments-emit : (t : ValueType) (n : Node) → Emits reach is 1 0 (ones (argument_code t n))
+  arguments-emit t n = plain reach is 1 (argument_code t n)
       (stores.none-if a64_stores (nat_lt (slot (operand_at n 1)) 16) (argument_load t (register (operand_at n 0)) (slot (operand_at n 1))) []
       (argument-none t (register (operand_at n 0)) (slot (operand_at n 1))) refl)
 
-  puts : (rd : ℕ) (x : Operand) → Passes is x → Emits is 1 0 (into rd x)
-  puts rd (operand.Reg r) h = plain is 1 (instr.Reg reg.Orr rd zero_register (register_of Aarch64 r) ∷ []) refl
-  puts rd (operand.Number v) h = number is 1 rd v
-  puts rd (operand.Host name) h = number is 1 rd (host_address name)
-  puts rd (operand.Label l) h = address is rd l.0 h
-  puts rd (operand.Slot k) h = none is 1 0
+  puts : (rd : ℕ) (x : Operand) → Passes is x → Emits reach is 1 0 (into rd x)
+  puts rd (operand.Reg r) h = plain reach is 1 (instr.Reg reg.Orr rd zero_register (register_of Aarch64 r) ∷ []) refl
+  puts rd (operand.Number v) h = number reach is 1 rd v
+  puts rd (operand.Host name) h = number reach is 1 rd (host_address name)
+  puts rd (operand.Label l) h = address reach is rd l.0 h
+  puts rd (operand.Slot k) h = none reach is 1 0
 
-  stack : (f j r : ℕ) → Emits is f 1 (stack_push j r ∷ [])
-  stack f j r = instructions is f 1 (instr.Scaled Str64 r stack_pointer (j - 8) ∷ []) (omega arith)
+  stack : (f j r : ℕ) → Emits reach is f 1 (stack_push j r ∷ [])
+  stack f j r = instructions reach is f 1 (instr.Scaled Str64 r stack_pointer (j - 8) ∷ []) (omega arith)
 
-  loaded : (j : ℕ) (x : Operand) → Passes is x → Emits is 1 1 (into link x ++ stack_push j link ∷ [])
-  loaded j x h = append is 1 0 0 1 (into link x) (stack_push j link ∷ []) (puts link x h) (stack 0 j link)
+  loaded : (j : ℕ) (x : Operand) → Passes is x → Emits reach is 1 1 (into link x ++ stack_push j link ∷ [])
+  loaded j x h = append reach is 1 0 0 1 (into link x) (stack_push j link ∷ []) (puts link x h) (stack 0 j link)
 
-  stacked : (j : ℕ) (x : Operand) → Passes is x → Emits is 1 1 (onto_stack j x)
+  stacked : (j : ℕ) (x : Operand) → Passes is x → Emits reach is 1 1 (onto_stack j x)
   stacked j (operand.Reg r) h = stack 1 j (register_of Aarch64 r)
   stacked j (operand.Number v) h = loaded j (operand.Number v) h
   stacked j (operand.Host name) h = loaded j (operand.Host name) h
   stacked j (operand.Label l) h = loaded j (operand.Label l) h
   stacked j (operand.Slot k) h = loaded j (operand.Slot k) h
 
-  pub pushes-emit : (j : ℕ) (n : Node) → AllPass is n.operands → Emits is 1 1 (push_code j n)
+  pub pushes-emit : (j : ℕ) (n : Node) → AllPass is n.operands → Emits reach is 1 1 (push_code j n)
   pushes-emit j n h =
       let rd : ℕ = slice_index (argument_registers Aarch64) j in
       let x : Operand = operand_at n 0 in
       let p : Passes is x = passes-at is n.operands 0 h in
-      either is 1 1 (nat_lt j 8) (into rd x) (onto_stack j x) (more is 1 1 0 1 (into rd x) (omega arith) (omega arith) (puts rd x p)) (stacked j x p)
+      either reach is 1 1 (nat_lt j 8) (into rd x) (onto_stack j x) (more reach is 1 1 0 1 (into rd x) (omega arith) (omega arith) (puts rd x p)) (stacked j x p)

@@ -1,5 +1,5 @@
 -- The items of each node can be appended to a buffer, and write no register that is outside of the conventions.
-use Rattle.std.proofs.Common.{◌≡◌, ℕ, ◌<◌, ◌≤◌, Bool, List, [], length, arith}
+use Rattle.std.proofs.Common.{◌≡◌, ℕ, ◌<◌, ◌≤◌, Bool, List, [], length, arith, true, sym, subst, ◌+◌}
 use Rattle.lg_base.specs.declared.target.Target.TheVariants.{Aarch64}
 use Rattle.lg_op.specs.declared.node.Node.{Node}
 use Rattle.lg_op.specs.declared.operand.Label.{Label}
@@ -7,14 +7,17 @@ use Rattle.lg_op.specs.declared.operand.Operand.{Operand}
 use Rattle.lg_op.specs.declared.operand.Operand.TheVariants as operand
 use Rattle.lg_op.specs.declared.operand.Reg.{Reg}
 use Rattle.lg_meaning.specs.Steps.{operand_at}
+use Rattle.lg_op.specs.Nodes.{InForm}
+use Rattle.lg_sel.specs.Asked as asked
 use Rattle.lg_sel.proofs.LabelLemmas.{names, all-self}
 use Rattle.lg_sel.proofs.NodeEmissionLemmas as emission
 use Rattle.lg_sel.proofs.NodeFitLemmas as fit
 use Rattle.lg_sel.proofs.StoreLemmas.{allowed}
-use Rattle.lg_sel.specs.Selected.{IsFrame}
+use Rattle.lg_sel.specs.Selected.{AreFirst, HaveWords, IsFrame, TakesLabelsWell, is_pusharg}
 use Rattle.lg_sel.specs.Stores.{a64_stores}
+use Rattle.lg_sel_items.specs.declared.reach.Reach.{Reach}
 use Rattle.lg_sela.proofs.ControlEmissions.{controls-emit, prologs-emit}
-use Rattle.lg_sela.proofs.Emissions.{Names, Emits}
+use Rattle.lg_sela.proofs.Emissions.{Names, Emits, more}
 use Rattle.lg_sela.proofs.MemoryEmissions.{loads-emit, stores-emit, arguments-emit, pushes-emit}
 use Rattle.lg_sel.specs.Asked.{NamesBelow, NameBelow}
 use Rattle.lg_sela.proofs.OperandLemmas.{are-below, are-given}
@@ -23,7 +26,7 @@ use Rattle.lg_sela.specs.Items.{a64_families, node_items}
 use Rattle.lg_sela.specs.Selected.{needs, AreChosen, IsAsked}
 use Rattle.lg_sela_control.proofs.FitLemmas.{control-items-fit}
 use Rattle.lg_sela_control.proofs.WithinLemmas.{control-items-stay}
-use Rattle.lg_sela_items.specs.Items.{a64_holes, IsItem, NamesOneOf, StaysWithin, StayWithin, fixes_of, AreItems, NameLabels}
+use Rattle.lg_sela_items.specs.Items.{a64_holes, IsItem, NamesOneOf, StaysWithin, StayWithin, fixes_of, AreItems, NameLabels, ones}
 use Rattle.lg_sela_items.specs.declared.items.Item.{Item}
 use Rattle.lg_sela_memory.proofs.FitLemmas.{memory-items-fit}
 use Rattle.lg_sela_memory.proofs.WithinLemmas.{memory-items-name, memory-items-stay}
@@ -31,7 +34,8 @@ use Rattle.lg_sela_values.proofs.ValueFitLemmas.{value-items-fit, value-items-na
 use Rattle.lg_sela_values.specs.ValueItems.{HaveSlots, value_items}
 use Rattle.lg_temp.proofs.ChoiceLemmas.{choices-are-for}
 use Rattle.lg_temp.specs.Choices.{AreFor}
-use Rattle.lg_temp.specs.Chosen.{around}
+use Rattle.lg_sela_memory.specs.Accesses.{load_code, store_code}
+use Rattle.lg_temp.specs.Chosen.{around, spills}
 use Rattle.lg_temp.specs.declared.choice.Choice.{Choice}
 
 -- at most one register is chosen, and it has a slot where it is saved
@@ -41,28 +45,28 @@ choices-fit n live staged choices k =
     (values.few, values.slots)
 
 -- ---- labels, fixes and stores
-families-emit : emission.FamiliesEmit a64_holes a64_stores Names a64_families
-families-emit = record {
-  values = λ is frame n choices h. values-emit is n choices h;
-  loads = λ is frame t at n. loads-emit is t at n;
-  stores = λ is frame t at n. stores-emit is t at n;
-  arguments = λ is frame t n. arguments-emit is t n;
-  results = λ is frame t n choices h. values-emit is n choices h;
-  pushes = λ is frame j n h. pushes-emit is j n h;
-  controls = controls-emit;
-  prologs = prologs-emit;
+families-emit : (reach : Reach) → emission.FamiliesEmit Aarch64 a64_holes a64_stores (Names reach) (a64_families reach)
+families-emit reach = record {
+  values = λ is frame n choices h. values-emit reach is n choices h;
+  loads = λ is frame t at n choices. more reach is 1 1 0 (spills choices) (ones (load_code t at n)) (omega arith) (omega arith) (loads-emit reach is t at n);
+  stores = λ is frame t at n choices. more reach is 1 1 1 (spills choices + 1) (ones (store_code t at n)) (omega arith) (omega arith) (stores-emit reach is t at n);
+  arguments = λ is frame t n. arguments-emit reach is t n;
+  results = λ is frame t n choices h. values-emit reach is n choices h;
+  pushes = λ is frame j n h. pushes-emit reach is j n h;
+  controls = controls-emit reach;
+  prologs = prologs-emit reach;
 }
 
-pub node-emits : (frame : ℕ) (choices : List Choice) (staged : List Bool) (place : ℕ) (n : Node) → Emits (names n.operands) 1 (allowed choices n.op) (node_items n frame choices staged place)
-node-emits frame choices staged place n = emission.node-emits a64_holes a64_stores Names a64_families families-emit frame choices staged place n (names n.operands) (all-self n.operands)
+pub node-emits : (reach : Reach) (frame : ℕ) (choices : List Choice) (staged : List Bool) (place : ℕ) (n : Node) → Emits reach (names n.operands) 1 (allowed Aarch64 choices n.op) (node_items reach n frame choices staged place)
+node-emits reach frame choices staged place n = emission.node-emits Aarch64 a64_holes a64_stores (Names reach) (a64_families reach) (families-emit reach) frame choices staged place n (names n.operands) (all-self n.operands)
 
 -- ---- ranges
-abbrev Fit : ℕ → List Item → Type 0
-Fit labels xs = fit.Fit Aarch64 needs a64_families IsItem NamesOneOf labels xs
+abbrev Fit : Reach → ℕ → List Item → Type 0
+Fit reach labels xs = fit.Fit Aarch64 needs (a64_families reach) IsItem NamesOneOf labels xs
 
 -- those of values
-values : (labels : ℕ) (n : Node) (live : Reg → Bool) (set : List Bool) (choices : List Choice) → AreFor (around Aarch64 n live set) (needs n.op) [] (needs n.op) choices → NameBelow labels n.operands → Fit labels (value_items n choices)
-values labels n live set choices are named =
+values : (reach : Reach) (labels : ℕ) (n : Node) (live : Reg → Bool) (set : List Bool) (choices : List Choice) → AreFor (around Aarch64 n live set) (needs n.op) [] (needs n.op) choices → NameBelow labels n.operands → Fit reach labels (value_items n choices)
+values reach labels n live set choices are named =
     record { instrs = (value-items-fit n live set choices are).fit; names = value-items-name labels n choices (are-below labels n.operands named) }
 
 -- the label that is passed is one of the buffer's
@@ -73,17 +77,17 @@ passed labels (operand.Reg r) named l e = cc
 passed labels (operand.Host name) named l e = cc
 passed labels (operand.Slot k) named l e = cc
 
-families-fit : (labels : ℕ) → fit.FamiliesFit Aarch64 needs a64_families IsItem NamesOneOf labels
-families-fit labels = record {
-  values = λ frame n live set choices sized is are named words. values labels n live set choices are named;
-  loads = λ frame n t at sized words. record { instrs = (memory-items-fit.loads t at n).appendable.fit; names = memory-items-name.loads labels t at n };
-  stores = λ frame n t at sized words. record { instrs = (memory-items-fit.stores t at n).appendable.fit; names = memory-items-name.stores labels t at n };
+families-fit : (reach : Reach) (labels : ℕ) → fit.FamiliesFit Aarch64 needs (a64_families reach) IsItem NamesOneOf labels
+families-fit reach labels = record {
+  values = λ frame n live set choices sized is are named words. values reach labels n live set choices are named;
+  loads = λ frame n t at live set choices sized e are words. record { instrs = (memory-items-fit.loads t at n).appendable.fit; names = memory-items-name.loads labels t at n };
+  stores = λ frame n t at live set choices sized e are words. record { instrs = (memory-items-fit.stores t at n).appendable.fit; names = memory-items-name.stores labels t at n };
   arguments = λ frame n t sized. record { instrs = (memory-items-fit.arguments t n).appendable.fit; names = memory-items-name.arguments labels t n };
-  results = λ frame n t live set choices sized e formed are named words. values labels n live set choices are named;
+  results = λ frame n t live set choices sized e formed are named words. values reach labels n live set choices are named;
   pushes = λ frame n j sized few named word.
       record { instrs = (memory-items-fit.pushes j n few).appendable.fit; names = memory-items-name.pushes labels j n (passed labels (operand_at n 0) named) };
   controls = λ n frame place sized is formed named words ends.
-      let emitted = control-items-fit n labels frame place is formed (are-given labels n.operands named words) ends in
+      let emitted = control-items-fit reach n labels frame place is formed (are-given labels n.operands named words) ends in
       record { instrs = emitted.items; names = emitted.labels };
 }
 
@@ -93,23 +97,34 @@ pub record AreEmittable (labels : ℕ) (items : List Item) : Type 0 where
   pub names : NameLabels labels items
   pub fixed : (p : ℕ) → length (fixes_of p items) ≤ 1
 
-pub items-fit : (frame : ℕ) (live : Reg → Bool) (staged : List Bool) (choices : List Choice) (labels place : ℕ) (n : Node) → IsFrame frame → IsAsked n live staged choices labels → AreEmittable labels (node_items n frame choices staged place)
-items-fit frame live staged choices labels place n sized k =
-    let fits = fit.items-fit Aarch64 needs a64_families IsItem NamesOneOf labels (families-fit labels) frame sized live staged choices place n k in
-    record { instrs = fits.instrs; names = fits.names; fixed = (node-emits frame choices staged place n).fixed }
+pub items-fit : (reach : Reach) (frame : ℕ) (live : Reg → Bool) (staged : List Bool) (choices : List Choice) (labels place : ℕ) (n : Node) → IsFrame frame → IsAsked n live staged choices labels → AreEmittable labels (node_items reach n frame choices staged place)
+items-fit reach frame live staged choices labels place n sized k =
+    let fits = fit.items-fit Aarch64 needs (a64_families reach) IsItem NamesOneOf labels (families-fit reach labels) frame sized live staged choices place n k in
+    record { instrs = fits.instrs; names = fits.names; fixed = (node-emits reach frame choices staged place n).fixed }
 
 -- ---- registers
-families-stay : fit.FamiliesStay Aarch64 needs a64_families StaysWithin
-families-stay = record {
-  values = λ frame n live set choices are. value-items-stay n live set choices are;
-  loads = λ frame t at n. memory-items-stay.loads t at n;
-  stores = λ frame t at n. memory-items-stay.stores t at n;
+families-stay : (reach : Reach) → fit.FamiliesStay Aarch64 needs (a64_families reach) StaysWithin
+families-stay reach = record {
+  values = λ frame n live set choices is are. value-items-stay n live set choices are;
+  loads = λ frame t at n live set choices e are. memory-items-stay.loads t at n;
+  stores = λ frame t at n live set choices e are. memory-items-stay.stores t at n;
   arguments = λ frame t n. memory-items-stay.arguments t n;
   results = λ frame t n live set choices are. value-items-stay n live set choices are;
   pushes = λ frame j n. memory-items-stay.pushes j n;
-  controls = λ n frame place. control-items-stay n frame place;
+  controls = λ n frame place. control-items-stay reach n frame place;
 }
 
-pub items-within : (frame : ℕ) (live : Reg → Bool) (staged : List Bool) (choices : List Choice) (labels place : ℕ) (n : Node) → IsAsked n live staged choices labels → StayWithin (node_items n frame choices staged place)
-items-within frame live staged choices labels place n k =
-    fit.items-stay Aarch64 needs a64_families StaysWithin families-stay frame live k.chosen.set staged choices place n (fit.are-made Aarch64 needs a64_families n live staged choices labels k)
+pub items-within : (reach : Reach) (frame : ℕ) (live : Reg → Bool) (staged : List Bool) (choices : List Choice) (labels place : ℕ) (n : Node) → IsAsked n live staged choices labels → StayWithin (node_items reach n frame choices staged place)
+items-within reach frame live staged choices labels place n k =
+    fit.items-stay Aarch64 needs (a64_families reach) StaysWithin (families-stay reach) frame live k.chosen.set staged choices place n (fit.are-made Aarch64 needs (a64_families reach) n live staged choices labels k)
+
+-- ---- what is asked of a node
+pub asked-of : (n : Node) (live : Reg → Bool) (staged : List Bool) (choices : List Choice) (labels : ℕ) (xs : List Operand) → InForm n → AreChosen n live staged choices
+    → (is_pusharg n.op ≡ true → AreFirst staged) → asked.NameBelow labels n.operands → TakesLabelsWell n → xs ≡ n.operands → HaveWords xs → IsAsked n live staged choices labels
+asked-of n live staged choices labels xs formed chosen first named takes e words =
+    record { formed = formed; chosen = chosen; first = first; named = named; takes = takes; words = subst HaveWords e words }
+
+-- items that are those of the node can be appended
+pub made-fits : (reach : Reach) (frame : ℕ) (live : Reg → Bool) (staged : List Bool) (choices : List Choice) (labels place : ℕ) (n : Node) (items : List Item) → IsFrame frame
+    → IsAsked n live staged choices labels → items ≡ node_items reach n frame choices staged place → AreEmittable labels items
+made-fits reach frame live staged choices labels place n items sized k e = subst (AreEmittable labels) (sym e) (items-fit reach frame live staged choices labels place n sized k)

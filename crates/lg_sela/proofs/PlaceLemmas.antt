@@ -8,6 +8,7 @@ use Rattle.lg_op.specs.declared.op.PlainOp.TheVariants as plain
 use Rattle.lg_op.specs.declared.operand.Operand.{Operand}
 use Rattle.lg_op.specs.declared.operand.Operand.TheVariants as operand
 use Rattle.lg_sel.proofs.PlaceLemmas.{remainder, and-first}
+use Rattle.lg_sel_items.specs.declared.reach.Reach.{Reach}
 use Rattle.lg_sela_control.specs.Alignments.{padding, idle}
 use Rattle.lg_sela_control.specs.ControlItems.{align_items, control_items}
 use Rattle.lg_sela_items.specs.Items.{ones}
@@ -19,6 +20,6 @@ align-at : (p : ℕ) (xs : List Operand) → admit (forms_of (op.Plain plain.Ali
 align-at p (operand.Number n ∷ []) a = ap (λ k. ones (idle k)) (same-padding p n (and-first (is_alignment n) true a))
 align-at p xs a = refl
 
-pub control-items-at : (o : Op) (xs : List Operand) (frame p : ℕ) → admit (forms_of o) xs ≡ true → control_items o xs frame (code_base + p) ≡ control_items o xs frame p
-control-items-at (op.Plain plain.Align) xs frame p a = align-at p xs a
-control-items-at o xs frame p a = refl
+pub control-items-at : (reach : Reach) (o : Op) (xs : List Operand) (frame p : ℕ) → admit (forms_of o) xs ≡ true → control_items reach o xs frame (code_base + p) ≡ control_items reach o xs frame p
+control-items-at reach (op.Plain plain.Align) xs frame p a = align-at p xs a
+control-items-at reach o xs frame p a = refl

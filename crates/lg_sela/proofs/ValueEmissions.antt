@@ -29,6 +29,7 @@ use Rattle.lg_op.specs.declared.operand.Operand.TheVariants as operand
 use Rattle.lg_sel.proofs.LabelLemmas.{Passes, AllPass, passes-at}
 use Rattle.lg_sel.proofs.StoreLemmas as stores
 use Rattle.lg_sel.specs.Stores.{a64_stores}
+use Rattle.lg_sel_items.specs.declared.reach.Reach.{Reach}
 use Rattle.lg_sela.proofs.Emissions.{NoneStores, number-none, Emits, none, append, more, instructions, plain, number, address, behind}
 use Rattle.lg_sela_items.specs.Items.{ones}
 use Rattle.lg_sela_items.specs.declared.items.Item.{Item}
@@ -99,54 +100,54 @@ form-none binary.RshU u d a v = refl
 form-none o u d a v = small-form-none o u d a v
 
 -- ---- items
-module _ (is : ℕ → Bool) where
-  load : (t : ℕ) (x : Operand) → Passes is x → Emits is 1 0 (load_items t x)
-  load t (operand.Number v) h = number is 1 t v
-  load t (operand.Host name) h = number is 1 t (host_address name)
-  load t (operand.Label l) h = address is t l.0 h
-  load t (operand.Reg r) h = none is 1 0
-  load t (operand.Slot k) h = none is 1 0
+module _ (reach : Reach) (is : ℕ → Bool) where
+  load : (t : ℕ) (x : Operand) → Passes is x → Emits reach is 1 0 (load_items t x)
+  load t (operand.Number v) h = number reach is 1 t v
+  load t (operand.Host name) h = number reach is 1 t (host_address name)
+  load t (operand.Label l) h = address reach is t l.0 h
+  load t (operand.Reg r) h = none reach is 1 0
+  load t (operand.Slot k) h = none reach is 1 0
 
-  loaded : (t : ℕ) (x : Operand) (code : List Instr) → Passes is x → NoneStores code → Emits is 1 0 (load_items t x ++ ones code)
-  loaded t x code h few = behind is 1 0 (load_items t x) code (load t x h) few
+  loaded : (t : ℕ) (x : Operand) (code : List Instr) → Passes is x → NoneStores code → Emits reach is 1 0 (load_items t x ++ ones code)
+  loaded t x code h few = behind reach is 1 0 (load_items t x) code (load t x h) few
 
-  binary-emits : (o : BinaryOp) (u d a : ℕ) (x : Operand) → Passes is x → Emits is 1 0 (binary_items o u d a x)
-  binary-emits o u d a (operand.Reg b) h = plain is 1 (register_code o d a (register_of Aarch64 b)) (register-none o d a (register_of Aarch64 b))
-  binary-emits o u d a (operand.Number v) h = plain is 1 (number_form_code o u d a v) (form-none o u d a v)
+  binary-emits : (o : BinaryOp) (u d a : ℕ) (x : Operand) → Passes is x → Emits reach is 1 0 (binary_items o u d a x)
+  binary-emits o u d a (operand.Reg b) h = plain reach is 1 (register_code o d a (register_of Aarch64 b)) (register-none o d a (register_of Aarch64 b))
+  binary-emits o u d a (operand.Number v) h = plain reach is 1 (number_form_code o u d a v) (form-none o u d a v)
   binary-emits o u d a (operand.Host name) h = let t : ℕ = second_register o u in loaded t (operand.Host name) (register_code o d a t) h (register-none o d a t)
   binary-emits o u d a (operand.Label l) h = let t : ℕ = second_register o u in loaded t (operand.Label l) (register_code o d a t) h (register-none o d a t)
   binary-emits o u d a (operand.Slot k) h = let t : ℕ = second_register o u in loaded t (operand.Slot k) (register_code o d a t) h (register-none o d a t)
 
-  wide-emits : (o : WideOp) (d e a : ℕ) (x : Operand) → Passes is x → Emits is 1 0 (wide_items o d e a x)
-  wide-emits o d e a (operand.Reg b) h = plain is 1 (wide_code o d e a (register_of Aarch64 b)) (wide-none o d e a (register_of Aarch64 b))
+  wide-emits : (o : WideOp) (d e a : ℕ) (x : Operand) → Passes is x → Emits reach is 1 0 (wide_items o d e a x)
+  wide-emits o d e a (operand.Reg b) h = plain reach is 1 (wide_code o d e a (register_of Aarch64 b)) (wide-none o d e a (register_of Aarch64 b))
   wide-emits o d e a (operand.Number v) h = loaded link (operand.Number v) (wide_by_link o d e a) h (by-link-none o d e a)
   wide-emits o d e a (operand.Host name) h = loaded link (operand.Host name) (wide_by_link o d e a) h (by-link-none o d e a)
   wide-emits o d e a (operand.Label l) h = loaded link (operand.Label l) (wide_by_link o d e a) h (by-link-none o d e a)
   wide-emits o d e a (operand.Slot k) h = loaded link (operand.Slot k) (wide_by_link o d e a) h (by-link-none o d e a)
 
-  body : (o : Op) (xs : List Operand) (u : ℕ) → AllPass is xs → Emits is 1 0 (body_items o xs u)
+  body : (o : Op) (xs : List Operand) (u : ℕ) → AllPass is xs → Emits reach is 1 0 (body_items o xs u)
   body (op.Binary o last) xs u h = binary-emits o u (register_in xs 0) (register_in xs 1) (operand_in xs 2) (passes-at is xs 2 h)
   body (op.Wide o last) xs u h = wide-emits o (register_in xs 0) (register_in xs 1) (register_in xs 2) (operand_in xs 3) (passes-at is xs 3 h)
-  body (op.Unary o) xs u h = plain is 1 (unary_code o (register_in xs 0) (register_in xs 1)) (unary-none o (register_in xs 0) (register_in xs 1))
+  body (op.Unary o) xs u h = plain reach is 1 (unary_code o (register_in xs 0) (register_in xs 1)) (unary-none o (register_in xs 0) (register_in xs 1))
   body (op.Plain plain_op.Movi) xs u h = load (register_in xs 0) (operand_in xs 1) (passes-at is xs 1 h)
-  body (op.Plain o) xs u h = none is 1 0
-  body (op.Retval t) xs u h = plain is 1 (retval_code t (register_in xs 0)) (retval-none t (register_in xs 0))
+  body (op.Plain o) xs u h = none reach is 1 0
+  body (op.Retval t) xs u h = plain reach is 1 (retval_code t (register_in xs 0)) (retval-none t (register_in xs 0))
     where
       retval-none : (t : ValueType) (d : ℕ) → NoneStores (retval_code t d)
       retval-none t d = unary-none (extension t) d _
-  body o xs u h = none is 1 0
+  body o xs u h = none reach is 1 0
 
   -- a register that is saved is stored
-  saved : (choices : List Choice) (xs : List Item) → Emits is 1 0 xs → Emits is 1 (spills choices) (saved_items choices xs)
+  saved : (choices : List Choice) (xs : List Item) → Emits reach is 1 0 xs → Emits reach is 1 (spills choices) (saved_items choices xs)
   saved [] xs a = a
   saved (Free r ∷ choices) xs a = saved choices xs a
   saved (Own r ∷ choices) xs a = saved choices xs a
   saved (Spill r k ∷ choices) xs a =
       let save : List Instr = instr.Unscaled Stur r frame_pointer (slot_offset k) ∷ [] in
       let restore : List Instr = instr.Unscaled Ldur r frame_pointer (slot_offset k) ∷ [] in
-      let inner = append is 1 0 (spills choices) 0 (saved_items choices xs) (ones restore) (saved choices xs a) (plain is 0 restore refl) in
-      more is (0 + (1 + 0)) 1 (1 + (spills choices + 0)) (spills choices + 1) (saved_items (Spill r k ∷ choices) xs) (omega arith) (omega arith)
-      (append is 0 (1 + 0) 1 (spills choices + 0) (ones save) (saved_items choices xs ++ ones restore) (instructions is 0 1 save (omega arith)) inner)
+      let inner = append reach is 1 0 (spills choices) 0 (saved_items choices xs) (ones restore) (saved choices xs a) (plain reach is 0 restore refl) in
+      more reach is (0 + (1 + 0)) 1 (1 + (spills choices + 0)) (spills choices + 1) (saved_items (Spill r k ∷ choices) xs) (omega arith) (omega arith)
+      (append reach is 0 (1 + 0) 1 (spills choices + 0) (ones save) (saved_items choices xs ++ ones restore) (instructions reach is 0 1 save (omega arith)) inner)
 
-  pub values-emit : (n : Node) (choices : List Choice) → AllPass is n.operands → Emits is 1 (spills choices) (value_items n choices)
+  pub values-emit : (n : Node) (choices : List Choice) → AllPass is n.operands → Emits reach is 1 (spills choices) (value_items n choices)
   values-emit n choices h = saved choices (body_items n.op n.operands (first_taken choices)) (body n.op n.operands (first_taken choices) h)

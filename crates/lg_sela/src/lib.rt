@@ -2,6 +2,7 @@
 #![tactic(auto)]
 
 mod items;
+mod reaches;
 mod selection;
 mod temporaries;
 

@@ -24,6 +24,7 @@ use Rattle.lg_sel_values.specs.Computers.{Held}
 use Rattle.lg_sel_values.proofs.ComputationLemmas.{computed-append}
 use Rattle.lg_sela_values.proofs.FlagLemmas.{holds-lt, holds-ge, holds-gt, holds-le, holds-cc, holds-cs, holds-hi, holds-ls, holds-eq, holds-ne}
 use Rattle.lg_sela_values.proofs.LoadCodeLemmas.{all-compute-append}
+use Rattle.lg_sel_items.specs.declared.reach.Reach.{Reach}
 use Rattle.lg_sela_control.specs.Branches.{comparison, taken}
 use Rattle.lg_sela_control.specs.ControlItems.{second_register}
 use Rattle.lg_sela_control.specs.TwoWays.{second_code, before_branch, branch_code}
@@ -71,9 +72,9 @@ second-below (operand.Host name) = omega arith
 second-below (operand.Label l) = omega arith
 second-below (operand.Slot k) = omega arith
 
-pub branches-lead : (code : List ℕ) (trash : ℕ) → length code ≤ most_code → AreBytes code → trash < 2 ^ 64
-    → BranchesLead (a64_rows code trash) a64_scratch IsInstr branch_code
-branches-lead code trash small bytes word frame o a b x y from to q f k there next runs at ea eb near =
+pub branches-lead : (r : Reach) (code : List ℕ) (trash : ℕ) → length code ≤ most_code → AreBytes code → trash < 2 ^ 64
+    → BranchesLead (a64_rows code trash) a64_scratch IsInstr (branch_code r)
+branches-lead r code trash small bytes word frame o a b x y from to q f k there next runs at ea eb near =
     let w : Held = holding q.state.registers (nzcv q.state.flags) in
     let ra : ℕ = register_of Aarch64 a in let rb : ℕ = second_register b in
     let made : IsMade b y w = second-made b y w eb near in
@@ -82,7 +83,7 @@ branches-lead code trash small bytes word frame o a b x y from to q f k there ne
     let few : length (before_branch o a b) ≤ 60 = let l = length-append (second_code b) (comparison o ra rb ∷ []) in let m = made.few in omega (arith, l, m) in
     let all = computed-append computed_by (second_code b) (comparison o ra rb ∷ []) w in
     let la = register-small a in
-    two-ways code trash small bytes word (before_branch o a b) (taken o) from to q k
+    two-ways r code trash small bytes word (before_branch o a b) (taken o) from to q k
     (all-compute-append (second_code b) (comparison o ra rb ∷ []) made.computes (compare-computes o ra rb)) few runs at (holds o x y) there next
     (ap (λ u. a64.holds (taken o) u.flags) all ∙ compared ra rb x y (omega (arith, la)) (second-below b) w1 reads made.value (subst (λ z. z < 2 ^ 64) ea (f.seen.words ra)) near o)
     q.state.registers (λ z off. ap (λ u. u.registers z) all ∙ ap (λ g. g z) (kept o ra rb w1) ∙ made.others z off)

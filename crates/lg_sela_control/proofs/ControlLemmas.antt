@@ -33,9 +33,11 @@ use Rattle.lg_sela_items.specs.declared.items.Item.{Item}
 use Rattle.lg_sela_items.specs.declared.items.Item.TheVariants.{CondBranch}
 use Rattle.lg_sela_items.specs.Items.{words_between, bytes_in, settled, ones}
 use Rattle.lg_sela_items.proofs.ItemLemmas.{settled-append, settled-ones, words-ones, ones-append}
+use Rattle.lg_sel_items.specs.declared.reach.Reach.{Reach}
+use Rattle.lg_sel_items.specs.declared.reach.Reach.TheVariants.{Short, Near, Far}
 use Rattle.lg_sela_control.specs.Alignments.{align_code}
 use Rattle.lg_sela_control.specs.Branches.{comparison, taken}
-use Rattle.lg_sela_control.specs.ControlItems.{second_register, second_items, branch_if_items, branch_items, sum_items, jump_items, call_items}
+use Rattle.lg_sela_control.specs.ControlItems.{second_register, second_items, leads_items, branch_if_items, branch_items, sum_items, jump_items, call_items}
 use Rattle.lg_sela_control.specs.ControlItems.{register_leap_items, leap_items, ret_items, result_items, align_items, plain_items, control_items}
 use Rattle.lg_sela_control.specs.ControlLaws.{ControlNodesCarry}
 use Rattle.lg_sela_control.specs.HostCalls.{a64_ready}
@@ -43,22 +45,28 @@ use Rattle.lg_sela_control.specs.Prologs.{prolog_code}
 use Rattle.lg_sela_control.specs.Returns.{result, return_code}
 use Rattle.lg_sela_control.specs.SumBranches.{sum_instruction, sum_taken}
 use Rattle.lg_sela_control.specs.Targets.{a64_control}
-use Rattle.lg_sela_control.specs.TwoWays.{branch_if, second_code}
+use Rattle.lg_sela_control.specs.TwoWays.{leads_if, branch_if, second_code}
 use Rattle.lg_sela_control.proofs.TargetLemmas.{is-target, has-places}
 
 -- ---- the instructions of items
--- a branch behind instructions and one that sets the flags
-branch-settled : (to : ℕ → ℕ) (at : ℕ) (xs : List Instr) (sets : Instr) (c : Cond) (l : Label)
-    → settled to at (ones xs ++ branch_if_items sets c l) ≡ branch_if (xs ++ (sets ∷ [])) c at (to l.0)
-branch-settled to at xs sets c l =
+-- what leads to a label where a condition holds
+leads-settled : (r : Reach) (to : ℕ → ℕ) (at : ℕ) (c : Cond) (l : Label) → settled to at (leads_items r c l) ≡ leads_if r c at (to l.0)
+leads-settled Short to at c l = refl
+leads-settled Near to at c l = refl
+leads-settled Far to at c l = refl
+
+-- it stands behind instructions and one that sets the flags
+pub branch-settled : (r : Reach) (to : ℕ → ℕ) (at : ℕ) (xs : List Instr) (sets : Instr) (c : Cond) (l : Label)
+    → settled to at (ones xs ++ branch_if_items r sets c l) ≡ branch_if r (xs ++ (sets ∷ [])) c at (to l.0)
+branch-settled r to at xs sets c l =
     let front = xs ++ (sets ∷ []) in
-    let rest = branch_if_items sets c l in
-    let last : List Item = CondBranch c l.0 ∷ [] in
+    let rest = branch_if_items r sets c l in
+    let last : List Item = leads_items r c l in
     let joined : ones xs ++ rest ≡ ones front ++ last = sym (append_assoc (ones xs) (ones (sets ∷ [])) last) ∙ ap (λ z. z ++ last) (sym (ones-append xs (sets ∷ []))) in
     let size = words-ones front in
     let place : at + bytes_in (ones front) ≡ at + 4 * length front = omega (arith, size) in
     ap (settled to at) joined ∙ settled-append to at (ones front) last ∙ ap (λ z. z ++ settled to (at + bytes_in (ones front)) last) (settled-ones to at front)
-    ∙ ap (λ p. front ++ (instr.BranchIf c (words_between p (to l.0)) ∷ [])) place
+    ∙ ap (λ p. front ++ settled to p last) place ∙ ap (λ z. front ++ z) (leads-settled r to (at + 4 * length front) c l)
 
 -- instructions, and then others
 ones-settled : (to : ℕ → ℕ) (at : ℕ) (xs ys : List Instr) → settled to at (ones xs ++ ones ys) ≡ xs ++ ys
@@ -72,48 +80,48 @@ second-is (operand.Host name) = refl
 second-is (operand.Label l) = refl
 second-is (operand.Slot k) = refl
 
-module _ (to : ℕ → ℕ) (frame at : ℕ) where
-  branches : (o : Condition) (xs : List Operand) → settled to at (branch_items o xs) ≡ branch_of a64_control to frame at o xs
+module _ (r : Reach) (to : ℕ → ℕ) (frame at : ℕ) where
+  branches : (o : Condition) (xs : List Operand) → settled to at (branch_items r o xs) ≡ branch_of (a64_control r) to frame at o xs
   branches o (operand.Label l ∷ operand.Reg a ∷ x ∷ []) =
       let sets : Instr = comparison o (register_of Aarch64 a) (second_register x) in
-      ap (λ ys. settled to at (ys ++ branch_if_items sets (taken o) l)) (second-is x) ∙ branch-settled to at (second_code x) sets (taken o) l
+      ap (λ ys. settled to at (ys ++ branch_if_items r sets (taken o) l)) (second-is x) ∙ branch-settled r to at (second_code x) sets (taken o) l
   branches o xs = refl
 
-  sum-branches : (o : BranchSumOp) (xs : List Operand) → settled to at (sum_items o xs) ≡ sum_branch_of a64_control to frame at o xs
+  sum-branches : (o : BranchSumOp) (xs : List Operand) → settled to at (sum_items r o xs) ≡ sum_branch_of (a64_control r) to frame at o xs
   sum-branches o (operand.Label l ∷ operand.Reg a ∷ x ∷ []) =
       let sets : Instr = sum_instruction o (register_of Aarch64 a) (second_register x) in
-      ap (λ ys. settled to at (ys ++ branch_if_items sets (sum_taken o) l)) (second-is x) ∙ branch-settled to at (second_code x) sets (sum_taken o) l
+      ap (λ ys. settled to at (ys ++ branch_if_items r sets (sum_taken o) l)) (second-is x) ∙ branch-settled r to at (second_code x) sets (sum_taken o) l
   sum-branches o xs = refl
 
-  jumps : (xs : List Operand) → settled to at (jump_items xs) ≡ jump_of a64_control to at xs
+  jumps : (xs : List Operand) → settled to at (jump_items xs) ≡ jump_of (a64_control r) to at xs
   jumps (operand.Label l ∷ []) = refl
   jumps xs = refl
 
-  calls : (xs : List Operand) → settled to at (call_items xs) ≡ call_of a64_control to at xs
+  calls : (xs : List Operand) → settled to at (call_items xs) ≡ call_of (a64_control r) to at xs
   calls (operand.Label l ∷ []) = refl
   calls (operand.Host name ∷ []) = ones-settled to at (number_code link (host_address name)) (instr.BranchReg Blr link ∷ [])
   calls xs = refl
 
-  register-jumps : (xs : List Operand) → settled to at (register_leap_items Br xs) ≡ target_control.register_of a64_control.register_jump frame xs
+  register-jumps : (xs : List Operand) → settled to at (register_leap_items Br xs) ≡ target_control.register_of (a64_control r).register_jump frame xs
   register-jumps (operand.Reg a ∷ []) = refl
   register-jumps xs = refl
 
-  register-calls : (xs : List Operand) → settled to at (register_leap_items Blr xs) ≡ target_control.register_of a64_control.register_call frame xs
+  register-calls : (xs : List Operand) → settled to at (register_leap_items Blr xs) ≡ target_control.register_of (a64_control r).register_call frame xs
   register-calls (operand.Reg a ∷ []) = refl
   register-calls xs = refl
 
-  results : (x : Operand) → settled to at (result_items x ++ ones return_code) ≡ a64_control.ret frame (returned_of to x)
+  results : (x : Operand) → settled to at (result_items x ++ ones return_code) ≡ (a64_control r).ret frame (returned_of to x)
   results (operand.Reg a) = refl
   results (operand.Number v) = ones-settled to at (number_code result v) return_code
   results (operand.Host name) = ones-settled to at (number_code result (host_address name)) return_code
   results (operand.Label l) = refl
   results (operand.Slot k) = refl
 
-  returns : (xs : List Operand) → settled to at (ret_items xs) ≡ return_of a64_control to frame xs
+  returns : (xs : List Operand) → settled to at (ret_items xs) ≡ return_of (a64_control r) to frame xs
   returns (x ∷ []) = results x
   returns xs = refl
 
-  leaps : (o : ControlOp) (last : LastOperand) (xs : List Operand) → settled to at (leap_items o last xs) ≡ leap_of a64_control to frame at o last xs
+  leaps : (o : ControlOp) (last : LastOperand) (xs : List Operand) → settled to at (leap_items o last xs) ≡ leap_of (a64_control r) to frame at o last xs
   leaps control.Jmp last_operand.Immediate xs = jumps xs
   leaps control.Jmp last_operand.Register xs = register-jumps xs
   leaps control.Call last_operand.Immediate xs = calls xs
@@ -123,16 +131,16 @@ module _ (to : ℕ → ℕ) (frame at : ℕ) where
   leaps control.Ret last xs = returns xs
   leaps o last xs = refl
 
-  alignments : (xs : List Operand) → settled to at (align_items at xs) ≡ align_of a64_control at xs
+  alignments : (xs : List Operand) → settled to at (align_items at xs) ≡ align_of (a64_control r) at xs
   alignments (operand.Number n ∷ []) = settled-ones to at (align_code at n)
   alignments xs = refl
 
-  plains : (o : PlainOp) (xs : List Operand) → settled to at (plain_items o xs frame at) ≡ plain_of a64_control frame at o xs
+  plains : (o : PlainOp) (xs : List Operand) → settled to at (plain_items o xs frame at) ≡ plain_of (a64_control r) frame at o xs
   plains plain.Prolog xs = settled-ones to at (prolog_code frame)
   plains plain.Align xs = alignments xs
   plains o xs = refl
 
-  items-are-code : (o : Op) (xs : List Operand) → settled to at (control_items o xs frame at) ≡ control_code a64_control to frame at o xs
+  items-are-code : (o : Op) (xs : List Operand) → settled to at (control_items r o xs frame at) ≡ control_code (a64_control r) to frame at o xs
   items-are-code (op.Branch o last) xs = branches o xs
   items-are-code (op.BranchSum o last) xs = sum-branches o xs
   items-are-code (op.Control o last) xs = leaps o last xs
@@ -140,7 +148,7 @@ module _ (to : ℕ → ℕ) (frame at : ℕ) where
   items-are-code o xs = refl
 
 pub control-nodes-carry : ControlNodesCarry
-control-nodes-carry code trash c i n frame S h w v e is-frame t k =
-    let same = items-are-code (slice_index c.addresses) frame (c.place i) n.op n.operands in
-    target_lemmas.control-nodes-carry (a64_rows code trash) a64_scratch IsInstr a64_ready a64_control (is-target code trash k.small k.bytes k.word) c i n frame S h
+control-nodes-carry r code trash c i n frame S h w v e is-frame t k =
+    let same = items-are-code r (slice_index c.addresses) frame (c.place i) n.op n.operands in
+    target_lemmas.control-nodes-carry (a64_rows code trash) a64_scratch IsInstr a64_ready (a64_control r) (is-target r code trash k.small k.bytes k.word) c i n frame S h
     (has-places code trash c w) v e is-frame t (subst (IsNodeCode (a64_rows code trash) IsInstr c i) same k.node)

@@ -41,6 +41,8 @@ use Rattle.lg_sela_items.specs.declared.items.Item.{Item}
 use Rattle.lg_sela_items.specs.declared.items.Item.TheVariants.{Branch}
 use Rattle.lg_sela_items.specs.Items.{bytes_in, fixes_of, AreItems, ones}
 use Rattle.lg_sela_items.proofs.ItemLemmas.{words_append, items-append, names-append, fixes-append, words-ones, items-ones, names-ones, fixes-ones, ones-append}
+use Rattle.lg_sel_items.specs.declared.reach.Reach.{Reach}
+use Rattle.lg_sel_items.specs.declared.reach.Reach.TheVariants.{Short, Near, Far}
 use Rattle.lg_sela_control.specs.Alignments.{padding, idle, align_code}
 use Rattle.lg_sela_control.specs.Branches.{comparison, taken}
 use Rattle.lg_sela_control.specs.ControlFits.{IsGiven, AreGiven, AreEmitted, ControlItemsFit}
@@ -74,11 +76,13 @@ in-front labels leaping is xs fit h = record {
   some = λ e. let z = h.some e in omega (arith, z, words_append (ones is) xs);
 }
 
-branch-emitted : (labels : ℕ) (leaping : Bool) (sets : Instr) (c : Cond) (l : Label) → IsInstr sets → l.0 < labels
-    → AreEmitted labels leaping (branch_if_items sets c l)
-branch-emitted labels leaping sets c l fit lt = record {
-  items = (fit, (tt, tt));
-  labels = (tt, (lt, tt));
+branch-emitted : (r : Reach) (labels : ℕ) (leaping : Bool) (sets : Instr) (c : Cond) (l : Label) → IsInstr sets → l.0 < labels
+    → AreEmitted labels leaping (branch_if_items r sets c l)
+branch-emitted Short labels leaping sets c l fit lt = record { items = (fit, (tt, tt)); labels = (tt, (lt, tt)); one_fix = λ place. omega arith; some = λ e. omega arith }
+branch-emitted Near labels leaping sets c l fit lt = record { items = (fit, (tt, tt)); labels = (tt, (lt, tt)); one_fix = λ place. omega arith; some = λ e. omega arith }
+branch-emitted Far labels leaping sets c l fit lt = record {
+  items = (fit, ((omega arith, omega arith), (tt, tt)));
+  labels = (tt, (tt, (lt, tt)));
   one_fix = λ place. omega arith;
   some = λ e. omega arith;
 }
@@ -150,9 +154,9 @@ prolog-fits size =
     ((omega arith, omega arith, omega arith), fall-fits size))
 
 -- ---- the nodes
-module _ (labels frame at : ℕ) where
+module _ (r : Reach) (labels frame at : ℕ) where
   abbrev items-of : Op → List Operand → List Item
-  items-of o xs = control_items o xs frame at
+  items-of o xs = control_items r o xs frame at
 
   -- the second operand is put into its register
   second-fits : (x : Operand) → IsGiven labels x → AreItems (ones (second_code x))
@@ -174,10 +178,10 @@ module _ (labels frame at : ℕ) where
 
   -- and an instruction that sets the flags and a branch stand behind that
   branched : (x : Operand) (sets : Instr) (c : Cond) (l : Label) → IsGiven labels x → IsInstr sets → l.0 < labels
-      → AreEmitted labels true (second_items x ++ branch_if_items sets c l)
+      → AreEmitted labels true (second_items x ++ branch_if_items r sets c l)
   branched x sets c l v fit lt =
-      subst (λ ys. AreEmitted labels true (ys ++ branch_if_items sets c l)) (sym (second-is x))
-      (in-front labels true (second_code x) _ (second-fits x v) (branch-emitted labels true sets c l fit lt))
+      subst (λ ys. AreEmitted labels true (ys ++ branch_if_items r sets c l)) (sym (second-is x))
+      (in-front labels true (second_code x) _ (second-fits x v) (branch-emitted r labels true sets c l fit lt))
 
   branch : (o : Condition) (last : LastOperand) (xs : List Operand) → admit (forms_of (op.Branch o last)) xs ≡ true → AreGiven labels xs
       → AreEmitted labels true (items-of (op.Branch o last) xs)
@@ -269,4 +273,4 @@ module _ (labels frame at : ℕ) where
   by-op o xs c h v e = absurd (differ c)
 
 pub control-items-fit : ControlItemsFit
-control-items-fit n labels frame at c h v e = by-op labels frame at n.op n.operands c h.forms v e
+control-items-fit r n labels frame at c h v e = by-op r labels frame at n.op n.operands c h.forms v e

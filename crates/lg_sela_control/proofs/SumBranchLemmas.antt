@@ -17,6 +17,7 @@ use Rattle.lg_sel_values.proofs.ComputationLemmas.{computed-append}
 use Rattle.lg_sel_control.specs.SumBranches.{SumBranchesLead}
 use Rattle.lg_sel_control.proofs.RegisterLemmas.{with-word}
 use Rattle.lg_sela_values.proofs.LoadCodeLemmas.{all-compute-append}
+use Rattle.lg_sel_items.specs.declared.reach.Reach.{Reach}
 use Rattle.lg_sela_control.specs.ControlItems.{second_register}
 use Rattle.lg_sela_control.specs.SumBranches.{sum_instruction, sum_taken}
 use Rattle.lg_sela_control.specs.TwoWays.{second_code, before_sum_branch, sum_branch_code}
@@ -24,9 +25,9 @@ use Rattle.lg_sela_control.proofs.BranchLemmas.{second-below}
 use Rattle.lg_sela_control.proofs.SumLemmas.{sums, sum-computes}
 use Rattle.lg_sela_control.proofs.TwoWayLemmas.{IsMade, second-made, two-ways}
 
-pub sum-branches-lead : (code : List ℕ) (trash : ℕ) → length code ≤ most_code → AreBytes code → trash < 2 ^ 64
-    → SumBranchesLead (a64_rows code trash) a64_scratch IsInstr sum_branch_code
-sum-branches-lead code trash small bytes word frame o a b x y from to q f k there next runs at some ea hx eb hy =
+pub sum-branches-lead : (r : Reach) (code : List ℕ) (trash : ℕ) → length code ≤ most_code → AreBytes code → trash < 2 ^ 64
+    → SumBranchesLead (a64_rows code trash) a64_scratch IsInstr (sum_branch_code r)
+sum-branches-lead r code trash small bytes word frame o a b x y from to q f k there next runs at some ea hx eb hy =
     let w : Held = holding q.state.registers (nzcv q.state.flags) in
     let ra : ℕ = register_of Aarch64 a in let rb : ℕ = second_register b in
     let made : IsMade b y w = second-made b y w eb hy in
@@ -37,7 +38,7 @@ sum-branches-lead code trash small bytes word frame o a b x y from to q f k ther
     let c = sums ra rb x y (omega (arith, la)) (second-below b) w1 reads made.value hx hy o in
     let few : length (before_sum_branch o a b) ≤ 60 = let l = length-append (second_code b) body in let m = made.few in omega (arith, l, m) in
     let all = computed-append computed_by (second_code b) body w in
-    two-ways code trash small bytes word (before_sum_branch o a b) (sum_taken o) from to q k
+    two-ways r code trash small bytes word (before_sum_branch o a b) (sum_taken o) from to q k
     (all-compute-append (second_code b) body made.computes (sum-computes o ra rb)) few runs at (branch_sum_goes o x y) there next
     (ap (λ u. a64.holds (sum_taken o) u.flags) all ∙ c.goes)
     (with_register q.state.registers ra (branch_sum_value o x y))

@@ -1,24 +1,27 @@
 -- A branch on a condition leads to two ways: to its label, or behind itself.
 use Rattle.std.proofs.Common.{◌≡◌, ◌≢◌, ℕ, ◌+◌, ◌*◌, ◌%◌, ◌^◌, ◌<◌, ◌≤◌, Bool, true, false, List, [], ◌∷◌, Some, refl, sym, ap, ◌∙◌, subst, arith, length}
-use Rattle.std.proofs.Common.{length-append}
-use Rattle.std.specs.Prelude.{if◌then◌else◌}
+use Rattle.std.proofs.Common.{length-append, append_assoc, ◌++◌}
+use Rattle.std.specs.Prelude.{ℤ, pos, not, if◌then◌else◌}
 use Rattle.lg_base.specs.Fields.{word_of}
 use Rattle.lg_base.specs.HostNames.{host_address}
 use Rattle.lg_base.specs.Layout.{code_base, most_code}
 use Rattle.lg_base.specs.Runs.{Running}
 use Rattle.lg_base.specs.Words.{add_words}
+use Rattle.lg_base.specs.declared.flags.Flags.{Flags}
 use Rattle.lg_base.specs.declared.target.Target.TheVariants.{Aarch64}
 use Rattle.lg_op.specs.declared.operand.Operand.{Operand}
 use Rattle.lg_op.specs.declared.operand.Operand.TheVariants as operand
 use Rattle.lg_a64.specs.Spelling.{IsInstr}
+use Rattle.lg_a64.specs.declared.instruction.BranchOp.TheVariants.{B}
 use Rattle.lg_a64.specs.declared.instruction.Cond.{Cond}
+use Rattle.lg_a64.specs.declared.instruction.Cond.TheVariants as cond
 use Rattle.lg_a64.specs.declared.instruction.Instr.{Instr}
 use Rattle.lg_a64.specs.declared.instruction.Instr.TheVariants as instr
 use Rattle.lg_cpu.specs.A64Operators.{holds}
 use Rattle.lg_cpu.specs.A64Step.{away, act}
 use Rattle.lg_cpu.specs.Laws.{AreBytes}
 use Rattle.lg_cpu.specs.States.{CpuState, goes_on}
-use Rattle.lg_cpu.specs.Steps.{Run, Effect, after, status_of}
+use Rattle.lg_cpu.specs.Steps.{Run, Effect, after, arrived, status_of}
 use Rattle.lg_temp.specs.Abis.{register_of}
 use Rattle.lg_carry.specs.Blocks.{done}
 use Rattle.lg_carry_a64.specs.A64Computers.{a64_scratch, a64_computer}
@@ -29,15 +32,18 @@ use Rattle.lg_carry_a64.proofs.ComputerLemmas.{spellings-long}
 use Rattle.lg_carry_a64.proofs.HeldLemmas.{put-same, put-other}
 use Rattle.lg_carry_a64.proofs.NumberCodeLemmas.{numbers-are-loaded}
 use Rattle.lg_sel_nodes.specs.Leaps.{IsThere, second_word}
-use Rattle.lg_sel_nodes.specs.Stretches.{StandsAt, behind, Way}
+use Rattle.lg_sel_nodes.specs.Stretches.{StandsAt, behind, PassesIn, Way}
 use Rattle.lg_sel_nodes.proofs.StretchLemmas.{passages-join}
 use Rattle.lg_sel_values.specs.Computers.{Held}
 use Rattle.lg_sel_values.proofs.ComputationLemmas.{RunsThrough}
 use Rattle.lg_sel_control.proofs.ChainLemmas.{pc-next, runs-there}
 use Rattle.lg_sel_control.proofs.StretchLemmas.{aligned}
 use Rattle.lg_sela_items.specs.Items.{words_between}
+use Rattle.lg_sel_items.specs.declared.reach.Reach.{Reach}
+use Rattle.lg_sel_items.specs.declared.reach.Reach.TheVariants.{Short, Near, Far}
+use Rattle.lg_sela_control.specs.Branches.{turned}
 use Rattle.lg_sela_control.specs.ControlItems.{second_register}
-use Rattle.lg_sela_control.specs.TwoWays.{branch_if, second_code}
+use Rattle.lg_sela_control.specs.TwoWays.{leads_if, branch_if, second_code}
 use Rattle.lg_sela_control.proofs.ComputedLemmas.{same-bytes, holds-seen}
 use Rattle.lg_sela_control.proofs.StretchLemmas.{one-passed, front-high, front-runs, front-passed, front-behind}
 use Rattle.lg_sela_control.proofs.WalkLemmas.{leads-there}
@@ -88,48 +94,86 @@ second-made (operand.Slot k) y w e lt = cc
 off-link : (x : ℕ) → a64_scratch x ≡ false → x ≢ link
 off-link x e = λ z. absurd (grind (arith, e, z))
 
+twice : (b : Bool) → not (not b) ≡ b
+twice true = refl
+twice false = refl
+
+turned-holds : (c : Cond) (f : Flags) → holds (turned c) f ≡ not (holds c f)
+turned-holds cond.Eq f = refl
+turned-holds cond.Ne f = sym (twice (holds cond.Eq f))
+turned-holds cond.Cs f = refl
+turned-holds cond.Cc f = sym (twice (holds cond.Cs f))
+turned-holds cond.Mi f = refl
+turned-holds cond.Pl f = sym (twice (holds cond.Mi f))
+turned-holds cond.Vs f = refl
+turned-holds cond.Vc f = sym (twice (holds cond.Vs f))
+turned-holds cond.Hi f = refl
+turned-holds cond.Ls f = sym (twice (holds cond.Hi f))
+turned-holds cond.Ge f = sym (twice (holds cond.Lt f))
+turned-holds cond.Lt f = refl
+turned-holds cond.Gt f = refl
+turned-holds cond.Le f = sym (twice (holds cond.Gt f))
+
+-- two words on
+two-on : (pc : ℕ) → pc < 2 ^ 62 → away pc (word_of (pos 2)) ≡ pc + 8
+two-on pc h = grind (arith, h)
+
 -- ---- the branch, where what stands before it computes
 module _ (code : List ℕ) (trash : ℕ) (small : length code ≤ most_code) (bytes : AreBytes code) (word : trash < 2 ^ 64)
-    (front : List Instr) (c : Cond) (from to : ℕ) (q : Run CpuState) (k : StandsAt (a64_rows code trash) IsInstr from (branch_if front c from to))
+    (front back : List Instr) (c : Cond) (from to : ℕ) (q : Run CpuState) (k : StandsAt (a64_rows code trash) IsInstr from (front ++ back)) (more : 0 < length back)
     (all : all_compute front ≡ true) (few : length front ≤ 60) (runs : status_of q.progress ≡ Running) (at : q.state.pc ≡ from) (goes-there : Bool)
     (there : goes-there ≡ true → IsThere (a64_rows code trash).is_place to)
-    (next : IsThere (a64_rows code trash).is_place (behind (a64_rows code trash) from (branch_if front c from to)))
+    (next : IsThere (a64_rows code trash).is_place (behind (a64_rows code trash) from (front ++ back)))
     (taken : holds c (computed front (holding q.state.registers (nzcv q.state.flags))).flags ≡ goes-there)
     (W : ℕ → ℕ) (kept : (z : ℕ) → z ≢ link → (computed front (holding q.state.registers (nzcv q.state.flags))).registers z ≡ W z) where
-  abbrev branch : Instr
-  branch = instr.BranchIf c (words_between (from + 4 * length front) to)
+  abbrev start : ℕ
+  start = from + 4 * length front
 
   abbrev high : ℕ
-  high = behind (a64_rows code trash) from (branch_if front c from to)
+  high = behind (a64_rows code trash) from (front ++ back)
 
-  size : high ≡ from + 4 * length front + 4
-  size = let l = spellings-long (branch_if front c from to) in let m = length-append front (branch ∷ []) in omega (arith, l, m)
+  size : high ≡ start + 4 * length back
+  size = let l = spellings-long (front ++ back) in let m = length-append front back in omega (arith, l, m)
 
-  top : from + 4 * length front + 4 ≤ code_base + most_code
-  top = front-high code trash small bytes word from front (branch ∷ []) q k (omega arith) all runs at
+  top : start + 4 * length back ≤ code_base + most_code
+  top = front-high code trash small bytes word from front back q k more all runs at
 
   abbrev r : Run CpuState
   r = done a64_does front q
 
   ran : RunsThrough (a64_computer code trash) front q
-  ran = front-runs code trash small bytes word from front (branch ∷ []) q k (omega arith) all runs at
+  ran = front-runs code trash small bytes word from front back q k more all runs at
 
-  here : r.state.pc ≡ from + 4 * length front
-  here = front-behind code trash small bytes word from front (branch ∷ []) q k (omega arith) all runs at
+  here : r.state.pc ≡ start
+  here = front-behind code trash small bytes word from front back q k more all runs at
+
+  even : start % 4 ≡ 0
+  even = let e = aligned from k.place in omega (arith, e)
 
   -- what the branch reads
   reads : holds c r.state.flags ≡ goes-there
   reads = holds-seen c r.state.flags ∙ ap (λ h. holds c h.flags) ran.holds ∙ taken
 
-  -- where it leads
-  leads : (target : ℕ) → code_base ≤ target → act branch r.state ≡ goes_on r.state target → Way (a64_processor code trash) a64_scratch from high W target q
-  leads target low does =
+  turned-reads : holds (turned c) r.state.flags ≡ not goes-there
+  turned-reads = turned-holds c r.state.flags ∙ ap not reads
+
+  -- one instruction behind those that compute is passed
+  passes-join-one : (x : Instr) (rest : List Instr) → back ≡ x ∷ rest → (e : Effect CpuState) → act x r.state ≡ e
+      → PassesIn (a64_processor code trash) from high (length front + 1) q (after r e)
+  passes-join-one x rest is e does =
+      passages-join (a64_processor code trash) from high (length front) 1 q r (after r e)
+      (front-passed code trash small bytes word from front back q k more all runs at)
+      (subst (λ z. PassesIn (a64_processor code trash) from (behind (a64_rows code trash) from (front ++ z)) 1 r (after r e)) (sym is)
+      (one-passed code trash small bytes word from front x rest r e (subst (λ z. StandsAt (a64_rows code trash) IsInstr from (front ++ z)) is k) ran.runs here does))
+
+  -- one instruction behind those that compute leads somewhere
+  one-leads : (x : Instr) (rest : List Instr) (target : ℕ) → back ≡ x ∷ rest → code_base ≤ target → act x r.state ≡ goes_on r.state target
+      → Way (a64_processor code trash) a64_scratch from high W target q
+  one-leads x rest target is low does =
       let e : Effect CpuState = goes_on r.state target in record {
         end = after r e;
         steps = length front + 1;
-        passes = passages-join (a64_processor code trash) from high (length front) 1 q r (after r e)
-            (front-passed code trash small bytes word from front (branch ∷ []) q k (omega arith) all runs at)
-            (one-passed code trash small bytes word from front branch [] r e k ran.runs here does);
+        passes = passes-join-one x rest is e does;
         few = omega (arith, few);
         some = omega arith;
         runs = runs-there target low;
@@ -139,22 +183,97 @@ module _ (code : List ℕ) (trash : ℕ) (small : length code ≤ most_code) (by
         mark = ran.mark;
       }
 
-  abbrev goes-to : Bool → ℕ
-  goes-to b = if b then away r.state.pc (word_of (words_between (from + 4 * length front) to)) else add_words r.state.pc 4
-
-  pub two-ways : Way (a64_processor code trash) a64_scratch from high W (if goes-there then to else high) q
-  two-ways = by goes-there refl
+  either-way : (goes-there ≡ true → Way (a64_processor code trash) a64_scratch from high W to q) → (goes-there ≡ false → Way (a64_processor code trash) a64_scratch from high W high q)
+      → Way (a64_processor code trash) a64_scratch from high W (if goes-there then to else high) q
+  either-way leapt stayed = by goes-there refl
     where
-      even : (from + 4 * length front) % 4 ≡ 0
-      even = let e = aligned from k.place in omega (arith, e)
-
       by : (b : Bool) → goes-there ≡ b → Way (a64_processor code trash) a64_scratch from high W (if goes-there then to else high) q
-      by true e =
-          let t = there e in let h = t.high in
-          subst (λ z. Way (a64_processor code trash) a64_scratch from high W z q) (sym (ap (λ b. if b then to else high) e))
-          (leads to t.low (ap (λ b. goes_on r.state (goes-to b)) (reads ∙ e) ∙ ap (goes_on r.state)
-          (leads-there r.state.pc (from + 4 * length front) to here (omega (arith, top)) (omega (arith, h)) even (aligned to t.place))))
-      by false e =
-          subst (λ z. Way (a64_processor code trash) a64_scratch from high W z q) (sym (ap (λ b. if b then to else high) e))
-          (leads high next.low (ap (λ b. goes_on r.state (goes-to b)) (reads ∙ e) ∙ ap (goes_on r.state)
-          (pc-next r.state.pc (omega (arith, here, top)) ∙ omega (arith, here, size))))
+      by true e = subst (λ z. Way (a64_processor code trash) a64_scratch from high W z q) (sym (ap (λ b. if b then to else high) e)) (leapt e)
+      by false e = subst (λ z. Way (a64_processor code trash) a64_scratch from high W z q) (sym (ap (λ b. if b then to else high) e)) (stayed e)
+
+  -- where a branch leads
+  abbrev goes-to : ℤ → Bool → ℕ
+  goes-to n b = if b then away r.state.pc (word_of n) else add_words r.state.pc 4
+
+  -- ---- a branch
+  module _ (is : back ≡ instr.BranchIf c (words_between start to) ∷ []) where
+    near-long : length back ≡ 1
+    near-long = ap length is
+
+    pub near-ways : Way (a64_processor code trash) a64_scratch from high W (if goes-there then to else high) q
+    near-ways = either-way
+        (λ e. let t = there e in let h = t.high in
+        one-leads (instr.BranchIf c (words_between start to)) [] to is t.low (ap (λ b. goes_on r.state (goes-to (words_between start to) b)) (reads ∙ e) ∙ ap (goes_on r.state)
+        (leads-there r.state.pc start to here (omega (arith, top)) (omega (arith, h)) even (aligned to t.place))))
+        (λ e. one-leads (instr.BranchIf c (words_between start to)) [] high is next.low (ap (λ b. goes_on r.state (goes-to (words_between start to) b)) (reads ∙ e)
+        ∙ ap (goes_on r.state) (pc-next r.state.pc (omega (arith, here, top, near-long)) ∙ omega (arith, here, size, near-long))))
+
+  -- ---- the turned branch over one without a condition
+  module _ (is : back ≡ leads_if Far c start to) where
+    abbrev skip : Instr
+    skip = instr.BranchIf (turned c) (pos 2)
+
+    abbrev leap : Instr
+    leap = instr.Branch B (words_between (start + 4) to)
+
+    far-long : length back ≡ 2
+    far-long = ap length is
+
+    abbrev r1 : Run CpuState
+    r1 = after r (goes_on r.state (add_words r.state.pc 4))
+
+    here1 : r1.state.pc ≡ start + 4
+    here1 = pc-next r.state.pc (omega (arith, here, top, far-long)) ∙ omega (arith, here)
+
+    runs1 : status_of r1.progress ≡ Running
+    runs1 = let low = k.low in ap (λ p. status_of (arrived p)) here1 ∙ runs-there (start + 4) (omega (arith, low))
+
+    split : front ++ back ≡ (front ++ (skip ∷ [])) ++ (leap ∷ [])
+    split = ap (λ z. front ++ z) is ∙ sym (append_assoc front (skip ∷ []) (leap ∷ []))
+
+    leapt : goes-there ≡ true → Way (a64_processor code trash) a64_scratch from high W to q
+    leapt e =
+        let t = there e in let h = t.high in
+        let long : length (front ++ (skip ∷ [])) ≡ length front + 1 = length-append front (skip ∷ []) in
+        let does1 : act skip r.state ≡ goes_on r.state (add_words r.state.pc 4) = ap (λ b. goes_on r.state (goes-to (pos 2) b)) (turned-reads ∙ ap not e) in
+        let does2 : act leap r1.state ≡ goes_on r1.state to = ap (goes_on r1.state)
+        (leads-there r1.state.pc (start + 4) to here1 (omega (arith, top)) (omega (arith, h)) (omega (arith, even)) (aligned to t.place)) in
+        let k' : StandsAt (a64_rows code trash) IsInstr from ((front ++ (skip ∷ [])) ++ (leap ∷ [])) = subst (StandsAt (a64_rows code trash) IsInstr from) split k in
+        let last : PassesIn (a64_processor code trash) from high 1 r1 (after r1 (goes_on r1.state to)) =
+        subst (λ z. PassesIn (a64_processor code trash) from (behind (a64_rows code trash) from z) 1 r1 (after r1 (goes_on r1.state to))) (sym split)
+        (one-passed code trash small bytes word from (front ++ (skip ∷ [])) leap [] r1 (goes_on r1.state to) k' runs1 (omega (arith, here1, long)) does2) in
+        record {
+          end = after r1 (goes_on r1.state to);
+          steps = length front + 1 + 1;
+          passes = passages-join (a64_processor code trash) from high (length front + 1) 1 q r1 (after r1 (goes_on r1.state to))
+              (passes-join-one skip (leap ∷ []) is (goes_on r.state (add_words r.state.pc 4)) does1) last;
+          few = omega (arith, few);
+          some = omega arith;
+          runs = runs-there to t.low;
+          here = refl;
+          registers = λ z off no. ap (λ h. h.registers z) ran.holds ∙ kept z (off-link z off);
+          bytes = same-bytes r.state.bytes q.state.bytes ran.bytes;
+          mark = ran.mark;
+        }
+
+    pub far-ways : Way (a64_processor code trash) a64_scratch from high W (if goes-there then to else high) q
+    far-ways = either-way leapt
+        (λ e. one-leads skip (leap ∷ []) high is next.low (ap (λ b. goes_on r.state (goes-to (pos 2) b)) (turned-reads ∙ ap not e)
+        ∙ ap (goes_on r.state) (two-on r.state.pc (omega (arith, here, top)) ∙ omega (arith, here, size, far-long))))
+
+-- ---- whatever the reach
+pub two-ways : (r : Reach) (code : List ℕ) (trash : ℕ) → length code ≤ most_code → AreBytes code → trash < 2 ^ 64
+    → (front : List Instr) (c : Cond) (from to : ℕ) (q : Run CpuState) → StandsAt (a64_rows code trash) IsInstr from (branch_if r front c from to)
+    → all_compute front ≡ true → length front ≤ 60 → status_of q.progress ≡ Running → q.state.pc ≡ from → (goes-there : Bool)
+    → (goes-there ≡ true → IsThere (a64_rows code trash).is_place to)
+    → IsThere (a64_rows code trash).is_place (behind (a64_rows code trash) from (branch_if r front c from to))
+    → holds c (computed front (holding q.state.registers (nzcv q.state.flags))).flags ≡ goes-there
+    → (W : ℕ → ℕ) → ((z : ℕ) → z ≢ link → (computed front (holding q.state.registers (nzcv q.state.flags))).registers z ≡ W z)
+    → Way (a64_processor code trash) a64_scratch from (behind (a64_rows code trash) from (branch_if r front c from to)) W
+    (if goes-there then to else behind (a64_rows code trash) from (branch_if r front c from to)) q
+two-ways Short code trash small bytes word front c from to q k all few runs at goes-there there next taken W kept =
+    near-ways code trash small bytes word front (leads_if Short c (from + 4 * length front) to) c from to q k (omega arith) all few runs at goes-there there next taken W kept refl
+two-ways Near code trash small bytes word front c from to q k all few runs at goes-there there next taken W kept =
+    near-ways code trash small bytes word front (leads_if Near c (from + 4 * length front) to) c from to q k (omega arith) all few runs at goes-there there next taken W kept refl
+two-ways Far code trash small bytes word front c from to q k all few runs at goes-there there next taken W kept =
+    far-ways code trash small bytes word front (leads_if Far c (from + 4 * length front) to) c from to q k (omega arith) all few runs at goes-there there next taken W kept refl

@@ -15,11 +15,13 @@ use Rattle.lg_op.specs.declared.op.Op.{Op}
 use Rattle.lg_op.specs.declared.op.Op.TheVariants as op
 use Rattle.lg_op.specs.declared.op.PlainOp.{PlainOp}
 use Rattle.lg_op.specs.declared.op.PlainOp.TheVariants as plain
+use Rattle.lg_op.specs.declared.operand.Label.{Label}
 use Rattle.lg_op.specs.declared.operand.Operand.{Operand}
 use Rattle.lg_op.specs.declared.operand.Operand.TheVariants as operand
 use Rattle.lg_a64.specs.declared.instruction.BranchRegOp.{BranchRegOp}
 use Rattle.lg_a64.specs.declared.instruction.BranchRegOp.TheVariants.{Br, Blr, Ret}
 use Rattle.lg_a64.specs.declared.instruction.ImmOp.TheVariants.{Subi}
+use Rattle.lg_a64.specs.declared.instruction.Cond.{Cond}
 use Rattle.lg_a64.specs.declared.instruction.Instr.TheVariants as instr
 use Rattle.lg_temp.specs.Abis.{register_of}
 use Rattle.lg_carry_a64.specs.A64Rows.{frame_pointer, stack_pointer, link}
@@ -28,10 +30,12 @@ use Rattle.lg_carry_a64.specs.Numbers.{number_code}
 use Rattle.lg_sel_nodes.specs.Immediates.{immediate}
 use Rattle.lg_sela_items.specs.Items.{ones, StayWithin}
 use Rattle.lg_sela_items.proofs.WithinLemmas.{In, portable, Within, join, stay-append, stay-ones, number}
+use Rattle.lg_sel_items.specs.declared.reach.Reach.{Reach}
+use Rattle.lg_sel_items.specs.declared.reach.Reach.TheVariants.{Short, Near, Far}
 use Rattle.lg_sela_control.specs.Alignments.{padding, idle, align_code}
 use Rattle.lg_sela_control.specs.Branches.{comparison}
 use Rattle.lg_sela_control.specs.ControlFits.{ControlItemsStay}
-use Rattle.lg_sela_control.specs.ControlItems.{second_register, word_items, second_items, branch_items, sum_items, jump_items, call_items, result_items, ret_items}
+use Rattle.lg_sela_control.specs.ControlItems.{second_register, word_items, second_items, leads_items, branch_items, sum_items, jump_items, call_items, result_items, ret_items}
 use Rattle.lg_sela_control.specs.ControlItems.{register_leap_items, leap_items, align_items, plain_items, control_items}
 use Rattle.lg_sela_control.specs.Prologs.{stored_registers, stores_below, fall_code, prolog_code}
 use Rattle.lg_sela_control.specs.Returns.{result, return_code}
@@ -67,15 +71,20 @@ added sum.FitAddU a b h = h
 added sum.FitSub a b h = h
 added sum.FitSubU a b h = h
 
-branched : (o : Condition) (xs : List Operand) → StayWithin (branch_items o xs)
-branched o (operand.Label l ∷ operand.Reg a ∷ x ∷ []) =
-    stay-append (second_items x) _ (second x) (compared o (register_of Aarch64 a) (second_register x), (tt, tt))
-branched o xs = tt
+leads : (r : Reach) (c : Cond) (l : Label) → StayWithin (leads_items r c l)
+leads Short c l = (tt, tt)
+leads Near c l = (tt, tt)
+leads Far c l = (tt, (tt, tt))
 
-summed : (o : BranchSumOp) (xs : List Operand) → StayWithin (sum_items o xs)
-summed o (operand.Label l ∷ operand.Reg a ∷ x ∷ []) =
-    stay-append (second_items x) _ (second x) (added o (register_of Aarch64 a) (second_register x) (portable a), (tt, tt))
-summed o xs = tt
+branched : (r : Reach) (o : Condition) (xs : List Operand) → StayWithin (branch_items r o xs)
+branched r o (operand.Label l ∷ operand.Reg a ∷ x ∷ []) =
+    stay-append (second_items x) _ (second x) (compared o (register_of Aarch64 a) (second_register x), leads r _ l)
+branched r o xs = tt
+
+summed : (r : Reach) (o : BranchSumOp) (xs : List Operand) → StayWithin (sum_items r o xs)
+summed r o (operand.Label l ∷ operand.Reg a ∷ x ∷ []) =
+    stay-append (second_items x) _ (second x) (added o (register_of Aarch64 a) (second_register x) (portable a), leads r _ l)
+summed r o xs = tt
 
 jumped : (xs : List Operand) → StayWithin (jump_items xs)
 jumped (operand.Label l ∷ []) = (tt, tt)
@@ -142,12 +151,12 @@ plainly plain.Ret xs frame at = returns
 plainly plain.Align xs frame at = aligned at xs
 plainly o xs frame at = tt
 
-stay : (o : Op) (xs : List Operand) (frame at : ℕ) → StayWithin (control_items o xs frame at)
-stay (op.Branch o last) xs frame at = branched o xs
-stay (op.BranchSum o last) xs frame at = summed o xs
-stay (op.Control o last) xs frame at = leaps o last xs
-stay (op.Plain o) xs frame at = plainly o xs frame at
-stay o xs frame at = tt
+stay : (r : Reach) (o : Op) (xs : List Operand) (frame at : ℕ) → StayWithin (control_items r o xs frame at)
+stay r (op.Branch o last) xs frame at = branched r o xs
+stay r (op.BranchSum o last) xs frame at = summed r o xs
+stay r (op.Control o last) xs frame at = leaps o last xs
+stay r (op.Plain o) xs frame at = plainly o xs frame at
+stay r o xs frame at = tt
 
 pub control-items-stay : ControlItemsStay
-control-items-stay n frame at = stay n.op n.operands frame at
+control-items-stay r n frame at = stay r n.op n.operands frame at

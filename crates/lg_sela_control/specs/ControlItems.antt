@@ -1,5 +1,5 @@
 -- The items of the nodes that branch, jump, call and return, of `prolog`, of `.align`, and of those without code.
-use Rattle.std.specs.Prelude.{ℕ, Bool, List, [], ◌∷◌, ◌++◌, Option, Some, None}
+use Rattle.std.specs.Prelude.{ℕ, Bool, pos, List, [], ◌∷◌, ◌++◌, Option, Some, None}
 use Rattle.lg_base.specs.declared.target.Target.TheVariants.{Aarch64}
 use Rattle.lg_op.specs.declared.op.BranchSumOp.{BranchSumOp}
 use Rattle.lg_op.specs.declared.op.Condition.{Condition}
@@ -24,11 +24,13 @@ use Rattle.lg_a64.specs.declared.instruction.RegOp.TheVariants.{Orr}
 use Rattle.lg_temp.specs.Abis.{register_of}
 use Rattle.lg_carry_a64.specs.A64Rows.{zero_register, link}
 use Rattle.lg_carry_a64.specs.Numbers.{number_code}
+use Rattle.lg_sel_items.specs.declared.reach.Reach.{Reach}
+use Rattle.lg_sel_items.specs.declared.reach.Reach.TheVariants.{Far}
 use Rattle.lg_sela_items.specs.declared.items.Item.{Item}
 use Rattle.lg_sela_items.specs.declared.items.Item.TheVariants.{One, Branch, CondBranch, Address}
 use Rattle.lg_sela_items.specs.Items.{ones}
 use Rattle.lg_sela_control.specs.Alignments.{align_code}
-use Rattle.lg_sela_control.specs.Branches.{comparison, taken}
+use Rattle.lg_sela_control.specs.Branches.{comparison, taken, turned}
 use Rattle.lg_sel_control.specs.Control as target_control
 use Rattle.lg_sel_nodes.specs.Immediates.{immediate}
 use Rattle.lg_sela_control.specs.Prologs.{prolog_code}
@@ -51,19 +53,24 @@ second_items (operand.Reg b) = []
 second_items x = word_items link (immediate x)
 
 -- ---- branches
--- an instruction that sets the flags, and a branch to a label where the condition then holds
-abbrev pub branch_if_items : Instr → Cond → Label → List Item
-branch_if_items sets holds l = One sets ∷ CondBranch holds l.0 ∷ []
+-- to a label where the condition holds
+abbrev pub leads_items : Reach → Cond → Label → List Item
+leads_items Far holds l = One (instr.BranchIf (turned holds) (pos 2)) ∷ Branch B l.0 ∷ []
+leads_items r holds l = CondBranch holds l.0 ∷ []
 
-abbrev pub branch_items : Condition → List Operand → List Item
-branch_items o (operand.Label l ∷ operand.Reg a ∷ x ∷ []) =
-    second_items x ++ branch_if_items (comparison o (register_of Aarch64 a) (second_register x)) (taken o) l
-branch_items o xs = []
+-- behind an instruction that sets the flags
+abbrev pub branch_if_items : Reach → Instr → Cond → Label → List Item
+branch_if_items r sets holds l = One sets ∷ leads_items r holds l
 
-abbrev pub sum_items : BranchSumOp → List Operand → List Item
-sum_items o (operand.Label l ∷ operand.Reg a ∷ x ∷ []) =
-    second_items x ++ branch_if_items (sum_instruction o (register_of Aarch64 a) (second_register x)) (sum_taken o) l
-sum_items o xs = []
+abbrev pub branch_items : Reach → Condition → List Operand → List Item
+branch_items r o (operand.Label l ∷ operand.Reg a ∷ x ∷ []) =
+    second_items x ++ branch_if_items r (comparison o (register_of Aarch64 a) (second_register x)) (taken o) l
+branch_items r o xs = []
+
+abbrev pub sum_items : Reach → BranchSumOp → List Operand → List Item
+sum_items r o (operand.Label l ∷ operand.Reg a ∷ x ∷ []) =
+    second_items x ++ branch_if_items r (sum_instruction o (register_of Aarch64 a) (second_register x)) (sum_taken o) l
+sum_items r o xs = []
 
 -- ---- jumps, calls and returns
 abbrev pub jump_items : List Operand → List Item
@@ -112,13 +119,13 @@ plain_items plain.Ret xs frame at = ones return_code
 plain_items plain.Align xs frame at = align_items at xs
 plain_items o xs frame at = []
 
--- ---- of a node in a function with a frame of so many bytes, whose code begins at an address
-abbrev pub control_items : Op → List Operand → ℕ → ℕ → List Item
-control_items (op.Branch o last) xs frame at = branch_items o xs
-control_items (op.BranchSum o last) xs frame at = sum_items o xs
-control_items (op.Control o last) xs frame at = leap_items o last xs
-control_items (op.Plain o) xs frame at = plain_items o xs frame at
-control_items o xs frame at = []
+-- ---- of a node in a function with a frame of so many bytes, whose code begins at an address and has a reach
+abbrev pub control_items : Reach → Op → List Operand → ℕ → ℕ → List Item
+control_items r (op.Branch o last) xs frame at = branch_items r o xs
+control_items r (op.BranchSum o last) xs frame at = sum_items r o xs
+control_items r (op.Control o last) xs frame at = leap_items o last xs
+control_items r (op.Plain o) xs frame at = plain_items o xs frame at
+control_items r o xs frame at = []
 
 -- the operations whose nodes have these items
 abbrev pub is_control : Op → Bool

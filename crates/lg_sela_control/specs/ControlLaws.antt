@@ -6,6 +6,7 @@ use Rattle.lg_carry.specs.FinalNodes.{Code}
 use Rattle.lg_carry.specs.NodeCode.{CarriesNode}
 use Rattle.lg_carry.specs.TextNodes.{IsInText, IsFrameOf, HasPlaces}
 use Rattle.lg_carry_a64.specs.A64Rows.{a64_processor}
+use Rattle.lg_sel_items.specs.declared.reach.Reach.{Reach}
 use Rattle.lg_sela_items.specs.Items.{settled}
 use Rattle.lg_sela_values.specs.ValueLaws.{AreWords}
 use Rattle.lg_sela_control.specs.Standing.{StandsInCode}
@@ -18,7 +19,7 @@ ends_in_label xs = target_control.ends_in_label xs
 
 abbrev pub ControlNodesCarry : Type 0
 ControlNodesCarry =
-    (code : List ℕ) (trash : ℕ) (c : Code) (i : ℕ) (n : Node) (frame : ℕ) (S : ℕ → Bool) → is_control n.op ≡ true → HasPlaces 4 c → AreWords c.addresses n.operands
+    (r : Reach) (code : List ℕ) (trash : ℕ) (c : Code) (i : ℕ) (n : Node) (frame : ℕ) (S : ℕ → Bool) → is_control n.op ≡ true → HasPlaces 4 c → AreWords c.addresses n.operands
     → ends_in_label n.operands ≡ false → IsFrameOf c i frame → IsInText c i n
-    → StandsInCode code trash c i (settled (slice_index c.addresses) (c.place i) (control_items n.op n.operands frame (c.place i)))
+    → StandsInCode code trash c i (settled (slice_index c.addresses) (c.place i) (control_items r n.op n.operands frame (c.place i)))
     → CarriesNode (a64_processor code trash) c i n S

@@ -8,7 +8,7 @@ ghost use Rattle.lg_sela_items.specs.Items.{a64_holes, IsItem, NamesOneOf, has_w
 use crate::items::Item;
 use crate::rows::wide;
 use lg_a64::{Instr, WideOp, encode};
-use lg_buf::{CodeBuf, FixKind, Label32};
+use lg_buf::{Fix, FixKind, Label32};
 use smallvec::SmallVec;
 
 // The bytes of one node.
@@ -66,14 +66,17 @@ impl lg_sel_items::Item for Item {
         }
     }
 
-    fn fix(&self, place: u32, buf: &mut CodeBuf) {
-        match *self {
-            Item::One(_) => {}
-            Item::Branch { op: _, label } => buf.fix(place, FixKind::A64Branch26, Label32(label)),
-            Item::CondBranch { cond: _, label } => {
-                buf.fix(place, FixKind::A64Cond19, Label32(label))
-            }
-            Item::Address { rd: _, label } => buf.fix(place, FixKind::A64MovPair, Label32(label)),
-        }
+    fn fix(&self, place: u32) -> Option<Fix> {
+        let (kind, label) = match *self {
+            Item::One(_) => return None,
+            Item::Branch { op: _, label } => (FixKind::A64Branch26, label),
+            Item::CondBranch { cond: _, label } => (FixKind::A64Cond19, label),
+            Item::Address { rd: _, label } => (FixKind::A64MovPair, label),
+        };
+        Some(Fix {
+            place,
+            kind,
+            label: Label32(label),
+        })
     }
 }

@@ -60,7 +60,7 @@ module _ (code : List ℕ) (trash : ℕ) (t : ValueType) (s : Seen) (rd a v fp :
       let x = instr.Scaled (load_row t) rd link 0 in
       let h = sub_words (s.registers 29) (home_distance k) in
       let mid = seen_behind M (y ∷ []) s in
-      behind-computed M (is-computer code trash) (y ∷ []) (x ∷ []) s (with_register s.registers rd (typed t v)) s.bytes s.flags fp (spoils a64_scratch []) refl
+      behind-computed M (is-computer code trash) (y ∷ []) (x ∷ []) s (with_register s.registers rd (typed t v)) s.bytes s.flags fp 0 (spoils a64_scratch []) (omega arith) refl
       (told (a64_rows code trash) mid (with_register mid.registers rd (typed t v)) (with_register s.registers rd (typed t v)) s.bytes s.bytes mid.flags s.flags (x ∷ []) fp 0 (spoils a64_scratch [])
       (λ r free. ap (λ z. if r == rd then typed t v else z) (put-other s.registers link h r (off-scratch r free))) (λ r off. refl) same
       (load-does code trash t mid rd link 0 a v fp (spoils a64_scratch []) small (ap (λ z. add_words z (0 * width t)) (put-same s.registers link h ∙ at) ∙ none-behind (width t) a low) readable lt))

@@ -53,7 +53,7 @@ load-does code trash t s rd base count a v fp T small at readable lt = access-do
     })
 
 pub loads-do : (code : List ℕ) (trash : ℕ) → LoadsDo (a64_rows code trash) a64_scratch a64_load
-loads-do code trash frame t d at q a v named ok f address even readable lt =
+loads-do code trash frame t d at q a v named ok f address end readable lt =
     let p = place_of (width t) at in
     let s = a64_seen q in
     let fp = s.registers 29 in
@@ -62,7 +62,7 @@ loads-do code trash frame t d at q a v named ok f address even readable lt =
     let x = instr.Scaled (load_row t) rd p.base p.count in
     let m = placed (width t) s.registers q.state.flags at ok f.seen.words in
     let mid = seen_behind M p.code s in
-    behind-computed M (is-computer code trash) p.code (x ∷ []) s (with_register s.registers rd (typed t v)) s.bytes s.flags fp (spoils a64_scratch []) m.computes
+    behind-computed M (is-computer code trash) p.code (x ∷ []) s (with_register s.registers rd (typed t v)) s.bytes s.flags fp 0 (spoils a64_scratch []) (omega arith) m.computes
     (told (a64_rows code trash) mid (with_register mid.registers rd (typed t v)) (with_register s.registers rd (typed t v)) s.bytes s.bytes mid.flags s.flags (x ∷ []) fp 0 (spoils a64_scratch [])
     (λ y free. ap (λ z. if y == rd then typed t v else z) (m.keeps y (off-scratch y free))) (λ y off. refl) m.flags
     (load-does code trash t mid rd p.base p.count a v fp (spoils a64_scratch []) (let h = register-small d in omega (arith, h)) (m.makes ∙ address) readable lt))

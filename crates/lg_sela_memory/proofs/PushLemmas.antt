@@ -100,7 +100,7 @@ module _ (code : List ℕ) (trash : ℕ) (q : Run CpuState) (fp : ℕ) where
         let x = instr.Scaled Str64 from 31 (j - 8) in
         let mid = seen_behind M pre s in
         let B = stored s.bytes a 8 v in
-        behind-computed M (is-computer code trash) pre (x ∷ []) s w B s.flags fp (spoils a64_scratch []) p.computes
+        behind-computed M (is-computer code trash) pre (x ∷ []) s w B s.flags fp 0 (spoils a64_scratch []) (omega arith) p.computes
         (told (a64_rows code trash) mid mid.registers w B B mid.flags s.flags (x ∷ []) fp 0 (spoils a64_scratch []) (λ y free. p.keeps y (off-scratch y free)) (λ y off. refl) p.flags
         (store-does code trash store_type.Long mid 31 from (j - 8) a v fp (spoils a64_scratch []) small (ap (λ z. add_words z ((j - 8) * 8)) (p.keeps 31 (λ z. absurd (omega (arith, z)))) ∙ address) p.holds writable))
 

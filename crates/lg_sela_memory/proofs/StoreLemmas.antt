@@ -51,7 +51,7 @@ store-does code trash t s base from count a v fp T small at holds writable = acc
     })
 
 pub stores-do : (code : List ℕ) (trash : ℕ) → StoresDo (a64_rows code trash) a64_scratch a64_store
-stores-do code trash frame t at b q a ok f address even writable =
+stores-do code trash frame t at b q a ok f address end writable off =
     let p = place_of (store_width t) at in
     let s = a64_seen q in
     let fp = s.registers 29 in
@@ -61,7 +61,7 @@ stores-do code trash frame t at b q a ok f address even writable =
     let m = placed (store_width t) s.registers q.state.flags at ok f.seen.words in
     let mid = seen_behind M p.code s in
     let B = stored s.bytes a (store_width t) (s.registers rb) in
-    behind-computed M (is-computer code trash) p.code (x ∷ []) s s.registers B s.flags fp (spoils a64_scratch []) m.computes
+    behind-computed M (is-computer code trash) p.code (x ∷ []) s s.registers B s.flags fp 0 (spoils a64_scratch []) (omega arith) m.computes
     (told (a64_rows code trash) mid mid.registers s.registers B B mid.flags s.flags (x ∷ []) fp 0 (spoils a64_scratch [])
     (λ y free. m.keeps y (off-scratch y free)) (λ y off. refl) m.flags
     (store-does code trash t mid p.base rb p.count a (s.registers rb) fp (spoils a64_scratch []) (let h = register-small b in omega (arith, h)) (m.makes ∙ address) (m.keeps rb (register-off-link b)) writable))

@@ -43,9 +43,6 @@ pub given-where : (b : Bool) (n z : ℕ) → word_where b n ≡ Some z → (b �
 given-where true n z e = (refl, some-same n z e)
 given-where false n z e = cc
 
-below-64 : (n : ℕ) → nat_lt n 64 ≡ true → n % 64 ≡ n
-below-64 n h = grind (arith, h)
-
 pub otherwise : (b : Bool) (x y z : ℕ) → b ≡ false → y ≡ z → (if b then x else y) ≡ z
 otherwise true x y z h e = cc
 otherwise false x y z h e = e
@@ -103,9 +100,9 @@ module _ (d a b : ℕ) (dl : d < 31) (al : a < 30) (bl : b < 31) (w : Held) (xs 
   register-value binary.And z h p e = made (λ m n. reg_value row.And (known w.flags) m n) z (some-same _ z e)
   register-value binary.Or z h p e = made (λ m n. reg_value row.Orr (known w.flags) m n) z (some-same _ z e)
   register-value binary.Xor z h p e = made (λ m n. reg_value row.Eor (known w.flags) m n) z (some-same _ z e)
-  register-value binary.Lsh z h p e = let g = given-where (nat_lt y 64) (shifted_left x y) z e in made (λ m n. shifted_left m (n % 64)) z (ap (shifted_left x) (below-64 y g.0) ∙ g.1)
-  register-value binary.Rsh z h p e = let g = given-where (nat_lt y 64) (shifted_right_signed x y) z e in made (λ m n. shifted_right_signed m (n % 64)) z (ap (shifted_right_signed x) (below-64 y g.0) ∙ g.1)
-  register-value binary.RshU z h p e = let g = given-where (nat_lt y 64) (shifted_right x y) z e in made (λ m n. shifted_right m (n % 64)) z (ap (shifted_right x) (below-64 y g.0) ∙ g.1)
+  register-value binary.Lsh z h p e = made (λ m n. shifted_left m (n % 64)) z (some-same _ z e)
+  register-value binary.Rsh z h p e = made (λ m n. shifted_right_signed m (n % 64)) z (some-same _ z e)
+  register-value binary.RshU z h p e = made (λ m n. shifted_right m (n % 64)) z (some-same _ z e)
   register-value binary.Div z h p e = let g = given-where (divides x y) (quotient_signed x y) z e in made divided_signed z (otherwise (y == 0) 0 (quotient_signed x y) z (no-zero (y == 0) (is_least_by_minus_one x y) g.0) g.1)
   register-value binary.DivU z h p e = let g = given-where (not (y == 0)) (quotient x y) z e in made divided z (otherwise (y == 0) 0 (quotient x y) z (not-true (y == 0) g.0) g.1)
   register-value binary.Rem z h p e =

@@ -1,6 +1,6 @@
 -- The code of the operations on a register and a number.
 use Rattle.std.proofs.Common.{◌≡◌, ◌≢◌, ℕ, ◌-◌, ◌%◌, ◌^◌, ◌<◌, Bool, true, false, List, [], ◌∷◌, Some, refl, ap, ◌∙◌, arith}
-use Rattle.std.specs.Prelude.{nat_lt, if◌then◌else◌}
+use Rattle.std.specs.Prelude.{if◌then◌else◌}
 use Rattle.lg_base.specs.Words.{negated, shifted_left, shifted_right, shifted_right_signed}
 use Rattle.lg_op.specs.declared.op.BinaryOp.{BinaryOp}
 use Rattle.lg_op.specs.declared.op.BinaryOp.TheVariants as binary
@@ -17,7 +17,7 @@ use Rattle.lg_sel_values.specs.Computers.{Held}
 use Rattle.lg_carry_a64.specs.A64Rows.{link}
 use Rattle.lg_carry_a64.proofs.HeldLemmas.{read-is}
 use Rattle.lg_sela_values.specs.BinaryCode.{second_register, loaded_code, is_small, takes_small, small_code, takes_negative, negative_code, negative_form_code, small_form_code, number_form_code}
-use Rattle.lg_sela_values.proofs.BinaryCodeLemmas.{IsApartFor, write-same, write-other, given-where}
+use Rattle.lg_sela_values.proofs.BinaryCodeLemmas.{IsApartFor, write-same, write-other, some-same}
 use Rattle.lg_sela_values.proofs.LoadCodeLemmas.{loads-number}
 use Rattle.lg_sela_values.proofs.MadeLemmas.{Makes, loaded-makes}
 use Rattle.lg_sela_values.proofs.ShiftLemmas.{left-is, right-is, right-signed-is}
@@ -46,20 +46,23 @@ shift-makes o op d a v immr imms dl al plain is = record {
   carried = λ w k bit words carries e h. absurd (plain carries);
 }
 
-few : (v : ℕ) → nat_lt v 64 ≡ true → v < 64
-few v h = grind (arith, h)
+few : (v : ℕ) → v % 64 < 64
+few v = omega arith
+
+twice : (v : ℕ) → v % 64 ≡ v % 64 % 64
+twice v = omega arith
 
 left-makes : (d a v : ℕ) → d < 31 → a < 31 → Makes binary.Lsh d a (λ w. v) [] (Bitfield Ubfm d a ((64 - v % 64) % 64) (63 - v % 64) ∷ [])
 left-makes d a v dl al = shift-makes binary.Lsh Ubfm d a v ((64 - v % 64) % 64) (63 - v % 64) dl al (λ e. cc)
-    (λ x z small e. let g = given-where (nat_lt v 64) (shifted_left x v) z e in left-is x v (few v g.0) ∙ g.1)
+    (λ x z small e. ap (λ n. bitfield_value Ubfm x ((64 - n) % 64) (63 - n)) (twice v) ∙ left-is x (v % 64) (few v) ∙ some-same _ z e)
 
 right-makes : (d a v : ℕ) → d < 31 → a < 31 → Makes binary.RshU d a (λ w. v) [] (Bitfield Ubfm d a (v % 64) 63 ∷ [])
 right-makes d a v dl al = shift-makes binary.RshU Ubfm d a v (v % 64) 63 dl al (λ e. cc)
-    (λ x z small e. let g = given-where (nat_lt v 64) (shifted_right x v) z e in right-is x v small (few v g.0) ∙ g.1)
+    (λ x z small e. ap (λ n. bitfield_value Ubfm x n 63) (twice v) ∙ right-is x (v % 64) small (few v) ∙ some-same _ z e)
 
 right-signed-makes : (d a v : ℕ) → d < 31 → a < 31 → Makes binary.Rsh d a (λ w. v) [] (Bitfield Sbfm d a (v % 64) 63 ∷ [])
 right-signed-makes d a v dl al = shift-makes binary.Rsh Sbfm d a v (v % 64) 63 dl al (λ e. cc)
-    (λ x z small e. let g = given-where (nat_lt v 64) (shifted_right_signed x v) z e in right-signed-is x v small (few v g.0) ∙ g.1)
+    (λ x z small e. ap (λ n. bitfield_value Sbfm x n 63) (twice v) ∙ right-signed-is x (v % 64) small (few v) ∙ some-same _ z e)
 
 -- ---- every operation
 module _ (u d a v : ℕ) (dl : d < 31) (al : a < 30) (small : v < 2 ^ 64) (choices : List Choice) where

@@ -29,11 +29,13 @@ use Rattle.lg_sel.proofs.LabelLemmas.{Passes, AllPass}
 use Rattle.lg_sel.proofs.StoreLemmas as stores
 use Rattle.lg_sel.specs.Stores.{rv_stores, is_free}
 use Rattle.lg_sel_nodes.specs.Immediates.{immediate}
+use Rattle.lg_sel_items.specs.declared.reach.Reach.{Reach}
+use Rattle.lg_sel_items.specs.declared.reach.Reach.TheVariants.{Short, Near, Far}
 use Rattle.lg_selr.proofs.Emissions.{NoneStores, Emits, none, append, more, instructions, plain, number, address, jump, front, behind}
 use Rattle.lg_selr.proofs.ValueEmissions.{unary-none}
 use Rattle.lg_selr_control.specs.Alignments.{padding, idle, align_code}
-use Rattle.lg_selr_control.specs.Branches.{failing, left_of, right_of, bits_code}
-use Rattle.lg_selr_control.specs.ControlItems.{second_register, word_items, second_items, jump_unless_items, branch_items, sum_items, jump_items, call_items, result_items, ret_items, register_leap_items, leap_items, align_items, plain_items, control_items, is_control}
+use Rattle.lg_selr_control.specs.Branches.{turned, failing, left_of, right_of, bits_code}
+use Rattle.lg_selr_control.specs.ControlItems.{second_register, word_items, second_items, jump_unless_items, branch_items, sum_items, label_items, jump_items, call_items, result_items, ret_items, register_leap_items, leap_items, align_items, plain_items, control_items, is_control}
 use Rattle.lg_selr_control.specs.HostCalls.{host_code}
 use Rattle.lg_selr_control.specs.Prologs.{stored_registers, stores_below, prolog_code}
 use Rattle.lg_selr_control.specs.RegisterLeaps.{register_leap_code}
@@ -42,7 +44,7 @@ use Rattle.lg_selr_control.specs.Retvals.{extension, retval_code, retval_items}
 use Rattle.lg_selr_control.specs.SumBranches.{sum_code, staying}
 use Rattle.lg_selr_items.specs.Items.{ones}
 use Rattle.lg_selr_items.specs.declared.items.Item.{Item}
-use Rattle.lg_selr_items.specs.declared.items.Item.TheVariants.{Jump}
+use Rattle.lg_selr_items.specs.declared.items.Item.TheVariants.{Branch, Jump, FarJump}
 use Rattle.lg_temp.specs.Abis.{register_of}
 
 -- ---- instructions
@@ -67,70 +69,81 @@ prolog-few frame = by (nat_le frame 2048)
     by true = omega arith
     by false = omega arith
 
--- ---- items
-module _ (is : ℕ → Bool) where
-  word : (t : ℕ) (x : Operand) → Emits is 0 0 (word_items t (immediate x))
-  word t (operand.Number v) = number is 0 t v
-  word t (operand.Host name) = number is 0 t (host_address name)
-  word t (operand.Reg r) = none is 0 0
-  word t (operand.Label l) = none is 0 0
-  word t (operand.Slot k) = none is 0 0
+-- ---- what leads to a label
+unless-emits : (reach : Reach) (is : ℕ → Bool) (o : BranchOp) (a b : ℕ) (l : Label) → is l.0 ≡ true → Emits reach is 1 0 (jump_unless_items reach o a b l)
+unless-emits Short is o a b l h = jump Short is (Branch (turned o) a b l.0) h (λ place. omega arith) (λ to at. omega arith)
+unless-emits Near is o a b l h = front Near is 1 0 (instr.Branch o a b (pos 8) ∷ []) (Jump 0 l.0 ∷ []) refl (jump Near is (Jump 0 l.0) h (λ place. omega arith) (λ to at. omega arith))
+unless-emits Far is o a b l h = front Far is 1 0 (instr.Branch o a b (pos 12) ∷ []) (FarJump 0 31 l.0 ∷ []) refl (jump Far is (FarJump 0 31 l.0) h (λ place. omega arith) (λ to at. omega arith))
 
-  compared : (x : Operand) → Emits is 0 0 (second_items x)
-  compared (operand.Reg r) = none is 0 0
+label-emits : (reach : Reach) (is : ℕ → Bool) (rd base : ℕ) (l : Label) → is l.0 ≡ true → Emits reach is 1 0 (label_items reach rd base l)
+label-emits Short is rd base l h = jump Short is (Jump rd l.0) h (λ place. omega arith) (λ to at. omega arith)
+label-emits Near is rd base l h = jump Near is (Jump rd l.0) h (λ place. omega arith) (λ to at. omega arith)
+label-emits Far is rd base l h = jump Far is (FarJump rd base l.0) h (λ place. omega arith) (λ to at. omega arith)
+
+-- ---- items
+module _ (reach : Reach) (is : ℕ → Bool) where
+  word : (t : ℕ) (x : Operand) → Emits reach is 0 0 (word_items t (immediate x))
+  word t (operand.Number v) = number reach is 0 t v
+  word t (operand.Host name) = number reach is 0 t (host_address name)
+  word t (operand.Reg r) = none reach is 0 0
+  word t (operand.Label l) = none reach is 0 0
+  word t (operand.Slot k) = none reach is 0 0
+
+  compared : (x : Operand) → Emits reach is 0 0 (second_items x)
+  compared (operand.Reg r) = none reach is 0 0
   compared (operand.Number v) = word 1 (operand.Number v)
   compared (operand.Host name) = word 1 (operand.Host name)
   compared (operand.Label l) = word 1 (operand.Label l)
   compared (operand.Slot k) = word 1 (operand.Slot k)
 
-  jumps : (o : BranchOp) (a b : ℕ) (l : Label) → is l.0 ≡ true → Emits is 1 0 (jump_unless_items o a b l)
-  jumps o a b l h = front is 1 0 (instr.Branch o a b (pos 8) ∷ []) (Jump 0 l.0 ∷ []) refl (jump is 0 l.0 h)
+  jumps : (o : BranchOp) (a b : ℕ) (l : Label) → is l.0 ≡ true → Emits reach is 1 0 (jump_unless_items reach o a b l)
+  jumps = unless-emits reach is
 
-  branched : (o : Condition) (xs : List Operand) → AllPass is xs → Emits is 1 0 (branch_items o xs)
+  branched : (o : Condition) (xs : List Operand) → AllPass is xs → Emits reach is 1 0 (branch_items reach o xs)
   branched o (operand.Label l ∷ operand.Reg a ∷ x ∷ []) h =
       let r : ℕ = register_of Riscv64 a in
       let s : ℕ = second_register x in
-      let rest : List Item = jump_unless_items (failing o) (left_of o r s) (right_of o r s) l in
-      append is 0 1 0 0 (second_items x) (ones (bits_code o r s) ++ rest) (compared x)
-      (front is 1 0 (bits_code o r s) rest (bits-none o r s) (jumps (failing o) (left_of o r s) (right_of o r s) l h.0))
-  branched o xs h = none is 1 0
+      let rest : List Item = jump_unless_items reach (failing o) (left_of o r s) (right_of o r s) l in
+      append reach is 0 1 0 0 (second_items x) (ones (bits_code o r s) ++ rest) (compared x)
+      (front reach is 1 0 (bits_code o r s) rest (bits-none o r s) (jumps (failing o) (left_of o r s) (right_of o r s) l h.0))
+  branched o xs h = none reach is 1 0
 
-  summed : (o : BranchSumOp) (xs : List Operand) → AllPass is xs → Emits is 1 0 (sum_items o xs)
+  summed : (o : BranchSumOp) (xs : List Operand) → AllPass is xs → Emits reach is 1 0 (sum_items reach o xs)
   summed o (operand.Label l ∷ operand.Reg a ∷ x ∷ []) h =
       let r : ℕ = register_of Riscv64 a in
       let s : ℕ = second_register x in
-      append is 0 1 0 0 (second_items x) (ones (sum_code o r s) ++ jump_unless_items (staying o) 31 0 l) (compared x)
-      (front is 1 0 (sum_code o r s) (jump_unless_items (staying o) 31 0 l) (sum-none o r s) (jumps (staying o) 31 0 l h.0))
-  summed o xs h = none is 1 0
+      append reach is 0 1 0 0 (second_items x) (ones (sum_code o r s) ++ jump_unless_items reach (staying o) 31 0 l) (compared x)
+      (front reach is 1 0 (sum_code o r s) (jump_unless_items reach (staying o) 31 0 l) (sum-none o r s) (jumps (staying o) 31 0 l h.0))
+  summed o xs h = none reach is 1 0
 
-  jumped : (xs : List Operand) → AllPass is xs → Emits is 1 0 (jump_items xs)
-  jumped (operand.Label l ∷ []) h = jump is 0 l.0 h.0
-  jumped xs h = none is 1 0
+  jumped : (xs : List Operand) → AllPass is xs → Emits reach is 1 0 (jump_items reach xs)
+  jumped (operand.Label l ∷ []) h = label-emits reach is 0 31 l h.0
+  jumped xs h = none reach is 1 0
 
-  called : (xs : List Operand) → AllPass is xs → Emits is 1 0 (call_items xs)
-  called (operand.Label l ∷ []) h = jump is 1 l.0 h.0
-  called (operand.Host name ∷ []) h = plain is 1 (host_code name) refl
-  called xs h = none is 1 0
+  called : (xs : List Operand) → AllPass is xs → Emits reach is 1 0 (call_items reach xs)
+  called (operand.Label l ∷ []) h = label-emits reach is 1 1 l h.0
+  called (operand.Host name ∷ []) h = plain reach is 1 (host_code name) refl
+  called xs h = none reach is 1 0
 
-  wider : (xs : List Item) → Emits is 0 0 xs → Emits is 1 0 xs
-  wider xs a = more is 0 1 0 0 xs (omega arith) (omega arith) a
+  wider : (xs : List Item) → Emits reach is 0 0 xs → Emits reach is 1 0 xs
+  wider xs a = more reach is 0 1 0 0 xs (omega arith) (omega arith) a
 
-  result : (x : Operand) → Passes is x → Emits is 1 0 (result_items x)
-  result (operand.Reg a) h = plain is 1 (instr.Imm Addi 10 (register_of Riscv64 a) (pos 0) ∷ []) refl
-  result (operand.Label l) h = address is 10 l.0 h
+  result : (x : Operand) → Passes is x → Emits reach is 1 0 (result_items x)
+  result (operand.Reg a) h = plain reach is 1 (instr.Imm Addi 10 (register_of Riscv64 a) (pos 0) ∷ []) refl
+  result (operand.Label l) h = address reach is 10 l.0 h
   result (operand.Number v) h = wider (result_items (operand.Number v)) (word 10 (operand.Number v))
   result (operand.Host name) h = wider (result_items (operand.Host name)) (word 10 (operand.Host name))
   result (operand.Slot k) h = wider (result_items (operand.Slot k)) (word 10 (operand.Slot k))
 
-  returned : (xs : List Operand) → AllPass is xs → Emits is 1 0 (ret_items xs)
-  returned (x ∷ []) h = behind is 1 0 (result_items x) return_code (result x h.0) refl
-  returned xs h = none is 1 0
+  returned : (xs : List Operand) → AllPass is xs → Emits reach is 1 0 (ret_items xs)
+  returned (x ∷ []) h = behind reach is 1 0 (result_items x) return_code (result x h.0) refl
+  returned xs h = none reach is 1 0
 
-  leapt : (rd : ℕ) (xs : List Operand) → Emits is 1 0 (register_leap_items rd xs)
-  leapt rd (operand.Reg a ∷ []) = plain is 1 (register_leap_code rd a) refl
-  leapt rd xs = none is 1 0
+  leapt : (rd : ℕ) (xs : List Operand) → Emits reach is 1 0 (register_leap_items rd xs)
+  leapt rd (operand.Reg a ∷ []) = plain reach is 1 (register_leap_code rd a) refl
+  leapt rd xs = none reach is 1 0
 
-  leaps : (o : ControlOp) (last : LastOperand) (xs : List Operand) → AllPass is xs → Emits is 1 0 (leap_items o last xs)
+  leaps : (o : ControlOp) (last : LastOperand) (xs : List Operand) → AllPass is xs → Emits reach is 1 0 (leap_items reach o last xs)
   leaps control.Jmp last_operand.Immediate xs h = jumped xs h
   leaps control.Jmp last_operand.Register xs h = leapt 0 xs
   leaps control.Call last_operand.Immediate xs h = called xs h
@@ -138,29 +151,29 @@ module _ (is : ℕ → Bool) where
   leaps control.Finish last_operand.Immediate xs h = called xs h
   leaps control.Finish last_operand.Register xs h = leapt 1 xs
   leaps control.Ret last xs h = returned xs h
-  leaps control.Pusharg last xs h = none is 1 0
+  leaps control.Pusharg last xs h = none reach is 1 0
 
-  aligned : (at : ℕ) (xs : List Operand) → Emits is 1 0 (align_items at xs)
-  aligned at (operand.Number n ∷ []) = plain is 1 (align_code at n) (idle-none (padding at n))
-  aligned at xs = none is 1 0
+  aligned : (at : ℕ) (xs : List Operand) → Emits reach is 1 0 (align_items at xs)
+  aligned at (operand.Number n ∷ []) = plain reach is 1 (align_code at n) (idle-none (padding at n))
+  aligned at xs = none reach is 1 0
 
-  pub controls-emit : (o : Op) (xs : List Operand) (frame at : ℕ) → is_free o ≡ false → AllPass is xs → Emits is 1 0 (control_items o xs frame at)
+  pub controls-emit : (o : Op) (xs : List Operand) (frame at : ℕ) → is_free o ≡ false → AllPass is xs → Emits reach is 1 0 (control_items reach o xs frame at)
   controls-emit (op.Branch o last) xs frame at other h = branched o xs h
   controls-emit (op.BranchSum o last) xs frame at other h = summed o xs h
   controls-emit (op.Control o last) xs frame at other h = leaps o last xs h
   controls-emit (op.Plain plain_op.Prolog) xs frame at other h = cc
-  controls-emit (op.Plain plain_op.Epilog) xs frame at other h = plain is 1 return_code refl
-  controls-emit (op.Plain plain_op.Ret) xs frame at other h = plain is 1 return_code refl
+  controls-emit (op.Plain plain_op.Epilog) xs frame at other h = plain reach is 1 return_code refl
+  controls-emit (op.Plain plain_op.Ret) xs frame at other h = plain reach is 1 return_code refl
   controls-emit (op.Plain plain_op.Align) xs frame at other h = aligned at xs
-  controls-emit (op.Plain plain_op.Movi) xs frame at other h = none is 1 0
-  controls-emit (op.Plain o) xs frame at other h = none is 1 0
-  controls-emit o xs frame at other h = none is 1 0
+  controls-emit (op.Plain plain_op.Movi) xs frame at other h = none reach is 1 0
+  controls-emit (op.Plain o) xs frame at other h = none reach is 1 0
+  controls-emit o xs frame at other h = none reach is 1 0
 
   -- a `prolog` has no fix
-  pub prologs-emit : (o : Op) (xs : List Operand) (frame at : ℕ) → is_free o ≡ true → Emits is 1 16 (control_items o xs frame at)
-  prologs-emit (op.Plain plain_op.Prolog) xs frame at free = instructions is 1 16 (prolog_code frame) (prolog-few frame)
+  pub prologs-emit : (o : Op) (xs : List Operand) (frame at : ℕ) → is_free o ≡ true → Emits reach is 1 16 (control_items reach o xs frame at)
+  prologs-emit (op.Plain plain_op.Prolog) xs frame at free = instructions reach is 1 16 (prolog_code frame) (prolog-few frame)
   prologs-emit o xs frame at free = cc
 
-  pub retvals-emit : (t : ValueType) (xs : List Operand) → Emits is 1 0 (retval_items t xs)
-  retvals-emit t (operand.Reg d ∷ []) = plain is 1 (retval_code t d) (unary-none (extension t) (register_of Riscv64 d) 10)
-  retvals-emit t xs = none is 1 0
+  pub retvals-emit : (t : ValueType) (xs : List Operand) → Emits reach is 1 0 (retval_items t xs)
+  retvals-emit t (operand.Reg d ∷ []) = plain reach is 1 (retval_code t d) (unary-none (extension t) (register_of Riscv64 d) 10)
+  retvals-emit t xs = none reach is 1 0

@@ -10,7 +10,7 @@ use Rattle.lg_carry_rv.proofs.NumberCodeLemmas.{numbers-are-loaded}
 use Rattle.lg_rv.specs.declared.instruction.Instr.{Instr}
 use Rattle.lg_rv.specs.Spelling.{IsInstr}
 use Rattle.lg_selr_items.specs.declared.items.Item.{Item}
-use Rattle.lg_selr_items.specs.declared.items.Item.TheVariants.{One, Jump, Address}
+use Rattle.lg_selr_items.specs.declared.items.Item.TheVariants.{One, Branch, Jump, FarJump, Address}
 use Rattle.lg_selr_items.specs.Items.{words_in, bytes_in, settled, fixes_of, AreItems, NameLabels, ones}
 use Rattle.lg_selr_items.proofs.ItemLemmas.{words_append, fixes-append, items-append, names-append, words-ones, fixes-ones, items-ones, names-ones}
 
@@ -79,13 +79,17 @@ fit-address labels rd label small named = record { few = omega arith; instrs = (
 abbrev pub AreStraight : List Item → Type 0
 AreStraight [] = ⊤
 AreStraight (One i ∷ xs) = Straight i × AreStraight xs
+AreStraight (Branch o rs1 rs2 label ∷ xs) = ⊥
 AreStraight (Jump rd label ∷ xs) = ⊥
+AreStraight (FarJump rd base label ∷ xs) = ⊥
 AreStraight (Address rd label ∷ xs) = AreStraight xs
 
 pub straight-append : (xs ys : List Item) → AreStraight xs → AreStraight ys → AreStraight (xs ++ ys)
 straight-append [] ys a b = b
 straight-append (One i ∷ xs) ys a b = (a.0, straight-append xs ys a.1 b)
+straight-append (Branch o rs1 rs2 label ∷ xs) ys a b = absurd a
 straight-append (Jump rd label ∷ xs) ys a b = absurd a
+straight-append (FarJump rd base label ∷ xs) ys a b = absurd a
 straight-append (Address rd label ∷ xs) ys a b = straight-append xs ys a b
 
 pub straight-ones : (is : List Instr) → All Straight is → AreStraight (ones is)
@@ -95,7 +99,9 @@ straight-ones (i ∷ is) a = (All-head Straight i is a, straight-ones is (All-ta
 settled-straight : (to : ℕ → ℕ) (p : ℕ) (xs : List Item) → AreStraight xs → AllByRecursion Straight (settled to p xs)
 settled-straight to p [] a = tt
 settled-straight to p (One i ∷ xs) a = (a.0, settled-straight to (p + 4) xs a.1)
+settled-straight to p (Branch o rs1 rs2 label ∷ xs) a = absurd a
 settled-straight to p (Jump rd label ∷ xs) a = absurd a
+settled-straight to p (FarJump rd base label ∷ xs) a = absurd a
 settled-straight to p (Address rd label ∷ xs) a = (refl, (refl, settled-straight to (p + 8) xs a))
 
 all-block : (is : List Instr) → AllByRecursion Straight is → IsBlock is_straight is

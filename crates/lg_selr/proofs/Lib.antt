@@ -9,4 +9,5 @@ pub mod NodeLemmas
 pub mod OperandLemmas
 pub mod PlaceLemmas
 pub mod PushFits
+pub mod ShortLemmas
 pub mod ValueEmissions

@@ -1,15 +1,22 @@
 -- The items of each node can be appended to a buffer, and write no register that is outside of the conventions.
-use Rattle.std.proofs.Common.{◌≡◌, ℕ, ◌≤◌, Bool, List, length, arith}
+use Rattle.std.proofs.Common.{◌≡◌, ℕ, ◌≤◌, Bool, List, length, arith, true, sym, subst, false, [], refl, ap}
 use Rattle.lg_base.specs.declared.target.Target.TheVariants.{Riscv64}
 use Rattle.lg_op.specs.declared.node.Node.{Node}
+use Rattle.lg_op.specs.declared.op.Op.{Op}
+use Rattle.lg_op.specs.declared.op.Op.TheVariants as op
 use Rattle.lg_op.specs.declared.operand.Reg.{Reg}
 use Rattle.lg_rv.specs.declared.instruction.Instr.{Instr}
+use Rattle.lg_op.specs.Nodes.{InForm}
+use Rattle.lg_op.specs.declared.operand.Operand.{Operand}
+use Rattle.lg_sel.specs.Asked as asked
 use Rattle.lg_sel.proofs.LabelLemmas.{names, all-self}
 use Rattle.lg_sel.proofs.NodeEmissionLemmas as emission
 use Rattle.lg_sel.proofs.NodeFitLemmas as fit
 use Rattle.lg_sel.proofs.StoreLemmas.{allowed}
-use Rattle.lg_sel.specs.Selected.{IsFrame}
+use Rattle.lg_sel.specs.Selected.{AreFirst, HaveWords, IsFrame, TakesLabelsWell, is_pusharg}
+use Rattle.lg_sel.specs.Families.{is_value}
 use Rattle.lg_sel.specs.Stores.{rv_stores}
+use Rattle.lg_sel_items.specs.declared.reach.Reach.{Reach}
 use Rattle.lg_selr.proofs.ControlEmissions.{controls-emit, prologs-emit, retvals-emit}
 use Rattle.lg_selr.proofs.Emissions.{Names, Emits, more}
 use Rattle.lg_selr.proofs.MemoryEmissions.{loads-emit, stores-emit, arguments-emit, pushes-emit}
@@ -24,55 +31,90 @@ use Rattle.lg_selr_control.proofs.WithinLemmas.{control-items-stay, retval-items
 use Rattle.lg_selr_items.proofs.ItemLemmas.{items-ones, names-ones}
 use Rattle.lg_selr_items.specs.Items.{rv_holes, IsItem, NamesOneOf, StaysWithin, StayWithin, fixes_of, AreItems, NameLabels, ones}
 use Rattle.lg_selr_items.specs.declared.items.Item.{Item}
-use Rattle.lg_selr_memory.proofs.FitLemmas.{IsFitCode, load-fits, store-fits, argument-fits}
+use Rattle.lg_selr_memory.proofs.FitLemmas.{IsFitCode, argument-fits}
+use Rattle.lg_selr_memory.proofs.AccessFitLemmas.{load-items-fit, store-items-fit, load-items-name, store-items-name}
 use Rattle.lg_selr_memory.proofs.WithinLemmas.{memory-items-stay}
-use Rattle.lg_selr_memory.specs.Accesses.{load_code, store_code}
 use Rattle.lg_selr_memory.specs.ArgumentCode.{argument_code}
 use Rattle.lg_selr_values.proofs.ValueFitLemmas.{value-items-fit, value-items-name, value-items-stay}
-use Rattle.lg_selr_values.specs.ValueItems.{HaveSlots}
+use Rattle.lg_selr_values.specs.ValueItems.{value_needs, HaveSlots}
 use Rattle.lg_temp.proofs.ChoiceLemmas.{choices-are-for}
+use Rattle.lg_temp.specs.Choices.{AreFor}
 use Rattle.lg_temp.specs.Chosen.{around}
 use Rattle.lg_temp.specs.declared.choice.Choice.{Choice}
 
+-- ---- the needs
+abbrev pub is_access : Op → Bool
+is_access (op.Load t at) = true
+is_access (op.Store t at) = true
+is_access o = false
+
+same-needs : (o : Op) → is_access o ≡ false → needs o ≡ value_needs o
+same-needs (op.Load t at) h = cc
+same-needs (op.Store t at) h = cc
+same-needs o h = refl
+
+value-is-none : (o : Op) → is_value o ≡ true → is_access o ≡ false
+value-is-none (op.Load t at) h = cc
+value-is-none (op.Store t at) h = cc
+value-is-none o h = refl
+
+-- choices for the needs of a node that is no access are those for what computes values
+pub made-values : (n : Node) (live : Reg → Bool) (set : List Bool) (choices : List Choice) → is_access n.op ≡ false → AreFor (around Riscv64 n live set) (needs n.op) [] (needs n.op) choices
+    → AreFor (around Riscv64 n live set) (value_needs n.op) [] (value_needs n.op) choices
+made-values n live set choices h are = subst (λ ns. AreFor (around Riscv64 n live set) ns [] ns choices) (same-needs n.op h) are
+
+-- and those for the needs of an access
+pub made-access : (n : Node) (o : Op) (live : Reg → Bool) (set : List Bool) (choices : List Choice) → n.op ≡ o → AreFor (around Riscv64 n live set) (needs n.op) [] (needs n.op) choices → AreFor (around Riscv64 n live set) (needs o) [] (needs o) choices
+made-access n o live set choices e are = subst (λ q. AreFor (around Riscv64 n live set) (needs q) [] (needs q) choices) e are
+
 -- at most one register is chosen, and it has a slot where it is saved
 pub choices-fit : (n : Node) (live : Reg → Bool) (staged : List Bool) (choices : List Choice) → AreChosen n live staged choices → (length choices ≤ 1) × HaveSlots choices
-choices-fit n live staged choices k =
-    let values = value-items-fit n live k.set choices (choices-are-for (around Riscv64 n live k.set) (needs n.op) choices k.chosen) in
-    (values.few, values.slots)
+choices-fit n live staged choices k = by n.op refl
+  where
+    are : AreFor (around Riscv64 n live k.set) (needs n.op) [] (needs n.op) choices
+    are = choices-are-for (around Riscv64 n live k.set) (needs n.op) choices k.chosen
+
+    values : is_access n.op ≡ false → (length choices ≤ 1) × HaveSlots choices
+    values h = let f = value-items-fit n live k.set choices (made-values n live k.set choices h are) in (f.few, f.slots)
+
+    by : (o : Op) → n.op ≡ o → (length choices ≤ 1) × HaveSlots choices
+    by (op.Load t at) e = let f = load-items-fit t at n live k.set choices (made-access n (op.Load t at) live k.set choices e are) in (f.few, f.slots)
+    by (op.Store t at) e = let f = store-items-fit t at n live k.set choices (made-access n (op.Store t at) live k.set choices e are) in (f.few, f.slots)
+    by o e = values (ap is_access e)
 
 -- ---- labels, fixes and stores
-families-emit : emission.FamiliesEmit rv_holes rv_stores Names rv_families
-families-emit = record {
-  values = λ is frame n choices h. values-emit is n choices h;
-  loads = λ is frame t at n. loads-emit is t at n;
-  stores = λ is frame t at n. stores-emit is t at n;
-  arguments = λ is frame t n. arguments-emit is t n;
-  results = λ is frame t n choices h. more is 1 1 0 _ _ (omega arith) (omega arith) (retvals-emit is t n.operands);
-  pushes = λ is frame j n h. pushes-emit is j n h;
-  controls = controls-emit;
-  prologs = prologs-emit;
+families-emit : (reach : Reach) → emission.FamiliesEmit Riscv64 rv_holes rv_stores (Names reach) (rv_families reach)
+families-emit reach = record {
+  values = λ is frame n choices h. values-emit reach is n choices h;
+  loads = λ is frame t at n choices. loads-emit reach is t at n choices;
+  stores = λ is frame t at n choices. stores-emit reach is t at n choices;
+  arguments = λ is frame t n. arguments-emit reach is t n;
+  results = λ is frame t n choices h. more reach is 1 1 0 _ _ (omega arith) (omega arith) (retvals-emit reach is t n.operands);
+  pushes = λ is frame j n h. pushes-emit reach is j n h;
+  controls = controls-emit reach;
+  prologs = prologs-emit reach;
 }
 
-pub node-emits : (frame : ℕ) (choices : List Choice) (staged : List Bool) (place : ℕ) (n : Node) → Emits (names n.operands) 1 (allowed choices n.op) (node_items n frame choices staged place)
-node-emits frame choices staged place n = emission.node-emits rv_holes rv_stores Names rv_families families-emit frame choices staged place n (names n.operands) (all-self n.operands)
+pub node-emits : (reach : Reach) (frame : ℕ) (choices : List Choice) (staged : List Bool) (place : ℕ) (n : Node) → Emits reach (names n.operands) 1 (allowed Riscv64 choices n.op) (node_items reach n frame choices staged place)
+node-emits reach frame choices staged place n = emission.node-emits Riscv64 rv_holes rv_stores (Names reach) (rv_families reach) (families-emit reach) frame choices staged place n (names n.operands) (all-self n.operands)
 
 -- ---- ranges
-abbrev Fit : ℕ → List Item → Type 0
-Fit labels xs = fit.Fit Riscv64 needs rv_families IsItem NamesOneOf labels xs
+abbrev Fit : Reach → ℕ → List Item → Type 0
+Fit reach labels xs = fit.Fit Riscv64 needs (rv_families reach) IsItem NamesOneOf labels xs
 
-plain : (labels most : ℕ) (is : List Instr) → IsFitCode most is → Fit labels (ones is)
-plain labels most is code = record { instrs = items-ones is code.fit; names = names-ones labels is }
+plain : (reach : Reach) (labels most : ℕ) (is : List Instr) → IsFitCode most is → Fit reach labels (ones is)
+plain reach labels most is code = record { instrs = items-ones is code.fit; names = names-ones labels is }
 
-families-fit : (labels : ℕ) → fit.FamiliesFit Riscv64 needs rv_families IsItem NamesOneOf labels
-families-fit labels = record {
-  values = λ frame n live set choices sized is are named words. record { instrs = (value-items-fit n live set choices are).fit; names = value-items-name labels n choices (are-below labels n.operands named) };
-  loads = λ frame n t at sized words. plain labels 10 (load_code t at n) (load-fits t at n words);
-  stores = λ frame n t at sized words. plain labels 10 (store_code t at n) (store-fits t at n words);
-  arguments = λ frame n t sized. plain labels 1 (argument_code t n) (argument-fits t n);
+families-fit : (reach : Reach) (labels : ℕ) → fit.FamiliesFit Riscv64 needs (rv_families reach) IsItem NamesOneOf labels
+families-fit reach labels = record {
+  values = λ frame n live set choices sized is are named words. record { instrs = (value-items-fit n live set choices (made-values n live set choices (value-is-none n.op is) are)).fit; names = value-items-name labels n choices (are-below labels n.operands named) };
+  loads = λ frame n t at live set choices sized e are words. record { instrs = (load-items-fit t at n live set choices (made-access n (op.Load t at) live set choices e are)).fit; names = load-items-name labels t at n choices };
+  stores = λ frame n t at live set choices sized e are words. record { instrs = (store-items-fit t at n live set choices (made-access n (op.Store t at) live set choices e are)).fit; names = store-items-name labels t at n choices };
+  arguments = λ frame n t sized. plain reach labels 1 (argument_code t n) (argument-fits t n);
   results = λ frame n t live set choices sized e formed are named words. let emitted = retval-items-fit n t labels e formed in record { instrs = emitted.items; names = emitted.labels };
   pushes = λ frame n j sized few named word. let good = push-good labels j n few (below labels _ named) word in record { instrs = good.fit.instrs; names = good.fit.names };
   controls = λ n frame place sized is formed named words ends.
-      let emitted = control-items-fit n labels frame place is formed (are-given labels n.operands named words) ends in
+      let emitted = control-items-fit reach n labels frame place is formed (are-given labels n.operands named words) ends in
       record { instrs = emitted.items; names = emitted.labels };
 }
 
@@ -82,23 +124,34 @@ pub record AreEmittable (labels : ℕ) (items : List Item) : Type 0 where
   pub names : NameLabels labels items
   pub fixed : (p : ℕ) → length (fixes_of p items) ≤ 1
 
-pub items-fit : (frame : ℕ) (live : Reg → Bool) (staged : List Bool) (choices : List Choice) (labels place : ℕ) (n : Node) → IsFrame frame → IsAsked n live staged choices labels → AreEmittable labels (node_items n frame choices staged place)
-items-fit frame live staged choices labels place n sized k =
-    let fits = fit.items-fit Riscv64 needs rv_families IsItem NamesOneOf labels (families-fit labels) frame sized live staged choices place n k in
-    record { instrs = fits.instrs; names = fits.names; fixed = (node-emits frame choices staged place n).fixed }
+pub items-fit : (reach : Reach) (frame : ℕ) (live : Reg → Bool) (staged : List Bool) (choices : List Choice) (labels place : ℕ) (n : Node) → IsFrame frame → IsAsked n live staged choices labels → AreEmittable labels (node_items reach n frame choices staged place)
+items-fit reach frame live staged choices labels place n sized k =
+    let fits = fit.items-fit Riscv64 needs (rv_families reach) IsItem NamesOneOf labels (families-fit reach labels) frame sized live staged choices place n k in
+    record { instrs = fits.instrs; names = fits.names; fixed = (node-emits reach frame choices staged place n).fixed }
 
 -- ---- registers
-families-stay : fit.FamiliesStay Riscv64 needs rv_families StaysWithin
-families-stay = record {
-  values = λ frame n live set choices are. value-items-stay n live set choices are;
-  loads = λ frame t at n. memory-items-stay.loads t at n;
-  stores = λ frame t at n. memory-items-stay.stores t at n;
+families-stay : (reach : Reach) → fit.FamiliesStay Riscv64 needs (rv_families reach) StaysWithin
+families-stay reach = record {
+  values = λ frame n live set choices is are. value-items-stay n live set choices (made-values n live set choices (value-is-none n.op is) are);
+  loads = λ frame t at n live set choices e are. memory-items-stay.loads t at n live set choices (made-access n (op.Load t at) live set choices e are);
+  stores = λ frame t at n live set choices e are. memory-items-stay.stores t at n live set choices (made-access n (op.Store t at) live set choices e are);
   arguments = λ frame t n. memory-items-stay.arguments t n;
   results = λ frame t n live set choices are. retval-items-stay t n.operands;
   pushes = λ frame j n. memory-items-stay.pushes j n;
-  controls = λ n frame place. control-items-stay n frame place;
+  controls = λ n frame place. control-items-stay reach n frame place;
 }
 
-pub items-within : (frame : ℕ) (live : Reg → Bool) (staged : List Bool) (choices : List Choice) (labels place : ℕ) (n : Node) → IsAsked n live staged choices labels → StayWithin (node_items n frame choices staged place)
-items-within frame live staged choices labels place n k =
-    fit.items-stay Riscv64 needs rv_families StaysWithin families-stay frame live k.chosen.set staged choices place n (fit.are-made Riscv64 needs rv_families n live staged choices labels k)
+pub items-within : (reach : Reach) (frame : ℕ) (live : Reg → Bool) (staged : List Bool) (choices : List Choice) (labels place : ℕ) (n : Node) → IsAsked n live staged choices labels → StayWithin (node_items reach n frame choices staged place)
+items-within reach frame live staged choices labels place n k =
+    fit.items-stay Riscv64 needs (rv_families reach) StaysWithin (families-stay reach) frame live k.chosen.set staged choices place n (fit.are-made Riscv64 needs (rv_families reach) n live staged choices labels k)
+
+-- ---- what is asked of a node
+pub asked-of : (n : Node) (live : Reg → Bool) (staged : List Bool) (choices : List Choice) (labels : ℕ) (xs : List Operand) → InForm n → AreChosen n live staged choices
+    → (is_pusharg n.op ≡ true → AreFirst staged) → asked.NameBelow labels n.operands → TakesLabelsWell n → xs ≡ n.operands → HaveWords xs → IsAsked n live staged choices labels
+asked-of n live staged choices labels xs formed chosen first named takes e words =
+    record { formed = formed; chosen = chosen; first = first; named = named; takes = takes; words = subst HaveWords e words }
+
+-- items that are those of the node can be appended
+pub made-fits : (reach : Reach) (frame : ℕ) (live : Reg → Bool) (staged : List Bool) (choices : List Choice) (labels place : ℕ) (n : Node) (items : List Item) → IsFrame frame
+    → IsAsked n live staged choices labels → items ≡ node_items reach n frame choices staged place → AreEmittable labels items
+made-fits reach frame live staged choices labels place n items sized k e = subst (AreEmittable labels) (sym e) (items-fit reach frame live staged choices labels place n sized k)

@@ -18,12 +18,14 @@ use Rattle.lg_op.specs.declared.operand.Operand.{Operand}
 use Rattle.lg_op.specs.declared.operand.Operand.TheVariants as operand
 use Rattle.lg_op.specs.declared.operand.Reg.{Reg}
 use Rattle.lg_carry.specs.Carries.{leaps, leaps_at}
+use Rattle.lg_carry.specs.Blocks.{IsBlock}
 use Rattle.lg_carry.specs.FinalNodes.{Code}
+use Rattle.lg_carry.specs.Spills.{wrapped}
 use Rattle.lg_carry.specs.NodeCode.{numbered, CarriesNode}
 use Rattle.lg_node.specs.Preparations.{pushed}
 use Rattle.lg_carry_rv.specs.Places.{IsInCode}
 use Rattle.lg_carry.specs.Passages.{IsNodeCode}
-use Rattle.lg_carry_rv.specs.RvRows.{rv_processor, rv_rows}
+use Rattle.lg_carry_rv.specs.RvRows.{rv_processor, rv_rows, is_straight}
 use Rattle.lg_rv.specs.Spelling.{IsInstr}
 use Rattle.lg_rv.specs.declared.instruction.Instr.{Instr}
 use Rattle.lg_sel.proofs.CountLemmas.{count-is}
@@ -31,9 +33,11 @@ use Rattle.lg_sel.proofs.FamilyLemmas.{node_of, HoldsOfFamilies, of-node}
 use Rattle.lg_sel.proofs.OperandLemmas.{word-at, has-words, leads_nowhere, unlabelled, no-labels, control-ends, loads-lead, stores-lead, operands-are, IsOneRegister, written-one}
 use Rattle.lg_sel.specs.Families.{is_value, staged_count}
 use Rattle.lg_sel_memory.specs.Operands.{is_label}
+use Rattle.lg_sel_items.specs.declared.reach.Reach.{Reach}
 use Rattle.lg_selr.specs.Items.{rv_families, node_items}
 use Rattle.lg_sel.specs.Selected.{is_pusharg, may_take_label, IsNodeOf}
-use Rattle.lg_selr.specs.Selected.{IsAsked}
+use Rattle.lg_selr.specs.Selected.{needs, IsAsked}
+use Rattle.lg_selr.proofs.NodeFits.{is_access, made-values, made-access}
 use Rattle.lg_selr.proofs.FitLemmas.{straight-block, straight-ones}
 use Rattle.lg_sel.proofs.NodeFitLemmas.{named-at, few-staged}
 use Rattle.lg_meaning.specs.Steps.{operand_at}
@@ -53,12 +57,14 @@ use Rattle.lg_selr_items.specs.Items.{words_in, settled, ones}
 use Rattle.lg_selr_items.specs.OfNodes.{AreOfNode}
 use Rattle.lg_selr_items.proofs.ItemLemmas.{settled-ones}
 use Rattle.lg_selr_items.proofs.NodeLemmas.{items-are-node-code, items-are-in-code}
-use Rattle.lg_selr_memory.specs.Accesses.{load_code, store_code}
+use Rattle.lg_selr_memory.specs.Accesses.{load_code, store_code, load_items, store_items}
 use Rattle.lg_selr_memory.specs.ArgumentCode.{argument_code}
 use Rattle.lg_selr_memory.specs.PushCode.{push_code}
-use Rattle.lg_selr_memory.proofs.FitLemmas.{IsFitCode, load-fits, store-fits, argument-fits}
+use Rattle.lg_selr_memory.proofs.FitLemmas.{IsFitCode, argument-fits}
+use Rattle.lg_selr_memory.proofs.AccessFitLemmas.{load-items-fit, store-items-fit}
 use Rattle.lg_selr_memory.proofs.MemoryNodeLemmas.{memory-is-carried}
-use Rattle.lg_selr_values.specs.ValueItems.{computes_value, value_needs, value_items}
+use Rattle.lg_selr_values.specs.ValueItems.{computes_value, value_needs, first_taken, saved_items, value_items}
+use Rattle.lg_selr_values.proofs.SettledLemmas.{settles-ones, settles-saved}
 use Rattle.lg_selr_values.proofs.ValueFitLemmas.{value-items-fit}
 use Rattle.lg_selr_values.proofs.ValueNodeLemmas.{value-nodes-carry}
 use Rattle.lg_temp.specs.declared.choice.Choice.{Choice}
@@ -96,6 +102,11 @@ value-computes (op.Unary o) is = refl
 value-computes (op.Plain plain.Movi) is = refl
 value-computes o is = cc
 
+computed-is-none : (o : Op) → computes_value o ≡ true → is_access o ≡ false
+computed-is-none (op.Load t at) is = cc
+computed-is-none (op.Store t at) is = cc
+computed-is-none o is = refl
+
 value-stays : (o : Op) → is_value o ≡ true → leaps o ≡ false
 value-stays (op.Binary o last) is = refl
 value-stays (op.Wide o last) is = refl
@@ -103,14 +114,14 @@ value-stays (op.Unary o) is = refl
 value-stays (op.Plain plain.Movi) is = refl
 value-stays o is = cc
 
-module _ (code : List ℕ) (trash : ℕ) (c : Code) (i frame : ℕ) (live : Reg → Bool) (staged : List Bool) (choices : List Choice) (labels place : ℕ) where
+module _ (reach : Reach) (code : List ℕ) (trash : ℕ) (c : Code) (i frame : ℕ) (live : Reg → Bool) (staged : List Bool) (choices : List Choice) (labels place : ℕ) where
   abbrev Carries : Node → List Item → Type 0
   Carries n items = IsKnown c i n frame live staged choices labels place → AreOfNode code trash c i items → CarriesNode (rv_processor code trash) c i n (numbered live)
 
   values : (n : Node) → computes_value n.op ≡ true → leaps n.op ≡ false → Carries n (value_items n choices)
   values n computes stays k a =
       let set = k.asked.chosen.set in
-      let are : AreFor (around Riscv64 n live set) (value_needs n.op) [] (value_needs n.op) choices = choices-are-for (around Riscv64 n live set) (value_needs n.op) choices k.asked.chosen.chosen in
+      let are = made-values n live set choices (computed-is-none n.op computes) (choices-are-for (around Riscv64 n live set) (needs n.op) choices k.asked.chosen.chosen) in
       let fit = value-items-fit n live set choices are in
       value-nodes-carry code trash c i n live set choices computes (are-words c.addresses k.node.low n.operands k.asked.words) are (λ j below. k.asked.chosen.holds j (k.node.pushed_are j below)) k.node.text
       (items-are-in-code code trash c i (value_items n choices) a (falls c i n (value_items n choices) k.node.text stays) (fit.block (slice_index c.addresses) (c.place i)))
@@ -119,17 +130,32 @@ module _ (code : List ℕ) (trash : ℕ) (c : Code) (i frame : ℕ) (live : Reg 
   none-labels n o e may leads k =
       no-labels (forms_of n.op) n.operands (ap (λ q. leads_nowhere (forms_of q)) e ∙ leads) (operands-are c i n k.node.text) (unlabelled n (ap may_take_label e ∙ may) k.asked.takes)
 
-  loads : (n : Node) (t : ValueType) (at : Addressing) → n.op ≡ op.Load t at → Carries n (ones (load_code t at n))
-  loads n t at e k a =
-      let words = has-words n k.asked.words in
-      (memory-is-carried code trash a.small a.bytes a.word).loads c i n t at frame (numbered live) e (none-labels n (op.Load t at) e refl (loads-lead at) k) words k.node.text k.node.frame_is
-      (plain-code code trash c i n 10 (load_code t at n) k.node.text (ap leaps e) (load-fits t at n words) a).block
+  -- with the choices for an access, whose items become its code with each register that is saved
+  abbrev Wrapped : List Instr → Type 0
+  Wrapped is = IsInCode code trash c i (wrapped (rv_rows code trash) choices is)
 
-  stores : (n : Node) (t : StoreType) (at : Addressing) → n.op ≡ op.Store t at → Carries n (ones (store_code t at n))
+  access-code : (n : Node) (is : List Instr) → leaps n.op ≡ false → IsKnown c i n frame live staged choices labels place → ((to : ℕ → ℕ) (at : ℕ) → IsBlock is_straight (settled to at (saved_items choices (ones is))))
+      → AreOfNode code trash c i (saved_items choices (ones is)) → Wrapped is
+  access-code n is stays k block a =
+      let to : ℕ → ℕ = slice_index c.addresses in
+      subst (IsInCode code trash c i) ((settles-saved to code trash choices (ones is) is (settles-ones to is)).become (c.place i))
+      (items-are-in-code code trash c i (saved_items choices (ones is)) a (falls c i n (saved_items choices (ones is)) k.node.text stays) (block to (c.place i)))
+
+  loads : (n : Node) (t : ValueType) (at : Addressing) → n.op ≡ op.Load t at → Carries n (load_items t at n choices)
+  loads n t at e k a =
+      let set = k.asked.chosen.set in
+      let are = made-access n (op.Load t at) live set choices e (choices-are-for (around Riscv64 n live set) (needs n.op) choices k.asked.chosen.chosen) in
+      (memory-is-carried code trash a.small a.bytes a.word).loads t at c i n frame live set choices e (none-labels n (op.Load t at) e refl (loads-lead at) k) (has-words n k.asked.words) are
+      (λ j below. k.asked.chosen.holds j (k.node.pushed_are j below)) k.node.text k.node.frame_is
+      (access-code n (load_code t at n (first_taken choices)) (ap leaps e) k (load-items-fit t at n live set choices are).block a).block
+
+  stores : (n : Node) (t : StoreType) (at : Addressing) → n.op ≡ op.Store t at → Carries n (store_items t at n choices)
   stores n t at e k a =
-      let words = has-words n k.asked.words in
-      (memory-is-carried code trash a.small a.bytes a.word).stores c i n t at frame (numbered live) e (none-labels n (op.Store t at) e refl (stores-lead at) k) words k.node.text k.node.frame_is
-      (plain-code code trash c i n 10 (store_code t at n) k.node.text (ap leaps e) (store-fits t at n words) a).block
+      let set = k.asked.chosen.set in
+      let are = made-access n (op.Store t at) live set choices e (choices-are-for (around Riscv64 n live set) (needs n.op) choices k.asked.chosen.chosen) in
+      (memory-is-carried code trash a.small a.bytes a.word).stores t at c i n frame live set choices e (none-labels n (op.Store t at) e refl (stores-lead at) k) (has-words n k.asked.words) are
+      (λ j below. k.asked.chosen.holds j (k.node.pushed_are j below)) k.node.text k.node.frame_is
+      (access-code n (store_code t at n (first_taken choices)) (ap leaps e) k (store-items-fit t at n live set choices are).block a).block
 
   arguments : (n : Node) (t : ValueType) → n.op ≡ op.Getarg t → Carries n (ones (argument_code t n))
   arguments n t e k a =
@@ -145,20 +171,20 @@ module _ (code : List ℕ) (trash : ℕ) (c : Code) (i frame : ℕ) (live : Reg 
       (memory-is-carried code trash a.small a.bytes a.word).pushes c i n last frame (numbered live) e (has-words n k.asked.words) k.node.names k.node.text k.node.frame_is
       (subst (λ m. IsInCode code trash c i (settled to (c.place i) (push_code m n))) (count-is (pushed c.nodes.nodes i) staged (k.node.exact (ap is_pusharg e))) stands).block
 
-  controls : (n : Node) → is_control n.op ≡ true → Carries n (control_items n.op n.operands frame place)
+  controls : (n : Node) → is_control n.op ≡ true → Carries n (control_items reach n.op n.operands frame place)
   controls n is k a =
       let ends : ends_in_label n.operands ≡ false = control-ends n is (operands-are c i n k.node.text) k.asked.takes in
       let to : ℕ → ℕ = slice_index c.addresses in
-      let items = control_items n.op n.operands frame place in
-      let fit : AreEmitted labels (leaps n.op) items = control-items-fit n labels frame place is (k.node.text.formed n k.node.text.here) (are-given labels n.operands k.asked.named k.asked.words) ends in
+      let items = control_items reach n.op n.operands frame place in
+      let fit : AreEmitted labels (leaps n.op) items = control-items-fit reach n labels frame place is (k.node.text.formed n k.node.text.here) (are-given labels n.operands k.asked.named k.asked.words) ends in
       let stands : StandsInCode code trash c i (settled to (c.place i) items) = record {
         small = a.small;
         bytes = a.bytes;
         word = a.word;
         node = items-are-node-code code trash c i items a (λ leaping. fit.some (sym (ap leaps_at k.node.text.here) ∙ leaping));
       } in
-      let same : items ≡ control_items n.op n.operands frame (c.place i) = sym (control-items-at n.op n.operands frame place (operands-are c i n k.node.text)) ∙ ap (control_items n.op n.operands frame) (sym k.address) in
-      control-nodes-carry code trash c i n frame (numbered live) is k.node.places (are-words c.addresses k.node.low n.operands k.asked.words) ends k.node.frame_is k.node.text
+      let same : items ≡ control_items reach n.op n.operands frame (c.place i) = sym (control-items-at reach n.op n.operands frame place (operands-are c i n k.node.text)) ∙ ap (control_items reach n.op n.operands frame) (sym k.address) in
+      control-nodes-carry reach code trash c i n frame (numbered live) is k.node.places (are-words c.addresses k.node.low n.operands k.asked.words) ends k.node.frame_is k.node.text
       (subst (λ l. StandsInCode code trash c i (settled to (c.place i) l)) same stands)
 
   retval-of : (t : ValueType) (xs : List Operand) (line : ℕ) → IsOneRegister xs → Carries (node_of (op.Retval t) xs line) (retval_items t xs)
@@ -179,7 +205,7 @@ module _ (code : List ℕ) (trash : ℕ) (c : Code) (i frame : ℕ) (live : Reg 
       subst (λ o. Carries (node_of o n.operands n.line) (retval_items t n.operands)) (sym e)
       (retval-of t n.operands n.line (written-one n.operands (subst (λ o. admit (forms_of o) n.operands ≡ true) e (operands-are c i n k.node.text)))) k a
 
-  families : HoldsOfFamilies rv_families Carries frame choices staged place
+  families : HoldsOfFamilies (rv_families reach) Carries frame choices staged place
   families = record {
     values = λ n is. values n (value-computes n.op is) (value-stays n.op is);
     loads = loads;
@@ -190,5 +216,5 @@ module _ (code : List ℕ) (trash : ℕ) (c : Code) (i frame : ℕ) (live : Reg 
     controls = controls;
   }
 
-  pub items-carry : (n : Node) → Carries n (node_items n frame choices staged place)
-  items-carry = of-node rv_families Carries frame choices staged place families
+  pub items-carry : (n : Node) → Carries n (node_items reach n frame choices staged place)
+  items-carry = of-node (rv_families reach) Carries frame choices staged place families

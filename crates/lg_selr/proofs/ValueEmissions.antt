@@ -25,6 +25,7 @@ use Rattle.lg_rv.specs.declared.instruction.StoreOp.TheVariants.{Sd}
 use Rattle.lg_sel.proofs.LabelLemmas.{Passes, AllPass, passes-at}
 use Rattle.lg_sel.proofs.StoreLemmas as stores
 use Rattle.lg_sel.specs.Stores.{rv_stores}
+use Rattle.lg_sel_items.specs.declared.reach.Reach.{Reach}
 use Rattle.lg_selr.proofs.Emissions.{NoneStores, number-none, Emits, none, append, more, either, instructions, plain, number, address, behind}
 use Rattle.lg_selr_items.specs.Items.{ones}
 use Rattle.lg_selr_items.specs.declared.items.Item.{Item}
@@ -82,63 +83,65 @@ form-none binary.RshU d a v = refl
 form-none o d a v = loaded-none o d a v
 
 -- ---- items
-module _ (is : ℕ → Bool) where
-  load : (t : ℕ) (x : Operand) → Passes is x → Emits is 1 0 (load_items t x)
-  load t (operand.Number v) h = number is 1 t v
-  load t (operand.Host name) h = number is 1 t (host_address name)
-  load t (operand.Label l) h = address is t l.0 h
-  load t (operand.Reg r) h = none is 1 0
-  load t (operand.Slot k) h = none is 1 0
+module _ (reach : Reach) (is : ℕ → Bool) where
+  load : (t : ℕ) (x : Operand) → Passes is x → Emits reach is 1 0 (load_items t x)
+  load t (operand.Number v) h = number reach is 1 t v
+  load t (operand.Host name) h = number reach is 1 t (host_address name)
+  load t (operand.Label l) h = address reach is t l.0 h
+  load t (operand.Reg r) h = none reach is 1 0
+  load t (operand.Slot k) h = none reach is 1 0
 
-  loaded : (t : ℕ) (x : Operand) (code : List Instr) → Passes is x → NoneStores code → Emits is 1 0 (load_items t x ++ ones code)
-  loaded t x code h few = behind is 1 0 (load_items t x) code (load t x h) few
+  loaded : (t : ℕ) (x : Operand) (code : List Instr) → Passes is x → NoneStores code → Emits reach is 1 0 (load_items t x ++ ones code)
+  loaded t x code h few = behind reach is 1 0 (load_items t x) code (load t x h) few
 
-  binary-emits : (o : BinaryOp) (d a : ℕ) (x : Operand) → Passes is x → Emits is 1 0 (binary_items o d a x)
-  binary-emits o d a (operand.Reg b) h = plain is 1 (register_code o d a (register_of Riscv64 b)) (register-none o d a (register_of Riscv64 b))
-  binary-emits o d a (operand.Number v) h = plain is 1 (number_form_code o d a v) (form-none o d a v)
+  binary-emits : (o : BinaryOp) (d a : ℕ) (x : Operand) → Passes is x → Emits reach is 1 0 (binary_items o d a x)
+  binary-emits o d a (operand.Reg b) h = plain reach is 1 (register_code o d a (register_of Riscv64 b)) (register-none o d a (register_of Riscv64 b))
+  binary-emits o d a (operand.Number v) h = plain reach is 1 (number_form_code o d a v) (form-none o d a v)
   binary-emits o d a (operand.Host name) h = loaded 1 (operand.Host name) (register_code o d a 1) h (register-none o d a 1)
   binary-emits o d a (operand.Label l) h = loaded 1 (operand.Label l) (register_code o d a 1) h (register-none o d a 1)
   binary-emits o d a (operand.Slot k) h = loaded 1 (operand.Slot k) (register_code o d a 1) h (register-none o d a 1)
 
-  second : (x : Operand) → Passes is x → Emits is 1 0 (second_items x)
-  second (operand.Reg b) h = plain is 1 (instr.Imm imm.Addi 1 (register_of Riscv64 b) (pos 0) ∷ []) refl
+  second : (x : Operand) → Passes is x → Emits reach is 1 0 (second_items x)
+  second (operand.Reg b) h = plain reach is 1 (instr.Imm imm.Addi 1 (register_of Riscv64 b) (pos 0) ∷ []) refl
   second (operand.Number v) h = load 1 (operand.Number v) h
   second (operand.Host name) h = load 1 (operand.Host name) h
   second (operand.Label l) h = load 1 (operand.Label l) h
   second (operand.Slot k) h = load 1 (operand.Slot k) h
 
-  carried-emits : (o : BinaryOp) (u d a : ℕ) (x : Operand) → Passes is x → Emits is 1 0 (carried_items o u d a x)
-  carried-emits o u d a x h = behind is 1 0 (second_items x) (carried_code o u d a) (second x h) (carried-none o u d a)
+  carried-emits : (o : BinaryOp) (u d a : ℕ) (x : Operand) → Passes is x → Emits reach is 1 0 (carried_items o u d a x)
+  carried-emits o u d a x h = behind reach is 1 0 (second_items x) (carried_code o u d a) (second x h) (carried-none o u d a)
 
-  wide-emits : (o : WideOp) (d e a : ℕ) (x : Operand) → Passes is x → Emits is 1 0 (wide_items o d e a x)
-  wide-emits o d e a (operand.Reg b) h = plain is 1 (wide_code o d e a (register_of Riscv64 b)) (wide-none o d e a (register_of Riscv64 b))
+  wide-emits : (o : WideOp) (d e a : ℕ) (x : Operand) → Passes is x → Emits reach is 1 0 (wide_items o d e a x)
+  wide-emits o d e a (operand.Reg b) h = plain reach is 1 (wide_code o d e a (register_of Riscv64 b)) (wide-none o d e a (register_of Riscv64 b))
   wide-emits o d e a (operand.Number v) h = loaded 31 (operand.Number v) (wide_code o d e a 31) h (wide-none o d e a 31)
   wide-emits o d e a (operand.Host name) h = loaded 31 (operand.Host name) (wide_code o d e a 31) h (wide-none o d e a 31)
   wide-emits o d e a (operand.Label l) h = loaded 31 (operand.Label l) (wide_code o d e a 31) h (wide-none o d e a 31)
   wide-emits o d e a (operand.Slot k) h = loaded 31 (operand.Slot k) (wide_code o d e a 31) h (wide-none o d e a 31)
 
-  operation : (o : BinaryOp) (u d a : ℕ) (x : Operand) → Passes is x → Emits is 1 0 (operation_items o u d a x)
-  operation o u d a x h = either is 1 0 (is_carried o) (carried_items o u d a x) (binary_items o d a x) (carried-emits o u d a x h) (binary-emits o d a x h)
+  operation : (o : BinaryOp) (u d a : ℕ) (x : Operand) → Passes is x → Emits reach is 1 0 (operation_items o u d a x)
+  operation o u d a x h = either reach is 1 0 (is_carried o) (carried_items o u d a x) (binary_items o d a x) (carried-emits o u d a x h) (binary-emits o d a x h)
 
-  body : (o : Op) (xs : List Operand) (u : ℕ) → AllPass is xs → Emits is 1 0 (body_items o xs u)
+  body : (o : Op) (xs : List Operand) (u : ℕ) → AllPass is xs → Emits reach is 1 0 (body_items o xs u)
   body (op.Binary o last) xs u h = operation o u (register_in xs 0) (register_in xs 1) (operand_in xs 2) (passes-at is xs 2 h)
   body (op.Wide o last) xs u h = wide-emits o (register_in xs 0) (register_in xs 1) (register_in xs 2) (operand_in xs 3) (passes-at is xs 3 h)
-  body (op.Unary o) xs u h = plain is 1 (unary_code o (register_in xs 0) (register_in xs 1)) (unary-none o (register_in xs 0) (register_in xs 1))
+  body (op.Unary o) xs u h = plain reach is 1 (unary_code o (register_in xs 0) (register_in xs 1)) (unary-none o (register_in xs 0) (register_in xs 1))
   body (op.Plain plain_op.Movi) xs u h = load (register_in xs 0) (operand_in xs 1) (passes-at is xs 1 h)
-  body (op.Plain o) xs u h = none is 1 0
-  body o xs u h = none is 1 0
+  body (op.Plain o) xs u h = none reach is 1 0
+  body o xs u h = none reach is 1 0
 
   -- a register that is saved is stored
-  saved : (choices : List Choice) (xs : List Item) → Emits is 1 0 xs → Emits is 1 (spills choices) (saved_items choices xs)
-  saved [] xs a = a
-  saved (Free r ∷ choices) xs a = saved choices xs a
-  saved (Own r ∷ choices) xs a = saved choices xs a
-  saved (Spill r k ∷ choices) xs a =
+  pub saved : (s : ℕ) (choices : List Choice) (xs : List Item) → Emits reach is 1 s xs → Emits reach is 1 (spills choices + s) (saved_items choices xs)
+  saved s [] xs a = more reach is 1 1 s (0 + s) xs (omega arith) (omega arith) a
+  saved s (Free r ∷ choices) xs a = saved s choices xs a
+  saved s (Own r ∷ choices) xs a = saved s choices xs a
+  saved s (Spill r k ∷ choices) xs a =
       let restores : List Item = One (instr.Imm imm.Ld r 8 (slot_offset k)) ∷ [] in
-      let inner = append is 1 0 (spills choices) 0 (saved_items choices xs) restores (saved choices xs a) (plain is 0 (instr.Imm imm.Ld r 8 (slot_offset k) ∷ []) refl) in
-      more is (0 + (1 + 0)) 1 (1 + (spills choices + 0)) (spills choices + 1) (saved_items (Spill r k ∷ choices) xs) (omega arith) (omega arith)
-      (append is 0 (1 + 0) 1 (spills choices + 0) (One (instr.Store Sd 8 r (slot_offset k)) ∷ []) (saved_items choices xs ++ restores)
-      (instructions is 0 1 (instr.Store Sd 8 r (slot_offset k) ∷ []) (omega arith)) inner)
+      let inner = append reach is 1 0 (spills choices + s) 0 (saved_items choices xs) restores (saved s choices xs a) (plain reach is 0 (instr.Imm imm.Ld r 8 (slot_offset k) ∷ []) refl) in
+      more reach is (0 + (1 + 0)) 1 (1 + (spills choices + s + 0)) (spills choices + 1 + s) (saved_items (Spill r k ∷ choices) xs) (omega arith) (omega arith)
+      (append reach is 0 (1 + 0) 1 (spills choices + s + 0) (One (instr.Store Sd 8 r (slot_offset k)) ∷ []) (saved_items choices xs ++ restores)
+      (instructions reach is 0 1 (instr.Store Sd 8 r (slot_offset k) ∷ []) (omega arith)) inner)
 
-  pub values-emit : (n : Node) (choices : List Choice) → AllPass is n.operands → Emits is 1 (spills choices) (value_items n choices)
-  values-emit n choices h = saved choices (body_items n.op n.operands (first_taken choices)) (body n.op n.operands (first_taken choices) h)
+  pub values-emit : (n : Node) (choices : List Choice) → AllPass is n.operands → Emits reach is 1 (spills choices) (value_items n choices)
+  values-emit n choices h =
+      more reach is 1 1 (spills choices + 0) (spills choices) (value_items n choices) (omega arith) (omega arith)
+      (saved 0 choices (body_items n.op n.operands (first_taken choices)) (body n.op n.operands (first_taken choices) h))

@@ -3,27 +3,29 @@ use Rattle.std.specs.Prelude.{ℕ, Bool, List}
 use Rattle.lg_op.specs.declared.node.Node.{Node}
 use Rattle.lg_sel.specs.Families.{Families}
 use Rattle.lg_sel.specs.Families as families
+use Rattle.lg_sel_items.specs.declared.reach.Reach.{Reach}
 use Rattle.lg_selr_control.specs.ControlItems.{control_items}
 use Rattle.lg_selr_control.specs.Retvals.{retval_items}
 use Rattle.lg_selr_items.specs.declared.items.Item.{Item}
 use Rattle.lg_selr_items.specs.Items.{ones}
-use Rattle.lg_selr_memory.specs.Accesses.{load_code, store_code}
+use Rattle.lg_selr_memory.specs.Accesses.{load_items, store_items}
 use Rattle.lg_selr_memory.specs.ArgumentCode.{argument_code}
 use Rattle.lg_selr_memory.specs.PushCode.{push_code}
 use Rattle.lg_selr_values.specs.ValueItems.{value_items}
 use Rattle.lg_temp.specs.declared.choice.Choice.{Choice}
 
-abbrev pub rv_families : Families Item
-rv_families = record {
+-- with this reach
+abbrev pub rv_families : Reach → Families Item
+rv_families reach = record {
   values = λ frame n choices. value_items n choices;
-  load = λ frame t at n. ones (load_code t at n);
-  store = λ frame t at n. ones (store_code t at n);
+  load = λ frame t at n choices. load_items t at n choices;
+  store = λ frame t at n choices. store_items t at n choices;
   argument = λ frame t n. ones (argument_code t n);
   result = λ frame t n choices. retval_items t n.operands;
   push = λ frame j n. push_code j n;
-  control = control_items;
+  control = control_items reach;
 }
 
 -- those of a node of a function with such a frame, with these choices, where these arguments are staged and the code begins at a place
-abbrev pub node_items : Node → ℕ → List Choice → List Bool → ℕ → List Item
-node_items n frame choices staged place = families.node_items rv_families n frame choices staged place
+abbrev pub node_items : Reach → Node → ℕ → List Choice → List Bool → ℕ → List Item
+node_items reach n frame choices staged place = families.node_items (rv_families reach) n frame choices staged place

@@ -8,15 +8,16 @@ ghost use Rattle.lg_selr_values.specs.ValueItems.{HaveSlots};
 
 use lg_op::{ControlOp, Node, Op, PlainOp};
 use lg_sel::operands::staged_count;
-use lg_sel_items::Items;
+use lg_sel_items::{Items, Reach};
 use lg_selr_control::{put_control, put_retval};
 use lg_selr_items::Item;
 use lg_selr_memory::{put_argument, put_getarg, put_load, put_store};
 use lg_selr_values::value_items;
 use lg_temp::choice::{Choices, Staged};
 
-// Appends the items of a node to none. Its code begins at a place of the buffer.
+// Appends the items of a node with a reach to none. Its code begins at a place of the buffer.
 pub(crate) fn put_items(
+    reach: Reach,
     node: &Node,
     frame: u32,
     choices: &Choices,
@@ -30,17 +31,17 @@ pub(crate) fn put_items(
     requires slots { HaveSlots choices.now }
     requires staged { is_pusharg node.now.op ≡ true → AreFirst staged.now.arguments }
     requires empty { items.old ≡ [] }
-    ensures { items.new ≡ node_items node.now frame choices.now staged.now.arguments place }
+    ensures { items.new ≡ node_items reach node.now frame choices.now staged.now.arguments place }
 {
     match node.op {
         Op::Binary(_, _) | Op::Wide(_, _) | Op::Unary(_) | Op::Plain(PlainOp::Movi) => {
             value_items(node, choices, items)
         }
-        Op::Load(t, at) => put_load(t, at, node, items),
-        Op::Store(t, at) => put_store(t, at, node, items),
+        Op::Load(t, at) => put_load(t, at, node, choices, items),
+        Op::Store(t, at) => put_store(t, at, node, choices, items),
         Op::Getarg(t) => put_getarg(t, node, items),
         Op::Retval(t) => put_retval(t, node.operands.as_slice(), items),
         Op::Control(ControlOp::Pusharg, _) => put_argument(staged_count(staged), node, items),
-        _ => put_control(node, frame, place, items),
+        _ => put_control(node, frame, place, reach, items),
     }
 }

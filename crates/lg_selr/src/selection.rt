@@ -7,16 +7,16 @@ ghost use Rattle.lg_sel.specs.Asked.{NameBelow};
 ghost use Rattle.lg_op.specs.Nodes.{InForm};
 ghost use Rattle.lg_live.specs.RegSets.{has};
 ghost use Rattle.lg_sel.specs.Selected.{IsFrame, AreFirst, is_pusharg, TakesLabelsWell, IsAligned, IsFixOf};
-ghost use Rattle.lg_sel.specs.Promises.{IsCarriedWhenFinished, AreInstructionsWhenFinished, IsSparingWhenFinished};
+ghost use Rattle.lg_sel.specs.Promises.{IsCarriedWhenFinished, IsShortWhenFinished, AreInstructionsWhenFinished, IsSparingWhenFinished};
 ghost use Rattle.lg_selr.specs.Selected.{AreChosen};
 ghost use Rattle.lg_base.specs.declared.target.Target.{Target};
 
-use crate::items::put_items;
+use crate::reaches::shortest_items;
 use lg_buf::CodeBuf;
 use lg_live::reg_set::RegSet;
 use lg_op::Node;
 use lg_sel::operands::see_numbers;
-use lg_sel_items::{Items, append};
+use lg_sel_items::append;
 use lg_temp::choice::{Choices, Staged};
 
 /// Appends the code of a node to a buffer, or answers false and changes nothing, which it does only where fewer than 256 bytes are free.
@@ -28,10 +28,12 @@ use lg_temp::choice::{Choices, Staged};
 /// whole instructions, and does so behind the node.
 ///
 /// Behind an `.align` the place is a multiple of its number, and a `prolog` has bytes. Each new fix lies behind what the buffer held, names a label
-/// of the node, and reaches every instruction within 1 MiB. Once the fixes of the buffer are patched, the code is whole instructions, and carries
+/// of the node, and reaches the place of a label that is bound, and else every place, or every one within 1 MiB where the buffer's size is no more. The
+/// code that leads back to a label that is bound has the shortest form that reaches it. Once the fixes of the buffer are patched, the code is whole
+/// instructions, and carries
 /// the node where the registers of `live_after` are live behind it: no step of it but one of a host function changes a register that is outside of
-/// the conventions. It has one store for each choice that saves a register, and one more at stores, `pushargr` and `pushargi`; that of a `prolog` may
-/// have more.
+/// the conventions. It has one store for each choice that saves a register, one more at `pushargr` and `pushargi`, and at stores one for each byte that
+/// they write; that of a `prolog` may have more.
 #[must_use]
 pub fn select(
     node: &Node,
@@ -58,13 +60,13 @@ pub fn select(
     ensures aligned { IsTrue result → IsAligned node.now (length buf.new.bytes) }
     ensures whole { length buf.new.bytes % 4 ≡ 0 }
     ensures begins { IsTrue result → is_prolog node.now.op ≡ true → length buf.old.bytes < length buf.new.bytes }
-    ensures lead { IsTrue result → All (IsFixOf 4 (length buf.old.bytes) node.now) (drop (length buf.old.fixes) buf.new.fixes) }
+    ensures lead { IsTrue result → All (IsFixOf 4 buf.old node.now) (drop (length buf.old.fixes) buf.new.fixes) }
+    ensures shortest { IsTrue result → IsShortWhenFinished Target.Riscv64 node.now buf.old buf.new }
     ensures instructions { IsTrue result → AreInstructionsWhenFinished Target.Riscv64 buf.old buf.new }
     ensures sparing { IsTrue result → IsSparingWhenFinished Target.Riscv64 node.now choices.now buf.old buf.new }
     ensures carries { IsTrue result → IsCarriedWhenFinished Target.Riscv64 node.now frame (has live_after) staged.arguments buf.old buf.new }
 {
     see_numbers(node.operands.as_slice());
-    let mut items = Items::new(buf.allocator());
-    put_items(node, frame, choices, &staged, buf.here(), &mut items);
+    let (_reach, items) = shortest_items(node, frame, choices, live_after, &staged, buf);
     append(&items, buf)
 }

@@ -18,16 +18,13 @@ use Rattle.lg_carry_rv.proofs.ComputationLemmas.{computed-append, all-compute-ap
 use Rattle.lg_carry_rv.proofs.RegisterLemmas.{register-apart}
 use Rattle.lg_sel_nodes.specs.Leaps.{BranchesLead}
 use Rattle.lg_selr_control.specs.Branches.{failing, left_of, right_of, bits_code}
+use Rattle.lg_sel_items.specs.declared.reach.Reach.{Reach}
 use Rattle.lg_selr_control.specs.ControlItems.{second_register}
 use Rattle.lg_carry_rv.specs.RvComputers.{rv_scratch}
 use Rattle.lg_selr_control.specs.TwoWays.{second_code, before_branch, branch_code}
 use Rattle.lg_carry_rv.proofs.RegisterLemmas.{read-of}
 use Rattle.lg_selr_control.proofs.TwoWayLemmas.{IsMade, second-made, two-ways}
-use Rattle.lg_selr_control.proofs.WordLemmas.{put-other}
-
-twice : (b : Bool) → not (not b) ≡ b
-twice true = refl
-twice false = refl
+use Rattle.lg_selr_control.proofs.WordLemmas.{twice, put-other}
 
 -- the conjunction of the bits is made where the condition asks for it
 record Compares (o : Condition) (a b x y : ℕ) (w : ℕ → ℕ) : Type 0 where
@@ -87,9 +84,9 @@ compares condition.Mc a b x y w ea eb =
 pub read-other : (w u : ℕ → ℕ) (r : ℕ) → u r ≡ w r → read u r ≡ read w r
 read-other w u r e = ap (λ z. if r == 0 then 0 else z) e
 
-pub branches-lead : (code : List ℕ) (trash : ℕ) → length code ≤ most_code → AreBytes code → trash < 2 ^ 64
-    → BranchesLead (rv_rows code trash) rv_scratch IsInstr branch_code
-branches-lead code trash small bytes word frame o a b x y from to q f k there next runs at ea eb near =
+pub branches-lead : (r : Reach) (code : List ℕ) (trash : ℕ) → length code ≤ most_code → AreBytes code → trash < 2 ^ 64
+    → BranchesLead (rv_rows code trash) rv_scratch IsInstr (branch_code r)
+branches-lead reach code trash small bytes word frame o a b x y from to q f k there next runs at ea eb near =
     let w : ℕ → ℕ = q.state.registers in
     let ra : ℕ = register_of Riscv64 a in
     let made : IsMade b y w = second-made b y w eb near in
@@ -99,7 +96,7 @@ branches-lead code trash small bytes word frame o a b x y from to q f k there ne
     let bits = bits_code o ra (second_register b) in
     let all = computed-append (second_code b) bits w in
     let few : length (before_branch o a b) ≤ 60 = let l = length-append (second_code b) bits in let m = made.few in let n = c.few in omega (arith, l, m, n) in
-    two-ways code trash small bytes word (before_branch o a b) (failing o) (left_of o ra (second_register b)) (right_of o ra (second_register b)) from to q k
+    two-ways reach code trash small bytes word (before_branch o a b) (failing o) (left_of o ra (second_register b)) (right_of o ra (second_register b)) from to q k
     (all-compute-append (second_code b) bits made.computes c.computes) few runs at (holds o x y) there next
     (ap (λ (u : ℕ → ℕ). is_taken (failing o) (read u (left_of o ra (second_register b))) (read u (right_of o ra (second_register b)))) all ∙ c.taken)
     w (λ z z1 z31. ap (λ u. u z) all ∙ c.others z z1 ∙ made.others z z1)

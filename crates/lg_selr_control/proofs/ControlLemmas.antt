@@ -30,9 +30,13 @@ use Rattle.lg_sel_control.specs.Control as target_control
 use Rattle.lg_sel_control.proofs.ControlLemmas as target_lemmas
 use Rattle.lg_selr_items.specs.Items.{bytes_in, settled, ones}
 use Rattle.lg_selr_items.proofs.ItemLemmas.{settled-append, settled-ones, words-ones, ones-append}
+use Rattle.lg_sel_items.specs.declared.reach.Reach.{Reach}
+use Rattle.lg_sel_items.specs.declared.reach.Reach.TheVariants.{Short, Near, Far}
 use Rattle.lg_selr_control.specs.Alignments.{align_code}
+use Rattle.lg_selr_control.specs.Calls.{call_code}
+use Rattle.lg_selr_control.specs.Jumps.{jump_code}
 use Rattle.lg_selr_control.specs.Branches.{failing, left_of, right_of, bits_code}
-use Rattle.lg_selr_control.specs.ControlItems.{second_register, second_items, jump_unless_items, branch_items, sum_items, jump_items, call_items}
+use Rattle.lg_selr_control.specs.ControlItems.{second_register, second_items, jump_unless_items, branch_items, sum_items, label_items, jump_items, call_items}
 use Rattle.lg_selr_control.specs.ControlItems.{register_leap_items, leap_items, ret_items, result_items, align_items, plain_items, control_items}
 use Rattle.lg_selr_control.specs.ControlLaws.{ControlNodesCarry}
 use Rattle.lg_selr_control.specs.HostCalls.{rv_ready}
@@ -40,22 +44,28 @@ use Rattle.lg_selr_control.specs.Prologs.{prolog_code}
 use Rattle.lg_selr_control.specs.Returns.{return_code}
 use Rattle.lg_selr_control.specs.SumBranches.{sum_code, staying}
 use Rattle.lg_selr_control.specs.Targets.{rv_control}
-use Rattle.lg_selr_control.specs.TwoWays.{jump_over, second_code}
+use Rattle.lg_selr_control.specs.TwoWays.{leads_unless, branch_behind, second_code}
 use Rattle.lg_selr_control.proofs.TargetLemmas.{is-target, has-places}
 
 -- ---- the instructions of items
--- a branch over a jump, behind two lists of instructions
-unless-settled : (to : ℕ → ℕ) (at : ℕ) (xs ys : List Instr) (o : BranchOp) (a b : ℕ) (l : Label)
-    → settled to at (ones xs ++ (ones ys ++ jump_unless_items o a b l)) ≡ jump_over (xs ++ ys) o a b at (to l.0)
-unless-settled to at xs ys o a b l =
-    let rest = jump_unless_items o a b l in
+-- what leads to a label unless a branch is taken
+leads-settled : (r : Reach) (to : ℕ → ℕ) (at : ℕ) (o : BranchOp) (a b : ℕ) (l : Label) → settled to at (jump_unless_items r o a b l) ≡ leads_unless r o a b at (to l.0)
+leads-settled Short to at o a b l = refl
+leads-settled Near to at o a b l = refl
+leads-settled Far to at o a b l = refl
+
+-- it stands behind two lists of instructions
+pub unless-settled : (r : Reach) (to : ℕ → ℕ) (at : ℕ) (xs ys : List Instr) (o : BranchOp) (a b : ℕ) (l : Label)
+    → settled to at (ones xs ++ (ones ys ++ jump_unless_items r o a b l)) ≡ branch_behind r (xs ++ ys) o a b at (to l.0)
+unless-settled r to at xs ys o a b l =
+    let rest = jump_unless_items r o a b l in
     let front = xs ++ ys in
     let joined : ones xs ++ (ones ys ++ rest) ≡ ones front ++ rest =
     sym (append_assoc (ones xs) (ones ys) rest) ∙ ap (λ z. z ++ rest) (sym (ones-append xs ys)) in
     let size = words-ones front in
-    let place : at + bytes_in (ones front) + 4 * 1 ≡ at + (4 * length front + 4) = omega (arith, size) in
+    let place : at + bytes_in (ones front) ≡ at + 4 * length front = omega (arith, size) in
     ap (settled to at) joined ∙ settled-append to at (ones front) rest ∙ ap (λ z. z ++ settled to (at + bytes_in (ones front)) rest) (settled-ones to at front)
-    ∙ ap (λ p. front ++ (instr.Branch o a b (pos 8) ∷ instr.Jal 0 (pos (to l.0) -ℤ pos p) ∷ [])) place
+    ∙ ap (λ p. front ++ settled to p rest) place ∙ ap (λ z. front ++ z) (leads-settled r to (at + 4 * length front) o a b l)
 
 -- instructions, and then others
 ones-settled : (to : ℕ → ℕ) (at : ℕ) (xs ys : List Instr) → settled to at (ones xs ++ ones ys) ≡ xs ++ ys
@@ -69,50 +79,60 @@ second-is (operand.Host name) = refl
 second-is (operand.Label l) = refl
 second-is (operand.Slot k) = refl
 
-module _ (to : ℕ → ℕ) (frame at : ℕ) where
-  branches : (o : Condition) (xs : List Operand) → settled to at (branch_items o xs) ≡ branch_of rv_control to frame at o xs
+labels-jump : (r : Reach) (to : ℕ → ℕ) (at : ℕ) (l : Label) → settled to at (label_items r 0 31 l) ≡ jump_code r at (to l.0)
+labels-jump Short to at l = refl
+labels-jump Near to at l = refl
+labels-jump Far to at l = refl
+
+labels-call : (r : Reach) (to : ℕ → ℕ) (at : ℕ) (l : Label) → settled to at (label_items r 1 1 l) ≡ call_code r at (to l.0)
+labels-call Short to at l = refl
+labels-call Near to at l = refl
+labels-call Far to at l = refl
+
+module _ (r : Reach) (to : ℕ → ℕ) (frame at : ℕ) where
+  branches : (o : Condition) (xs : List Operand) → settled to at (branch_items r o xs) ≡ branch_of (rv_control r) to frame at o xs
   branches o (operand.Label l ∷ operand.Reg a ∷ x ∷ []) =
       let ra : ℕ = register_of Riscv64 a in let b : ℕ = second_register x in
-      ap (λ ys. settled to at (ys ++ (ones (bits_code o ra b) ++ jump_unless_items (failing o) (left_of o ra b) (right_of o ra b) l))) (second-is x)
-      ∙ unless-settled to at (second_code x) (bits_code o ra b) (failing o) (left_of o ra b) (right_of o ra b) l
+      ap (λ ys. settled to at (ys ++ (ones (bits_code o ra b) ++ jump_unless_items r (failing o) (left_of o ra b) (right_of o ra b) l))) (second-is x)
+      ∙ unless-settled r to at (second_code x) (bits_code o ra b) (failing o) (left_of o ra b) (right_of o ra b) l
   branches o xs = refl
 
-  sum-branches : (o : BranchSumOp) (xs : List Operand) → settled to at (sum_items o xs) ≡ sum_branch_of rv_control to frame at o xs
+  sum-branches : (o : BranchSumOp) (xs : List Operand) → settled to at (sum_items r o xs) ≡ sum_branch_of (rv_control r) to frame at o xs
   sum-branches o (operand.Label l ∷ operand.Reg a ∷ x ∷ []) =
       let body : List Instr = sum_code o (register_of Riscv64 a) (second_register x) in
-      ap (λ ys. settled to at (ys ++ (ones body ++ jump_unless_items (staying o) 31 0 l))) (second-is x)
-      ∙ unless-settled to at (second_code x) body (staying o) 31 0 l
+      ap (λ ys. settled to at (ys ++ (ones body ++ jump_unless_items r (staying o) 31 0 l))) (second-is x)
+      ∙ unless-settled r to at (second_code x) body (staying o) 31 0 l
   sum-branches o xs = refl
 
-  jumps : (xs : List Operand) → settled to at (jump_items xs) ≡ jump_of rv_control to at xs
-  jumps (operand.Label l ∷ []) = refl
+  jumps : (xs : List Operand) → settled to at (jump_items r xs) ≡ jump_of (rv_control r) to at xs
+  jumps (operand.Label l ∷ []) = labels-jump r to at l
   jumps xs = refl
 
-  calls : (xs : List Operand) → settled to at (call_items xs) ≡ call_of rv_control to at xs
-  calls (operand.Label l ∷ []) = refl
+  calls : (xs : List Operand) → settled to at (call_items r xs) ≡ call_of (rv_control r) to at xs
+  calls (operand.Label l ∷ []) = labels-call r to at l
   calls (operand.Host name ∷ []) = refl
   calls xs = refl
 
-  register-jumps : (xs : List Operand) → settled to at (register_leap_items 0 xs) ≡ target_control.register_of rv_control.register_jump frame xs
+  register-jumps : (xs : List Operand) → settled to at (register_leap_items 0 xs) ≡ target_control.register_of (rv_control r).register_jump frame xs
   register-jumps (operand.Reg a ∷ []) = refl
   register-jumps xs = refl
 
-  register-calls : (xs : List Operand) → settled to at (register_leap_items 1 xs) ≡ target_control.register_of rv_control.register_call frame xs
+  register-calls : (xs : List Operand) → settled to at (register_leap_items 1 xs) ≡ target_control.register_of (rv_control r).register_call frame xs
   register-calls (operand.Reg a ∷ []) = refl
   register-calls xs = refl
 
-  result : (x : Operand) → settled to at (result_items x ++ ones return_code) ≡ rv_control.ret frame (returned_of to x)
+  result : (x : Operand) → settled to at (result_items x ++ ones return_code) ≡ (rv_control r).ret frame (returned_of to x)
   result (operand.Reg a) = refl
   result (operand.Number v) = ones-settled to at (number_code 10 v) return_code
   result (operand.Host name) = ones-settled to at (number_code 10 (host_address name)) return_code
   result (operand.Label l) = refl
   result (operand.Slot k) = refl
 
-  returns : (xs : List Operand) → settled to at (ret_items xs) ≡ return_of rv_control to frame xs
+  returns : (xs : List Operand) → settled to at (ret_items xs) ≡ return_of (rv_control r) to frame xs
   returns (x ∷ []) = result x
   returns xs = refl
 
-  leaps : (o : ControlOp) (last : LastOperand) (xs : List Operand) → settled to at (leap_items o last xs) ≡ leap_of rv_control to frame at o last xs
+  leaps : (o : ControlOp) (last : LastOperand) (xs : List Operand) → settled to at (leap_items r o last xs) ≡ leap_of (rv_control r) to frame at o last xs
   leaps control.Jmp last_operand.Immediate xs = jumps xs
   leaps control.Jmp last_operand.Register xs = register-jumps xs
   leaps control.Call last_operand.Immediate xs = calls xs
@@ -122,16 +142,16 @@ module _ (to : ℕ → ℕ) (frame at : ℕ) where
   leaps control.Ret last xs = returns xs
   leaps o last xs = refl
 
-  alignments : (xs : List Operand) → settled to at (align_items at xs) ≡ align_of rv_control at xs
+  alignments : (xs : List Operand) → settled to at (align_items at xs) ≡ align_of (rv_control r) at xs
   alignments (operand.Number n ∷ []) = settled-ones to at (align_code at n)
   alignments xs = refl
 
-  plains : (o : PlainOp) (xs : List Operand) → settled to at (plain_items o xs frame at) ≡ plain_of rv_control frame at o xs
+  plains : (o : PlainOp) (xs : List Operand) → settled to at (plain_items o xs frame at) ≡ plain_of (rv_control r) frame at o xs
   plains plain.Prolog xs = settled-ones to at (prolog_code frame)
   plains plain.Align xs = alignments xs
   plains o xs = refl
 
-  items-are-code : (o : Op) (xs : List Operand) → settled to at (control_items o xs frame at) ≡ control_code rv_control to frame at o xs
+  items-are-code : (o : Op) (xs : List Operand) → settled to at (control_items r o xs frame at) ≡ control_code (rv_control r) to frame at o xs
   items-are-code (op.Branch o last) xs = branches o xs
   items-are-code (op.BranchSum o last) xs = sum-branches o xs
   items-are-code (op.Control o last) xs = leaps o last xs
@@ -139,7 +159,7 @@ module _ (to : ℕ → ℕ) (frame at : ℕ) where
   items-are-code o xs = refl
 
 pub control-nodes-carry : ControlNodesCarry
-control-nodes-carry code trash c i n frame S h w v e is-frame t k =
-    let same = items-are-code (slice_index c.addresses) frame (c.place i) n.op n.operands in
-    target_lemmas.control-nodes-carry (rv_rows code trash) rv_scratch IsInstr rv_ready rv_control (is-target code trash k.small k.bytes k.word) c i n frame S h
+control-nodes-carry r code trash c i n frame S h w v e is-frame t k =
+    let same = items-are-code r (slice_index c.addresses) frame (c.place i) n.op n.operands in
+    target_lemmas.control-nodes-carry (rv_rows code trash) rv_scratch IsInstr rv_ready (rv_control r) (is-target r code trash k.small k.bytes k.word) c i n frame S h
     (has-places code trash c w) v e is-frame t (subst (IsNodeCode (rv_rows code trash) IsInstr c i) same k.node)

@@ -33,13 +33,15 @@ use Rattle.lg_carry_rv.specs.Numbers.{number_code, high_part, low_part}
 use Rattle.lg_carry_rv.proofs.NumberCodeLemmas.{low-small, numbers-are-loaded}
 use Rattle.lg_carry_rv.proofs.RegisterLemmas.{register-small}
 use Rattle.lg_selr_items.specs.declared.items.Item.{Item}
-use Rattle.lg_selr_items.specs.declared.items.Item.TheVariants.{One, Jump}
+use Rattle.lg_selr_items.specs.declared.items.Item.TheVariants.{One}
 use Rattle.lg_selr_items.specs.Items.{bytes_in, fixes_of, IsItem, AreItems, ones}
 use Rattle.lg_selr_items.proofs.ItemLemmas.{words_append, items-append, names-append, fixes-append, words-ones, items-ones, names-ones, fixes-ones, ones-append}
+use Rattle.lg_sel_items.specs.declared.reach.Reach.{Reach}
+use Rattle.lg_sel_items.specs.declared.reach.Reach.TheVariants.{Short, Near, Far}
 use Rattle.lg_selr_control.specs.Alignments.{padding, idle, align_code}
 use Rattle.lg_selr_control.specs.Branches.{failing, left_of, right_of, bits_code}
 use Rattle.lg_selr_control.specs.ControlFits.{IsGiven, AreGiven, AreEmitted, ControlItemsFit}
-use Rattle.lg_selr_control.specs.ControlItems.{second_register, second_items, jump_unless_items, register_leap_items, control_items, is_control}
+use Rattle.lg_selr_control.specs.ControlItems.{second_register, second_items, jump_unless_items, label_items, register_leap_items, control_items, is_control}
 use Rattle.lg_selr_control.specs.TwoWays.{second_code}
 use Rattle.lg_selr_control.proofs.ControlLemmas.{second-is}
 use Rattle.lg_selr_control.specs.ControlLaws.{ends_in_label}
@@ -69,8 +71,15 @@ in-front labels leaping is xs fit h = record {
   some = λ e. let z = h.some e in omega (arith, z, words_append (ones is) xs);
 }
 
-unless-emitted : (labels : ℕ) (leaping : Bool) (o : BranchOp) (a b : ℕ) (l : Label) → a < 32 → b < 32 → l.0 < labels → AreEmitted labels leaping (jump_unless_items o a b l)
-unless-emitted labels leaping o a b l ha hb lt = record {
+unless-emitted : (r : Reach) (labels : ℕ) (leaping : Bool) (o : BranchOp) (a b : ℕ) (l : Label) → a < 32 → b < 32 → l.0 < labels → AreEmitted labels leaping (jump_unless_items r o a b l)
+unless-emitted Short labels leaping o a b l ha hb lt = record { items = ((ha, hb), tt); labels = (lt, tt); one_fix = λ place. omega arith; some = λ e. omega arith }
+unless-emitted Far labels leaping o a b l ha hb lt = record {
+  items = ((ha, hb, omega arith, omega arith, refl), ((omega arith, omega arith), tt));
+  labels = (tt, (lt, tt));
+  one_fix = λ place. omega arith;
+  some = λ e. omega arith;
+}
+unless-emitted Near labels leaping o a b l ha hb lt = record {
   items = ((ha, hb, omega arith, omega arith, refl), (omega arith, tt));
   labels = (tt, (lt, tt));
   one_fix = λ place. omega arith;
@@ -179,9 +188,9 @@ prolog-fits size =
     subst AreItems (sym (ones-append (stores_below stored_registers 0) rest)) (items-append (ones (stores_below stored_registers 0)) (ones rest) (stores-fit stored_registers 0 refl (omega arith)) ((omega arith, omega arith, omega arith, omega arith), fall-fits size))
 
 -- ---- the nodes
-module _ (labels frame at : ℕ) where
+module _ (r : Reach) (labels frame at : ℕ) where
   abbrev items-of : Op → List Operand → List Item
-  items-of o xs = control_items o xs frame at
+  items-of o xs = control_items r o xs frame at
 
   -- the second operand is put into its register
   second-fits : (x : Operand) → IsGiven labels x → AreItems (ones (second_code x))
@@ -200,10 +209,10 @@ module _ (labels frame at : ℕ) where
 
   -- and other instructions stand between that and a branch over a jump
   branched : (x : Operand) (body : List Instr) (o : BranchOp) (a b : ℕ) (l : Label) → IsGiven labels x → AreItems (ones body) → a < 32 → b < 32 → l.0 < labels
-      → AreEmitted labels true (second_items x ++ (ones body ++ jump_unless_items o a b l))
+      → AreEmitted labels true (second_items x ++ (ones body ++ jump_unless_items r o a b l))
   branched x body o a b l v fit ha hb lt =
-      subst (λ ys. AreEmitted labels true (ys ++ (ones body ++ jump_unless_items o a b l))) (sym (second-is x))
-      (in-front labels true (second_code x) _ (second-fits x v) (in-front labels true body _ fit (unless-emitted labels true o a b l ha hb lt)))
+      subst (λ ys. AreEmitted labels true (ys ++ (ones body ++ jump_unless_items r o a b l))) (sym (second-is x))
+      (in-front labels true (second_code x) _ (second-fits x v) (in-front labels true body _ fit (unless-emitted r labels true o a b l ha hb lt)))
 
   branch : (o : Condition) (last : LastOperand) (xs : List Operand) → admit (forms_of (op.Branch o last)) xs ≡ true → AreGiven labels xs
       → AreEmitted labels true (items-of (op.Branch o last) xs)
@@ -223,15 +232,17 @@ module _ (labels frame at : ℕ) where
   sum-branch o last (operand.Label l ∷ operand.Reg a ∷ []) h v = absurd (never (admits form.Update (operand.Reg a)) h)
   sum-branch o last xs h v = absurd (differ h)
 
-  jump-emitted : (rd : ℕ) (l : Label) → rd < 32 → l.0 < labels → AreEmitted labels true (Jump rd l.0 ∷ [])
-  jump-emitted rd l h lt = record { items = (h, tt); labels = (lt, tt); one_fix = λ place. omega arith; some = λ e. omega arith }
+  jump-emitted : (s : Reach) (rd base : ℕ) (l : Label) → rd < 32 → base < 32 → l.0 < labels → AreEmitted labels true (label_items s rd base l)
+  jump-emitted Short rd base l h k lt = record { items = (h, tt); labels = (lt, tt); one_fix = λ place. omega arith; some = λ e. omega arith }
+  jump-emitted Near rd base l h k lt = record { items = (h, tt); labels = (lt, tt); one_fix = λ place. omega arith; some = λ e. omega arith }
+  jump-emitted Far rd base l h k lt = record { items = ((h, k), tt); labels = (lt, tt); one_fix = λ place. omega arith; some = λ e. omega arith }
 
   jump : (xs : List Operand) → admit (forms_of (op.Control control.Jmp last_operand.Immediate)) xs ≡ true → AreGiven labels xs → AreEmitted labels true (items-of (op.Control control.Jmp last_operand.Immediate) xs)
-  jump (operand.Label l ∷ []) h v = jump-emitted 0 l (omega arith) v.0
+  jump (operand.Label l ∷ []) h v = jump-emitted r 0 31 l (omega arith) (omega arith) v.0
   jump xs h v = absurd (differ h)
 
   call : (xs : List Operand) → admit (forms_of (op.Control control.Call last_operand.Immediate)) xs ≡ true → AreGiven labels xs → AreEmitted labels true (items-of (op.Control control.Call last_operand.Immediate) xs)
-  call (operand.Label l ∷ []) h v = jump-emitted 1 l (omega arith) v.0
+  call (operand.Label l ∷ []) h v = jump-emitted r 1 1 l (omega arith) (omega arith) v.0
   call (operand.Host name ∷ []) h v = plain-emitted labels true (host_code name) (host-fits name) (λ e. omega arith)
   call xs h v = absurd (differ h)
 
@@ -286,4 +297,4 @@ module _ (labels frame at : ℕ) where
   by-op o xs c h v e = absurd (differ c)
 
 pub control-items-fit : ControlItemsFit
-control-items-fit n labels frame at c h v e = by-op labels frame at n.op n.operands c h.forms v e
+control-items-fit r n labels frame at c h v e = by-op r labels frame at n.op n.operands c h.forms v e

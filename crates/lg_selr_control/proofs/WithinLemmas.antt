@@ -17,9 +17,11 @@ use Rattle.lg_op.specs.declared.op.Op.TheVariants as op
 use Rattle.lg_op.specs.declared.op.PlainOp.{PlainOp}
 use Rattle.lg_op.specs.declared.op.PlainOp.TheVariants as plain
 use Rattle.lg_op.specs.declared.op.ValueType.{ValueType}
+use Rattle.lg_op.specs.declared.operand.Label.{Label}
 use Rattle.lg_op.specs.declared.operand.Operand.{Operand}
 use Rattle.lg_op.specs.declared.operand.Operand.TheVariants as operand
 use Rattle.lg_rv.specs.declared.instruction.Instr.TheVariants as instr
+use Rattle.lg_rv.specs.declared.instruction.BranchOp.{BranchOp}
 use Rattle.lg_rv.specs.declared.instruction.ImmOp.TheVariants.{Addi, Addiw}
 use Rattle.lg_rv.specs.declared.instruction.UpperOp.TheVariants.{Lui}
 use Rattle.lg_rv.specs.declared.instruction.RegOp.TheVariants.{Sub}
@@ -34,6 +36,8 @@ use Rattle.lg_selr_control.specs.Retvals.{extension, retval_code, retval_items}
 use Rattle.lg_selr_control.specs.SumBranches as sums
 use Rattle.lg_selr_items.specs.Items.{ones, StayWithin}
 use Rattle.lg_temp.specs.Abis.{register_of}
+use Rattle.lg_sel_items.specs.declared.reach.Reach.{Reach}
+use Rattle.lg_sel_items.specs.declared.reach.Reach.TheVariants.{Short, Near, Far}
 use Rattle.lg_selr_items.proofs.WithinLemmas.{In, portable, Within, join, stay-append, stay-ones, number}
 use Rattle.lg_selr_control.specs.ControlFits.{ControlItemsStay}
 use Rattle.lg_selr_control.specs.Retvals.{RetvalItemsStay}
@@ -71,97 +75,108 @@ sum-code sum.FitAddU a b h = (refl, (refl, (h, tt)))
 sum-code sum.FitSub a b h = (refl, (refl, (h, (refl, (h, tt)))))
 sum-code sum.FitSubU a b h = (refl, (h, tt))
 
-branched : (o : Condition) (xs : List Operand) → StayWithin (branch_items o xs)
-branched o (operand.Label l ∷ operand.Reg a ∷ x ∷ []) =
-    stay-append (controls.second_items x) _ (compared x)
-    (stay-append (ones (bits_code o (register_of Riscv64 a) (second_register x))) _ (stay-ones (bits_code o (register_of Riscv64 a) (second_register x)) (bits o (register_of Riscv64 a) (second_register x))) (tt, (refl, tt)))
-branched o xs = tt
+leads : (r : Reach) (o : BranchOp) (a b : ℕ) (l : Label) → StayWithin (controls.jump_unless_items r o a b l)
+leads Short o a b l = (tt, tt)
+leads Near o a b l = (tt, (refl, tt))
+leads Far o a b l = (tt, ((refl, refl), tt))
 
-summed : (o : BranchSumOp) (xs : List Operand) → StayWithin (sum_items o xs)
-summed o (operand.Label l ∷ operand.Reg a ∷ x ∷ []) =
-    stay-append (controls.second_items x) _ (compared x)
-    (stay-append (ones (sums.sum_code o (register_of Riscv64 a) (second_register x))) _ (stay-ones (sums.sum_code o (register_of Riscv64 a) (second_register x)) (sum-code o (register_of Riscv64 a) (second_register x) (portable a))) (tt, (refl, tt)))
-summed o xs = tt
+labelled : (r : Reach) (rd base : ℕ) (l : Label) → In rd → In base → StayWithin (controls.label_items r rd base l)
+labelled Short rd base l h k = (h, tt)
+labelled Near rd base l h k = (h, tt)
+labelled Far rd base l h k = ((k, h), tt)
 
-jumped : (xs : List Operand) → StayWithin (jump_items xs)
-jumped (operand.Label l ∷ []) = (refl, tt)
-jumped xs = tt
+module _ (r : Reach) where
+  branched : (o : Condition) (xs : List Operand) → StayWithin (branch_items r o xs)
+  branched o (operand.Label l ∷ operand.Reg a ∷ x ∷ []) =
+      stay-append (controls.second_items x) _ (compared x)
+      (stay-append (ones (bits_code o (register_of Riscv64 a) (second_register x))) _ (stay-ones (bits_code o (register_of Riscv64 a) (second_register x)) (bits o (register_of Riscv64 a) (second_register x))) (leads r _ _ _ l))
+  branched o xs = tt
 
-called : (xs : List Operand) → StayWithin (call_items xs)
-called (operand.Label l ∷ []) = (refl, tt)
-called (operand.Host name ∷ []) = (refl, (refl, tt))
-called xs = tt
+  summed : (o : BranchSumOp) (xs : List Operand) → StayWithin (sum_items r o xs)
+  summed o (operand.Label l ∷ operand.Reg a ∷ x ∷ []) =
+      stay-append (controls.second_items x) _ (compared x)
+      (stay-append (ones (sums.sum_code o (register_of Riscv64 a) (second_register x))) _ (stay-ones (sums.sum_code o (register_of Riscv64 a) (second_register x)) (sum-code o (register_of Riscv64 a) (second_register x) (portable a))) (leads r _ _ _ l))
+  summed o xs = tt
 
-result : (x : Operand) → StayWithin (result_items x)
-result (operand.Reg r) = (refl, tt)
-result (operand.Label l) = (refl, tt)
-result (operand.Number v) = word 10 (operand.Number v) refl
-result (operand.Host name) = word 10 (operand.Host name) refl
-result (operand.Slot k) = word 10 (operand.Slot k) refl
+  jumped : (xs : List Operand) → StayWithin (jump_items r xs)
+  jumped (operand.Label l ∷ []) = labelled r 0 31 l refl refl
+  jumped xs = tt
 
-returns : StayWithin (ones return_code)
-returns = (refl, (refl, (refl, (refl, (refl, (refl, (refl, tt)))))))
+  called : (xs : List Operand) → StayWithin (call_items r xs)
+  called (operand.Label l ∷ []) = labelled r 1 1 l refl refl
+  called (operand.Host name ∷ []) = (refl, (refl, tt))
+  called xs = tt
 
-returned : (xs : List Operand) → StayWithin (ret_items xs)
-returned (x ∷ []) = stay-append (result_items x) (ones return_code) (result x) returns
-returned xs = tt
+  result : (x : Operand) → StayWithin (result_items x)
+  result (operand.Reg r) = (refl, tt)
+  result (operand.Label l) = (refl, tt)
+  result (operand.Number v) = word 10 (operand.Number v) refl
+  result (operand.Host name) = word 10 (operand.Host name) refl
+  result (operand.Slot k) = word 10 (operand.Slot k) refl
 
-leapt : (rd : ℕ) (xs : List Operand) → In rd → StayWithin (register_leap_items rd xs)
-leapt rd (operand.Reg a ∷ []) h = (h, tt)
-leapt rd xs h = tt
+  returns : StayWithin (ones return_code)
+  returns = (refl, (refl, (refl, (refl, (refl, (refl, (refl, tt)))))))
 
-leaps : (o : ControlOp) (last : LastOperand) (xs : List Operand) → StayWithin (leap_items o last xs)
-leaps control.Jmp last_operand.Immediate xs = jumped xs
-leaps control.Jmp last_operand.Register xs = leapt 0 xs refl
-leaps control.Call last_operand.Immediate xs = called xs
-leaps control.Call last_operand.Register xs = leapt 1 xs refl
-leaps control.Finish last_operand.Immediate xs = called xs
-leaps control.Finish last_operand.Register xs = leapt 1 xs refl
-leaps control.Ret last xs = returned xs
-leaps control.Pusharg last xs = tt
+  returned : (xs : List Operand) → StayWithin (ret_items xs)
+  returned (x ∷ []) = stay-append (result_items x) (ones return_code) (result x) returns
+  returned xs = tt
 
-idles : (k : ℕ) → Within (idle k)
-idles zero = tt
-idles (suc k) = (refl, idles k)
+  leapt : (rd : ℕ) (xs : List Operand) → In rd → StayWithin (register_leap_items rd xs)
+  leapt rd (operand.Reg a ∷ []) h = (h, tt)
+  leapt rd xs h = tt
 
-aligned : (at : ℕ) (xs : List Operand) → StayWithin (align_items at xs)
-aligned at (operand.Number n ∷ []) = stay-ones (align_code at n) (idles (padding at n))
-aligned at xs = tt
+  leaps : (o : ControlOp) (last : LastOperand) (xs : List Operand) → StayWithin (leap_items r o last xs)
+  leaps control.Jmp last_operand.Immediate xs = jumped xs
+  leaps control.Jmp last_operand.Register xs = leapt 0 xs refl
+  leaps control.Call last_operand.Immediate xs = called xs
+  leaps control.Call last_operand.Register xs = leapt 1 xs refl
+  leaps control.Finish last_operand.Immediate xs = called xs
+  leaps control.Finish last_operand.Register xs = leapt 1 xs refl
+  leaps control.Ret last xs = returned xs
+  leaps control.Pusharg last xs = tt
 
-below : (rs : List ℕ) (k : ℕ) → Within (stores_below rs k)
-below [] k = tt
-below (r ∷ rs) k = (tt, below rs (suc k))
+  idles : (k : ℕ) → Within (idle k)
+  idles zero = tt
+  idles (suc k) = (refl, idles k)
 
-falls : (n : ℕ) → Within (fall_code n)
-falls n = by (nat_le n 2048)
-  where
-    by : (b : Bool) → Within (if b then instr.Imm Addi 2 2 (negsuc (n - 1)) ∷ [] else instr.Upper Lui 1 (high_part n) ∷ instr.Imm Addiw 1 1 (low_part n) ∷ instr.Reg Sub 2 2 1 ∷ [])
-    by true = (refl, tt)
-    by false = (refl, (refl, (refl, tt)))
+  aligned : (at : ℕ) (xs : List Operand) → StayWithin (align_items at xs)
+  aligned at (operand.Number n ∷ []) = stay-ones (align_code at n) (idles (padding at n))
+  aligned at xs = tt
 
-begins : (frame : ℕ) → Within (prolog_code frame)
-begins frame = join (stores_below stored_registers 0) (instr.Imm Addi 8 2 (negsuc 15) ∷ fall_code frame) (below stored_registers 0) (refl, falls frame)
+  below : (rs : List ℕ) (k : ℕ) → Within (stores_below rs k)
+  below [] k = tt
+  below (r ∷ rs) k = (tt, below rs (suc k))
 
-plainly : (o : PlainOp) (xs : List Operand) (frame at : ℕ) → StayWithin (plain_items o xs frame at)
-plainly plain.Prolog xs frame at = stay-ones (prolog_code frame) (begins frame)
-plainly plain.Epilog xs frame at = returns
-plainly plain.Ret xs frame at = returns
-plainly plain.Align xs frame at = aligned at xs
-plainly o xs frame at = tt
+  falls : (n : ℕ) → Within (fall_code n)
+  falls n = by (nat_le n 2048)
+    where
+      by : (b : Bool) → Within (if b then instr.Imm Addi 2 2 (negsuc (n - 1)) ∷ [] else instr.Upper Lui 1 (high_part n) ∷ instr.Imm Addiw 1 1 (low_part n) ∷ instr.Reg Sub 2 2 1 ∷ [])
+      by true = (refl, tt)
+      by false = (refl, (refl, (refl, tt)))
 
-answered : (o : Op) (xs : List Operand) (frame at : ℕ) → StayWithin (control_items o xs frame at)
-answered (op.Branch o last) xs frame at = branched o xs
-answered (op.BranchSum o last) xs frame at = summed o xs
-answered (op.Control o last) xs frame at = leaps o last xs
-answered (op.Plain o) xs frame at = plainly o xs frame at
-answered o xs frame at = tt
+  begins : (frame : ℕ) → Within (prolog_code frame)
+  begins frame = join (stores_below stored_registers 0) (instr.Imm Addi 8 2 (negsuc 15) ∷ fall_code frame) (below stored_registers 0) (refl, falls frame)
+
+  plainly : (o : PlainOp) (xs : List Operand) (frame at : ℕ) → StayWithin (plain_items o xs frame at)
+  plainly plain.Prolog xs frame at = stay-ones (prolog_code frame) (begins frame)
+  plainly plain.Epilog xs frame at = returns
+  plainly plain.Ret xs frame at = returns
+  plainly plain.Align xs frame at = aligned at xs
+  plainly o xs frame at = tt
+
+  answered : (o : Op) (xs : List Operand) (frame at : ℕ) → StayWithin (control_items r o xs frame at)
+  answered (op.Branch o last) xs frame at = branched o xs
+  answered (op.BranchSum o last) xs frame at = summed o xs
+  answered (op.Control o last) xs frame at = leaps o last xs
+  answered (op.Plain o) xs frame at = plainly o xs frame at
+  answered o xs frame at = tt
 
 retval : (t : ValueType) (xs : List Operand) → StayWithin (retval_items t xs)
 retval t (operand.Reg d ∷ []) = stay-ones (retval_code t d) (within-of (retval_code t d) (unary-good (extension t) (register_of Riscv64 d) 10 (register-small d, portable d) (omega arith)))
 retval t xs = tt
 
 pub control-items-stay : ControlItemsStay
-control-items-stay n frame at = answered n.op n.operands frame at
+control-items-stay r n frame at = answered r n.op n.operands frame at
 
 pub retval-items-stay : RetvalItemsStay
 retval-items-stay t xs = retval t xs

@@ -19,11 +19,13 @@ use Rattle.lg_rv.specs.declared.instruction.Instr.TheVariants as instr
 use Rattle.lg_rv.specs.declared.instruction.ImmOp.TheVariants.{Addi}
 use Rattle.lg_temp.specs.Abis.{register_of}
 use Rattle.lg_carry_rv.specs.Numbers.{number_code}
+use Rattle.lg_sel_items.specs.declared.reach.Reach.{Reach}
+use Rattle.lg_sel_items.specs.declared.reach.Reach.TheVariants.{Short, Near, Far}
 use Rattle.lg_selr_items.specs.declared.items.Item.{Item}
-use Rattle.lg_selr_items.specs.declared.items.Item.TheVariants.{One, Jump, Address}
+use Rattle.lg_selr_items.specs.declared.items.Item.TheVariants.{One, Branch, Jump, FarJump, Address}
 use Rattle.lg_selr_items.specs.Items.{ones}
 use Rattle.lg_selr_control.specs.Alignments.{align_code}
-use Rattle.lg_selr_control.specs.Branches.{failing, left_of, right_of, bits_code}
+use Rattle.lg_selr_control.specs.Branches.{turned, failing, left_of, right_of, bits_code}
 use Rattle.lg_selr_control.specs.HostCalls.{host_code}
 use Rattle.lg_sel_control.specs.Control as target_control
 use Rattle.lg_sel_nodes.specs.Immediates.{immediate}
@@ -47,28 +49,35 @@ second_items (operand.Reg b) = []
 second_items x = word_items 1 (immediate x)
 
 -- ---- branches
--- a branch over a jump to a label
-abbrev pub jump_unless_items : BranchOp → ℕ → ℕ → Label → List Item
-jump_unless_items o a b l = One (instr.Branch o a b (pos 8)) ∷ Jump 0 l.0 ∷ []
+-- to a label, unless a branch is taken: the turned branch, or the branch over a jump
+abbrev pub jump_unless_items : Reach → BranchOp → ℕ → ℕ → Label → List Item
+jump_unless_items Short o a b l = Branch (turned o) a b l.0 ∷ []
+jump_unless_items Near o a b l = One (instr.Branch o a b (pos 8)) ∷ Jump 0 l.0 ∷ []
+jump_unless_items Far o a b l = One (instr.Branch o a b (pos 12)) ∷ FarJump 0 31 l.0 ∷ []
 
-abbrev pub branch_items : Condition → List Operand → List Item
-branch_items o (operand.Label l ∷ operand.Reg a ∷ x ∷ []) =
-    second_items x ++ (ones (bits_code o (register_of Riscv64 a) (second_register x)) ++ jump_unless_items (failing o) (left_of o (register_of Riscv64 a) (second_register x)) (right_of o (register_of Riscv64 a) (second_register x)) l)
-branch_items o xs = []
+abbrev pub branch_items : Reach → Condition → List Operand → List Item
+branch_items r o (operand.Label l ∷ operand.Reg a ∷ x ∷ []) =
+    second_items x ++ (ones (bits_code o (register_of Riscv64 a) (second_register x)) ++ jump_unless_items r (failing o) (left_of o (register_of Riscv64 a) (second_register x)) (right_of o (register_of Riscv64 a) (second_register x)) l)
+branch_items r o xs = []
 
-abbrev pub sum_items : BranchSumOp → List Operand → List Item
-sum_items o (operand.Label l ∷ operand.Reg a ∷ x ∷ []) = second_items x ++ (ones (sum_code o (register_of Riscv64 a) (second_register x)) ++ jump_unless_items (staying o) 31 0 l)
-sum_items o xs = []
+abbrev pub sum_items : Reach → BranchSumOp → List Operand → List Item
+sum_items r o (operand.Label l ∷ operand.Reg a ∷ x ∷ []) = second_items x ++ (ones (sum_code o (register_of Riscv64 a) (second_register x)) ++ jump_unless_items r (staying o) 31 0 l)
+sum_items r o xs = []
 
 -- ---- jumps, calls and returns
-abbrev pub jump_items : List Operand → List Item
-jump_items (operand.Label l ∷ []) = Jump 0 l.0 ∷ []
-jump_items xs = []
+-- a jump to a label that puts the address behind it into a register, by way of another one where it is far
+abbrev pub label_items : Reach → ℕ → ℕ → Label → List Item
+label_items Far rd base l = FarJump rd base l.0 ∷ []
+label_items r rd base l = Jump rd l.0 ∷ []
 
-abbrev pub call_items : List Operand → List Item
-call_items (operand.Label l ∷ []) = Jump 1 l.0 ∷ []
-call_items (operand.Host name ∷ []) = ones (host_code name)
-call_items xs = []
+abbrev pub jump_items : Reach → List Operand → List Item
+jump_items r (operand.Label l ∷ []) = label_items r 0 31 l
+jump_items r xs = []
+
+abbrev pub call_items : Reach → List Operand → List Item
+call_items r (operand.Label l ∷ []) = label_items r 1 1 l
+call_items r (operand.Host name ∷ []) = ones (host_code name)
+call_items r xs = []
 
 -- the word of the result, into x10
 abbrev pub result_items : Operand → List Item
@@ -85,15 +94,15 @@ abbrev pub register_leap_items : ℕ → List Operand → List Item
 register_leap_items rd (operand.Reg a ∷ []) = ones (register_leap_code rd a)
 register_leap_items rd xs = []
 
-abbrev pub leap_items : ControlOp → LastOperand → List Operand → List Item
-leap_items control.Jmp last_operand.Immediate xs = jump_items xs
-leap_items control.Jmp last_operand.Register xs = register_leap_items 0 xs
-leap_items control.Call last_operand.Immediate xs = call_items xs
-leap_items control.Call last_operand.Register xs = register_leap_items 1 xs
-leap_items control.Finish last_operand.Immediate xs = call_items xs
-leap_items control.Finish last_operand.Register xs = register_leap_items 1 xs
-leap_items control.Ret last xs = ret_items xs
-leap_items o last xs = []
+abbrev pub leap_items : Reach → ControlOp → LastOperand → List Operand → List Item
+leap_items r control.Jmp last_operand.Immediate xs = jump_items r xs
+leap_items r control.Jmp last_operand.Register xs = register_leap_items 0 xs
+leap_items r control.Call last_operand.Immediate xs = call_items r xs
+leap_items r control.Call last_operand.Register xs = register_leap_items 1 xs
+leap_items r control.Finish last_operand.Immediate xs = call_items r xs
+leap_items r control.Finish last_operand.Register xs = register_leap_items 1 xs
+leap_items r control.Ret last xs = ret_items xs
+leap_items r o last xs = []
 
 -- ---- the others
 abbrev pub align_items : ℕ → List Operand → List Item
@@ -107,13 +116,13 @@ plain_items plain.Ret xs frame at = ones return_code
 plain_items plain.Align xs frame at = align_items at xs
 plain_items o xs frame at = []
 
--- ---- of a node in a function with a frame of so many bytes, whose code begins at an address
-abbrev pub control_items : Op → List Operand → ℕ → ℕ → List Item
-control_items (op.Branch o last) xs frame at = branch_items o xs
-control_items (op.BranchSum o last) xs frame at = sum_items o xs
-control_items (op.Control o last) xs frame at = leap_items o last xs
-control_items (op.Plain o) xs frame at = plain_items o xs frame at
-control_items o xs frame at = []
+-- ---- of a node in a function with a frame of so many bytes, whose code begins at an address and has a reach
+abbrev pub control_items : Reach → Op → List Operand → ℕ → ℕ → List Item
+control_items r (op.Branch o last) xs frame at = branch_items r o xs
+control_items r (op.BranchSum o last) xs frame at = sum_items r o xs
+control_items r (op.Control o last) xs frame at = leap_items r o last xs
+control_items r (op.Plain o) xs frame at = plain_items o xs frame at
+control_items r o xs frame at = []
 
 -- the operations whose nodes have these items
 abbrev pub is_control : Op → Bool

@@ -1,15 +1,15 @@
 // Branches on a condition.
 
 ghost use Rattle.std.specs.Prelude.{◌≡◌, ◌+◌, ◌<◌, ◌≤◌, [], ◌++◌};
-ghost use Rattle.lg_selr_control.specs.Branches.{failing, left_of, right_of, bits_code};
+ghost use Rattle.lg_selr_control.specs.Branches.{turned, failing, left_of, right_of, bits_code};
 ghost use Rattle.lg_selr_control.specs.ControlItems.{jump_unless_items, branch_items};
 ghost use Rattle.lg_selr_items.specs.Items.{words_in, ones};
 
 use crate::operands::{put_second, second_register};
 use lg_op::{Condition, Label, Operand};
-use lg_rv::{BranchOp, Instr, RegOp};
-use lg_sel_items::Items;
-use lg_selr_items::{Item, register_of, row};
+use lg_rv::{BranchOp, RegOp};
+use lg_sel_items::{Items, Reach};
+use lg_selr_items::{Item, branch, register_of, row};
 
 // The branch that is taken where a condition fails.
 fn failing(condition: Condition) -> BranchOp
@@ -60,28 +60,65 @@ fn put_bits(condition: Condition, a: u8, b: u8, items: &mut Items<Item>)
     }
 }
 
-// Appends a branch over a jump to a label.
-#[tactic(auto, using(lg_selr_items::proofs::ItemLemmas::words_append))]
-pub(crate) fn put_jump_unless(op: BranchOp, rs1: u8, rs2: u8, label: Label, items: &mut Items<Item>)
-    requires { words_in items.old ≤ 60 }
-    ensures { items.new ≡ items.old ++ jump_unless_items op rs1 rs2 label }
+// The branch that is taken where another one is not.
+fn turned(op: BranchOp) -> BranchOp
+    ensures { result ≡ turned op }
 {
-    items.one(Instr::Branch {
-        op,
-        rs1,
-        rs2,
-        offset: 8,
-    });
-    items.push(Item::Jump {
-        rd: 0,
-        label: label.0,
-    });
+    match op {
+        BranchOp::Beq => BranchOp::Bne,
+        BranchOp::Bne => BranchOp::Beq,
+        BranchOp::Blt => BranchOp::Bge,
+        BranchOp::Bge => BranchOp::Blt,
+        BranchOp::Bltu => BranchOp::Bgeu,
+        BranchOp::Bgeu => BranchOp::Bltu,
+    }
+}
+
+// Appends what leads to a label unless a branch is taken: the turned branch, or the branch over a jump.
+#[tactic(auto, using(lg_selr_items::proofs::ItemLemmas::words_append))]
+pub(crate) fn put_jump_unless(
+    reach: Reach,
+    op: BranchOp,
+    rs1: u8,
+    rs2: u8,
+    label: Label,
+    items: &mut Items<Item>,
+)
+    requires { words_in items.old ≤ 60 }
+    ensures { items.new ≡ items.old ++ jump_unless_items reach op rs1 rs2 label }
+{
+    let label = label.0;
+    match reach {
+        Reach::Short => items.push(Item::Branch {
+            op: turned(op),
+            rs1,
+            rs2,
+            label,
+        }),
+        Reach::Near => {
+            items.one(branch(op, rs1, rs2, 8));
+            items.push(Item::Jump { rd: 0, label });
+        }
+        Reach::Far => {
+            items.one(branch(op, rs1, rs2, 12));
+            items.push(Item::FarJump {
+                rd: 0,
+                base: 31,
+                label,
+            });
+        }
+    }
 }
 
 // Appends the items of a branch to none.
-pub(crate) fn put_branch(condition: Condition, operands: &[Operand], items: &mut Items<Item>)
+pub(crate) fn put_branch(
+    reach: Reach,
+    condition: Condition,
+    operands: &[Operand],
+    items: &mut Items<Item>,
+)
     requires { items.old ≡ [] }
-    ensures { items.new ≡ branch_items condition operands.now }
+    ensures { items.new ≡ branch_items reach condition operands.now }
 {
     match operands {
         [Operand::Label(label), Operand::Reg(first), second] => {
@@ -91,7 +128,7 @@ pub(crate) fn put_branch(condition: Condition, operands: &[Operand], items: &mut
             put_bits(condition, a, b, items);
             let left = left_of(condition, a, b);
             let right = right_of(condition, a, b);
-            put_jump_unless(failing(condition), left, right, *label, items);
+            put_jump_unless(reach, failing(condition), left, right, *label, items);
         }
         _ => {}
     }

@@ -1,16 +1,16 @@
 // Jumps, calls and returns.
 
 ghost use Rattle.std.specs.Prelude.{◌≡◌, ◌+◌, ◌<◌, ◌≤◌, [], ◌++◌};
-ghost use Rattle.lg_selr_control.specs.ControlItems.{jump_items, call_items, result_items, ret_items, register_leap_items, leap_items};
+ghost use Rattle.lg_selr_control.specs.ControlItems.{label_items, jump_items, call_items, result_items, ret_items, register_leap_items, leap_items};
 ghost use Rattle.lg_selr_control.specs.HostCalls.{host_code};
 ghost use Rattle.lg_selr_items.specs.Items.{words_in, ones};
 
 use crate::frames::put_return;
 use crate::operands::put_word;
 use lg_base::host_name::HostName;
-use lg_op::{ControlOp, LastOperand, Operand};
+use lg_op::{ControlOp, Label, LastOperand, Operand};
 use lg_rv::{ImmOp, Instr, UpperOp};
-use lg_sel_items::Items;
+use lg_sel_items::{Items, Reach};
 use lg_selr_items::{Item, high_part, imm, low_part, register_of};
 
 // The call of a host function: the address of its entry goes into the link, and the jump there links.
@@ -26,30 +26,36 @@ fn host_code(name: HostName) -> [Instr; 2]
     [lui, imm(ImmOp::Jalr, 1, 1, low_part(entry))]
 }
 
-// Appends the items of `jmpi` to none.
-fn put_jump(operands: &[Operand], items: &mut Items<Item>)
+// Appends a jump to a label to none, which puts the address behind it into rd, by way of base where it is far.
+fn put_label(reach: Reach, rd: u8, base: u8, label: Label, items: &mut Items<Item>)
     requires { items.old ≡ [] }
-    ensures { items.new ≡ jump_items operands.now }
+    ensures { items.new ≡ label_items reach rd base label }
+{
+    let label = label.0;
+    match reach {
+        Reach::Far => items.push(Item::FarJump { rd, base, label }),
+        Reach::Short | Reach::Near => items.push(Item::Jump { rd, label }),
+    }
+}
+
+// Appends the items of `jmpi` to none.
+fn put_jump(reach: Reach, operands: &[Operand], items: &mut Items<Item>)
+    requires { items.old ≡ [] }
+    ensures { items.new ≡ jump_items reach operands.now }
 {
     match operands {
-        [Operand::Label(label)] => items.push(Item::Jump {
-            rd: 0,
-            label: label.0,
-        }),
+        [Operand::Label(label)] => put_label(reach, 0, 31, *label, items),
         _ => {}
     }
 }
 
 // Appends the items of `calli` and `finishi` to none.
-fn put_call(operands: &[Operand], items: &mut Items<Item>)
+fn put_call(reach: Reach, operands: &[Operand], items: &mut Items<Item>)
     requires { items.old ≡ [] }
-    ensures { items.new ≡ call_items operands.now }
+    ensures { items.new ≡ call_items reach operands.now }
 {
     match operands {
-        [Operand::Label(label)] => items.push(Item::Jump {
-            rd: 1,
-            label: label.0,
-        }),
+        [Operand::Label(label)] => put_label(reach, 1, 1, *label, items),
         [Operand::Host(name)] => items.all(&host_code(*name)),
         _ => {}
     }
@@ -98,18 +104,21 @@ fn put_ret(operands: &[Operand], items: &mut Items<Item>)
 
 // Appends the items of a jump, a call or a return to none.
 pub(crate) fn put_leap(
+    reach: Reach,
     op: ControlOp,
     last: LastOperand,
     operands: &[Operand],
     items: &mut Items<Item>,
 )
     requires { items.old ≡ [] }
-    ensures { items.new ≡ leap_items op last operands.now }
+    ensures { items.new ≡ leap_items reach op last operands.now }
 {
     match (op, last) {
-        (ControlOp::Jmp, LastOperand::Immediate) => put_jump(operands, items),
+        (ControlOp::Jmp, LastOperand::Immediate) => put_jump(reach, operands, items),
         (ControlOp::Jmp, LastOperand::Register) => put_register_leap(0, operands, items),
-        (ControlOp::Call | ControlOp::Finish, LastOperand::Immediate) => put_call(operands, items),
+        (ControlOp::Call | ControlOp::Finish, LastOperand::Immediate) => {
+            put_call(reach, operands, items)
+        }
         (ControlOp::Call | ControlOp::Finish, LastOperand::Register) => {
             put_register_leap(1, operands, items)
         }

@@ -9,7 +9,7 @@ use crate::branches::put_jump_unless;
 use crate::operands::{put_second, second_register};
 use lg_op::{BranchSumOp, Operand};
 use lg_rv::{BranchOp, ImmOp, Instr, RegOp};
-use lg_sel_items::Items;
+use lg_sel_items::{Items, Reach};
 use lg_selr_items::{Item, imm, register_of, row};
 
 // Adds, and x31 tells whether the signed sum does not fit.
@@ -86,9 +86,14 @@ fn staying(op: BranchSumOp) -> BranchOp
 }
 
 // Appends the items of such a branch to none.
-pub(crate) fn put_sum_branch(op: BranchSumOp, operands: &[Operand], items: &mut Items<Item>)
+pub(crate) fn put_sum_branch(
+    reach: Reach,
+    op: BranchSumOp,
+    operands: &[Operand],
+    items: &mut Items<Item>,
+)
     requires { items.old ≡ [] }
-    ensures { items.new ≡ sum_items op operands.now }
+    ensures { items.new ≡ sum_items reach op operands.now }
 {
     match operands {
         [Operand::Label(label), Operand::Reg(first), second] => {
@@ -96,7 +101,7 @@ pub(crate) fn put_sum_branch(op: BranchSumOp, operands: &[Operand], items: &mut 
             let b = second_register(*second);
             put_second(*second, items);
             put_sum(op, a, b, items);
-            put_jump_unless(staying(op), 31, 0, *label, items);
+            put_jump_unless(reach, staying(op), 31, 0, *label, items);
         }
         _ => {}
     }

@@ -12,7 +12,7 @@ use Rattle.lg_sel_items.specs.Holes.{Each}
 use Rattle.lg_sel_items.proofs.GoodItemLemmas.{good-items-are-blocks}
 use Rattle.lg_sel_items.proofs.ListLemmas.{each-append}
 use Rattle.lg_selr_items.specs.declared.items.Item.{Item}
-use Rattle.lg_selr_items.specs.declared.items.Item.TheVariants.{One, Jump, Address}
+use Rattle.lg_selr_items.specs.declared.items.Item.TheVariants.{One, Branch, Jump, FarJump, Address}
 use Rattle.lg_selr_items.specs.Items.{rv_holes, settle, ones, AreItems, StayWithin}
 use Rattle.lg_selr_items.specs.GoodItems.{Fine, AreGood, IsGoodItem, GoodItemsAreAppendable}
 use Rattle.lg_selr_items.proofs.WithinLemmas.{Within, number}
@@ -53,18 +53,24 @@ number-good rd v h = all (number_code rd v) (number-fits rd v h.0) (number rd v 
 fit-of : (xs : List Item) → Each IsGoodItem xs → AreItems xs
 fit-of [] h = tt
 fit-of (One i ∷ xs) h = (h.0.0, fit-of xs h.1)
+fit-of (Branch o rs1 rs2 label ∷ xs) h = absurd h.0
 fit-of (Jump rd label ∷ xs) h = absurd h.0
+fit-of (FarJump rd base label ∷ xs) h = absurd h.0
 fit-of (Address rd label ∷ xs) h = (h.0.0, fit-of xs h.1)
 
 stay-of : (xs : List Item) → Each IsGoodItem xs → StayWithin xs
 stay-of [] h = tt
 stay-of (One i ∷ xs) h = (h.0.1, stay-of xs h.1)
+stay-of (Branch o rs1 rs2 label ∷ xs) h = absurd h.0
 stay-of (Jump rd label ∷ xs) h = absurd h.0
+stay-of (FarJump rd base label ∷ xs) h = absurd h.0
 stay-of (Address rd label ∷ xs) h = (h.0.1, stay-of xs h.1)
 
 follow : (x : Item) (to : ℕ → ℕ) (at : ℕ) → IsGoodItem x → Each (λ i. is_straight i ≡ true) (settle to at x)
 follow (One i) to at h = (h.2, tt)
+follow (Branch o rs1 rs2 label) to at h = absurd h
 follow (Jump rd label) to at h = absurd h
+follow (FarJump rd base label) to at h = absurd h
 follow (Address rd label) to at h = (refl, (refl, tt))
 
 pub good-items-are-appendable : GoodItemsAreAppendable

@@ -6,14 +6,16 @@ use Rattle.lg_rv.specs.declared.instruction.Instr.{Instr}
 use Rattle.lg_rv.specs.Spelling.{IsInstr}
 use Rattle.lg_sel_items.proofs.ListLemmas as lists
 use Rattle.lg_selr_items.specs.declared.items.Item.{Item}
-use Rattle.lg_selr_items.specs.declared.items.Item.TheVariants.{One, Jump, Address}
+use Rattle.lg_selr_items.specs.declared.items.Item.TheVariants.{One, Branch, Jump, FarJump, Address}
 use Rattle.lg_selr_items.specs.Items.{rv_holes, IsItem, NamesOneOf, words_in, bytes_in, blanks, settled, fixes_of, AreItems, NameLabels, ones}
 
 -- four bytes for each instruction
 pub blank_bytes : (xs : List Item) → length (blanks xs) ≡ bytes_in xs
 blank_bytes [] = refl
 blank_bytes (One i ∷ xs) = let h = blank_bytes xs in omega (arith, h)
+blank_bytes (Branch o rs1 rs2 label ∷ xs) = let h = blank_bytes xs in omega (arith, h)
 blank_bytes (Jump rd label ∷ xs) = let h = blank_bytes xs in omega (arith, h)
+blank_bytes (FarJump rd base label ∷ xs) = let h = blank_bytes xs in omega (arith, h)
 blank_bytes (Address rd label ∷ xs) = let h = blank_bytes xs in omega (arith, h)
 
 -- ---- two lists in a row

@@ -15,7 +15,7 @@ use Rattle.lg_rv.specs.Spelling.{spelling, IsInstr}
 use Rattle.lg_sel_items.proofs.HoleLemmas as holes
 use Rattle.lg_sel_items.proofs.NodeLemmas as nodes
 use Rattle.lg_selr_items.specs.declared.items.Item.{Item}
-use Rattle.lg_selr_items.specs.declared.items.Item.TheVariants.{One, Jump, Address}
+use Rattle.lg_selr_items.specs.declared.items.Item.TheVariants.{One, Branch, Jump, FarJump, Address}
 use Rattle.lg_selr_items.specs.Items.{rv_holes, IsItem, words_in, blanks, settled, AreItems, StayWithin}
 use Rattle.lg_selr_items.specs.OfNodes.{AreOfNode}
 use Rattle.lg_selr_items.proofs.PatchLemmas.{are-holes}
@@ -24,7 +24,9 @@ use Rattle.lg_selr_items.proofs.PatchLemmas.{are-holes}
 within : (to : ℕ → ℕ) (p : ℕ) (xs : List Item) → StayWithin xs → AllByRecursion WritesWithin (settled to p xs)
 within to p [] h = tt
 within to p (One i ∷ xs) h = (h.0, within to (p + 4) xs h.1)
+within to p (Branch o rs1 rs2 label ∷ xs) h = (tt, within to (p + 4) xs h.1)
 within to p (Jump rd label ∷ xs) h = (h.0, within to (p + 4) xs h.1)
+within to p (FarJump rd base label ∷ xs) h = (h.0.0, (h.0.1, within to (p + 8) xs h.1))
 within to p (Address rd label ∷ xs) h = (h.0, (h.0, within to (p + 8) xs h.1))
 
 pub settled-within : (to : ℕ → ℕ) (p : ℕ) (xs : List Item) → StayWithin xs → All WritesWithin (settled to p xs)

@@ -9,7 +9,7 @@ use Rattle.lg_rv.specs.Spelling.{IsInstr}
 use Rattle.lg_rv.specs.declared.instruction.Instr.{Instr}
 use Rattle.lg_sel_items.specs.Holes.{Each}
 use Rattle.lg_selr_items.specs.declared.items.Item.{Item}
-use Rattle.lg_selr_items.specs.declared.items.Item.TheVariants.{One, Jump, Address}
+use Rattle.lg_selr_items.specs.declared.items.Item.TheVariants.{One, Branch, Jump, FarJump, Address}
 use Rattle.lg_selr_items.specs.Items.{settled, AreItems, StayWithin}
 
 -- a register that there is, and that is not outside of the conventions
@@ -23,10 +23,12 @@ abbrev pub AreGood : List Instr → Type 0
 AreGood [] = ⊤
 AreGood (i ∷ is) = IsGood i × AreGood is
 
--- a jump is not followed by the next
+-- a branch or jump is not followed by the next
 abbrev pub IsGoodItem : Item → Type 0
 IsGoodItem (One i) = IsGood i
+IsGoodItem (Branch o rs1 rs2 label) = ⊥
 IsGoodItem (Jump rd label) = ⊥
+IsGoodItem (FarJump rd base label) = ⊥
 IsGoodItem (Address rd label) = Fine rd
 
 -- what is asked of items that are appended, but for their number and the labels that they name

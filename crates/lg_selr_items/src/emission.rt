@@ -6,7 +6,8 @@ ghost use Rattle.lg_selr_items.specs.declared.items.Item.TheVariants.{One};
 ghost use Rattle.lg_selr_items.specs.Items.{rv_holes, IsItem, NamesOneOf, has_word};
 
 use crate::items::Item;
-use lg_buf::{CodeBuf, FixKind, Label32};
+use crate::rows::{branch, imm, upper};
+use lg_buf::{Fix, FixKind, Label32};
 use lg_rv::{ImmOp, Instr, UpperOp, encode};
 use smallvec::SmallVec;
 
@@ -47,41 +48,43 @@ impl lg_sel_items::Item for Item {
     fn spell(&self, bytes: &mut Bytes) {
         match *self {
             Item::One(instr) => spell_one(&instr, bytes),
+            Item::Branch {
+                op,
+                rs1,
+                rs2,
+                label: _,
+            } => spell_one(&branch(op, rs1, rs2, 0), bytes),
             Item::Jump { rd, label: _ } => spell_one(&Instr::Jal { rd, offset: 0 }, bytes),
+            Item::FarJump { rd, base, label: _ } => {
+                spell_one(&upper(UpperOp::Auipc, base, 0), bytes);
+                spell_one(&imm(ImmOp::Jalr, rd, base, 0), bytes);
+            }
             Item::Address { rd, label: _ } => {
-                spell_one(
-                    &Instr::Upper {
-                        op: UpperOp::Lui,
-                        rd,
-                        imm: 0,
-                    },
-                    bytes,
-                );
-                spell_one(
-                    &Instr::Imm {
-                        op: ImmOp::Addi,
-                        rd,
-                        rs1: rd,
-                        imm: 0,
-                    },
-                    bytes,
-                );
+                spell_one(&upper(UpperOp::Lui, rd, 0), bytes);
+                spell_one(&imm(ImmOp::Addi, rd, rd, 0), bytes);
             }
         }
     }
 
     fn size(&self) -> u32 {
         match self {
-            Item::Address { .. } => 8,
+            Item::FarJump { .. } | Item::Address { .. } => 8,
             _ => 4,
         }
     }
 
-    fn fix(&self, place: u32, buf: &mut CodeBuf) {
-        match *self {
-            Item::One(_) => {}
-            Item::Jump { rd: _, label } => buf.fix(place, FixKind::RvJal, Label32(label)),
-            Item::Address { rd: _, label } => buf.fix(place, FixKind::RvLuiAddi, Label32(label)),
-        }
+    fn fix(&self, place: u32) -> Option<Fix> {
+        let (kind, label) = match *self {
+            Item::One(_) => return None,
+            Item::Branch { label, .. } => (FixKind::RvBranch, label),
+            Item::Jump { rd: _, label } => (FixKind::RvJal, label),
+            Item::FarJump { label, .. } => (FixKind::RvAuipcJalr, label),
+            Item::Address { rd: _, label } => (FixKind::RvLuiAddi, label),
+        };
+        Some(Fix {
+            place,
+            kind,
+            label: Label32(label),
+        })
     }
 }

@@ -5,7 +5,7 @@ ghost use Rattle.lg_carry_rv.specs.Numbers.{is_short, is_half, low_part, high_pa
 ghost use Rattle.lg_selr_items.specs.Items.{words_in, ones};
 
 use crate::rows::{imm, shift};
-use lg_rv::{ImmOp, Instr, ShiftOp, UpperOp};
+use lg_rv::{BranchOp, ImmOp, Instr, ShiftOp, UpperOp};
 use lg_sel_items::Items;
 use std::default::Default;
 
@@ -14,10 +14,29 @@ use std::default::Default;
 pub enum Item {
     /// An instruction.
     One(Instr),
-    /// `jal`: a jump to the label, which leaves the address behind it in `rd`.
-    Jump { rd: u8, label: u32 },
+    /// A branch to the label, over up to 4 KiB.
+    Branch {
+        op: BranchOp,
+        rs1: u8,
+        rs2: u8,
+        label: u32,
+    },
+    /// `jal`: a jump to the label, over up to 1 MiB, which leaves the address behind it in `rd`.
+    Jump {
+        rd: u8,
+        label: u32,
+    },
+    /// `auipc` and `jalr`: a jump to the label, over any distance, by way of `base`, which leaves the address behind it in `rd`.
+    FarJump {
+        rd: u8,
+        base: u8,
+        label: u32,
+    },
     /// `lui` and `addi`: the address of the label, into `rd`.
-    Address { rd: u8, label: u32 },
+    Address {
+        rd: u8,
+        label: u32,
+    },
 }
 
 impl Default for Item {

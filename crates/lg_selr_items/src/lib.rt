@@ -8,4 +8,4 @@ pub mod laws;
 mod rows;
 
 pub use items::{Item, high_part, is_short, low_part, put_number};
-pub use rows::{imm, register_of, row, shift};
+pub use rows::{branch, imm, register_of, row, shift, upper};

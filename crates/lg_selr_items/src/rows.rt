@@ -6,7 +6,7 @@ ghost use Rattle.lg_temp.specs.Abis.{register_of};
 
 use lg_base::target::Target;
 use lg_op::Reg;
-use lg_rv::{ImmOp, Instr, RegOp, ShiftOp, StoreOp};
+use lg_rv::{BranchOp, ImmOp, Instr, RegOp, ShiftOp, UpperOp};
 use lg_temp::abi::Abi;
 
 /// `rd` gets what the row makes of two registers.
@@ -32,6 +32,25 @@ pub fn shift(op: ShiftOp, rd: u8, rs1: u8, amount: u8) -> Instr
         rd,
         rs1,
         amount,
+    }
+}
+
+/// `rd` gets a number of 20 bits times 4,096, from 0 or from the instruction's own address.
+pub fn upper(op: UpperOp, rd: u8, imm: u32) -> Instr
+    ensures { result ≡ Instr.Upper op rd imm }
+{
+    Instr::Upper { op, rd, imm }
+}
+
+/// A branch by an offset, an even number from -4,096 to 4,094, where the condition holds of two registers.
+pub fn branch(op: BranchOp, rs1: u8, rs2: u8, offset: i32) -> Instr
+    ensures { result ≡ Instr.Branch op rs1 rs2 offset }
+{
+    Instr::Branch {
+        op,
+        rs1,
+        rs2,
+        offset,
     }
 }
 

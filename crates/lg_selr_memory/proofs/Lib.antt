@@ -1,7 +1,10 @@
+pub mod AccessFitLemmas
 pub mod ArgumentLemmas
-pub mod CodeLemmas
+pub mod ByteLemmas
+pub mod EmissionLemmas
 pub mod EndLemmas
 pub mod FitLemmas
+pub mod JoinLemmas
 pub mod LoadLemmas
 pub mod MemoryNodeLemmas
 pub mod PlaceLemmas

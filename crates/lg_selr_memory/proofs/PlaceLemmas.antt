@@ -1,11 +1,13 @@
 -- How an address is made: the code computes it into the link, or changes nothing.
-use Rattle.std.proofs.Common.{◌≡◌, ◌≢◌, ℕ, ◌^◌, ◌<◌, Bool, true, false, [], ◌∷◌, ◌++◌, refl, ap, ◌∙◌, arith}
+use Rattle.std.proofs.Common.{◌≡◌, ◌≢◌, ℕ, ◌^◌, ◌<◌, Bool, true, false, List, [], ◌∷◌, ◌++◌, refl, ap, ◌∙◌, arith}
 use Rattle.std.specs.Prelude.{if◌then◌else◌}
 use Rattle.lg_base.specs.Fields.{word_of}
 use Rattle.lg_base.specs.Words.{add_words}
 use Rattle.lg_base.specs.declared.target.Target.TheVariants.{Riscv64}
 use Rattle.lg_op.specs.declared.operand.Reg.{Reg}
+use Rattle.lg_rv.specs.declared.instruction.Instr.{Instr}
 use Rattle.lg_rv.specs.declared.instruction.Instr.TheVariants as instr
+use Rattle.lg_rv.specs.declared.instruction.ImmOp.TheVariants.{Addi}
 use Rattle.lg_rv.specs.declared.instruction.RegOp.TheVariants as row
 use Rattle.lg_cpu.specs.HostSteps.{put}
 use Rattle.lg_cpu.specs.RvStep.{read}
@@ -13,7 +15,7 @@ use Rattle.lg_temp.specs.Abis.{register_of}
 use Rattle.lg_carry_rv.specs.Computations.{all_compute, computed}
 use Rattle.lg_carry_rv.specs.Numbers.{is_short, low_part, number_code}
 use Rattle.lg_carry_rv.specs.RvComputers.{rv_scratch}
-use Rattle.lg_carry_rv.proofs.ComputationLemmas.{pointwise, read-put, read-other, put-other, computed-append, all-compute-append}
+use Rattle.lg_carry_rv.proofs.ComputationLemmas.{pointwise, read-put, read-other, put-same, put-other, computed-append, all-compute-append}
 use Rattle.lg_carry_rv.proofs.NumberCodeLemmas.{short-word, numbers-are-loaded}
 use Rattle.lg_carry_rv.proofs.RegisterLemmas.{register-apart, read-of}
 use Rattle.lg_sel_memory.specs.Accesses.{Address, Base, At, Sum, Index, address_word, IsAddress}
@@ -69,3 +71,28 @@ placed (Sum a b) w ok words = record {
       ∙ small (add_words (w (register_of Riscv64 a)) (w (register_of Riscv64 b))) (sum-small (w (register_of Riscv64 a)) (w (register_of Riscv64 b)));
 }
 placed (Index a v) w ok words = indexed-placed a v w ok (is_short v) refl
+
+-- a register other than x0 is read as it is
+pub read-some : (w : ℕ → ℕ) (r : ℕ) → r ≢ 0 → read w r ≡ w r
+read-some w r ne = grind (arith, ne)
+
+-- with one instruction more the address is in the link
+abbrev pub to_link : Place → List Instr
+to_link p = p.code ++ instr.Imm Addi link p.base p.offset ∷ []
+
+pub record IsLinked (p : Place) (w : ℕ → ℕ) (a : ℕ) : Type 0 where
+  pub computes : all_compute (to_link p) ≡ true
+  pub keeps : (x : ℕ) → x ≢ 1 → computed (to_link p) w x ≡ w x
+  pub holds : computed (to_link p) w 1 ≡ a
+
+pub linked : (p : Place) (w : ℕ → ℕ) (a : ℕ) → IsPlaced p w a → IsLinked p w a
+linked p w a m =
+    let last = instr.Imm Addi link p.base p.offset ∷ [] in
+    let mid = computed p.code w in
+    let sum = add_words (read mid p.base) (word_of p.offset) in
+    let all : computed (p.code ++ last) w ≡ put mid 1 sum = computed-append p.code last w in
+    record {
+      computes = all-compute-append p.code last m.computes refl;
+      keeps = λ x ne. ap (λ f. f x) all ∙ put-other mid 1 sum x ne ∙ m.keeps x ne;
+      holds = ap (λ f. f 1) all ∙ put-same mid 1 sum ∙ m.makes;
+    }

@@ -44,7 +44,7 @@ use Rattle.lg_selr_memory.specs.PushCode.{into, stack_push, onto_stack, push_ite
 use Rattle.lg_selr_memory.proofs.EndLemmas.{flags-kept, behind-registers}
 use Rattle.lg_selr_memory.proofs.PlaceLemmas.{off-scratch}
 use Rattle.lg_selr_memory.proofs.PutLemmas.{Puts, put-operand}
-use Rattle.lg_selr_memory.proofs.StoreLemmas.{store-does}
+use Rattle.lg_selr_memory.proofs.StoreLemmas.{word-does}
 
 -- ---- the registers of arguments
 argument-some : (j : ℕ) → j < 8 → (slice_index (argument_registers Riscv64) j ≢ 0) × (slice_index (argument_registers Riscv64) j < 32)
@@ -106,9 +106,9 @@ module _ (code : List ℕ) (trash : ℕ) (q : Run CpuState) (fp : ℕ) where
         let x = instr.Store Sd 2 from (pos (8 * (j - 8))) in
         let mid : Seen = record s { registers = computed pre w } in
         let B = stored s.bytes a 8 v in
-        behind-registers code trash pre (x ∷ []) s w B fp (spoils rv_scratch []) p.computes
+        behind-registers code trash pre (x ∷ []) s w B fp 0 (spoils rv_scratch []) (omega arith) p.computes
         (told (rv_rows code trash) mid mid.registers w B B s.flags s.flags (x ∷ []) fp 0 (spoils rv_scratch []) (λ y free. p.keeps y (off-scratch y free).1) (λ y off. refl) refl
-        (store-does code trash store_type.Long mid 2 from (pos (8 * (j - 8))) a v fp (spoils rv_scratch []) (address mid.registers (p.keeps 2 (λ z. absurd (omega (arith, z))))) even p.holds writable))
+        (word-does code trash mid 2 from (pos (8 * (j - 8))) a v fp (spoils rv_scratch []) (address mid.registers (p.keeps 2 (λ z. absurd (omega (arith, z))))) even p.holds writable))
 
     linked : (to : ℕ → ℕ) (from : ℕ) (x : Operand) → IsPassed Riscv64 w to x v
         → Leaves w (stored s.bytes a 8 v) (settled to from (into link x ++ stack_push j link ∷ []))

@@ -24,6 +24,7 @@ use Rattle.lg_selr_memory.specs.PushCode.{into, stack_push, onto_stack, push_cod
 use Rattle.lg_temp.specs.Abis.{register_of}
 use Rattle.lg_selr_items.proofs.WithinLemmas.{In, portable, Within, join, stay-append, stay-ones, number}
 use Rattle.lg_selr_memory.specs.MemoryFits.{MemoryItemsStay}
+use Rattle.lg_selr_memory.proofs.AccessFitLemmas.{load-items-fit, store-items-fit}
 
 accessed : (x : Operand) → In (accesses.register x)
 accessed x = portable (named x)
@@ -39,26 +40,7 @@ argument (suc (suc (suc (suc (suc (suc zero)))))) = refl
 argument (suc (suc (suc (suc (suc (suc (suc zero))))))) = refl
 argument (suc (suc (suc (suc (suc (suc (suc (suc j)))))))) = refl
 
--- ---- memory and arguments
-index : (a v : ℕ) → Within (indexed a v).code
-index a v = by (is_short v)
-  where
-    by : (b : Bool) → Within (if b then (record { code = []; base = a; offset = low_part v }) else at_link (number_code link v ++ instr.Reg Add link a link ∷ [])).code
-    by true = tt
-    by false = join (number_code link v) _ (number link v refl) (refl, tt)
-
-placed : (a : Address) → Within (place_of a).code
-placed (Base a) = tt
-placed (At v) = number link v refl
-placed (Sum a b) = (refl, tt)
-placed (Index a v) = index (register_of Riscv64 a) v
-
-loads : (t : ValueType) (at : Addressing) (n : Node) → Within (load_code t at n)
-loads t at n = join (place_of (address_of at (operand_at n 1) (operand_at n 2))).code _ (placed (address_of at (operand_at n 1) (operand_at n 2))) (accessed (operand_at n 0), tt)
-
-stores : (t : StoreType) (at : Addressing) (n : Node) → Within (store_code t at n)
-stores t at n = join (place_of (address_of at (operand_at n 0) (operand_at n 1))).code _ (placed (address_of at (operand_at n 0) (operand_at n 1))) (tt, tt)
-
+-- ---- arguments
 arguments : (t : ValueType) (n : Node) → Within (argument_code t n)
 arguments t n = by (nat_lt (slot (operand_at n 1)) 16)
   where
@@ -92,8 +74,8 @@ pushes j n = by (nat_lt j 8)
 
 pub memory-items-stay : MemoryItemsStay
 memory-items-stay = record {
-  loads = λ t at n. stay-ones (load_code t at n) (loads t at n);
-  stores = λ t at n. stay-ones (store_code t at n) (stores t at n);
+  loads = λ t at n live staged choices are. (load-items-fit t at n live staged choices are).within;
+  stores = λ t at n live staged choices are. (store-items-fit t at n live staged choices are).within;
   arguments = λ t n. stay-ones (argument_code t n) (arguments t n);
   pushes = pushes;
 }

@@ -36,11 +36,8 @@ add-negated a v h k = omega (arith, h, k)
 negated-add : (a v : ℕ) → a < 2 ^ 64 → v < 2 ^ 64 → add_words (sub_words 0 a) v ≡ sub_words v a
 negated-add a v h k = omega (arith, h, k)
 
-below-64 : (b : ℕ) → nat_lt b 64 ≡ true → b % 64 ≡ b
-below-64 b h = grind (arith, h)
-
-twice-64 : (b : ℕ) → nat_lt b 64 ≡ true → b % 64 % 64 ≡ b
-twice-64 b h = grind (arith, h)
+twice-64 : (b : ℕ) → b % 64 % 64 ≡ b % 64
+twice-64 b = omega arith
 
 -- a word that is given only where a test holds
 given-where : (b : Bool) (x z : ℕ) → word_where b x ≡ Some z → (b ≡ true) × (x ≡ z)
@@ -74,9 +71,9 @@ module _ (d a b : ℕ) (some : d ≢ 0) (w : ℕ → ℕ) (words : (r : ℕ) →
   register-value binary.And h e = puts w d _ z (some-same _ z e)
   register-value binary.Or h e = puts w d _ z (some-same _ z e)
   register-value binary.Xor h e = puts w d _ z (some-same _ z e)
-  register-value binary.Lsh h e = let g = given-where _ _ z e in puts w d _ z (ap (shifted_left x) (below-64 y g.0) ∙ g.1)
-  register-value binary.Rsh h e = let g = given-where _ _ z e in puts w d _ z (ap (shifted_right_signed x) (below-64 y g.0) ∙ g.1)
-  register-value binary.RshU h e = let g = given-where _ _ z e in puts w d _ z (ap (shifted_right x) (below-64 y g.0) ∙ g.1)
+  register-value binary.Lsh h e = puts w d _ z (some-same _ z e)
+  register-value binary.Rsh h e = puts w d _ z (some-same _ z e)
+  register-value binary.RshU h e = puts w d _ z (some-same _ z e)
   register-value binary.Div h e = let g = given-where _ _ z e in puts w d _ z (otherwise (y == 0) _ _ z (no-zero (y == 0) (is_least_by_minus_one x y) g.0) g.1)
   register-value binary.DivU h e = let g = given-where _ _ z e in puts w d _ z (otherwise (y == 0) _ _ z (not-true (y == 0) g.0) g.1)
   register-value binary.Rem h e = let g = given-where _ _ z e in puts w d _ z (otherwise (y == 0) _ _ z (no-zero (y == 0) (is_least_by_minus_one x y) g.0) g.1)
@@ -162,9 +159,9 @@ module _ (d a v : ℕ) (some : d ≢ 0) (apart : a ≢ 1) (small : v < 2 ^ 64) (
   number-value binary.Add z h e = add-value (is_addend v) z refl (some-same _ z e)
   number-value binary.Sub z h e = sub-value (is_addend v) z refl (some-same _ z e)
   number-value binary.Rsb z h e = rsb-value (is_addend v) z refl (some-same _ z e)
-  number-value binary.Lsh z h e = let g = given-where _ _ z e in puts w d _ z (ap (shifted_left (read w a)) (twice-64 v g.0) ∙ g.1)
-  number-value binary.Rsh z h e = let g = given-where _ _ z e in puts w d _ z (ap (shifted_right_signed (read w a)) (twice-64 v g.0) ∙ g.1)
-  number-value binary.RshU z h e = let g = given-where _ _ z e in puts w d _ z (ap (shifted_right (read w a)) (twice-64 v g.0) ∙ g.1)
+  number-value binary.Lsh z h e = puts w d _ z (ap (shifted_left (read w a)) (twice-64 v) ∙ some-same _ z e)
+  number-value binary.Rsh z h e = puts w d _ z (ap (shifted_right_signed (read w a)) (twice-64 v) ∙ some-same _ z e)
+  number-value binary.RshU z h e = puts w d _ z (ap (shifted_right (read w a)) (twice-64 v) ∙ some-same _ z e)
   number-value binary.Addc z h e = cc
   number-value binary.Subc z h e = cc
   number-value binary.Addx z h e = cc

@@ -11,6 +11,7 @@ pub mod ImmediateLemmas
 pub mod LoadCodeLemmas
 pub mod PlainItemLemmas
 pub mod SettledLemmas
+pub mod TemporaryLemmas
 pub mod UnaryCodeLemmas
 pub mod UnaryNodeLemmas
 pub mod ValueFitLemmas

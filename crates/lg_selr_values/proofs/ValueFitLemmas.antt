@@ -14,6 +14,7 @@ use Rattle.lg_op.specs.declared.node.Node.{Node}
 use Rattle.lg_op.specs.declared.operand.Operand.{Operand}
 use Rattle.lg_op.specs.declared.operand.Operand.TheVariants as operand
 use Rattle.lg_operators.specs.Operators.{is_carried}
+use Rattle.lg_temp.specs.declared.choice.Need.{Need}
 use Rattle.lg_temp.specs.declared.choice.Need.TheVariants.{Any}
 use Rattle.lg_temp.specs.declared.choice.Choice.{Choice}
 use Rattle.lg_temp.specs.declared.choice.Choice.TheVariants.{Free, Own, Spill}
@@ -76,50 +77,52 @@ good n choices few slots short h =
     let a = good-items-are-appendable (value_items n choices) h in
     record { few = few; slots = slots; fit = a.fit; short = short; block = a.block }
 
-none-good : (n : Node) → Each IsGoodItem (value_items n [])
-none-good n = body-good n.op n.operands 0 (omega arith, refl)
-
-saved-good : (n : Node) (r : ℕ) → Fine r → Each IsGoodItem (value_items n (Spill r 0 ∷ []))
-saved-good n r h =
-    let body = body_items n.op n.operands r in
-    (((omega arith, h.0, first-slot.0, first-slot.1), tt, refl), items-good body _ (body-good n.op n.operands r h) (((h.0, omega arith, first-slot.0, first-slot.1), h.1, refl), tt))
-
 needs-are : (o : Op) → (value_needs o ≡ []) ⊎ (value_needs o ≡ Any ∷ [])
 needs-are (op.Binary binary.Addx last) = inr refl
 needs-are (op.Binary binary.Subx last) = inr refl
 needs-are (op.Binary o last) = inl refl
 needs-are o = inl refl
 
+-- items with one temporary at most, which is saved or not
+pub record AreTemporary (choices : List Choice) (body : ℕ → List Item) : Type 0 where
+  pub few : length choices ≤ 1
+  pub slots : HaveSlots choices
+  pub good : Each IsGoodItem (saved_items choices (body (first_taken choices)))
+
+module _ (a : Around) (on : a.target ≡ Riscv64) (body : ℕ → List Item) (body-is-good : (u : ℕ) → Fine u → Each IsGoodItem (body u)) where
+  without : (choices : List Choice) → AreFor a [] [] [] choices → AreTemporary choices body
+  without [] h = record { few = omega arith; slots = tt; good = body-is-good 0 (omega arith, refl) }
+  without (choice ∷ choices) h = absurd h
+
+  one : (choices : List Choice) → AreFor a (Any ∷ []) [] (Any ∷ []) choices → AreTemporary choices body
+  one [] h = absurd h
+  one (choice ∷ next ∷ choices) h = absurd h.1
+  one (Own r ∷ []) h = absurd h.0
+  one (Free r ∷ []) h = record { few = omega arith; slots = tt; good = body-is-good r (fine r (subst (λ t. list_any (λ x. x == r) (order t) ≡ true) on h.0.0.tried)) }
+  one (Spill r k ∷ []) h =
+      let at = fine r (subst (λ t. list_any (λ x. x == r) (order t) ≡ true) on h.0.0.tried) in
+      subst (λ z. AreTemporary (Spill r z ∷ []) body) (sym h.0.1) record {
+        few = omega arith;
+        slots = (omega arith, tt);
+        good = (((omega arith, at.0, first-slot.0, first-slot.1), tt, refl), items-good (body r) _ (body-is-good r at) (((at.0, omega arith, first-slot.0, first-slot.1), at.1, refl), tt));
+      }
+
+  pub temporary-good : (needs : List Need) (choices : List Choice) → (needs ≡ []) ⊎ (needs ≡ Any ∷ []) → AreFor a needs [] needs choices → AreTemporary choices body
+  temporary-good needs choices (inl e) h = without choices (subst (λ ns. AreFor a ns [] ns choices) e h)
+  temporary-good needs choices (inr e) h = one choices (subst (λ ns. AreFor a ns [] ns choices) e h)
+
 -- what is asked of the items of a node with these choices
 record AreFine (n : Node) (choices : List Choice) : Type 0 where
   are : AreValueItems n choices
   good : Each IsGoodItem (value_items n choices)
 
-without : (n : Node) (a : Around) (choices : List Choice) → AreFor a [] [] [] choices → AreFine n choices
-without n a [] h = let f = body_few n.op n.operands 0 in record { are = good n [] (omega arith) tt (omega (arith, f)) (none-good n); good = none-good n }
-without n a (choice ∷ choices) h = absurd h
-
-one : (n : Node) (a : Around) (choices : List Choice) → a.target ≡ Riscv64 → AreFor a (Any ∷ []) [] (Any ∷ []) choices → AreFine n choices
-one n a [] e h = absurd h
-one n a (choice ∷ next ∷ choices) e h = absurd h.1
-one n a (Own r ∷ []) e h = absurd h.0
-one n a (Free r ∷ []) e h =
-    let k = fine r (subst (λ t. list_any (λ x. x == r) (order t) ≡ true) e h.0.0.tried) in
-    let f = body_few n.op n.operands r in
-    let g = body-good n.op n.operands r k in
-    record { are = good n (Free r ∷ []) (omega arith) tt (omega (arith, f)) g; good = g }
-one n a (Spill r k ∷ []) e h =
-    let at = fine r (subst (λ t. list_any (λ x. x == r) (order t) ≡ true) e h.0.0.tried) in
-    let f = saved_few (Spill r 0 ∷ []) (body_items n.op n.operands r) 30 (body_few n.op n.operands r) in
-    let g = saved-good n r at in
-    subst (λ z. AreFine n (Spill r z ∷ [])) (sym h.0.1) record { are = good n (Spill r 0 ∷ []) (omega arith) (omega arith, tt) (omega (arith, f)) g; good = g }
-
 fine-items : (n : Node) (live : Reg → Bool) (staged : List Bool) (choices : List Choice) → AreFor (around Riscv64 n live staged) (value_needs n.op) [] (value_needs n.op) choices → AreFine n choices
-fine-items n live staged choices h = by (needs-are n.op)
-  where
-    by : (value_needs n.op ≡ []) ⊎ (value_needs n.op ≡ Any ∷ []) → AreFine n choices
-    by (inl e) = without n (around Riscv64 n live staged) choices (subst (λ needs. AreFor (around Riscv64 n live staged) needs [] needs choices) e h)
-    by (inr e) = one n (around Riscv64 n live staged) choices refl (subst (λ needs. AreFor (around Riscv64 n live staged) needs [] needs choices) e h)
+fine-items n live staged choices h =
+    let body : ℕ → List Item = body_items n.op n.operands in
+    let m = temporary-good (around Riscv64 n live staged) refl body (body-good n.op n.operands) (value_needs n.op) choices (needs-are n.op) h in
+    let f = saved_few choices (body (first_taken choices)) 30 (body_few n.op n.operands (first_taken choices)) in
+    let few = m.few in
+    record { are = good n choices few m.slots (omega (arith, f, few)) m.good; good = m.good }
 
 pub value-items-fit : ValueItemsFit
 value-items-fit n live staged choices h = (fine-items n live staged choices h).are
@@ -182,7 +185,7 @@ body-names labels (op.Plain plain.Movi) xs u h = load-names labels (register_in 
 body-names labels (op.Plain o) xs u h = tt
 body-names labels o xs u h = tt
 
-saved-names : (labels : ℕ) (choices : List Choice) (body : List Item) → NameLabels labels body → NameLabels labels (saved_items choices body)
+pub saved-names : (labels : ℕ) (choices : List Choice) (body : List Item) → NameLabels labels body → NameLabels labels (saved_items choices body)
 saved-names labels [] body h = h
 saved-names labels (Free r ∷ choices) body h = saved-names labels choices body h
 saved-names labels (Own r ∷ choices) body h = saved-names labels choices body h

@@ -56,7 +56,7 @@ addend_code o d a v = []
 abbrev pub sum_code : BinaryOp → ℕ → ℕ → ℕ → List Instr
 sum_code o d a v = if is_addend v then addend_code o d a v else loaded_code o d a v
 
--- d = a op v; a shift by 64 or more is undefined
+-- d = a op v; a shift is by the number modulo 64
 abbrev pub number_form_code : BinaryOp → ℕ → ℕ → ℕ → List Instr
 number_form_code binary.Add d a v = sum_code binary.Add d a v
 number_form_code binary.Sub d a v = sum_code binary.Sub d a v

@@ -7,4 +7,4 @@ mod unary;
 mod values;
 mod wide;
 
-pub use values::value_items;
+pub use values::{restore, save, value_items};

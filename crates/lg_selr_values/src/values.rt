@@ -160,8 +160,8 @@ fn slot_offset(slot: u32) -> i32
     -96 - 8 * (slot as i32)
 }
 
-// Saves a register in a slot.
-fn save(reg: u8, slot: u32) -> Instr
+/// The instruction that saves a register in a spill slot of its frame, 0 to 4.
+pub fn save(reg: u8, slot: u32) -> Instr
     requires { slot < 5 }
     ensures { result ≡ Instr.Store (StoreOp.Sd) 8 reg (slot_offset slot) }
 {
@@ -173,8 +173,8 @@ fn save(reg: u8, slot: u32) -> Instr
     }
 }
 
-// Restores a register from a slot.
-fn restore(reg: u8, slot: u32) -> Instr
+/// The instruction that restores a register from a spill slot of its frame, 0 to 4.
+pub fn restore(reg: u8, slot: u32) -> Instr
     requires { slot < 5 }
     ensures { result ≡ Instr.Imm (ImmOp.Ld) reg 8 (slot_offset slot) }
 {

@@ -22,10 +22,12 @@ use Rattle.lg_op.specs.declared.operand.Reg.{Reg}
 use Rattle.lg_sel.proofs.LabelLemmas.{Passes, AllPass}
 use Rattle.lg_sel.proofs.StoreLemmas as stores
 use Rattle.lg_sel.specs.Stores.{x86_stores, is_free}
-use Rattle.lg_selx.proofs.Emissions.{Keeps, NoneStores, keep-none, number-keeps, Emits, none, append, more, instructions, plain, number, address, jump, front, behind}
+use Rattle.lg_sel_items.specs.declared.reach.Reach.{Reach}
+use Rattle.lg_sel_items.specs.declared.reach.Reach.TheVariants as reaches
+use Rattle.lg_selx.proofs.Emissions.{Names, Keeps, NoneStores, keep-none, number-keeps, Emits, none, append, more, instructions, plain, number, address, jump, front, behind}
 use Rattle.lg_selx_control.specs.Alignments.{padding, idle, align_code}
 use Rattle.lg_selx_control.specs.Branches.{comparison, is_difference, taken, lowered, wide_comparison, word_comparison, before_branch}
-use Rattle.lg_selx_control.specs.ControlItems.{branch_if_items, branch_items, sum_items, jump_items, call_items, result_items, ret_items, register_jump_items, register_call_items, leap_items, align_items, control_items}
+use Rattle.lg_selx_control.specs.ControlItems.{jump_kind, branch_if_items, branch_items, sum_items, jump_items, call_items, result_items, ret_items, register_jump_items, register_call_items, leap_items, align_items, control_items}
 use Rattle.lg_selx_control.specs.HostCalls.{host_code}
 use Rattle.lg_selx_control.specs.Prologs.{prolog_code}
 use Rattle.lg_selx_control.specs.RegisterLeaps.{register_jump_code, register_call_code}
@@ -34,7 +36,7 @@ use Rattle.lg_selx_control.specs.SumBranches.{sum_row, sum_number, sum_taken, nu
 use Rattle.lg_selx_items.specs.Items.{ones}
 use Rattle.lg_selx_items.specs.declared.items.Item.{Item}
 use Rattle.lg_selx_items.specs.declared.items.Item.TheVariants.{Jump}
-use Rattle.lg_selx_items.specs.declared.items.JumpKind.TheVariants.{Near, NearIf}
+use Rattle.lg_selx_items.specs.declared.items.JumpKind.TheVariants.{Near}
 use Rattle.lg_selx_values.specs.Scratch.{again}
 use Rattle.lg_temp.specs.Abis.{register_of}
 use Rattle.lg_x86.specs.declared.instruction.Cond.{Cond}
@@ -89,48 +91,54 @@ idle-none (suc k) = idle-none k
 prolog-few : (frame : ℕ) → stores.stores_among x86_stores (prolog_code frame) ≤ 16
 prolog-few frame = omega arith
 
+-- the label of a jump is named
+kind-named : (reach : Reach) (is : ℕ → Bool) (holds : Cond) (l : Label) → is l.0 ≡ true → Names reach is (Jump (jump_kind reach holds) l.0)
+kind-named reaches.Short is holds l h = h
+kind-named reaches.Near is holds l h = h
+kind-named reaches.Far is holds l h = h
+
 -- ---- items
-module _ (is : ℕ → Bool) where
-  branches : (code : List Instr) (holds : Cond) (l : Label) → NoneStores code → is l.0 ≡ true → Emits is 1 0 (branch_if_items code holds l)
-  branches code holds l few h = front is 1 0 code (Jump (NearIf holds) l.0 ∷ []) few (jump is (NearIf holds) l.0 h)
+module _ (reach : Reach) (is : ℕ → Bool) where
+  branches : (code : List Instr) (holds : Cond) (l : Label) → NoneStores code → is l.0 ≡ true → Emits reach is 1 0 (branch_if_items reach code holds l)
+  branches code holds l few h = front reach is 1 0 code (Jump (jump_kind reach holds) l.0 ∷ []) few (jump reach is (jump_kind reach holds) l.0 (kind-named reach is holds l h))
 
-  branched : (frame : ℕ) (o : Condition) (xs : List Operand) → AllPass is xs → Emits is 1 0 (branch_items frame o xs)
+  branched : (frame : ℕ) (o : Condition) (xs : List Operand) → AllPass is xs → Emits reach is 1 0 (branch_items reach frame o xs)
   branched frame o (operand.Label l ∷ operand.Reg a ∷ x ∷ []) h = branches (before_branch frame o a x) (taken o) l (before-none frame o a x) h.0
-  branched frame o xs h = none is 1 0
+  branched frame o xs h = none reach is 1 0
 
-  summed : (frame : ℕ) (o : BranchSumOp) (xs : List Operand) → AllPass is xs → Emits is 1 0 (sum_items frame o xs)
+  summed : (frame : ℕ) (o : BranchSumOp) (xs : List Operand) → AllPass is xs → Emits reach is 1 0 (sum_items reach frame o xs)
   summed frame o (operand.Label l ∷ operand.Reg a ∷ x ∷ []) h = branches (before_sum_branch frame o a x) (sum_taken o) l (before-sum-none frame o a x) h.0
-  summed frame o xs h = none is 1 0
+  summed frame o xs h = none reach is 1 0
 
-  jumped : (xs : List Operand) → AllPass is xs → Emits is 1 0 (jump_items xs)
-  jumped (operand.Label l ∷ []) h = jump is (Near Jmp32) l.0 h.0
-  jumped xs h = none is 1 0
+  jumped : (xs : List Operand) → AllPass is xs → Emits reach is 1 0 (jump_items xs)
+  jumped (operand.Label l ∷ []) h = jump reach is (Near Jmp32) l.0 h.0
+  jumped xs h = none reach is 1 0
 
-  called : (xs : List Operand) → AllPass is xs → Emits is 1 0 (call_items xs)
-  called (operand.Label l ∷ []) h = jump is (Near Call32) l.0 h.0
-  called (operand.Host name ∷ []) h = plain is 1 (host_code name) refl
-  called xs h = none is 1 0
+  called : (xs : List Operand) → AllPass is xs → Emits reach is 1 0 (call_items xs)
+  called (operand.Label l ∷ []) h = jump reach is (Near Call32) l.0 h.0
+  called (operand.Host name ∷ []) h = plain reach is 1 (host_code name) refl
+  called xs h = none reach is 1 0
 
-  result-emits : (x : Operand) → Passes is x → Emits is 1 0 (result_items x)
-  result-emits (operand.Reg a) h = plain is 1 (instr.RmReg Mov result (register_of X86_64 a) ∷ []) refl
-  result-emits (operand.Label l) h = address is result l.0 h
-  result-emits (operand.Number v) h = number is 1 result v
-  result-emits (operand.Host name) h = number is 1 result (host_address name)
-  result-emits (operand.Slot k) h = none is 1 0
+  result-emits : (x : Operand) → Passes is x → Emits reach is 1 0 (result_items x)
+  result-emits (operand.Reg a) h = plain reach is 1 (instr.RmReg Mov result (register_of X86_64 a) ∷ []) refl
+  result-emits (operand.Label l) h = address reach is result l.0 h
+  result-emits (operand.Number v) h = number reach is 1 result v
+  result-emits (operand.Host name) h = number reach is 1 result (host_address name)
+  result-emits (operand.Slot k) h = none reach is 1 0
 
-  returned : (xs : List Operand) → AllPass is xs → Emits is 1 0 (ret_items xs)
-  returned (x ∷ []) h = behind is 1 0 (result_items x) return_code (result-emits x h.0) refl
-  returned xs h = none is 1 0
+  returned : (xs : List Operand) → AllPass is xs → Emits reach is 1 0 (ret_items xs)
+  returned (x ∷ []) h = behind reach is 1 0 (result_items x) return_code (result-emits x h.0) refl
+  returned xs h = none reach is 1 0
 
-  register-jumped : (xs : List Operand) → Emits is 1 0 (register_jump_items xs)
-  register-jumped (operand.Reg a ∷ []) = plain is 1 (register_jump_code 0 a) refl
-  register-jumped xs = none is 1 0
+  register-jumped : (xs : List Operand) → Emits reach is 1 0 (register_jump_items xs)
+  register-jumped (operand.Reg a ∷ []) = plain reach is 1 (register_jump_code 0 a) refl
+  register-jumped xs = none reach is 1 0
 
-  register-called : (xs : List Operand) → Emits is 1 0 (register_call_items xs)
-  register-called (operand.Reg a ∷ []) = plain is 1 (register_call_code 0 a) refl
-  register-called xs = none is 1 0
+  register-called : (xs : List Operand) → Emits reach is 1 0 (register_call_items xs)
+  register-called (operand.Reg a ∷ []) = plain reach is 1 (register_call_code 0 a) refl
+  register-called xs = none reach is 1 0
 
-  leaps : (o : ControlOp) (last : LastOperand) (xs : List Operand) → AllPass is xs → Emits is 1 0 (leap_items o last xs)
+  leaps : (o : ControlOp) (last : LastOperand) (xs : List Operand) → AllPass is xs → Emits reach is 1 0 (leap_items o last xs)
   leaps control.Jmp last_operand.Immediate xs h = jumped xs h
   leaps control.Jmp last_operand.Register xs h = register-jumped xs
   leaps control.Call last_operand.Immediate xs h = called xs h
@@ -138,25 +146,25 @@ module _ (is : ℕ → Bool) where
   leaps control.Finish last_operand.Immediate xs h = called xs h
   leaps control.Finish last_operand.Register xs h = register-called xs
   leaps control.Ret last xs h = returned xs h
-  leaps control.Pusharg last xs h = none is 1 0
+  leaps control.Pusharg last xs h = none reach is 1 0
 
-  aligned : (at : ℕ) (xs : List Operand) → Emits is 1 0 (align_items at xs)
-  aligned at (operand.Number n ∷ []) = plain is 1 (align_code at n) (idle-none (padding at n))
-  aligned at xs = none is 1 0
+  aligned : (at : ℕ) (xs : List Operand) → Emits reach is 1 0 (align_items at xs)
+  aligned at (operand.Number n ∷ []) = plain reach is 1 (align_code at n) (idle-none (padding at n))
+  aligned at xs = none reach is 1 0
 
-  pub controls-emit : (o : Op) (xs : List Operand) (frame at : ℕ) → is_free o ≡ false → AllPass is xs → Emits is 1 0 (control_items o xs frame at)
+  pub controls-emit : (o : Op) (xs : List Operand) (frame at : ℕ) → is_free o ≡ false → AllPass is xs → Emits reach is 1 0 (control_items reach o xs frame at)
   controls-emit (op.Branch o last) xs frame at other h = branched frame o xs h
   controls-emit (op.BranchSum o last) xs frame at other h = summed frame o xs h
   controls-emit (op.Control o last) xs frame at other h = leaps o last xs h
   controls-emit (op.Plain plain_op.Prolog) xs frame at other h = cc
-  controls-emit (op.Plain plain_op.Epilog) xs frame at other h = plain is 1 return_code refl
-  controls-emit (op.Plain plain_op.Ret) xs frame at other h = plain is 1 return_code refl
+  controls-emit (op.Plain plain_op.Epilog) xs frame at other h = plain reach is 1 return_code refl
+  controls-emit (op.Plain plain_op.Ret) xs frame at other h = plain reach is 1 return_code refl
   controls-emit (op.Plain plain_op.Align) xs frame at other h = aligned at xs
-  controls-emit (op.Plain plain_op.Movi) xs frame at other h = none is 1 0
-  controls-emit (op.Plain o) xs frame at other h = none is 1 0
-  controls-emit o xs frame at other h = none is 1 0
+  controls-emit (op.Plain plain_op.Movi) xs frame at other h = none reach is 1 0
+  controls-emit (op.Plain o) xs frame at other h = none reach is 1 0
+  controls-emit o xs frame at other h = none reach is 1 0
 
   -- a `prolog` has no fix
-  pub prologs-emit : (o : Op) (xs : List Operand) (frame at : ℕ) → is_free o ≡ true → Emits is 1 16 (control_items o xs frame at)
-  prologs-emit (op.Plain plain_op.Prolog) xs frame at free = instructions is 1 16 (prolog_code frame) (prolog-few frame)
+  pub prologs-emit : (o : Op) (xs : List Operand) (frame at : ℕ) → is_free o ≡ true → Emits reach is 1 16 (control_items reach o xs frame at)
+  prologs-emit (op.Plain plain_op.Prolog) xs frame at free = instructions reach is 1 16 (prolog_code frame) (prolog-few frame)
   prologs-emit o xs frame at free = cc

@@ -7,6 +7,8 @@ use Rattle.lg_sel.proofs.EmissionLemmas as emission
 use Rattle.lg_sel.proofs.StoreLemmas as stores
 use Rattle.lg_sel.specs.Stores.{x86_stores}
 use Rattle.lg_sel_items.specs.Holes.{Each}
+use Rattle.lg_sel_items.specs.declared.reach.Reach.{Reach}
+use Rattle.lg_sel_items.specs.declared.reach.Reach.TheVariants as reaches
 use Rattle.lg_selx_items.specs.Items.{x86_holes, ones}
 use Rattle.lg_selx_items.specs.declared.items.Item.{Item}
 use Rattle.lg_selx_items.specs.declared.items.Item.TheVariants.{One, Jump, Address}
@@ -16,12 +18,13 @@ use Rattle.lg_x86.specs.declared.instruction.Instr.{Instr}
 use Rattle.lg_x86.specs.declared.instruction.Instr.TheVariants.{Movi32, Movs32, Movi64}
 
 -- the label of an item passes a test; a jump is near
-abbrev pub Names : (ℕ → Bool) → Item → Type 0
-Names is (One i) = ⊤
-Names is (Jump (Near op) label) = is label ≡ true
-Names is (Jump (NearIf cond) label) = is label ≡ true
-Names is (Jump kind label) = ⊥
-Names is (Address reg label) = is label ≡ true
+abbrev pub Names : Reach → (ℕ → Bool) → Item → Type 0
+Names r is (One i) = ⊤
+Names r is (Jump (Near op) label) = is label ≡ true
+Names r is (Jump (NearIf cond) label) = is label ≡ true
+Names reaches.Short is (Jump (ShortIf cond) label) = is label ≡ true
+Names r is (Jump kind label) = ⊥
+Names r is (Address reg label) = is label ≡ true
 
 abbrev pub NoneStores : List Instr → Type 0
 NoneStores is = stores.NoneStores x86_stores is
@@ -47,26 +50,26 @@ number-keeps r v = by (nat_lt v (2 ^ 32)) (is_half v)
     by false true = refl
     by false false = refl
 
-module _ (is : ℕ → Bool) where
+module _ (reach : Reach) (is : ℕ → Bool) where
   abbrev pub Emits : ℕ → ℕ → List Item → Type 0
-  Emits fixes stores xs = emission.Emits x86_holes x86_stores (Names is) fixes stores xs
+  Emits fixes stores xs = emission.Emits x86_holes x86_stores (Names reach is) fixes stores xs
 
   pub none : (f s : ℕ) → Emits f s []
-  none f s = emission.emits-more x86_holes x86_stores (Names is) 0 f 0 s [] (omega arith) (omega arith) (emission.emits-none x86_holes x86_stores (Names is))
+  none f s = emission.emits-more x86_holes x86_stores (Names reach is) 0 f 0 s [] (omega arith) (omega arith) (emission.emits-none x86_holes x86_stores (Names reach is))
 
   pub append : (f g s t : ℕ) (xs ys : List Item) → Emits f s xs → Emits g t ys → Emits (f + g) (s + t) (xs ++ ys)
-  append f g s t xs ys a b = emission.emits-append x86_holes x86_stores (Names is) f g s t xs ys a b
+  append f g s t xs ys a b = emission.emits-append x86_holes x86_stores (Names reach is) f g s t xs ys a b
 
   pub more : (f g s t : ℕ) (xs : List Item) → f ≤ g → s ≤ t → Emits f s xs → Emits g t xs
-  more f g s t xs h k a = emission.emits-more x86_holes x86_stores (Names is) f g s t xs h k a
+  more f g s t xs h k a = emission.emits-more x86_holes x86_stores (Names reach is) f g s t xs h k a
 
   pub either : (f s : ℕ) (b : Bool) (xs ys : List Item) → Emits f s xs → Emits f s ys → Emits f s (if b then xs else ys)
-  either f s b xs ys x y = emission.emits-if x86_holes x86_stores (Names is) f s b xs ys x y
+  either f s b xs ys x y = emission.emits-if x86_holes x86_stores (Names reach is) f s b xs ys x y
 
   -- instructions, of which at most so many store, and of which none does
   pub instructions : (f s : ℕ) (code : List Instr) → stores.stores_among x86_stores code ≤ s → Emits f s (ones code)
   instructions f s code few =
-      more 0 f s s (ones code) (omega arith) (omega arith) (emission.emits-ones x86_holes x86_stores (Names is) One (λ to at i. refl) (λ place i. refl) (λ i. tt) s code few)
+      more 0 f s s (ones code) (omega arith) (omega arith) (emission.emits-ones x86_holes x86_stores (Names reach is) One (λ to at i. refl) (λ place i. refl) (λ i. tt) s code few)
 
   pub plain : (f : ℕ) (code : List Instr) → NoneStores code → Emits f 0 (ones code)
   plain f code h = instructions f 0 code (omega (arith, h))
@@ -75,10 +78,10 @@ module _ (is : ℕ → Bool) where
   number f r v = plain f (number_row r v ∷ []) (keep-none (number_row r v ∷ []) (number-keeps r v, tt))
 
   pub address : (reg label : ℕ) → is label ≡ true → Emits 1 0 (Address reg label ∷ [])
-  address reg label h = emission.emits-item x86_holes x86_stores (Names is) (Address reg label) h (λ place. omega arith) (λ to at. omega arith)
+  address reg label h = emission.emits-item x86_holes x86_stores (Names reach is) (Address reg label) h (λ place. omega arith) (λ to at. omega arith)
 
-  pub jump : (kind : JumpKind) (label : ℕ) → Names is (Jump kind label) → Emits 1 0 (Jump kind label ∷ [])
-  jump kind label h = emission.emits-item x86_holes x86_stores (Names is) (Jump kind label) h (λ place. omega arith) (stores-none kind)
+  pub jump : (kind : JumpKind) (label : ℕ) → Names reach is (Jump kind label) → Emits 1 0 (Jump kind label ∷ [])
+  jump kind label h = emission.emits-item x86_holes x86_stores (Names reach is) (Jump kind label) h (λ place. omega arith) (stores-none kind)
     where
       stores-none : (kind : JumpKind) (to : ℕ → ℕ) (at : ℕ) → stores.stores_among x86_stores (x86_holes.settle to at (Jump kind label)) ≤ 0
       stores-none (Near op) to at = omega arith

@@ -7,6 +7,7 @@ pub mod NodeFits
 pub mod NodeLemmas
 pub mod OperandLemmas
 pub mod PlaceLemmas
+pub mod ShortLemmas
 pub mod SizeLemmas
 pub mod SmallLemmas
 pub mod ValueEmissions

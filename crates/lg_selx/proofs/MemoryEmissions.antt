@@ -17,6 +17,7 @@ use Rattle.lg_sel.proofs.LabelLemmas.{Passes, AllPass, passes-at}
 use Rattle.lg_sel.proofs.StoreLemmas as stores
 use Rattle.lg_sel.specs.Stores.{x86_stores}
 use Rattle.lg_sel_memory.specs.Accesses.{Address, Base, At, Sum, Index, address_of}
+use Rattle.lg_sel_items.specs.declared.reach.Reach.{Reach}
 use Rattle.lg_selx.proofs.Emissions.{Keeps, NoneStores, keep-none, number-keeps, Emits, none, append, more, either, instructions, plain, number, address, behind}
 use Rattle.lg_selx_control.specs.Branches.{lowered}
 use Rattle.lg_selx_items.specs.Items.{ones}
@@ -74,47 +75,47 @@ argument-none : (t : ValueType) (rd k : ℕ) → NoneStores (argument_load t rd 
 argument-none t rd k = refl
 
 -- ---- items
-module _ (is : ℕ → Bool) (frame : ℕ) where
-  pub loads-emit : (t : ValueType) (at : Addressing) (n : Node) → Emits is 1 0 (ones (load_code frame t at n))
+module _ (reach : Reach) (is : ℕ → Bool) (frame : ℕ) where
+  pub loads-emit : (t : ValueType) (at : Addressing) (n : Node) → Emits reach is 1 0 (ones (load_code frame t at n))
   loads-emit t at n =
       let d : ℕ = register (operand_at n 0) in
       let a : Address = address_of at (operand_at n 1) (operand_at n 2) in
-      plain is 1 (load_code frame t at n) (loading-none frame t d (place_of (load_spare d a) a) (place-none (load_spare d a) a))
+      plain reach is 1 (load_code frame t at n) (loading-none frame t d (place_of (load_spare d a) a) (place-none (load_spare d a) a))
 
-  pub stores-emit : (t : StoreType) (at : Addressing) (n : Node) → Emits is 1 1 (ones (store_code frame t at n))
+  pub stores-emit : (t : StoreType) (at : Addressing) (n : Node) → Emits reach is 1 1 (ones (store_code frame t at n))
   stores-emit t at n =
       let v : ℕ = register (operand_at n (stored_operand at)) in
       let a : Address = address_of at (operand_at n 0) (operand_at n 1) in
-      instructions is 1 1 (store_code frame t at n) (storing-one frame t v (place_of (store_spare v a) a) (place-none (store_spare v a) a))
+      instructions reach is 1 1 (store_code frame t at n) (storing-one frame t v (place_of (store_spare v a) a) (place-none (store_spare v a) a))
 
-  pub arguments-emit : (t : ValueType) (n : Node) → Emits is 1 0 (ones (argument_code frame t n))
-  arguments-emit t n = plain is 1 (argument_code frame t n)
+  pub arguments-emit : (t : ValueType) (n : Node) → Emits reach is 1 0 (ones (argument_code frame t n))
+  arguments-emit t n = plain reach is 1 (argument_code frame t n)
       (stores.none-if x86_stores (nat_lt (slot (operand_at n 1)) 16) (argument_load t (register (operand_at n 0)) (slot (operand_at n 1))) []
       (argument-none t (register (operand_at n 0)) (slot (operand_at n 1))) refl)
 
-  puts : (rd : ℕ) (x : Operand) → Passes is x → Emits is 1 0 (into rd x)
-  puts rd (operand.Reg r) h = plain is 1 (instr.RmReg Mov rd (register_of X86_64 r) ∷ []) refl
-  puts rd (operand.Number v) h = number is 1 rd v
-  puts rd (operand.Host name) h = number is 1 rd (host_address name)
-  puts rd (operand.Label l) h = address is rd l.0 h
-  puts rd (operand.Slot k) h = none is 1 0
+  puts : (rd : ℕ) (x : Operand) → Passes is x → Emits reach is 1 0 (into rd x)
+  puts rd (operand.Reg r) h = plain reach is 1 (instr.RmReg Mov rd (register_of X86_64 r) ∷ []) refl
+  puts rd (operand.Number v) h = number reach is 1 rd v
+  puts rd (operand.Host name) h = number reach is 1 rd (host_address name)
+  puts rd (operand.Label l) h = address reach is rd l.0 h
+  puts rd (operand.Slot k) h = none reach is 1 0
 
-  stack : (f j r : ℕ) (code : List Instr) → NoneStores code → Emits is f 1 (stack_push j r ∷ ones code)
-  stack f j r code few = instructions is f 1 (instr.Store St64 4 (pos (8 * (j - 6))) r ∷ code) (omega (arith, few))
+  stack : (f j r : ℕ) (code : List Instr) → NoneStores code → Emits reach is f 1 (stack_push j r ∷ ones code)
+  stack f j r code few = instructions reach is f 1 (instr.Store St64 4 (pos (8 * (j - 6))) r ∷ code) (omega (arith, few))
 
-  loaded : (j : ℕ) (x : Operand) → Passes is x → Emits is 1 1 (into 5 x ++ stack_push j 5 ∷ ones (again frame))
-  loaded j x h = append is 1 0 0 1 (into 5 x) (stack_push j 5 ∷ ones (again frame)) (puts 5 x h) (stack 0 j 5 (again frame) refl)
+  loaded : (j : ℕ) (x : Operand) → Passes is x → Emits reach is 1 1 (into 5 x ++ stack_push j 5 ∷ ones (again frame))
+  loaded j x h = append reach is 1 0 0 1 (into 5 x) (stack_push j 5 ∷ ones (again frame)) (puts 5 x h) (stack 0 j 5 (again frame) refl)
 
-  stacked : (j : ℕ) (x : Operand) → Passes is x → Emits is 1 1 (onto_stack frame j x)
+  stacked : (j : ℕ) (x : Operand) → Passes is x → Emits reach is 1 1 (onto_stack frame j x)
   stacked j (operand.Reg r) h = stack 1 j (register_of X86_64 r) [] refl
   stacked j (operand.Number v) h = loaded j (operand.Number v) h
   stacked j (operand.Host name) h = loaded j (operand.Host name) h
   stacked j (operand.Label l) h = loaded j (operand.Label l) h
   stacked j (operand.Slot k) h = loaded j (operand.Slot k) h
 
-  pub pushes-emit : (j : ℕ) (n : Node) → AllPass is n.operands → Emits is 1 1 (push_code frame j n)
+  pub pushes-emit : (j : ℕ) (n : Node) → AllPass is n.operands → Emits reach is 1 1 (push_code frame j n)
   pushes-emit j n h =
       let rd : ℕ = slice_index (argument_registers X86_64) j in
       let x : Operand = operand_at n 0 in
       let p : Passes is x = passes-at is n.operands 0 h in
-      either is 1 1 (nat_lt j 6) (into rd x) (onto_stack frame j x) (more is 1 1 0 1 (into rd x) (omega arith) (omega arith) (puts rd x p)) (stacked j x p)
+      either reach is 1 1 (nat_lt j 6) (into rd x) (onto_stack frame j x) (more reach is 1 1 0 1 (into rd x) (omega arith) (omega arith) (puts rd x p)) (stacked j x p)

@@ -1,5 +1,5 @@
 -- The items of each node can be appended to a buffer, and write no register that is outside of the conventions.
-use Rattle.std.proofs.Common.{◌≡◌, ℕ, ◌<◌, ◌≤◌, Bool, List, [], length, arith}
+use Rattle.std.proofs.Common.{◌≡◌, ℕ, ◌<◌, ◌≤◌, Bool, List, [], length, arith, true, sym, subst, ◌+◌}
 use Rattle.lg_base.specs.declared.target.Target.TheVariants.{X86_64}
 use Rattle.lg_op.specs.declared.node.Node.{Node}
 use Rattle.lg_op.specs.declared.operand.Label.{Label}
@@ -7,15 +7,18 @@ use Rattle.lg_op.specs.declared.operand.Operand.{Operand}
 use Rattle.lg_op.specs.declared.operand.Operand.TheVariants as operand
 use Rattle.lg_op.specs.declared.operand.Reg.{Reg}
 use Rattle.lg_meaning.specs.Steps.{operand_at}
+use Rattle.lg_op.specs.Nodes.{InForm}
+use Rattle.lg_sel.specs.Asked as asked
 use Rattle.lg_sel.proofs.LabelLemmas.{names, all-self}
 use Rattle.lg_sel.proofs.NodeEmissionLemmas as emission
 use Rattle.lg_sel.proofs.NodeFitLemmas as fit
 use Rattle.lg_sel.proofs.StoreLemmas.{allowed}
 use Rattle.lg_sel.proofs.OperandLemmas.{word-is}
-use Rattle.lg_sel.specs.Selected.{IsFrame, HaveWords}
+use Rattle.lg_sel.specs.Selected.{AreFirst, HaveWords, IsFrame, TakesLabelsWell, is_pusharg}
 use Rattle.lg_sel.specs.Stores.{x86_stores}
+use Rattle.lg_sel_items.specs.declared.reach.Reach.{Reach}
 use Rattle.lg_selx.proofs.ControlEmissions.{controls-emit, prologs-emit}
-use Rattle.lg_selx.proofs.Emissions.{Names, Emits}
+use Rattle.lg_selx.proofs.Emissions.{Names, Emits, more}
 use Rattle.lg_selx.proofs.MemoryEmissions.{loads-emit, stores-emit, arguments-emit, pushes-emit}
 use Rattle.lg_sel.specs.Asked.{NamesBelow, NameBelow}
 use Rattle.lg_selx.proofs.OperandLemmas.{are-below, are-given, are-numbers}
@@ -25,7 +28,7 @@ use Rattle.lg_selx.specs.Items.{x86_families, node_items}
 use Rattle.lg_selx.specs.Selected.{needs, AreChosen, IsAsked}
 use Rattle.lg_selx_control.proofs.FitLemmas.{control-items-fit}
 use Rattle.lg_selx_control.proofs.WithinLemmas.{control-items-stay}
-use Rattle.lg_selx_items.specs.Items.{x86_holes, IsItem, NamesOneOf, StaysWithin, StayWithin, blanks, fixes_of, AreItems, NameLabels}
+use Rattle.lg_selx_items.specs.Items.{ones, x86_holes, IsItem, NamesOneOf, StaysWithin, StayWithin, blanks, fixes_of, AreItems, NameLabels}
 use Rattle.lg_selx_items.specs.declared.items.Item.{Item}
 use Rattle.lg_selx_memory.proofs.FitLemmas.{memory-items-fit}
 use Rattle.lg_selx_memory.proofs.WithinLemmas.{memory-items-name, memory-items-stay}
@@ -34,7 +37,8 @@ use Rattle.lg_selx_values.proofs.ValueFitLemmas.{value-items-fit, value-items-na
 use Rattle.lg_selx_values.specs.ValueItems.{HaveSlots, value_items}
 use Rattle.lg_temp.proofs.ChoiceLemmas.{choices-are-for}
 use Rattle.lg_temp.specs.Choices.{AreFor}
-use Rattle.lg_temp.specs.Chosen.{around}
+use Rattle.lg_selx_memory.specs.Accesses.{load_code, store_code}
+use Rattle.lg_temp.specs.Chosen.{around, spills}
 use Rattle.lg_temp.specs.declared.choice.Choice.{Choice}
 
 -- at most two registers are chosen, and they have slots where they are saved
@@ -44,29 +48,29 @@ choices-fit n live staged choices k =
     (are.few, are.slots)
 
 -- ---- labels, fixes and stores
-families-emit : emission.FamiliesEmit x86_holes x86_stores Names x86_families
-families-emit = record {
-  values = λ is frame n choices h. values-emit is frame n choices h;
-  loads = λ is frame t at n. loads-emit is frame t at n;
-  stores = λ is frame t at n. stores-emit is frame t at n;
-  arguments = λ is frame t n. arguments-emit is frame t n;
-  results = λ is frame t n choices h. values-emit is frame n choices h;
-  pushes = λ is frame j n h. pushes-emit is frame j n h;
-  controls = controls-emit;
-  prologs = prologs-emit;
+families-emit : (reach : Reach) → emission.FamiliesEmit X86_64 x86_holes x86_stores (Names reach) (x86_families reach)
+families-emit reach = record {
+  values = λ is frame n choices h. values-emit reach is frame n choices h;
+  loads = λ is frame t at n choices. more reach is 1 1 0 (spills choices) (ones (load_code frame t at n)) (omega arith) (omega arith) (loads-emit reach is frame t at n);
+  stores = λ is frame t at n choices. more reach is 1 1 1 (spills choices + 1) (ones (store_code frame t at n)) (omega arith) (omega arith) (stores-emit reach is frame t at n);
+  arguments = λ is frame t n. arguments-emit reach is frame t n;
+  results = λ is frame t n choices h. values-emit reach is frame n choices h;
+  pushes = λ is frame j n h. pushes-emit reach is frame j n h;
+  controls = controls-emit reach;
+  prologs = prologs-emit reach;
 }
 
-pub node-emits : (frame : ℕ) (choices : List Choice) (staged : List Bool) (place : ℕ) (n : Node) → Emits (names n.operands) 1 (allowed choices n.op) (node_items n frame choices staged place)
-node-emits frame choices staged place n = emission.node-emits x86_holes x86_stores Names x86_families families-emit frame choices staged place n (names n.operands) (all-self n.operands)
+pub node-emits : (reach : Reach) (frame : ℕ) (choices : List Choice) (staged : List Bool) (place : ℕ) (n : Node) → Emits reach (names n.operands) 1 (allowed X86_64 choices n.op) (node_items reach n frame choices staged place)
+node-emits reach frame choices staged place n = emission.node-emits X86_64 x86_holes x86_stores (Names reach) (x86_families reach) (families-emit reach) frame choices staged place n (names n.operands) (all-self n.operands)
 
 -- ---- ranges
-abbrev Fit : ℕ → List Item → Type 0
-Fit labels xs = fit.Fit X86_64 needs x86_families IsItem NamesOneOf labels xs
+abbrev Fit : Reach → ℕ → List Item → Type 0
+Fit reach labels xs = fit.Fit X86_64 needs (x86_families reach) IsItem NamesOneOf labels xs
 
 -- those of values
-values : (labels frame : ℕ) (n : Node) (live : Reg → Bool) (set : List Bool) (choices : List Choice) → IsFrame frame → AreFor (around X86_64 n live set) (needs n.op) [] (needs n.op) choices → NameBelow labels n.operands
-    → HaveWords n.operands → Fit labels (value_items frame n choices)
-values labels frame n live set choices sized are named words = record {
+values : (reach : Reach) (labels frame : ℕ) (n : Node) (live : Reg → Bool) (set : List Bool) (choices : List Choice) → IsFrame frame → AreFor (around X86_64 n live set) (needs n.op) [] (needs n.op) choices → NameBelow labels n.operands
+    → HaveWords n.operands → Fit reach labels (value_items frame n choices)
+values reach labels frame n live set choices sized are named words = record {
   instrs = (value-items-fit frame n live set choices sized.low sized.high (are-numbers n.operands words) are).fit;
   names = value-items-name labels frame n choices (are-below labels n.operands named);
 }
@@ -83,19 +87,19 @@ passed labels (operand.Reg r) named l e = cc
 passed labels (operand.Host name) named l e = cc
 passed labels (operand.Slot k) named l e = cc
 
-families-fit : (labels : ℕ) → fit.FamiliesFit X86_64 needs x86_families IsItem NamesOneOf labels
-families-fit labels = record {
-  values = λ frame n live set choices sized is are named words. values labels frame n live set choices sized are named words;
-  loads = λ frame n t at sized words. record { instrs = (memory-items-fit.loads frame t at n (frame-small frame sized) words).appendable.fit; names = memory-items-name.loads labels frame t at n };
-  stores = λ frame n t at sized words. record { instrs = (memory-items-fit.stores frame t at n (frame-small frame sized) words).appendable.fit; names = memory-items-name.stores labels frame t at n };
+families-fit : (reach : Reach) (labels : ℕ) → fit.FamiliesFit X86_64 needs (x86_families reach) IsItem NamesOneOf labels
+families-fit reach labels = record {
+  values = λ frame n live set choices sized is are named words. values reach labels frame n live set choices sized are named words;
+  loads = λ frame n t at live set choices sized e are words. record { instrs = (memory-items-fit.loads frame t at n (frame-small frame sized) words).appendable.fit; names = memory-items-name.loads labels frame t at n };
+  stores = λ frame n t at live set choices sized e are words. record { instrs = (memory-items-fit.stores frame t at n (frame-small frame sized) words).appendable.fit; names = memory-items-name.stores labels frame t at n };
   arguments = λ frame n t sized. record { instrs = (memory-items-fit.arguments frame t n (frame-small frame sized)).appendable.fit; names = memory-items-name.arguments labels frame t n };
-  results = λ frame n t live set choices sized e formed are named words. values labels frame n live set choices sized are named words;
+  results = λ frame n t live set choices sized e formed are named words. values reach labels frame n live set choices sized are named words;
   pushes = λ frame n j sized few named word. record {
     instrs = (memory-items-fit.pushes frame j n (frame-small frame sized) few (λ v e. word-is (operand_at n 0) v e word)).appendable.fit;
     names = memory-items-name.pushes labels frame j n (passed labels (operand_at n 0) named);
   };
   controls = λ n frame place sized is formed named words ends.
-      let emitted = control-items-fit n labels frame place (frame-small frame sized) is formed (are-given labels n.operands named words) ends in
+      let emitted = control-items-fit reach n labels frame place (frame-small frame sized) is formed (are-given labels n.operands named words) ends in
       record { instrs = emitted.items; names = emitted.labels };
 }
 
@@ -106,23 +110,34 @@ pub record AreEmittable (labels : ℕ) (items : List Item) : Type 0 where
   pub fixed : (p : ℕ) → length (fixes_of p items) ≤ 1
   pub small : length (blanks items) ≤ 256
 
-pub items-fit : (frame : ℕ) (live : Reg → Bool) (staged : List Bool) (choices : List Choice) (labels place : ℕ) (n : Node) → IsFrame frame → IsAsked n live staged choices labels → AreEmittable labels (node_items n frame choices staged place)
-items-fit frame live staged choices labels place n sized k =
-    let fits = fit.items-fit X86_64 needs x86_families IsItem NamesOneOf labels (families-fit labels) frame sized live staged choices place n k in
-    record { instrs = fits.instrs; names = fits.names; fixed = (node-emits frame choices staged place n).fixed; small = items-small frame sized live staged choices labels place n k }
+pub items-fit : (reach : Reach) (frame : ℕ) (live : Reg → Bool) (staged : List Bool) (choices : List Choice) (labels place : ℕ) (n : Node) → IsFrame frame → IsAsked n live staged choices labels → AreEmittable labels (node_items reach n frame choices staged place)
+items-fit reach frame live staged choices labels place n sized k =
+    let fits = fit.items-fit X86_64 needs (x86_families reach) IsItem NamesOneOf labels (families-fit reach labels) frame sized live staged choices place n k in
+    record { instrs = fits.instrs; names = fits.names; fixed = (node-emits reach frame choices staged place n).fixed; small = items-small reach frame sized live staged choices labels place n k }
 
 -- ---- registers
-families-stay : fit.FamiliesStay X86_64 needs x86_families StaysWithin
-families-stay = record {
-  values = λ frame n live set choices are. value-items-stay frame n live set choices are;
-  loads = λ frame t at n. memory-items-stay.loads frame t at n;
-  stores = λ frame t at n. memory-items-stay.stores frame t at n;
+families-stay : (reach : Reach) → fit.FamiliesStay X86_64 needs (x86_families reach) StaysWithin
+families-stay reach = record {
+  values = λ frame n live set choices is are. value-items-stay frame n live set choices are;
+  loads = λ frame t at n live set choices e are. memory-items-stay.loads frame t at n;
+  stores = λ frame t at n live set choices e are. memory-items-stay.stores frame t at n;
   arguments = λ frame t n. memory-items-stay.arguments frame t n;
   results = λ frame t n live set choices are. value-items-stay frame n live set choices are;
   pushes = λ frame j n. memory-items-stay.pushes frame j n;
-  controls = λ n frame place. control-items-stay n frame place;
+  controls = λ n frame place. control-items-stay reach n frame place;
 }
 
-pub items-within : (frame : ℕ) (live : Reg → Bool) (staged : List Bool) (choices : List Choice) (labels place : ℕ) (n : Node) → IsAsked n live staged choices labels → StayWithin (node_items n frame choices staged place)
-items-within frame live staged choices labels place n k =
-    fit.items-stay X86_64 needs x86_families StaysWithin families-stay frame live k.chosen.set staged choices place n (fit.are-made X86_64 needs x86_families n live staged choices labels k)
+pub items-within : (reach : Reach) (frame : ℕ) (live : Reg → Bool) (staged : List Bool) (choices : List Choice) (labels place : ℕ) (n : Node) → IsAsked n live staged choices labels → StayWithin (node_items reach n frame choices staged place)
+items-within reach frame live staged choices labels place n k =
+    fit.items-stay X86_64 needs (x86_families reach) StaysWithin (families-stay reach) frame live k.chosen.set staged choices place n (fit.are-made X86_64 needs (x86_families reach) n live staged choices labels k)
+
+-- ---- what is asked of a node
+pub asked-of : (n : Node) (live : Reg → Bool) (staged : List Bool) (choices : List Choice) (labels : ℕ) (xs : List Operand) → InForm n → AreChosen n live staged choices
+    → (is_pusharg n.op ≡ true → AreFirst staged) → asked.NameBelow labels n.operands → TakesLabelsWell n → xs ≡ n.operands → HaveWords xs → IsAsked n live staged choices labels
+asked-of n live staged choices labels xs formed chosen first named takes e words =
+    record { formed = formed; chosen = chosen; first = first; named = named; takes = takes; words = subst HaveWords e words }
+
+-- items that are those of the node can be appended
+pub made-fits : (reach : Reach) (frame : ℕ) (live : Reg → Bool) (staged : List Bool) (choices : List Choice) (labels place : ℕ) (n : Node) (items : List Item) → IsFrame frame
+    → IsAsked n live staged choices labels → items ≡ node_items reach n frame choices staged place → AreEmittable labels items
+made-fits reach frame live staged choices labels place n items sized k e = subst (AreEmittable labels) (sym e) (items-fit reach frame live staged choices labels place n sized k)

@@ -32,6 +32,7 @@ use Rattle.lg_sel.proofs.FamilyLemmas.{HoldsOfFamilies, of-node}
 use Rattle.lg_sel.proofs.OperandLemmas.{has-words, leads_nowhere, unlabelled, no-labels, control-ends, loads-lead, stores-lead, operands-are}
 use Rattle.lg_sel.specs.Families.{is_value, staged_count}
 use Rattle.lg_sel_memory.specs.Operands.{is_label}
+use Rattle.lg_sel_items.specs.declared.reach.Reach.{Reach}
 use Rattle.lg_selx.specs.Items.{x86_families, node_items}
 use Rattle.lg_sel.specs.Selected.{IsFrame, is_pusharg, may_take_label, IsNodeOf}
 use Rattle.lg_selx.specs.Selected.{IsAsked}
@@ -119,7 +120,7 @@ value-leads (op.Unary o) is t = refl
 value-leads (op.Plain plain.Movi) is t = true-false t
 value-leads o is t = cc
 
-module _ (code : List ℕ) (trash : ℕ) (c : Code) (i frame : ℕ) (sized : IsFrame frame) (live : Reg → Bool) (staged : List Bool) (choices : List Choice) (labels place : ℕ) where
+module _ (reach : Reach) (code : List ℕ) (trash : ℕ) (c : Code) (i frame : ℕ) (sized : IsFrame frame) (live : Reg → Bool) (staged : List Bool) (choices : List Choice) (labels place : ℕ) where
   abbrev Carries : Node → List Item → Type 0
   Carries n items = IsKnown c i n frame live staged choices labels place → AreOfNode code trash c i items → CarriesNode (x86_processor code trash) c i n (numbered live)
 
@@ -169,23 +170,23 @@ module _ (code : List ℕ) (trash : ℕ) (c : Code) (i frame : ℕ) (sized : IsF
       (memory-is-carried code trash a.small a.bytes a.word).pushes c i n last frame (numbered live) e (has-words n k.asked.words) k.node.names k.node.text k.node.frame_is
       (subst (λ m. IsInCode code trash c i (settled to (c.place i) (push_code frame m n))) (count-is (pushed c.nodes.nodes i) staged (k.node.exact (ap is_pusharg e))) stands).block
 
-  controls : (n : Node) → is_control n.op ≡ true → Carries n (control_items n.op n.operands frame place)
+  controls : (n : Node) → is_control n.op ≡ true → Carries n (control_items reach n.op n.operands frame place)
   controls n is k a =
       let ends : ends_in_label n.operands ≡ false = control-ends n is (operands-are c i n k.node.text) k.asked.takes in
       let to : ℕ → ℕ = slice_index c.addresses in
-      let items = control_items n.op n.operands frame place in
-      let fit : AreEmitted labels (leaps n.op) items = control-items-fit n labels frame place small is (k.node.text.formed n k.node.text.here) (are-given labels n.operands k.asked.named k.asked.words) ends in
+      let items = control_items reach n.op n.operands frame place in
+      let fit : AreEmitted labels (leaps n.op) items = control-items-fit reach n labels frame place small is (k.node.text.formed n k.node.text.here) (are-given labels n.operands k.asked.named k.asked.words) ends in
       let stands : StandsInCode code trash c i (settled to (c.place i) items) = record {
         small = a.small;
         bytes = a.bytes;
         word = a.word;
         node = items-are-node-code code trash c i items a (λ leaping. fit.some (sym (ap leaps_at k.node.text.here) ∙ leaping));
       } in
-      let same : items ≡ control_items n.op n.operands frame (c.place i) = sym (control-items-at n.op n.operands frame place (operands-are c i n k.node.text)) ∙ ap (control_items n.op n.operands frame) (sym k.address) in
-      control-nodes-carry code trash c i n frame (numbered live) is k.node.places (are-control-words c.addresses k.node.low n.operands k.asked.words) ends k.node.frame_is k.node.text
+      let same : items ≡ control_items reach n.op n.operands frame (c.place i) = sym (control-items-at reach n.op n.operands frame place (operands-are c i n k.node.text)) ∙ ap (control_items reach n.op n.operands frame) (sym k.address) in
+      control-nodes-carry reach code trash c i n frame (numbered live) is k.node.places (are-control-words c.addresses k.node.low n.operands k.asked.words) ends k.node.frame_is k.node.text
       (subst (λ l. StandsInCode code trash c i (settled to (c.place i) l)) same stands)
 
-  families : HoldsOfFamilies x86_families Carries frame choices staged place
+  families : HoldsOfFamilies (x86_families reach) Carries frame choices staged place
   families = record {
     values = λ n is. values n (value-computes n.op is) (value-stays n.op is) (value-may n.op is) (value-leads n.op is);
     loads = loads;
@@ -196,5 +197,5 @@ module _ (code : List ℕ) (trash : ℕ) (c : Code) (i frame : ℕ) (sized : IsF
     controls = controls;
   }
 
-  pub items-carry : (n : Node) → Carries n (node_items n frame choices staged place)
-  items-carry = of-node x86_families Carries frame choices staged place families
+  pub items-carry : (n : Node) → Carries n (node_items reach n frame choices staged place)
+  items-carry = of-node (x86_families reach) Carries frame choices staged place families

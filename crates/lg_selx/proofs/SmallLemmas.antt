@@ -26,6 +26,7 @@ use Rattle.lg_sel.proofs.OperandLemmas.{has-words}
 use Rattle.lg_sel.proofs.PlaceLemmas.{and-first}
 use Rattle.lg_sel.specs.Families.{staged_count}
 use Rattle.lg_sel.specs.Selected.{IsFrame}
+use Rattle.lg_sel_items.specs.declared.reach.Reach.{Reach}
 use Rattle.lg_selx.proofs.OperandLemmas.{are-numbers}
 use Rattle.lg_selx.proofs.SizeLemmas.{bytes-few}
 use Rattle.lg_selx.specs.Items.{x86_families, node_items}
@@ -130,13 +131,13 @@ before-sum-few frame o a (operand.Slot k) = omega arith
 front-small : (code : List Instr) (x : Item) → length code ≤ 3 → Small (ones code ++ x ∷ [])
 front-small code x few = let w = words_append (ones code) (x ∷ []) in let l = words-ones code in few-small (ones code ++ x ∷ []) 4 (omega (arith, w, l, few)) (omega arith)
 
-branched-small : (frame : ℕ) (o : Condition) (xs : List Operand) → Small (branch_items frame o xs)
-branched-small frame o (operand.Label l ∷ operand.Reg a ∷ x ∷ []) = front-small (before_branch frame o a x) _ (before-few frame o a x)
-branched-small frame o xs = none-small
+branched-small : (reach : Reach) (frame : ℕ) (o : Condition) (xs : List Operand) → Small (branch_items reach frame o xs)
+branched-small reach frame o (operand.Label l ∷ operand.Reg a ∷ x ∷ []) = front-small (before_branch frame o a x) _ (before-few frame o a x)
+branched-small reach frame o xs = none-small
 
-summed-small : (frame : ℕ) (o : BranchSumOp) (xs : List Operand) → Small (sum_items frame o xs)
-summed-small frame o (operand.Label l ∷ operand.Reg a ∷ x ∷ []) = front-small (before_sum_branch frame o a x) _ (before-sum-few frame o a x)
-summed-small frame o xs = none-small
+summed-small : (reach : Reach) (frame : ℕ) (o : BranchSumOp) (xs : List Operand) → Small (sum_items reach frame o xs)
+summed-small reach frame o (operand.Label l ∷ operand.Reg a ∷ x ∷ []) = front-small (before_sum_branch frame o a x) _ (before-sum-few frame o a x)
+summed-small reach frame o xs = none-small
 
 -- ---- jumps, calls and returns
 jumped-small : (xs : List Operand) → Small (jump_items xs)
@@ -184,28 +185,28 @@ plain-small plain.Ret xs frame at a = code-small return_code 6 (omega arith) (om
 plain-small plain.Align xs frame at a = aligned-small at xs a
 plain-small o xs frame at a = none-small
 
-control-small : (o : Op) (xs : List Operand) (frame at : ℕ) → admit (forms_of o) xs ≡ true → Small (control_items o xs frame at)
-control-small (op.Branch o last) xs frame at a = branched-small frame o xs
-control-small (op.BranchSum o last) xs frame at a = summed-small frame o xs
-control-small (op.Control o last) xs frame at a = leaps-small o last xs
-control-small (op.Plain o) xs frame at a = plain-small o xs frame at a
-control-small o xs frame at a = none-small
+control-small : (reach : Reach) (o : Op) (xs : List Operand) (frame at : ℕ) → admit (forms_of o) xs ≡ true → Small (control_items reach o xs frame at)
+control-small reach (op.Branch o last) xs frame at a = branched-small reach frame o xs
+control-small reach (op.BranchSum o last) xs frame at a = summed-small reach frame o xs
+control-small reach (op.Control o last) xs frame at a = leaps-small o last xs
+control-small reach (op.Plain o) xs frame at a = plain-small o xs frame at a
+control-small reach o xs frame at a = none-small
 
 -- ---- every node
-module _ (frame : ℕ) (sized : IsFrame frame) (live : Reg → Bool) (staged : List Bool) (choices : List Choice) (labels place : ℕ) where
+module _ (reach : Reach) (frame : ℕ) (sized : IsFrame frame) (live : Reg → Bool) (staged : List Bool) (choices : List Choice) (labels place : ℕ) where
   abbrev IsSmall : Node → List Item → Type 0
   IsSmall n xs = IsAsked n live staged choices labels → Small xs
 
   near : frame < 0x40000000
   near = let h = sized.high in omega (arith, h)
 
-  values-small : (n : Node) → IsSmall n (x86_families.values frame n choices)
+  values-small : (n : Node) → IsSmall n ((x86_families reach).values frame n choices)
   values-small n k =
       let set = k.chosen.set in
       let fit = value-items-fit frame n live set choices sized.low sized.high (are-numbers n.operands k.words) (choices-are-for (around X86_64 n live set) (needs n.op) choices k.chosen.chosen) in
       let s = fit.small in omega (arith, s)
 
-  families-small : HoldsOfFamilies x86_families IsSmall frame choices staged place
+  families-small : HoldsOfFamilies (x86_families reach) IsSmall frame choices staged place
   families-small = record {
     values = λ n is. values-small n;
     loads = λ n t at e k. few-small _ 4 (memory-items-fit.loads frame t at n near (has-words n k.words)).short (omega arith);
@@ -213,8 +214,8 @@ module _ (frame : ℕ) (sized : IsFrame frame) (live : Reg → Bool) (staged : L
     arguments = λ n t e k. few-small _ 1 (memory-items-fit.arguments frame t n near).short (omega arith);
     results = λ n t e. values-small n;
     pushes = λ n last e k. few-small _ 3 (memory-items-fit.pushes frame (staged_count staged) n near (few-staged n live staged choices labels last k e) (has-words n k.words 0)).short (omega arith);
-    controls = λ n is k. control-small n.op n.operands frame place k.formed.forms;
+    controls = λ n is k. control-small reach n.op n.operands frame place k.formed.forms;
   }
 
-  pub items-small : (n : Node) → IsSmall n (node_items n frame choices staged place)
-  items-small = of-node x86_families IsSmall frame choices staged place families-small
+  pub items-small : (n : Node) → IsSmall n (node_items reach n frame choices staged place)
+  items-small = of-node (x86_families reach) IsSmall frame choices staged place families-small

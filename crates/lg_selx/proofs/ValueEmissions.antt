@@ -13,6 +13,7 @@ use Rattle.lg_op.specs.declared.operand.Operand.{Operand}
 use Rattle.lg_op.specs.declared.operand.Operand.TheVariants as operand
 use Rattle.lg_op.specs.declared.operand.Reg.{Reg}
 use Rattle.lg_sel.proofs.LabelLemmas.{Passes, AllPass, passes-at}
+use Rattle.lg_sel_items.specs.declared.reach.Reach.{Reach}
 use Rattle.lg_selx.proofs.Emissions.{Keeps, NoneStores, keep-none, number-keeps, Emits, none, append, more, instructions, plain, number, address}
 use Rattle.lg_selx_items.proofs.WithinLemmas.{portable}
 use Rattle.lg_selx_items.specs.GoodItems.{Fine}
@@ -56,51 +57,51 @@ register-fine (operand.Slot k) = rax-fine
 fine-at : (xs : List Operand) (i : ℕ) → Fine (register_in xs i)
 fine-at xs i = register-fine (operand_in xs i)
 
-module _ (is : ℕ → Bool) (frame : ℕ) where
-  of : (n : ℕ) (code : List Instr) → Holds Keeps n code → Emits is 1 0 (ones code)
-  of n code h = plain is 1 code (keep-none code h.each)
+module _ (reach : Reach) (is : ℕ → Bool) (frame : ℕ) where
+  of : (n : ℕ) (code : List Instr) → Holds Keeps n code → Emits reach is 1 0 (ones code)
+  of n code h = plain reach is 1 code (keep-none code h.each)
 
-  load : (t : ℕ) (x : Operand) → Passes is x → Emits is 1 0 (load_items t x)
-  load t (operand.Number v) h = number is 1 t v
-  load t (operand.Host name) h = number is 1 t (host_address name)
-  load t (operand.Label l) h = address is t l.0 h
-  load t (operand.Reg r) h = none is 1 0
-  load t (operand.Slot k) h = none is 1 0
+  load : (t : ℕ) (x : Operand) → Passes is x → Emits reach is 1 0 (load_items t x)
+  load t (operand.Number v) h = number reach is 1 t v
+  load t (operand.Host name) h = number reach is 1 t (host_address name)
+  load t (operand.Label l) h = address reach is t l.0 h
+  load t (operand.Reg r) h = none reach is 1 0
+  load t (operand.Slot k) h = none reach is 1 0
 
-  binary-emits : (o : BinaryOp) (d a : ℕ) (x : Operand) → Fine d → Fine a → Emits is 1 0 (binary_items o frame d a x)
+  binary-emits : (o : BinaryOp) (d a : ℕ) (x : Operand) → Fine d → Fine a → Emits reach is 1 0 (binary_items o frame d a x)
   binary-emits o d a (operand.Reg r) fd fa = of 7 (binary_code o frame d a (register_of X86_64 r)) (binary-made frame Keeps (λ v. ⊤) (rows-keep frame) o d a (register_of X86_64 r) fd fa (register-fine (operand.Reg r)))
   binary-emits o d a (operand.Number v) fd fa = of 6 (binary_number_code o frame d a v) (binary-number-made frame Keeps (λ v. ⊤) (rows-keep frame) d a v fd fa tt o)
   binary-emits o d a (operand.Host name) fd fa = of 6 (binary_number_code o frame d a (host_address name)) (binary-number-made frame Keeps (λ v. ⊤) (rows-keep frame) d a (host_address name) fd fa tt o)
-  binary-emits o d a (operand.Label l) fd fa = none is 1 0
-  binary-emits o d a (operand.Slot k) fd fa = none is 1 0
+  binary-emits o d a (operand.Label l) fd fa = none reach is 1 0
+  binary-emits o d a (operand.Slot k) fd fa = none reach is 1 0
 
-  wide-emits : (o : WideOp) (d e a : ℕ) (x : Operand) → Fine d → Fine e → Fine a → Emits is 1 0 (wide_items o frame d e a x)
+  wide-emits : (o : WideOp) (d e a : ℕ) (x : Operand) → Fine d → Fine e → Fine a → Emits reach is 1 0 (wide_items o frame d e a x)
   wide-emits o d e a (operand.Reg r) fd fe fa = of 8 (wide_code o frame d e a (register_of X86_64 r)) (wide-made frame Keeps (λ v. ⊤) (rows-keep frame) o d e a (register_of X86_64 r) fd fe fa.0 (register-portable r).small)
   wide-emits o d e a (operand.Number v) fd fe fa = of 8 (wide_number_code o frame d e a v) (wide-number-made frame Keeps (λ v. ⊤) (rows-keep frame) o d e a v fd fe fa.0 tt)
   wide-emits o d e a (operand.Host name) fd fe fa = of 8 (wide_number_code o frame d e a (host_address name)) (wide-number-made frame Keeps (λ v. ⊤) (rows-keep frame) o d e a (host_address name) fd fe fa.0 tt)
-  wide-emits o d e a (operand.Label l) fd fe fa = none is 1 0
-  wide-emits o d e a (operand.Slot k) fd fe fa = none is 1 0
+  wide-emits o d e a (operand.Label l) fd fe fa = none reach is 1 0
+  wide-emits o d e a (operand.Slot k) fd fe fa = none reach is 1 0
 
-  body : (o : Op) (xs : List Operand) → AllPass is xs → Emits is 1 0 (body_items frame o xs)
+  body : (o : Op) (xs : List Operand) → AllPass is xs → Emits reach is 1 0 (body_items frame o xs)
   body (op.Binary o last) xs h = binary-emits o (register_in xs 0) (register_in xs 1) (operand_in xs 2) (fine-at xs 0) (fine-at xs 1)
   body (op.Wide o last) xs h = wide-emits o (register_in xs 0) (register_in xs 1) (register_in xs 2) (operand_in xs 3) (fine-at xs 0) (fine-at xs 1) (fine-at xs 2)
   body (op.Unary o) xs h = of 3 (unary_code o (register_in xs 0) (register_in xs 1)) (unary-made frame Keeps (λ v. ⊤) (rows-keep frame) o (register_in xs 0) (register_in xs 1) (fine-at xs 0) (fine-at xs 1).0)
   body (op.Plain plain_op.Movi) xs h = load (register_in xs 0) (operand_in xs 1) (passes-at is xs 1 h)
-  body (op.Plain o) xs h = none is 1 0
+  body (op.Plain o) xs h = none reach is 1 0
   body (op.Retval t) xs h = of 3 (retval_code t (register_in xs 0)) (retval-made frame Keeps (λ v. ⊤) (rows-keep frame) t (register_in xs 0) (fine-at xs 0))
-  body o xs h = none is 1 0
+  body o xs h = none reach is 1 0
 
   -- a register that is saved is stored
-  saved : (choices : List Choice) (xs : List Item) → Emits is 1 0 xs → Emits is 1 (spills choices) (saved_items choices xs)
+  saved : (choices : List Choice) (xs : List Item) → Emits reach is 1 0 xs → Emits reach is 1 (spills choices) (saved_items choices xs)
   saved [] xs a = a
   saved (Free r ∷ choices) xs a = saved choices xs a
   saved (Own r ∷ choices) xs a = saved choices xs a
   saved (Spill r k ∷ choices) xs a =
       let save-code : List Instr = save r k ∷ [] in
       let restore-code : List Instr = restore r k ∷ [] in
-      let inner = append is 1 0 (spills choices) 0 (saved_items choices xs) (ones restore-code) (saved choices xs a) (plain is 0 restore-code refl) in
-      more is (0 + (1 + 0)) 1 (1 + (spills choices + 0)) (spills choices + 1) (saved_items (Spill r k ∷ choices) xs) (omega arith) (omega arith)
-      (append is 0 (1 + 0) 1 (spills choices + 0) (ones save-code) (saved_items choices xs ++ ones restore-code) (instructions is 0 1 save-code (omega arith)) inner)
+      let inner = append reach is 1 0 (spills choices) 0 (saved_items choices xs) (ones restore-code) (saved choices xs a) (plain reach is 0 restore-code refl) in
+      more reach is (0 + (1 + 0)) 1 (1 + (spills choices + 0)) (spills choices + 1) (saved_items (Spill r k ∷ choices) xs) (omega arith) (omega arith)
+      (append reach is 0 (1 + 0) 1 (spills choices + 0) (ones save-code) (saved_items choices xs ++ ones restore-code) (instructions reach is 0 1 save-code (omega arith)) inner)
 
-  pub values-emit : (n : Node) (choices : List Choice) → AllPass is n.operands → Emits is 1 (spills choices) (value_items frame n choices)
+  pub values-emit : (n : Node) (choices : List Choice) → AllPass is n.operands → Emits reach is 1 (spills choices) (value_items frame n choices)
   values-emit n choices h = saved choices (body_items frame n.op n.operands) (body n.op n.operands h)

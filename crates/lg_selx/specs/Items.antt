@@ -3,6 +3,7 @@ use Rattle.std.specs.Prelude.{ℕ, Bool, List}
 use Rattle.lg_op.specs.declared.node.Node.{Node}
 use Rattle.lg_sel.specs.Families.{Families}
 use Rattle.lg_sel.specs.Families as families
+use Rattle.lg_sel_items.specs.declared.reach.Reach.{Reach}
 use Rattle.lg_selx_control.specs.ControlItems.{control_items}
 use Rattle.lg_selx_items.specs.declared.items.Item.{Item}
 use Rattle.lg_selx_items.specs.Items.{ones}
@@ -12,17 +13,18 @@ use Rattle.lg_selx_memory.specs.PushCode.{push_code}
 use Rattle.lg_selx_values.specs.ValueItems.{value_items}
 use Rattle.lg_temp.specs.declared.choice.Choice.{Choice}
 
-abbrev pub x86_families : Families Item
-x86_families = record {
+-- with this reach
+abbrev pub x86_families : Reach → Families Item
+x86_families reach = record {
   values = value_items;
-  load = λ frame t at n. ones (load_code frame t at n);
-  store = λ frame t at n. ones (store_code frame t at n);
+  load = λ frame t at n choices. ones (load_code frame t at n);
+  store = λ frame t at n choices. ones (store_code frame t at n);
   argument = λ frame t n. ones (argument_code frame t n);
   result = λ frame t n choices. value_items frame n choices;
   push = push_code;
-  control = control_items;
+  control = control_items reach;
 }
 
 -- those of a node of a function with such a frame, with these choices, where these arguments are staged and the code begins at a place
-abbrev pub node_items : Node → ℕ → List Choice → List Bool → ℕ → List Item
-node_items n frame choices staged place = families.node_items x86_families n frame choices staged place
+abbrev pub node_items : Reach → Node → ℕ → List Choice → List Bool → ℕ → List Item
+node_items reach n frame choices staged place = families.node_items (x86_families reach) n frame choices staged place

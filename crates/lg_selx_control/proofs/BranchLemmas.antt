@@ -10,14 +10,15 @@ use Rattle.lg_temp.specs.Abis.{register_of}
 use Rattle.lg_carry_x86.specs.X86Computers.{x86_scratch}
 use Rattle.lg_carry_x86.specs.X86Rows.{x86_rows, x86_seen}
 use Rattle.lg_sel_nodes.specs.Leaps.{BranchesLead}
+use Rattle.lg_sel_items.specs.declared.reach.Reach.{Reach}
 use Rattle.lg_selx_control.specs.Branches.{before_branch, taken}
 use Rattle.lg_selx_control.specs.TwoWays.{branch_code}
 use Rattle.lg_selx_control.proofs.ComparisonLemmas.{branch-tells}
 use Rattle.lg_selx_control.proofs.SpareLemmas.{framed}
 use Rattle.lg_selx_control.proofs.TwoWayLemmas.{two-ways}
 
-pub branches-lead : (code : List ℕ) (trash : ℕ) → length code ≤ most_code → AreBytes code → trash < 2 ^ 64
-    → BranchesLead (x86_rows code trash) x86_scratch IsInstr branch_code
-branches-lead code trash small bytes word frame o a b x y from to q f k there next runs at ea eb near =
-    two-ways code trash small bytes word (before_branch frame o a b) (taken o) from to q k runs at (holds o x y) there next q.state.registers
+pub branches-lead : (r : Reach) (code : List ℕ) (trash : ℕ) → length code ≤ most_code → AreBytes code → trash < 2 ^ 64
+    → BranchesLead (x86_rows code trash) x86_scratch IsInstr (branch_code r)
+branches-lead r code trash small bytes word frame o a b x y from to q f k there next runs at ea eb near =
+    two-ways code trash small bytes word r (before_branch frame o a b) (taken o) from to q k runs at (holds o x y) there next q.state.registers
     (branch-tells o frame x y a (scene_of q.state) (framed frame (x86_seen q) f) ea (subst (λ z. z < 2 ^ 64) ea (f.seen.words (register_of X86_64 a))) near b eb)

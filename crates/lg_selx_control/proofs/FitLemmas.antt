@@ -37,15 +37,16 @@ use Rattle.lg_carry_x86.proofs.NumberCodeLemmas.{half-number, row-loads}
 use Rattle.lg_sel_control.proofs.ControlLemmas.{differ, never, never-sum, host-small}
 use Rattle.lg_selx_items.specs.declared.items.Item.{Item}
 use Rattle.lg_selx_items.specs.declared.items.Item.TheVariants.{Jump}
-use Rattle.lg_selx_items.specs.declared.items.JumpKind.TheVariants.{Near, NearIf}
+use Rattle.lg_selx_items.specs.declared.items.JumpKind.TheVariants.{Near}
 use Rattle.lg_selx_items.specs.Items.{blanks, fixes_of, AreItems, ones}
 use Rattle.lg_selx_items.proofs.ItemLemmas.{words_append, items-append, names-append, fixes-append, words-ones, names-ones, fixes-ones, ones-append}
 use Rattle.lg_selx_values.specs.Scratch.{again}
 use Rattle.lg_selx_values.proofs.RegisterLemmas.{register-portable}
+use Rattle.lg_sel_items.specs.declared.reach.Reach.{Reach}
 use Rattle.lg_selx_control.specs.Alignments.{padding, idle, align_code}
 use Rattle.lg_selx_control.specs.Branches.{comparison, is_difference, lowered, wide_comparison, number_comparison, before_branch, taken}
 use Rattle.lg_selx_control.specs.ControlFits.{IsGiven, AreGiven, AreEmitted, ControlItemsFit}
-use Rattle.lg_selx_control.specs.ControlItems.{branch_if_items, register_jump_items, register_call_items, control_items, is_control}
+use Rattle.lg_selx_control.specs.ControlItems.{jump_kind, branch_if_items, register_jump_items, register_call_items, control_items, is_control}
 use Rattle.lg_selx_control.specs.ControlLaws.{ends_in_label}
 use Rattle.lg_selx_control.specs.HostCalls.{host_code}
 use Rattle.lg_selx_control.specs.Prologs.{stored_registers, stores_below, prolog_code}
@@ -74,10 +75,10 @@ in-front labels leaping is xs fit h = record {
   some = λ e. let z = h.some e in omega (arith, z, words_append (ones is) xs);
 }
 
-branch-emitted : (labels : ℕ) (front : List Instr) (c : Cond) (l : Label) → AreItems (ones front) → l.0 < labels
-    → AreEmitted labels true (branch_if_items front c l)
-branch-emitted labels front c l fit lt =
-    in-front labels true front (Jump (NearIf c) l.0 ∷ []) fit record { items = (tt, tt); labels = (lt, tt); one_fix = λ place. omega arith; some = λ e. omega arith }
+branch-emitted : (r : Reach) (labels : ℕ) (front : List Instr) (c : Cond) (l : Label) → AreItems (ones front) → l.0 < labels
+    → AreEmitted labels true (branch_if_items r front c l)
+branch-emitted r labels front c l fit lt =
+    in-front labels true front (Jump (jump_kind r c) l.0 ∷ []) fit record { items = (tt, tt); labels = (lt, tt); one_fix = λ place. omega arith; some = λ e. omega arith }
 
 -- ---- the instructions
 near-number : (n : ℕ) → n < 0x40000000 → IsNumber32 (pos n)
@@ -174,9 +175,9 @@ first-small : (a : Reg) → register_of X86_64 a < 16
 first-small a = (register-portable a).small
 
 -- ---- the nodes
-module _ (labels frame at : ℕ) (framed : frame < 0x40000000) where
+module _ (r : Reach) (labels frame at : ℕ) (framed : frame < 0x40000000) where
   abbrev items-of : Op → List Operand → List Item
-  items-of o xs = control_items o xs frame at
+  items-of o xs = control_items r o xs frame at
 
   before-fits : (o : Condition) (a : Reg) (x : Operand) → IsGiven labels x → AreItems (ones (before_branch frame o a x))
   before-fits o a (operand.Reg b) v = ((first-small a, first-small b), tt)
@@ -194,14 +195,14 @@ module _ (labels frame at : ℕ) (framed : frame < 0x40000000) where
 
   branch : (o : Condition) (last : LastOperand) (xs : List Operand) → admit (forms_of (op.Branch o last)) xs ≡ true → AreGiven labels xs
       → AreEmitted labels true (items-of (op.Branch o last) xs)
-  branch o last (operand.Label l ∷ operand.Reg a ∷ x ∷ []) h v = branch-emitted labels (before_branch frame o a x) (taken o) l (before-fits o a x v.1.1.0) v.0
+  branch o last (operand.Label l ∷ operand.Reg a ∷ x ∷ []) h v = branch-emitted r labels (before_branch frame o a x) (taken o) l (before-fits o a x v.1.1.0) v.0
   branch o last (operand.Label l ∷ operand.Reg a ∷ x ∷ y ∷ ys) h v = absurd (never (admits (last_form last) x) h)
   branch o last xs h v = absurd (differ h)
 
   sum-branch : (o : BranchSumOp) (last : LastOperand) (xs : List Operand) → admit (forms_of (op.BranchSum o last)) xs ≡ true → AreGiven labels xs
       → AreEmitted labels true (items-of (op.BranchSum o last) xs)
   sum-branch o last (operand.Label l ∷ operand.Reg a ∷ x ∷ []) h v =
-      branch-emitted labels (before_sum_branch frame o a x) (sum_taken o) l (before-sum-fits o a x v.1.1.0) v.0
+      branch-emitted r labels (before_sum_branch frame o a x) (sum_taken o) l (before-sum-fits o a x v.1.1.0) v.0
   sum-branch o last (operand.Label l ∷ operand.Reg a ∷ x ∷ y ∷ ys) h v = absurd (never-sum (admits form.Update (operand.Reg a)) (admits (last_form last) x) h)
   sum-branch o last (operand.Label l ∷ operand.Reg a ∷ []) h v = absurd (never (admits form.Update (operand.Reg a)) h)
   sum-branch o last xs h v = absurd (differ h)
@@ -285,4 +286,4 @@ module _ (labels frame at : ℕ) (framed : frame < 0x40000000) where
   by-op o xs c h v e = absurd (differ c)
 
 pub control-items-fit : ControlItemsFit
-control-items-fit n labels frame at framed c h v e = by-op labels frame at framed n.op n.operands c h.forms v e
+control-items-fit r n labels frame at framed c h v e = by-op r labels frame at framed n.op n.operands c h.forms v e

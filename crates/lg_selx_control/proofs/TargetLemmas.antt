@@ -16,10 +16,10 @@ use Rattle.lg_selx_control.proofs.SumBranchLemmas.{sum-branches-lead}
 use Rattle.lg_selx_control.proofs.WalkLemmas.{jumps-walk, register-jumps-walk}
 
 pub is-target : IsTarget
-is-target code trash small bytes word = record {
+is-target r code trash small bytes word = record {
   isa = is-isa code trash small bytes word;
-  branches = branches-lead code trash small bytes word;
-  sum_branches = sum-branches-lead code trash small bytes word;
+  branches = branches-lead r code trash small bytes word;
+  sum_branches = sum-branches-lead r code trash small bytes word;
   prologs = prologs-lead code trash small bytes word;
   returns = returns-lead code trash small bytes word;
   jumps = jumps-walk code trash small bytes word;

@@ -8,10 +8,10 @@ use Rattle.lg_base.specs.Words.{add_words}
 use Rattle.lg_x86.specs.Spelling.{spelling, IsInstr}
 use Rattle.lg_x86.specs.declared.instruction.Cond.{Cond}
 use Rattle.lg_x86.specs.declared.instruction.Instr.{Instr}
-use Rattle.lg_x86.specs.declared.instruction.Instr.TheVariants as instr
 use Rattle.lg_cpu.specs.Laws.{AreBytes}
 use Rattle.lg_cpu.specs.States.{CpuState, goes_on}
 use Rattle.lg_cpu.specs.Steps.{Run, Effect, after, status_of}
+use Rattle.lg_cpu.specs.X86Operators.{condition}
 use Rattle.lg_cpu.specs.X86Step.{Scene, scene_of, goes_where, does}
 use Rattle.lg_carry.specs.Blocks.{spellings}
 use Rattle.lg_carry_x86.specs.MakingNodes.{scene}
@@ -20,34 +20,57 @@ use Rattle.lg_carry_x86.specs.X86Rows.{x86_processor, x86_rows}
 use Rattle.lg_sel_nodes.specs.Leaps.{IsThere}
 use Rattle.lg_sel_nodes.specs.Stretches.{StandsAt, behind, Way}
 use Rattle.lg_sel_control.proofs.ChainLemmas.{runs-there}
-use Rattle.lg_selx_control.specs.TwoWays.{branch_if}
+use Rattle.lg_sel_items.specs.declared.reach.Reach.{Reach}
+use Rattle.lg_sel_items.specs.declared.reach.Reach.TheVariants.{Short, Near, Far}
+use Rattle.lg_selx_control.specs.TwoWays.{jump_if, branch_if}
 use Rattle.lg_selx_control.proofs.ComparisonLemmas.{Tells}
 use Rattle.lg_selx_control.proofs.StretchLemmas.{front_run, front_state, front-size, front-top, front-passed}
 use Rattle.lg_selx_control.proofs.WalkLemmas.{leads-there}
 
+-- how many bytes the jump has, and what it does
+abbrev jump_long : Reach → ℕ
+jump_long Short = 2
+jump_long Near = 6
+jump_long Far = 6
+
+jump-size : (r : Reach) (c : Cond) (at to : ℕ) → length (spelling (jump_if r c at to)) ≡ jump_long r
+jump-size Short c at to = refl
+jump-size Near c at to = refl
+jump-size Far c at to = refl
+
+jump-does : (r : Reach) (c : Cond) (at to next : ℕ) (q : CpuState)
+    → does (jump_if r c at to) next q ≡ goes_where q next (add_words next (word_of (pos to -ℤ pos (at + jump_long r)))) (condition c q.flags)
+jump-does Short c at to next q = refl
+jump-does Near c at to next q = refl
+jump-does Far c at to next q = refl
+
 -- the jump, where what stands before it tells whether it is taken
 module _ (code : List ℕ) (trash : ℕ) (small : length code ≤ most_code) (bytes : AreBytes code) (word : trash < 2 ^ 64)
-    (front : List Instr) (c : Cond) (from to : ℕ) (q : Run CpuState) (k : StandsAt (x86_rows code trash) IsInstr from (branch_if front c from to))
+    (r : Reach) (front : List Instr) (c : Cond) (from to : ℕ) (q : Run CpuState) (k : StandsAt (x86_rows code trash) IsInstr from (branch_if r front c from to))
     (runs : status_of q.progress ≡ Running) (at : q.state.pc ≡ from) (goes-there : Bool) (there : goes-there ≡ true → IsThere (x86_rows code trash).is_place to)
-    (next : IsThere (x86_rows code trash).is_place (behind (x86_rows code trash) from (branch_if front c from to)))
+    (next : IsThere (x86_rows code trash).is_place (behind (x86_rows code trash) from (branch_if r front c from to)))
     (W : ℕ → ℕ) (m : Tells front c W goes-there (scene_of q.state)) where
   abbrev size : ℕ
   size = length (spellings spelling front)
 
   abbrev jump : Instr
-  jump = instr.JumpIfNear c (pos to -ℤ pos (from + size + 6))
+  jump = jump_if r c (from + size) to
+
+  -- where it ends
+  abbrev jump-end : ℕ
+  jump-end = from + size + jump_long r
 
   abbrev t : Scene
   t = scene W m.flags q.state.bytes
 
   abbrev high : ℕ
-  high = behind (x86_rows code trash) from (branch_if front c from to)
+  high = behind (x86_rows code trash) from (branch_if r front c from to)
 
   abbrev last : CpuState
   last = front_state code trash small bytes word from front jump q t k m.makes_it runs at
 
-  high-is : high ≡ from + size + 6
-  high-is = front-size code trash small bytes word from front jump q t k m.makes_it runs at
+  high-is : high ≡ jump-end
+  high-is = front-size code trash small bytes word from front jump q t k m.makes_it runs at ∙ ap (λ (n : ℕ). from + size + n) (jump-size r c (from + size) to)
 
   top : high ≤ code_base + most_code
   top = front-top code trash small bytes word from front jump q t k m.makes_it runs at
@@ -70,7 +93,7 @@ module _ (code : List ℕ) (trash : ℕ) (small : length code ≤ most_code) (by
       }
 
   abbrev far : ℕ
-  far = add_words high (word_of (pos to -ℤ pos (from + size + 6)))
+  far = add_words high (word_of (pos to -ℤ pos jump-end))
 
   pub two-ways : Way (x86_processor code trash) x86_scratch from high W (if goes-there then to else high) q
   two-ways = by goes-there refl
@@ -79,8 +102,8 @@ module _ (code : List ℕ) (trash : ℕ) (small : length code ≤ most_code) (by
       by true e =
           let h = there e in let l = h.high in
           subst (λ z. Way (x86_processor code trash) x86_scratch from high W z q) (sym (ap (λ b. if b then to else high) e))
-          (leads to h.low (ap (goes_where last high far) (m.tells ∙ ap Some e)
-          ∙ ap (goes_on last) (leads-there high (from + size + 6) to high-is (omega (arith, high-is, top)) (omega (arith, l)))))
+          (leads to h.low (jump-does r c (from + size) to high last ∙ ap (goes_where last high far) (m.tells ∙ ap Some e)
+          ∙ ap (goes_on last) (leads-there high jump-end to high-is (omega (arith, high-is, top)) (omega (arith, l)))))
       by false e =
           subst (λ z. Way (x86_processor code trash) x86_scratch from high W z q) (sym (ap (λ b. if b then to else high) e))
-          (leads high next.low (ap (goes_where last high far) (m.tells ∙ ap Some e)))
+          (leads high next.low (jump-does r c (from + size) to high last ∙ ap (goes_where last high far) (m.tells ∙ ap Some e)))

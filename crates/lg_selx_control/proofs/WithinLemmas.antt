@@ -25,6 +25,7 @@ use Rattle.lg_carry_x86.specs.Numbers.{is_half, number_row}
 use Rattle.lg_selx_items.specs.Items.{ones, StayWithin}
 use Rattle.lg_selx_items.proofs.WithinLemmas.{In, portable, Within, join, stay-append, stay-ones}
 use Rattle.lg_selx_values.specs.Scratch.{again}
+use Rattle.lg_sel_items.specs.declared.reach.Reach.{Reach}
 use Rattle.lg_selx_control.specs.Alignments.{padding, idle, align_code}
 use Rattle.lg_selx_control.specs.Branches.{comparison, is_difference, lowered, wide_comparison, word_comparison, before_branch}
 use Rattle.lg_selx_control.specs.ControlFits.{ControlItemsStay}
@@ -82,15 +83,15 @@ before-sum frame o a (operand.Host name) = added o frame (register_of X86_64 a) 
 before-sum frame o a (operand.Label l) = tt
 before-sum frame o a (operand.Slot k) = tt
 
-branched : (frame : ℕ) (o : Condition) (xs : List Operand) → StayWithin (branch_items frame o xs)
-branched frame o (operand.Label l ∷ operand.Reg a ∷ x ∷ []) =
+branched : (r : Reach) (frame : ℕ) (o : Condition) (xs : List Operand) → StayWithin (branch_items r frame o xs)
+branched r frame o (operand.Label l ∷ operand.Reg a ∷ x ∷ []) =
     stay-append (ones (before_branch frame o a x)) _ (stay-ones (before_branch frame o a x) (before frame o a x)) (tt, tt)
-branched frame o xs = tt
+branched r frame o xs = tt
 
-summed : (frame : ℕ) (o : BranchSumOp) (xs : List Operand) → StayWithin (sum_items frame o xs)
-summed frame o (operand.Label l ∷ operand.Reg a ∷ x ∷ []) =
+summed : (r : Reach) (frame : ℕ) (o : BranchSumOp) (xs : List Operand) → StayWithin (sum_items r frame o xs)
+summed r frame o (operand.Label l ∷ operand.Reg a ∷ x ∷ []) =
     stay-append (ones (before_sum_branch frame o a x)) _ (stay-ones (before_sum_branch frame o a x) (before-sum frame o a x)) (tt, tt)
-summed frame o xs = tt
+summed r frame o xs = tt
 
 jumped : (xs : List Operand) → StayWithin (jump_items xs)
 jumped (operand.Label l ∷ []) = (tt, tt)
@@ -156,12 +157,12 @@ plainly plain.Ret xs frame at = returns
 plainly plain.Align xs frame at = aligned at xs
 plainly o xs frame at = tt
 
-stay : (o : Op) (xs : List Operand) (frame at : ℕ) → StayWithin (control_items o xs frame at)
-stay (op.Branch o last) xs frame at = branched frame o xs
-stay (op.BranchSum o last) xs frame at = summed frame o xs
-stay (op.Control o last) xs frame at = leaps o last xs
-stay (op.Plain o) xs frame at = plainly o xs frame at
-stay o xs frame at = tt
+stay : (r : Reach) (o : Op) (xs : List Operand) (frame at : ℕ) → StayWithin (control_items r o xs frame at)
+stay r (op.Branch o last) xs frame at = branched r frame o xs
+stay r (op.BranchSum o last) xs frame at = summed r frame o xs
+stay r (op.Control o last) xs frame at = leaps o last xs
+stay r (op.Plain o) xs frame at = plainly o xs frame at
+stay r o xs frame at = tt
 
 pub control-items-stay : ControlItemsStay
-control-items-stay n frame at = stay n.op n.operands frame at
+control-items-stay r n frame at = stay r n.op n.operands frame at

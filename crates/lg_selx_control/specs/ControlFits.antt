@@ -5,6 +5,7 @@ use Rattle.lg_op.specs.declared.operand.Operand.{Operand}
 use Rattle.lg_op.specs.Nodes.{InForm}
 use Rattle.lg_carry.specs.Carries.{leaps}
 use Rattle.lg_sel_control.specs.Givens as givens
+use Rattle.lg_sel_items.specs.declared.reach.Reach.{Reach}
 use Rattle.lg_selx_items.specs.declared.items.Item.{Item}
 use Rattle.lg_selx_items.specs.Items.{words_in, fixes_of, AreItems, NameLabels, StayWithin}
 use Rattle.lg_selx_control.specs.ControlItems.{control_items, is_control}
@@ -27,9 +28,9 @@ pub record AreEmitted (count : ℕ) (leaping : Bool) (xs : List Item) : Type 0 w
 -- in a frame whose size is a number of 31 bits
 abbrev pub ControlItemsFit : Type 0
 ControlItemsFit =
-    (n : Node) (labels frame at : ℕ) → frame < 0x40000000 → is_control n.op ≡ true → InForm n → AreGiven labels n.operands → ends_in_label n.operands ≡ false
-    → AreEmitted labels (leaps n.op) (control_items n.op n.operands frame at)
+    (r : Reach) (n : Node) (labels frame at : ℕ) → frame < 0x40000000 → is_control n.op ≡ true → InForm n → AreGiven labels n.operands → ends_in_label n.operands ≡ false
+    → AreEmitted labels (leaps n.op) (control_items r n.op n.operands frame at)
 
 -- the items write no register that is outside of the conventions
 abbrev pub ControlItemsStay : Type 0
-ControlItemsStay = (n : Node) (frame at : ℕ) → StayWithin (control_items n.op n.operands frame at)
+ControlItemsStay = (r : Reach) (n : Node) (frame at : ℕ) → StayWithin (control_items r n.op n.operands frame at)

@@ -21,9 +21,12 @@ use Rattle.lg_x86.specs.declared.instruction.JumpNearOp.TheVariants.{Jmp32, Call
 use Rattle.lg_x86.specs.declared.instruction.RmRegOp.TheVariants.{Mov}
 use Rattle.lg_temp.specs.Abis.{register_of}
 use Rattle.lg_carry_x86.specs.Numbers.{number_row}
+use Rattle.lg_sel_items.specs.declared.reach.Reach.{Reach}
+use Rattle.lg_sel_items.specs.declared.reach.Reach.TheVariants.{Short}
 use Rattle.lg_selx_items.specs.declared.items.Item.{Item}
 use Rattle.lg_selx_items.specs.declared.items.Item.TheVariants.{One, Jump, Address}
-use Rattle.lg_selx_items.specs.declared.items.JumpKind.TheVariants.{Near, NearIf}
+use Rattle.lg_selx_items.specs.declared.items.JumpKind.{JumpKind}
+use Rattle.lg_selx_items.specs.declared.items.JumpKind.TheVariants.{Near, NearIf, ShortIf}
 use Rattle.lg_selx_items.specs.Items.{ones}
 use Rattle.lg_selx_control.specs.Alignments.{align_code}
 use Rattle.lg_selx_control.specs.Branches.{before_branch, taken}
@@ -37,16 +40,20 @@ use Rattle.lg_selx_control.specs.SumBranches.{before_sum_branch, sum_taken}
 
 -- ---- branches
 -- a jump to a label where the condition holds, behind code that sets the flags
-abbrev pub branch_if_items : List Instr → Cond → Label → List Item
-branch_if_items front holds l = ones front ++ (Jump (NearIf holds) l.0 ∷ [])
+abbrev pub jump_kind : Reach → Cond → JumpKind
+jump_kind Short holds = ShortIf holds
+jump_kind r holds = NearIf holds
 
-abbrev pub branch_items : ℕ → Condition → List Operand → List Item
-branch_items frame o (operand.Label l ∷ operand.Reg a ∷ x ∷ []) = branch_if_items (before_branch frame o a x) (taken o) l
-branch_items frame o xs = []
+abbrev pub branch_if_items : Reach → List Instr → Cond → Label → List Item
+branch_if_items r front holds l = ones front ++ (Jump (jump_kind r holds) l.0 ∷ [])
 
-abbrev pub sum_items : ℕ → BranchSumOp → List Operand → List Item
-sum_items frame o (operand.Label l ∷ operand.Reg a ∷ x ∷ []) = branch_if_items (before_sum_branch frame o a x) (sum_taken o) l
-sum_items frame o xs = []
+abbrev pub branch_items : Reach → ℕ → Condition → List Operand → List Item
+branch_items r frame o (operand.Label l ∷ operand.Reg a ∷ x ∷ []) = branch_if_items r (before_branch frame o a x) (taken o) l
+branch_items r frame o xs = []
+
+abbrev pub sum_items : Reach → ℕ → BranchSumOp → List Operand → List Item
+sum_items r frame o (operand.Label l ∷ operand.Reg a ∷ x ∷ []) = branch_if_items r (before_sum_branch frame o a x) (sum_taken o) l
+sum_items r frame o xs = []
 
 -- ---- jumps, calls and returns
 abbrev pub jump_items : List Operand → List Item
@@ -103,13 +110,13 @@ plain_items plain.Ret xs frame at = ones return_code
 plain_items plain.Align xs frame at = align_items at xs
 plain_items o xs frame at = []
 
--- ---- of a node in a function with a frame of so many bytes, whose code begins at an address
-abbrev pub control_items : Op → List Operand → ℕ → ℕ → List Item
-control_items (op.Branch o last) xs frame at = branch_items frame o xs
-control_items (op.BranchSum o last) xs frame at = sum_items frame o xs
-control_items (op.Control o last) xs frame at = leap_items o last xs
-control_items (op.Plain o) xs frame at = plain_items o xs frame at
-control_items o xs frame at = []
+-- ---- of a node in a function with a frame of so many bytes, whose code begins at an address and has a reach
+abbrev pub control_items : Reach → Op → List Operand → ℕ → ℕ → List Item
+control_items r (op.Branch o last) xs frame at = branch_items r frame o xs
+control_items r (op.BranchSum o last) xs frame at = sum_items r frame o xs
+control_items r (op.Control o last) xs frame at = leap_items o last xs
+control_items r (op.Plain o) xs frame at = plain_items o xs frame at
+control_items r o xs frame at = []
 
 -- the operations whose nodes have these items
 abbrev pub is_control : Op → Bool

@@ -7,6 +7,7 @@ use Rattle.lg_cpu.specs.Laws.{AreBytes}
 use Rattle.lg_carry_x86.specs.X86Computers.{x86_scratch}
 use Rattle.lg_carry_x86.specs.X86Rows.{x86_rows}
 use Rattle.lg_sel_control.specs.Control.{Codes, Controls}
+use Rattle.lg_sel_items.specs.declared.reach.Reach.{Reach}
 use Rattle.lg_selx_control.specs.Alignments.{align_code}
 use Rattle.lg_selx_control.specs.Calls.{call_code}
 use Rattle.lg_selx_control.specs.HostCalls.{host_code, x86_ready}
@@ -16,10 +17,11 @@ use Rattle.lg_selx_control.specs.RegisterLeaps.{register_jump_code, register_cal
 use Rattle.lg_selx_control.specs.Returns.{returned_code}
 use Rattle.lg_selx_control.specs.TwoWays.{branch_code, sum_branch_code}
 
-abbrev pub x86_control : Codes Instr
-x86_control = record {
-  branch = branch_code;
-  sum_branch = sum_branch_code;
+-- with this reach
+abbrev pub x86_control : Reach → Codes Instr
+x86_control r = record {
+  branch = branch_code r;
+  sum_branch = sum_branch_code r;
   jump = jump_code;
   register_jump = register_jump_code;
   call = call_code;
@@ -30,8 +32,8 @@ x86_control = record {
   align = align_code;
 }
 
-abbrev pub IsX86 : List ℕ → ℕ → Type 0
-IsX86 code trash = Controls (x86_rows code trash) x86_scratch IsInstr x86_ready x86_control
+abbrev pub IsX86 : Reach → List ℕ → ℕ → Type 0
+IsX86 r code trash = Controls (x86_rows code trash) x86_scratch IsInstr x86_ready (x86_control r)
 
 abbrev pub IsTarget : Type 0
-IsTarget = (code : List ℕ) (trash : ℕ) → length code ≤ most_code → AreBytes code → trash < 2 ^ 64 → IsX86 code trash
+IsTarget = (r : Reach) (code : List ℕ) (trash : ℕ) → length code ≤ most_code → AreBytes code → trash < 2 ^ 64 → IsX86 r code trash

@@ -9,15 +9,22 @@ use Rattle.lg_x86.specs.declared.instruction.Cond.{Cond}
 use Rattle.lg_x86.specs.declared.instruction.Instr.{Instr}
 use Rattle.lg_x86.specs.declared.instruction.Instr.TheVariants as instr
 use Rattle.lg_carry.specs.Blocks.{spellings}
+use Rattle.lg_sel_items.specs.declared.reach.Reach.{Reach}
+use Rattle.lg_sel_items.specs.declared.reach.Reach.TheVariants.{Short}
 use Rattle.lg_selx_control.specs.Branches.{before_branch, taken}
 use Rattle.lg_selx_control.specs.SumBranches.{before_sum_branch, sum_taken}
 
--- front stands before the jump, from an address on, and the jump, whose distance counts from its end, leads to another one where the condition holds
-abbrev pub branch_if : List Instr → Cond → ℕ → ℕ → List Instr
-branch_if front holds from to = front ++ (instr.JumpIfNear holds (pos to -ℤ pos (from + length (spellings spelling front) + 6)) ∷ [])
+-- a jump where a condition holds, from an address to another one: its distance counts from its end
+abbrev pub jump_if : Reach → Cond → ℕ → ℕ → Instr
+jump_if Short holds at to = instr.JumpIfShort holds (pos to -ℤ pos (at + 2))
+jump_if r holds at to = instr.JumpIfNear holds (pos to -ℤ pos (at + 6))
 
-abbrev pub branch_code : ℕ → Condition → Reg → Operand → ℕ → ℕ → List Instr
-branch_code frame o a x from to = branch_if (before_branch frame o a x) (taken o) from to
+-- front stands before it, from an address on
+abbrev pub branch_if : Reach → List Instr → Cond → ℕ → ℕ → List Instr
+branch_if r front holds from to = front ++ (jump_if r holds (from + length (spellings spelling front)) to ∷ [])
 
-abbrev pub sum_branch_code : ℕ → BranchSumOp → Reg → Operand → ℕ → ℕ → List Instr
-sum_branch_code frame o a x from to = branch_if (before_sum_branch frame o a x) (sum_taken o) from to
+abbrev pub branch_code : Reach → ℕ → Condition → Reg → Operand → ℕ → ℕ → List Instr
+branch_code r frame o a x from to = branch_if r (before_branch frame o a x) (taken o) from to
+
+abbrev pub sum_branch_code : Reach → ℕ → BranchSumOp → Reg → Operand → ℕ → ℕ → List Instr
+sum_branch_code r frame o a x from to = branch_if r (before_sum_branch frame o a x) (sum_taken o) from to

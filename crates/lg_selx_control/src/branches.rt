@@ -2,14 +2,13 @@
 
 ghost use Rattle.std.specs.Prelude.{◌≡◌, ◌≤◌, ◌<◌, [], ◌∷◌, ◌++◌};
 ghost use Rattle.lg_selx_control.specs.Branches.{comparison, is_difference, taken, wide_comparison, number_comparison, before_branch};
-ghost use Rattle.lg_selx_control.specs.ControlItems.{branch_items};
+ghost use Rattle.lg_selx_control.specs.ControlItems.{jump_kind, branch_items};
 ghost use Rattle.lg_selx_items.specs.Items.{words_in, ones};
 ghost use Rattle.lg_selx_items.specs.declared.items.Item.TheVariants.{Jump};
-ghost use Rattle.lg_selx_items.specs.declared.items.JumpKind.TheVariants.{NearIf};
 
 use crate::pointers::{FRAME_POINTER, STACK_POINTER, pointer_again, stack_again};
 use lg_op::{Condition, Label, Operand, Reg};
-use lg_sel_items::Items;
+use lg_sel_items::{Items, Reach};
 use lg_selx_items::{Item, JumpKind, half_number, is_half, put_number, register_of, row};
 use lg_x86::{Cond, ImmOp, Instr, RmRegOp};
 
@@ -119,19 +118,30 @@ fn put_before(
     }
 }
 
+// How a jump where a condition holds is spelled.
+fn jump_kind(reach: Reach, cond: Cond) -> JumpKind
+    ensures { result ≡ jump_kind reach cond }
+{
+    match reach {
+        Reach::Short => JumpKind::ShortIf(cond),
+        Reach::Near | Reach::Far => JumpKind::NearIf(cond),
+    }
+}
+
 // Appends a jump to a label where a condition holds.
-pub(crate) fn put_jump_if(cond: Cond, label: Label, items: &mut Items<Item>)
+pub(crate) fn put_jump_if(reach: Reach, cond: Cond, label: Label, items: &mut Items<Item>)
     requires { words_in items.old ≤ 3 }
-    ensures { items.new ≡ items.old ++ Jump (NearIf cond) label.0 ∷ [] }
+    ensures { items.new ≡ items.old ++ Jump (jump_kind reach cond) label.0 ∷ [] }
 {
     items.push(Item::Jump {
-        kind: JumpKind::NearIf(cond),
+        kind: jump_kind(reach, cond),
         label: label.0,
     });
 }
 
 // Appends the items of a branch to none.
 pub(crate) fn put_branch(
+    reach: Reach,
     condition: Condition,
     frame: u32,
     operands: &[Operand],
@@ -140,12 +150,12 @@ pub(crate) fn put_branch(
     requires empty { items.old ≡ [] }
     requires some { 272 ≤ frame }
     requires small { frame < 0x4000_0000 }
-    ensures { items.new ≡ branch_items frame condition operands.now }
+    ensures { items.new ≡ branch_items reach frame condition operands.now }
 {
     match operands {
         [Operand::Label(label), Operand::Reg(first), second] => {
             put_before(condition, frame, *first, *second, items);
-            put_jump_if(taken(condition), *label, items);
+            put_jump_if(reach, taken(condition), *label, items);
         }
         _ => {}
     }

@@ -8,7 +8,7 @@ ghost use Rattle.lg_selx_items.specs.Items.{words_in, ones};
 use crate::branches::put_jump_if;
 use crate::pointers::{FRAME_POINTER, pointer_again};
 use lg_op::{BranchSumOp, Operand, Reg};
-use lg_sel_items::Items;
+use lg_sel_items::{Items, Reach};
 use lg_selx_items::{Item, half_number, is_half, put_number, register_of, row};
 use lg_x86::{Cond, ImmOp, Instr, RmRegOp};
 
@@ -89,6 +89,7 @@ fn put_before_sum(op: BranchSumOp, frame: u32, first: Reg, second: Operand, item
 
 // Appends the items of such a branch to none.
 pub(crate) fn put_sum_branch(
+    reach: Reach,
     op: BranchSumOp,
     frame: u32,
     operands: &[Operand],
@@ -97,12 +98,12 @@ pub(crate) fn put_sum_branch(
     requires empty { items.old ≡ [] }
     requires some { 272 ≤ frame }
     requires small { frame < 0x4000_0000 }
-    ensures { items.new ≡ sum_items frame op operands.now }
+    ensures { items.new ≡ sum_items reach frame op operands.now }
 {
     match operands {
         [Operand::Label(label), Operand::Reg(first), second] => {
             put_before_sum(op, frame, *first, *second, items);
-            put_jump_if(sum_taken(op), *label, items);
+            put_jump_if(reach, sum_taken(op), *label, items);
         }
         _ => {}
     }

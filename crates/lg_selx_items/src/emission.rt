@@ -6,7 +6,7 @@ ghost use Rattle.lg_selx_items.specs.declared.items.Item.TheVariants.{One};
 ghost use Rattle.lg_selx_items.specs.Items.{x86_holes, IsItem, NamesOneOf, has_word};
 
 use crate::items::{Item, move_size};
-use lg_buf::{CodeBuf, FixKind, Label32};
+use lg_buf::{Fix, FixKind, Label32};
 use lg_x86::{Instr, encode};
 use smallvec::SmallVec;
 
@@ -60,17 +60,16 @@ impl lg_sel_items::Item for Item {
         size_of(&self.blank())
     }
 
-    fn fix(&self, place: u32, buf: &mut CodeBuf) {
-        // the field lies in front of the buffer's end, whose place is a `u32`
-        let _end = buf.here();
-        match *self {
-            Item::One(_) => {}
-            Item::Jump { kind, label } => {
-                buf.fix(place + kind.opcode_size(), kind.fix_kind(), Label32(label))
-            }
-            Item::Address { reg, label } => {
-                buf.fix(place + move_size(reg), FixKind::X86Abs32, Label32(label))
-            }
-        }
+    fn fix(&self, place: u32) -> Option<Fix> {
+        let (before, kind, label) = match *self {
+            Item::One(_) => return None,
+            Item::Jump { kind, label } => (kind.opcode_size(), kind.fix_kind(), label),
+            Item::Address { reg, label } => (move_size(reg), FixKind::X86Abs32, label),
+        };
+        Some(Fix {
+            place: place + before,
+            kind,
+            label: Label32(label),
+        })
     }
 }

@@ -45,7 +45,7 @@ load-made value_type.UnsignedInt s d base disp a v at e lt =
 load-made value_type.Long s d base disp a v at e lt = rw at (ap (sets_loaded Ld64 d s) e)
 
 pub loads-do : (code : List ℕ) (trash : ℕ) → LoadsDo (x86_rows code trash) x86_scratch x86_load
-loads-do code trash frame t d at q a v named ok f address even readable lt =
+loads-do code trash frame t d at q a v named ok f address end readable lt =
     let s = x86_seen q in
     let w = q.state.registers in
     let rd = register_of X86_64 d in

@@ -38,7 +38,7 @@ store-made store_type.Int s base disp from a v at there holds = rw (at, there, h
 store-made store_type.Long s base disp from a v at there holds = rw (at, there, holds) refl
 
 pub stores-do : (code : List ℕ) (trash : ℕ) → StoresDo (x86_rows code trash) x86_scratch x86_store
-stores-do code trash frame t at b q a ok f address even writable =
+stores-do code trash frame t at b q a ok f address end writable off =
     let s = x86_seen q in
     let w = q.state.registers in
     let rb = register_of X86_64 b in

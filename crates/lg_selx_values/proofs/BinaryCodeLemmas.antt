@@ -141,18 +141,18 @@ shift-op o = Sari
 record IsShift (op : UnaryOp) (by : ShiftOp) : Type 0 where
   made : (d : ℕ) (w : ℕ → ℕ) (f : Flags) (bytes : ℕ → Option ℕ) → makes (Unary op d ∷ []) (scene w f bytes) ≡ Some (scene (put w d (shift_value by (w d) (w 1 % 64))) (shift_flags by f (w d) (w 1 % 64)) bytes)
 
-shifted-word : (choices : List Choice) (op : UnaryOp) (by : ShiftOp) (d a b : ℕ) (q : Held) → IsShift op by → d ≢ 1 → a ≢ 1 → q.registers b < 64 → ((r : ℕ) → is_taken choices r ≡ false → r ≢ d → (r == 1) ≡ false)
-    → MakesWord choices (shifted op d a b) d (shift_value by (q.registers a) (q.registers b)) q
-shifted-word choices op by d a b q is d1 a1 few lends =
+shifted-word : (choices : List Choice) (op : UnaryOp) (by : ShiftOp) (d a b : ℕ) (q : Held) → IsShift op by → d ≢ 1 → a ≢ 1 → ((r : ℕ) → is_taken choices r ≡ false → r ≢ d → (r == 1) ≡ false)
+    → MakesWord choices (shifted op d a b) d (shift_value by (q.registers a) (q.registers b % 64)) q
+shifted-word choices op by d a b q is d1 a1 lends =
     let w : ℕ → ℕ = q.registers in
     let u : ℕ → ℕ = put w 1 (w b) in
     let v : ℕ → ℕ = put u d (u a) in
-    let count : v 1 % 64 ≡ w b = ap (λ x. x % 64) (put-other u d (u a) 1 (λ e. d1 (sym e)) ∙ put-same w 1 (w b)) ∙ omega (arith, few) in
+    let count : v 1 % 64 ≡ w b % 64 = ap (λ x. x % 64) (put-other u d (u a) 1 (λ e. d1 (sym e)) ∙ put-same w 1 (w b)) in
     let word : v d ≡ w a = put-same u d (u a) ∙ put-other w 1 (w b) a a1 in
-    let z : ℕ = shift_value by (w a) (w b) in
+    let z : ℕ = shift_value by (w a) (w b % 64) in
     record {
       registers = put v d z;
-      flags = shift_flags by q.flags (w a) (w b);
+      flags = shift_flags by q.flags (w a) (w b % 64);
       value = put-same v d z;
       keeps = λ r ne free. put-other v d z r ne ∙ put-other u d (u a) r ne ∙ put-other w 1 (w b) r (apart r 1 (lends r free ne));
       makes_it = λ bytes. moved-makes d a (Unary op d ∷ []) u q.flags bytes ∙ is.made d v q.flags bytes ∙ (λ i. Some (scene (put v d (shift_value by (word i) (count i))) (shift_flags by q.flags (word i) (count i)) bytes));
@@ -237,9 +237,6 @@ where-is : (b : Bool) (n z : ℕ) → word_where b n ≡ Some z → IsWhere b n 
 where-is true n z e = record { holds = refl; is = some-same n z e }
 where-is false n z e = cc
 
-below : (n : ℕ) → nat_lt n 64 ≡ true → n < 64
-below n e = grind (arith, e)
-
 module _ (choices : List Choice) (frame d a b : ℕ) (q : Held) (d5 : d ≢ 5) (d4 : d ≢ 4) (d1 : d ≢ 1) (a1 : a ≢ 1) (a2 : a ≢ 2) (words : AreWords q.registers) (pointer : add_words (q.registers 4) (frame - 16) ≡ q.registers 5) where
   abbrev x : ℕ
   x = q.registers a
@@ -255,9 +252,9 @@ module _ (choices : List Choice) (frame d a b : ℕ) (q : Held) (d5 : d ≢ 5) (
   register-word binary.Sub z p l e = as-word choices (register_code binary.Sub frame d a b) d (sub_words x y) z q (difference-word choices d a b q words) (some-same _ z e)
   register-word binary.Rsb z p l e = as-word choices (register_code binary.Rsb frame d a b) d (sub_words y x) z q (difference-word choices d b a q words) (some-same _ z e)
   register-word binary.Mul z p l e = as-word choices (register_code binary.Mul frame d a b) d (mul_words x y) z q (product-word choices d a b q) (some-same _ z e)
-  register-word binary.Lsh z p l e = let m = where-is (nat_lt y 64) (shifted_left x y) z e in as-word choices (register_code binary.Lsh frame d a b) d (shifted_left x y) z q (shifted-word choices Shl Shli d a b q record { made = λ d w f bytes. refl } d1 a1 (below y m.holds) l) m.is
-  register-word binary.Rsh z p l e = let m = where-is (nat_lt y 64) (shifted_right_signed x y) z e in as-word choices (register_code binary.Rsh frame d a b) d (shifted_right_signed x y) z q (shifted-word choices Sar Sari d a b q record { made = λ d w f bytes. refl } d1 a1 (below y m.holds) l) m.is
-  register-word binary.RshU z p l e = let m = where-is (nat_lt y 64) (shifted_right x y) z e in as-word choices (register_code binary.RshU frame d a b) d (shifted_right x y) z q (shifted-word choices Shr Shri d a b q record { made = λ d w f bytes. refl } d1 a1 (below y m.holds) l) m.is
+  register-word binary.Lsh z p l e = as-word choices (register_code binary.Lsh frame d a b) d (shifted_left x (y % 64)) z q (shifted-word choices Shl Shli d a b q record { made = λ d w f bytes. refl } d1 a1 l) (some-same _ z e)
+  register-word binary.Rsh z p l e = as-word choices (register_code binary.Rsh frame d a b) d (shifted_right_signed x (y % 64)) z q (shifted-word choices Sar Sari d a b q record { made = λ d w f bytes. refl } d1 a1 l) (some-same _ z e)
+  register-word binary.RshU z p l e = as-word choices (register_code binary.RshU frame d a b) d (shifted_right x (y % 64)) z q (shifted-word choices Shr Shri d a b q record { made = λ d w f bytes. refl } d1 a1 l) (some-same _ z e)
   register-word binary.Div z p l e = let m = where-is (divides x y) (quotient_signed x y) z e in signed-word choices frame 0 d a b q d5 d4 a2 pointer l (quotient_signed x y) (remainder_signed x y) (signed-quotient x y (words a) (words b) m.holds) z (λ high. m.is)
   register-word binary.Rem z p l e = let m = where-is (divides x y) (remainder_signed x y) z e in signed-word choices frame 2 d a b q d5 d4 a2 pointer l (quotient_signed x y) (remainder_signed x y) (signed-quotient x y (words a) (words b) m.holds) z (λ high. m.is)
   register-word binary.DivU z p l e = let m = where-is (not (y == 0)) (quotient x y) z e in unsigned-word choices frame 0 d a b q d5 d4 a2 pointer l (quotient x y) (remainder x y) (unsigned-quotient x y m.holds) z (λ high. m.is)

@@ -54,9 +54,6 @@ where-is : (b : Bool) (n z : ℕ) → word_where b n ≡ Some z → IsWhere b n 
 where-is true n z e = record { holds = refl; is = some-same n z e }
 where-is false n z e = cc
 
-below : (n : ℕ) → nat_lt n 64 ≡ true → n < 64
-below n e = grind (arith, e)
-
 add-negated : (a v : ℕ) → a < 2 ^ 64 → v < 2 ^ 64 → add_words (negated a) v ≡ sub_words v a
 add-negated a v h k = grind (arith, h, k)
 
@@ -107,13 +104,12 @@ module _ (frame d a v : ℕ) (q : Held) (d5 : d ≢ 5) (d4 : d ≢ 4) (small : v
         ∙ ap (λ x. makes (again frame) (scene (put u5 d (mul_words x v)) (product_flags (needs_high_signed x v)) bytes)) first;
   }
 
-  pub shift-number : (by : ShiftOp) → v < 64 → MakesWord [] (shifted_number by d a v) d (shift_value by (w a) v) q
-  shift-number by few =
-      let same : v % 64 ≡ v = omega (arith, few) in
-      put-word [] (shifted_number by d a v) d (shift_value by (w a) v) q (shift_flags by q.flags (w a) v)
+  pub shift-number : (by : ShiftOp) → MakesWord [] (shifted_number by d a v) d (shift_value by (w a) (v % 64)) q
+  shift-number by =
+      put-word [] (shifted_number by d a v) d (shift_value by (w a) (v % 64)) q (shift_flags by q.flags (w a) (v % 64))
       (λ bytes. moved-makes d a (Shift by d (v % 64) ∷ []) w q.flags bytes
-      ∙ (λ i. Some (scene (put u d (shift_value by (put-same w d (w a) i) (same i))) (shift_flags by q.flags (put-same w d (w a) i) (same i)) bytes))
-      ∙ ap (λ g. Some (scene g (shift_flags by q.flags (w a) v) bytes)) (put-twice w d (w a) (shift_value by (w a) v)))
+      ∙ (λ i. Some (scene (put u d (shift_value by (put-same w d (w a) i) (v % 64))) (shift_flags by q.flags (put-same w d (w a) i) (v % 64)) bytes))
+      ∙ ap (λ g. Some (scene g (shift_flags by q.flags (w a) (v % 64)) bytes)) (put-twice w d (w a) (shift_value by (w a) (v % 64))))
 
   abbrev seen : Flags
   seen = difference_flags (w a) v 0 (sub_words (w a) v)
@@ -251,9 +247,9 @@ module _ (choices : List Choice) (frame d a v : ℕ) (q : Held) (d5 : d ≢ 5) (
   number-word binary.Xor z p l e = row-word binary.Xor imm.Xori (bit_xor m v) z refl refl refl refl e
   number-word binary.Rsb z p l e = as-word choices (number_form_code binary.Rsb frame d a v) d (sub_words v m) z q (turned-number frame d a v q d5 d4 small words pointer) (some-same _ z e)
   number-word binary.Mul z p l e = as-word choices (number_form_code binary.Mul frame d a v) d (mul_words m v) z q (product-number frame d a v q d5 d4 small words pointer) (some-same _ z e)
-  number-word binary.Lsh z p l e = let k = where-is (nat_lt v 64) (shifted_left m v) z e in as-word choices (number_form_code binary.Lsh frame d a v) d (shifted_left m v) z q (shift-number frame d a v q d5 d4 small words pointer Shli (below v k.holds)) k.is
-  number-word binary.Rsh z p l e = let k = where-is (nat_lt v 64) (shifted_right_signed m v) z e in as-word choices (number_form_code binary.Rsh frame d a v) d (shifted_right_signed m v) z q (shift-number frame d a v q d5 d4 small words pointer Sari (below v k.holds)) k.is
-  number-word binary.RshU z p l e = let k = where-is (nat_lt v 64) (shifted_right m v) z e in as-word choices (number_form_code binary.RshU frame d a v) d (shifted_right m v) z q (shift-number frame d a v q d5 d4 small words pointer Shri (below v k.holds)) k.is
+  number-word binary.Lsh z p l e = as-word choices (number_form_code binary.Lsh frame d a v) d (shifted_left m (v % 64)) z q (shift-number frame d a v q d5 d4 small words pointer Shli) (some-same _ z e)
+  number-word binary.Rsh z p l e = as-word choices (number_form_code binary.Rsh frame d a v) d (shifted_right_signed m (v % 64)) z q (shift-number frame d a v q d5 d4 small words pointer Sari) (some-same _ z e)
+  number-word binary.RshU z p l e = as-word choices (number_form_code binary.RshU frame d a v) d (shifted_right m (v % 64)) z q (shift-number frame d a v q d5 d4 small words pointer Shri) (some-same _ z e)
   number-word binary.Div z p l e = let k = where-is (divides m v) (quotient_signed m v) z e in signed-number choices frame 0 d a v q d5 d4 small pointer l (quotient_signed m v) (remainder_signed m v) (signed-quotient m v (words a) small k.holds) z (λ high. k.is)
   number-word binary.Rem z p l e = let k = where-is (divides m v) (remainder_signed m v) z e in signed-number choices frame 2 d a v q d5 d4 small pointer l (quotient_signed m v) (remainder_signed m v) (signed-quotient m v (words a) small k.holds) z (λ high. k.is)
   number-word binary.DivU z p l e = let k = where-is (not (v == 0)) (quotient m v) z e in unsigned-number choices frame 0 d a v q d5 d4 small pointer l (quotient m v) (remainder m v) (unsigned-quotient m v k.holds) z (λ high. k.is)

@@ -216,7 +216,7 @@ fn compared_number(cond: Cond, frame: u32, d: u8, a: u8, value: u64, items: &mut
     }
 }
 
-// Appends the code of a shift by a number: at most 2 instructions, for which there is room. A shift by 64 or more is undefined.
+// Appends the code of a shift by a number modulo 64: at most 2 instructions, for which there is room.
 fn shifted_number(op: ShiftOp, d: u8, a: u8, value: u64, items: &mut Items<Item>)
     requires { words_in items.old + 2 ≤ 64 }
     ensures { items.new ≡ items.old ++ ones (shifted_number op d a value) }

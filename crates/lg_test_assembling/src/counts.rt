@@ -1,7 +1,6 @@
 // Texts, and what their code has.
 
 ghost use Rattle.std.specs.Prelude.{◌≤◌, length};
-ghost use Rattle.lg_asm.specs.Built.{IsBuilt};
 
 use lg_asm::assemble;
 use lg_base::refusal::Stop;
@@ -44,7 +43,6 @@ struct Counts {
 
 // What the code of a text has, or the reason why there is none.
 fn assembled(alloc: Global, target: Target, text: &[u8]) -> Result<Counts, Stop>
-    requires built { IsBuilt target }
     requires few { length text.now ≤ 16777216 }
 {
     let unit = parse(alloc, text)?;
@@ -57,9 +55,7 @@ fn assembled(alloc: Global, target: Target, text: &[u8]) -> Result<Counts, Stop>
 }
 
 // The counts of a text; one that has no code has more than any.
-fn counted(alloc: Global, target: Target, text: &[u8]) -> Counts
-    requires { IsBuilt target }
-{
+fn counted(alloc: Global, target: Target, text: &[u8]) -> Counts {
     let none = Counts {
         spills: u32::MAX,
         nodes: u32::MAX,

@@ -6,12 +6,13 @@ use lg_io::memory_sink::MemorySink;
 use lg_io::memory_texts::MemoryTexts;
 use lg_io::texts::Texts;
 use lg_run::answer::{Answer, status};
-use lg_run::top::{lightning, report};
+use lg_run::top::{lightning, report_words};
+use std::alloc::{AllocError, Global};
 use std::process::Abort;
 use std::test::Fail;
 
 const USAGE: &[u8] =
-    b"lightning: usage: lightning [--mode M] [--target T] [--steps N] [--code N] [FILE [ARG]...]\n";
+    b"lightning: usage: lightning [--mode M] [--target T] [--steps N] [--code N] [--seed N] [--stats] [FILE [ARG]...]\n";
 
 const READ: &[u8] = b"lightning: read fault\n";
 
@@ -19,19 +20,18 @@ const WRITE: &[u8] = b"lightning: write fault\n";
 
 #[test]
 fn refuses_other_words(rt: HostRuntime) -> Result<(), Fail> {
-    let others: [&[&str]; 14] = [
+    let others: [&[&str]; 13] = [
         &["lightning", "--mode", "fly", "t.tst"],
-        &["lightning", "--mode", "list", "t.tst"],
-        &["lightning", "--mode", "gen"],
         &["lightning", "--mode"],
         &["lightning", "--target", "mips", "t.tst"],
         &["lightning", "--steps", "0", "t.tst"],
         &["lightning", "--steps", "1000000000001", "t.tst"],
         &["lightning", "--steps", "many", "t.tst"],
         &["lightning", "--code", "255", "t.tst"],
-        &["lightning", "--code", "1048577", "t.tst"],
-        &["lightning", "--seed", "1", "t.tst"],
-        &["lightning", "--stats", "t.tst"],
+        &["lightning", "--code", "67108865", "t.tst"],
+        &["lightning", "--seed", "18446744073709551616", "t.tst"],
+        &["lightning", "--stats=1", "t.tst"],
+        &["lightning", "--list", "t.tst"],
         &["lightning", "--help"],
         &["lightning", "t.tst", "-x"],
     ];
@@ -137,6 +137,52 @@ fn code_full(rt: HostRuntime) -> Result<(), Fail> {
     check(&rt, &plain(&text, &[b'A'; 64], b"", 0))
 }
 
+// A branch over 200,000 additions, and calls back over them.
+fn far_text(alloc: Global) -> Result<Vec<u8>, AllocError> {
+    let mut text = Vec::from_slice(
+        alloc,
+        b".data 16\nfmt: .c \"%ld %ld\\n\"\n.code\njmpi main\n",
+    )?;
+    text.extend_from_slice(b"f: prolog\narg $a\ngetarg %v0 $a\nblei out %v0 0\n")?;
+    for _ in 0..200_000 {
+        text.extend_from_slice(b"addi %v0 %v0 100000\n")?;
+    }
+    text.extend_from_slice(b"out: retr %v0\nepilog\nmain: prolog\n")?;
+    text.extend_from_slice(b"prepare pushargi 0 finishi f retval %v1\n")?;
+    text.extend_from_slice(b"prepare pushargi 5 finishi f retval %v2\n")?;
+    text.extend_from_slice(b"prepare pushargi fmt ellipsis pushargr %v1 pushargr %v2\n")?;
+    text.extend_from_slice(b"finishi @printf\nret\nepilog\n")?;
+    Ok(text)
+}
+
+#[test]
+fn far_branches(rt: HostRuntime) -> Result<(), Fail> {
+    let text = far_text(rt.alloc())?;
+    let full = b"lightning: t.tst:0: refused 18 CodeFull\n";
+    for target in ["x86_64", "aarch64", "riscv64"] {
+        let words = [
+            "lightning",
+            "--target",
+            target,
+            "--code",
+            "67108864",
+            "t.tst",
+        ];
+        let row = Row {
+            words: &words,
+            ..plain(&text, b"0 20000000005\n", b"", 0)
+        };
+        check(&rt, &row)?;
+        let words = ["lightning", "--target", target, "t.tst"];
+        let row = Row {
+            words: &words,
+            ..plain(&text, b"", full, 121)
+        };
+        check(&rt, &row)?;
+    }
+    Ok(())
+}
+
 // One argument word of 1,048,576 letters; the text is not read.
 #[test]
 fn arguments_too_long(rt: HostRuntime) -> Result<(), Fail> {
@@ -155,7 +201,7 @@ fn arguments_too_long(rt: HostRuntime) -> Result<(), Fail> {
 #[test]
 fn refuses_the_largest_texts(rt: HostRuntime) -> Result<(), Fail> {
     let mut nodes = Vec::from_slice(rt.alloc(), b".code prolog")?;
-    for _ in 0..65_534 {
+    for _ in 0..1_048_574 {
         nodes.extend_from_slice(b" ret")?;
     }
     let mut most = Vec::from_slice(rt.alloc(), &nodes)?;
@@ -320,7 +366,7 @@ fn says_write_fault_where_a_line_fails(rt: HostRuntime) -> Result<(), Fail> {
 #[test]
 fn says_that_memory_was_wanted(rt: HostRuntime) -> Result<(), Fail> {
     let mut err = MemorySink::new(rt.alloc(), 64, &[])?;
-    let answer = report("", Answer::OutOfMemory, 0, &mut err);
+    let answer = report_words(Answer::OutOfMemory, &mut err);
     assert_eq!(rt; status(&answer), 127);
     assert_eq!(rt; err.bytes(), b"lightning: out of memory\n".as_slice());
     Ok(())

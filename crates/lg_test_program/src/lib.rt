@@ -4,6 +4,10 @@
 #[cfg(test)]
 mod calls;
 #[cfg(test)]
+mod edges;
+#[cfg(test)]
+mod macros;
+#[cfg(test)]
 mod refusals;
 #[cfg(test)]
 mod row;

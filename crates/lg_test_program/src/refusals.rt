@@ -42,8 +42,8 @@ const TOKENS: &[u8] = b"1: refused 1 BadToken\x1f.data 8 .c 1 + 2\x1e\
         1: refused 1 BadToken\x1f\x80\x1e\
         1: refused 1 BadToken\x1f\0\x1e\
         1: refused 1 BadToken\x1fret \x80\x1e\
-        2: refused 1 BadToken\x1f/* # 1\n*/ # 1\x1e\
-        1: refused 1 BadToken\x1f#\t1\x1e\
+        2: refused 22 BadDirective\x1f/* # 1\n*/ # 1\x1e\
+        1: refused 22 BadDirective\x1f#\t1\x1e\
         1: refused 20 NoCode\x1f \t# 7\x1e\
         1: refused 20 NoCode\x1f#7\x1e\
         1: refused 20 NoCode\x1f \t# 7 \"x\" /* \"\x1e\

@@ -81,7 +81,7 @@ fn exits_with_words(rt: HostRuntime) -> Result<(), Fail> {
 }
 
 // The number of calls that Fibonacci's recursion makes for the number in the first argument.
-const NFIBS: &[u8] =
+pub const NFIBS: &[u8] =
     b".data 32\nfmt: .c \"nfibs(%d) = %d\\n\"\n.code\n  jmpi main\nnfibs:\n  prolog\n  arg $in\n  getarg %v0 $in\n  movi %r0 1\n  blei_u out %v0 2\n  subi %r0 %v0 1\n  prepare pushargr %r0 finishi nfibs\n  retval %v1\n  subi %r0 %v0 2\n  prepare pushargr %r0 finishi nfibs\n  retval %r0\n  addr %r0 %r0 %v1\n  addi %r0 %r0 1\nout:\n  retr %r0\n  epilog\nmain:\n  prolog\n  arg $argc\n  arg $argv\n  getarg %r0 $argv\n  ldxi %r0 %r0 8\n  prepare pushargr %r0 finishi @atoi\n  retval_i %v0\n  prepare pushargr %v0 finishi nfibs\n  retval %r0\n  prepare pushargi fmt ellipsis pushargr %v0 pushargr %r0 finishi @printf\n  ret\n  epilog\n";
 
 #[test]

@@ -164,29 +164,29 @@ fn reads_every_instruction(rt: HostRuntime) -> Result<(), Fail> {
     Ok(())
 }
 
-// A text of `prolog`, 65,535 times `ret` in lines of their own, and what comes behind them.
+// A text of `prolog`, 1,048,575 times `ret` in lines of their own, and what comes behind them.
 fn full(alloc: Global, behind: &str) -> Result<Vec<u8>, AllocError> {
     let mut text = Vec::new(alloc);
     text.extend_from_slice(b"prolog")?;
-    for _ in 0..65_535u32 {
+    for _ in 0..1_048_575u32 {
         text.extend_from_slice(b"\nret")?;
     }
     text.extend_from_slice(behind.as_bytes())?;
     Ok(text)
 }
 
-// What stands behind 65,536 nodes, and the refusal of the whole text.
-const BEHIND_65536_NODES: &str = "TooManyNodes 65536\x1f ret\x1e\
-        TooManyNodes 65536\x1f movi\x1e\
-        TooManyNodes 65536\x1f .align 3\x1e\
-        UnknownName 65536\x1f nop\x1e\
-        FloatRefused 65536\x1f x_f";
+// What stands behind 1,048,576 nodes, and the refusal of the whole text.
+const BEHIND_THE_LAST_NODE: &str = "TooManyNodes 1048576\x1f ret\x1e\
+        TooManyNodes 1048576\x1f movi\x1e\
+        TooManyNodes 1048576\x1f .align 3\x1e\
+        UnknownName 1048576\x1f nop\x1e\
+        FloatRefused 1048576\x1f x_f";
 
 #[test]
-fn takes_65536_nodes_and_no_more(rt: HostRuntime) -> Result<(), Fail> {
+fn takes_1048576_nodes_and_no_more(rt: HostRuntime) -> Result<(), Fail> {
     let unit = read(rt.alloc(), &full(rt.alloc(), " x: .data 1 .align 1 note")?)?;
-    assert_eq!(rt; unit.nodes.len(), 65_536);
-    for row in BEHIND_65536_NODES.split('\x1e') {
+    assert_eq!(rt; unit.nodes.len(), 1_048_576);
+    for row in BEHIND_THE_LAST_NODE.split('\x1e') {
         let (wanted, behind) = parts(row);
         let outcome = match read(rt.alloc(), &full(rt.alloc(), behind)?) {
             Ok(_) => Ok(()),

@@ -89,7 +89,7 @@ begun_left (Retval t) s = omega arith
 begun_left (Getarg t) s = omega arith
 
 instruction_leaves : (op : Op) (s : State) (line : ℕ) → Leaves (length s.source.left) (instruction op s line)
-instruction_leaves op s line = cond_leaves _ (nat_lt (length s.list.nodes) 65536) _ _ (weaker (length (begun op s).source.left) _ _ (begun_left op s) (operands_leave op line (forms_of op) [] (begun op s))) tt
+instruction_leaves op s line = cond_leaves _ (nat_lt (length s.list.nodes) 1048576) _ _ (weaker (length (begun op s).source.left) _ _ (begun_left op s) (operands_leave op line (forms_of op) [] (begun op s))) tt
 
 -- a part of a statement whose other tokens have been taken
 stored_leaves : (line n : ℕ) (bytes : List ℕ) (s : State) → Leaves (length s.source.left) (stored line n bytes s)

@@ -83,7 +83,7 @@ begun (Plain plain.Prolog) s = record s { names = no_names }
 begun op s = s
 
 abbrev pub most_nodes : ℕ
-most_nodes = 65536
+most_nodes = 1048576
 
 -- an instruction, and `.align N` of code
 abbrev pub instruction : Op → State → ℕ → Result State Refusal

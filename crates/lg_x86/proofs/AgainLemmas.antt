@@ -41,7 +41,7 @@ use Rattle.lg_x86.proofs.FieldLemmas.{extension_fits, modrm_mode, modrm_digit, m
 abbrev Guessed : Instr → Type 0
 Guessed i = (more : List ℕ) → IsInstr i → guess_of (spelling i ++ more) ≡ Some i
 
-joined_3 : (a b c more : List ℕ) → a ++ b ++ c ++ more ≡ a ++ (b ++ (c ++ more))
+pub joined_3 : (a b c more : List ℕ) → a ++ b ++ c ++ more ≡ a ++ (b ++ (c ++ more))
 joined_3 a b c more = append_assoc (a ++ b) c more ∙ append_assoc a b (c ++ more)
 
 joined_4 : (a b c d more : List ℕ) → a ++ b ++ c ++ d ++ more ≡ a ++ (b ++ (c ++ (d ++ more)))
@@ -52,11 +52,11 @@ two_registers : (reg rm : ℕ) → (modrm 3 reg rm / 64 == 3) ≡ true
 two_registers reg rm = rw (modrm_mode 3 reg rm) refl
 
 -- an opcode that holds a register
-register_opcode : (base reg : ℕ) → 0x50 ≤ base → base < 0xff → base ≢ 0x60 → (base % 8 ≡ 0) → IsOpcode (base + reg % 8)
+pub register_opcode : (base reg : ℕ) → 0x50 ≤ base → base < 0xff → base ≢ 0x60 → (base % 8 ≡ 0) → IsOpcode (base + reg % 8)
 register_opcode base reg low high other aligned = record { no_rex = grind (arith, nat_tests); no_size = grind (arith, nat_tests); no_escape = grind (arith, nat_tests) }
 
 -- two registers
-rm_reg_opcode : (op : RmRegOp) → IsOpcode (rm_reg_row op).number
+pub rm_reg_opcode : (op : RmRegOp) → IsOpcode (rm_reg_row op).number
 rm_reg_opcode Add = record { no_rex = refl; no_size = refl; no_escape = refl }
 rm_reg_opcode _ = record { no_rex = refl; no_size = refl; no_escape = refl }
 
@@ -87,7 +87,7 @@ imm_digit : (op : ImmOp) → (imm_row op).number < 8
 imm_digit Addi = lit< tt
 imm_digit _ = lit< tt
 
-imm_is_opcode : (short : Bool) → IsOpcode (if short then 0x83 else 0x81)
+pub imm_is_opcode : (short : Bool) → IsOpcode (if short then 0x83 else 0x81)
 imm_is_opcode true = record { no_rex = refl; no_size = refl; no_escape = refl }
 imm_is_opcode false = record { no_rex = refl; no_size = refl; no_escape = refl }
 
@@ -118,7 +118,7 @@ imm_again op rm imm more ok =
     ∙ ap (λ x. Some (Imm op rm x)) (number_read_as imm more ok.1 short refl)
 
 -- a register from another
-reg_rm_opcode : (op : RegRmOp) → IsOpcode (reg_rm_row op).opcode
+pub reg_rm_opcode : (op : RegRmOp) → IsOpcode (reg_rm_row op).opcode
 reg_rm_opcode Ext32u = record { no_rex = refl; no_size = refl; no_escape = refl }
 reg_rm_opcode _ = record { no_rex = refl; no_size = refl; no_escape = refl }
 
@@ -144,7 +144,7 @@ reg_rm_again op reg rm more ok =
     ∙ ap (λ x. Some (RegRm op reg x)) (rm_is r 3 reg reg 0 rm ok.0 (lit< tt) ok.1 low)
 
 -- a register from memory
-load_opcode : (op : LoadOp) → IsOpcode (load_row op).opcode
+pub load_opcode : (op : LoadOp) → IsOpcode (load_row op).opcode
 load_opcode Ld64 = record { no_rex = refl; no_size = refl; no_escape = refl }
 load_opcode _ = record { no_rex = refl; no_size = refl; no_escape = refl }
 
@@ -172,7 +172,7 @@ load_again op reg base disp more ok =
     ∙ ap (λ x. Some (Load op reg base x)) (disp_read reg base disp more ok.2)
 
 -- memory from a register
-store_opcode : (op : StoreOp) → IsOpcode (store_row op).opcode
+pub store_opcode : (op : StoreOp) → IsOpcode (store_row op).opcode
 store_opcode St64 = record { no_rex = refl; no_size = refl; no_escape = refl }
 store_opcode _ = record { no_rex = refl; no_size = refl; no_escape = refl }
 
@@ -282,7 +282,7 @@ movs32_again rm imm more ok =
     ∙ ap (λ x. Some (Movs32 rm x)) (long_read imm more ok.1)
 
 -- one register, with a digit beside the opcode
-unary_opcode : (op : UnaryOp) → IsOpcode (unary_row op).opcode
+pub unary_opcode : (op : UnaryOp) → IsOpcode (unary_row op).opcode
 unary_opcode Not = record { no_rex = refl; no_size = refl; no_escape = refl }
 unary_opcode _ = record { no_rex = refl; no_size = refl; no_escape = refl }
 
@@ -361,7 +361,7 @@ bswap_again reg more ok =
     ∙ bswap_way r (has_registers more) opcode more (omega arith) (omega arith)
     ∙ ap (λ x. Some (Bswap x)) (low_is r 25 0 0 reg (lit< tt) (lit< tt) ok low)
 
-stack_opcode : (op : StackOp) (reg : ℕ) → IsOpcode ((stack_row op).number + reg % 8)
+pub stack_opcode : (op : StackOp) (reg : ℕ) → IsOpcode ((stack_row op).number + reg % 8)
 stack_opcode Push reg = register_opcode 0x50 reg (lit≤ tt) (lit< tt) (λ e. omega (arith, e)) refl
 stack_opcode Pop reg = register_opcode 0x58 reg (lit≤ tt) (lit< tt) (λ e. omega (arith, e)) refl
 
@@ -443,7 +443,7 @@ jump_reg_again op rm more ok =
     ∙ ap (λ x. Some (JumpReg op x)) (rm_is r 3 0 digit 0 rm (lit< tt) (lit< tt) ok low)
 
 -- a condition in a register
-set_opcode : (cond : Cond) → IsOpcode (0x90 + (cond_row cond).number)
+pub set_opcode : (cond : Cond) → IsOpcode (0x90 + (cond_row cond).number)
 set_opcode Overflow = record { no_rex = refl; no_size = refl; no_escape = refl }
 set_opcode _ = record { no_rex = refl; no_size = refl; no_escape = refl }
 

@@ -3,4 +3,5 @@ pub mod CheckedLemmas
 pub mod FieldLemmas
 pub mod FrontLemmas
 pub mod NumberLemmas
+pub mod ReadLemmas
 pub mod SizeLemmas

@@ -17,10 +17,10 @@ use Rattle.lg_x86.specs.Reading.{rm_reg_by_opcode, imm_by_digit, reg_rm_by_prefi
 use Rattle.lg_x86.specs.Reading.{rm_reg_of, imm_of, reg_rm_of, load_of, store_of, lea_of, movi_of, movs_of, unary_of, shift_of, bswap_of, stack_of, jump_if_short_of, jump_if_near_of, set_of, jump_short_of, jump_near_of, jump_reg_of, bare_of}
 use Rattle.lg_x86.specs.Reading.{short_at, escaped_at, code_at, code_of, sized_of, guess_of, checked, front_of}
 
-abbrev AreBytes : List ℕ → Type 0
+abbrev pub AreBytes : List ℕ → Type 0
 AreBytes bytes = (k : ℕ) → slice_index bytes k < 256
 
-drop_bytes : (bytes : List ℕ) (p : ℕ) → AreBytes bytes → AreBytes (drop p bytes)
+pub drop_bytes : (bytes : List ℕ) (p : ℕ) → AreBytes bytes → AreBytes (drop p bytes)
 drop_bytes bytes p h k = let e : slice_index (drop p bytes) k ≡ slice_index bytes (p + k) = get_or-drop p bytes k 0 in omega (arith, e, h (p + k))
 
 -- the numbers that become words of registers
@@ -35,7 +35,7 @@ abbrev Fit : Option Instr → Type 0
 Fit o = IfSome o HasWords
 
 -- ---- numbers
-word-small : (bytes : List ℕ) → AreBytes bytes → word_in bytes < 2 ^ 32
+pub word-small : (bytes : List ℕ) → AreBytes bytes → word_in bytes < 2 ^ 32
 word-small bytes h = let a = h 0 in let b = h 1 in let c = h 2 in let d = h 3 in by (slice_index bytes 0) (slice_index bytes 1) (slice_index bytes 2) (slice_index bytes 3) a b c d
   where
     by : (a b c d : ℕ) → a < 256 → b < 256 → c < 256 → d < 256 → from_le_bytes w32 (a ∷ b ∷ c ∷ d ∷ []) < 2 ^ 32

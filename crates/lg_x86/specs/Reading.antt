@@ -1,7 +1,8 @@
 -- How bytes are read: the instruction that they may begin with is guessed, carelessly, and what was
--- guessed is spelled again and compared. What the crate promises of `decode` names none of this: it is
--- what the private functions of the decoder compute, between the code and the laws.
-use Rattle.std.specs.Prelude.{ℕ, ◌+◌, ◌*◌, ◌/◌, ◌%◌, Bool, true, false, not, ◌&&◌, ◌||◌, ◌==◌, nat_eq, nat_lt, if◌then◌else◌, ℤ, List, [], ◌∷◌, find, drop, length, slice_index, Option, Some, None, option_map}
+-- guessed is spelled again and compared (`front_of`). The decoder spells nothing: it accepts a guess by tests of what it read
+-- (`read_of`), and a law says that this is the same (ReadLemmas, `read_same`). Of `decode` the crate promises `front_of` and the laws
+-- of spelling; the rest is what the private functions of the decoder compute, between the code and the laws.
+use Rattle.std.specs.Prelude.{ℕ, ◌+◌, ◌*◌, ◌/◌, ◌%◌, ◌++◌, Bool, true, false, not, ◌&&◌, ◌||◌, ◌==◌, nat_eq, nat_le, nat_lt, if◌then◌else◌, ℤ, List, [], ◌∷◌, find, drop, length, slice_index, Option, Some, None, option_map}
 use Rattle.std.specs.Int.{w32, w64, from_le_bytes}
 use Rattle.std.specs.List.{starts_with}
 use Rattle.lg_base.specs.Fields.{signed}
@@ -23,7 +24,7 @@ use Rattle.lg_x86.specs.declared.instruction.BareOp.{BareOp}
 use Rattle.lg_x86.specs.declared.instruction.Cond.{Cond}
 use Rattle.lg_x86.specs.declared.instruction.LoadOp.TheVariants.{Lea}
 use Rattle.lg_x86.specs.Rows.{PrefixRow, rm_reg_row, rm_reg_ops, imm_row, imm_ops, reg_rm_row, reg_rm_ops, load_row, load_ops, store_row, store_ops, unary_row, unary_ops, shift_row, shift_ops, stack_row, stack_ops, jump_near_row, jump_near_ops, jump_reg_row, jump_reg_ops, bare_row, bare_ops, cond_row, conds}
-use Rattle.lg_x86.specs.Spelling.{spelling}
+use Rattle.lg_x86.specs.Spelling.{spelling, size_prefix, opcode_bytes, is_short}
 
 abbrev pub same_bool : Bool → Bool → Bool
 same_bool true b = b
@@ -248,3 +249,126 @@ checked bytes (Some i) = if starts_with nat_eq bytes (spelling i) then Some (i, 
 -- the instruction that the bytes begin with, and the length of its spelling
 abbrev pub front_of : List ℕ → Option (Instr × ℕ)
 front_of bytes = checked bytes (guess_of bytes)
+
+-- ---- the same without the spelling: a guess is accepted by tests of what was read
+-- REX's byte, where there is one
+abbrev pub rex_byte : ℕ → List ℕ
+rex_byte rex = if rex == 0 then [] else rex ∷ []
+
+-- what stands in front of an operand, and the operand with what follows
+abbrev pub front_bytes : Bool → ℕ → Bool → ℕ → List ℕ → List ℕ
+front_bytes word_sized rex escaped opcode tail = size_prefix word_sized ++ (rex_byte rex ++ (opcode_bytes escaped opcode ++ tail))
+
+abbrev pub front_length : Bool → ℕ → Bool → ℕ
+front_length word_sized rex escaped = length (front_bytes word_sized rex escaped 0 [])
+
+abbrev pub accepted : Bool → ℕ → Option Instr → Option (Instr × ℕ)
+accepted fits len guess = if fits then option_map (λ i. (i, len)) guess else None
+
+-- REX is what a row asks for, and names no index: with W, for two registers or one; without, for one, or none; the low byte of one
+unfoldable pub is_wide : ℕ → Bool
+is_wide rex = (rex / 8 % 2 == 1) && (rex / 2 % 2 == 0)
+
+unfoldable pub is_wide_one : ℕ → Bool
+is_wide_one rex = (rex / 8 % 2 == 1) && (rex / 2 % 4 == 0)
+
+unfoldable pub is_plain_one : ℕ → Bool
+is_plain_one rex = (rex == 0) || (rex == 0x41)
+
+unfoldable pub is_low_one : ℕ → Bool
+is_low_one rex = (rex == 0x40) || (rex == 0x41)
+
+-- with W or without, and for the low byte of two registers
+unfoldable pub is_marked : ℕ → Bool
+is_marked rex = (rex / 2 % 2 == 0) && not (rex == 0x40)
+
+unfoldable pub is_low : ℕ → Bool
+is_low rex = (rex / 8 == 8) && (rex / 2 % 2 == 0)
+
+-- ModRM names one register, with digit 0
+abbrev pub has_one : List ℕ → Bool
+has_one tail = slice_index tail 0 / 8 == 24
+
+abbrev pub has_bytes : ℕ → List ℕ → Bool
+has_bytes count tail = nat_le count (length tail)
+
+-- the displacement behind this mode is there, and is short where it can be
+abbrev pub is_displaced : ℕ → List ℕ → Bool
+is_displaced mode bytes = if mode == 1 then has_bytes 1 bytes else ((mode == 2) && (has_bytes 4 bytes && not (is_short (long_in bytes))))
+
+-- ModRM begins an operand in memory, of which SIB names no index; and how long it is
+abbrev pub is_memory : List ℕ → Bool
+is_memory tail = (if slice_index tail 0 % 8 == 4 then slice_index tail 1 == 0x24 else true) && is_displaced (slice_index tail 0 / 64) (drop (disp_place tail) tail)
+
+abbrev pub memory_length : List ℕ → ℕ
+memory_length tail = disp_place tail + (if slice_index tail 0 / 64 == 1 then 1 else 4)
+
+-- ModRM and SIB name three registers, and no displacement
+abbrev pub is_sum : List ℕ → Bool
+is_sum tail = (slice_index tail 0 / 64 == 1) && ((slice_index tail 1 / 64 == 0) && ((slice_index tail 2 == 0) && has_bytes 3 tail))
+
+unfoldable pub read_movi : Bool → ℕ → ℕ → Mark → ℕ → List ℕ → Option (Instr × ℕ)
+read_movi word_sized rex len Wide opcode tail = accepted ((not word_sized && is_wide_one rex) && has_bytes 8 tail) (len + 8) (movi_of Wide rex opcode tail)
+read_movi word_sized rex len mark opcode tail = accepted ((not word_sized && is_plain_one rex) && has_bytes 4 tail) (len + 4) (movi_of mark rex opcode tail)
+
+unfoldable pub read_imm : Bool → ℕ → ℕ → ℕ → List ℕ → Option (Instr × ℕ)
+read_imm word_sized rex len opcode tail =
+    if opcode == 0x83 then accepted ((not word_sized && is_wide_one rex) && (has_registers tail && has_bytes 2 tail)) (len + 2) (imm_of rex opcode tail)
+    else accepted ((not word_sized && is_wide_one rex) && (has_registers tail && (has_bytes 5 tail && not (is_short (long_in (drop 1 tail)))))) (len + 5) (imm_of rex opcode tail)
+
+unfoldable pub read_reg : Bool → ℕ → ℕ → Mark → Bool → Bool → ℕ → List ℕ → Option (Instr × ℕ)
+read_reg word_sized rex len mark registers escaped opcode tail =
+    if registers then accepted (not word_sized && is_marked rex) (len + 1) (reg_rm_of mark escaped rex opcode tail)
+    else accepted ((not word_sized && is_marked rex) && is_memory tail) (len + memory_length tail) (load_of mark escaped rex opcode tail)
+
+unfoldable pub read_rm : Bool → ℕ → ℕ → Mark → Bool → ℕ → List ℕ → Option (Instr × ℕ)
+read_rm word_sized rex len mark registers opcode tail =
+    if registers then accepted (not word_sized && is_wide rex) (len + 1) (rm_reg_of rex opcode tail)
+    else accepted (is_marked rex && is_memory tail) (len + memory_length tail) (store_of word_sized mark rex opcode tail)
+
+unfoldable pub read_lea : Bool → ℕ → ℕ → List ℕ → Option (Instr × ℕ)
+read_lea word_sized rex len tail =
+    if slice_index tail 0 % 8 == 4 && not (index_in rex tail == 4)
+    then accepted ((not word_sized && (rex / 8 % 2 == 1)) && is_sum tail) (len + 3) (lea_of rex tail)
+    else accepted ((not word_sized && is_wide rex) && is_memory tail) (len + memory_length tail) (lea_of rex tail)
+
+unfoldable pub read_short : Bool → ℕ → ℕ → Mark → Bool → ℕ → List ℕ → Option (Instr × ℕ)
+read_short word_sized rex len mark registers opcode tail =
+    if opcode / 16 == 7 then accepted ((not word_sized && (rex == 0)) && has_bytes 1 tail) (len + 1) (jump_if_short_of opcode tail)
+    else (if opcode / 16 == 5 then accepted (not word_sized && is_plain_one rex) len (stack_of rex opcode)
+    else (if opcode / 8 == 23 then read_movi word_sized rex len mark opcode tail
+    else (if opcode == 0x81 || opcode == 0x83 then read_imm word_sized rex len opcode tail
+    else (if opcode == 0xc1 then accepted ((not word_sized && is_wide_one rex) && (has_registers tail && has_bytes 2 tail)) (len + 2) (shift_of rex tail)
+    else (if opcode == 0xc7 then accepted ((not word_sized && is_wide_one rex) && (has_one tail && has_bytes 5 tail)) (len + 5) (movs_of rex tail)
+    else (if opcode == 0xd3 || opcode == 0xf7 then accepted ((not word_sized && is_wide_one rex) && has_registers tail) (len + 1) (unary_of rex opcode tail)
+    else (if opcode == 0xff then accepted ((not word_sized && is_plain_one rex) && has_registers tail) (len + 1) (jump_reg_of rex tail)
+    else (if opcode == 0xeb then accepted ((not word_sized && (rex == 0)) && has_bytes 1 tail) (len + 1) (jump_short_of tail)
+    else (if opcode == 0xe8 || opcode == 0xe9 then accepted ((not word_sized && (rex == 0)) && has_bytes 4 tail) (len + 4) (jump_near_of opcode tail)
+    else (if opcode == 0x90 || (opcode == 0x99 || opcode == 0xc3) then accepted (not word_sized && ((rex == 0) || (rex == 0x48))) len (bare_of mark opcode)
+    else (if opcode == 0x8d then read_lea word_sized rex len tail
+    else (if opcode == 0x88 then accepted (is_low rex && is_memory tail) (len + memory_length tail) (store_of word_sized Low rex opcode tail)
+    else (if opcode == 0x63 || opcode == 0x8b then read_reg word_sized rex len mark registers false opcode tail
+    else (if opcode == 0x89 then read_rm word_sized rex len mark registers opcode tail
+    else accepted ((not word_sized && is_wide rex) && has_registers tail) (len + 1) (rm_reg_of rex opcode tail)))))))))))))))
+
+unfoldable pub read_escaped : Bool → ℕ → ℕ → Mark → Bool → ℕ → List ℕ → Option (Instr × ℕ)
+read_escaped word_sized rex len mark registers opcode tail =
+    if opcode / 16 == 8 then accepted ((not word_sized && (rex == 0)) && has_bytes 4 tail) (len + 4) (jump_if_near_of opcode tail)
+    else (if opcode / 16 == 9 then accepted ((not word_sized && is_low_one rex) && has_one tail) (len + 1) (set_of rex opcode tail)
+    else (if opcode / 8 == 25 then accepted (not word_sized && is_wide_one rex) len (bswap_of rex opcode)
+    else read_reg word_sized rex len mark registers true opcode tail))
+
+-- behind the prefixes, of which there are so many bytes
+unfoldable pub read_code : Bool → ℕ → ℕ → List ℕ → Option (Instr × ℕ)
+read_code word_sized rex len bytes =
+    if slice_index bytes 0 == 0x0f
+    then read_escaped word_sized rex (len + 2) (mark_in rex) (has_registers (drop 2 bytes)) (slice_index bytes 1) (drop 2 bytes)
+    else read_short word_sized rex (len + 1) (mark_in rex) (has_registers (drop 1 bytes)) (slice_index bytes 0) (drop 1 bytes)
+
+unfoldable pub read_sized : Bool → ℕ → List ℕ → Option (Instr × ℕ)
+read_sized word_sized len bytes =
+    if slice_index bytes 0 / 16 == 4 then read_code word_sized (slice_index bytes 0) (len + 1) (drop 1 bytes)
+    else read_code word_sized 0 len bytes
+
+unfoldable pub read_of : List ℕ → Option (Instr × ℕ)
+read_of bytes = if slice_index bytes 0 == 0x66 then read_sized true 1 (drop 1 bytes) else read_sized false 0 bytes

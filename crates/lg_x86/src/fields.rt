@@ -1,9 +1,9 @@
 // The fields of REX, ModRM and SIB, and the numbers behind them.
 
-ghost use Rattle.std.specs.Prelude.{◌≡◌, ◌<◌, ℕ, List, drop, length, slice_index};
+ghost use Rattle.std.specs.Prelude.{◌≡◌, ◌<◌, ◌≤◌, ℕ, List, drop, length, slice_index};
 ghost use Rattle.lg_base.specs.Fields.{bits_of};
 ghost use Rattle.lg_x86.specs.Spelling.{extension, modrm, sib, is_short, long_bytes, IsNumber8, IsNumber32};
-ghost use Rattle.lg_x86.specs.Reading.{opcode_reg, has_registers, digit_in, reg_in, rm_in, index_in, base_in, word_in, wide_in, short_in, long_in, number_in, disp_in, disp_place};
+ghost use Rattle.lg_x86.specs.Reading.{opcode_reg, has_registers, has_one, is_displaced, is_memory, memory_length, is_sum, digit_in, reg_in, rm_in, index_in, base_in, word_in, wide_in, short_in, long_in, number_in, disp_in, disp_place};
 
 use lg_base::number::{from_bits, to_bits};
 
@@ -85,6 +85,13 @@ pub(crate) fn names_registers(tail: &[u8]) -> bool
     ensures { result ≡ has_registers tail.now }
 {
     byte_at(tail, 0) / 64 == 3
+}
+
+/// Whether ModRM names one register, beside the digit 0.
+pub(crate) fn names_one(tail: &[u8]) -> bool
+    ensures { result ≡ has_one tail.now }
+{
+    byte_at(tail, 0) / 8 == 24
 }
 
 /// The field reg of ModRM.
@@ -196,4 +203,44 @@ fn displacement_place(modrm: u8) -> usize
     ensures { (tail : List ℕ) → slice_index tail 0 ≡ modrm → result ≡ disp_place tail }
 {
     if modrm % 8 == 4 { 2 } else { 1 }
+}
+
+/// Whether ModRM begins an operand in memory: SIB, where it stands, names no index, and the displacement is short where it can be.
+pub(crate) fn is_memory(tail: &[u8]) -> bool
+    ensures { result ≡ is_memory tail.now }
+{
+    let modrm = byte_at(tail, 0);
+    let is_based = modrm % 8 != 4 || byte_at(tail, 1) == 0x24;
+    is_based && is_displaced(modrm / 64, skip(tail, displacement_place(modrm)))
+}
+
+// whether the displacement behind this mode is there, and is short where it can be
+fn is_displaced(mode: u8, bytes: &[u8]) -> bool
+    ensures { result ≡ is_displaced mode bytes.now }
+{
+    if mode == 1 {
+        bytes.len() >= 1
+    } else {
+        mode == 2 && bytes.len() >= 4 && !fits_short(long_number(bytes))
+    }
+}
+
+/// How many bytes an operand in memory has: 2 to 6.
+pub(crate) fn memory_length(tail: &[u8]) -> u32
+    ensures value { result ≡ memory_length tail.now }
+    ensures fits { result ≤ 6 }
+{
+    let modrm = byte_at(tail, 0);
+    let displacement_length = if modrm / 64 == 1 { 1 } else { 4 };
+    displacement_place(modrm) as u32 + displacement_length
+}
+
+/// Whether ModRM and SIB name three registers, and no displacement.
+pub(crate) fn is_sum(tail: &[u8]) -> bool
+    ensures { result ≡ is_sum tail.now }
+{
+    byte_at(tail, 0) / 64 == 1
+        && byte_at(tail, 1) / 64 == 0
+        && byte_at(tail, 2) == 0
+        && tail.len() >= 3
 }

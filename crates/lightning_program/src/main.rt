@@ -8,7 +8,7 @@ ghost use Rattle.lg_run.specs.Statuses.{status_of_answer};
 
 use lg_io::standard::{StdSink, StdTexts};
 use lg_run::answer::{Answer, status};
-use lg_run::top::{lightning, report};
+use lg_run::top::{lightning, report_words};
 use std::process::ExitCode;
 use std::{env, io};
 
@@ -43,7 +43,7 @@ fn main(rt: HostRuntime) -> ExitCode {
     let mut err = StdSink::new(rt.stderr());
     let answer = match words(&rt) {
         Ok(words) => lightning(rt.alloc(), &words, &mut texts, &mut out, &mut err).answer,
-        Err(answer) => report("", answer, 0, &mut err),
+        Err(answer) => report_words(answer, &mut err),
     };
     exit_code(&answer)
 }

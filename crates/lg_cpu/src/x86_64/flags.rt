@@ -2,13 +2,13 @@
 
 ghost use Rattle.std.specs.Prelude.{◌≡◌, ◌<◌, ◌≢◌};
 ghost use Rattle.lg_base.specs.Words.{carry_out, borrow_out, differ};
-ghost use Rattle.lg_cpu.specs.X86Operators.{overflow_of, zero_of, sign_of, no_flags, flags_of, bit, carry_for, overflows_sum, overflows_difference};
-ghost use Rattle.lg_cpu.specs.X86Operators.{sum_flags, difference_flags, bit_flags, alu_flags, product_flags, reg_rm_flags, negation_flags};
+ghost use Rattle.lg_cpu.specs.X86Operators.{overflow_of, zero_of, sign_of, no_flags, flags_of, bit, overflows_sum, overflows_difference};
+ghost use Rattle.lg_cpu.specs.X86Operators.{sum_flags, difference_flags, bit_flags, product_flags, reg_rm_flags, negation_flags};
 ghost use Rattle.lg_cpu.specs.X86Operators.{last_out, shift_overflow, shift_flags, turned, both, either, condition};
 
-use crate::x86_64::operators::{HALF, alu_value, needs_high_signed, shift_value};
+use crate::x86_64::operators::{HALF, needs_high_signed, shift_value};
 use lg_base::flags::Flags;
-use lg_x86::{Cond, RegRmOp, RmRegOp, ShiftOp};
+use lg_x86::{Cond, RegRmOp, ShiftOp};
 
 // OF, ZF and SF, where they are defined; the flags of other processors read as undefined.
 fn overflow_of(flags: Flags) -> Option<bool>
@@ -57,16 +57,6 @@ fn flags_of(carry: Option<bool>, overflow: Option<bool>, result_word: u64) -> Fl
     )
 }
 
-/// The carry that a row reads; a row that reads none takes 0.
-pub fn carry_for(op: RmRegOp, carry: Option<bool>) -> Option<bool>
-    ensures { result ≡ carry_for op carry }
-{
-    match op {
-        RmRegOp::Adc | RmRegOp::Sbb => carry,
-        _ => Some(false),
-    }
-}
-
 fn carry_out(a: u64, b: u64, carry: bool) -> bool
     ensures { result ≡ carry_out a b (bit carry) }
 {
@@ -99,7 +89,8 @@ fn overflows_difference(a: u64, b: u64, difference: u64) -> bool
     }
 }
 
-fn sum_flags(a: u64, b: u64, carry: bool, sum: u64) -> Flags
+/// The flags behind a sum with a carry.
+pub fn sum_flags(a: u64, b: u64, carry: bool, sum: u64) -> Flags
     ensures { result ≡ sum_flags a b (bit carry) sum }
 {
     flags_of(
@@ -109,7 +100,8 @@ fn sum_flags(a: u64, b: u64, carry: bool, sum: u64) -> Flags
     )
 }
 
-fn difference_flags(a: u64, b: u64, carry: bool, difference: u64) -> Flags
+/// The flags behind a difference with a borrow.
+pub fn difference_flags(a: u64, b: u64, carry: bool, difference: u64) -> Flags
     ensures { result ≡ difference_flags a b (bit carry) difference }
 {
     flags_of(
@@ -119,25 +111,11 @@ fn difference_flags(a: u64, b: u64, carry: bool, difference: u64) -> Flags
     )
 }
 
-fn bit_flags(bits: u64) -> Flags
+/// The flags behind an operation on bits: neither carry nor overflow.
+pub fn bit_flags(bits: u64) -> Flags
     ensures { result ≡ bit_flags bits }
 {
     flags_of(Some(false), Some(false), bits)
-}
-
-/// The flags behind a row.
-pub fn alu_flags(op: RmRegOp, flags: Flags, a: u64, b: u64, carry: bool) -> Flags
-    ensures { result ≡ alu_flags op flags a b (bit carry) }
-{
-    let value = alu_value(op, a, b, carry);
-    match op {
-        RmRegOp::Add => sum_flags(a, b, false, value),
-        RmRegOp::Adc => sum_flags(a, b, carry, value),
-        RmRegOp::Sbb => difference_flags(a, b, carry, value),
-        RmRegOp::Sub | RmRegOp::Cmp => difference_flags(a, b, false, value),
-        RmRegOp::And | RmRegOp::Or | RmRegOp::Xor | RmRegOp::Test => bit_flags(value),
-        RmRegOp::Mov => flags,
-    }
 }
 
 /// CF and OF say whether the high half of a product is needed.
@@ -147,6 +125,7 @@ pub fn product_flags(needed: bool) -> Flags
     Flags::Rflags(Some(needed), Some(needed), None, None)
 }
 
+/// The flags behind a row that makes a register of `a` in `reg` and `b` in `rm`; only imul sets them.
 pub fn reg_rm_flags(op: RegRmOp, flags: Flags, a: u64, b: u64) -> Flags
     ensures { result ≡ reg_rm_flags op flags a b }
 {
@@ -156,6 +135,7 @@ pub fn reg_rm_flags(op: RegRmOp, flags: Flags, a: u64, b: u64) -> Flags
     }
 }
 
+/// The flags behind a subtraction of a word from 0 (volume 2, NEG).
 pub fn negation_flags(a: u64) -> Flags
     ensures { result ≡ negation_flags a }
 {
@@ -184,6 +164,7 @@ fn shift_overflow(op: ShiftOp, a: u64) -> bool
     }
 }
 
+/// The flags behind a shift by a count below 64: by 0 they stay, and OF is defined for a count of 1 alone (volume 2, SAL/SAR/SHL/SHR).
 pub fn shift_flags(op: ShiftOp, flags: Flags, a: u64, count: u32) -> Flags
     requires { count < 64 }
     ensures { result ≡ shift_flags op flags a count }

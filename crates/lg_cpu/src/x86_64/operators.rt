@@ -2,7 +2,7 @@
 
 ghost use Rattle.std.specs.Prelude.{◌≡◌, ◌<◌};
 ghost use Rattle.lg_base.specs.Words.{high_product_signed};
-ghost use Rattle.lg_cpu.specs.X86Operators.{bit, alu_value, is_kept_by, alu_of, sign_word, needs_high, needs_high_signed, reg_rm_value, shift_value};
+ghost use Rattle.lg_cpu.specs.X86Operators.{bit, alu_value, alu_of, sign_word, needs_high, needs_high_signed, reg_rm_value, shift_value};
 
 use lg_base::wide::{mul_high, mul_high_u, sign_part, zero_part};
 use lg_base::word::shift_right_signed;
@@ -29,16 +29,6 @@ pub fn alu_value(op: RmRegOp, a: u64, b: u64, carry: bool) -> u64
     }
 }
 
-/// Whether a row leaves its register as it is.
-pub fn is_kept_by(op: RmRegOp) -> bool
-    ensures { result ≡ is_kept_by op }
-{
-    match op {
-        RmRegOp::Cmp | RmRegOp::Test => true,
-        _ => false,
-    }
-}
-
 /// The row with a register that does what one with a number does.
 pub fn alu_of(op: ImmOp) -> RmRegOp
     ensures { result ≡ alu_of op }
@@ -62,18 +52,21 @@ pub fn sign_word(a: u64) -> u64
     if a >= HALF { u64::MAX } else { 0 }
 }
 
+/// The high word of the signed product of two words (volume 2, IMUL).
 pub fn high_signed(a: u64, b: u64) -> u64
     ensures { result ≡ high_product_signed a b }
 {
     mul_high(a.cast_signed(), b.cast_signed()).cast_unsigned()
 }
 
+/// Whether the unsigned product of two words does not fit one: CF and OF of MUL (volume 2, MUL).
 pub fn needs_high(a: u64, b: u64) -> bool
     ensures { result ≡ needs_high a b }
 {
     mul_high_u(a, b) != 0
 }
 
+/// Whether the signed product of two words does not fit one: CF and OF of IMUL (volume 2, IMUL).
 pub fn needs_high_signed(a: u64, b: u64) -> bool
     ensures { result ≡ needs_high_signed a b }
 {

@@ -21,7 +21,7 @@ use lg_lex::{Token, TokenKind};
 use lg_op::{Form, Node, Op, Operand, Operands, PlainOp};
 
 // The most nodes of a text.
-const MOST_NODES: u32 = 65_536;
+const MOST_NODES: u32 = 1_048_576;
 
 impl Parser<'_> {
     // The label of a word, as an operand.

@@ -26,6 +26,7 @@ given target l shape sets size places buf bytes tags low few done are is = recor
   tagged = λ x i e. ap (λ t. slice_index t x) is ∙ tag-at buf.labels x (slice_index places i) (low.labels x i e);
   instructions = λ addresses of. low.instructions bytes addresses are done of;
   sparing = λ addresses of. low.sparing bytes addresses are done of;
+  shortest = λ addresses of. low.shortest bytes addresses are done of;
   carries = λ addresses trash i word of lt. low.carries bytes addresses trash word are done of i lt;
 }
 

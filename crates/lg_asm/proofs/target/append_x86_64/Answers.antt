@@ -17,6 +17,7 @@ returns-clause-appended c = λ went. record {
     aligned = c.select.ensures.aligned went;
     fixes = c.select.ensures.fixes went;
     lead = c.select.ensures.lead went;
+    shortest = c.select.ensures.shortest went;
     instructions = c.select.ensures.instructions went;
     sparing = c.select.ensures.sparing went;
     carries = c.select.ensures.carries went;

@@ -14,11 +14,13 @@ returns c =
     let two = c.in_ok-arg-2.ensures.shape c.target_argument.ensures.local ∙ ap₂ with_rule one target.is in
     let three = c.in_ok-arg-3.ensures.shape c.steps_argument.ensures.local ∙ ap₂ with_rule two c.steps_argument.ensures.rule in
     let four = c.in_ok-arg-4.ensures.shape c.code_argument.ensures.local ∙ ap₂ with_rule three c.code_argument.ensures.rule in
-    let five = c.in_ok-arg-5.ensures.shape c.file_argument.ensures.local ∙ ap₂ with_rule four c.file_argument.ensures.rule in
-    IfOk-weaker c.arg-6.result _ _ (λ r h. record {
+    let five = c.in_ok-arg-5.ensures.shape c.seed_argument.ensures.local ∙ ap₂ with_rule four c.seed_argument.ensures.rule in
+    let six = c.in_ok-arg-6.ensures.shape c.stats_argument.ensures.local ∙ ap₂ with_rule five c.stats_argument.ensures.rule in
+    let seven = c.in_ok-arg-7.ensures.shape c.file_argument.ensures.local ∙ ap₂ with_rule six c.file_argument.ensures.rule in
+    IfOk-weaker c.arg-8.result _ _ (λ r h. record {
       modes = mode.modes;
       targets = target.targets;
       mode_words_are = mode.words;
       target_words_are = target.words;
-      is = h.shape c.rest_argument.ensures.local ∙ ap₂ with_rule five c.rest_argument.ensures.rule;
-    }) c.arg-6.ensures
+      is = h.shape c.rest_argument.ensures.local ∙ ap₂ with_rule seven c.rest_argument.ensures.rule;
+    }) c.arg-8.ensures

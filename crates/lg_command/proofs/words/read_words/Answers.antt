@@ -1,4 +1,4 @@
-use Rattle.std.proofs.Common.{◌≡◌, ℕ, List, [], ◌∷◌, length, ap, ◌∙◌, codes, arith}
+use Rattle.std.proofs.Common.{◌≡◌, ℕ, Bool, List, [], ◌∷◌, length, ap, ◌∙◌, codes, arith}
 use Rattle.std.specs.Prelude.{string_bytes, unwrap_or}
 use Rattle.std.proofs.lemmas.List.{length-map}
 use Rattle.clap.specs.Words.{Text, all_of, found_of, rows_of}
@@ -7,14 +7,13 @@ use Rattle.lg_command.specs.Commands.{Command}
 use Rattle.lg_command.specs.declared.command.Mode.{Mode}
 use Rattle.lg_command.proofs.words.read_words.Goals as goal
 
-abbrev of_parts : Mode → Target → ℕ → ℕ → Text → List Text → Command
-of_parts m t s z f g = record { mode = m; target = t; steps = s; size = z; file = f; arguments = g }
+abbrev of_parts : Mode → Target → ℕ → ℕ → ℕ → Bool → Text → List Text → Command
+of_parts m t s z d b f g = record { mode = m; target = t; steps = s; size = z; seed = d; stats = b; file = f; arguments = g }
 
 -- commands with the same parts are the same
-same_command : {m m' : Mode} {t t' : Target} {s s' z z' : ℕ} {f f' : Text} {g g' : List Text} → m ≡ m' → t ≡ t' → s ≡ s' → z ≡ z' → f ≡ f' → g ≡ g' → of_parts m t s z f g ≡ of_parts m' t' s' z' f' g'
-same_command {m} {m'} {t} {t'} {s} {s'} {z} {z'} {f} {f'} {g} {g'} a b c d e h =
-    ap (λ x. of_parts x t s z f g) a ∙ ap (λ x. of_parts m' x s z f g) b ∙ ap (λ x. of_parts m' t' x z f g) c
-    ∙ ap (λ x. of_parts m' t' s' x f g) d ∙ ap (λ x. of_parts m' t' s' z' x g) e ∙ ap (λ x. of_parts m' t' s' z' f' x) h
+same_command : {m m' : Mode} {t t' : Target} {s s' z z' d d' : ℕ} {b b' : Bool} {f f' : Text} {g g' : List Text} → m ≡ m' → t ≡ t' → s ≡ s' → z ≡ z' → d ≡ d' → b ≡ b' → f ≡ f' → g ≡ g'
+    → of_parts m t s z d b f g ≡ of_parts m' t' s' z' d' b' f' g'
+same_command e₁ e₂ e₃ e₄ e₅ e₆ e₇ e₈ = cc
 
 pub returns-in-Ok-clause-command : goal.returns-in-Ok-clause-command
 returns-in-Ok-clause-command c =
@@ -22,7 +21,7 @@ returns-in-Ok-clause-command c =
     record {
       rows = rows;
       read = c.in_ok-matches.ensures.ok;
-      is = same_command c.mode.ensures c.target.ensures c.steps.ensures c.size.ensures c.file-file.ensures
+      is = same_command c.mode.ensures c.target.ensures c.steps.ensures c.size.ensures c.seed.ensures c.stats.ensures c.file-file.ensures
           (c.in-Ok.ensures ∙ ap (λ f. f ∷ unwrap_or (all_of (codes "ARG") rows) []) c.file-file.ensures);
     }
 
@@ -34,5 +33,6 @@ returns-in-Ok-clause-range c =
       steps_most = omega (arith, c.steps.ensures);
       size_least = omega (arith, c.size.ensures);
       size_most = omega (arith, c.size.ensures);
+      seed_most = search arith;
       some = omega (arith, long, same);
     }

@@ -1,6 +1,6 @@
 use Rattle.std.proofs.Common.{◌∙◌, ◌-◌, List, ℕ, sym, subst, refl, length, arith, Result}
 use Rattle.lg_pre.specs.Macros.{Reads}
-use Rattle.lg_pre.specs.declared.stop.Fault.{Fault}
+use Rattle.lg_base.specs.declared.refusal.Refusal.{Refusal}
 use Rattle.lg_pre.proofs.ExpansionLemmas.{steps_blames}
 use Rattle.lg_pre.proofs.LineLemmas.{lines_more, lines_stop, lines_done}
 use Rattle.lg_pre.proofs.StopLemmas.{reads_from}
@@ -25,6 +25,6 @@ returns-in_err-next c = reads_from c.from_residual.result c.in_err-next.field-0.
     (steps_blames c.in_err-next.field-0.0 _ _ _ c.in_err-next.ensures.line (λ fault e. sym c.lines.invariant.2.2 ∙ lines_stop c.lines.invariant.2.0 c.args.text.now c.lines.expander c.lines.at fault (omega arith) (omega arith) e))
 
 pub returns : goal.returns
-returns c = subst (λ (read : Result (List ℕ) Fault). Reads c.finish.result read)
+returns c = subst (λ (read : Result (List ℕ) Refusal). Reads c.finish.result read)
     (sym (lines_done c.lines.invariant.2.0 c.args.text.now c.lines.expander c.lines.at (omega arith)) ∙ c.lines.invariant.2.2)
     c.finish.ensures

@@ -4,6 +4,7 @@ use Rattle.lg_command.specs.Commands.{shown}
 use Rattle.lg_cpu.specs.Laws.{AreBytes}
 use Rattle.lg_run.specs.Changes.{on_sink}
 use Rattle.lg_run.specs.Refused.{IsRefusedAs}
+use Rattle.lg_run.proofs.RefusedLemmas.{text_refused}
 use Rattle.lg_run.proofs.WorkLemmas.{run_answers, stopped_says}
 use Rattle.lg_run.proofs.work.do_unit.Goals as goal
 
@@ -12,11 +13,10 @@ returns-in-Ok-clause-says g c = λ text is held under.
     let made = c.in-Ok.ensures in
     run_answers (shown c.args.command.now) held c.in-Ok.code (record {
       text = text;
-      under = under;
+      given = under;
       unit = c.args.text.now.unit;
       reads = is;
       accepted = c.requires.checked.0.accepted;
-      built = made.built;
       fits = subst (λ a. length a ≤ most_args) c.requires.args c.requires.args_size;
       bytes = subst AreBytes (c.as_slice.ensures.value ∙ c.requires.args) c.see_bytes.ensures;
       target = made.target;
@@ -33,9 +33,8 @@ returns-in-Err-clause-says g c = λ text is held under.
     stopped_says (shown c.args.command.now) held done.code done.steps out done.answer c.in-Err.stop
     record { refused = λ r e. c.without_code.ensures.0 ∙ c.stopped.ensures.refused r e; memory = λ e. c.without_code.ensures.0 ∙ c.stopped.ensures.memory e }
     record { none = c.without_code.ensures.1; still = record { steps_none = c.without_code.ensures.2; out_same = refl } }
-    (λ r e. inr record {
-      fits = subst (λ a. length a ≤ most_args) c.requires.args c.requires.args_size;
-      text = text;
-      under = under;
-      refused = inr (is.0, subst (λ x. IsRefusedAs (shown c.args.command.now) x r) (sym is.1) (inr (c.requires.checked.0.accepted, c.in-Err.ensures.refused r (ap Err e))));
-    })
+    (λ r e. inr (
+      subst (λ a. length a ≤ most_args) c.requires.args c.requires.args_size,
+      text_refused (shown c.args.command.now) held r c.args.command.now.mode text under
+          (subst (λ x. IsRefusedAs (shown c.args.command.now) x r) (sym is) (inr (c.requires.checked.0.accepted, c.in-Err.ensures.refused r (ap Err e)))),
+    ))

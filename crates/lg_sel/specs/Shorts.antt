@@ -1,0 +1,98 @@
+-- The shortest forms of code that leads back to a label, on each target.
+use Rattle.std.specs.Prelude.{◌≡◌, ℕ, ◌+◌, Bool, true, false, pos, ◌+ℤ◌, ◌-ℤ◌, ◌*ℤ◌, ℤ, List, [], ◌∷◌, ◌++◌, length, ⊤}
+use Rattle.std.specs.List.{All}
+use Rattle.lg_a64.specs.Spelling as a64
+use Rattle.lg_a64.specs.declared.instruction.Cond.{Cond as A64Cond}
+use Rattle.lg_a64.specs.declared.instruction.Instr.{Instr as A64Instr}
+use Rattle.lg_a64.specs.declared.instruction.Instr.TheVariants as a64_instr
+use Rattle.lg_base.specs.declared.target.Target.{Target}
+use Rattle.lg_base.specs.declared.target.Target.TheVariants.{X86_64, Aarch64, Riscv64}
+use Rattle.lg_buf.specs.Fixing.{Fits}
+use Rattle.lg_buf.specs.declared.fixes.FixKind.TheVariants.{X86Rel8, A64Cond19, RvBranch, RvJal}
+use Rattle.lg_carry.specs.Blocks.{spellings}
+use Rattle.lg_op.specs.declared.op.ControlOp.TheVariants as control
+use Rattle.lg_op.specs.declared.op.LastOperand.TheVariants as last_operand
+use Rattle.lg_op.specs.declared.op.Op.{Op}
+use Rattle.lg_op.specs.declared.op.Op.TheVariants as op
+use Rattle.lg_rv.specs.Spelling as rv
+use Rattle.lg_rv.specs.declared.instruction.BranchOp.{BranchOp}
+use Rattle.lg_rv.specs.declared.instruction.Instr.{Instr as RvInstr}
+use Rattle.lg_rv.specs.declared.instruction.Instr.TheVariants as rv_instr
+use Rattle.lg_rv.specs.declared.instruction.UpperOp.TheVariants.{Auipc}
+use Rattle.lg_sel_items.specs.Holes.{Each}
+use Rattle.lg_x86.specs.Spelling as x86
+use Rattle.lg_x86.specs.declared.instruction.Cond.{Cond as X86Cond}
+use Rattle.lg_x86.specs.declared.instruction.Instr.{Instr as X86Instr}
+use Rattle.lg_x86.specs.declared.instruction.Instr.TheVariants as x86_instr
+
+-- ---- the instructions that count from their own place
+abbrev pub x86_is_relative : X86Instr → Bool
+x86_is_relative (x86_instr.JumpIfShort cond distance) = true
+x86_is_relative (x86_instr.JumpIfNear cond distance) = true
+x86_is_relative (x86_instr.JumpShort distance) = true
+x86_is_relative (x86_instr.JumpNear o distance) = true
+x86_is_relative i = false
+
+abbrev pub a64_is_relative : A64Instr → Bool
+a64_is_relative (a64_instr.Branch o words) = true
+a64_is_relative (a64_instr.BranchIf cond words) = true
+a64_is_relative i = false
+
+abbrev pub rv_is_relative : RvInstr → Bool
+rv_is_relative (rv_instr.Branch o rs1 rs2 offset) = true
+rv_is_relative (rv_instr.Jal rd offset) = true
+rv_is_relative (rv_instr.Upper Auipc rd imm) = true
+rv_is_relative i = false
+
+-- ---- the code of a node that leads to a label
+-- bytes that begin at a place are the spellings of instructions. The first ones do not count from their own place; the others, of which the first does,
+-- have a form, at the place where they begin
+pub record LeadsBy {I : Type 0} (spelling : I → List ℕ) (fits : I → Type 0) (is_relative : I → Bool) (has_form : ℕ → List I → Type 0) (place : ℕ) (bytes : List ℕ) : Type 0 where
+  pub front : List I
+  pub leap : I
+  pub rest : List I
+  pub fit : All fits (front ++ leap ∷ rest)
+  pub bytes_are : bytes ≡ spellings spelling (front ++ leap ∷ rest)
+  pub before : Each (λ i. is_relative i ≡ false) front
+  pub leads : is_relative leap ≡ true
+  pub form : has_form (place + length (spellings spelling front)) (leap ∷ rest)
+
+-- ---- the forms, of what leads from a place to a goal
+-- x86-64: a jump on a condition of two bytes, wherever its byte reaches
+abbrev pub IsShortJumpIf : ℕ → ℕ → List X86Instr → Type 0
+IsShortJumpIf goal from is = Fits X86Rel8 (from + 1) goal → (cond : X86Cond) × (is ≡ x86_instr.JumpIfShort cond (pos goal -ℤ pos (from + 2)) ∷ [])
+
+-- AArch64: a branch on a condition, wherever it reaches
+abbrev pub IsShortBranchIf : ℕ → ℕ → List A64Instr → Type 0
+IsShortBranchIf goal from is =
+    Fits A64Cond19 from goal → (cond : A64Cond) × (words : ℤ) × (is ≡ a64_instr.BranchIf cond words ∷ []) × (pos from +ℤ (words *ℤ pos 4) ≡ pos goal)
+
+-- RV64: a branch, wherever it reaches, and where it does not, a branch over a `jal`, wherever that reaches
+pub record IsShortRvBranch (goal from : ℕ) (is : List RvInstr) : Type 0 where
+  pub word : Fits RvBranch from goal → (o : BranchOp) × (rs1 : ℕ) × (rs2 : ℕ) × (is ≡ rv_instr.Branch o rs1 rs2 (pos goal -ℤ pos from) ∷ [])
+  pub over : (Fits RvBranch from goal → ⊥) → Fits RvJal (from + 4) goal
+      → (o : BranchOp) × (rs1 : ℕ) × (rs2 : ℕ) × (is ≡ rv_instr.Branch o rs1 rs2 (pos 8) ∷ rv_instr.Jal 0 (pos goal -ℤ pos (from + 4)) ∷ [])
+
+-- and a `jal`, wherever it reaches
+abbrev pub IsShortRvJump : ℕ → ℕ → List RvInstr → Type 0
+IsShortRvJump goal from is = Fits RvJal from goal → (rd : ℕ) × (is ≡ rv_instr.Jal rd (pos goal -ℤ pos from) ∷ [])
+
+-- ---- by target, of bytes that begin at a place
+abbrev pub IsShortBranch : Target → ℕ → ℕ → List ℕ → Type 0
+IsShortBranch X86_64 goal place bytes = LeadsBy x86.spelling x86.IsInstr x86_is_relative (IsShortJumpIf goal) place bytes
+IsShortBranch Aarch64 goal place bytes = LeadsBy a64.spelling a64.IsInstr a64_is_relative (IsShortBranchIf goal) place bytes
+IsShortBranch Riscv64 goal place bytes = LeadsBy rv.spelling rv.IsInstr rv_is_relative (IsShortRvBranch goal) place bytes
+
+-- a jump or call has one form on the other targets
+abbrev pub IsShortJump : Target → ℕ → ℕ → List ℕ → Type 0
+IsShortJump Riscv64 goal place bytes = LeadsBy rv.spelling rv.IsInstr rv_is_relative (IsShortRvJump goal) place bytes
+IsShortJump target goal place bytes = ⊤
+
+-- of a node with this operation, whose first operand is the label
+abbrev pub IsShort : Target → Op → ℕ → ℕ → List ℕ → Type 0
+IsShort target (op.Branch o last) goal place bytes = IsShortBranch target goal place bytes
+IsShort target (op.BranchSum o last) goal place bytes = IsShortBranch target goal place bytes
+IsShort target (op.Control control.Jmp last_operand.Immediate) goal place bytes = IsShortJump target goal place bytes
+IsShort target (op.Control control.Call last_operand.Immediate) goal place bytes = IsShortJump target goal place bytes
+IsShort target (op.Control control.Finish last_operand.Immediate) goal place bytes = IsShortJump target goal place bytes
+IsShort target o goal place bytes = ⊤

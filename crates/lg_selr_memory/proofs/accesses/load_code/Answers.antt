@@ -1,0 +1,11 @@
+use Rattle.std.proofs.Common.{ap, arith}
+use Rattle.lg_sel_memory.specs.Accesses.{address_of}
+use Rattle.lg_selr_items.specs.Items.{words_in}
+use Rattle.lg_selr_memory.proofs.EmissionLemmas.{place_words}
+use Rattle.lg_selr_memory.proofs.accesses.load_code.Goals as goal
+
+pub load_at-requires : goal.load_at-requires
+load_at-requires c =
+    let e = ap words_in c.put_address-base.ensures.code in
+    let w = place_words c.args.items.now (address_of c.args.at c.operand.result c.operand-2.result) in
+    omega (arith, e, w, c.requires)

@@ -1,0 +1,56 @@
+// Runs any bytes as code on each of the modelled processors: for each target 10,000 buffers of up to 64 bytes of a fixed generator, and 10,000 of code of which
+// one to four bytes were changed, at most 1,000 steps each. Each run comes to an answer by name, which ten more calls repeat. Prints for each
+// target how many runs came to what.
+#![tactic(auto)]
+
+mod bytes;
+mod runs;
+mod seeds;
+mod tally;
+
+use lg_base::refusal::OutOfMemory;
+use lg_base::target::Target;
+use runs::{Outcome, run_target};
+use std::io;
+use tally::Tally;
+
+// Prints what the runs of a target came to.
+fn print(rt: &HostRuntime, name: &str, outcome: &Outcome) -> io::Result<()> {
+    let Tally {
+        ended,
+        went_on,
+        write,
+        fetch,
+        decode,
+        memory,
+        align,
+        divide,
+        flag,
+        host,
+    } = outcome.tally;
+    println!(rt; "{name}: {ended} ended, {went_on} went on, {write} failed to write")?;
+    println!(rt; "{name}: Fetch {fetch}, Decode {decode}, Memory {memory}, Align {align}")?;
+    println!(rt; "{name}: Divide {divide}, Flag {flag}, Host {host}")?;
+    let Outcome {
+        steps,
+        sum,
+        changed,
+        ..
+    } = outcome;
+    println!(rt; "{name}: {steps} steps, {changed} answers changed, sum {sum}")
+}
+
+fn main(rt: HostRuntime) -> io::Result<()> {
+    let targets = [
+        (Target::X86_64, "x86_64"),
+        (Target::Aarch64, "aarch64"),
+        (Target::Riscv64, "riscv64"),
+    ];
+    for (target, name) in targets {
+        match run_target(rt.alloc(), target) {
+            Ok(outcome) => print(&rt, name, &outcome)?,
+            Err(OutOfMemory) => println!(rt; "{name}: out of memory")?,
+        }
+    }
+    Ok(())
+}

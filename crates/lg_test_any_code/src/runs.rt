@@ -1,0 +1,169 @@
+// Runs over bytes, from a state that is set anew for each.
+
+ghost use Rattle.std.specs.Prelude.{◌≤◌, length};
+
+use crate::bytes::{MOST, any, changed};
+use crate::seeds::seed;
+use crate::tally::Tally;
+use lg_base::code::CodeBytes;
+use lg_base::image::{ArgImage, DataImage};
+use lg_base::refusal::OutOfMemory;
+use lg_base::target::Target;
+use lg_cpu::answer::CpuStep;
+use lg_cpu::cpu::Cpu;
+use lg_io::memory_sink::MemorySink;
+use lg_random::Random;
+use std::alloc::Global;
+
+// how many runs are made over any bytes, and as many over changed code
+const RUNS: u32 = 10_000;
+
+// the most steps of a run
+const STEPS: u32 = 1000;
+
+// the first address of code, and of the data part, and the highest word of the stack
+const CODE: u64 = 0x1000_0000;
+
+const DATA: u64 = 0x2000_0000;
+
+const TOP: u64 = 0x3fff_fff8;
+
+// The argument part of the one word `-`.
+const ARGS: [u8; 18] = [16, 0, 0, 0x28, 0, 0, 0, 0, 0, 0, 0, 0, 0, 0, 0, 0, b'-', 0];
+
+/// What the runs on a target came to: how many came to what, the steps that they took, a sum that depends on where each stopped, and in
+/// how many an answer changed when it was asked for again.
+#[derive(Drop)]
+pub struct Outcome {
+    pub tally: Tally,
+    pub steps: u64,
+    pub sum: u64,
+    pub changed: u64,
+}
+
+// The registers, and the word at the top of the stack, before a first step.
+#[derive(Drop)]
+struct Start {
+    registers: [u64; 32],
+    top: u64,
+}
+
+impl Start {
+    fn of(cpu: &Cpu) -> Start {
+        let mut registers = [0; 32];
+        for number in 0..32u8 {
+            registers[number as usize] = cpu.register(number);
+        }
+        Start {
+            registers,
+            top: cpu.load(TOP, 8).unwrap_or(0),
+        }
+    }
+
+    // Sets the registers and the word as they were.
+    fn set(&self, cpu: &mut Cpu) {
+        for number in 0..32u8 {
+            cpu.set_register(number, self.registers[number as usize]);
+        }
+        cpu.store(TOP, 8, self.top);
+    }
+}
+
+// A word that is an address of the data part or of the stack, or small, or any.
+fn operand(random: &mut Random) -> u64 {
+    let word = random.word();
+    match word >> 62 {
+        0 => DATA + word % 128,
+        1 => TOP - word % 1024,
+        2 => word % 256,
+        _ => word,
+    }
+}
+
+// Sets every register to such a word.
+fn set_operands(cpu: &mut Cpu, random: &mut Random) {
+    for number in 0..32u8 {
+        cpu.set_register(number, operand(random));
+    }
+}
+
+// Takes one step, where the processor can count it.
+fn step(cpu: &mut Cpu, out: &mut MemorySink) -> CpuStep {
+    if cpu.steps() < u64::MAX {
+        cpu.step(out)
+    } else {
+        CpuStep::Went
+    }
+}
+
+// Takes the steps of a run, until it answers something else than that it goes on.
+#[inline(never)]
+fn run(cpu: &mut Cpu, out: &mut MemorySink) -> CpuStep {
+    for _ in 0..STEPS {
+        let answer = step(cpu, out);
+        if answer != CpuStep::Went {
+            return answer;
+        }
+    }
+    CpuStep::Went
+}
+
+// Whether ten more calls answer the same, at the same place.
+fn stays(cpu: &mut Cpu, out: &mut MemorySink, answer: CpuStep) -> bool {
+    let (pc, steps) = (cpu.pc(), cpu.steps());
+    for _ in 0..10 {
+        if step(cpu, out) != answer || (cpu.pc(), cpu.steps()) != (pc, steps) {
+            return false;
+        }
+    }
+    true
+}
+
+impl Outcome {
+    // Runs these bytes from their first on, and counts what they come to.
+    fn add(&mut self, alloc: Global, cpu: &mut Cpu, code: &[u8]) -> Result<(), OutOfMemory>
+        requires { length code.now ≤ 64 }
+    {
+        let mut out = MemorySink::new(alloc, 64, &[])?;
+        cpu.set_code(CodeBytes::of(alloc, code)?);
+        cpu.set_pc(CODE);
+        let before = cpu.steps();
+        let answer = run(cpu, &mut out);
+        self.tally.count(answer);
+        self.steps = self.steps.wrapping_add(cpu.steps().wrapping_sub(before));
+        self.sum = self.sum.wrapping_mul(31).wrapping_add(cpu.pc());
+        if answer != CpuStep::Went && !stays(cpu, &mut out, answer) {
+            self.changed = self.changed.wrapping_add(1);
+        }
+        Ok(())
+    }
+}
+
+/// Makes the runs of a target: over any bytes with operands in the registers, and over changed code from the start's registers.
+pub fn run_target(alloc: Global, target: Target) -> Result<Outcome, OutOfMemory> {
+    let code = CodeBytes::of(alloc, &[])?;
+    let image = DataImage::of(alloc, &[0; 64])?;
+    let args = ArgImage::of(alloc, &ARGS)?;
+    let mut cpu = Cpu::new(alloc, target, &code, &image, &args, 0x5a5a_5a5a_5a5a_5a5a)?;
+    let start = Start::of(&cpu);
+    let mut random = Random { state: 1 };
+    let mut outcome = Outcome {
+        tally: Tally::new(),
+        steps: 0,
+        sum: 0,
+        changed: 0,
+    };
+    for _ in 0..RUNS {
+        start.set(&mut cpu);
+        set_operands(&mut cpu, &mut random);
+        let bytes = any(&mut random);
+        let len = random.below(MOST + 1);
+        outcome.add(alloc, &mut cpu, &bytes[..len])?;
+    }
+    for round in 0..RUNS {
+        start.set(&mut cpu);
+        let bytes = changed(&mut random, seed(target, round % 2 == 1));
+        outcome.add(alloc, &mut cpu, &bytes)?;
+    }
+    Ok(outcome)
+}
