@@ -1,5 +1,5 @@
 -- An expansion has as many line feeds as the text.
-use Rattle.std.proofs.Common.{◌≡◌, ℕ, zero, suc, ◌+◌, ◌-◌, ◌<◌, ◌≤◌, ◌==◌, ◌&&◌, nat_le, nat_lt, Bool, true, false, not, if◌then◌else◌, List, [], ◌∷◌, ◌++◌, length, take, drop, fold, refl, sym, ap, subst, ◌∙◌, arith, Option, Some, None, option_and_then, slice_get, Result, Ok, Err, IfOk, length-drop}
+use Rattle.std.proofs.Common.{◌≡◌, ℕ, zero, suc, ◌+◌, ◌-◌, ◌<◌, ◌≤◌, ◌==◌, ◌&&◌, max, nat_le, nat_lt, Bool, true, false, not, if◌then◌else◌, List, [], ◌∷◌, ◌++◌, length, take, drop, fold, refl, sym, ap, subst, ◌∙◌, arith, Option, Some, None, option_and_then, slice_get, Result, Ok, Err, IfOk, length-drop}
 use Rattle.std.proofs.lemmas.Bool.{false≢true, and_parts}
 use Rattle.std.proofs.lemmas.Bool.Decides.{nat_tests}
 use Rattle.std.proofs.lemmas.List.{drop_all}
@@ -15,7 +15,7 @@ use Rattle.lg_pre.specs.Expanded.{defines, undefines, opens_named, opens_if, rea
 use Rattle.lg_pre.specs.Expansion.{Given, Step, kept, named, put, put_name, object, each, put_full, replaced, called, closed, opened, by_arity, at_macro, at_name, step, walk, expand_in}
 use Rattle.lg_pre.specs.Expansion.{Expander as Replacer}
 use Rattle.lg_pre.specs.Given.{gives_text, gives, given_all, flushed, fed, feeds_in}
-use Rattle.lg_pre.specs.Lines.{LineFeedsAreKept}
+use Rattle.lg_pre.specs.Lines.{LineFeedsAreKept, HaveLines}
 use Rattle.lg_pre.specs.Macros.{◌>>=◌, most, place_in, without, without_at, with_macro, counted}
 use Rattle.lg_pre.specs.Pieces.{Piece, piece_at, between, froze, is_word, is_white, is_byte, is_spaced}
 use Rattle.lg_pre.specs.Questions.{sure, asks}
@@ -35,29 +35,29 @@ use Rattle.lg_pre.proofs.FeedLemmas.{feeds_among, feeds_among_all, AreTidy, AreQ
 -- ---- results
 
 -- what holds behind a step, and then behind a further one
-if_bound : {A B : Type 0} (r : Result A Refusal) (f : A → Result B Refusal) (P : A → Type 0) (Q : B → Type 0) → IfOk r P → ((x : A) → P x → IfOk (f x) Q) → IfOk (r >>= f) Q
+pub if_bound : {A B : Type 0} (r : Result A Refusal) (f : A → Result B Refusal) (P : A → Type 0) (Q : B → Type 0) → IfOk r P → ((x : A) → P x → IfOk (f x) Q) → IfOk (r >>= f) Q
 if_bound (Ok x) f P Q h next = next x h
 if_bound (Err e) f P Q h next = tt
 
-either_ok : {A : Type 0} (b : Bool) (x y : Result A Refusal) (P : A → Type 0) → IfOk x P → IfOk y P → IfOk (if b then x else y) P
+pub either_ok : {A : Type 0} (b : Bool) (x y : Result A Refusal) (P : A → Type 0) → IfOk x P → IfOk y P → IfOk (if b then x else y) P
 either_ok true x y P hx hy = hx
 either_ok false x y P hx hy = hy
 
-any_result : {A : Type 0} (r : Result A Refusal) → IfOk r (λ x. Unit {0})
+pub any_result : {A : Type 0} (r : Result A Refusal) → IfOk r (λ x. Unit {0})
 any_result (Ok x) = tt
 any_result (Err e) = tt
 
 -- ---- macros whose bodies have no line feed
 
-abbrev IsQuietMacro : Option Macro → Type 0
+abbrev pub IsQuietMacro : Option Macro → Type 0
 IsQuietMacro None = Unit {0}
 IsQuietMacro (Some m) = feeds_among m.body ≡ 0
 
-abbrev IsQuietTable : List Macro → Type 0
+abbrev pub IsQuietTable : List Macro → Type 0
 IsQuietTable [] = Unit {0}
 IsQuietTable (m ∷ table) = (feeds_among m.body ≡ 0) × IsQuietTable table
 
-quiet_at : (table : List Macro) (place : ℕ) → IsQuietTable table → IsQuietMacro (slice_get table place)
+pub quiet_at : (table : List Macro) (place : ℕ) → IsQuietTable table → IsQuietMacro (slice_get table place)
 quiet_at [] place h = tt
 quiet_at (m ∷ table) zero h = h.0
 quiet_at (m ∷ table) (suc place) h = quiet_at table place h.1
@@ -86,10 +86,10 @@ quiet_with table m h quiet = quiet_append (without table m.name) (m ∷ []) (qui
 -- ---- replacement
 
 -- an expansion of pieces gives as many line feeds as they have
-abbrev Keeps : Replacer → Type 0
+abbrev pub Keeps : Replacer → Type 0
 Keeps inner = (line : ℕ) (hidden : List ℕ) (pieces : List Piece) (given : Given) → AreTidy pieces → IfOk (inner line hidden pieces given) (λ next. feeds_among next.0 ≡ feeds_among given.0 + feeds_among pieces)
 
-put_keeps : (inner : Replacer) → Keeps inner → (line : ℕ) (hidden : List ℕ) (place : ℕ) (m : Macro) (raw full : List (List Piece)) (given : Given) → feeds_among m.body ≡ 0 → feeds_among_all raw ≡ 0 → feeds_among_all full ≡ 0 → IfOk (put inner line hidden place m raw full given) (λ next. feeds_among next.0 ≡ feeds_among given.0)
+pub put_keeps : (inner : Replacer) → Keeps inner → (line : ℕ) (hidden : List ℕ) (place : ℕ) (m : Macro) (raw full : List (List Piece)) (given : Given) → feeds_among m.body ≡ 0 → feeds_among_all raw ≡ 0 → feeds_among_all full ≡ 0 → IfOk (put inner line hidden place m raw full given) (λ next. feeds_among next.0 ≡ feeds_among given.0)
 unfolding put
 put_keeps inner keeps line hidden place m raw full given hb hr hf =
     let body : List Piece = substituted line m.body m.marks raw full in
@@ -103,7 +103,7 @@ each_keeps inner keeps line hidden (a ∷ more) done sum hr hd =
     if_bound (inner line hidden a ([], sum)) (λ given. each inner line hidden more (done ++ given.0 ∷ []) given.1) _ _ (keeps line hidden a ([], sum) (quiet_tidy a (omega (arith, hr))))
     (λ given e. let all = all_push done given.0 in each_keeps inner keeps line hidden more (done ++ given.0 ∷ []) given.1 (omega (arith, hr)) (omega (arith, all, e, hr, hd)))
 
-replaced_keeps : (inner : Replacer) → Keeps inner → (line : ℕ) (hidden : List ℕ) (place : ℕ) (m : Macro) (given : Given) (raw : List (List Piece)) → feeds_among m.body ≡ 0 → feeds_among_all raw ≡ 0 → IfOk (replaced inner line hidden place m given raw) (λ next. feeds_among next.0 ≡ feeds_among given.0)
+pub replaced_keeps : (inner : Replacer) → Keeps inner → (line : ℕ) (hidden : List ℕ) (place : ℕ) (m : Macro) (given : Given) (raw : List (List Piece)) → feeds_among m.body ≡ 0 → feeds_among_all raw ≡ 0 → IfOk (replaced inner line hidden place m given raw) (λ next. feeds_among next.0 ≡ feeds_among given.0)
 unfolding replaced
 replaced_keeps inner keeps line hidden place m given raw hb hr =
     if_bound (counted line m given.1) (λ sum. each inner line hidden raw [] sum >>= put_full inner line hidden place m given.0 raw) _ _ (any_result (counted line m given.1))
@@ -111,7 +111,7 @@ replaced_keeps inner keeps line hidden place m given raw hb hr =
     (λ full e. put_keeps inner keeps line hidden place m raw full.0 (given.0, full.1) hb hr e))
 
 -- what a step gives has the line feeds of the pieces that it takes
-abbrev StepKeeps : Piece → List Piece → Given → Step → Type 0
+abbrev pub StepKeeps : Piece → List Piece → Given → Step → Type 0
 StepKeeps p rest given s = IfOk s (λ done. feeds_among done.1.0 ≡ feeds_among given.0 + feeds_of p.text + feeds_among (take done.0 rest))
 
 kept_keeps : (p q : Piece) (rest : List Piece) (given : Given) → feeds_of q.text ≡ feeds_of p.text → StepKeeps p rest given (kept q given)
@@ -157,7 +157,7 @@ macro_keeps inner keeps p hidden place given rest (Some m) hm hp tidy =
     either_ok (list_any (λ h. h == place) hidden) (kept (froze p) given) (by_arity inner p hidden place m given rest m.arity) _ (kept_keeps p (froze p) rest given refl) (arity_keeps inner keeps p hidden place m given rest m.arity hm hp tidy)
 
 -- a piece that names a macro has no line feed
-abbrev IsQuietName : Piece → Option ℕ → Type 0
+abbrev pub IsQuietName : Piece → Option ℕ → Type 0
 IsQuietName p None = Unit {0}
 IsQuietName p (Some place) = feeds_of p.text ≡ 0
 
@@ -174,7 +174,7 @@ name_by p true None h = tt
 name_by p true (Some place) h = h refl
 name_by p false place h = tt
 
-name_is_quiet : (table : List Macro) (p : Piece) → (is_spaced p.kind ≡ false → feeds_of p.text ≡ 0) → IsQuietName p (named table p)
+pub name_is_quiet : (table : List Macro) (p : Piece) → (is_spaced p.kind ≡ false → feeds_of p.text ≡ 0) → IsQuietName p (named table p)
 name_is_quiet table p tidy = name_by p (is_word p.kind && not p.frozen) (place_in table p.text) (λ e. tidy (word_is_not_spaced p.kind (and_parts (is_word p.kind) (not p.frozen) e).0))
 
 name_keeps : (table : List Macro) (inner : Replacer) → IsQuietTable table → Keeps inner → (p : Piece) (hidden : List ℕ) (given : Given) (rest : List Piece) (place : Option ℕ) → IsQuietName p place → AreTidy rest → StepKeeps p rest given (at_name table inner p hidden given rest place)
@@ -182,7 +182,7 @@ unfolding at_name
 name_keeps table inner quiet keeps p hidden given rest None hp tidy = kept_keeps p p rest given refl
 name_keeps table inner quiet keeps p hidden given rest (Some place) hp tidy = macro_keeps inner keeps p hidden place given rest (slice_get table place) (quiet_at table place quiet) hp tidy
 
-step_keeps : (table : List Macro) (inner : Replacer) → IsQuietTable table → Keeps inner → (hidden : List ℕ) (p : Piece) (rest : List Piece) (given : Given) → AreTidy (p ∷ rest) → StepKeeps p rest given (step table inner hidden p rest given)
+pub step_keeps : (table : List Macro) (inner : Replacer) → IsQuietTable table → Keeps inner → (hidden : List ℕ) (p : Piece) (rest : List Piece) (given : Given) → AreTidy (p ∷ rest) → StepKeeps p rest given (step table inner hidden p rest given)
 unfolding step
 step_keeps table inner quiet keeps hidden p rest given tidy = name_keeps table inner quiet keeps p hidden given rest (named table p) (name_is_quiet table p tidy.0) tidy.1
 
@@ -197,7 +197,7 @@ walk_keeps table inner quiet keeps (suc k) hidden (p ∷ rest) given h tidy =
     let less : length (drop s.0 rest) ≤ k = rw length-drop (omega (arith, h)) in
     IfOk-weaker (walk table inner k hidden (drop s.0 rest) s.1) _ _ (λ next e2. omega (arith, e, e2, parts)) (walk_keeps table inner quiet keeps k hidden (drop s.0 rest) s.1 less (tidy_drop s.0 rest tidy.1)))
 
-expand_keeps : (table : List Macro) → IsQuietTable table → (levels : ℕ) → Keeps (expand_in table levels)
+pub expand_keeps : (table : List Macro) → IsQuietTable table → (levels : ℕ) → Keeps (expand_in table levels)
 unfolding expand_in
 expand_keeps table quiet zero = λ line hidden pieces given tidy. tt
 expand_keeps table quiet (suc n) = λ line hidden pieces given tidy. walk_keeps table (expand_in table n) quiet (expand_keeps table quiet n) (length pieces) hidden pieces given (omega arith) tidy
@@ -207,7 +207,7 @@ expand_keeps table quiet (suc n) = λ line hidden pieces given tidy. walk_keeps 
 text_given : (line : ℕ) (text given : List ℕ) → IfOk (gives_text line text given) (λ more. feeds_of more ≡ feeds_of given + feeds_of text)
 text_given line text given = either_ok (nat_lt most (length given + length text)) _ (Ok (given ++ text)) _ tt (feeds_append given text)
 
-given_keeps : (pieces : List Piece) (given : List ℕ) → IfOk (given_all pieces given) (λ more. feeds_of more ≡ feeds_of given + feeds_among pieces)
+pub given_keeps : (pieces : List Piece) (given : List ℕ) → IfOk (given_all pieces given) (λ more. feeds_of more ≡ feeds_of given + feeds_among pieces)
 unfolding given_all
 given_keeps [] given = omega arith
 given_keeps (p ∷ rest) given = if_bound (gives p given) (given_all rest) _ _ (text_given p.line p.text given)
@@ -338,6 +338,22 @@ obeyed_kept s line body quiet h =
 
 -- ---- lines
 
+pub lines_append : (line : ℕ) (a b : List Piece) → HaveLines line a → HaveLines (line + feeds_among a) b → HaveLines line (a ++ b)
+lines_append line [] b ha hb = let e : line + 0 ≡ line = omega arith in subst (λ (n : ℕ). HaveLines n b) e hb
+lines_append line (p ∷ a) b ha hb = let e : line + (feeds_of p.text + feeds_among a) ≡ line + feeds_of p.text + feeds_among a = omega arith in
+    (ha.0, lines_append (line + feeds_of p.text) a b ha.1 (subst (λ (n : ℕ). HaveLines n b) e hb))
+
+pub lines_drop : (line n : ℕ) (pieces : List Piece) → HaveLines line pieces → HaveLines (line + feeds_among (take n pieces)) (drop n pieces)
+lines_drop line zero pieces h = let e : line + 0 ≡ line = omega arith in subst (λ (m : ℕ). HaveLines m pieces) (sym e) h
+lines_drop line (suc n) [] h = tt
+lines_drop line (suc n) (p ∷ rest) h = let e : line + feeds_of p.text + feeds_among (take n rest) ≡ line + (feeds_of p.text + feeds_among (take n rest)) = omega arith in
+    subst (λ (m : ℕ). HaveLines m (drop n rest)) e (lines_drop (line + feeds_of p.text) n rest h.1)
+
+lines_take : (line n : ℕ) (pieces : List Piece) → HaveLines line pieces → HaveLines line (take n pieces)
+lines_take line zero pieces h = tt
+lines_take line (suc n) [] h = tt
+lines_take line (suc n) (p ∷ rest) h = (h.0, lines_take (line + feeds_of p.text) n rest h.1)
+
 -- the lines that wait are given with their line feeds
 abbrev IsFlushed : Expander → Expander → Type 0
 IsFlushed s next = IsQuietTable next.table × (next.lines ≡ []) × (feeds_of next.given ≡ feeds_of s.given + feeds_among s.lines)
@@ -347,21 +363,28 @@ flushes_keep s quiet tidy = either_ok (skipping s.conditions) _ _ _
     (if_bound (fed s.lines s.given) (λ given. Ok (record s { lines = []; given = given })) _ _ (fed_keeps s.lines s.given) (λ given e. (quiet, refl, e)))
     (if_bound (flushed s.table (length s.lines) s.lines s.given s.sum) (λ next. Ok (record s { lines = []; given = next.0; sum = next.1 })) _ _ (flushed_keeps s.table quiet (length s.lines) s.lines s.given s.sum (omega arith) tidy) (λ next e. (quiet, refl, e)))
 
--- what is given, what waits and what is left have the line feeds of the text
-abbrev IsInLine : List Piece → Expander → ℕ → Type 0
-IsInLine text s at = IsQuietTable s.table × AreTidy s.lines × (feeds_of s.given + feeds_among s.lines + feeds_among (drop at text) ≡ feeds_among text)
+-- what is given, what waits and what is left have the line feeds of the text, and what waits has its lines
+abbrev pub IsInLine : List Piece → Expander → ℕ → Type 0
+IsInLine text s at = IsQuietTable s.table × AreTidy s.lines × (feeds_of s.given + feeds_among s.lines + feeds_among (drop at text) ≡ feeds_among text) × HaveLines (1 + feeds_of s.given) s.lines
 
-waits_keeps : (text : List Piece) (s : Expander) (at end : ℕ) → AreTidy text → at ≤ end → IsInLine text s at → IsInLine text (record s { lines = s.lines ++ between at end text }) end
+-- the pieces of a text, tidy and with their lines
+abbrev pub IsWhole : List Piece → Type 0
+IsWhole text = AreTidy text × HaveLines 1 text
+
+waits_keeps : (text : List Piece) (s : Expander) (at end : ℕ) → IsWhole text → at ≤ end → IsInLine text s at → IsInLine text (record s { lines = s.lines ++ between at end text }) end
 waits_keeps text s at end tidy h is =
     let parts = among_between at end text h in
     let all = among_append s.lines (between at end text) in
-    (is.0, tidy_append s.lines (between at end text) is.1 (tidy_take (end - at) (drop at text) (tidy_drop at text tidy)), omega (arith, parts, all, is.2))
+    let before = among_parts at text in
+    let same : 1 + feeds_among (take at text) ≡ 1 + feeds_of s.given + feeds_among s.lines = omega (arith, before, is.2) in
+    let behind : HaveLines (1 + feeds_of s.given + feeds_among s.lines) (between at end text) = lines_take _ (end - at) (drop at text) (subst (λ (n : ℕ). HaveLines n (drop at text)) same (lines_drop 1 at text tidy.1)) in
+    (is.0, tidy_append s.lines (between at end text) is.1 (tidy_take (end - at) (drop at text) (tidy_drop at text tidy.0)), omega (arith, parts, all, is.2), lines_append (1 + feeds_of s.given) s.lines (between at end text) is.3 behind)
 
-directs_keeps : (text : List Piece) (s : Expander) (at sign end : ℕ) → AreTidy text → at ≤ end → IsInLine text s at → IfOk (directs text s at sign end) (λ next. (next.0 ≡ end) × IsInLine text next.1 end)
+directs_keeps : (text : List Piece) (s : Expander) (at sign end : ℕ) → IsWhole text → at ≤ end → IsInLine text s at → IfOk (directs text s at sign end) (λ next. (next.0 ≡ end) × IsInLine text next.1 end)
 directs_keeps text s at sign end tidy h is =
     let line : ℕ = (piece_at text sign).line in
     let body : List Piece = stripped (spliced (between (sign + 1) end text)) in
-    let quiet : feeds_among body ≡ 0 = stripped_quiet (spliced (between (sign + 1) end text)) (spliced_quiet (between (sign + 1) end text) (tidy_take (end - (sign + 1)) (drop (sign + 1) text) (tidy_drop (sign + 1) text tidy))) in
+    let quiet : feeds_among body ≡ 0 = stripped_quiet (spliced (between (sign + 1) end text)) (spliced_quiet (between (sign + 1) end text) (tidy_take (end - (sign + 1)) (drop (sign + 1) text) (tidy_drop (sign + 1) text tidy.0))) in
     let parts = among_between at end text h in
     if_bound (flushes s) (λ s1. directed text s1 at end line body) _ _ (flushes_keep s is.0 is.1)
     (λ s1 e1. if_bound (obeys s1 line body) _ _ _ (obeyed_kept s1 line body e1.0 quiet)
@@ -370,10 +393,10 @@ directs_keeps text s at sign end tidy h is =
     let lines : s2.lines ≡ [] = e2.2 ∙ e1.1 in
     let none : feeds_among s2.lines ≡ 0 = ap feeds_among lines in
     let same : feeds_of s2.given ≡ feeds_of s1.given = ap (λ (g : List ℕ). feeds_of g) e2.1 in
-    (refl, (e2.0, quiet_tidy s2.lines none, omega (arith, parts, none, same, e3, e1.2, is.2))))))
+    (refl, (e2.0, quiet_tidy s2.lines none, omega (arith, parts, none, same, e3, e1.2, is.2), subst (λ (l : List Piece). HaveLines (1 + feeds_of given) l) (sym lines) tt)))))
 
 -- a line that is read, and the place behind it
-abbrev IsRead : List Piece → ℕ → ℕ × Expander → Type 0
+abbrev pub IsRead : List Piece → ℕ → ℕ × Expander → Type 0
 IsRead text at next = (at < next.0) × IsInLine text next.1 next.0
 
 some_by : (b : Bool) (n : ℕ) → 0 < (if b then 1 else 1 + n)
@@ -389,7 +412,7 @@ goes_on : (text : List Piece) (at n : ℕ) → at < length text → at < at + n 
 goes_on text at zero h = let e : at + 0 ≡ at = omega arith in let some = line_some true false (drop at text) (rw length-drop (omega (arith, h))) in rw e (omega (arith, some))
 goes_on text at (suc n) h = omega arith
 
-line_by : (text : List Piece) (s : Expander) (at : ℕ) (mark : Option ℕ) → AreTidy text → at < length text → IsInLine text s at → IfOk (one_line_by text s at mark) (IsRead text at)
+line_by : (text : List Piece) (s : Expander) (at : ℕ) (mark : Option ℕ) → IsWhole text → at < length text → IsInLine text s at → IfOk (one_line_by text s at mark) (IsRead text at)
 line_by text s at None tidy h is =
     let some = line_some false false (drop at text) (rw length-drop (omega (arith, h))) in
     (omega (arith, some), waits_keeps text s at (at + line_len false false (drop at text)) tidy (omega arith) is)
@@ -398,7 +421,7 @@ line_by text s at (Some n) tidy h is =
     let on : at < end = goes_on text at n h in
     IfOk-weaker (directs text s at (at + n) end) _ _ (λ next e. (omega (arith, e.0, on), subst (λ (m : ℕ). IsInLine text next.1 m) (sym e.0) e.1)) (directs_keeps text s at (at + n) end tidy (omega (arith, on)) is)
 
-line_keeps : (text : List Piece) (s : Expander) (at : ℕ) → AreTidy text → at < length text → IsInLine text s at → IfOk (one_line text s at) (IsRead text at)
+pub line_keeps : (text : List Piece) (s : Expander) (at : ℕ) → IsWhole text → at < length text → IsInLine text s at → IfOk (one_line text s at) (IsRead text at)
 unfolding one_line
 line_keeps text s at tidy h is = line_by text s at (mark_in true (drop at text)) tidy h is
 
@@ -416,7 +439,7 @@ either_if : {A : Type 0} (b : Bool) (x y : Result A Refusal) (P : A → Type 0) 
 either_if true x y P hx hy = hx refl
 either_if false x y P hx hy = hy refl
 
-lines_keep : (k : ℕ) (text : List Piece) (s : Expander) (at : ℕ) → AreTidy text → length text ≤ at + k → IsInLine text s at → IfOk (lines_in k text s at) (λ given. feeds_of given ≡ feeds_among text)
+lines_keep : (k : ℕ) (text : List Piece) (s : Expander) (at : ℕ) → IsWhole text → length text ≤ at + k → IsInLine text s at → IfOk (lines_in k text s at) (λ given. feeds_of given ≡ feeds_among text)
 unfolding lines_in
 lines_keep zero text s at tidy room is = finish_keeps text s at (omega (arith, room)) is
 lines_keep (suc k) text s at tidy room is =
@@ -430,10 +453,25 @@ start_quiet : IsQuietTable start_table
 unfolding cut cut_in front_of stripped solid_len
 start_quiet = (refl, tt)
 
+pub start_in_line : (text : List Piece) → IsInLine text start 0
+start_in_line text = (start_quiet, tt, omega arith, tt)
+
+-- each piece has the line of its first byte
+have_lines : (k line : ℕ) (bytes : List ℕ) → HaveLines line (text_pieces k line bytes)
+unfolding text_pieces
+have_lines zero line bytes = tt
+have_lines (suc k) line [] = tt
+have_lines (suc k) line (b ∷ rest) =
+    let n : ℕ = max 1 (front_of (b ∷ rest)).1 in
+    (refl, have_lines k (line + feeds_of (take n (b ∷ rest))) (drop n (b ∷ rest)))
+
+pub whole_text : (text : List ℕ) → IsWhole (text_pieces (length text) 1 text)
+whole_text text = (text_tidy (length text) 1 text, have_lines (length text) 1 text)
+
 pub line_feeds_are_kept : LineFeedsAreKept
 unfolding expanded
 line_feeds_are_kept text =
     let pieces : List Piece = text_pieces (length text) 1 text in
     let is : bytes_of pieces ≡ text = pieces_are_text (length text) 1 text (omega arith) in
     let same : feeds_among pieces ≡ feeds_of text = among_bytes pieces ∙ ap (λ (l : List ℕ). feeds_of l) is in
-    IfOk-weaker (lines_in (length pieces) pieces start 0) _ _ (λ given e. omega (arith, e, same)) (lines_keep (length pieces) pieces start 0 (text_tidy (length text) 1 text) (omega arith) (start_quiet, tt, omega arith))
+    IfOk-weaker (lines_in (length pieces) pieces start 0) _ _ (λ given e. omega (arith, e, same)) (lines_keep (length pieces) pieces start 0 (whole_text text) (omega arith) (start_in_line pieces))
