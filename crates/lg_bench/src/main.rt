@@ -3,9 +3,11 @@
 // code; `far N TIMES` does so with a text in which a branch and calls lead over N instructions; `straight N TIMES`, `branches N TIMES` and `jumps N TIMES` find the live registers of a list of nodes of N lines, so many
 // times; `moves N TIMES` and `chain N TIMES` rewrite a list of N moves or jumps, so many times; `emit N` emits 64 MiB in pieces of
 // N bytes; `rv64 N`, `aarch64 N` and `x86_64 N` run N instructions of a loop of five on the modelled processors; `steps N` follows
-// the portable meaning of a loop for N steps. Without words it does a little of each.
+// the portable meaning of a loop for N steps; `expand N` and `calls N` expand a text of N bytes, at most 16,777,216, without a name of
+// a macro and of calls alone. Without words it does a little of each.
 #![tactic(auto)]
 
+mod expansion;
 mod lists;
 mod liveness;
 mod meaning;
@@ -15,6 +17,7 @@ mod processor;
 mod rewrites;
 mod texts;
 
+use expansion::{Lines, expand_lines};
 use lg_base::refusal::{OutOfMemory, Stop};
 use lg_base::target::Target;
 use lg_mean_text::end::MeaningEnd;
@@ -93,6 +96,15 @@ fn follow(rt: &HostRuntime, steps: u32) -> io::Result<()> {
     }
 }
 
+// Expands a text of so many bytes.
+fn expand_text(rt: &HostRuntime, lines: Lines, size: u32) -> io::Result<()> {
+    match expand_lines(rt.alloc(), lines, size) {
+        Ok(bytes) => println!(rt; "{bytes} bytes of expansion"),
+        Err(Stop::Refused(refusal)) => println!(rt; "refused at line {}", refusal.line),
+        Err(Stop::OutOfMemory) => println!(rt; "out of memory"),
+    }
+}
+
 fn main(rt: HostRuntime) -> io::Result<()> {
     let mut words = env::args(&rt)?;
     let _ = words.next();
@@ -118,6 +130,8 @@ fn main(rt: HostRuntime) -> io::Result<()> {
                 "aarch64" => run(&rt, Target::Aarch64, times),
                 "x86_64" => run(&rt, Target::X86_64, times),
                 "steps" => follow(&rt, times),
+                "expand" => expand_text(&rt, Lines::Plain, times),
+                "calls" => expand_text(&rt, Lines::Calls, times),
                 _ => println!(rt; "no such work"),
             }
         }
@@ -136,7 +150,8 @@ fn main(rt: HostRuntime) -> io::Result<()> {
             for target in [Target::Riscv64, Target::Aarch64, Target::X86_64] {
                 run(&rt, target, 1000)?;
             }
-            follow(&rt, 1000)
+            follow(&rt, 1000)?;
+            expand_text(&rt, Lines::Calls, 1000)
         }
     }
 }

@@ -15,7 +15,7 @@ use crate::cutting::push_cut;
 use crate::defines::{one_word, spliced, stripped_from, written};
 use crate::directive::{Directive, directive_of};
 use crate::flush::{feed, flush};
-use crate::macros::{Table, Work, refused};
+use crate::macros::{MOST_HELD, Table, Work, refused};
 use crate::pieces::Pieces;
 use crate::plain_text::PlainText;
 use crate::questions::asks;
@@ -165,6 +165,7 @@ impl Expander {
             alloc,
             hidden: Vec::new(alloc),
             sum: self.sum,
+            room: MOST_HELD,
         };
         flush(&self.table, &mut work, &self.lines, &mut self.given)?;
         self.sum = work.sum;

@@ -9,7 +9,7 @@ ghost use Rattle.std.specs.Prelude.{◌==◌, ◌&&◌, if◌then◌else◌, Som
 ghost use Rattle.std.specs.Prelude.{◌∷◌};
 
 use crate::expansion::expand;
-use crate::macros::{Table, Work, refused};
+use crate::macros::{MOST_HELD, Table, Work, refused};
 use crate::pieces::{PieceKind, Pieces};
 use crate::plain_text::PlainText;
 use lg_base::refusal::{OutOfMemory, RefusalKind, Stop};
@@ -249,6 +249,7 @@ fn question(
         alloc,
         hidden: Vec::new(alloc),
         sum: *sum,
+        room: MOST_HELD,
     };
     let mut out = Pieces::new(alloc);
     match resolved(alloc, table, pieces) {

@@ -12,16 +12,22 @@ fn word(alloc: Global, len: u32) -> Result<Vec<u8>, AllocError> {
     Ok(word)
 }
 
-// So many calls of F, one in the other, behind a text.
-fn calls(alloc: Global, before: &[u8], levels: u32, behind: &[u8]) -> Result<Vec<u8>, AllocError> {
-    let mut text = Vec::from_slice(alloc, before)?;
+// Adds so many calls of F, one in the other, around a word.
+fn nest(text: &mut Vec<u8>, levels: u32, word: &[u8]) -> Result<(), AllocError> {
     for _ in 0..levels {
         text.extend_from_slice(b"F(")?;
     }
-    text.push(b'1')?;
+    text.extend_from_slice(word)?;
     for _ in 0..levels {
         text.push(b')')?;
     }
+    Ok(())
+}
+
+// So many calls of F, one in the other, behind a text.
+fn calls(alloc: Global, before: &[u8], levels: u32, behind: &[u8]) -> Result<Vec<u8>, AllocError> {
+    let mut text = Vec::from_slice(alloc, before)?;
+    nest(&mut text, levels, b"1")?;
     text.extend_from_slice(behind)?;
     Ok(text)
 }
@@ -179,4 +185,22 @@ fn wants_memory_for_long_lists(rt: HostRuntime) -> Result<(), Fail> {
     compare_one(&rt, b"out of memory", &text)?;
     let few = calls(rt.alloc(), b"#define F(x) x x\n#define D(x)\nD(", 10, b")")?;
     compare_one(&rt, b"\n\n", &few)
+}
+
+// A call that has two arguments, each a word of 4,096 bytes doubled so often.
+fn with_lists(rt: &(impl AllocGlobal + Abort), levels: u32, wanted: &str) -> Result<(), Fail> {
+    let long = word(rt.alloc(), 4096)?;
+    let mut text = Vec::from_slice(rt.alloc(), b"#define F(x) x x\n#define D(x,y)\nD(")?;
+    nest(&mut text, levels, &long)?;
+    text.push(b',')?;
+    nest(&mut text, levels, &long)?;
+    text.push(b')')?;
+    compare_one(rt, wanted.as_bytes(), &text)
+}
+
+// Lists that a call holds at once have 64 MiB together.
+#[test]
+fn wants_memory_for_many_lists(rt: HostRuntime) -> Result<(), Fail> {
+    with_lists(&rt, 12, "\n\n")?;
+    with_lists(&rt, 13, "out of memory")
 }
