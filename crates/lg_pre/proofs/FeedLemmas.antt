@@ -268,7 +268,7 @@ not_feed p b lacks passes = not_feed_by p b (b == 10) refl lacks passes
 feeds_none : (b : ℕ) (rest : List ℕ) → (b == 10) ≡ false → feeds_of rest ≡ 0 → feeds_of (b ∷ rest) ≡ 0
 feeds_none b rest e h = let g = feeds_cons b rest in let z : one_if b ≡ 0 = rw e refl in omega (arith, g, z, h)
 
-one_more : (n : ℕ) → 1 + n ≡ suc n
+pub one_more : (n : ℕ) → 1 + n ≡ suc n
 one_more n = omega arith
 
 quoted_by : (mark : ℕ) (b : ℕ) (rest : List ℕ) (next : Bool) (t u : Bool) → (b == 10) ≡ t → feeds_of (take (quoted_len mark next rest) rest) ≡ 0 → feeds_of (take (if t then 0 else (if u then 1 else 1 + quoted_len mark next rest)) (b ∷ rest)) ≡ 0

@@ -403,7 +403,7 @@ some_by : (b : Bool) (n : ℕ) → 0 < (if b then 1 else 1 + n)
 some_by true n = omega arith
 some_by false n = omega arith
 
-line_some : (goes_on slash : Bool) (pieces : List Piece) → 0 < length pieces → 0 < line_len goes_on slash pieces
+pub line_some : (goes_on slash : Bool) (pieces : List Piece) → 0 < length pieces → 0 < line_len goes_on slash pieces
 unfolding line_len
 line_some goes_on slash [] h = absurd (omega (arith, h))
 line_some goes_on slash (p ∷ rest) h = some_by _ (line_len goes_on (ends_with_slash p) rest)

@@ -1,5 +1,5 @@
 -- A text without directives and without names of macros is its own expansion.
-use Rattle.std.proofs.Common.{◌≡◌, ◌≢◌, ℕ, zero, suc, ◌+◌, ◌-◌, ◌<◌, ◌≤◌, nat_le, ◌&&◌, Bool, true, false, if◌then◌else◌, List, [], ◌∷◌, ◌++◌, length, take, drop, refl, sym, ap, ◌∙◌, arith, append_assoc, append-nil, length-drop, None, Ok, Option, codes}
+use Rattle.std.proofs.Common.{◌≡◌, ◌≢◌, ℕ, zero, suc, ◌+◌, ◌-◌, ◌<◌, ◌≤◌, nat_le, Bool, true, false, if◌then◌else◌, List, [], ◌∷◌, ◌++◌, length, take, drop, refl, sym, ap, ◌∙◌, arith, append_assoc, append-nil, length-drop, None, Ok, Option, codes}
 use Rattle.std.proofs.lemmas.Bool.{false_from_ne_true}
 use Rattle.std.proofs.lemmas.Bool.Decides.{nat_tests}
 use Rattle.std.proofs.lemmas.List.{drop_all, drop-drop, take-append-drop}
@@ -14,6 +14,8 @@ use Rattle.lg_pre.specs.Pieces.{Piece, is_feed}
 use Rattle.lg_pre.specs.PlainTexts.{pieces_of, HasNoDirective, HasNoName, PlainTextsStay}
 use Rattle.lg_pre.specs.Text.{mark_in, line_len, bytes_of, ends_with_slash}
 use Rattle.lg_pre.specs.declared.expander.Expander.{Expander}
+use Rattle.lg_pre.proofs.FeedLemmas.{one_more}
+use Rattle.lg_pre.proofs.LineLaws.{line_some}
 use Rattle.lg_pre.proofs.PlainLemmas.{pieces_are_text, plain_given}
 
 -- ---- the one name at the start
@@ -39,9 +41,6 @@ unfolding mark_in
 no_mark [] h = refl
 no_mark (p ∷ rest) h = h.0 refl
 
-one_more : (n : ℕ) → 1 + n ≡ suc n
-one_more n = omega arith
-
 behind_by : (slash : Bool) (p : Piece) (rest : List Piece) (b : Bool) → is_feed p.kind ≡ b → HasNoDirective b rest → ((s : Bool) → HasNoDirective false rest → HasNoDirective true (drop (line_len false s rest) rest)) → HasNoDirective true (drop (line_len false slash (p ∷ rest)) (p ∷ rest))
 unfolding line_len
 behind_by slash p rest true e h next = rw e h
@@ -52,15 +51,6 @@ behind_line : (begins slash : Bool) (pieces : List Piece) → HasNoDirective beg
 unfolding line_len
 behind_line begins slash [] h = tt
 behind_line begins slash (p ∷ rest) h = behind_by slash p rest (is_feed p.kind) refl h.1 (λ s none. behind_line false s rest none)
-
-some_by : (b : Bool) (n : ℕ) → 0 < (if b then 1 else 1 + n)
-some_by true n = omega arith
-some_by false n = omega arith
-
-line_some : (slash : Bool) (pieces : List Piece) → 0 < length pieces → 0 < line_len false slash pieces
-unfolding line_len
-line_some slash [] h = absurd (omega (arith, h))
-line_some slash (p ∷ rest) h = some_by (is_feed p.kind && true) (line_len false (ends_with_slash p) rest)
 
 -- a text with lines that wait
 abbrev waiting : List Piece → Expander
@@ -83,7 +73,7 @@ lines_by k text lines at next all none plain fits true e =
 lines_by k text lines at next all none plain fits false e =
     let inside : at < length text = grind (arith, nat_tests) in
     let n : ℕ = line_len false false (drop at text) in
-    let some : 0 < n = line_some false (drop at text) (rw length-drop (omega arith)) in
+    let some : 0 < n = line_some false false (drop at text) (rw length-drop (omega arith)) in
     let less : at + n - at ≡ n = omega arith in
     let behind : drop (at + n) text ≡ drop n (drop at text) = sym (drop-drop n at text) in
     let joined : (lines ++ take (at + n - at) (drop at text)) ++ drop (at + n) text ≡ text =

@@ -1,9 +1,9 @@
 -- The lines of an expansion.
 use Rattle.std.specs.Prelude.{◌≡◌, ℕ, zero, suc, ◌+◌, nat_le, true, false, List, [], ◌∷◌, ◌++◌, length, drop, Some, None, IfSome, Ok, IfOk}
 use Rattle.lg_pre.specs.Conditions.{skipping}
-use Rattle.lg_pre.specs.Expanded.{start, one_line, expanded}
+use Rattle.lg_pre.specs.Expanded.{start, one_line, lines_in, expanded}
 use Rattle.lg_pre.specs.Expansion.{Step, named, step, expand_in}
-use Rattle.lg_pre.specs.Given.{given_all}
+use Rattle.lg_pre.specs.Given.{given_all, flushed}
 use Rattle.lg_pre.specs.Pieces.{Piece}
 use Rattle.lg_pre.specs.PlainTexts.{pieces_of}
 use Rattle.lg_pre.specs.Text.{feeds_of, bytes_of, mark_in}
@@ -14,6 +14,15 @@ use Rattle.lg_pre.specs.declared.pieces.PieceKind.TheVariants.{Feed}
 -- an expansion has as many line feeds as the text
 abbrev pub LineFeedsAreKept : Type 0
 LineFeedsAreKept = (text : List ℕ) → IfOk (expanded text) (λ given. feeds_of given ≡ feeds_of text)
+
+-- bytes that begin with others
+abbrev pub BeginsWith : List ℕ → List ℕ → Type 0
+BeginsWith whole given = (more : List ℕ) × (whole ≡ given ++ more)
+
+-- what is given stays: the lines between two directives, and all of a text, give further bytes behind it
+abbrev pub GivenBytesStay : Type 0
+GivenBytesStay = ((table : List Macro) (k : ℕ) (pieces : List Piece) (given : List ℕ) (sum : ℕ) → IfOk (flushed table k pieces given sum) (λ next. BeginsWith next.0 given))
+    × ((k : ℕ) (text : List Piece) (s : Expander) (at : ℕ) → IfOk (lines_in k text s at) (λ whole. BeginsWith whole s.given))
 
 -- ---- the pieces of a text
 

@@ -1,6 +1,6 @@
 // What holds of every expansion. The functions do nothing: their contracts are the laws.
 
-ghost use Rattle.lg_pre.specs.Lines.{LineFeedsAreKept, PiecesAreTheText, TokensKeepTheirLines};
+ghost use Rattle.lg_pre.specs.Lines.{GivenBytesStay, LineFeedsAreKept, PiecesAreTheText, TokensKeepTheirLines};
 ghost use Rattle.lg_pre.specs.PlainTexts.{PlainTextsStay};
 
 /// A text without directives and without names of macros is its own expansion, byte for byte.
@@ -11,6 +11,11 @@ pub fn plain_texts_stay()
 /// The pieces of a text joined are the text, and each has the line on which it begins.
 pub fn pieces_are_the_text()
     ensures { PiecesAreTheText }
+{}
+
+/// What an expansion has given stays, and more comes behind it.
+pub fn given_bytes_stay()
+    ensures { GivenBytesStay }
 {}
 
 /// An expansion has as many line feeds as the text.
