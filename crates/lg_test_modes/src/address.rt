@@ -4,7 +4,6 @@ use crate::call::words_of;
 use lg_io::memory_sink::MemorySink;
 use lg_io::standard::StdTexts;
 use lg_run::top::lightning;
-use std::alloc::Global;
 use std::io;
 use std::io::Input;
 use std::rt::Files;
@@ -20,36 +19,46 @@ fn call(rt: &(impl Files + Input + AllocGlobal), words: &Vec<String>, out: &mut 
     }
 }
 
-// Whether one of the lines of a listing is that of the label `there` at an address, which has a line feed behind it.
-fn has_label(alloc: Global, listing: &[u8], address: &[u8]) -> io::Result<bool> {
-    let mut line = Vec::from_slice(alloc, address)?;
-    let _ = line.pop();
-    line.extend_from_slice(b" there:")?;
-    Ok(
-        listing
-            .split(|byte| *byte == b'\n')
-            .any(|other| other == line.as_slice()),
-    )
+// Whether a line is that of the label `there` at an address.
+fn is_line_at(line: &[u8], address: &[u8]) -> bool {
+    line.starts_with(address)
+        && line.ends_with(b" there:")
+        && line.len() == address.len().saturating_add(7)
+}
+
+// Whether a listing has a line for the label `there` at the address in the output of a run, which has a line feed behind it.
+fn has_label(listing: &[u8], output: &[u8]) -> bool {
+    let address = match output {
+        [address @ .., b'\n'] => address,
+        _ => output,
+    };
+    for line in listing.split(|byte| *byte == b'\n') {
+        if is_line_at(line, address) {
+            return true;
+        }
+    }
+    false
+}
+
+// Whether the address that the first call writes is that of `there` in the listing that the second writes.
+fn is_same(rt: &(impl Files + Input + AllocGlobal), run: &Vec<String>, list: &Vec<String>) -> bool {
+    let Ok(mut output) = MemorySink::new(rt.alloc(), ROOM, &[]) else {
+        return false;
+    };
+    let Ok(mut listing) = MemorySink::new(rt.alloc(), ROOM, &[]) else {
+        return false;
+    };
+    call(rt, run, &mut output);
+    call(rt, list, &mut listing);
+    has_label(listing.bytes(), output.bytes())
 }
 
 /// Whether `label-address.tst` writes the address that its label `there` has in the listing for the same target.
 pub fn is_listed(rt: &(impl Files + Input + AllocGlobal), target: &str) -> io::Result<bool> {
     let alloc = rt.alloc();
-    let run = words_of(
-        alloc,
-        format!(in alloc; "--target {target} label-address.tst")?.as_str(),
-    )?;
-    let list = words_of(
-        alloc,
-        format!(in alloc; "--mode list --target {target} label-address.tst")?.as_str(),
-    )?;
-    let (Ok(mut address), Ok(mut listing)) = (
-        MemorySink::new(alloc, ROOM, &[]),
-        MemorySink::new(alloc, ROOM, &[]),
-    ) else {
-        return Ok(false);
-    };
-    call(rt, &run, &mut address);
-    call(rt, &list, &mut listing);
-    has_label(alloc, listing.bytes(), address.bytes())
+    let line = format!(in alloc; "--target {target} label-address.tst")?;
+    let run = words_of(alloc, line.as_str())?;
+    let line = format!(in alloc; "--mode list --target {target} label-address.tst")?;
+    let list = words_of(alloc, line.as_str())?;
+    Ok(is_same(rt, &run, &list))
 }
