@@ -155,32 +155,44 @@ fn far_text(alloc: Global) -> Result<Vec<u8>, AllocError> {
     Ok(text)
 }
 
-#[test]
-fn far_branches(rt: HostRuntime) -> Result<(), Fail> {
+// A text whose branches and calls lead far runs on a target with room for its code, and has no code without.
+fn runs_far(rt: &(impl AllocGlobal + Abort), target: &str) -> Result<(), Fail> {
     let text = far_text(rt.alloc())?;
+    let words = [
+        "lightning",
+        "--target",
+        target,
+        "--code",
+        "67108864",
+        "t.tst",
+    ];
+    let row = Row {
+        words: &words,
+        ..plain(&text, b"0 20000000005\n", b"", 0)
+    };
+    check(rt, &row)?;
     let full = b"lightning: t.tst:0: refused 18 CodeFull\n";
-    for target in ["x86_64", "aarch64", "riscv64"] {
-        let words = [
-            "lightning",
-            "--target",
-            target,
-            "--code",
-            "67108864",
-            "t.tst",
-        ];
-        let row = Row {
-            words: &words,
-            ..plain(&text, b"0 20000000005\n", b"", 0)
-        };
-        check(&rt, &row)?;
-        let words = ["lightning", "--target", target, "t.tst"];
-        let row = Row {
-            words: &words,
-            ..plain(&text, b"", full, 121)
-        };
-        check(&rt, &row)?;
-    }
-    Ok(())
+    let words = ["lightning", "--target", target, "t.tst"];
+    let row = Row {
+        words: &words,
+        ..plain(&text, b"", full, 121)
+    };
+    check(rt, &row)
+}
+
+#[test]
+fn far_branches_on_x86_64(rt: HostRuntime) -> Result<(), Fail> {
+    runs_far(&rt, "x86_64")
+}
+
+#[test]
+fn far_branches_on_aarch64(rt: HostRuntime) -> Result<(), Fail> {
+    runs_far(&rt, "aarch64")
+}
+
+#[test]
+fn far_branches_on_riscv64(rt: HostRuntime) -> Result<(), Fail> {
+    runs_far(&rt, "riscv64")
 }
 
 // One argument word of 1,048,576 letters; the text is not read.
@@ -198,30 +210,55 @@ fn arguments_too_long(rt: HostRuntime) -> Result<(), Fail> {
     check(&rt, &row)
 }
 
-#[test]
-fn refuses_the_largest_texts(rt: HostRuntime) -> Result<(), Fail> {
-    let mut nodes = Vec::from_slice(rt.alloc(), b".code prolog")?;
+// A text of 1,048,575 nodes, which are one function that is open.
+fn many_nodes(alloc: Global) -> Result<Vec<u8>, AllocError> {
+    let mut text = Vec::from_slice(alloc, b".code prolog")?;
     for _ in 0..1_048_574 {
-        nodes.extend_from_slice(b" ret")?;
+        text.extend_from_slice(b" ret")?;
     }
-    let mut most = Vec::from_slice(rt.alloc(), &nodes)?;
-    most.extend_from_slice(b" epilog")?;
+    Ok(text)
+}
+
+// The text of many nodes with these bytes behind it is refused so.
+fn refuses_behind(
+    rt: &(impl AllocGlobal + Abort),
+    last: &[u8],
+    refused: &[u8],
+) -> Result<(), Fail> {
+    let mut text = many_nodes(rt.alloc())?;
+    text.extend_from_slice(last)?;
+    check(rt, &plain(&text, b"", refused, 121))
+}
+
+#[test]
+fn has_no_room_for_the_most_nodes(rt: HostRuntime) -> Result<(), Fail> {
     let full = b"lightning: t.tst:0: refused 18 CodeFull\n";
-    check(&rt, &plain(&most, b"", full, 121))?;
-    let too_many = b"lightning: t.tst:2: refused 17 TooManyNodes\n".as_slice();
-    let unknown = b"lightning: t.tst:2: refused 2 UnknownName\n".as_slice();
-    let float = b"lightning: t.tst:2: refused 3 FloatRefused\n".as_slice();
-    for (last, refused) in [
-        (b" ret\nret".as_slice(), too_many),
-        (b" ret\nmovi".as_slice(), too_many),
-        (b" ret\n.align 3".as_slice(), too_many),
-        (b" ret\nnop".as_slice(), unknown),
-        (b" ret\nx_f".as_slice(), float),
+    refuses_behind(&rt, b" epilog", full)
+}
+
+#[test]
+fn refuses_one_node_more(rt: HostRuntime) -> Result<(), Fail> {
+    let too_many = b"lightning: t.tst:2: refused 17 TooManyNodes\n";
+    for last in [
+        b" ret\nret".as_slice(),
+        b" ret\nmovi".as_slice(),
+        b" ret\n.align 3".as_slice(),
     ] {
-        let mut text = Vec::from_slice(rt.alloc(), &nodes)?;
-        text.extend_from_slice(last)?;
-        check(&rt, &plain(&text, b"", refused, 121))?;
+        refuses_behind(&rt, last, too_many)?;
     }
+    Ok(())
+}
+
+#[test]
+fn refuses_other_names_behind_the_most_nodes(rt: HostRuntime) -> Result<(), Fail> {
+    let unknown = b"lightning: t.tst:2: refused 2 UnknownName\n";
+    refuses_behind(&rt, b" ret\nnop", unknown)?;
+    let float = b"lightning: t.tst:2: refused 3 FloatRefused\n";
+    refuses_behind(&rt, b" ret\nx_f", float)
+}
+
+#[test]
+fn refuses_the_longest_text(rt: HostRuntime) -> Result<(), Fail> {
     let mut text = vec![in rt.alloc(); b' '; 16_777_216]?;
     let no_code = b"lightning: t.tst:1: refused 20 NoCode\n";
     check(&rt, &plain(&text, b"", no_code, 121))?;
