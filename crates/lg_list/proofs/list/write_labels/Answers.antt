@@ -56,7 +56,7 @@ returns-in-Err g c =
     let at = code_base + slice_index c.args.nodes.places.now.items c.args.index in
     let here : NextAt l.places c.args.index c.in-Some.label.0 c.in-Some.label.0 = subst (IsFound l.places c.args.index) c.in-Some.is c.loop-next.invariant.found in
     let step : labels_at c.args.index (drop c.in-Some.label.0 l.words) (drop c.in-Some.label.0 l.places) ≡ Label c.word.result.now ∷ labels_at c.args.index (drop (c.in-Some.label.0 + 1) l.words) (drop (c.in-Some.label.0 + 1) l.places) =
-        labels-here c.args.index l.words l.places c.word.result.now c.in-Some.label.0 here c.word.ensures.text in
+    labels-here c.args.index l.words l.places c.word.result.now c.in-Some.label.0 here c.word.ensures.text in
     let split = ap (λ o. rendered at (left c.args.index l.words l.places o)) c.in-Some.is ∙ ap (rendered at) step ∙ rendered-label at _ _ in
     let e = NextAt-address c.args.index c.in-Some.label.0 c.in-Some.label.0 l.places c.args.nodes.places.now.items c.args.nodes.labels.now c.requires.addressed here in
     let same = c.get-address.ensures ∙ address-is c.in-Some.label.0 _ c.args.nodes.labels.now e in
