@@ -6,7 +6,6 @@ use lg_base::code::CodeBytes;
 use lg_base::image::{ArgImage, DataImage};
 use lg_base::refusal::OutOfMemory;
 use lg_base::target::Target;
-use lg_cpu::answer::CpuStep;
 use lg_cpu::cpu::Cpu;
 use lg_io::memory_sink::MemorySink;
 use std::alloc::Global;
@@ -42,16 +41,6 @@ fn code_of(target: Target) -> &'static [u8]
     }
 }
 
-// Takes so many steps, or fewer where the run is over.
-#[inline(never)]
-fn step_through(cpu: &mut Cpu, out: &mut MemorySink, steps: u32) {
-    for _ in 0..steps {
-        if cpu.steps() == u64::MAX || cpu.step(out) != CpuStep::Went {
-            break;
-        }
-    }
-}
-
 /// Runs so many instructions of a target's loop, and tells how many were run.
 pub fn run(alloc: Global, target: Target, instructions: u32) -> Result<u64, OutOfMemory> {
     let code = CodeBytes::of(alloc, code_of(target))?;
@@ -59,6 +48,6 @@ pub fn run(alloc: Global, target: Target, instructions: u32) -> Result<u64, OutO
     let args = ArgImage::of(alloc, &ARGS)?;
     let mut cpu = Cpu::new(alloc, target, &code, &image, &args, 0)?;
     let mut out = MemorySink::new(alloc, 0, &[])?;
-    step_through(&mut cpu, &mut out, instructions);
+    let _ = cpu.run(u64::from(instructions), &mut out);
     Ok(cpu.steps())
 }

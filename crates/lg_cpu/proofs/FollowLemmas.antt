@@ -12,11 +12,11 @@ use Rattle.lg_cpu.specs.Targets.{effect_of, machine_of, run_from, run_at}
 use Rattle.lg_cpu.specs.Machines.{Shown, StepShows, SaysAfter, after_step, run_of, steps_made, IsRunOf}
 use Rattle.lg_cpu.specs.Laws.{StartsAreRuns, StepsFollowRuns, GoesOnAsRun}
 
-iter_none : {S : Type 0} (step : S → S) (s : S) → iter step 0 s ≡ s
+pub iter_none : {S : Type 0} (step : S → S) (s : S) → iter step 0 s ≡ s
 unfolding iter
 iter_none step s = refl
 
-iter_more : {S : Type 0} (step : S → S) (n : ℕ) (s : S) → iter step (n + 1) s ≡ step (iter step n s)
+pub iter_more : {S : Type 0} (step : S → S) (n : ℕ) (s : S) → iter step (n + 1) s ≡ step (iter step n s)
 unfolding iter
 iter_more step n s = ap (λ k. iter step k s) (add-one n)
 
@@ -29,7 +29,7 @@ made Goes n = refl
 made (EndedWith status) n = refl
 made (Faulted kind) n = refl
 
-back : (p : Progress) → progress_of (answer_of p) ≡ p
+pub back : (p : Progress) → progress_of (answer_of p) ≡ p
 back Goes = refl
 back (EndedWith status) = refl
 back (Faulted kind) = refl

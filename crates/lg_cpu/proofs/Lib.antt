@@ -10,6 +10,7 @@ mod OperatorLemmas
 pub mod RunLemmas
 mod RvFaultLemmas
 mod SaysLemmas
+pub mod SeriesLemmas
 pub mod SoundLemmas
 mod StartLemmas
 pub mod StepLemmas

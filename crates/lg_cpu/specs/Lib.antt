@@ -7,6 +7,7 @@ pub mod Loads
 pub mod Machines
 pub mod RvOperators
 pub mod RvStep
+pub mod Series
 pub mod Starts
 pub mod States
 pub mod Steps

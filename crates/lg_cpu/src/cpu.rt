@@ -10,6 +10,7 @@ ghost use Rattle.lg_cpu.specs.Targets.{reads, register_count, has_flags};
 use crate::answer::CpuStep;
 use crate::board::Board;
 use crate::processor::Processor;
+use crate::series::Advanced;
 use lg_base::args::argument_count;
 use lg_base::code::CodeBytes;
 use lg_base::flags::Flags;
@@ -41,6 +42,7 @@ fn is_counted(answer: CpuStep) -> bool
 
 impl Cpu {
     ghost use Rattle.lg_cpu.specs.Machines.{shown, shown_at_start, CpuSays, StepShows, inner, effect_in, after_set, after_set_flags, after_jump, after_store};
+    ghost use Rattle.lg_cpu.specs.Series.{AdvancesAfter};
 
     /// A processor of a target before its first step: at the first address of the code, with the data part and the argument part in
     /// memory and zeros elsewhere. It finds the number of the argument part's strings and the part's address in the registers
@@ -118,6 +120,25 @@ impl Cpu {
         if is_counted(answer) {
             self.steps += 1;
         }
+        answer
+    }
+
+    /// Takes steps until one comes to another answer than `Went`, and at most so many; answers what the last one came to, and `Went` where
+    /// there was none. It is as so many calls of `step`, in less time: after an answer other than `Went` the same is answered again, and
+    /// nothing changes. Fewer than `u64::MAX` steps are then taken in all.
+    #[inline(never)]
+    pub fn run<O: Sink>(&mut self, most: u64, out: &mut O) -> CpuStep
+        requires { (shown self.old).steps + most < 2 ^ 64 }
+        ensures says { AdvancesAfter (shown self.old).answer (shown self.old) (shown self.new) most
+            (O.taken out.old) (O.taken out.new) (O.faults out.old) (O.faults out.new) result }
+        ensures later { O.faults out.old ≤ O.faults out.new }
+    {
+        if self.answer != CpuStep::Went {
+            return self.answer;
+        }
+        let Advanced { answer, steps } = self.processor.run(self.steps, most, out);
+        self.answer = answer;
+        self.steps = steps;
         answer
     }
 

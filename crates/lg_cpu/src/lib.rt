@@ -9,4 +9,5 @@ pub mod cpu;
 pub mod laws;
 mod processor;
 mod riscv64;
+mod series;
 mod x86_64;

@@ -1,11 +1,12 @@
 // The processor of a target.
 
-ghost use Rattle.std.specs.Prelude.{◌≡◌, ◌<◌, ◌≤◌, ◌⊎◌, if◌then◌else◌, nat_lt};
+ghost use Rattle.std.specs.Prelude.{◌≡◌, ◌<◌, ◌≤◌, ◌⊎◌, ◌+◌, ◌^◌, if◌then◌else◌, nat_lt};
 
 use crate::aarch64::Aarch64;
 use crate::answer::CpuStep;
 use crate::board::Board;
 use crate::riscv64::Riscv64;
+use crate::series::{Advanced, advance};
 use crate::x86_64::X86_64;
 use lg_base::code::CodeBytes;
 use lg_base::flags::Flags;
@@ -32,7 +33,8 @@ impl Processor {
     ghost use Rattle.lg_cpu.specs.Answers.{answer_of};
     ghost use Rattle.lg_cpu.specs.Steps.{arrived};
     ghost use Rattle.lg_cpu.specs.Targets.{begins, reads, register_count, has_flags};
-    ghost use Rattle.lg_cpu.specs.Machines.{inner, inner_of, effect_in, with_state, with_register, with_flags, with_bytes, StepSays};
+    ghost use Rattle.lg_cpu.specs.Machines.{inner, inner_of, effect_in, with_state, with_register, with_flags, with_bytes, StepSays, shown_of};
+    ghost use Rattle.lg_cpu.specs.Series.{Advances, going_on};
 
     /// The processor of a target before its first step, with the number of arguments.
     pub fn new(target: Target, board: Board, count: u64) -> Processor
@@ -56,6 +58,20 @@ impl Processor {
             Processor::X86_64(p) => p.step(out),
             Processor::Aarch64(p) => p.step(out),
             Processor::Riscv64(p) => p.step(out),
+        }
+    }
+
+    /// Takes steps of a run that has taken so many, until one comes to another answer than `Went`, and at most so many more.
+    pub fn run<O: Sink>(&mut self, steps: u64, most: u64, out: &mut O) -> Advanced
+        requires { steps + most < 2 ^ 64 }
+        ensures says { Advances (going_on (inner self.old) steps) (shown_of (inner self.new) result.answer result.steps) most
+            (O.taken out.old) (O.taken out.new) (O.faults out.old) (O.faults out.new) result.answer }
+        ensures later { O.faults out.old ≤ O.faults out.new }
+    {
+        match self {
+            Processor::X86_64(p) => advance(p, steps, most, out),
+            Processor::Aarch64(p) => advance(p, steps, most, out),
+            Processor::Riscv64(p) => advance(p, steps, most, out),
         }
     }
 

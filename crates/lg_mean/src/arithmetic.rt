@@ -71,7 +71,8 @@ impl Machine {
     pub(crate) fn binary_node(&mut self, op: BinaryOp, node: &Node, labels: &[u64]) -> bool
         requires room { self.old.at < 2 ^ 32 - 1 }
         requires known { AreKnown (length labels.now) node.now }
-        ensures { Does (if is_carried op then carried_step labels.now node.now op (state_of self.old) else binary_step labels.now node.now (binary_value op) (state_of self.old)) (state_of self.old) result (state_of self.new) }
+        ensures { Does (if is_carried op then carried_step labels.now node.now op (state_of self.old) else binary_step labels.now node.now
+            (binary_value op) (state_of self.old)) (state_of self.old) result (state_of self.new) }
     {
         if operators::is_carried(op) {
             self.carried(op, node, labels)

@@ -126,7 +126,8 @@ impl Machine {
         requires begun { 272 + self.old.top.locals ≤ self.old.top.size }
         requires fits { 0x3FF00010 ≤ callee.sp }
         requires empty { (callee.size ≡ 0) × (callee.locals ≡ 0) }
-        ensures { state_of self.new ≡ record (state_of self.old) { frame = frame_in callee; callers = (state_of self.old).frame ∷ (state_of self.old).callers } }
+        ensures { state_of self.new ≡ record (state_of self.old) { frame = frame_in callee; callers = (state_of self.old).frame ∷
+            (state_of self.old).callers } }
     {
         let caller = self.top;
         self.below.push_reserved(caller);

@@ -19,7 +19,8 @@ impl Machine {
     // Calls a host function on the memory.
     fn call_out<O: Sink>(&mut self, name: HostName, count: u32, out: &mut O) -> HostEnd
         requires { count ≤ 16 }
-        ensures says { HostSays (host_of name (take count self.old.staged) self.old.variadic (memory (byte_at self.old.memory) (is_open (state_of self.old)) self.old.heap))
+        ensures says { HostSays (host_of name (take count self.old.staged) self.old.variadic (memory (byte_at self.old.memory)
+            (is_open (state_of self.old)) self.old.heap))
             (memory (byte_at self.old.memory) (is_open (state_of self.old)) self.old.heap)
             (memory (byte_at self.new.memory) (is_open (state_of self.new)) self.new.heap)
             (outcome (O.taken out.old) (O.taken out.new) (O.faults out.old) (O.faults out.new)) result }
@@ -59,7 +60,8 @@ impl Machine {
     ) -> MeanStep
         requires room { self.old.at < 2 ^ 32 - 1 }
         requires few { count ≤ 16 }
-        ensures says { Steps (call_host (state_of self.old) (take count self.old.staged) name) line (state_of self.old) result (state_of self.new) (O.taken out.old) (O.taken out.new) (O.faults out.old) (O.faults out.new) }
+        ensures says { Steps (call_host (state_of self.old) (take count self.old.staged) name) line (state_of self.old) result (state_of self.new)
+            (O.taken out.old) (O.taken out.new) (O.faults out.old) (O.faults out.new) }
         ensures later { O.faults out.old ≤ O.faults out.new }
         ensures kept { KeepsCount result (O.faults out.old) (O.faults out.new) }
     {

@@ -51,7 +51,8 @@ fn note_jump(
     address: u64,
     node: u32,
 ) -> Result<(), OutOfMemory>
-    ensures { OnOk result ((key : ℕ × ℕ) → get pair_eq jumps.new key ≡ (if is_jump_key entry address key then later (Some node) (get pair_eq jumps.old key) else get pair_eq jumps.old key)) }
+    ensures { OnOk result ((key : ℕ × ℕ) → get pair_eq jumps.new key ≡ (if is_jump_key entry address key then later (Some node)
+        (get pair_eq jumps.old key) else get pair_eq jumps.old key)) }
 {
     if let Some(entry) = entry {
         let before = jumps.get(&(entry, address)).copied();
@@ -67,7 +68,8 @@ fn note_call(
     address: u64,
     node: u32,
 ) -> Result<(), OutOfMemory>
-    ensures { OnOk result ((key : ℕ) → get nat_eq calls.new key ≡ (if begins && nat_eq address key then later (Some node) (get nat_eq calls.old key) else get nat_eq calls.old key)) }
+    ensures { OnOk result ((key : ℕ) → get nat_eq calls.new key ≡ (if begins && nat_eq address key then later (Some node) (get nat_eq calls.old key)
+        else get nat_eq calls.old key)) }
 {
     if begins {
         let before = calls.get(&address).copied();

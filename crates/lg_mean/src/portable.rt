@@ -85,8 +85,11 @@ impl Portable {
         requires made { IsTableOf unit.now.nodes shape.now self.old.labels }
         requires fits { Fits unit.now.nodes shape.now (state_of self.old.machine) }
         requires count { self.old.steps < 2 ^ 64 - 1 }
-        ensures again { IfSome self.old.over (λ answer. (result ≡ answer) × (self.new ≡ self.old) × Appends (O.taken out.old) (O.taken out.new) [] × (O.faults out.new ≡ O.faults out.old)) }
-        ensures says { IfNone self.old.over (Steps (step unit.now.nodes shape.now self.old.labels.addresses (state_of self.old.machine)) (line_at unit.now.nodes (state_of self.old.machine)) (state_of self.old.machine) result (state_of self.new.machine) (O.taken out.old) (O.taken out.new) (O.faults out.old) (O.faults out.new)) }
+        ensures again { IfSome self.old.over (λ answer. (result ≡ answer) × (self.new ≡ self.old) × Appends (O.taken out.old) (O.taken out.new) []
+            × (O.faults out.new ≡ O.faults out.old)) }
+        ensures says { IfNone self.old.over (Steps (step unit.now.nodes shape.now self.old.labels.addresses (state_of self.old.machine))
+            (line_at unit.now.nodes (state_of self.old.machine)) (state_of self.old.machine) result (state_of self.new.machine) (O.taken out.old)
+            (O.taken out.new) (O.faults out.old) (O.faults out.new)) }
         ensures fits { Fits unit.now.nodes shape.now (state_of self.new.machine) }
         ensures over { IfNone self.old.over (self.new.over ≡ over_of result) }
         ensures steps { IfNone self.old.over (self.new.steps ≡ self.old.steps + counts result) }

@@ -42,7 +42,9 @@ impl Portable {
         requires fits { Fits unit.now.nodes shape.now (state_of self.old.machine) }
         requires running { self.old.over ≡ None }
         requires count { self.old.steps + most < 2 ^ 64 }
-        ensures says { ComesTo (mean_from unit.now.nodes shape.now self.old.labels.addresses (state_of self.old.machine)) result (self.new.steps - self.old.steps) most (state_of self.new.machine) (line_at unit.now.nodes (state_of self.new.machine)) (O.taken out.old) (O.taken out.new) (O.faults out.old) (O.faults out.new) }
+        ensures says { ComesTo (mean_from unit.now.nodes shape.now self.old.labels.addresses (state_of self.old.machine)) result
+            (self.new.steps - self.old.steps) most (state_of self.new.machine) (line_at unit.now.nodes (state_of self.new.machine))
+            (O.taken out.old) (O.taken out.new) (O.faults out.old) (O.faults out.new) }
         ensures rises { self.old.steps ≤ self.new.steps }
         ensures fits { Fits unit.now.nodes shape.now (state_of self.new.machine) }
         ensures over { self.new.over ≡ over_behind result }

@@ -89,7 +89,8 @@ impl Machine {
     fn call_at(&mut self, count: u32, target: u32, node: &Node, program: &Program) -> MeanStep
         requires room { self.old.at < 2 ^ 32 - 1 }
         requires begun { HasBegun (state_of self.old) }
-        ensures { Quiet (call_node (text_of program.now) (state_of self.old) (take count self.old.staged) target) node.now.line (state_of self.old) result (state_of self.new) }
+        ensures { Quiet (call_node (text_of program.now) (state_of self.old) (take count self.old.staged) target) node.now.line
+            (state_of self.old) result (state_of self.new) }
     {
         let went = self.call_node(count, target, program);
         answer(went, node.line)
@@ -107,7 +108,8 @@ impl Machine {
         requires few { count ≤ 16 }
         requires begun { HasBegun (state_of self.old) }
         requires known { AreKnown (length program.now.labels.addresses) node.now }
-        ensures says { Steps (call_operand (text_of program.now) (state_of self.old) (take count self.old.staged) (operand_at node.now 0)) node.now.line (state_of self.old) result (state_of self.new) (O.taken out.old) (O.taken out.new) (O.faults out.old) (O.faults out.new) }
+        ensures says { Steps (call_operand (text_of program.now) (state_of self.old) (take count self.old.staged) (operand_at node.now 0))
+            node.now.line (state_of self.old) result (state_of self.new) (O.taken out.old) (O.taken out.new) (O.faults out.old) (O.faults out.new) }
         ensures later { O.faults out.old ≤ O.faults out.new }
         ensures kept { KeepsCount result (O.faults out.old) (O.faults out.new) }
     {
@@ -124,7 +126,8 @@ impl Machine {
     fn call_address(&mut self, count: u32, word: u64, node: &Node, program: &Program) -> MeanStep
         requires room { self.old.at < 2 ^ 32 - 1 }
         requires begun { HasBegun (state_of self.old) }
-        ensures { Quiet (need (entry_target (text_of program.now) word) (call_node (text_of program.now) (state_of self.old) (take count self.old.staged))) node.now.line (state_of self.old) result (state_of self.new) }
+        ensures { Quiet (need (entry_target (text_of program.now) word) (call_node (text_of program.now) (state_of self.old)
+            (take count self.old.staged))) node.now.line (state_of self.old) result (state_of self.new) }
     {
         match program.entry_target(word) {
             Some(target) => self.call_at(count, target, node, program),
@@ -144,7 +147,8 @@ impl Machine {
         requires room { self.old.at < 2 ^ 32 - 1 }
         requires few { count ≤ 16 }
         requires begun { HasBegun (state_of self.old) }
-        ensures says { Steps (call_word (text_of program.now) (state_of self.old) (take count self.old.staged) word) node.now.line (state_of self.old) result (state_of self.new) (O.taken out.old) (O.taken out.new) (O.faults out.old) (O.faults out.new) }
+        ensures says { Steps (call_word (text_of program.now) (state_of self.old) (take count self.old.staged) word) node.now.line
+            (state_of self.old) result (state_of self.new) (O.taken out.old) (O.taken out.new) (O.faults out.old) (O.faults out.new) }
         ensures later { O.faults out.old ≤ O.faults out.new }
         ensures kept { KeepsCount result (O.faults out.old) (O.faults out.new) }
     {
@@ -167,7 +171,8 @@ impl Machine {
         requires few { count ≤ 16 }
         requires begun { HasBegun (state_of self.old) }
         requires known { AreKnown (length program.now.labels.addresses) node.now }
-        ensures says { Steps (call_step (text_of program.now) node.now last (take count self.old.staged) (state_of self.old)) node.now.line (state_of self.old) result (state_of self.new) (O.taken out.old) (O.taken out.new) (O.faults out.old) (O.faults out.new) }
+        ensures says { Steps (call_step (text_of program.now) node.now last (take count self.old.staged) (state_of self.old)) node.now.line
+            (state_of self.old) result (state_of self.new) (O.taken out.old) (O.taken out.new) (O.faults out.old) (O.faults out.new) }
         ensures later { O.faults out.old ≤ O.faults out.new }
         ensures kept { KeepsCount result (O.faults out.old) (O.faults out.new) }
     {
@@ -207,7 +212,8 @@ impl Machine {
     fn jump_node(&mut self, last: LastOperand, node: &Node, program: &Program) -> bool
         requires room { self.old.at < 2 ^ 32 - 1 }
         requires known { AreKnown (length program.now.labels.addresses) node.now }
-        ensures { Does (node_step (text_of program.now) node.now (op_of.Control control.Jmp last) (state_of self.old)) (state_of self.old) result (state_of self.new) }
+        ensures { Does (node_step (text_of program.now) node.now (op_of.Control control.Jmp last) (state_of self.old)) (state_of self.old) result
+            (state_of self.new) }
     {
         match last {
             LastOperand::Register => self.jump(node, program),
@@ -294,7 +300,8 @@ impl Machine {
         requires room { self.old.at < 2 ^ 32 - 1 }
         requires begun { HasBegun (state_of self.old) }
         requires known { AreKnown (length program.now.labels.addresses) node.now }
-        ensures says { Steps (call_step (text_of program.now) node.now last (state_of self.old).pushed (state_of self.old)) node.now.line (state_of self.old) result (state_of self.new) (O.taken out.old) (O.taken out.new) (O.faults out.old) (O.faults out.new) }
+        ensures says { Steps (call_step (text_of program.now) node.now last (state_of self.old).pushed (state_of self.old)) node.now.line
+            (state_of self.old) result (state_of self.new) (O.taken out.old) (O.taken out.new) (O.faults out.old) (O.faults out.new) }
         ensures later { O.faults out.old ≤ O.faults out.new }
         ensures kept { KeepsCount result (O.faults out.old) (O.faults out.new) }
     {
@@ -308,7 +315,8 @@ impl Machine {
         requires moves { stays node.now.op ≡ false }
         requires suits { Suits program.now.shape.functions node.now.op (state_of self.old) self.old.count }
         requires known { AreKnown (length program.now.labels.addresses) node.now }
-        ensures says { Steps (node_step (text_of program.now) node.now node.now.op (state_of self.old)) node.now.line (state_of self.old) result (state_of self.new) (O.taken out.old) (O.taken out.new) (O.faults out.old) (O.faults out.new) }
+        ensures says { Steps (node_step (text_of program.now) node.now node.now.op (state_of self.old)) node.now.line (state_of self.old) result
+            (state_of self.new) (O.taken out.old) (O.taken out.new) (O.faults out.old) (O.faults out.new) }
         ensures later { O.faults out.old ≤ O.faults out.new }
         ensures kept { KeepsCount result (O.faults out.old) (O.faults out.new) }
     {
@@ -332,7 +340,8 @@ impl Machine {
         requires room { self.old.at < 2 ^ 32 - 1 }
         requires suits { Suits program.now.shape.functions node.now.op (state_of self.old) self.old.count }
         requires known { AreKnown (length program.now.labels.addresses) node.now }
-        ensures says { Steps (node_step (text_of program.now) node.now node.now.op (state_of self.old)) node.now.line (state_of self.old) result (state_of self.new) (O.taken out.old) (O.taken out.new) (O.faults out.old) (O.faults out.new) }
+        ensures says { Steps (node_step (text_of program.now) node.now node.now.op (state_of self.old)) node.now.line (state_of self.old) result
+            (state_of self.new) (O.taken out.old) (O.taken out.new) (O.faults out.old) (O.faults out.new) }
         ensures later { O.faults out.old ≤ O.faults out.new }
         ensures kept { KeepsCount result (O.faults out.old) (O.faults out.new) }
     {

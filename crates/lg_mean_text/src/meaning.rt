@@ -43,7 +43,8 @@ fn run<O: Sink>(
 ) -> Result<MeaningEnd, Stop>
     requires image { length unit.now.image ≤ 16777216 }
     requires args { length args.now ≤ most_args }
-    ensures followed { IfOk result (λ end. IsFollowed unit.now args.now most (changed (O.taken out.old) (O.taken out.new) (O.faults out.old) (O.faults out.new)) end) }
+    ensures followed { IfOk result (λ end. IsFollowed unit.now args.now most (changed (O.taken out.old) (O.taken out.new) (O.faults out.old)
+        (O.faults out.new)) end) }
     ensures refused { (r : _) → result ≡ Err (Stop.Refused r) → IsRefused unit.now.nodes r × (O.taken out.new ≡ O.taken out.old) }
 {
     let shape = check(alloc, unit)?;
@@ -68,8 +69,10 @@ fn read_and_run<O: Sink>(
 ) -> Result<MeaningEnd, Stop>
     requires text { length text.now ≤ most_text }
     requires words { 0 < length words.now.items }
-    ensures followed { IfOk result (λ end. IsFollowedText text.now (texts_of words.now.items) most (changed (O.taken out.old) (O.taken out.new) (O.faults out.old) (O.faults out.new)) end) }
-    ensures refused { (r : _) → result ≡ Err (Stop.Refused r) → IsRefusedWith (texts_of words.now.items) (unit_of text.now) r × (O.taken out.new ≡ O.taken out.old) }
+    ensures followed { IfOk result (λ end. IsFollowedText text.now (texts_of words.now.items) most (changed (O.taken out.old) (O.taken out.new)
+        (O.faults out.old) (O.faults out.new)) end) }
+    ensures refused { (r : _) → result ≡ Err (Stop.Refused r) → IsRefusedWith (texts_of words.now.items) (unit_of text.now) r
+        × (O.taken out.new ≡ O.taken out.old) }
 {
     let args = args_image(alloc, words)?;
     let unit = parse(alloc, text)?;
@@ -88,7 +91,8 @@ pub fn meaning<O: Sink>(
     out: &mut O,
 ) -> Result<MeaningEnd, OutOfMemory>
     requires { 0 < length words.now.items }
-    ensures { IfOk result (λ end. MeaningSays text.now (texts_of words.now.items) most (changed (O.taken out.old) (O.taken out.new) (O.faults out.old) (O.faults out.new)) end) }
+    ensures { IfOk result (λ end. MeaningSays text.now (texts_of words.now.items) most (changed (O.taken out.old) (O.taken out.new)
+        (O.faults out.old) (O.faults out.new)) end) }
 {
     if text.len() > MOST_TEXT {
         return Ok(MeaningEnd::Refused(Refusal {

@@ -1,4 +1,6 @@
 pub mod AcceptedLaws
+pub mod BindingLemmas
+pub mod ChainLemmas
 pub mod FunctionLaws
 pub mod FunctionLemmas
 pub mod LimitLemmas

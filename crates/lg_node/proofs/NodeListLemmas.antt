@@ -1,27 +1,17 @@
 -- What is kept of a list of nodes and of its labels as they grow.
-use Rattle.std.proofs.Common.{◌≡◌, ℕ, ◌+◌, ◌≤◌, Bool, true, false, not, ◌||◌, cond, if◌then◌else◌, List, [], ◌∷◌, ◌++◌, Option, Some, None, refl, ap, ◌∙◌, nat_lt, length, length-append, map, position, arith}
+use Rattle.std.proofs.Common.{◌≡◌, ℕ, ◌+◌, Bool, true, false, not, ◌||◌, cond, if◌then◌else◌, List, [], ◌∷◌, ◌++◌, Option, Some, None, refl, ap, ◌∙◌, nat_lt, length, length-append, map, position}
 use Rattle.std.specs.List.{All, list_any, position_or_len}
 use Rattle.std.specs.Str.{bytes_eq}
-use Rattle.std.proofs.lemmas.List.Elements.{All-push, All-weaker}
-use Rattle.lg_node.specs.Nodes.{mentioned, MayStand}
+use Rattle.std.proofs.lemmas.List.Elements.{All-push}
+use Rattle.lg_node.specs.Nodes.{mentioned}
 use Rattle.lg_op.specs.declared.node.Node.{Node}
 use Rattle.lg_node.specs.declared.place.Place.{Place}
-use Rattle.lg_node.specs.declared.place.Place.TheVariants as place
 
 pub longer : {A : Type 0} → (xs ys : List A) (x : A) → ys ≡ xs ++ x ∷ [] → length ys ≡ length xs + 1
 longer xs ys x e = ap length e ∙ length-append xs (x ∷ [])
 
 pub all_longer : {A : Type 0} (P : A → Type 0) (xs ys : List A) (x : A) → ys ≡ xs ++ x ∷ [] → All P xs → P x → All P ys
 all_longer P xs ys x e all p = rw e (All-push P xs x all p)
-
--- a place within so many nodes is within more
-further : (m n : ℕ) → m ≤ n → (o : Option Place) → MayStand m o → MayStand n o
-further m n h None s = tt
-further m n h (Some (place.Node k)) s = omega (arith, h, s)
-further m n h (Some (place.Image k)) s = tt
-
-pub placed_further : (m n : ℕ) (places : List (Option Place)) → m ≤ n → All (MayStand m) places → All (MayStand n) places
-placed_further m n places h all = All-weaker (MayStand m) (MayStand n) (further m n h) places all
 
 module _ {K : Type 0} (test : K → Bool) where
   -- a place that is found is the first at which the test holds

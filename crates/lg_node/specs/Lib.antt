@@ -1,7 +1,9 @@
+pub mod Chains
 pub mod Checks
 pub mod Functions
 pub mod Labels
 pub mod NodeLists
+pub mod NextLabels
 pub mod Nodes
 pub mod Preparations
 pub mod ShapeLaws

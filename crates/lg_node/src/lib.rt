@@ -1,6 +1,8 @@
 //! The nodes of a text with its labels, and the text as a unit.
 #![tactic(auto)]
 
+mod bindings;
+mod chain;
 mod checks;
 mod function;
 mod label_addresses;

@@ -1,10 +1,13 @@
 // The nodes of a text and its labels.
 
-ghost use Rattle.std.specs.Prelude.{◌≡◌, ◌↔◌, ◌<◌, ◌-◌, ◌^◌, Bool, false, IsTrue, Some, None, [], length, slice_get, OnOk, OnErr, IfOk, IfSome};
+ghost use Rattle.std.specs.Prelude.{◌≡◌, ◌↔◌, ◌<◌, ◌≤◌, ◌+◌, ◌-◌, ◌^◌, ℕ, Bool, false, IsTrue, Some, None, [], length, slice_get, slice_index_or, OnOk, OnErr, IfOk, IfSome, IfNone};
 ghost use Rattle.std.specs.List.{All};
+ghost use Rattle.lg_node.specs.Labels.{is_at};
+ghost use Rattle.lg_node.specs.NextLabels.{NextAt, NoneAt};
 ghost use Rattle.lg_op.specs.Nodes.{InForm};
 ghost use Rattle.lg_node.specs.Nodes.{IsWithin, MayStand, with_node, mentioned, number_of, with_place, is_word};
 
+use crate::bindings::Bindings;
 use crate::place::Place;
 use indexmap::IndexSet;
 use lg_base::refusal::OutOfMemory;
@@ -18,7 +21,7 @@ pub struct NodeList {
     alloc: Global,
     nodes: Vec<Node>,
     words: IndexSet<Vec<u8>>,
-    places: Vec<Option<Place>>,
+    bindings: Bindings,
 }
 
 impl Model for NodeList {
@@ -42,7 +45,7 @@ impl NodeList {
             alloc,
             nodes: Vec::new(alloc),
             words: IndexSet::new(alloc),
-            places: Vec::new(alloc),
+            bindings: Bindings::new(alloc),
         }
     }
 
@@ -51,13 +54,13 @@ impl NodeList {
         ensures { IfOk result (λ l. l ≡ self.now) }
     {
         let nodes = Vec::from_slice(alloc, &self.nodes)?;
-        let places = Vec::from_slice(alloc, &self.places)?;
+        let bindings = self.bindings.copy(alloc)?;
         let words = self.words.clone()?;
         Ok(NodeList {
             alloc,
             nodes,
             words,
-            places,
+            bindings,
         })
     }
 
@@ -68,9 +71,13 @@ impl NodeList {
         ensures ok { OnOk result (self.new ≡ with_node self.old node) }
         ensures err { OnErr result (self.new ≡ self.old) }
     {
-        match self.nodes.push(node) {
+        self.nodes.push(node)?;
+        match self.bindings.add_node() {
             Ok(()) => return Ok(()),
-            Err(_) => return Err(OutOfMemory),
+            Err(OutOfMemory) => {
+                let _ = self.nodes.pop();
+                return Err(OutOfMemory);
+            }
         }
     }
 
@@ -110,11 +117,11 @@ impl NodeList {
             return Ok(Label(index as u32));
         }
         let key = Vec::from_slice(self.alloc, word)?;
-        self.places.push(None)?;
+        self.bindings.add_label()?;
         match self.words.insert_full(key) {
             Ok((index, _)) => return Ok(Label(index as u32)),
             Err(_) => {
-                let _ = self.places.pop();
+                self.bindings.drop_label();
                 return Err(OutOfMemory);
             }
         }
@@ -137,12 +144,7 @@ impl NodeList {
         ensures bound { IsTrue result → self.new ≡ with_place self.old label.0 place }
         ensures kept { result ≡ false → self.new ≡ self.old }
     {
-        let index = label.0 as usize;
-        if self.places[index].is_some() {
-            return false;
-        }
-        self.places[index] = Some(place);
-        true
+        self.bindings.bind(label, place)
     }
 
     /// The place at which a label, which is below `labels`, is bound, and None exactly where it is not bound. A place that is a node
@@ -152,7 +154,25 @@ impl NodeList {
         ensures place { Some result ≡ slice_get self.now.places label.0 }
         ensures within { IfSome result (λ p. IsWithin (length self.now.nodes) p) }
     {
-        self.places[label.0 as usize]
+        self.bindings.place(label)
+    }
+
+    /// The first label that is bound at the node of an index, or behind the last, in the order of first mention. The index is at most `len`.
+    pub fn first_at(&self, index: u32) -> Option<Label>
+        requires { index ≤ length self.now.nodes }
+        ensures found { IfSome result (λ l. NextAt self.now.places index 0 l.0) }
+        ensures none { IfNone result (NoneAt self.now.places index 0) }
+    {
+        self.bindings.first_at(index)
+    }
+
+    /// The label that comes next at the node at which a label, which is below `labels`, is bound.
+    pub fn next_at(&self, label: Label) -> Option<Label>
+        requires { label.0 < length self.now.words }
+        ensures found { (i : ℕ) → IsTrue (is_at i (slice_index_or self.now.places label.0 None)) → IfSome result (λ l. NextAt self.now.places i (label.0 + 1) l.0) }
+        ensures none { (i : ℕ) → IsTrue (is_at i (slice_index_or self.now.places label.0 None)) → IfNone result (NoneAt self.now.places i (label.0 + 1)) }
+    {
+        self.bindings.next_at(label)
     }
 
     /// The word of a label, which is below `labels`. It has the form of a word of a text.
@@ -164,14 +184,15 @@ impl NodeList {
         &self.words.as_slice()[label.0 as usize]
     }
 
-    /// What holds of every list: there are fewer than 2^32 nodes, each of them in form, and each label has a place, which is at most
-    /// `len` where it is a node. The call does nothing: its contract is the law.
+    /// What holds of every list: there are fewer than 2^32 nodes, each of them in form, and each label has a word of a text and a place, which
+    /// is at most `len` where it is a node. The call does nothing: its contract is the law.
     pub fn what_holds(&self)
         ensures few { length self.now.nodes < 2 ^ 32 }
         ensures formed { All InForm self.now.nodes }
+        ensures words { All (λ w. IsTrue (is_word w)) self.now.words }
         ensures places { length self.now.places ≡ length self.now.words }
         ensures placed { All (MayStand (length self.now.nodes)) self.now.places }
     {
-        let _ = &self.nodes;
+        self.bindings.are_placed();
     }
 }

@@ -1,7 +1,6 @@
 pub mod Causes
 pub mod Changes
 pub mod Complete
-pub mod Cpus
 pub mod Lines
 pub mod Means
 pub mod Reads

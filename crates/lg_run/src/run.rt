@@ -2,9 +2,9 @@
 
 ghost use Rattle.std.specs.Prelude.{◌≡◌, ◌<◌, ◌-◌, ◌^◌};
 ghost use Rattle.lg_cpu.specs.Machines.{shown};
+ghost use Rattle.lg_cpu.specs.Series.{run_from};
 ghost use Rattle.lg_cpu.specs.declared.answer.CpuStep.{CpuStep};
 ghost use Rattle.lg_run.specs.Changes.{TellsWrites, on_sink};
-ghost use Rattle.lg_run.specs.Cpus.{run_from};
 ghost use Rattle.lg_run.specs.Runs.{RunSays};
 
 use crate::answer::Answer;
@@ -28,32 +28,22 @@ pub fn run<O: Sink>(cpu: &mut Cpu, most: u64, out: &mut O) -> Ran
     ensures says { RunSays (run_from (shown cpu.old)) most result.steps (on_sink O.taken O.faults out.old out.new) result.answer }
     ensures writes { TellsWrites result.answer (on_sink O.taken O.faults out.old out.new) }
 {
-    for steps in 0..most {
-        match cpu.step(out) {
-            CpuStep::Went => {}
-            CpuStep::Ended(status) => {
-                return Ran {
-                    answer: Answer::Ended(status),
-                    steps: steps + 1,
-                };
-            }
-            CpuStep::Fault(kind) => {
-                let pc = cpu.pc();
-                return Ran {
-                    answer: Answer::Fault { kind, pc },
-                    steps,
-                };
-            }
-            CpuStep::WriteFault => {
-                return Ran {
-                    answer: Answer::WriteFault,
-                    steps,
-                };
-            }
-        }
-    }
-    Ran {
-        answer: Answer::StepsOut,
-        steps: most,
+    match cpu.run(most, out) {
+        CpuStep::Went => Ran {
+            answer: Answer::StepsOut,
+            steps: most,
+        },
+        CpuStep::Ended(status) => Ran {
+            answer: Answer::Ended(status),
+            steps: cpu.steps(),
+        },
+        CpuStep::Fault(kind) => Ran {
+            answer: Answer::Fault { kind, pc: cpu.pc() },
+            steps: cpu.steps(),
+        },
+        CpuStep::WriteFault => Ran {
+            answer: Answer::WriteFault,
+            steps: cpu.steps(),
+        },
     }
 }

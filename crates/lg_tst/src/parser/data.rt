@@ -141,7 +141,8 @@ impl Parser<'_> {
 
     // The low bytes of a number.
     fn low_bytes(&mut self, size: ItemSize, value: u64, line: u32) -> Result<(), Stop>
-        ensures gives { Gives result self.new (stored line (length (take (bytes_in size) (little_bytes 8 value))) (take (bytes_in size) (little_bytes 8 value)) self.old) }
+        ensures gives { Gives result self.new (stored line (length (take (bytes_in size) (little_bytes 8 value)))
+            (take (bytes_in size) (little_bytes 8 value)) self.old) }
         ensures source { self.new.source ≡ self.old.source }
     {
         let mut bytes = [0; 8];

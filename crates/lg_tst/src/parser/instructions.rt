@@ -28,7 +28,8 @@ impl Parser<'_> {
     fn label_operand(&mut self, form: Form, word: &[u8], line: u32) -> Result<Operand, Stop>
         requires word { is_word word.now ≡ true }
         requires room { HasRoom self.old }
-        ensures gives { GivesWith result self.new (at_line line (operand_at self.old.list.words self.old.names form kind.Word word.now 0)) (noted_by kind.Word self.old form [] word.now) }
+        ensures gives { GivesWith result self.new (at_line line (operand_at self.old.list.words self.old.names form kind.Word word.now 0))
+            (noted_by kind.Word self.old form [] word.now) }
         ensures form { IfOk result (λ x. admits form x ≡ true) }
         ensures nodes { length self.new.list.nodes ≡ length self.old.list.nodes }
     {
@@ -41,7 +42,8 @@ impl Parser<'_> {
     // A name that `arg` makes.
     fn new_argument(&mut self, word: &[u8], line: u32) -> Result<Operand, Stop>
         requires room { HasRoom self.old }
-        ensures gives { GivesWith result self.new (at_line line (name_operand Form.NewArgument self.old.names word.now)) record self.old { names = names_behind Form.NewArgument [] self.old.names word.now } }
+        ensures gives { GivesWith result self.new (at_line line (name_operand Form.NewArgument self.old.names word.now)) record self.old
+            { names = names_behind Form.NewArgument [] self.old.names word.now } }
         ensures form { IfOk result (λ x. admits Form.NewArgument x ≡ true) }
         ensures nodes { length self.new.list.nodes ≡ length self.old.list.nodes }
     {
@@ -55,7 +57,8 @@ impl Parser<'_> {
     // A name that `allocai` makes behind its first operand.
     fn new_local(&mut self, done: &[Operand], word: &[u8], line: u32) -> Result<Operand, Stop>
         requires room { HasRoom self.old }
-        ensures gives { GivesWith result self.new (at_line line (name_operand Form.NewLocal self.old.names word.now)) record self.old { names = names_behind Form.NewLocal done.now self.old.names word.now } }
+        ensures gives { GivesWith result self.new (at_line line (name_operand Form.NewLocal self.old.names word.now)) record self.old
+            { names = names_behind Form.NewLocal done.now self.old.names word.now } }
         ensures form { IfOk result (λ x. admits Form.NewLocal x ≡ true) }
         ensures nodes { length self.new.list.nodes ≡ length self.old.list.nodes }
     {
@@ -75,7 +78,8 @@ impl Parser<'_> {
         line: u32,
     ) -> Result<Operand, Stop>
         requires room { HasRoom self.old }
-        ensures gives { GivesWith result self.new (at_line line (name_operand form self.old.names word.now)) record self.old { names = names_behind form done.now self.old.names word.now } }
+        ensures gives { GivesWith result self.new (at_line line (name_operand form self.old.names word.now)) record self.old
+            { names = names_behind form done.now self.old.names word.now } }
         ensures form { IfOk result (λ x. admits form x ≡ true) }
         ensures nodes { length self.new.list.nodes ≡ length self.old.list.nodes }
     {
@@ -98,7 +102,8 @@ impl Parser<'_> {
     fn operand_at(&mut self, form: Form, done: &[Operand], token: Token) -> Result<Operand, Stop>
         requires token { IsToken self.old.source.text token }
         requires room { HasRoom self.old }
-        ensures gives { GivesWith result self.new (at_line token.line (operand_at self.old.list.words self.old.names form token.kind (token_text self.old token) token.value)) (noted self.old form done.now token) }
+        ensures gives { GivesWith result self.new (at_line token.line (operand_at self.old.list.words self.old.names form token.kind
+            (token_text self.old token) token.value)) (noted self.old form done.now token) }
         ensures form { IfOk result (λ x. admits form x ≡ true) }
         ensures nodes { length self.new.list.nodes ≡ length self.old.list.nodes }
     {

@@ -1,62 +1,54 @@
-use Rattle.std.proofs.Common.{◌+◌, ◌++◌, [], ap, sym, ◌∙◌, arith, refl}
-use Rattle.std.proofs.KnownBytes.{Appends-nil, Appends-trans}
-use Rattle.lg_cpu.specs.Answers.{counted}
+use Rattle.std.proofs.Common.{sym, subst}
 use Rattle.lg_cpu.specs.Machines.{shown}
+use Rattle.lg_cpu.specs.Series.{run_from}
 use Rattle.lg_cpu.specs.declared.answer.CpuStep.TheVariants as cpu
 use Rattle.lg_run.specs.Changes.{on_sink}
-use Rattle.lg_run.proofs.RunLemmas.{at_start, effect_at, says_ended, says_fault, says_going, says_write, then_at}
+use Rattle.lg_run.specs.Runs.{RunSays}
+use Rattle.lg_run.specs.declared.answer.Answer.TheVariants.{Ended, Fault, WriteFault}
+use Rattle.lg_run.proofs.RunLemmas.{advanced, ran_out, ran_to_end, ran_to_fault, ran_to_write}
 use Rattle.lg_run.proofs.run.run.Goals as goal
 
-pub loop-steps-init : goal.loop-steps-init
-loop-steps-init g c = record {
-  there = ([], at_start (shown c.args.cpu.now), Appends-nil _);
-  going = c.requires.going;
-  count = c.requires.first;
-  faults = refl;
-}
+pub returns-in-Went : goal.returns-in-Went
+returns-in-Went g c =
+    let old = shown c.args.cpu.now in
+    let new = shown c.run.new.self in
+    let most = c.args.most in
+    let s = on_sink g.O.Sink.taken g.O.Sink.faults c.args.out.now c.run.new.out in
+    let a = advanced old new most s.taken s.taken' s.faults s.faults' cpu.Went c.requires.going c.in-Went.ensures.says in
+    record { says = ran_out old new most s c.requires.first a; writes = a.ends.3 }
 
 pub returns-in-Ended : goal.returns-in-Ended
 returns-in-Ended g c =
-    let i = c.loop-steps.invariant in
-    let h = says_going (shown c.loop-steps.cpu) (shown c.step.new.self) _ _ _ _ (cpu.Ended c.in-Ended.status) i.going c.in-Ended.ensures.says in
+    let old = shown c.args.cpu.now in
+    let new = shown c.run.new.self in
+    let most = c.args.most in
+    let s = on_sink g.O.Sink.taken g.O.Sink.faults c.args.out.now c.run.new.out in
+    let a = advanced old new most s.taken s.taken' s.faults s.faults' (cpu.Ended c.in-Ended.status) c.requires.going c.in-Ended.ensures.says in
     record {
-      says = says_ended (shown c.args.cpu.now) (shown c.loop-steps.cpu) (shown c.step.new.self) c.loop-steps.steps c.args.most i.there.0
-          (on_sink g.O.Sink.taken g.O.Sink.faults c.args.out.now c.step.new.out) _ i.there.1 i.going i.there.2 c.loop-steps-test.true _ _ _ h;
-      writes = h.3 ∙ i.faults;
+      says = subst (λ n. RunSays (run_from old) most n s (Ended c.in-Ended.status)) (sym c.steps.ensures) (ran_to_end old new most s c.requires.first c.in-Ended.status a);
+      writes = a.ends.1.3;
     }
 
 pub returns-in-Fault : goal.returns-in-Fault
 returns-in-Fault g c =
-    let i = c.loop-steps.invariant in
-    let h = says_going (shown c.loop-steps.cpu) (shown c.step.new.self) _ _ _ _ (cpu.Fault c.in-Fault.kind) i.going c.in-Fault.ensures.says in
+    let old = shown c.args.cpu.now in
+    let new = shown c.run.new.self in
+    let most = c.args.most in
+    let s = on_sink g.O.Sink.taken g.O.Sink.faults c.args.out.now c.run.new.out in
+    let a = advanced old new most s.taken s.taken' s.faults s.faults' (cpu.Fault c.in-Fault.kind) c.requires.going c.in-Fault.ensures.says in
     record {
-      says = says_fault (shown c.args.cpu.now) (shown c.loop-steps.cpu) (shown c.step.new.self) c.loop-steps.steps c.args.most i.there.0
-          (on_sink g.O.Sink.taken g.O.Sink.faults c.args.out.now c.step.new.out) _ i.there.1 i.going i.there.2 c.loop-steps-test.true _ _ _ _ h c.pc-pc.ensures;
-      writes = h.3 ∙ i.faults;
+      says = subst (λ n. RunSays (run_from old) most n s (Fault c.in-Fault.kind c.pc.result)) (sym c.steps-in-Fault.ensures) (ran_to_fault old new most s c.requires.first c.in-Fault.kind c.pc.result a c.pc.ensures);
+      writes = a.ends.1.3;
     }
 
 pub returns-in-WriteFault : goal.returns-in-WriteFault
 returns-in-WriteFault g c =
-    let i = c.loop-steps.invariant in
-    let h = says_going (shown c.loop-steps.cpu) (shown c.step.new.self) _ _ _ _ cpu.WriteFault i.going c.in-WriteFault.ensures.says in
+    let old = shown c.args.cpu.now in
+    let new = shown c.run.new.self in
+    let most = c.args.most in
+    let s = on_sink g.O.Sink.taken g.O.Sink.faults c.args.out.now c.run.new.out in
+    let a = advanced old new most s.taken s.taken' s.faults s.faults' (cpu.WriteFault) c.requires.going c.in-WriteFault.ensures.says in
     record {
-      says = says_write (shown c.args.cpu.now) (shown c.loop-steps.cpu) (shown c.step.new.self) c.loop-steps.steps c.args.most i.there.0
-          (on_sink g.O.Sink.taken g.O.Sink.faults c.args.out.now c.step.new.out) _ i.there.1 i.going i.there.2 c.loop-steps-test.true _ _ h;
-      writes = let rose = h.1 in let same = i.faults in omega (arith, rose, same);
-    }
-
-pub loop-steps-preserved : goal.loop-steps-preserved
-loop-steps-preserved g c =
-    let i = c.loop-steps.invariant in
-    let h = says_going (shown c.loop-steps.cpu) (shown c.step.new.self) _ _ _ _ cpu.Went i.going c.in-Went.ensures.says in
-    let e = effect_at (shown c.loop-steps.cpu) in
-    record {
-      there = (
-        i.there.0 ++ e.written,
-        then_at (shown c.args.cpu.now) (shown c.loop-steps.cpu) (shown c.step.new.self) c.loop-steps.steps i.there.0 i.there.1 i.going h.1,
-        Appends-trans _ _ _ i.there.0 e.written i.there.2 h.2,
-      );
-      going = ap (λ s. s.answer) h.1 ∙ sym h.0;
-      count = ap (λ s. s.steps) h.1 ∙ ap (λ a. counted a (shown c.loop-steps.cpu).steps) (sym h.0) ∙ ap (λ n. n + 1) i.count;
-      faults = h.3 ∙ i.faults;
+      says = subst (λ n. RunSays (run_from old) most n s (WriteFault)) (sym c.steps-in-WriteFault.ensures) (ran_to_write old new most s c.requires.first a);
+      writes = a.ends.1.1;
     }

@@ -4,7 +4,7 @@ use Rattle.lg_cpu.specs.Machines.{shown, shown_at_start}
 use Rattle.lg_cpu.specs.States.{CpuState}
 use Rattle.lg_cpu.specs.Steps.{Run}
 use Rattle.lg_run.specs.Changes.{on_sink}
-use Rattle.lg_run.specs.Cpus.{run_from}
+use Rattle.lg_cpu.specs.Series.{run_from}
 use Rattle.lg_run.specs.Runs.{RunSays}
 use Rattle.lg_run.specs.Says.{code_run, trash_word}
 use Rattle.lg_run.proofs.WorkLemmas.{run_started}

@@ -1,7 +1,8 @@
-use Rattle.std.proofs.Common.{◌≡◌, ◌<◌, ◌^◌, ℕ, zero, suc, true, arith, get_or, Option, List, [], ◌∷◌, map, length, refl, ap, ap₂, sym, subst, ◌∙◌, Vec, Global, vec_len}
+use Rattle.std.proofs.Common.{◌≡◌, ◌<◌, ◌^◌, ℕ, zero, suc, true, arith, get_or, List, [], ◌∷◌, map, length, refl, ap, ap₂, sym, subst, ◌∙◌, Vec, Global, vec_len}
 use Rattle.std.specs.List.{All, AllZip}
 use Rattle.lg_op.specs.Nodes.{InForm}
-use Rattle.lg_node.specs.Nodes.{LabelledNodes, MayStand, is_word}
+use Rattle.lg_node.specs.Nodes.{LabelledNodes, is_word}
+use Rattle.lg_node.specs.Chains.{BoundLabels}
 use Rattle.lg_node.proofs.node_list.NodeList.copy.Goals as goal
 
 same-bytes : (xs ys : List ℕ) → AllZip (λ x y. y ≡ x) xs ys → ys ≡ xs
@@ -41,20 +42,20 @@ invariant_of-result c =
     let e = same-words c.self.inside.words.keys c.in_ok-words.words.keys c.in_ok-words.ensures.cases in
     let count = same-count c.self.inside.words.keys c.in_ok-words.words.keys e in
     let nodes = c.in_ok-nodes.ensures.items ∙ c.deref.ensures.value in
-    let places = c.in_ok-places.ensures.items ∙ c.deref-2.ensures.value in
+    let bindings : c.in_ok-bindings.bindings ≡ c.self.inside.bindings = c.in_ok-bindings.ensures in
     record {
-      paired = ap length places ∙ i.paired ∙ sym count;
+      paired = ap (λ (b : BoundLabels). length b.places) bindings ∙ i.paired ∙ sym count;
+      counted = ap (λ (b : BoundLabels). b.nodes) bindings ∙ i.counted ∙ sym (ap length nodes);
       nodes = subst (λ xs. length xs < 2 ^ 32) (sym nodes) i.nodes;
       labels = subst (λ n. n < 2 ^ 32) (sym count) i.labels;
       formed = subst (λ xs. All InForm xs) (sym nodes) i.formed;
       worded = words-of c.self.inside.words.keys c.in_ok-words.words.keys e i.worded;
-      placed = subst (λ xs. All (MayStand (length xs)) c.in_ok-places.places.items) (sym nodes) (subst (λ ps. All (MayStand (length c.self.inside.nodes.items)) ps) (sym places) i.placed);
     }
 
 pub returns : goal.returns
 returns c =
     let words = same-words c.self.inside.words.keys c.in_ok-words.words.keys c.in_ok-words.ensures.cases in
     let nodes = c.in_ok-nodes.ensures.items ∙ c.deref.ensures.value in
-    let places = c.in_ok-places.ensures.items ∙ c.deref-2.ensures.value in
-    let same : ◌≡◌ {A = LabelledNodes} record { nodes = c.in_ok-nodes.nodes.items; words = map (λ w. w.items) c.in_ok-words.words.keys; places = c.in_ok-places.places.items } record { nodes = c.self.inside.nodes.items; words = map (λ w. w.items) c.self.inside.words.keys; places = c.self.inside.places.items } = λ i. record { nodes = nodes i; words = words i; places = places i } in
+    let bindings : c.in_ok-bindings.bindings ≡ c.self.inside.bindings = c.in_ok-bindings.ensures in
+    let same : ◌≡◌ {A = LabelledNodes} record { nodes = c.in_ok-nodes.nodes.items; words = map (λ w. w.items) c.in_ok-words.words.keys; places = c.in_ok-bindings.bindings.places } record { nodes = c.self.inside.nodes.items; words = map (λ w. w.items) c.self.inside.words.keys; places = c.self.inside.bindings.places } = λ i. record { nodes = nodes i; words = words i; places = (bindings i).places } in
     same ∙ c.self.view_is

@@ -1,0 +1,95 @@
+// Many steps of a processor at once.
+
+ghost use Rattle.std.specs.Prelude.{◌≡◌, ◌<◌, ◌≤◌, ◌+◌, ◌-◌, ◌^◌};
+ghost use Rattle.lg_cpu.specs.Answers.{counted};
+ghost use Rattle.lg_cpu.specs.Machines.{Inner, StepSays, effect_in, shown_of, x86_inner, a64_inner, rv_inner};
+ghost use Rattle.lg_cpu.specs.Series.{Advances, going_on};
+
+use crate::aarch64::Aarch64;
+use crate::answer::CpuStep;
+use crate::riscv64::Riscv64;
+use crate::x86_64::X86_64;
+use lg_io::sink::Sink;
+
+/// A processor that takes steps.
+pub trait Stepping {
+    /// What is seen of it.
+    ghost inner: { Self → Inner };
+
+    /// Takes one step, whether the run is over or not.
+    fn advance<O: Sink>(&mut self, out: &mut O) -> CpuStep
+        ensures says { StepSays (effect_in (inner self.old)) (inner self.old) (inner self.new)
+            (O.taken out.old) (O.taken out.new) (O.faults out.old) (O.faults out.new) result }
+        ensures later { O.faults out.old ≤ O.faults out.new };
+}
+
+impl Stepping for X86_64 {
+    ghost inner = { λ p. x86_inner p };
+
+    fn advance<O: Sink>(&mut self, out: &mut O) -> CpuStep {
+        self.step(out)
+    }
+}
+
+impl Stepping for Aarch64 {
+    ghost inner = { λ p. a64_inner p };
+
+    fn advance<O: Sink>(&mut self, out: &mut O) -> CpuStep {
+        self.step(out)
+    }
+}
+
+impl Stepping for Riscv64 {
+    ghost inner = { λ p. rv_inner p };
+
+    fn advance<O: Sink>(&mut self, out: &mut O) -> CpuStep {
+        self.step(out)
+    }
+}
+
+/// How far steps have come: what the last one answered, and how many the run has taken that went or ended.
+#[derive(Clone, Copy)]
+pub struct Advanced {
+    pub answer: CpuStep,
+    pub steps: u64,
+}
+
+/// Takes steps of a run that has taken so many, until one comes to another answer than `Went`, and at most so many more.
+pub fn advance<P: Stepping, O: Sink>(
+    processor: &mut P,
+    steps: u64,
+    most: u64,
+    out: &mut O,
+) -> Advanced
+    requires { steps + most < 2 ^ 64 }
+    ensures says { Advances (going_on (P.inner processor.old) steps) (shown_of (P.inner processor.new) result.answer result.steps) most
+        (O.taken out.old) (O.taken out.new) (O.faults out.old) (O.faults out.new) result.answer }
+    ensures later { O.faults out.old ≤ O.faults out.new }
+{
+    for went in 0..most {
+        match processor.advance(out) {
+            CpuStep::Went => {}
+            answer => {
+                return Advanced {
+                    answer,
+                    steps: behind(answer, steps + went),
+                };
+            }
+        }
+    }
+    Advanced {
+        answer: CpuStep::Went,
+        steps: steps + most,
+    }
+}
+
+// How many steps went or ended behind one that comes to this.
+fn behind(answer: CpuStep, steps: u64) -> u64
+    requires { steps < 2 ^ 64 - 1 }
+    ensures { result ≡ counted answer steps }
+{
+    match answer {
+        CpuStep::Went | CpuStep::Ended(_) => steps + 1,
+        CpuStep::Fault(_) | CpuStep::WriteFault => steps,
+    }
+}
