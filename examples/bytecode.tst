@@ -322,12 +322,12 @@ MARK(3)                                 // z * z + c
     LOAD(2) LOAD(3) MUL PUSH(11) SHR LOAD(0) ADD SAVE(3)
     LOAD(5) LOAD(6) SUB LOAD(1) ADD SAVE(2)
     LOAD(4) PUSH(1) ADD DUP SAVE(4)
-    PUSH(24) LT MORE(3)
+    PUSH(16) LT MORE(3)
 MARK(4)                                 // a character by the turns
-    LOAD(4) PUSH(24) LT MORE(5)
+    LOAD(4) PUSH(16) LT MORE(5)
     PUSH('#') JUMP(8)
 MARK(5)
-    LOAD(4) PUSH(6) LT MORE(6)
+    LOAD(4) PUSH(5) LT MORE(6)
     PUSH('+') JUMP(8)
 MARK(6)
     LOAD(4) PUSH(3) LT MORE(7)
@@ -336,10 +336,10 @@ MARK(7)
     PUSH(' ')
 MARK(8)
     CHAR
-    LOAD(1) PUSH(250) ADD DUP SAVE(1)
+    LOAD(1) PUSH(350) ADD DUP SAVE(1)
     PUSH(2400) LT MORE(2)
     PUSH('\n') CHAR
-    LOAD(0) PUSH(614) ADD DUP SAVE(0)
+    LOAD(0) PUSH(819) ADD DUP SAVE(0)
     PUSH(5000) LT MORE(1)
 HALT
 set_end:
