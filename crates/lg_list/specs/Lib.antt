@@ -7,4 +7,3 @@ pub mod Listing
 pub mod Back
 pub mod Aarch64
 pub mod X86_64
-pub mod NextLabels

@@ -1,8 +1,6 @@
 // Writing a listing.
 
-ghost use Rattle.std.specs.Prelude.{◌≡◌, ◌<◌, ◌≤◌, ◌+◌, ◌*◌, ◌^◌, ◌++◌, IfSome, IfNone, ℕ, List, length, map, slice_index};
-ghost use Rattle.lg_node.specs.Labels.{is_at};
-ghost use Rattle.lg_list.specs.NextLabels.{NextAt, NoneAt};
+ghost use Rattle.std.specs.Prelude.{◌≡◌, ◌<◌, ◌≤◌, ◌+◌, ◌*◌, ◌^◌, ◌++◌, ℕ, List, length, map, slice_index};
 ghost use Rattle.lg_io.specs.Wrote.{Wrote};
 ghost use Rattle.lg_list.specs.Instructions.{instructions};
 ghost use Rattle.lg_list.specs.Lines.{rendered, label_line};
@@ -16,7 +14,7 @@ use crate::lines::{first_line, node_line};
 use lg_base::code::{CodeBytes, Places};
 use lg_base::target::Target;
 use lg_io::sink::{Sink, SinkFault, write_all, write_parts};
-use lg_node::{LabelAddresses, NodeList, Place};
+use lg_node::{LabelAddresses, NodeList};
 
 // The address of the first byte of the code.
 const CODE_BASE: u32 = 0x1000_0000;
@@ -39,45 +37,21 @@ struct Nodes<'a> {
 
 // Writes the labels that are bound at a node, or behind the last.
 fn write_labels<O: Sink>(nodes: Nodes<'_>, index: u32, out: &mut O) -> Result<(), SinkFault>
+    requires index { index ≤ length nodes.list.now.nodes }
     requires addressed { AreAddressed nodes.list.now.places nodes.places.now.items nodes.labels.now }
     requires small { slice_index nodes.places.now.items index ≤ most_code }
     ensures { Wrote (O.taken out.old) (O.taken out.new) (O.faults out.old) (O.faults out.new) result (rendered (code_base + slice_index nodes.entry.places.now.items index) (labels_at index nodes.entry.list.now.words nodes.entry.list.now.places)) }
 {
-    let mut from = 0;
-    while let Some(label) = next_label(nodes.list, index, from) {
+    nodes.list.what_holds();
+    let mut next = nodes.list.first_at(index);
+    while let Some(label) = next {
         let address = nodes.labels.get(label.0) as u32;
         match write_label(address, nodes.list.word(label), out) {
-            Ok(()) => from = label.0 + 1,
+            Ok(()) => next = nodes.list.next_at(label),
             Err(fault) => return Err(fault),
         }
     }
     Ok(())
-}
-
-// The first label from a number on that is bound at a node. It stands for two calls of the list of nodes.
-fn next_label(nodes: &NodeList, index: u32, from: u32) -> Option<lg_node::Label>
-    ensures found { IfSome result (λ l. NextAt nodes.now.places index from l.0) }
-    ensures none { IfNone result (NoneAt nodes.now.places index from) }
-    ensures paired { length nodes.now.places ≡ length nodes.now.words }
-    ensures few { length nodes.now.words < 2 ^ 32 }
-{
-    for number in from..nodes.labels() {
-        let label = lg_node::Label(number);
-        if is_at(index, nodes.place(label)) {
-            return Some(label);
-        }
-    }
-    None
-}
-
-// Whether a label is bound at a node.
-fn is_at(index: u32, place: Option<Place>) -> bool
-    ensures { result ≡ is_at index place }
-{
-    match place {
-        Some(Place::Node(node)) => node == index,
-        _ => false,
-    }
 }
 
 // Writes the instructions of bytes from an address on.
