@@ -1,0 +1,32 @@
+// From a text to code.
+
+ghost use Rattle.std.specs.Prelude.{IfOk};
+ghost use Rattle.expression_program.specs.Compiled.{CanRun};
+
+use crate::failure::Failure;
+use lg_asm::{Code, assemble};
+use lg_base::target::Target;
+use lg_expression::{read, unit_of};
+use lg_node::{Unit, check};
+use std::alloc::Global;
+
+// The most bytes of code: those of a page are plenty for an expression.
+const MOST_CODE: u32 = 65_536;
+
+/// An expression as code: the unit, whose data part a run begins with, and its code for a target.
+#[derive(Drop)]
+pub struct Compiled {
+    pub unit: Unit,
+    pub code: Code,
+}
+
+/// Compiles an expression: its nodes, in a list; their check, which gives the shape that the assembler wants; and their code.
+pub fn compile(alloc: Global, target: Target, text: &[u8]) -> Result<Compiled, Failure>
+    ensures { IfOk result CanRun }
+{
+    let expression = read(alloc, text)?;
+    let unit = unit_of(alloc, &expression)?;
+    let shape = check(alloc, &unit)?;
+    let code = assemble(alloc, &unit, &shape, target, MOST_CODE)?;
+    Ok(Compiled { unit, code })
+}

@@ -1,0 +1,58 @@
+// Code on a processor.
+
+ghost use Rattle.std.specs.Prelude.{◌<◌, length, IfOk};
+ghost use Rattle.expression_program.specs.Compiled.{CanRun};
+
+use crate::compile::Compiled;
+use crate::failure::Failure;
+use lg_base::args::args_image;
+use lg_base::refusal::OutOfMemory;
+use lg_cpu::answer::CpuStep;
+use lg_cpu::cpu::Cpu;
+use lg_io::memory_sink::MemorySink;
+use std::alloc::Global;
+
+// What registers hold at first. Code runs the same whatever it is.
+const ANYTHING: u64 = 0x5A5A_5A5A_5A5A_5A5A;
+
+// The most steps: an expression has no loop, so few are taken.
+const MOST_STEPS: u64 = 1_000_000;
+
+// Room for what a run prints: a number.
+const ROOM: usize = 32;
+
+/// What a run wrote, and its last step's answer: `Went` where the most steps were taken.
+#[derive(Drop)]
+pub struct Ran {
+    pub out: MemorySink,
+    pub end: CpuStep,
+}
+
+// The words of a run: a name, and the argument.
+fn words_of(alloc: Global, argument: &str) -> Result<Vec<String>, OutOfMemory>
+    ensures { IfOk result (λ words. 0 < length words.items) }
+{
+    let mut words = Vec::new(alloc);
+    words.push(String::from_str(alloc, "expression")?)?;
+    words.push(String::from_str(alloc, argument)?)?;
+    Ok(words)
+}
+
+/// Runs code with an argument, from a new processor on.
+pub fn run(alloc: Global, compiled: &Compiled, argument: &str) -> Result<Ran, Failure>
+    requires { CanRun compiled.now }
+{
+    let args = args_image(alloc, &words_of(alloc, argument)?)?;
+    let mut out = MemorySink::new(alloc, ROOM, &[])?;
+    let code = &compiled.code;
+    let mut cpu = Cpu::new(
+        alloc,
+        code.target(),
+        code.bytes(),
+        &compiled.unit.image,
+        &args,
+        ANYTHING,
+    )?;
+    let end = cpu.run(MOST_STEPS, &mut out);
+    Ok(Ran { out, end })
+}

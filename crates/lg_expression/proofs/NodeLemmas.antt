@@ -1,0 +1,13 @@
+-- Lists of nodes that grow.
+use Rattle.std.proofs.Common.{◌≡◌, List, [], ◌∷◌, ◌++◌, ap, ◌∙◌, append_assoc}
+use Rattle.lg_op.specs.declared.node.Node.{Node}
+use Rattle.lg_node.specs.Nodes.{LabelledNodes, with_node}
+use Rattle.lg_expression.specs.Units.{put_nodes}
+
+-- nodes behind others
+pub joined : (l : LabelledNodes) (a b : List Node) → put_nodes (put_nodes l a) b ≡ put_nodes l (a ++ b)
+joined l a b = ap (λ nodes. record l { nodes = nodes }) (append_assoc l.nodes a b)
+
+-- a node, and then others
+pub next : (l m k : LabelledNodes) (n : Node) (ns : List Node) → m ≡ with_node l n → k ≡ put_nodes m ns → k ≡ put_nodes l (n ∷ ns)
+next l m k n ns first rest = rest ∙ ap (λ x. put_nodes x ns) first ∙ joined l (n ∷ []) ns

@@ -1,1 +1,0 @@
-.code prolog movi %r0 08 ret epilog

@@ -1,1 +1,0 @@
-.code prolog jmpi f ret epilog f: prolog ret epilog

@@ -1,1 +1,0 @@
-.code prolog getarg %r0 $n ret epilog

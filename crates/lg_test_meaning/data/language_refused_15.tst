@@ -1,1 +1,0 @@
-.data 3 .c "abc" .code prolog ret epilog

@@ -1,1 +1,0 @@
-.code prolog allocai 65536 $a allocai 1 $b ret epilog

@@ -1,1 +1,0 @@
-.code prolog nop ret epilog

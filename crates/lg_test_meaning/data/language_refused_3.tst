@@ -1,1 +1,0 @@
-.code prolog addr_d %r0 %r1 %r2 ret epilog

@@ -1,1 +1,0 @@
-.code prolog addr %r0 %r1 2 ret epilog

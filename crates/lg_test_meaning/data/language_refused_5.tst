@@ -1,1 +1,0 @@
-.code prolog movi %r0 $(1 / 0) ret epilog

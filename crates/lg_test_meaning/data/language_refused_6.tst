@@ -1,1 +1,0 @@
-.code x: prolog x: ret epilog

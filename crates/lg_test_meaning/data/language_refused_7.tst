@@ -1,1 +1,0 @@
-.code prolog jmpi out ret epilog

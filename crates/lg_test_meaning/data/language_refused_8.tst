@@ -1,1 +1,0 @@
-.code movi %r0 1 prolog ret epilog
