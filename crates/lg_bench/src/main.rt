@@ -2,10 +2,11 @@
 // a text of N instructions, at most 1,000,000; `code N TIMES` assembles it for RV64 as well, so many times, from its bytes to
 // code; `far N TIMES` does so with a text in which a branch and calls lead over N instructions; `straight N TIMES`, `branches N TIMES` and `jumps N TIMES` find the live registers of a list of nodes of N lines, so many
 // times; `moves N TIMES` and `chain N TIMES` rewrite a list of N moves or jumps, so many times; `emit N` emits 64 MiB in pieces of
-// N bytes; `rv64 N`, `aarch64 N` and `x86_64 N` run N instructions of a loop of five on the modelled processors; `steps N` follows
+// N bytes; `list N` lists N nodes of 1,024 bytes of code each, at most 65,536, into a sink that counts; `rv64 N`, `aarch64 N` and `x86_64 N` run N instructions of a loop of five on the modelled processors; `steps N` follows
 // the portable meaning of a loop for N steps. Without words it does a little of each.
 #![tactic(auto)]
 
+mod listing;
 mod lists;
 mod liveness;
 mod meaning;
@@ -18,6 +19,7 @@ mod texts;
 use lg_base::refusal::{OutOfMemory, Stop};
 use lg_base::target::Target;
 use lg_mean_text::end::MeaningEnd;
+use listing::Counter;
 use lists::Flow;
 use names::found;
 use std::{env, io, str};
@@ -76,6 +78,16 @@ fn emit(rt: &HostRuntime, size: u32, length: u32) -> io::Result<()> {
     }
 }
 
+// Writes the listing of so many nodes of 1,024 bytes into a sink that counts.
+fn write_listing(rt: &HostRuntime, nodes: u32) -> io::Result<()> {
+    match listing::write_listing(rt.alloc(), nodes) {
+        Ok(Counter { bytes, writes }) => println!(rt;
+            "{bytes} bytes of listing in {writes} writes"
+        ),
+        Err(OutOfMemory) => println!(rt; "out of memory"),
+    }
+}
+
 // Runs so many instructions on the processor of a target.
 fn run(rt: &HostRuntime, target: Target, instructions: u32) -> io::Result<()> {
     match processor::run(rt.alloc(), target, instructions) {
@@ -114,6 +126,7 @@ fn main(rt: HostRuntime) -> io::Result<()> {
                 "moves" => rewrite(&rt, Flow::Moves, times, again),
                 "chain" => rewrite(&rt, Flow::Chain, times, again),
                 "emit" => emit(&rt, 0x400_0000, times),
+                "list" => write_listing(&rt, times),
                 "rv64" => run(&rt, Target::Riscv64, times),
                 "aarch64" => run(&rt, Target::Aarch64, times),
                 "x86_64" => run(&rt, Target::X86_64, times),
@@ -133,6 +146,7 @@ fn main(rt: HostRuntime) -> io::Result<()> {
                 rewrite(&rt, flow, 65_000, 1)?;
             }
             emit(&rt, 1024, 4)?;
+            write_listing(&rt, 4)?;
             for target in [Target::Riscv64, Target::Aarch64, Target::X86_64] {
                 run(&rt, target, 1000)?;
             }

@@ -1,0 +1,112 @@
+// The listing of much code.
+
+ghost use Rattle.std.specs.Prelude.{◌≡◌, ◌<◌, ◌≤◌, ◌+◌, ◌*◌, [], None, length, IfOk};
+ghost use Rattle.std.specs.Io.KnownBytes.{WriteAppends};
+ghost use Rattle.lg_io.specs.Counts.{HasCause};
+ghost use Rattle.lg_list.specs.Listing.{Placed};
+ghost use Rattle.lg_op.specs.Nodes.{InForm};
+
+use lg_base::code::{CodeBytes, Places};
+use lg_base::refusal::OutOfMemory;
+use lg_base::target::Target;
+use lg_io::sink::{Sink, SinkFault};
+use lg_list::list::list;
+use lg_node::{LabelAddresses, Node, NodeList, Op, Operands, PlainOp};
+use std::alloc::Global;
+
+// How many bytes of code a node has: 256 instructions of RV64.
+const NODE_BYTES: u32 = 1_024;
+
+// `addi x5, x5, 1`.
+const ADDITION: [u8; 4] = [0x93, 0x82, 0x12, 0x00];
+
+/// Counts the bytes that it is given, and the writes.
+#[derive(Drop)]
+pub struct Counter {
+    /// How many bytes it was given.
+    pub bytes: u64,
+    /// In how many writes.
+    pub writes: u64,
+}
+
+impl Sink for Counter {
+    ghost taken = { λ sink. None };
+
+    ghost faults = { λ sink. 0 };
+
+    /// Takes all bytes of the piece.
+    fn write(&mut self, bytes: &[u8]) -> Result<usize, SinkFault>
+        ensures bound { IfOk result (λ n. n ≤ length bytes.now) }
+        ensures some { IfOk result (λ n. 0 < length bytes.now → 0 < n) }
+        ensures bytes { WriteAppends None None result bytes.now }
+        ensures cause { HasCause 0 0 result }
+    {
+        self.bytes = self.bytes.wrapping_add(bytes.len() as u64);
+        self.writes = self.writes.wrapping_add(1);
+        Ok(bytes.len())
+    }
+}
+
+// The code of so many nodes.
+fn code_of(alloc: Global, nodes: u32) -> Result<CodeBytes, OutOfMemory>
+    requires { nodes ≤ 65536 }
+    ensures { IfOk result (λ code. length code.items ≡ nodes * 1024) }
+{
+    let mut code = CodeBytes::with_room(alloc, nodes * NODE_BYTES)?;
+    for index in 0..nodes * NODE_BYTES {
+        code.push(ADDITION[index as usize % 4]);
+    }
+    Ok(code)
+}
+
+// The places of so many nodes, and of the end.
+fn places_of(alloc: Global, nodes: u32) -> Result<Places, OutOfMemory>
+    requires { nodes ≤ 65536 }
+    ensures { IfOk result (λ places. Placed places.items nodes (nodes * 1024)) }
+{
+    let mut places = Places::with_room(alloc, nodes + 1)?;
+    for index in 0..nodes + 1 {
+        places.push(index * NODE_BYTES);
+    }
+    Ok(places)
+}
+
+// A `ret` on a line.
+fn ret(line: u32) -> Node
+    ensures { InForm result }
+{
+    Node {
+        op: Op::Plain(PlainOp::Ret),
+        operands: Operands::of(&[]),
+        line,
+    }
+}
+
+// So many nodes without labels, each on a line of its own.
+fn nodes_of(alloc: Global, nodes: u32) -> Result<NodeList, OutOfMemory>
+    requires { nodes ≤ 65536 }
+    ensures count { IfOk result (λ list. length list.nodes ≡ nodes) }
+    ensures labels { IfOk result (λ list. list.places ≡ []) }
+{
+    let mut list = NodeList::new(alloc);
+    for number in 0..nodes {
+        list.push(ret(number + 1))?;
+    }
+    Ok(list)
+}
+
+/// Writes the listing of so many nodes, at most 65,536, which have 1,024 bytes of code each, and tells how many bytes and writes it is.
+pub fn write_listing(alloc: Global, nodes: u32) -> Result<Counter, OutOfMemory> {
+    let nodes = nodes.min(65_536);
+    let code = code_of(alloc, nodes)?;
+    let places = places_of(alloc, nodes)?;
+    let rets = nodes_of(alloc, nodes)?;
+    let labels = LabelAddresses::of(alloc, &[])?;
+    let mut out = Counter {
+        bytes: 0,
+        writes: 0,
+    };
+    match list(Target::Riscv64, &code, &rets, &places, &labels, &mut out) {
+        Ok(()) | Err(_) => Ok(out),
+    }
+}
