@@ -1,34 +1,54 @@
 #!/usr/bin/env python3
-"""Writes the texts of docs/LANGUAGE.md as cases of lg_test_meaning, and says where its list does not have one.
+"""The examples of docs/LANGUAGE.md as the cases of lg_test_language. Says whether crates/lg_test_language/data/cases.txt has exactly them; with --write, writes it.
 
-A block ```tst NAME is the text of the case language_NAME, and a block ```out NAME what it writes; a row of the table of
-refusals with a text in backticks is the case language_refused_N. How each ends (.end) is worked out by hand.
+A block ```tst NAME WORDS is a text, run with these words of the command; ```out NAME STATUS what it writes (without the last line feed where its head says so), and
+```err NAME STATUS the line on the standard error; a status that is not said is 0. A row of a table of instructions has an example that stands in the block ```frame,
+and what is printed of it; a row of the table of undefined steps a text and the steps before; a row of the table of refusals a text that is refused at line 1.
+A case is a line NAME.tst STATUS WORDS, and then the text, the output and the line, each but the text behind a line of four hyphens.
 """
 import pathlib
 import re
+import sys
 
 root = pathlib.Path(__file__).resolve().parents[2]
 page = (root / "docs" / "LANGUAGE.md").read_text()
-data = root / "crates" / "lg_test_meaning" / "data"
+data = root / "crates" / "lg_test_language" / "data" / "cases.txt"
+
+blocks = re.findall(r"^```(tst|out|err|frame) ?(.*)\n((?:.*\n)*?)```$", page, re.M)
+outputs, lines, statuses = {}, {}, {}
+for kind, head, text in blocks:
+    name, *rest = head.split() or [""]
+    if kind in ("out", "err"):
+        if rest and rest[0].isdigit():
+            statuses[name] = rest[0]
+        if "without" in rest:
+            text = text.rstrip("\n")
+        (outputs if kind == "out" else lines)[name] = text
+
+cases = []
 
 
-def write(name, suffix, text):
-    (data / f"language_{name}{suffix}").write_text(text)
+def add(name, text, output="", status="0", words="", line=""):
+    first = " ".join([f"{name}.tst", status] + ([words] if words else []))
+    cases.append(f"====\n{first}\n{text}----\n{output}----\n{line}")
 
 
-texts = re.findall(r"^```tst (\S+)\n(.*?)^```$", page, re.M | re.S)
-outputs = dict(re.findall(r"^```out (\S+)\n(.*?)^```$", page, re.M | re.S))
-for name, text in texts:
-    write(name, ".tst", text)
-    write(name, ".out", outputs[name])
+texts = [(head.split(), text) for kind, head, text in blocks if kind == "tst"]
+for (name, *words), text in texts:
+    add(name, text, outputs.pop(name, ""), statuses.get(name, "0"), " ".join(words), lines.pop(name, ""))
+assert not outputs and not lines, f"of no text: {outputs} {lines}"
+frame = next(text for kind, head, text in blocks if kind == "frame")
+for names, example, value in re.findall(r"^\| (`.*?) \|.*\| `([^`|]*)` \| (-?\d+) \|$", page, re.M):
+    name = re.sub(r"\W+", "_", names.replace("`", "")).strip("_")
+    add(f"instruction_{name}", frame.replace("EXAMPLE", example), f"{value}\n")
+for number, text, steps in re.findall(r"^\| (\d+) \|.*\| `([^`|]*)` \| (\d+) \|$", page, re.M):
+    add(f"undefined_{number}", text + "\n", "", "120", "--mode mean", f"lightning: undefined at line 1 after {steps}\n")
 for number, kind, text in re.findall(r"^\| (\d+) \| (\w+) \| `(.*?)` \|", page, re.M):
-    write(f"refused_{number}", ".tst", text)
-    write(f"refused_{number}", ".out", "")
-    write(f"refused_{number}", ".end", f"Refused {number} {kind} 1\n")
+    add(f"refused_{number}", text + "\n", "", "121", "", f"lightning: refused_{number}.tst:1: refused {number} {kind}\n")
 
-listed = {line.split("\t")[0] for line in (data / "cases.tsv").read_text().splitlines()}
-for file in sorted(data.glob("language_*.tst")):
-    if file.stem not in listed:
-        print(f"{file.stem}\t1000000\t")
-    if not file.with_suffix(".end").exists():
-        print(f"no {file.stem}.end")
+wanted = "".join(cases)
+if "--write" in sys.argv:
+    data.write_text(wanted)
+same = data.read_text() == wanted
+print(f"{len(cases)} examples, {'the same' if same else 'others'} in the data")
+sys.exit(0 if same else 1)

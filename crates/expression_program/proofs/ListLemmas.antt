@@ -1,5 +1,5 @@
 -- Code can be listed.
-use Rattle.std.proofs.Common.{◌<◌, length, Option, Some, ap, ◌∙◌, arith}
+use Rattle.std.proofs.Common.{◌<◌, length, Some, ap, ◌∙◌, arith}
 use Rattle.std.proofs.lemmas.Option.{slice_get-get_or, slice_get_within}
 use Rattle.lg_asm.specs.Assembled.{Assembled, IsCode}
 use Rattle.lg_list.specs.Listing.{AreAddressed}
