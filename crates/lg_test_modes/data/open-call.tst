@@ -1,0 +1,1 @@
+.code prolog prepare ret epilog

@@ -1,0 +1,1 @@
+.code prolog ret epilog

@@ -1,0 +1,62 @@
+// Whether bytes have a form: `#` stands for any number, `+` for any but 0.
+
+// The bytes behind the digits that they begin with.
+fn behind_digits(bytes: &[u8]) -> &[u8] {
+    for (place, byte) in bytes.iter().enumerate() {
+        if !byte.is_ascii_digit() {
+            return &bytes[place..];
+        }
+    }
+    &[]
+}
+
+// The bytes behind what one byte of a form stands for, and None where they begin otherwise.
+fn behind_piece(form: u8, bytes: &[u8]) -> Option<&[u8]> {
+    let [first, behind @ ..] = bytes else {
+        return None;
+    };
+    match form {
+        b'#' if first.is_ascii_digit() => Some(behind_digits(bytes)),
+        b'+' if first.is_ascii_digit() && *first != b'0' => Some(behind_digits(bytes)),
+        _ if form == *first => Some(behind),
+        _ => None,
+    }
+}
+
+/// Whether bytes have a form.
+pub fn has_form(form: &[u8], bytes: &[u8]) -> bool {
+    let mut rest = bytes;
+    for piece in form {
+        match behind_piece(*piece, rest) {
+            Some(behind) => rest = behind,
+            None => return false,
+        }
+    }
+    rest.is_empty()
+}
+
+#[cfg(test)]
+mod tests {
+    use super::has_form;
+    use std::process::Abort;
+    use std::test::Fail;
+
+    #[test]
+    fn tells_forms(rt: HostRuntime) -> Result<(), Fail> {
+        let cases: [(&[u8], &[u8], bool); 9] = [
+            (b"spills # steps +\n", b"spills 0 steps 27\n", true),
+            (b"spills #\n", b"spills 10\n", true),
+            (b"spills +\n", b"spills 10\n", true),
+            (b"spills +\n", b"spills 0\n", false),
+            (b"spills #\n", b"spills \n", false),
+            (b"spills #\n", b"spills 1", false),
+            (b"spills #", b"spills 1\n", false),
+            (b"", b"", true),
+            (b"", b"1", false),
+        ];
+        for (form, bytes, holds) in cases {
+            assert_eq!(rt; has_form(form, bytes), holds);
+        }
+        Ok(())
+    }
+}
