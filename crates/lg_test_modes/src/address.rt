@@ -1,9 +1,7 @@
 // Addresses of labels.
 
-use crate::call::words_of;
+use crate::call::{call, words_of};
 use lg_io::memory_sink::MemorySink;
-use lg_io::standard::StdTexts;
-use lg_run::top::lightning;
 use std::io;
 use std::io::Input;
 use std::rt::Files;
@@ -12,10 +10,13 @@ use std::rt::Files;
 const ROOM: usize = 4_096;
 
 // Makes a call, whose output goes into a sink.
-fn call(rt: &(impl Files + Input + AllocGlobal), words: &Vec<String>, out: &mut MemorySink) {
-    let mut texts = StdTexts::new(rt);
+fn write_output(
+    rt: &(impl Files + Input + AllocGlobal),
+    words: &Vec<String>,
+    out: &mut MemorySink,
+) {
     if let Ok(mut err) = MemorySink::new(rt.alloc(), ROOM, &[]) {
-        let _done = lightning(rt.alloc(), words, &mut texts, out, &mut err);
+        let _status = call(rt, words, out, &mut err);
     }
 }
 
@@ -48,8 +49,8 @@ fn is_same(rt: &(impl Files + Input + AllocGlobal), run: &Vec<String>, list: &Ve
     let Ok(mut listing) = MemorySink::new(rt.alloc(), ROOM, &[]) else {
         return false;
     };
-    call(rt, run, &mut output);
-    call(rt, list, &mut listing);
+    write_output(rt, run, &mut output);
+    write_output(rt, list, &mut listing);
     has_label(listing.bytes(), output.bytes())
 }
 

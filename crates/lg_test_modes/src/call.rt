@@ -40,33 +40,49 @@ pub fn words_of(alloc: Global, line: &str) -> Result<Vec<String>, AllocError> {
     Ok(words)
 }
 
-// What the top call comes to on these words.
+/// Makes a call over the real files, and gives the status that it ends with.
+pub fn call(
+    rt: &(impl Files + Input + AllocGlobal),
+    words: &Vec<String>,
+    out: &mut MemorySink,
+    err: &mut MemorySink,
+) -> u8 {
+    let mut texts = StdTexts::new(rt);
+    let done = lightning(rt.alloc(), words, &mut texts, out, err);
+    status(&done.answer)
+}
+
+// What a call comes to that wrote these bytes and lines and ended with a status.
 fn outcome_of(
+    (out, err, ended): (&[u8], &[u8], u8),
+    (wanted, lines, status): (&[u8], &[u8], u8),
+) -> Outcome {
+    if out != wanted {
+        Outcome::HasOtherOutput
+    } else if !has_form(lines, err) {
+        Outcome::HasOtherLines
+    } else if ended != status {
+        Outcome::HasStatus(ended)
+    } else {
+        Outcome::IsRight
+    }
+}
+
+// Makes a call whose standard output takes so many bytes, and compares what it comes to.
+fn compare_call(
     rt: &(impl Files + Input + AllocGlobal),
     words: &Vec<String>,
     room: u32,
-    wanted: &[u8],
-    lines: &[u8],
-    wanted_status: u8,
+    wanted: (&[u8], &[u8], u8),
 ) -> Outcome {
-    let mut texts = StdTexts::new(rt);
     let Ok(mut out) = MemorySink::new(rt.alloc(), room as usize, &[]) else {
         return Outcome::HasNoMemory;
     };
     let Ok(mut err) = MemorySink::new(rt.alloc(), ROOM, &[]) else {
         return Outcome::HasNoMemory;
     };
-    let done = lightning(rt.alloc(), words, &mut texts, &mut out, &mut err);
-    let ended = status(&done.answer);
-    if out.bytes() != wanted {
-        Outcome::HasOtherOutput
-    } else if !has_form(lines, err.bytes()) {
-        Outcome::HasOtherLines
-    } else if ended != wanted_status {
-        Outcome::HasStatus(ended)
-    } else {
-        Outcome::IsRight
-    }
+    let ended = call(rt, words, &mut out, &mut err);
+    outcome_of((out.bytes(), err.bytes(), ended), wanted)
 }
 
 /// Makes the call of a name and compares what it comes to. The standard output takes so many bytes.
@@ -81,5 +97,5 @@ pub fn compare(
     let words = words_of(alloc, words)?;
     let out = fs::read(rt, format!(in alloc; "{name}.out")?)?;
     let err = fs::read(rt, format!(in alloc; "{name}.err")?)?;
-    Ok(outcome_of(rt, &words, room, &out, &err, wanted_status))
+    Ok(compare_call(rt, &words, room, (&out, &err, wanted_status)))
 }
