@@ -1,5 +1,6 @@
 // One example of the page on the language.
 
+use lg_base::refusal::OutOfMemory;
 use lg_io::memory_sink::MemorySink;
 use lg_io::memory_texts::MemoryTexts;
 use lg_run::answer::status;
@@ -32,8 +33,6 @@ pub enum Outcome {
     HasOtherLine,
     /// It ends with another status.
     HasStatus(u8),
-    /// There was no memory for it.
-    HasNoMemory,
 }
 
 /// The example of a block: the text's name, the status and the words in the first line; then its text, its output, and its line on the standard error, each behind
@@ -74,24 +73,11 @@ fn words_of(alloc: Global, options: &str, case: Case<'_>) -> Result<Vec<String>,
     Ok(words)
 }
 
-// What the top call comes to on these words.
-fn outcome_of(
-    alloc: Global,
-    words: &Vec<String>,
-    texts: &mut MemoryTexts,
-    case: Case<'_>,
-) -> Outcome {
-    let Ok(mut out) = MemorySink::new(alloc, ROOM, &[]) else {
-        return Outcome::HasNoMemory;
-    };
-    let Ok(mut err) = MemorySink::new(alloc, ROOM, &[]) else {
-        return Outcome::HasNoMemory;
-    };
-    let done = lightning(alloc, words, texts, &mut out, &mut err);
-    let ended = status(&done.answer);
-    if err.bytes() != case.err.as_bytes() {
+// What an example comes to that ends with a status and writes these bytes.
+fn compared(case: Case<'_>, ended: u8, out: &[u8], err: &[u8]) -> Outcome {
+    if err != case.err.as_bytes() {
         Outcome::HasOtherLine
-    } else if out.bytes() != case.out.as_bytes() {
+    } else if out != case.out.as_bytes() {
         Outcome::HasOtherBytes
     } else if ended != case.status {
         Outcome::HasStatus(ended)
@@ -100,14 +86,19 @@ fn outcome_of(
     }
 }
 
+// Makes the call for an example, and compares what comes of it.
+fn call(alloc: Global, words: &Vec<String>, case: Case<'_>) -> Result<Outcome, OutOfMemory> {
+    let mut texts = MemoryTexts::new(alloc, &[])?;
+    texts.add(case.name, case.text.as_bytes())?;
+    let mut out = MemorySink::new(alloc, ROOM, &[])?;
+    let mut err = MemorySink::new(alloc, ROOM, &[])?;
+    let done = lightning(alloc, words, &mut texts, &mut out, &mut err);
+    let ended = status(&done.answer);
+    Ok(compared(case, ended, out.bytes(), err.bytes()))
+}
+
 /// Runs an example with these options, with spaces between, in front of its own.
-pub fn run_case(alloc: Global, options: &str, case: Case<'_>) -> Result<Outcome, AllocError> {
+pub fn run_case(alloc: Global, options: &str, case: Case<'_>) -> Result<Outcome, OutOfMemory> {
     let words = words_of(alloc, options, case)?;
-    let Ok(mut texts) = MemoryTexts::new(alloc, &[]) else {
-        return Ok(Outcome::HasNoMemory);
-    };
-    if texts.add(case.name, case.text.as_bytes()).is_err() {
-        return Ok(Outcome::HasNoMemory);
-    }
-    Ok(outcome_of(alloc, &words, &mut texts, case))
+    call(alloc, &words, case)
 }

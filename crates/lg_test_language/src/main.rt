@@ -6,6 +6,7 @@
 mod case;
 
 use case::{Case, Outcome, parse_case, run_case};
+use lg_base::refusal::OutOfMemory;
 use std::{fs, io};
 
 // How each example is run, and what that is called.
@@ -23,7 +24,6 @@ fn print_other(rt: &impl Print, way: &str, name: &str, outcome: Outcome) -> io::
         Outcome::HasOtherBytes => println!(rt; "{way}: {name}: other bytes"),
         Outcome::HasOtherLine => println!(rt; "{way}: {name}: another line on the standard error"),
         Outcome::HasStatus(status) => println!(rt; "{way}: {name}: status {status}"),
-        Outcome::HasNoMemory => println!(rt; "{way}: {name}: out of memory"),
     }
 }
 
@@ -44,11 +44,11 @@ fn run_cases(rt: &HostRuntime, way: &str, options: &str, list: &str) -> io::Resu
             continue;
         };
         if is_for(options, case) {
-            let outcome = run_case(rt.alloc(), options, case)?;
-            if outcome == Outcome::IsRight {
-                right = right.saturating_add(1);
+            match run_case(rt.alloc(), options, case) {
+                Ok(Outcome::IsRight) => right = right.saturating_add(1),
+                Ok(outcome) => print_other(rt, way, case.name, outcome)?,
+                Err(OutOfMemory) => println!(rt; "{way}: {}: out of memory", case.name)?,
             }
-            print_other(rt, way, case.name, outcome)?;
         }
     }
     println!(rt; "{way}: {right} right")
