@@ -2,11 +2,9 @@
 
 ghost use Rattle.std.specs.Prelude.{◌≤◌, length};
 
-use lg_asm::assemble;
+use crate::code::code_of;
 use lg_base::refusal::Stop;
 use lg_base::target::Target;
-use lg_node::check;
-use lg_tst::parse;
 use std::alloc::Global;
 use std::test::Fail;
 
@@ -45,9 +43,7 @@ struct Counts {
 fn assembled(alloc: Global, target: Target, text: &[u8]) -> Result<Counts, Stop>
     requires few { length text.now ≤ 16777216 }
 {
-    let unit = parse(alloc, text)?;
-    let shape = check(alloc, &unit)?;
-    let code = assemble(alloc, &unit, &shape, target, 1_048_576)?;
+    let code = code_of(alloc, target, 1_048_576, text)?;
     Ok(Counts {
         spills: code.spills(),
         nodes: code.nodes().len(),

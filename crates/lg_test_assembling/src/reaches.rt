@@ -2,11 +2,9 @@
 
 ghost use Rattle.std.specs.Prelude.{◌≤◌, length};
 
-use lg_asm::assemble;
+use crate::code::code_of;
 use lg_base::refusal::Stop;
 use lg_base::target::Target;
-use lg_node::check;
-use lg_tst::parse;
 use std::alloc::{AllocError, Global};
 use std::process::Abort;
 use std::test::Fail;
@@ -52,9 +50,7 @@ fn text_of(alloc: Global, target: Target, bytes: u32, leads: &str) -> Result<Vec
 fn assembled(alloc: Global, target: Target, size: u32, text: &[u8]) -> Result<u32, Stop>
     requires few { length text.now ≤ 16777216 }
 {
-    let unit = parse(alloc, text)?;
-    let shape = check(alloc, &unit)?;
-    let code = assemble(alloc, &unit, &shape, target, size.clamp(256, LARGE))?;
+    let code = code_of(alloc, target, size.clamp(256, LARGE), text)?;
     Ok(match code.places().as_slice() {
         [.., begin, end, _, _, _] => end.wrapping_sub(*begin),
         _ => 0,
