@@ -14,6 +14,7 @@ use lg_base::number::from_bits;
 
 /// The instruction that the bytes begin with, and its length, 4. `None` where the first 4 bytes are
 /// no word of the table, or there are fewer than 4.
+#[inline(always)]
 pub fn decode(bytes: &[u8]) -> Option<(Instr, u32)>
     // whatever follows its spelling, an instruction is read as itself
     ensures again { (i : Instr) (more : List ℕ) → IsInstr i → bytes.now ≡ spelling i ++ more → result ≡ Some (i, length (spelling i)) }
@@ -25,6 +26,7 @@ pub fn decode(bytes: &[u8]) -> Option<(Instr, u32)>
     decode_front(bytes)
 }
 
+#[inline(always)]
 #[tactic(auto, unfolding(lg_base::specs::WordFronts::word_front))]
 fn decode_front(bytes: &[u8]) -> Option<(Instr, u32)>
     ensures { result ≡ word_front instr_of bytes.now }
@@ -44,6 +46,7 @@ fn word_in_front(bytes: &[u8]) -> u32
     u32::from_le_bytes([bytes[0], bytes[1], bytes[2], bytes[3]])
 }
 
+#[inline(always)]
 #[tactic(auto, unfolding(crate::specs::Reading::instr_at))]
 fn decode_word(word: u32) -> Option<Instr>
     ensures { result ≡ instr_of word }
