@@ -11,6 +11,8 @@ pub enum Lines {
     Plain,
     /// Calls of a macro with two parameters, whose body names another.
     Calls,
+    /// Macros, each in a line of its own, behind which it is named.
+    Names,
 }
 
 // The lines before all others, and each of the others.
@@ -21,11 +23,28 @@ fn parts(lines: Lines) -> (&'static [u8], &'static [u8]) {
             b"#define INTO(r) %r0 r\n#define ADD(r, n) addi INTO(r) n\n",
             b"ADD(%r1, 12345)\n",
         ),
+        Lines::Names => (b"", b""),
     }
+}
+
+// So many bytes of macros, each with a use of it, or some less.
+fn names(alloc: Global, size: usize) -> Result<Vec<u8>, OutOfMemory> {
+    let mut text = Vec::new(alloc);
+    for number in 0..size {
+        if size.saturating_sub(text.len()) < 64 {
+            break;
+        }
+        let line = format!(in alloc; "#define m{number} {number}\nm{number}\n")?;
+        text.extend_from_slice(line.as_bytes())?;
+    }
+    Ok(text)
 }
 
 // So many bytes of such lines, or some less.
 fn text(alloc: Global, lines: Lines, size: usize) -> Result<Vec<u8>, OutOfMemory> {
+    if let Lines::Names = lines {
+        return names(alloc, size);
+    }
     let (first, line) = parts(lines);
     let mut text = Vec::from_slice(alloc, first)?;
     for _ in 0..size {

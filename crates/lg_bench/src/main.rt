@@ -4,8 +4,8 @@
 // `jumps N TIMES` find the live registers of a list of nodes of N lines; `moves N TIMES` and `chain N TIMES` rewrite a list of N moves or
 // jumps; `emit N` emits 64 MiB in pieces of N bytes; `list N` lists N nodes of 1,024 bytes of code each, at most 65,536, into a sink that
 // counts; `rv64 N`, `aarch64 N` and `x86_64 N` run N instructions of a loop of five on the modelled processors; `steps N` follows the portable
-// meaning of a loop for N steps; `expand N` and `calls N` expand a text of N bytes, at most 16,777,216, without a name of a macro and of
-// calls alone. Without words it does a little of each.
+// meaning of a loop for N steps; `expand N`, `calls N` and `macros N` expand a text of N bytes, at most 16,777,216, without a name of a macro,
+// of calls alone, and of macros that are each named once. Without words it does a little of each.
 #![tactic(auto)]
 
 mod expansion;
@@ -138,6 +138,7 @@ fn work(rt: &HostRuntime, word: &str, number: u32, times: u32) -> io::Result<()>
         "steps" => follow(rt, number),
         "expand" => expand_text(rt, Lines::Plain, number),
         "calls" => expand_text(rt, Lines::Calls, number),
+        "macros" => expand_text(rt, Lines::Names, number),
         _ => println!(rt; "no such work"),
     }
 }

@@ -1,6 +1,6 @@
 -- A node that is no branch, jump, call or return goes to the next one.
-use Rattle.std.proofs.Common.{◌≡◌, ℕ, ◌+◌, ◌%◌, Bool, true, false, Option, Some, None, refl, subst}
-use Rattle.std.specs.Prelude.{◌==◌, ◌&&◌, if◌then◌else◌, slice_get}
+use Rattle.std.proofs.Common.{◌≡◌, ℕ, ◌+◌, Bool, true, false, Option, Some, None, refl, subst}
+use Rattle.std.specs.Prelude.{if◌then◌else◌, slice_get}
 use Rattle.lg_op.specs.declared.node.Node.{Node}
 use Rattle.lg_op.specs.declared.op.Op.{Op}
 use Rattle.lg_op.specs.declared.op.Op.TheVariants as op
@@ -67,6 +67,9 @@ module _ (t : Text) (n : Node) (s : State) where
   falls (op.Plain plain.Arg) e = refl
   falls (op.Plain plain.Allocai) e = refl
   falls (op.Plain plain.Align) e = refl
+  falls (op.Plain plain.VaStart) e = operated (operand_at n 0) (value t.addresses s (operand_at n 1))
+  falls (op.Plain plain.VaArg) e = needed k (value t.addresses s (operand_at n 1)) _ (λ i. needed k (slice_get s.frame.args i) _ (λ v. refl))
+  falls (op.Plain plain.VaEnd) e = needed k (value t.addresses s (operand_at n 0)) _ (λ i. refl)
   falls (op.Load v at) e = needed k (address t.addresses s at n 1) _ (λ a. needed k (read s a (width v)) _ (λ w. refl))
   falls (op.Store v at) e = needed k (address t.addresses s at n 0) _ (λ a. needed k (value t.addresses s (operand_at n (stored_operand at))) _ (λ w. where_true k (writable (is_open s) a (store_width v)) (quiet (on_with_carry (record s { mem = stored s.mem a (store_width v) w }))) refl))
   falls (op.Retval v) e = needed k s.answer _ (λ w. operated (operand_at n 0) (Some (typed v w)))

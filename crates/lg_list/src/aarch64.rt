@@ -1,12 +1,13 @@
 // The text of A64 instructions.
 
-ghost use Rattle.std.specs.Prelude.{◌≡◌, ◌<◌, ◌≤◌, ◌+◌, ◌*◌, ◌^◌, ◌%◌, ◌++◌, [], ◌∷◌, pos, length};
+ghost use Rattle.std.specs.Prelude.{◌≡◌, ◌<◌, ◌≤◌, ◌+◌, ◌*◌, ◌^◌, ◌%◌, ◌++◌, [], ◌∷◌, pos, codes, length};
+ghost use Rattle.lg_a64.specs.Rows.{cond_row};
 ghost use Rattle.lg_list.specs.Operands.{text};
 ghost use Rattle.lg_list.specs.Aarch64.{general, stacked, z, s, target, width, imm_result, imm_operands, text_of};
 
 use crate::line::Line;
 use crate::operand::{Operand, Register};
-use lg_a64::{ImmOp, Instr, ScaledOp};
+use lg_a64::{Cond, ImmOp, Instr, ScaledOp};
 
 // 31 reads as 0
 fn general(number: u8) -> Register
@@ -40,6 +41,16 @@ fn s(number: u8) -> Operand
     ensures { result ≡ s number }
 {
     Operand::Register(stacked(number))
+}
+
+// memory at the sum of two registers
+fn indexed(base: u8, index: u8) -> Operand
+    ensures { result ≡ Operand.Indexed (stacked base) (general index) }
+{
+    Operand::Indexed {
+        base: stacked(base),
+        index: general(index),
+    }
 }
 
 // the address that lies so many words from an address
@@ -115,6 +126,70 @@ fn push_scaled(line: &mut Line, name: &[u8], op: ScaledOp, rt: u8, rn: u8, imm: 
     );
 }
 
+fn push_unscaled(line: &mut Line, name: &[u8], rt: u8, rn: u8, imm: i32)
+    requires room { length line.old ≤ 52 }
+    requires name { length name.now ≤ 16 }
+    ensures text { line.new ≡ line.old ++ text name.now (z rt ∷ Operand.Memory (stacked rn) imm ∷ []) }
+    ensures room { length line.new ≤ 272 }
+{
+    line.push_text(
+        name,
+        &[
+            z(rt),
+            Operand::Memory {
+                base: stacked(rn),
+                displacement: i64::from(imm),
+            },
+        ],
+    );
+}
+
+fn push_wide(line: &mut Line, name: &[u8], rd: u8, imm: u16, hw: u8)
+    requires room { length line.old ≤ 52 }
+    requires name { length name.now ≤ 16 }
+    ensures text { line.new ≡ line.old ++ text name.now (z rd ∷ Operand.Unsigned imm ∷ Operand.Unsigned hw ∷ []) }
+    ensures room { length line.new ≤ 272 }
+{
+    line.push_text(
+        name,
+        &[
+            z(rd),
+            Operand::Unsigned(u64::from(imm)),
+            Operand::Unsigned(u64::from(hw)),
+        ],
+    );
+}
+
+fn push_bitfield(line: &mut Line, name: &[u8], rd: u8, rn: u8, immr: u8, imms: u8)
+    requires room { length line.old ≤ 52 }
+    requires name { length name.now ≤ 16 }
+    ensures text { line.new ≡ line.old ++ text name.now (z rd ∷ z rn ∷ Operand.Unsigned immr ∷ Operand.Unsigned imms ∷ []) }
+    ensures room { length line.new ≤ 272 }
+{
+    line.push_text(
+        name,
+        &[
+            z(rd),
+            z(rn),
+            Operand::Unsigned(u64::from(immr)),
+            Operand::Unsigned(u64::from(imms)),
+        ],
+    );
+}
+
+// the condition's letters come last
+fn push_csinc(line: &mut Line, name: &[u8], rd: u8, rn: u8, rm: u8, cond: Cond)
+    requires room { length line.old ≤ 52 }
+    requires name { length name.now ≤ 16 }
+    ensures text { line.new ≡ line.old ++ text name.now (z rd ∷ z rn ∷ z rm ∷ []) ++ codes ", " ++ (cond_row cond).name }
+    ensures room { length line.new ≤ 272 }
+{
+    line.push_text(name, &[z(rd), z(rn), z(rm)]);
+    line.push(b", ");
+    let letters = cond.name();
+    line.push(letters.as_slice());
+}
+
 /// Appends the text of an instruction at an address.
 pub fn push_instruction(line: &mut Line, at: u32, instr: &Instr)
     requires { length line.old ≤ 52 }
@@ -132,14 +207,7 @@ pub fn push_instruction(line: &mut Line, at: u32, instr: &Instr)
             imm,
             shifted,
         } => push_imm(line, name, op, rd, rn, imm, shifted),
-        Instr::Wide { rd, imm, hw, .. } => line.push_text(
-            name,
-            &[
-                z(rd),
-                Operand::Unsigned(u64::from(imm)),
-                Operand::Unsigned(u64::from(hw)),
-            ],
-        ),
+        Instr::Wide { rd, imm, hw, .. } => push_wide(line, name, rd, imm, hw),
         Instr::MulAdd { rd, rn, rm, ra, .. } => {
             line.push_text(name, &[z(rd), z(rn), z(rm), z(ra)])
         }
@@ -149,43 +217,12 @@ pub fn push_instruction(line: &mut Line, at: u32, instr: &Instr)
             immr,
             imms,
             ..
-        } => line.push_text(
-            name,
-            &[
-                z(rd),
-                z(rn),
-                Operand::Unsigned(u64::from(immr)),
-                Operand::Unsigned(u64::from(imms)),
-            ],
-        ),
-        Instr::Csinc { rd, rn, rm, cond } => {
-            line.push_text(name, &[z(rd), z(rn), z(rm)]);
-            line.push(b", ");
-            let letters = cond.name();
-            line.push(letters.as_slice());
-        }
+        } => push_bitfield(line, name, rd, rn, immr, imms),
+        Instr::Csinc { rd, rn, rm, cond } => push_csinc(line, name, rd, rn, rm, cond),
         Instr::Reverse { rd, rn, .. } => line.push_text(name, &[z(rd), z(rn)]),
         Instr::Scaled { op, rt, rn, imm } => push_scaled(line, name, op, rt, rn, imm),
-        Instr::Ldrx { rt, rn, rm } => line.push_text(
-            name,
-            &[
-                z(rt),
-                Operand::Indexed {
-                    base: stacked(rn),
-                    index: general(rm),
-                },
-            ],
-        ),
-        Instr::Unscaled { rt, rn, imm, .. } => line.push_text(
-            name,
-            &[
-                z(rt),
-                Operand::Memory {
-                    base: stacked(rn),
-                    displacement: i64::from(imm),
-                },
-            ],
-        ),
+        Instr::Ldrx { rt, rn, rm } => line.push_text(name, &[z(rt), indexed(rn, rm)]),
+        Instr::Unscaled { rt, rn, imm, .. } => push_unscaled(line, name, rt, rn, imm),
         Instr::Branch { words, .. } => line.push_text(name, &[target(at, words)]),
         Instr::BranchIf { words, .. } => line.push_text(name, &[target(at, words)]),
         Instr::BranchReg { rn, .. } => line.push_text(name, &[z(rn)]),

@@ -40,7 +40,9 @@ fn write_labels<O: Sink>(nodes: Nodes<'_>, index: u32, out: &mut O) -> Result<()
     requires index { index ≤ length nodes.list.now.nodes }
     requires addressed { AreAddressed nodes.list.now.places nodes.places.now.items nodes.labels.now }
     requires small { slice_index nodes.places.now.items index ≤ most_code }
-    ensures { Wrote (O.taken out.old) (O.taken out.new) (O.faults out.old) (O.faults out.new) result (rendered (code_base + slice_index nodes.entry.places.now.items index) (labels_at index nodes.entry.list.now.words nodes.entry.list.now.places)) }
+    ensures { Wrote (O.taken out.old) (O.taken out.new) (O.faults out.old) (O.faults out.new) result (rendered
+        (code_base + slice_index nodes.entry.places.now.items index)
+        (labels_at index nodes.entry.list.now.words nodes.entry.list.now.places)) }
 {
     nodes.list.what_holds();
     let mut next = nodes.list.first_at(index);
@@ -115,7 +117,8 @@ fn write_node<O: Sink>(
     requires small { slice_index nodes.places.now.items index ≤ most_code }
     requires at { at ≡ code_base + slice_index nodes.places.now.items index }
     requires room { length bytes.now ≤ most_code }
-    ensures { Wrote (O.taken out.old) (O.taken out.new) (O.faults out.old) (O.faults out.new) result (rendered at (node_entries target bytes.now nodes.entry.list.now index)) }
+    ensures { Wrote (O.taken out.old) (O.taken out.new) (O.faults out.old) (O.faults out.new) result
+        (rendered at (node_entries target bytes.now nodes.entry.list.now index)) }
 {
     let node = nodes.list.node(index);
     let own = node_line(node.line, node.op);
@@ -142,7 +145,8 @@ pub fn list<O: Sink>(
 ) -> Result<(), SinkFault>
     requires placed { Placed places.now.items (length nodes.now.nodes) (length code.now.items) }
     requires addressed { AreAddressed nodes.now.places places.now.items labels.now }
-    ensures { Wrote (O.taken out.old) (O.taken out.new) (O.faults out.old) (O.faults out.new) result (listing target code.now.items places.now.items nodes.now) }
+    ensures { Wrote (O.taken out.old) (O.taken out.new) (O.faults out.old) (O.faults out.new) result
+        (listing target code.now.items places.now.items nodes.now) }
 {
     let line = first_line(target, code.len());
     match write_all(out, line.as_slice()) {

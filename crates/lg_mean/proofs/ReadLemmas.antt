@@ -1,6 +1,6 @@
 -- A number that was written is read only where each of its bytes lies in a part.
 use Rattle.std.proofs.Common.{◌≡◌, ℕ, zero, suc, ◌+◌, Bool, true, false, Option, Some, None, refl}
-use Rattle.std.specs.Prelude.{◌&&◌, is_some, if◌then◌else◌}
+use Rattle.std.specs.Prelude.{is_some, if◌then◌else◌}
 use Rattle.std.proofs.lemmas.Bool.{and_parts}
 use Rattle.lg_base.specs.Spaces.{mapped, loaded, number_at, byte_or_zero}
 use Rattle.lg_cells.specs.Memories.{writable}

@@ -81,6 +81,9 @@ module _ (l : LabelledNodes) (shape : TextShape) (w : IsWellShaped l) (s : State
   suits_of (op.Plain plain.Arg) e = tt
   suits_of (op.Plain plain.Allocai) e = tt
   suits_of (op.Plain plain.Align) e = tt
+  suits_of (op.Plain plain.VaStart) e = tt
+  suits_of (op.Plain plain.VaArg) e = tt
+  suits_of (op.Plain plain.VaEnd) e = tt
   suits_of (op.Load a b) e = tt
   suits_of (op.Store a b) e = tt
   suits_of (op.Retval a) e = tt

@@ -13,7 +13,7 @@ pub record MachineState : Type 0 where
   pub answer : Option ℕ
   pub staged : List ℕ
   pub count : ℕ
-  pub variadic : Bool
+  pub variadic : Option Bool
   pub top : KeptFrame
   pub below : List KeptFrame
   pub memory : Marked

@@ -1,8 +1,8 @@
 // Arithmetic, branches and jumps of the portable machine. Each method answers whether the step is defined.
 
-ghost use Rattle.std.specs.Prelude.{◌≡◌, ◌<◌, ◌-◌, ◌^◌, ◌∷◌, [], ℕ, length, slice_get, Bool, true, false, if◌then◌else◌};
+ghost use Rattle.std.specs.Prelude.{◌≡◌, ◌<◌, ◌-◌, ◌^◌, ◌∷◌, [], ℕ, length, slice_get, IfSome, Bool, true, false, if◌then◌else◌};
 ghost use Rattle.lg_operators.specs.Operators.{binary_value, is_carried};
-ghost use Rattle.lg_meaning.specs.Steps.{binary_step, carried_step, carried_to, wide_step, unary_step, movi_step, branch, branch_step, branch_sum_step, jump_step, retval_step, getarg_step, quiet, on};
+ghost use Rattle.lg_meaning.specs.Steps.{binary_step, carried_step, carried_to, wide_step, unary_step, movi_step, branch, branch_step, branch_sum_step, jump_step, retval_step, getarg_step, va_start_step, va_arg_step, va_end_step, quiet, on};
 ghost use Rattle.lg_mean.specs.Machines.{state_of};
 ghost use Rattle.lg_mean.specs.Programs.{text_of};
 ghost use Rattle.lg_mean.specs.Says.{AreKnown, IsKnown, Does};
@@ -228,10 +228,11 @@ impl Machine {
     }
 
     // The argument of a number.
-    fn argument(&self, index: u32) -> Option<u64>
-        ensures { result ≡ slice_get (state_of self.now).frame.args index }
+    fn argument(&self, index: u64) -> Option<u64>
+        ensures value { result ≡ slice_get (state_of self.now).frame.args index }
+        ensures few { IfSome result (λ word. index < 16) }
     {
-        if index < self.top.count {
+        if index < u64::from(self.top.count) {
             self.top.args.get(index as usize).copied()
         } else {
             None
@@ -243,12 +244,59 @@ impl Machine {
         requires room { self.old.at < 2 ^ 32 - 1 }
         ensures { Does (getarg_step node.now value_type (state_of self.old)) (state_of self.old) result (state_of self.new) }
     {
-        match self.argument(slot(operand(node, 1))) {
+        match self.argument(u64::from(slot(operand(node, 1)))) {
             Some(word) => {
                 self.operate(operand(node, 0), operators::typed(value_type, word));
                 true
             }
             None => false,
         }
+    }
+
+    // O1 = the list of the variable arguments.
+    pub(crate) fn va_start(&mut self, node: &Node, labels: &[u64]) -> bool
+        requires room { self.old.at < 2 ^ 32 - 1 }
+        requires known { AreKnown (length labels.now) node.now }
+        ensures { Does (va_start_step labels.now node.now (state_of self.old)) (state_of self.old) result (state_of self.new) }
+    {
+        match self.value(labels, operand(node, 1)) {
+            Some(word) => {
+                self.operate(operand(node, 0), word);
+                true
+            }
+            None => false,
+        }
+    }
+
+    // O1 = the argument of the number O2, and O2 = the next number.
+    pub(crate) fn va_arg(&mut self, node: &Node, labels: &[u64]) -> bool
+        requires room { self.old.at < 2 ^ 32 - 1 }
+        requires known { AreKnown (length labels.now) node.now }
+        ensures { Does (va_arg_step labels.now node.now (state_of self.old)) (state_of self.old) result (state_of self.new) }
+    {
+        let Some(index) = self.value(labels, operand(node, 1)) else {
+            return false;
+        };
+        match self.argument(index) {
+            Some(word) => {
+                self.set(operand(node, 0), word);
+                self.operate(operand(node, 1), index + 1);
+                true
+            }
+            None => false,
+        }
+    }
+
+    // The end of a list of variable arguments, which changes nothing.
+    pub(crate) fn va_end(&mut self, node: &Node, labels: &[u64]) -> bool
+        requires room { self.old.at < 2 ^ 32 - 1 }
+        requires known { AreKnown (length labels.now) node.now }
+        ensures { Does (va_end_step labels.now node.now (state_of self.old)) (state_of self.old) result (state_of self.new) }
+    {
+        if self.value(labels, operand(node, 0)).is_none() {
+            return false;
+        }
+        self.go_on();
+        true
     }
 }

@@ -31,16 +31,18 @@ impl Machine {
         ensures { Does (prepare_step (state_of self.old)) (state_of self.old) true (state_of self.new) }
     {
         self.count = 0;
-        self.variadic = false;
+        self.variadic = Some(false);
         self.go_on();
     }
 
-    // The call is variadic.
+    // The call that is being prepared is variadic; where none is, nothing changes.
     pub(crate) fn ellipsis(&mut self)
         requires { self.old.at < 2 ^ 32 - 1 }
         ensures { Does (ellipsis_step (state_of self.old)) (state_of self.old) true (state_of self.new) }
     {
-        self.variadic = true;
+        if let Some(_) = self.variadic {
+            self.variadic = Some(true);
+        }
         self.go_on();
     }
 
@@ -90,7 +92,7 @@ impl Machine {
     {
         self.registers = [None, None, None, None, None, None, None];
         self.count = 0;
-        self.variadic = false;
+        self.variadic = None;
         self.go_to(node);
     }
 
@@ -146,7 +148,7 @@ impl Machine {
         self.registers[1] = None;
         self.registers[2] = None;
         self.count = 0;
-        self.variadic = false;
+        self.variadic = None;
         self.at = node;
         self.carry = Carry::Undefined;
         self.answer = answer;

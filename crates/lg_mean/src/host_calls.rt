@@ -4,7 +4,7 @@ ghost use Rattle.std.specs.Prelude.{◌≡◌, ◌<◌, ◌≤◌, ◌-◌, ◌+
 ghost use Rattle.lg_host.specs.Host.{HostSays, KeepsCountAt, host_of, memory, outcome};
 ghost use Rattle.lg_cells.specs.Memories.{byte_at, room_at};
 ghost use Rattle.lg_meaning.specs.States.{is_open};
-ghost use Rattle.lg_meaning.specs.Steps.{call_host, resumed};
+ghost use Rattle.lg_meaning.specs.Steps.{call_host, is_marked, resumed};
 ghost use Rattle.lg_mean.specs.Machines.{state_of, regs_of};
 ghost use Rattle.lg_mean.specs.Says.{Steps, KeepsCount};
 
@@ -15,11 +15,21 @@ use lg_host::call::call;
 use lg_host::host_end::HostEnd;
 use lg_io::sink::Sink;
 
+// Whether a call is variadic.
+fn is_marked(variadic: Option<bool>) -> bool
+    ensures { result ≡ is_marked variadic }
+{
+    match variadic {
+        Some(variadic) => variadic,
+        None => false,
+    }
+}
+
 impl Machine {
     // Calls a host function on the memory.
     fn call_out<O: Sink>(&mut self, name: HostName, count: u32, out: &mut O) -> HostEnd
         requires { count ≤ 16 }
-        ensures says { HostSays (host_of name (take count self.old.staged) self.old.variadic (memory (byte_at self.old.memory)
+        ensures says { HostSays (host_of name (take count self.old.staged) (is_marked self.old.variadic) (memory (byte_at self.old.memory)
             (is_open (state_of self.old)) self.old.heap))
             (memory (byte_at self.old.memory) (is_open (state_of self.old)) self.old.heap)
             (memory (byte_at self.new.memory) (is_open (state_of self.new)) self.new.heap)
@@ -29,7 +39,7 @@ impl Machine {
         ensures kept { KeepsCountAt result (outcome (O.taken out.old) (O.taken out.new) (O.faults out.old) (O.faults out.new)) }
     {
         let staged = self.staged;
-        let variadic = self.variadic;
+        let variadic = is_marked(self.variadic);
         call(
             name,
             &staged[..count as usize],

@@ -23,7 +23,7 @@ pub(crate) struct Machine {
     pub(crate) answer: Option<u64>,
     pub(crate) staged: [u64; 16],
     pub(crate) count: u32,
-    pub(crate) variadic: bool,
+    pub(crate) variadic: Option<bool>,
     pub(crate) top: KeptFrame,
     pub(crate) below: Vec<KeptFrame>,
     pub(crate) memory: CellMemory,

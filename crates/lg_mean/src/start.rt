@@ -52,7 +52,7 @@ impl Machine {
             answer: None,
             staged: [0; 16],
             count: 0,
-            variadic: false,
+            variadic: None,
             top: entry_frame(argument_count(args)),
             below: Vec::with_capacity(alloc, MOST_FRAMES)?,
             memory: CellMemory::new(alloc, image, args)?,

@@ -250,6 +250,9 @@ impl Machine {
             }
             PlainOp::Prolog => self.prolog(program),
             PlainOp::Arg | PlainOp::Allocai | PlainOp::Align => self.pass(),
+            PlainOp::VaStart => self.va_start(node, program.addresses()),
+            PlainOp::VaArg => self.va_arg(node, program.addresses()),
+            PlainOp::VaEnd => self.va_end(node, program.addresses()),
             PlainOp::Epilog | PlainOp::Ret => false,
         }
     }

@@ -33,7 +33,7 @@ use Rattle.lg_node.proofs.FunctionLaws.{home_within}
 use Rattle.lg_node.proofs.WalkLemmas.{prepared_on}
 use Rattle.lg_cells.specs.Memories.{without}
 use Rattle.lg_meaning.specs.States.{Frame, State, value, is_part, is_open}
-use Rattle.lg_meaning.specs.Steps.{operand_at, on, begun, prolog_step, called, started, enter, resumed, back_to, leave, ret_step, answered, host_end, call_host, call_node, call_operand, begins, is_entry_label, entry_target, call_named, call_step, node_in, function_here}
+use Rattle.lg_meaning.specs.Steps.{operand_at, on, begun, prolog_step, called, started, enter, resumed, back_to, leave, ret_step, answered, host_end, call_host, is_marked, call_node, call_operand, begins, is_entry_label, entry_target, call_named, call_step, node_in, function_here}
 use Rattle.lg_meaning.specs.Texts.{text}
 use Rattle.lg_meaning.specs.Fits.{RunsIn, IsTopOf, IsCaller, AreLinked, is_call, passed, FitsWell}
 use Rattle.lg_meaning.proofs.ArriveLemmas.{behind_top, before_top}
@@ -218,7 +218,7 @@ module _ (l : LabelledNodes) (shape : TextShape) (s : State) (n : Node) (x : AtN
     }
 
     host_fits : (name : HostName) → OnGoes (FitsWell l shape) (call_host s args name)
-    host_fits name = ends_fit (host_of name args s.variadic (at_host s)) (host_writes (at_host s) name args s.variadic)
+    host_fits name = ends_fit (host_of name args (is_marked s.variadic) (at_host s)) (host_writes (at_host s) name args (is_marked s.variadic))
 
     -- a call of a label or of a host function
     operand_fits : (A : List ℕ) (fs : List Form) (xs : List Operand) → n.operands ≡ xs → admit (form.Callee ∷ fs) xs ≡ true → has_callee n.op ≡ true → OnGoes (FitsWell l shape) (call_operand (text l shape A) s args (slice_index_or xs 0 (operand.Number 0)))

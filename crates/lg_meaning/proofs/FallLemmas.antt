@@ -13,7 +13,7 @@ use Rattle.lg_op.specs.declared.op.WideOp.{WideOp}
 use Rattle.lg_operators.specs.declared.carry.Carry.{Carry}
 use Rattle.lg_operators.specs.Operators.{is_carried, is_move, binary_value, unary_value, carry_in, wide_value, width}
 use Rattle.lg_meaning.specs.States.{State, value}
-use Rattle.lg_meaning.specs.Steps.{Outcome, Text, slot, operand_at, on, on_with_carry, with_reg, operate, binary_step, carried_step, wide_step, unary_step, movi_step, read, address, load_step, retval_step, getarg_step, node_step}
+use Rattle.lg_meaning.specs.Steps.{Outcome, Text, slot, operand_at, on, on_with_carry, with_reg, operate, binary_step, carried_step, wide_step, unary_step, movi_step, read, address, load_step, retval_step, getarg_step, va_start_step, va_arg_step, va_end_step, node_step}
 use Rattle.lg_meaning.proofs.Outcomes.{OnGoes, need_on}
 
 -- a state at a node that differs in registers, carry and answer alone
@@ -76,6 +76,15 @@ module _ (s : State) where
 
   pub getarg_falls : (n : Node) (t : ValueType) → OnGoes (Falls s) (getarg_step n t s)
   getarg_falls n t = need_on (Falls s) (slice_get s.frame.args (slot (operand_at n 1))) _ (λ v e. fall _ _ _)
+
+  pub va_start_falls : (A : List ℕ) (n : Node) → OnGoes (Falls s) (va_start_step A n s)
+  va_start_falls A n = operate_falls (operand_at n 0) (value A s (operand_at n 1))
+
+  pub va_arg_falls : (A : List ℕ) (n : Node) → OnGoes (Falls s) (va_arg_step A n s)
+  va_arg_falls A n = need_on (Falls s) (value A s (operand_at n 1)) _ (λ i e. need_on (Falls s) (slice_get s.frame.args i) _ (λ v h. fall _ _ _))
+
+  pub va_end_falls : (A : List ℕ) (n : Node) → OnGoes (Falls s) (va_end_step A n s)
+  va_end_falls A n = need_on (Falls s) (value A s (operand_at n 0)) _ (λ i e. fall _ _ _)
 
   pub passing_falls : Falls s (on s)
   passing_falls = fall _ _ _

@@ -30,11 +30,11 @@ use Rattle.lg_node.specs.Shapes.{TextShape}
 use Rattle.lg_node.specs.ShapeLaws.{IsWellShaped}
 use Rattle.lg_operators.specs.Operators.{store_width}
 use Rattle.lg_meaning.specs.States.{Frame, State, value, is_open}
-use Rattle.lg_meaning.specs.Steps.{Outcome, Goes, Text, operand_at, on, begun, prolog_step, back_to, host_end, call_host, call_node, call_operand, entry_target, call_named, call_step, function_here, branch_step, branch_sum_step, jump_target, jump_step, push_step, store_to, store_step, stored_operand, address, wide_step, unary_step, movi_step, load_step, retval_step, getarg_step, node_step}
+use Rattle.lg_meaning.specs.Steps.{Outcome, Goes, Text, operand_at, va_start_step, va_arg_step, va_end_step, on, begun, prolog_step, back_to, host_end, call_host, is_marked, call_node, call_operand, entry_target, call_named, call_step, function_here, branch_step, branch_sum_step, jump_target, jump_step, push_step, store_to, store_step, stored_operand, address, wide_step, unary_step, movi_step, load_step, retval_step, getarg_step, node_step}
 use Rattle.lg_meaning.specs.Texts.{text, step_at, step}
 use Rattle.lg_meaning.specs.Fits.{RunsIn, IsTopOf, FitsWell}
 use Rattle.lg_meaning.specs.Parts.{Grows}
-use Rattle.lg_meaning.proofs.FallLemmas.{Moves, Falls, binary_node_falls, wide_falls, unary_falls, movi_falls, load_falls, retval_falls, getarg_falls}
+use Rattle.lg_meaning.proofs.FallLemmas.{Moves, Falls, binary_node_falls, wide_falls, unary_falls, movi_falls, load_falls, retval_falls, getarg_falls, va_start_falls, va_arg_falls, va_end_falls}
 use Rattle.lg_meaning.proofs.HostFacts.{Writes, host_writes}
 use Rattle.lg_meaning.proofs.OpenFacts.{no_locals}
 use Rattle.lg_meaning.proofs.Outcomes.{OnGoes, need_on, when_on, on_weaker, on_result}
@@ -111,7 +111,7 @@ module _ (s : State) where
   ends_grow (Gives v changes mark bytes) w = record { data_size = refl; args_size = refl; mark = w.rises; bytes = λ a lt h. over_stays changes s.mem a h }
 
   host_grows : (args : List ℕ) (name : HostName) → OnGoes (Grows s) (call_host s args name)
-  host_grows args name = ends_grow (host_of name args s.variadic (memory s.mem (is_open s) s.mark)) (host_writes (memory s.mem (is_open s) s.mark) name args s.variadic)
+  host_grows args name = ends_grow (host_of name args (is_marked s.variadic) (memory s.mem (is_open s) s.mark)) (host_writes (memory s.mem (is_open s) s.mark) name args (is_marked s.variadic))
 
   node_grows : (t : Text) (args : List ℕ) (k : ℕ) → OnGoes (Grows s) (call_node t s args k)
   node_grows t args k = need_on (Grows s) (function_here t.functions k) _ (λ f h. when_on (Grows s) (nat_le (0x3FF00010 + frame_of f) (s.frame.sp - s.frame.size)) _ (λ room. same _ refl refl refl refl))
@@ -180,6 +180,9 @@ module _ (l : LabelledNodes) (shape : TextShape) (s : State) (w : IsWellShaped l
   grows_of (op.Plain plain.Arg) e = same s _ refl refl refl refl
   grows_of (op.Plain plain.Allocai) e = same s _ refl refl refl refl
   grows_of (op.Plain plain.Align) e = same s _ refl refl refl refl
+  grows_of (op.Plain plain.VaStart) e = falls_grow s (va_start_step A n s) (va_start_falls s A n)
+  grows_of (op.Plain plain.VaArg) e = falls_grow s (va_arg_step A n s) (va_arg_falls s A n)
+  grows_of (op.Plain plain.VaEnd) e = falls_grow s (va_end_step A n s) (va_end_falls s A n)
   grows_of (op.Load v at) e = falls_grow s (load_step A n v at s) (load_falls s A n v at)
   grows_of (op.Store t at) e = store_grows s A n t at
   grows_of (op.Retval v) e = falls_grow s (retval_step n v s) (retval_falls s n v)

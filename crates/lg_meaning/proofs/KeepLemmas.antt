@@ -21,12 +21,12 @@ use Rattle.lg_node.specs.Shapes.{TextShape, IsShapeOf}
 use Rattle.lg_node.specs.ShapeLaws.{IsWellShaped, HasFunctions}
 use Rattle.lg_operators.specs.Operators.{holds, branch_sum_value, branch_sum_goes}
 use Rattle.lg_meaning.specs.States.{State, value}
-use Rattle.lg_meaning.specs.Steps.{Outcome, Goes, operand_at, on, to, with_reg, quiet, branch_step, branch_sum_step, node_of_label, load_step, unary_step, movi_step, wide_step, retval_step, getarg_step, node_step}
+use Rattle.lg_meaning.specs.Steps.{Outcome, Goes, operand_at, on, to, with_reg, quiet, branch_step, branch_sum_step, node_of_label, load_step, unary_step, movi_step, wide_step, retval_step, getarg_step, va_start_step, va_arg_step, va_end_step, node_step}
 use Rattle.lg_meaning.specs.Texts.{text, step_at, step}
 use Rattle.lg_meaning.specs.Fits.{FitsWell}
 use Rattle.lg_meaning.specs.Laws.{IsFormedAt}
 use Rattle.lg_meaning.proofs.CallLemmas.{prolog_fits, leave_fits, ret_fits, call_fits}
-use Rattle.lg_meaning.proofs.FallLemmas.{Falls, move, binary_node_falls, wide_falls, unary_falls, movi_falls, load_falls, retval_falls, getarg_falls, passing_falls}
+use Rattle.lg_meaning.proofs.FallLemmas.{Falls, move, binary_node_falls, wide_falls, unary_falls, movi_falls, load_falls, retval_falls, getarg_falls, va_start_falls, va_arg_falls, va_end_falls, passing_falls}
 use Rattle.lg_meaning.proofs.NodeFacts.{AtNode, prepares}
 use Rattle.lg_meaning.proofs.Outcomes.{OnGoes, need_on, on_weaker, on_result}
 use Rattle.lg_meaning.proofs.PushLemmas.{prepare_fits, ellipsis_fits, push_fits, store_fits}
@@ -72,6 +72,9 @@ module _ (l : LabelledNodes) (shape : TextShape) (s : State) (n : Node) (x : AtN
   kept_of (op.Plain plain.Arg) e = register_fits (quiet (on s)) (rw e refl) (rw e refl) (rw e refl) (rw e refl) (passing_falls s)
   kept_of (op.Plain plain.Allocai) e = register_fits (quiet (on s)) (rw e refl) (rw e refl) (rw e refl) (rw e refl) (passing_falls s)
   kept_of (op.Plain plain.Align) e = passes_fit l shape s n x (rw e refl) (rw e refl) (rw e refl) (on s) (passing_falls s)
+  kept_of (op.Plain plain.VaStart) e = register_fits (va_start_step A n s) (rw e refl) (rw e refl) (rw e refl) (rw e refl) (va_start_falls s A n)
+  kept_of (op.Plain plain.VaArg) e = register_fits (va_arg_step A n s) (rw e refl) (rw e refl) (rw e refl) (rw e refl) (va_arg_falls s A n)
+  kept_of (op.Plain plain.VaEnd) e = register_fits (va_end_step A n s) (rw e refl) (rw e refl) (rw e refl) (rw e refl) (va_end_falls s A n)
   kept_of (op.Load v at) e = register_fits (load_step A n v at s) (rw e refl) (rw e refl) (rw e refl) (rw e refl) (load_falls s A n v at)
   kept_of (op.Store t at) e = store_fits l shape s n x A t at e
   kept_of (op.Retval v) e = register_fits (retval_step n v s) (rw e refl) (rw e refl) (rw e refl) (rw e refl) (retval_falls s n v)

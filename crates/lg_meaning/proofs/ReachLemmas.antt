@@ -1,6 +1,6 @@
 -- A step goes to a successor, begins a function, or returns.
-use Rattle.std.proofs.Common.{◌≡◌, ◌⊎◌, inl, inr, ⊎_elim, ℕ, ◌+◌, ◌<◌, ◌≤◌, Bool, true, false, List, [], ◌∷◌, Option, Some, None, refl, sym, ap, ◌∙◌, subst, length, arith}
-use Rattle.std.specs.Prelude.{◌&&◌, ◌==◌, ◌%◌, ◌-◌, nat_lt, nat_le, if◌then◌else◌, slice_get, slice_index_or}
+use Rattle.std.proofs.Common.{◌≡◌, inl, inr, ℕ, ◌+◌, ◌<◌, ◌≤◌, Bool, true, false, List, [], ◌∷◌, Option, Some, None, refl, sym, ap, ◌∙◌, subst, length, arith}
+use Rattle.std.specs.Prelude.{◌&&◌, ◌-◌, nat_lt, nat_le, slice_get, slice_index_or}
 use Rattle.std.specs.Option.{option_and_then}
 use Rattle.std.proofs.lemmas.Bool.{and_parts}
 use Rattle.lg_base.specs.HostNames.{host_by_address}
@@ -12,7 +12,6 @@ use Rattle.lg_op.specs.Nodes.{InForm}
 use Rattle.lg_op.specs.declared.form.Form.{Form}
 use Rattle.lg_op.specs.declared.form.Form.TheVariants as form
 use Rattle.lg_op.specs.declared.node.Node.{Node}
-use Rattle.lg_op.specs.declared.operand.Label.{Label}
 use Rattle.lg_op.specs.declared.operand.Operand.{Operand}
 use Rattle.lg_op.specs.declared.operand.Operand.TheVariants as operand
 use Rattle.lg_op.specs.declared.op.LastOperand.{LastOperand}
@@ -29,20 +28,19 @@ use Rattle.lg_base.specs.Spaces.{stored}
 use Rattle.lg_cells.specs.Memories.{writable}
 use Rattle.lg_node.specs.Functions.{home, functions, frame_of}
 use Rattle.lg_node.specs.Labels.{place_of}
-use Rattle.lg_node.specs.ShapeLaws.{HasFunctions, IsWellShaped, JumpsTo, has_target}
-use Rattle.lg_node.specs.Shapes.{TextShape, IsShapeOf, IsSuccessor, IsTakenIn, IsTarget, IsNext, GoesBy, Way, Next, Jump, Either, Taken, Leave, way_of, target_of}
+use Rattle.lg_node.specs.ShapeLaws.{JumpsTo, has_target}
+use Rattle.lg_node.specs.Shapes.{TextShape, IsShapeOf, IsTakenIn, IsTarget, IsNext, GoesBy, Way, Next, Jump, Either, Taken, way_of, target_of}
 use Rattle.lg_node.proofs.SuccessorLaws.{has_functions}
 use Rattle.lg_node.proofs.WellShaped.{well_shaped as accepted_well_shaped}
 use Rattle.lg_meaning.specs.States.{State, value, is_open}
-use Rattle.lg_meaning.specs.Steps.{Outcome, Goes, need, when, operand_at, node_of_label, node_in, branch, function_here, is_behind, is_target, jump_target, jump_step, host_end, call_host, call_node, call_operand, call_named, call_word, call_step, entry_target, store_step, stored_operand, address, push_step, prolog_step, node_step, branch_step, branch_sum_step, with_reg, quiet, on, on_with_carry, started, called, prepare_step, ellipsis_step, wide_step, unary_step, movi_step, load_step, retval_step, getarg_step}
+use Rattle.lg_meaning.specs.Steps.{Outcome, operand_at, va_start_step, va_arg_step, va_end_step, node_of_label, node_in, branch, function_here, is_behind, is_target, jump_target, jump_step, host_end, call_host, is_marked, call_node, call_operand, call_named, call_step, entry_target, store_step, stored_operand, address, push_step, prolog_step, node_step, with_reg, quiet, on, on_with_carry, started, called, prepare_step, ellipsis_step, wide_step, unary_step, movi_step, load_step, retval_step, getarg_step}
 use Rattle.lg_operators.specs.Operators.{store_width, holds, branch_sum_value, branch_sum_goes}
-use Rattle.lg_meaning.specs.Texts.{text, step, step_at}
-use Rattle.lg_meaning.proofs.FallLemmas.{Falls, binary_node_falls, wide_falls, unary_falls, movi_falls, load_falls, retval_falls, getarg_falls}
+use Rattle.lg_meaning.specs.Texts.{text, step_at}
+use Rattle.lg_meaning.proofs.FallLemmas.{Falls, binary_node_falls, wide_falls, unary_falls, movi_falls, load_falls, retval_falls, getarg_falls, va_start_falls, va_arg_falls, va_end_falls}
 use Rattle.lg_meaning.proofs.FunctionFacts.{function_at_home}
 use Rattle.lg_meaning.proofs.NodeFacts.{target_first}
 use Rattle.lg_meaning.proofs.Outcomes.{OnGoes, need_on, when_on, on_weaker, on_result}
 use Rattle.lg_meaning.proofs.StayLemmas.{Lands, last_landed}
-use Rattle.lg_node.specs.Shapes.{IsTaken}
 use Rattle.lg_meaning.specs.Reaching.{is_return, Reaches, StepsReachSuccessors, TakenLabelsAreSuccessors}
 
 -- the target of a node
@@ -139,7 +137,7 @@ module _ (l : LabelledNodes) (shape : TextShape) (s : State) (n : Node) (is : Is
 
   module _ (e : way_of n.op ≡ Next) where
     host_comes : (args : List ℕ) (name : HostName) → OnGoes Comes (call_host s args name)
-    host_comes args name = onward e (call_host s args name) (host_onward (host_of name args s.variadic (memory s.mem (is_open s) s.mark)))
+    host_comes args name = onward e (call_host s args name) (host_onward (host_of name args (is_marked s.variadic) (memory s.mem (is_open s) s.mark)))
 
     operand_comes : (args : List ℕ) (x : Operand) → OnGoes Comes (call_operand (text l shape A) s args x)
     operand_comes args (operand.Host name) = host_comes args name
@@ -186,6 +184,9 @@ module _ (l : LabelledNodes) (shape : TextShape) (s : State) (n : Node) (is : Is
   comes_of (op.Plain plain.Arg) e k = onward (ap way_of e) (quiet (on s)) refl
   comes_of (op.Plain plain.Allocai) e k = onward (ap way_of e) (quiet (on s)) refl
   comes_of (op.Plain plain.Align) e k = onward (ap way_of e) (quiet (on s)) refl
+  comes_of (op.Plain plain.VaStart) e k = falls_onward (ap way_of e) (va_start_step A n s) (va_start_falls s A n)
+  comes_of (op.Plain plain.VaArg) e k = falls_onward (ap way_of e) (va_arg_step A n s) (va_arg_falls s A n)
+  comes_of (op.Plain plain.VaEnd) e k = falls_onward (ap way_of e) (va_end_step A n s) (va_end_falls s A n)
   comes_of (op.Load v at) e k = falls_onward (ap way_of e) (load_step A n v at s) (load_falls s A n v at)
   comes_of (op.Store t at) e k = onward (ap way_of e) (store_step A n t at s) (need_on IsOnward (address A s at n 0) _ (λ a h. need_on IsOnward (value A s (operand_at n (stored_operand at))) _ (λ v g. when_on IsOnward (writable (is_open s) a (store_width t)) (quiet (on_with_carry (record s { mem = stored s.mem a (store_width t) v }))) (λ c. refl))))
   comes_of (op.Retval v) e k = falls_onward (ap way_of e) (retval_step n v s) (retval_falls s n v)

@@ -1,5 +1,5 @@
 -- The portable state at the start of a run.
-use Rattle.std.specs.Prelude.{ℕ, false, None, List, [], ◌∷◌, length}
+use Rattle.std.specs.Prelude.{ℕ, None, List, [], ◌∷◌, length}
 use Rattle.lg_base.specs.Parts.{args_base, heap_base}
 use Rattle.lg_base.specs.Layout.{stack_end}
 use Rattle.lg_base.specs.Arguments.{argument_count}
@@ -20,7 +20,7 @@ start_state image args = record {
   carry = carry.Undefined;
   answer = None;
   pushed = [];
-  variadic = false;
+  variadic = None;
   frame = start_frame (argument_count args);
   callers = [];
   mem = first_bytes image args;

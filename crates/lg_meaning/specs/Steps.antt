@@ -1,6 +1,6 @@
 -- One step of the portable machine: a row for each family of the instruction table. A step is undefined where a word that it reads is
 -- undefined, and it then changes and writes nothing.
-use Rattle.std.specs.Prelude.{ℕ, zero, suc, ◌+◌, ◌-◌, ◌%◌, ◌==◌, ◌&&◌, Bool, true, false, nat_lt, nat_le, max, if◌then◌else◌, Option, Some, None, List, [], ◌∷◌, ◌++◌, length, slice_index, slice_index_or, slice_get}
+use Rattle.std.specs.Prelude.{ℕ, zero, suc, ◌+◌, ◌-◌, ◌==◌, ◌&&◌, Bool, true, false, nat_lt, nat_le, max, if◌then◌else◌, Option, Some, None, List, [], ◌∷◌, ◌++◌, length, slice_index, slice_index_or, slice_get}
 use Rattle.std.specs.Option.{option_and_then, option_flatten}
 use Rattle.lg_base.specs.Words.{add_words}
 use Rattle.lg_base.specs.Spaces.{loaded, stored}
@@ -215,17 +215,22 @@ store_step A n t at s = need (address A s at n 0) (λ a. need (value A s (operan
 
 -- ---- calls
 abbrev pub prepare_step : State → Outcome
-prepare_step s = quiet (on (record s { pushed = []; variadic = false }))
+prepare_step s = quiet (on (record s { pushed = []; variadic = Some false }))
+
+-- the call that is being prepared is variadic; where none is, it is the function that has variable arguments, and nothing changes
+abbrev pub marked : Option Bool → Option Bool
+marked None = None
+marked (Some variadic) = Some true
 
 abbrev pub ellipsis_step : State → Outcome
-ellipsis_step s = quiet (on (record s { variadic = true }))
+ellipsis_step s = quiet (on (record s { variadic = marked s.variadic }))
 
 abbrev pub push_step : List ℕ → Node → State → Outcome
 push_step A n s = need (value A s (operand_at n 0)) (λ v. quiet (on (record s { pushed = s.pushed ++ v ∷ [] })))
 
 -- a function begins at a node: all registers are undefined, and nothing is pushed
 abbrev pub started : State → ℕ → State
-started s n = record s { at = n; regs = λ r. None; carry = carry.Undefined; answer = None; pushed = []; variadic = false }
+started s n = record s { at = n; regs = λ r. None; carry = carry.Undefined; answer = None; pushed = []; variadic = None }
 
 -- V0, V1 and V2 are those of these registers; R0, R1 and R2 are undefined
 abbrev pub kept : (ℕ → Option ℕ) → ℕ → Option ℕ
@@ -233,7 +238,7 @@ kept regs r = if nat_lt r 3 then None else regs r
 
 -- behind a call, at a node: the caller's registers are there again, and the result
 abbrev pub resumed : State → ℕ → (ℕ → Option ℕ) → Option ℕ → State
-resumed s n saved v = record s { at = n; regs = kept saved; carry = carry.Undefined; answer = v; pushed = []; variadic = false }
+resumed s n saved v = record s { at = n; regs = kept saved; carry = carry.Undefined; answer = v; pushed = []; variadic = None }
 
 -- the frame of a call
 abbrev pub called : State → List ℕ → Frame
@@ -275,8 +280,12 @@ host_end s (Gives v changes mark bytes) = Goes (answered s v (after (memory s.me
 host_end s (Exits status) = Ends status
 host_end s host.Undefined = Undefined
 
+abbrev pub is_marked : Option Bool → Bool
+is_marked None = false
+is_marked (Some variadic) = variadic
+
 abbrev pub call_host : State → List ℕ → HostName → Outcome
-call_host s args name = host_end s (host_of name args s.variadic (memory s.mem (is_open s) s.mark))
+call_host s args name = host_end s (host_of name args (is_marked s.variadic) (memory s.mem (is_open s) s.mark))
 
 -- a call of the function that begins at a node
 abbrev pub call_node : Text → State → List ℕ → ℕ → Outcome
@@ -322,6 +331,19 @@ slot x = 0
 abbrev pub getarg_step : Node → ValueType → State → Outcome
 getarg_step n t s = need (slice_get s.frame.args (slot (operand_at n 1))) (λ v. operate s (operand_at n 0) (Some (typed t v)))
 
+-- ---- variable arguments: a list of them is the number of the next argument, from 0
+-- the list begins behind the arguments with names, of which there are so many
+abbrev pub va_start_step : List ℕ → Node → State → Outcome
+va_start_step A n s = operate s (operand_at n 0) (value A s (operand_at n 1))
+
+-- an argument of the caller, and the list behind it
+abbrev pub va_arg_step : List ℕ → Node → State → Outcome
+va_arg_step A n s =
+    need (value A s (operand_at n 1)) (λ i. need (slice_get s.frame.args i) (λ v. quiet (on (with_reg (with_reg s (operand_at n 0) v) (operand_at n 1) (i + 1)))))
+
+abbrev pub va_end_step : List ℕ → Node → State → Outcome
+va_end_step A n s = need (value A s (operand_at n 0)) (λ i. quiet (on s))
+
 -- ---- the table
 abbrev pub plain_step : Text → Node → PlainOp → State → Outcome
 plain_step t n plain.Movi s = movi_step t.addresses n s
@@ -333,6 +355,9 @@ plain_step t n plain.Ret s = leave s None
 plain_step t n plain.Arg s = quiet (on s)
 plain_step t n plain.Allocai s = quiet (on s)
 plain_step t n plain.Align s = quiet (on s)
+plain_step t n plain.VaStart s = va_start_step t.addresses n s
+plain_step t n plain.VaArg s = va_arg_step t.addresses n s
+plain_step t n plain.VaEnd s = va_end_step t.addresses n s
 
 abbrev pub node_step : Text → Node → Op → State → Outcome
 node_step t n (op.Binary o last) s = if is_carried o then carried_step t.addresses n o s else binary_step t.addresses n (binary_value o) s

@@ -10,7 +10,7 @@ use Rattle.std.proofs.lemmas.Option.{slice_get_within, get_or_from_slice_get, sl
 use Rattle.std.proofs.Math.Bool.{or-false}
 use Rattle.lg_op.specs.declared.node.Node.{Node}
 use Rattle.lg_node.specs.Functions.{is_prolog, is_epilog, is_prolog_node, home_of, home_at, open_behind, open_behind_at, open_before, home, since, local_size}
-use Rattle.lg_node.specs.Preparations.{prepared_behind, prepared_before}
+use Rattle.lg_node.specs.Preparations.{prepared_behind, prepared_before, varies_behind, varies_before}
 use Rattle.lg_node.specs.Checks.{is_arg_node, is_begun}
 use Rattle.lg_node.specs.Walks.{walk_at, behind_in, walk_behind}
 
@@ -41,6 +41,14 @@ prepared_start nodes = refl
 pub prepared_on : (nodes : List Node) (i : ℕ) (n : Node) → slice_get nodes i ≡ Some n → prepared_before nodes (i + 1) ≡ prepared_behind (prepared_before nodes i) n.op
 unfolding prepared_before
 prepared_on nodes i n e = rw (add-one, e) refl
+
+pub varies_start : (nodes : List Node) → varies_before nodes 0 ≡ false
+unfolding varies_before
+varies_start nodes = refl
+
+pub varies_on : (nodes : List Node) (i : ℕ) (n : Node) → slice_get nodes i ≡ Some n → varies_before nodes (i + 1) ≡ varies_behind (varies_before nodes i) (prepared_before nodes i) n.op
+unfolding varies_before
+varies_on nodes i n e = rw (add-one, e) refl
 
 -- a function begins at a node before
 abbrev IsBelow : Option ℕ → ℕ → Type 0
@@ -114,12 +122,12 @@ pub begun_on : (nodes : List Node) (i : ℕ) (n : Node) → slice_get nodes i �
 begun_on nodes i n e = ap (list_any is_prolog_node) (take_on nodes i n e) ∙ list_any-append is_prolog_node (take i nodes) (n ∷ []) ∙ ap (λ b. list_any is_prolog_node (take i nodes) || b) (or-false (is_prolog n.op))
 
 -- what is known before the first node, and behind each one
-pub walk_start : (nodes : List Node) → walk_at nodes 0 ≡ record { function = None; begun = false; args = 0; locals = 0; call = None }
-walk_start nodes = rw (open_start nodes, prepared_start nodes) refl
+pub walk_start : (nodes : List Node) → walk_at nodes 0 ≡ record { function = None; begun = false; args = 0; locals = 0; call = None; varies = false }
+walk_start nodes = rw (open_start nodes, prepared_start nodes, varies_start nodes) refl
 
 pub walk_on : (nodes : List Node) (i : ℕ) (n : Node) → slice_get nodes i ≡ Some n → walk_behind (walk_at nodes i) i n ≡ walk_at nodes (i + 1)
 walk_on nodes i n e =
     let args = since_on (λ x. cond (is_arg_node x) 1 0) nodes i n e in
     let locals = since_on local_size nodes i n e in
-    let same : behind_in (open_before nodes (i + 1)) (walk_at nodes i) n ≡ walk_at nodes (i + 1) = rw (begun_on nodes i n e, args, locals, prepared_on nodes i n e) refl in
+    let same : behind_in (open_before nodes (i + 1)) (walk_at nodes i) n ≡ walk_at nodes (i + 1) = rw (begun_on nodes i n e, args, locals, prepared_on nodes i n e, varies_on nodes i n e) refl in
     ap (λ (o : Option ℕ). behind_in o (walk_at nodes i) n) (sym (open_on nodes i n e)) ∙ same

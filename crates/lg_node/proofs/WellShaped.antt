@@ -22,9 +22,9 @@ use Rattle.lg_node.specs.declared.place.Place.TheVariants as place
 use Rattle.lg_node.specs.declared.preparation.Preparation.{Preparation}
 use Rattle.lg_node.specs.Nodes.{LabelledNodes}
 use Rattle.lg_node.specs.Functions.{is_prolog, is_epilog, is_prolog_at, is_epilog_at, home_of, open_before, home}
-use Rattle.lg_node.specs.Preparations.{prepared_behind, prepared_before, pushed_of}
+use Rattle.lg_node.specs.Preparations.{prepared_behind, prepared_before, pushed_of, varies_before}
 use Rattle.lg_node.specs.Labels.{place_of, is_labelled, is_at, is_entry, is_inside, is_behind_prolog}
-use Rattle.lg_node.specs.Checks.{FailsAll, refuses, kinds, may_stand_outside, is_begun, is_astray, any_by_form, needs_preparation, breaks_preparation, is_ellipsis, is_bad_call, is_arg, is_pusharg, pushes_too_many, args_before, IsAccepted}
+use Rattle.lg_node.specs.Checks.{FailsAll, refuses, kinds, may_stand_outside, is_begun, is_astray, any_by_form, needs_preparation, breaks_preparation, is_ellipsis, is_out_of_turn, is_bad_call, is_arg, is_pusharg, pushes_too_many, args_before, IsAccepted}
 use Rattle.lg_node.specs.Walks.{walk_at, IsWithinLimits}
 use Rattle.lg_node.specs.ShapeLaws.{has_target, has_callee, IsTargetIn, IsEntry, JumpsTo, IsWellShaped}
 use Rattle.lg_node.proofs.AcceptedLaws.{is_closed}
@@ -82,11 +82,12 @@ prepared_from None (Plain plain.Prepare) call e = inl refl
 prepared_from None (Control control.Finish last) call e = cc
 prepared_from None op call e = cc
 
-unbroken : (o : Option Preparation) (labelled : Bool) (op : Op) → is_some o ≡ true → is_bad_call o labelled op ≡ false → (labelled ≡ false) × (breaks_preparation op ≡ false)
-unbroken None labelled op s e = cc
-unbroken (Some call) labelled op s e =
-    let one = or_parts labelled (breaks_preparation op || (call.variadic && is_ellipsis op)) e in
-    (one.0, (or_parts (breaks_preparation op) (call.variadic && is_ellipsis op) one.1).0)
+unbroken : (o : Option Preparation) (varies labelled : Bool) (op : Op) → is_some o ≡ true → is_bad_call o varies labelled op ≡ false → (labelled ≡ false) × (breaks_preparation op ≡ false)
+unbroken None varies labelled op s e = cc
+unbroken (Some call) varies labelled op s e =
+    let rest = (call.variadic && is_ellipsis op) || is_out_of_turn varies op in
+    let one = or_parts labelled (breaks_preparation op || rest) e in
+    (one.0, (or_parts (breaks_preparation op) rest one.1).0)
 
 both_false : {A : Type 0} (x y : Bool) → x ≡ false → y ≡ false → (x || y) ≡ true → A
 both_false true y ex ey e = cc
@@ -140,7 +141,7 @@ module _ (l : LabelledNodes) (a : IsAccepted l) where
       goes some =
           let was = some_from (open_before l.nodes i) (before some) in
           let h = home_next l.nodes i was.0 (slice_get_within l.nodes i n e) was.1 in
-          opened was.0 h (unbroken_goes_on n.op (unbroken (prepared_before l.nodes i) (is_labelled l.places i) n.op some (passes i n e).1.1.1.1.0).1)
+          opened was.0 h (unbroken_goes_on n.op (unbroken (prepared_before l.nodes i) (varies_before l.nodes i) (is_labelled l.places i) n.op some (passes i n e).1.1.1.1.0).1)
 
   pub prepared_open : (i : ℕ) → i ≤ length l.nodes → is_some (prepared_before l.nodes i) ≡ true → is_some (open_before l.nodes i) ≡ true
   prepared_open zero h some = let no : is_some (prepared_before l.nodes 0) ≡ false = ap is_some (prepared_start l.nodes) in cc
@@ -192,7 +193,7 @@ module _ (l : LabelledNodes) (a : IsAccepted l) where
       by : (o : Option Preparation) → prepared_before l.nodes i ≡ o → o ≡ None
       by None eo = refl
       by (Some call) eo =
-          let parts = unbroken (prepared_before l.nodes i) (is_labelled l.places i) n.op (ap is_some eo) (passes i n e).1.1.1.1.0 in
+          let parts = unbroken (prepared_before l.nodes i) (varies_before l.nodes i) (is_labelled l.places i) n.op (ap is_some eo) (passes i n e).1.1.1.1.0 in
           both_false (breaks_preparation n.op) (is_labelled l.places i) parts.1 parts.0 here
 
   -- nothing is prepared where a label is bound
@@ -264,8 +265,10 @@ module _ (l : LabelledNodes) (a : IsAccepted l) where
     where
       by : (o : Option Preparation) → prepared_before l.nodes i ≡ o → (call : Preparation) × (prepared_before l.nodes i ≡ Some call) × (is_pusharg n.op ≡ true → call.pushed < 16)
       by None eo =
-          let bad : is_bad_call None (is_labelled l.places i) n.op ≡ false = rw eo at (passes i n e).1.1.1.1.0 in
-          let no : true ≡ false = sym needs ∙ bad in cc
+          let varies = varies_before l.nodes i in
+          let bad : is_bad_call None varies (is_labelled l.places i) n.op ≡ false = rw eo at (passes i n e).1.1.1.1.0 in
+          let parts = or_parts (needs_preparation n.op) ((varies && is_ellipsis n.op) || is_out_of_turn varies n.op) bad in
+          let no : true ≡ false = sym needs ∙ parts.0 in cc
       by (Some call) eo = (
         call,
         eo,

@@ -20,7 +20,7 @@ use Rattle.lg_node.specs.declared.place.Place.{Place}
 use Rattle.lg_node.specs.declared.preparation.Preparation.{Preparation}
 use Rattle.lg_node.specs.Nodes.{LabelledNodes}
 use Rattle.lg_node.specs.Functions.{is_prolog, is_prolog_node, open_before, home, since, local_size}
-use Rattle.lg_node.specs.Preparations.{prepared_before}
+use Rattle.lg_node.specs.Preparations.{prepared_before, varies_before}
 use Rattle.lg_node.specs.Labels.{place_of, is_labelled, is_code, is_entry, is_inside, takes_address}
 
 -- LabelMissing: a label that nothing binds
@@ -54,7 +54,6 @@ any_by_form test fs xs = false
 
 -- BadCall: what stands only where a call is being prepared
 abbrev pub needs_preparation : Op → Bool
-needs_preparation (Plain plain.Ellipsis) = true
 needs_preparation (Control control.Pusharg last) = true
 needs_preparation (Control control.Finish last) = true
 needs_preparation op = false
@@ -75,15 +74,25 @@ abbrev pub is_ellipsis : Op → Bool
 is_ellipsis (Plain plain.Ellipsis) = true
 is_ellipsis op = false
 
--- and a second `ellipsis`, and a node at which a label is bound
-abbrev pub is_bad_call : Option Preparation → Bool → Op → Bool
-is_bad_call None labelled op = needs_preparation op
-is_bad_call (Some call) labelled op = labelled || (breaks_preparation op || (call.variadic && is_ellipsis op))
-
--- TooManyArgs: the 17th `arg` of a function, or the 17th argument of a call
 abbrev pub is_arg : Op → Bool
 is_arg (Plain plain.Arg) = true
 is_arg op = false
+
+abbrev pub is_va_start : Op → Bool
+is_va_start (Plain plain.VaStart) = true
+is_va_start op = false
+
+-- what may not stand behind a function's own `ellipsis`, and what only there
+abbrev pub is_out_of_turn : Bool → Op → Bool
+is_out_of_turn true op = is_arg op
+is_out_of_turn false op = is_va_start op
+
+-- and a second `ellipsis` of a call or of a function, and a node at which a label is bound while a call is prepared
+abbrev pub is_bad_call : Option Preparation → Bool → Bool → Op → Bool
+is_bad_call None varies labelled op = needs_preparation op || ((varies && is_ellipsis op) || is_out_of_turn varies op)
+is_bad_call (Some call) varies labelled op = labelled || (breaks_preparation op || ((call.variadic && is_ellipsis op) || is_out_of_turn varies op))
+
+-- TooManyArgs: the 17th `arg` of a function, or the 17th argument of a call
 
 abbrev pub is_arg_node : Node → Bool
 is_arg_node n = is_arg n.op
@@ -116,7 +125,7 @@ refuses l i n LabelMissing = list_any (is_missing l.places) n.operands
 refuses l i n NotInFunction = is_none (home l.nodes i) && not (may_stand_outside n.op (is_begun l.nodes i))
 refuses l i n FunctionOpen = is_prolog n.op && is_some (open_before l.nodes i)
 refuses l i n TargetOutside = any_by_form (is_astray l (home l.nodes i) n.op) (forms_of n.op) n.operands
-refuses l i n BadCall = is_bad_call (prepared_before l.nodes i) (is_labelled l.places i) n.op
+refuses l i n BadCall = is_bad_call (prepared_before l.nodes i) (varies_before l.nodes i) (is_labelled l.places i) n.op
 refuses l i n TooManyArgs = is_too_many (args_before l.nodes i) (prepared_before l.nodes i) n.op
 refuses l i n FrameTooBig = is_too_big (locals_before l.nodes i) (local_size n)
 refuses l i n kind = false

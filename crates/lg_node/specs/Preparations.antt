@@ -24,17 +24,32 @@ unfoldable pub prepared_before : List Node → ℕ → Option Preparation
 prepared_before nodes zero = None
 prepared_before nodes (suc i) = prepared_behind_at (prepared_before nodes i) (slice_get nodes i)
 
+-- whether the function that is open has variable arguments, behind an operation: its own `ellipsis` came, which stands where no call is prepared
+abbrev pub varies_behind : Bool → Option Preparation → Op → Bool
+varies_behind varies call (Plain plain.Prolog) = false
+varies_behind varies None (Plain plain.Ellipsis) = true
+varies_behind varies call op = varies
+
+abbrev pub varies_behind_at : Bool → Option Preparation → Option Node → Bool
+varies_behind_at varies call None = varies
+varies_behind_at varies call (Some n) = varies_behind varies call n.op
+
+-- the function that is open before a node has variable arguments
+unfoldable pub varies_before : List Node → ℕ → Bool
+varies_before nodes zero = false
+varies_before nodes (suc i) = varies_behind_at (varies_before nodes i) (prepared_before nodes i) (slice_get nodes i)
+
 abbrev pub pushed_of : Option Preparation → ℕ
 pushed_of None = 0
 pushed_of (Some call) = call.pushed
 
-abbrev pub variadic_of : Option Preparation → Bool
-variadic_of None = false
-variadic_of (Some call) = call.variadic
+abbrev pub variadic_of : Option Preparation → Option Bool
+variadic_of None = None
+variadic_of (Some call) = Some call.variadic
 
--- how many arguments are pushed before a node, and whether an `ellipsis` came
+-- how many arguments are pushed before a node, and, where a call is being prepared, whether an `ellipsis` came
 abbrev pub pushed : List Node → ℕ → ℕ
 pushed nodes i = pushed_of (prepared_before nodes i)
 
-abbrev pub variadic : List Node → ℕ → Bool
+abbrev pub variadic : List Node → ℕ → Option Bool
 variadic nodes i = variadic_of (prepared_before nodes i)

@@ -3,11 +3,11 @@ use Rattle.std.specs.Prelude.{ℕ, ◌+◌, ◌≤◌, ◌||◌, cond, if◌then
 use Rattle.lg_op.specs.declared.node.Node.{Node}
 use Rattle.lg_node.specs.declared.walk.Walk.{Walk}
 use Rattle.lg_node.specs.Functions.{is_prolog, home_of, open_behind, open_before, local_size}
-use Rattle.lg_node.specs.Preparations.{prepared_behind, prepared_before, pushed_of}
+use Rattle.lg_node.specs.Preparations.{prepared_behind, prepared_before, pushed_of, varies_behind, varies_before}
 use Rattle.lg_node.specs.Checks.{is_arg, is_begun, args_before, locals_before}
 
 abbrev pub walk_at : List Node → ℕ → Walk
-walk_at nodes i = record { function = open_before nodes i; begun = is_begun nodes i; args = args_before nodes i; locals = locals_before nodes i; call = prepared_before nodes i }
+walk_at nodes i = record { function = open_before nodes i; begun = is_begun nodes i; args = args_before nodes i; locals = locals_before nodes i; call = prepared_before nodes i; varies = varies_before nodes i }
 
 -- what is known behind a node: counts are kept while a function is open
 abbrev pub behind_in : Option ℕ → Walk → Node → Walk
@@ -17,6 +17,7 @@ behind_in function w n = record {
   args = if is_some function then w.args + cond (is_arg n.op) 1 0 else 0;
   locals = if is_some function then w.locals + local_size n else 0;
   call = prepared_behind w.call n.op;
+  varies = varies_behind w.varies w.call n.op;
 }
 
 abbrev pub walk_behind : Walk → ℕ → Node → Walk

@@ -6,7 +6,7 @@ ghost use Rattle.lg_op.specs.Nodes.{InForm};
 ghost use Rattle.lg_node.specs.Labels.{is_labelled};
 ghost use Rattle.lg_node.specs.Tables.{AreHomes, AreTables};
 ghost use Rattle.lg_node.specs.Walks.{walk_at, IsWithinLimits};
-ghost use Rattle.lg_node.specs.Checks.{is_missing, may_stand_outside, is_astray, any_by_form, needs_preparation, breaks_preparation, is_bad_call, is_too_many, is_too_big, refuses, kinds};
+ghost use Rattle.lg_node.specs.Checks.{is_missing, may_stand_outside, is_astray, any_by_form, needs_preparation, breaks_preparation, is_ellipsis, is_out_of_turn, is_bad_call, is_too_many, is_too_big, refuses, kinds};
 
 use crate::labels::{home_in, is_code, is_entry, is_inside, place_of, takes_address};
 use crate::node_list::NodeList;
@@ -97,10 +97,7 @@ fn goes_astray(
 fn needs_preparation(op: Op) -> bool
     ensures { result ≡ needs_preparation op }
 {
-    matches!(
-        op,
-        Op::Plain(PlainOp::Ellipsis) | Op::Control(ControlOp::Pusharg | ControlOp::Finish, _)
-    )
+    matches!(op, Op::Control(ControlOp::Pusharg | ControlOp::Finish, _))
 }
 
 // Whether an operation may not stand where a call is being prepared.
@@ -116,16 +113,37 @@ fn breaks_preparation(op: Op) -> bool
     )
 }
 
-// Whether an operation is out of place in the preparing of a call.
-fn is_bad_call(call: Option<Preparation>, labelled: bool, op: Op) -> bool
-    ensures { result ≡ is_bad_call call labelled op }
+// Whether an operation is `ellipsis`.
+fn is_ellipsis(op: Op) -> bool
+    ensures { result ≡ is_ellipsis op }
+{
+    matches!(op, Op::Plain(PlainOp::Ellipsis))
+}
+
+// Whether an operation may not stand behind a function's own `ellipsis`, or only there.
+fn is_out_of_turn(varies: bool, op: Op) -> bool
+    ensures { result ≡ is_out_of_turn varies op }
+{
+    if varies {
+        is_arg(op)
+    } else {
+        matches!(op, Op::Plain(PlainOp::VaStart))
+    }
+}
+
+// Whether an operation is out of place in the preparing of a call, or in a function with or without variable arguments.
+fn is_bad_call(call: Option<Preparation>, varies: bool, labelled: bool, op: Op) -> bool
+    ensures { result ≡ is_bad_call call varies labelled op }
 {
     match call {
-        None => needs_preparation(op),
+        None => {
+            needs_preparation(op) || (varies && is_ellipsis(op)) || is_out_of_turn(varies, op)
+        }
         Some(call) => {
             labelled
                 || breaks_preparation(op)
-                || (call.variadic && matches!(op, Op::Plain(PlainOp::Ellipsis)))
+                || (call.variadic && is_ellipsis(op))
+                || is_out_of_turn(varies, op)
         }
     }
 }
@@ -199,7 +217,9 @@ fn refuses(
         RefusalKind::TargetOutside => {
             goes_astray(nodes, &tables.homes, home, op, op.forms(), operands)
         }
-        RefusalKind::BadCall => is_bad_call(walk.call, is_labelled(tables, index), op),
+        RefusalKind::BadCall => {
+            is_bad_call(walk.call, walk.varies, is_labelled(tables, index), op)
+        }
         RefusalKind::TooManyArgs => is_too_many(walk.args, walk.call, op),
         RefusalKind::FrameTooBig => is_too_big(walk.locals, local_size(node)),
         _ => false,

@@ -3,7 +3,7 @@
 ghost use Rattle.std.specs.Prelude.{◌≡◌, ◌≤◌, false};
 ghost use Rattle.lg_op.specs.Nodes.{InForm};
 ghost use Rattle.lg_node.specs.Functions.{is_prolog, is_epilog, home_of, open_behind, local_size};
-ghost use Rattle.lg_node.specs.Preparations.{prepared_behind, pushed_of};
+ghost use Rattle.lg_node.specs.Preparations.{prepared_behind, pushed_of, varies_behind};
 ghost use Rattle.lg_node.specs.Checks.{is_arg};
 ghost use Rattle.lg_node.specs.Walks.{walk_behind, IsWithinLimits};
 
@@ -23,6 +23,8 @@ pub struct Walk {
     pub locals: u32,
     /// The call that is being prepared.
     pub call: Option<Preparation>,
+    /// Whether the open function has variable arguments.
+    pub varies: bool,
 }
 
 /// Whether an operation is `prolog`.
@@ -93,6 +95,17 @@ fn prepared_behind(current: Option<Preparation>, op: Op) -> Option<Preparation>
     }
 }
 
+// Whether the open function has variable arguments, behind an operation.
+fn varies_behind(varies: bool, call: Option<Preparation>, op: Op) -> bool
+    ensures { result ≡ varies_behind varies call op }
+{
+    match (call, op) {
+        (_, Op::Plain(PlainOp::Prolog)) => false,
+        (None, Op::Plain(PlainOp::Ellipsis)) => true,
+        _ => varies,
+    }
+}
+
 /// The function that is open behind a node of this function.
 pub fn open_behind(home: Option<u32>, op: Op) -> Option<u32>
     ensures { result ≡ open_behind home op }
@@ -103,7 +116,7 @@ pub fn open_behind(home: Option<u32>, op: Op) -> Option<u32>
 impl Walk {
     /// What is known before the first node.
     pub fn new() -> Walk
-        ensures { result ≡ record { function = None; begun = false; args = 0; locals = 0; call = None } }
+        ensures { result ≡ record { function = None; begun = false; args = 0; locals = 0; call = None; varies = false } }
     {
         Walk {
             function: None,
@@ -111,6 +124,7 @@ impl Walk {
             args: 0,
             locals: 0,
             call: None,
+            varies: false,
         }
     }
 
@@ -136,6 +150,7 @@ impl Walk {
                 0
             },
             call: prepared_behind(self.call, node.op),
+            varies: varies_behind(self.varies, self.call, node.op),
         }
     }
 }

@@ -140,6 +140,9 @@ plain_again plain.Ret = refl
 plain_again plain.Arg = refl
 plain_again plain.Allocai = refl
 plain_again plain.Align = refl
+plain_again plain.VaStart = refl
+plain_again plain.VaArg = refl
+plain_again plain.VaEnd = refl
 
 load_again : (t : ValueType) (at : Addressing) → IsFound (Load t at)
 load_again value_type.Char = every_address _ refl refl refl refl

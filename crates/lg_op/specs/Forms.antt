@@ -14,7 +14,7 @@ use Rattle.lg_op.specs.declared.operand.Reg.TheVariants.{Fp}
 use Rattle.lg_op.specs.declared.operand.Operand.{Operand}
 use Rattle.lg_op.specs.declared.operand.Operand.TheVariants as operand
 use Rattle.lg_op.specs.declared.form.Form.{Form}
-use Rattle.lg_op.specs.declared.form.Form.TheVariants.{Write, Update, Read, Immediate, Target, Callee, NewArgument, Argument, NewLocal, Size, Alignment}
+use Rattle.lg_op.specs.declared.form.Form.TheVariants.{Write, Update, Read, Immediate, Target, Callee, NewArgument, Argument, NewLocal, Size, Alignment, ArgumentCount}
 
 -- the last operand by the operand letter
 abbrev pub last_form : LastOperand → Form
@@ -34,6 +34,9 @@ plain_forms plain.Movi = Write ∷ Immediate ∷ []
 plain_forms plain.Arg = NewArgument ∷ []
 plain_forms plain.Allocai = Size ∷ NewLocal ∷ []
 plain_forms plain.Align = Alignment ∷ []
+plain_forms plain.VaStart = Write ∷ ArgumentCount ∷ []
+plain_forms plain.VaArg = Write ∷ Update ∷ []
+plain_forms plain.VaEnd = Read ∷ []
 plain_forms plain.Prepare = []
 plain_forms plain.Ellipsis = []
 plain_forms plain.Prolog = []
@@ -90,6 +93,7 @@ admits Argument (operand.Slot s) = true
 admits NewLocal (operand.Slot s) = true
 admits Size (operand.Number n) = not (nat_lt n 1) && not (nat_lt 65536 n)
 admits Alignment (operand.Number n) = is_alignment n
+admits ArgumentCount (operand.Number n) = true
 admits f x = false
 
 -- the operands are those of the forms, one by one

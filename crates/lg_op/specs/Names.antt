@@ -25,7 +25,7 @@ use Rattle.lg_op.specs.declared.op.LastOperand.{LastOperand}
 use Rattle.lg_op.specs.declared.op.LastOperand.TheVariants as last_operand
 use Rattle.lg_op.specs.declared.op.Op.{Op}
 use Rattle.lg_op.specs.declared.op.Op.TheVariants.{Binary, Wide, Branch, BranchSum, Control, Unary, Plain, Load, Store, Retval, Getarg}
-use Rattle.lg_op.specs.declared.names.TheConstants.{OPS_DOT, OPS_A, OPS_B, OPS_C, OPS_D, OPS_E, OPS_F, OPS_G, OPS_H, OPS_J, OPS_L, OPS_M, OPS_N, OPS_O, OPS_P, OPS_Q, OPS_R, OPS_S, OPS_X}
+use Rattle.lg_op.specs.declared.names.TheConstants.{OPS_DOT, OPS_A, OPS_B, OPS_C, OPS_D, OPS_E, OPS_F, OPS_G, OPS_H, OPS_J, OPS_L, OPS_M, OPS_N, OPS_O, OPS_P, OPS_Q, OPS_R, OPS_S, OPS_V, OPS_X}
 
 -- of two operands, one result
 abbrev pub binary_stem : BinaryOp → List ℕ
@@ -125,6 +125,9 @@ plain_name plain.Ret = codes "ret"
 plain_name plain.Arg = codes "arg"
 plain_name plain.Allocai = codes "allocai"
 plain_name plain.Align = codes ".align"
+plain_name plain.VaStart = codes "va_start"
+plain_name plain.VaArg = codes "va_arg"
+plain_name plain.VaEnd = codes "va_end"
 
 -- the last operand is a register, or an immediate or a label
 abbrev pub last_middle : LastOperand → List ℕ
@@ -249,4 +252,5 @@ ops_from b =
     if b == 100 then OPS_D else (if b == 101 then OPS_E else (if b == 102 then OPS_F else (if b == 103 then OPS_G else (
     if b == 104 then OPS_H else (if b == 106 then OPS_J else (if b == 108 then OPS_L else (if b == 109 then OPS_M else (
     if b == 110 then OPS_N else (if b == 111 then OPS_O else (if b == 112 then OPS_P else (if b == 113 then OPS_Q else (
-    if b == 114 then OPS_R else (if b == 115 then OPS_S else (if b == 120 then OPS_X else ([])))))))))))))))))))
+    if b == 114 then OPS_R else (if b == 115 then OPS_S else (if b == 118 then OPS_V else (
+    if b == 120 then OPS_X else ([]))))))))))))))))))))

@@ -31,6 +31,8 @@ pub enum Form {
     Size,
     /// An alignment of code: a power of two from 1 to 64.
     Alignment,
+    /// How many arguments with names a function has: a number, for which no word of a text stands.
+    ArgumentCount,
 }
 
 // Whether a number is a power of two from 1 to 64.
@@ -54,6 +56,7 @@ impl Form {
             (Form::NewArgument | Form::Argument | Form::NewLocal, Operand::Slot(_)) => true,
             (Form::Size, Operand::Number(number)) => 1 <= number && number <= 65_536,
             (Form::Alignment, Operand::Number(number)) => is_alignment(number),
+            (Form::ArgumentCount, Operand::Number(_)) => true,
             _ => false,
         }
     }
@@ -148,6 +151,9 @@ impl PlainOp {
             PlainOp::Arg => &[Form::NewArgument],
             PlainOp::Allocai => &[Form::Size, Form::NewLocal],
             PlainOp::Align => &[Form::Alignment],
+            PlainOp::VaStart => &[Form::Write, Form::ArgumentCount],
+            PlainOp::VaArg => &[Form::Write, Form::Update],
+            PlainOp::VaEnd => &[Form::Read],
             PlainOp::Prepare
             | PlainOp::Ellipsis
             | PlainOp::Prolog

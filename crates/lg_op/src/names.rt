@@ -123,6 +123,9 @@ fn plain_name(op: PlainOp) -> &'static [u8]
         PlainOp::Arg => b"arg",
         PlainOp::Allocai => b"allocai",
         PlainOp::Align => b".align",
+        PlainOp::VaStart => b"va_start",
+        PlainOp::VaArg => b"va_arg",
+        PlainOp::VaEnd => b"va_end",
     }
 }
 
@@ -361,6 +364,7 @@ fn ops_from(byte: u8) -> &'static [Op]
         b'q' => &OPS_Q,
         b'r' => &OPS_R,
         b's' => &OPS_S,
+        b'v' => &OPS_V,
         b'x' => &OPS_X,
         _ => &[],
     }
@@ -608,6 +612,12 @@ static OPS_S: [Op; 22] = [
     Op::Store(StoreType::Long, Addressing::Immediate),
     Op::Store(StoreType::Long, Addressing::RegisterRegister),
     Op::Store(StoreType::Long, Addressing::RegisterImmediate),
+];
+
+static OPS_V: [Op; 3] = [
+    Op::Plain(PlainOp::VaStart),
+    Op::Plain(PlainOp::VaArg),
+    Op::Plain(PlainOp::VaEnd),
 ];
 
 static OPS_X: [Op; 2] = [

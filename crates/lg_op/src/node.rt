@@ -5,7 +5,7 @@ ghost use Rattle.lg_op.specs.Forms.{admit};
 ghost use Rattle.lg_op.specs.Nodes.{InForm, IsApart};
 
 use crate::form::Form;
-use crate::op::Op;
+use crate::op::{Op, PlainOp};
 use crate::operand::{Operand, Operands};
 
 /// An instruction of a text: an operation with its operands, and the line on which it stands.
@@ -47,7 +47,7 @@ fn is_apart(op: Op, operands: &[Operand]) -> bool
     ensures { IsTrue result ↔ IsApart op operands.now }
 {
     match (op, operands) {
-        (Op::Wide(_, _), [a, b, ..]) => a != b,
+        (Op::Wide(_, _) | Op::Plain(PlainOp::VaArg), [a, b, ..]) => a != b,
         _ => true,
     }
 }

@@ -185,7 +185,7 @@ pub enum PlainOp {
     Movi,
     /// Begins a call.
     Prepare,
-    /// The call is variadic.
+    /// The call is variadic; outside of a call, the function has variable arguments.
     Ellipsis,
     /// Begins a function.
     Prolog,
@@ -199,6 +199,12 @@ pub enum PlainOp {
     Allocai,
     /// The next node's code begins at a multiple of a number.
     Align,
+    /// The list of a function's variable arguments from its first one on.
+    VaStart,
+    /// The next argument of such a list.
+    VaArg,
+    /// The end of such a list.
+    VaEnd,
 }
 
 /// How many bytes are read, and how they are extended to a word.

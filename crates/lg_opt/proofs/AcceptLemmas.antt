@@ -27,7 +27,7 @@ use Rattle.lg_node.specs.Checks.{FailsAll, refuses, kinds, refusal_of, refusal_a
 use Rattle.lg_node.specs.Functions.{is_prolog, is_prolog_at, is_prolog_node, open_before, home, local_size}
 use Rattle.lg_node.specs.Labels.{place_of, is_labelled, is_code, is_entry, is_inside, is_behind_prolog, takes_address}
 use Rattle.lg_node.specs.Nodes.{LabelledNodes}
-use Rattle.lg_node.specs.Preparations.{prepared_before}
+use Rattle.lg_node.specs.Preparations.{prepared_before, varies_before}
 use Rattle.lg_node.specs.ShapeLaws.{has_target, JumpsTo, IsWellShaped}
 use Rattle.lg_node.proofs.AcceptedLaws.{is_closed}
 use Rattle.lg_node.proofs.FunctionLaws.{node_within, home_within, home_from, home_next, home_between, Begins, home_cases}
@@ -36,7 +36,7 @@ use Rattle.lg_opt.specs.Remaining.{new_number, moved_place, with_first, retarget
 use Rattle.lg_opt.proofs.RemainingLemmas.{number-le, number-lt}
 use Rattle.lg_opt.proofs.MovedLemmas.{same-op, same-size, comes-from, new-count, stands, place-moved}
 use Rattle.lg_opt.proofs.LabelLemmas.{labelled-moved}
-use Rattle.lg_opt.proofs.ShapeLemmas.{goes-no-prolog, walk-stood, open-moved, begun-moved, args-moved, locals-moved, prepared-moved, home-moved}
+use Rattle.lg_opt.proofs.ShapeLemmas.{goes-no-prolog, walk-stood, open-moved, begun-moved, args-moved, locals-moved, prepared-moved, varies-moved, home-moved}
 
 fails-none : (p : RefusalKind → Bool) (ks : List RefusalKind) → FailsAll p ks → find p ks ≡ None
 fails-none p [] h = refl
@@ -248,15 +248,17 @@ module _ (l : LabelledNodes) (stays : ℕ → Bool) (targets : ℕ → Option La
           let n = node_within l.nodes i (omega arith) in
           again (sym (ap (λ x. x.call) (walk-stood l.nodes i n.0 n.1 (r.goes i n.0 n.1 s))) ∙ ap (prepared_before l.nodes) (add-one i) ∙ e)
 
-  call-passes : (i : ℕ) (p : Op) → i < length l.nodes → stays i ≡ true → is_bad_call (prepared_before l.nodes i) (is_labelled l.places i) p ≡ false → is_bad_call (prepared_before m.nodes (nu i)) (is_labelled m.places (nu i)) p ≡ false
+  call-passes : (i : ℕ) (p : Op) → i < length l.nodes → stays i ≡ true → is_bad_call (prepared_before l.nodes i) (varies_before l.nodes i) (is_labelled l.places i) p ≡ false
+      → is_bad_call (prepared_before m.nodes (nu i)) (varies_before m.nodes (nu i)) (is_labelled m.places (nu i)) p ≡ false
   call-passes i p lt s h =
-      ap (λ c. is_bad_call c (is_labelled m.places (nu i)) p) (prepared-moved l stays targets r i (omega arith))
-      ∙ ap (λ b. is_bad_call (prepared_before l.nodes i) b p) (labelled-moved stays l.places i s)
+      ap (λ c. is_bad_call c (varies_before m.nodes (nu i)) (is_labelled m.places (nu i)) p) (prepared-moved l stays targets r i (omega arith))
+      ∙ ap (λ v. is_bad_call (prepared_before l.nodes i) v (is_labelled m.places (nu i)) p) (varies-moved l stays targets r i (omega arith))
+      ∙ ap (λ b. is_bad_call (prepared_before l.nodes i) (varies_before l.nodes i) b p) (labelled-moved stays l.places i s)
       ∙ by (prepared_before l.nodes i) refl h
     where
-      by : (c : Option Preparation) → prepared_before l.nodes i ≡ c → is_bad_call c (is_labelled l.places i) p ≡ false → is_bad_call c (labelled_from l.places stays i) p ≡ false
+      by : (c : Option Preparation) → prepared_before l.nodes i ≡ c → is_bad_call c (varies_before l.nodes i) (is_labelled l.places i) p ≡ false → is_bad_call c (varies_before l.nodes i) (labelled_from l.places stays i) p ≡ false
       by None e h = h
-      by (Some call) e h = ap (λ b. is_bad_call (Some call) b p) (unlabelled-from i call lt e ∙ sym (unlabelled i call lt e)) ∙ h
+      by (Some call) e h = ap (λ b. is_bad_call (Some call) (varies_before l.nodes i) b p) (unlabelled-from i call lt e ∙ sym (unlabelled i call lt e)) ∙ h
 
   -- ---- no kind refuses a node
   pub passes-moved : (i : ℕ) (n : Node) → slice_get l.nodes i ≡ Some n → stays i ≡ true → FailsAll (refuses (rewritten l stays targets) (new_number stays i) (retargeted (targets i) n)) kinds
@@ -281,7 +283,7 @@ module _ (l : LabelledNodes) (stays : ℕ → Bool) (targets : ℕ → Option La
                   ∙ ap (λ o. any_by_form (is_astray m o n.op) (forms_of n.op) (retargeted (targets i) n).operands) home-is
                   ∙ astray-passes i n e (targets i) refl,
               (
-                ap (λ p. is_bad_call (prepared_before m.nodes (nu i)) (is_labelled m.places (nu i)) p) same ∙ call-passes i n.op lt s old.1.1.1.1.0,
+                ap (λ p. is_bad_call (prepared_before m.nodes (nu i)) (varies_before m.nodes (nu i)) (is_labelled m.places (nu i)) p) same ∙ call-passes i n.op lt s old.1.1.1.1.0,
                 (
                   ap (λ p. is_too_many (args_before m.nodes (nu i)) (prepared_before m.nodes (nu i)) p) same
                       ∙ ap (λ k. is_too_many k (prepared_before m.nodes (nu i)) n.op) (args-moved l stays targets r i (omega arith))

@@ -17,7 +17,7 @@ use Rattle.lg_node.specs.declared.walk.Walk.{Walk}
 use Rattle.lg_node.specs.Nodes.{LabelledNodes}
 use Rattle.lg_node.specs.Checks.{is_arg, is_arg_node, is_begun, args_before, locals_before}
 use Rattle.lg_node.specs.Functions.{is_prolog, is_epilog, home_of, open_behind, open_before, home, since, local_of, local_size}
-use Rattle.lg_node.specs.Preparations.{prepared_behind, prepared_before}
+use Rattle.lg_node.specs.Preparations.{prepared_behind, prepared_before, varies_behind, varies_before}
 use Rattle.lg_node.specs.Walks.{walk_at, walk_behind}
 use Rattle.lg_node.proofs.FunctionLaws.{node_within}
 use Rattle.lg_node.proofs.WalkLemmas.{home_here, walk_start, walk_on}
@@ -33,13 +33,14 @@ after f w p size = record {
   args = if is_some f then w.args + cond (is_arg p) 1 0 else 0;
   locals = if is_some f then w.locals + size else 0;
   call = prepared_behind w.call p;
+  varies = varies_behind w.varies w.call p;
 }
 
-abbrev built : Option ℕ → Bool → ℕ → ℕ → Option Preparation → Walk
-built f b a s c = record { function = f; begun = b; args = a; locals = s; call = c }
+abbrev built : Option ℕ → Bool → ℕ → ℕ → Option Preparation → Bool → Walk
+built f b a s c v = record { function = f; begun = b; args = a; locals = s; call = c; varies = v }
 
-built-same : (f g : Option ℕ) (b d : Bool) (a e s t : ℕ) (c : Option Preparation) → f ≡ g → b ≡ d → a ≡ e → s ≡ t → built f b a s c ≡ built g d e t c
-built-same f g b d a e s t c p q r v = ap (λ x. built x b a s c) p ∙ ap (λ x. built g x a s c) q ∙ ap (λ x. built g d x s c) r ∙ ap (λ x. built g d e x c) v
+built-same : (f g : Option ℕ) (b d : Bool) (a e s t : ℕ) (c : Option Preparation) (y : Bool) → f ≡ g → b ≡ d → a ≡ e → s ≡ t → built f b a s c y ≡ built g d e t c y
+built-same f g b d a e s t c y p q r v = ap (λ x. built x b a s c y) p ∙ ap (λ x. built g x a s c y) q ∙ ap (λ x. built g d x s c y) r ∙ ap (λ x. built g d e x c y) v
 
 -- a node that may be dropped begins and ends no function, and has no local and no argument
 record IsPlain (p : Op) (xs : List Operand) : Type 0 where
@@ -48,15 +49,24 @@ record IsPlain (p : Op) (xs : List Operand) : Type 0 where
   arg : is_arg p ≡ false
   local : local_of p xs ≡ 0
   call : (c : Option Preparation) → prepared_behind c p ≡ c
+  varies : (v : Bool) (c : Option Preparation) → varies_behind v c p ≡ v
 
 plain : (p : Op) (xs : List Operand) → may_go p ≡ true → IsPlain p xs
-plain (op.Unary unary.Mov) xs e = record { prolog = refl; epilog = refl; arg = refl; local = refl; call = λ c. same c }
+plain (op.Unary unary.Mov) xs e = record { prolog = refl; epilog = refl; arg = refl; local = refl; call = λ c. same c; varies = λ v c. as-before v c }
   where
+    as-before : (v : Bool) (c : Option Preparation) → varies_behind v c (op.Unary unary.Mov) ≡ v
+    as-before v None = refl
+    as-before v (Some c) = refl
+
     same : (c : Option Preparation) → prepared_behind c (op.Unary unary.Mov) ≡ c
     same None = refl
     same (Some c) = refl
-plain (op.Control control.Jmp last_operand.Immediate) xs e = record { prolog = refl; epilog = refl; arg = refl; local = refl; call = λ c. same c }
+plain (op.Control control.Jmp last_operand.Immediate) xs e = record { prolog = refl; epilog = refl; arg = refl; local = refl; call = λ c. same c; varies = λ v c. as-before v c }
   where
+    as-before : (v : Bool) (c : Option Preparation) → varies_behind v c (op.Control control.Jmp last_operand.Immediate) ≡ v
+    as-before v None = refl
+    as-before v (Some c) = refl
+
     same : (c : Option Preparation) → prepared_behind c (op.Control control.Jmp last_operand.Immediate) ≡ c
     same None = refl
     same (Some c) = refl
@@ -75,8 +85,9 @@ goes-no-epilog p e = cc
 -- so it changes nothing of what is known
 unchanged : (w : Walk) (i : ℕ) (p : Op) (xs : List Operand) → IsPlain p xs → (w.function ≡ None → (w.args ≡ 0) × (w.locals ≡ 0)) → after (open_behind (home_of w.function i p) p) w p (local_of p xs) ≡ w
 unchanged w i p xs h none =
-    built-same _ w.function _ w.begun _ w.args _ w.locals (prepared_behind w.call p) same-open (ap (λ b. w.begun || b) h.prolog ∙ or-false w.begun) (args w.function refl) (locals w.function refl)
-    ∙ ap (λ c. built w.function w.begun w.args w.locals c) (h.call w.call)
+    built-same _ w.function _ w.begun _ w.args _ w.locals (prepared_behind w.call p) (varies_behind w.varies w.call p) same-open (ap (λ b. w.begun || b) h.prolog ∙ or-false w.begun) (args w.function refl) (locals w.function refl)
+    ∙ ap (λ c. built w.function w.begun w.args w.locals c (varies_behind w.varies w.call p)) (h.call w.call)
+    ∙ ap (built w.function w.begun w.args w.locals w.call) (h.varies w.varies w.call)
   where
     open-of : (f : Option ℕ) → home_of f i p ≡ f
     open-of None = ap (λ b. if b then Some i else None) h.prolog
@@ -165,6 +176,9 @@ module _ (l : LabelledNodes) (stays : ℕ → Bool) (targets : ℕ → Option La
 
   pub prepared-moved : (i : ℕ) → i ≤ length l.nodes → prepared_before (rewritten l stays targets).nodes (new_number stays i) ≡ prepared_before l.nodes i
   prepared-moved i le = ap (λ w. w.call) (walk-moved i le)
+
+  pub varies-moved : (i : ℕ) → i ≤ length l.nodes → varies_before (rewritten l stays targets).nodes (new_number stays i) ≡ varies_before l.nodes i
+  varies-moved i le = ap (λ w. w.varies) (walk-moved i le)
 
   -- a node that stays is one of the same function
   pub home-moved : (i : ℕ) (n : Node) → slice_get l.nodes i ≡ Some n → i ≤ length l.nodes → stays i ≡ true → home (rewritten l stays targets).nodes (new_number stays i) ≡ option_map (new_number stays) (home l.nodes i)

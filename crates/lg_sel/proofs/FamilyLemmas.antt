@@ -23,6 +23,7 @@ pub record HoldsOfFamilies {L : Type 0} (F : Families L) (P : Node → List L �
   pub loads : (n : Node) (t : ValueType) (at : Addressing) → n.op ≡ op.Load t at → P n (F.load frame t at n choices)
   pub stores : (n : Node) (t : StoreType) (at : Addressing) → n.op ≡ op.Store t at → P n (F.store frame t at n choices)
   pub arguments : (n : Node) (t : ValueType) → n.op ≡ op.Getarg t → P n (F.argument frame t n)
+  pub next_arguments : (n : Node) → n.op ≡ op.Plain plain.VaArg → P n (F.next_argument n)
   pub results : (n : Node) (t : ValueType) → n.op ≡ op.Retval t → P n (F.result frame t n choices)
   pub pushes : (n : Node) (last : LastOperand) → n.op ≡ op.Control control.Pusharg last → P n (F.push frame (staged_count staged) n)
   pub controls : (n : Node) → is_control n.op ≡ true → P n (F.control n.op n.operands frame place)
@@ -34,6 +35,9 @@ module _ {L : Type 0} (F : Families L) (P : Node → List L → Type 0) (frame :
   by (op.Wide o last) xs line = h.values (node_of (op.Wide o last) xs line) refl
   by (op.Unary o) xs line = h.values (node_of (op.Unary o) xs line) refl
   by (op.Plain plain.Movi) xs line = h.values (node_of (op.Plain plain.Movi) xs line) refl
+  by (op.Plain plain.VaStart) xs line = h.values (node_of (op.Plain plain.VaStart) xs line) refl
+  by (op.Plain plain.VaArg) xs line = h.next_arguments (node_of (op.Plain plain.VaArg) xs line) refl
+  by (op.Plain plain.VaEnd) xs line = h.controls (node_of (op.Plain plain.VaEnd) xs line) refl
   by (op.Load t at) xs line = h.loads (node_of (op.Load t at) xs line) t at refl
   by (op.Store t at) xs line = h.stores (node_of (op.Store t at) xs line) t at refl
   by (op.Getarg t) xs line = h.arguments (node_of (op.Getarg t) xs line) t refl

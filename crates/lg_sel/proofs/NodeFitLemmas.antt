@@ -60,6 +60,7 @@ module _ {L : Type 0} (target : Target) (needs : Op → List Need) (F : Families
       pub loads : (frame : ℕ) (n : Node) (t : ValueType) (at : Addressing) (live : Reg → Bool) (set : List Bool) (choices : List Choice) → IsFrame frame → n.op ≡ op.Load t at → AreMade n live set choices → HasWords n → Fit (F.load frame t at n choices)
       pub stores : (frame : ℕ) (n : Node) (t : StoreType) (at : Addressing) (live : Reg → Bool) (set : List Bool) (choices : List Choice) → IsFrame frame → n.op ≡ op.Store t at → AreMade n live set choices → HasWords n → Fit (F.store frame t at n choices)
       pub arguments : (frame : ℕ) (n : Node) (t : ValueType) → IsFrame frame → Fit (F.argument frame t n)
+      pub next_arguments : (n : Node) → Fit (F.next_argument n)
       pub results : (frame : ℕ) (n : Node) (t : ValueType) (live : Reg → Bool) (set : List Bool) (choices : List Choice) → IsFrame frame → n.op ≡ op.Retval t → InForm n → AreMade n live set choices → NameBelow labels n.operands → HaveWords n.operands → Fit (F.result frame t n choices)
       pub pushes : (frame : ℕ) (n : Node) (j : ℕ) → IsFrame frame → j < 16 → NamesBelow labels (operand_at n 0) → IsWord (operand_at n 0) → Fit (F.push frame j n)
       pub controls : (n : Node) (frame place : ℕ) → IsFrame frame → is_control n.op ≡ true → InForm n → NameBelow labels n.operands → HaveWords n.operands → ends_in_label n.operands ≡ false → Fit (F.control n.op n.operands frame place)
@@ -74,6 +75,7 @@ module _ {L : Type 0} (target : Target) (needs : Op → List Need) (F : Families
         loads = λ n t at e k. f.loads frame n t at live k.chosen.set choices sized e (are-made n live staged choices labels k) (has-words n k.words);
         stores = λ n t at e k. f.stores frame n t at live k.chosen.set choices sized e (are-made n live staged choices labels k) (has-words n k.words);
         arguments = λ n t e k. f.arguments frame n t sized;
+        next_arguments = λ n e k. f.next_arguments n;
         results = λ n t e k. f.results frame n t live k.chosen.set choices sized e k.formed (are-made n live staged choices labels k) k.named k.words;
         pushes = λ n last e k. f.pushes frame n (staged_count staged) sized (few-staged n live staged choices labels last k e) (named-at labels n.operands 0 k.named) (word-at n.operands 0 k.words);
         controls = λ n is k. f.controls n frame place sized is k.formed k.named k.words (control-ends n is k.formed.forms k.takes);
@@ -89,6 +91,7 @@ module _ {L : Type 0} (target : Target) (needs : Op → List Need) (F : Families
       pub loads : (frame : ℕ) (t : ValueType) (at : Addressing) (n : Node) (live : Reg → Bool) (set : List Bool) (choices : List Choice) → n.op ≡ op.Load t at → AreMade n live set choices → Each stays (F.load frame t at n choices)
       pub stores : (frame : ℕ) (t : StoreType) (at : Addressing) (n : Node) (live : Reg → Bool) (set : List Bool) (choices : List Choice) → n.op ≡ op.Store t at → AreMade n live set choices → Each stays (F.store frame t at n choices)
       pub arguments : (frame : ℕ) (t : ValueType) (n : Node) → Each stays (F.argument frame t n)
+      pub next_arguments : (n : Node) → Each stays (F.next_argument n)
       pub results : (frame : ℕ) (t : ValueType) (n : Node) (live : Reg → Bool) (set : List Bool) (choices : List Choice) → AreMade n live set choices → Each stays (F.result frame t n choices)
       pub pushes : (frame j : ℕ) (n : Node) → Each stays (F.push frame j n)
       pub controls : (n : Node) (frame place : ℕ) → Each stays (F.control n.op n.operands frame place)
@@ -103,6 +106,7 @@ module _ {L : Type 0} (target : Target) (needs : Op → List Need) (F : Families
         loads = λ n t at e are. f.loads frame t at n live set choices e are;
         stores = λ n t at e are. f.stores frame t at n live set choices e are;
         arguments = λ n t e are. f.arguments frame t n;
+        next_arguments = λ n e are. f.next_arguments n;
         results = λ n t e are. f.results frame t n live set choices are;
         pushes = λ n last e are. f.pushes frame (staged_count staged) n;
         controls = λ n is are. f.controls n frame place;

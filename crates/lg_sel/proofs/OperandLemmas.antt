@@ -142,6 +142,9 @@ control-ends n is a takes = by n.op n.operands n.line is a takes
     by (op.Plain plain.Movi) xs line is a takes = true-false (sym is)
     by (op.Plain plain.Arg) xs line is a takes = one-ends form.NewArgument xs a
     by (op.Plain plain.Align) xs line is a takes = one-ends form.Alignment xs a
+    by (op.Plain plain.VaStart) xs line is a takes = true-false (sym is)
+    by (op.Plain plain.VaArg) xs line is a takes = true-false (sym is)
+    by (op.Plain plain.VaEnd) xs line is a takes = one-ends form.Read xs a
     by (op.Plain o) xs line is a takes = none-ends xs a
     by o xs line is a takes = true-false (sym is)
 

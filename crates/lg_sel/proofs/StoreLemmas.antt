@@ -48,6 +48,7 @@ allowed-values target choices (op.Binary o last) is = omega arith
 allowed-values target choices (op.Wide o last) is = omega arith
 allowed-values target choices (op.Unary o) is = omega arith
 allowed-values target choices (op.Plain plain.Movi) is = omega arith
+allowed-values target choices (op.Plain plain.VaStart) is = omega arith
 allowed-values target choices o is = cc
 
 pub allowed-own : (target : Target) (choices : List Choice) (o : Op) → is_free o ≡ false → own_stores target o ≤ allowed target choices o

@@ -11,14 +11,15 @@ use Rattle.lg_op.specs.declared.op.ValueType.{ValueType}
 use Rattle.lg_op.specs.declared.operand.Operand.{Operand}
 use Rattle.lg_temp.specs.declared.choice.Choice.{Choice}
 
--- those of nodes that compute values with these choices, that load and store with them, read an argument, read a result, and pass argument j; and those of the
--- nodes that branch, jump, call or return, of `prolog`, `.align` and those without code, with their operands and the place; each in a function with a
--- frame of so many bytes
+-- those of nodes that compute values with these choices, that load and store with them, read an argument, read the next variable argument, read a result, and
+-- pass argument j; and those of the nodes that branch, jump, call or return, of `prolog`, `.align` and those without code, with their operands and the place;
+-- each in a function with a frame of so many bytes
 pub record Families (L : Type 0) : Type 0 where
   pub values : ℕ → Node → List Choice → List L
   pub load : ℕ → ValueType → Addressing → Node → List Choice → List L
   pub store : ℕ → StoreType → Addressing → Node → List Choice → List L
   pub argument : ℕ → ValueType → Node → List L
+  pub next_argument : Node → List L
   pub result : ℕ → ValueType → Node → List Choice → List L
   pub push : ℕ → ℕ → Node → List L
   pub control : Op → List Operand → ℕ → ℕ → List L
@@ -29,6 +30,7 @@ is_value (op.Binary o last) = true
 is_value (op.Wide o last) = true
 is_value (op.Unary o) = true
 is_value (op.Plain plain.Movi) = true
+is_value (op.Plain plain.VaStart) = true
 is_value o = false
 
 -- how many arguments are staged
@@ -41,6 +43,8 @@ items_of F (op.Binary o last) n frame choices staged place = F.values frame n ch
 items_of F (op.Wide o last) n frame choices staged place = F.values frame n choices
 items_of F (op.Unary o) n frame choices staged place = F.values frame n choices
 items_of F (op.Plain plain.Movi) n frame choices staged place = F.values frame n choices
+items_of F (op.Plain plain.VaStart) n frame choices staged place = F.values frame n choices
+items_of F (op.Plain plain.VaArg) n frame choices staged place = F.next_argument n
 items_of F (op.Load t at) n frame choices staged place = F.load frame t at n choices
 items_of F (op.Store t at) n frame choices staged place = F.store frame t at n choices
 items_of F (op.Getarg t) n frame choices staged place = F.argument frame t n

@@ -227,6 +227,7 @@ module _ {Q I : Type 0} (R : Rows Q I) (scratch : ℕ → Bool) (fits : I → Ty
   by-op (op.Plain plain.Ellipsis) xs h v e t k = silent-nodes-carry R fits T.isa.rows c i (node (op.Plain plain.Ellipsis) xs) S refl t k
   by-op (op.Plain plain.Arg) xs h v e t k = silent-nodes-carry R fits T.isa.rows c i (node (op.Plain plain.Arg) xs) S refl t k
   by-op (op.Plain plain.Allocai) xs h v e t k = silent-nodes-carry R fits T.isa.rows c i (node (op.Plain plain.Allocai) xs) S refl t k
+  by-op (op.Plain plain.VaEnd) xs h v e t k = silent-nodes-carry R fits T.isa.rows c i (node (op.Plain plain.VaEnd) xs) S refl t k
   by-op o xs h v e t k = absurd (differ h)
 
 pub control-nodes-carry : {Q I : Type 0} (R : Rows Q I) (scratch : ℕ → Bool) (fits : I → Type 0) (ready : HostName → (ℕ → ℕ) → Bool) (C : Codes I)

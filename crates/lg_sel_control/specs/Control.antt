@@ -113,6 +113,8 @@ is_control (op.BranchSum o last) = true
 is_control (op.Control control.Pusharg last) = false
 is_control (op.Control o last) = true
 is_control (op.Plain plain.Movi) = false
+is_control (op.Plain plain.VaStart) = false
+is_control (op.Plain plain.VaArg) = false
 is_control (op.Plain o) = true
 is_control o = false
 

@@ -1,9 +1,8 @@
 -- A node that reads an argument of its function is carried.
-use Rattle.std.proofs.Common.{◌≡◌, ◌≢◌, ℕ, ◌+◌, ◌-◌, ◌%◌, ◌^◌, ◌<◌, ◌≤◌, ◌⊎◌, inl, Bool, true, false, List, [], ◌∷◌, Option, Some, None, refl, sym, ap, ◌∙◌, arith, subst, length}
+use Rattle.std.proofs.Common.{◌≡◌, ◌≢◌, ℕ, ◌%◌, ◌^◌, ◌<◌, ◌≤◌, ◌⊎◌, inl, Bool, true, false, List, [], ◌∷◌, Option, Some, None, refl, sym, ap, ◌∙◌, arith, subst, length}
 use Rattle.std.specs.Prelude.{◌==◌, nat_lt, if◌then◌else◌, slice_get}
 use Rattle.std.proofs.lemmas.Option.{slice_get_within}
-use Rattle.lg_base.specs.Conventions.{argument_registers, argument_word, stack_register}
-use Rattle.lg_base.specs.Layout.{frame_pointer, home_word, stack_argument}
+use Rattle.lg_base.specs.Layout.{frame_pointer}
 use Rattle.lg_base.specs.declared.target.Target.{Target}
 use Rattle.lg_op.specs.Forms.{admit, forms_of}
 use Rattle.lg_op.specs.declared.form.Form.TheVariants as form
@@ -22,49 +21,27 @@ use Rattle.lg_meaning.specs.Steps.{Undefined, need, on, with_reg, operate}
 use Rattle.lg_meaning.specs.Texts.{step}
 use Rattle.lg_temp.specs.Abis.{register_of}
 use Rattle.lg_carry.specs.Carries.{Leads}
-use Rattle.lg_carry.specs.FinalNodes.{Code, is_inside}
-use Rattle.lg_carry.specs.Frames.{at_call, IsSettled}
+use Rattle.lg_carry.specs.FinalNodes.{Code}
 use Rattle.lg_carry.specs.NodeBlocks.{IsNodeBlock}
 use Rattle.lg_carry.specs.NodeCode.{live_before, live_behind, CarriesNode}
-use Rattle.lg_carry.specs.Places.{AreStacked}
 use Rattle.lg_carry.specs.Registers.{HasWord}
 use Rattle.lg_carry.specs.Rows.{Rows}
-use Rattle.lg_carry.specs.Spills.{Does, in_slots, with_register}
-use Rattle.lg_carry.specs.Stands.{Stands, lowest}
+use Rattle.lg_carry.specs.Spills.{Does, with_register}
+use Rattle.lg_carry.specs.Stands.{Stands}
 use Rattle.lg_carry.specs.TextNodes.{IsInText, IsFrameOf}
-use Rattle.lg_carry.proofs.AgreeInFrameLemmas.{settled, is-false}
-use Rattle.lg_carry.proofs.KeptLemmas.{registers-few}
-use Rattle.lg_carry.proofs.StackLemmas.{stacked-high, few-arguments, within-where}
+use Rattle.lg_carry.proofs.StackLemmas.{few-arguments}
 use Rattle.lg_carry.proofs.TextShapeLemmas.{shaped}
 use Rattle.lg_carry.proofs.WordLemmas.{loaded-same}
 use Rattle.lg_sel_nodes.specs.Isas.{IsIsa}
 use Rattle.lg_sel_nodes.specs.Straight.{spoils, from_to, HoldsRead, StepsTo}
-use Rattle.lg_sel_nodes.proofs.StraightLemmas.{AreHarmless, none-harmless, computes, inside, tower, read-before}
+use Rattle.lg_sel_nodes.proofs.StraightLemmas.{AreHarmless, none-harmless, computes}
 use Rattle.lg_sel_memory.specs.Arguments.{ArgumentCode, argument_place, ArgumentsDo, HasArgumentCode, argument_of, ArgumentsCarry}
 use Rattle.lg_sel_memory.specs.Loads.{IsReadable}
+use Rattle.lg_sel_memory.proofs.ArgumentPlaceLemmas.{IsApart, reads-held, same-end, stands-there, argument-small}
 use Rattle.lg_sel_memory.proofs.FormLemmas.{nothing-left, starts-written, starts-argument}
 use Rattle.lg_sel_memory.proofs.PartLemmas.{width-few, part-loaded, part-less, typed-part}
 use Rattle.lg_sel_memory.proofs.ReadLemmas.{numbered-same, or-false, with_op, stepped}
 use Rattle.lg_sel_memory.proofs.WriteLemmas.{writes-word}
-use Rattle.lg_sel_nodes.proofs.ByteLemmas.{loaded-small}
-
--- ---- the argument's place
--- it is a multiple of 8, and none of its bytes is in a spill slot
-record IsApart (sp a : ℕ) : Type 0 where
-  whole : a % 8 ≡ 0
-  off : (x : ℕ) → a ≤ x → x < a + 8 → in_slots (frame_pointer sp) x ≡ false
-
-home-apart : (sp k : ℕ) → k < 8 → sp % 16 ≡ 0 → 272 ≤ sp → IsApart sp (home_word (frame_pointer sp) k)
-home-apart sp k few even low = record {
-  whole = omega (arith, few, even, low);
-  off = λ x le lt. is-false (in_slots (frame_pointer sp) x) (λ on. let z = within-where (frame_pointer sp - 128) 40 x on in omega (arith, z.0, z.1, le, lt, few, low));
-}
-
-stack-apart : (sp j : ℕ) → sp % 16 ≡ 0 → 272 ≤ sp → IsApart sp (stack_argument sp j)
-stack-apart sp j even low = record {
-  whole = omega (arith, even);
-  off = λ x le lt. is-false (in_slots (frame_pointer sp) x) (λ on. let z = within-where (frame_pointer sp - 128) 40 x on in omega (arith, z.0, z.1, le, lt, low));
-}
 
 width-whole : (a : ℕ) (t : ValueType) → a % 8 ≡ 0 → (a % width t == 0) ≡ true
 width-whole a value_type.Char e = grind (arith, e)
@@ -98,42 +75,14 @@ module _ {Q I : Type 0} (R : Rows Q I) (scratch : ℕ → Bool) (fits : I → Ty
       abbrev w : ℕ → ℕ
       w = (R.processor.seen q).registers
 
-      behind : is_inside c s.at ≡ true
-      behind = inside R scratch fits isa c i n S [] is refl refl x y (some frame t d k few) h frames s q at st.runs st.state
-
-      stack : AreStacked (lowest s.frame) (s.frame ∷ s.callers)
-      stack = tower R scratch fits isa c i n S [] is refl refl x y (some frame t d k few) h frames s q at st.runs st.state
-
       reads : HoldsRead target n frame s (R.processor.seen q)
-      reads = read-before R scratch fits isa c i n S [] is refl refl x y (some frame t d k few) h frames s q at st.runs st.state frame is-frame
-
-      rests : IsSettled target c.place (R.processor.seen q).bytes w s.frame s.callers (frames (at_call s.frame))
-      rests = settled target (is_inside c s.at) c.place (R.processor.seen q).bytes w s.frame s.callers (frames (at_call s.frame)) behind st.state.frame
-
-      ends : (s.frame.sp % 16 ≡ 0) × (272 ≤ s.frame.sp)
-      ends = ((stacked-high s.frame.sp s.callers stack.3).0, omega (arith, stack.0, stack.1))
-
-      -- the frame of the code ends where that of the state does
-      same-end : w (stack_register target) + frame ≡ s.frame.sp
-      same-end =
-          let p = reads.in_frame.pointer in let f = reads.pointer in let e : frame_pointer (w (stack_register target) + frame) ≡ frame_pointer s.frame.sp = sym p ∙ f in
-          let large = reads.in_frame.large in let low = ends.1 in omega (arith, e, large, low)
+      reads = reads-held R scratch fits isa c i n refl refl frame is-frame S is (some frame t d k few) x y frames s out q at st
 
       abbrev a : ℕ
       a = argument_place target s.frame.sp k
 
       there : HasWord (R.processor.seen q).bytes a v × IsApart s.frame.sp a
-      there = by (nat_lt k (length (argument_registers target))) refl
-        where
-          by : (b : Bool) → nat_lt k (length (argument_registers target)) ≡ b
-              → HasWord (R.processor.seen q).bytes (if b then home_word (frame_pointer s.frame.sp) k else stack_argument s.frame.sp (argument_word target k)) v
-              × IsApart s.frame.sp (if b then home_word (frame_pointer s.frame.sp) k else stack_argument s.frame.sp (argument_word target k))
-          by true e =
-              let lt : k < length (argument_registers target) = grind (arith, e) in
-              (rests.words.homes k v lt given, home-apart s.frame.sp k (let r = registers-few target in omega (arith, lt, r)) ends.0 ends.1)
-          by false e =
-              let ge : length (argument_registers target) ≤ k = grind (arith, e) in
-              (st.state.incoming.is k v ge given, stack-apart s.frame.sp (argument_word target k) ends.0 ends.1)
+      there = stands-there R scratch fits isa c i n refl refl frame is-frame S is (some frame t d k few) x y frames s out q at st k v given
 
       abbrev part : ℕ
       part = v % 256 ^ width t
@@ -145,14 +94,14 @@ module _ {Q I : Type 0} (R : Rows Q I) (scratch : ℕ → Bool) (fits : I → Ty
           ∙ part-loaded (R.processor.seen q).bytes a v t st.state.seen.bytes there.0
 
       small : v < 2 ^ 64
-      small = loaded-small (R.processor.seen q).bytes st.state.seen.bytes a 8 v there.0
+      small = argument-small R scratch fits isa c i n refl refl frame is-frame S is (some frame t d k few) x y frames s out q at st k v given
 
       does : Does R (from_to (R.processor.seen q) (with_register w (register_of target d) (typed t v)) (R.processor.seen q).bytes (R.processor.seen q).flags) is (frame_pointer s.frame.sp) 0 (spoils scratch [])
       does =
           let p = reads.pointer in
           subst (λ z. Does R (from_to (R.processor.seen q) (with_register w (register_of target d) z) (R.processor.seen q).bytes (R.processor.seen q).flags) is (frame_pointer s.frame.sp) 0 (spoils scratch [])) (typed-part t v small)
           (subst (λ p'. Does R (from_to (R.processor.seen q) (with_register w (register_of target d) (typed t part)) (R.processor.seen q).bytes (R.processor.seen q).flags) is p' 0 (spoils scratch [])) p
-          (lead frame t d k q a part named few reads.in_frame (ap (λ z. argument_place target z k) same-end) (width-whole a t there.1.whole)
+          (lead frame t d k q a part named few reads.in_frame (ap (λ z. argument_place target z k) (same-end R scratch fits isa c i n refl refl frame is-frame S is (some frame t d k few) x y frames s out q at st)) (width-whole a t there.1.whole)
           (subst (λ p'. IsReadable (R.processor.seen q) p' a (width t) part) (sym p) readable) (part-less v t)))
 
       steps-to : StepsTo R scratch c n [] is s (R.processor.seen q)

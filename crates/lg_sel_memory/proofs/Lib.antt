@@ -1,3 +1,4 @@
+pub mod ArgumentPlaceLemmas
 pub mod BehindLemmas
 pub mod FormLemmas
 pub mod GetargLemmas
@@ -8,3 +9,4 @@ pub mod PushLemmas
 pub mod ReadLemmas
 pub mod StoreLemmas
 pub mod WriteLemmas
+pub mod VariableArgumentLemmas

@@ -4,3 +4,4 @@ pub mod Loads
 pub mod Operands
 pub mod Pushes
 pub mod Stores
+pub mod VariableArguments

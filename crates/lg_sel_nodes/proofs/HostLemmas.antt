@@ -17,7 +17,7 @@ use Rattle.lg_host.proofs.HostLawLemmas.{host_of-kept}
 use Rattle.lg_op.specs.declared.node.Node.{Node}
 use Rattle.lg_cpu.specs.HostSteps.{argument_words}
 use Rattle.lg_meaning.specs.States.{Frame, State, is_open}
-use Rattle.lg_meaning.specs.Steps.{Outcome, Goes, Ends, answered, host_end, call_host, kept as kept_registers}
+use Rattle.lg_meaning.specs.Steps.{Outcome, Goes, Ends, answered, host_end, is_marked, call_host, kept as kept_registers}
 use Rattle.lg_meaning.specs.Steps.{Undefined as NoStep}
 use Rattle.lg_meaning.specs.Texts.{text, step_at, step}
 use Rattle.lg_meaning.specs.Fits.{is_call}
@@ -203,10 +203,10 @@ module _ {Q I : Type 0} (R : Rows Q I) (ready : HostName → (ℕ → ℕ) → B
       record { ready_is = arrives-at.ready_is; runs = arr.runs; entry = ap host_by_address arr.here ∙ found name; small = (let z = small name in omega (arith, arr.here, z)); seen = seen; pointer = arr.pointer; link = arr.link; low = (let l = st.state.low in omega (arith, l)); high = h.1; whole = h.0 }
 
   -- what the processor's function answers, where the portable one is defined
-  answer : (h : Host) → host_of name args s.variadic m1 ≡ h → IsDefined h → host_answer R.processor name low u ≡ h
+  answer : (h : Host) → host_of name args (is_marked s.variadic) m1 ≡ h → IsDefined h → host_answer R.processor name low u ≡ h
   answer h e defined =
       ap (λ xs. host_of name xs true m2) (sym words.1)
-      ∙ host_of-kept name args words.0 s.variadic m1 m2 larger (subst IsDefined (sym e) defined) ∙ e
+      ∙ host_of-kept name args words.0 (is_marked s.variadic) m1 m2 larger (subst IsDefined (sym e) defined) ∙ e
 
   -- the step of the node leads there
   leads : (o : Outcome) → step c.nodes c.shape c.addresses s ≡ o → Meets R.processor c live (live_behind live n S s) o out (R.processor.machine.step u) → Leads R.processor c live (live_behind live n S s) i (step c.nodes c.shape c.addresses s) out q
@@ -217,7 +217,7 @@ module _ {Q I : Type 0} (R : Rows Q I) (ready : HostName → (ℕ → ℕ) → B
   wrote = ap R.processor.machine.out (sym arr.passes.leads) ∙ arr.passes.silent arr.steps (omega arith) ∙ st.wrote
 
   -- ---- an answer
-  module _ (v : ℕ) (d : Changes) (to : ℕ) (xs : List ℕ) (gives : host_of name args s.variadic m1 ≡ Gives v d to xs) where
+  module _ (v : ℕ) (d : Changes) (to : ℕ) (xs : List ℕ) (gives : host_of name args (is_marked s.variadic) m1 ≡ Gives v d to xs) where
     abbrev s' : State
     s' = answered s v (over d s.mem) to
 
@@ -231,7 +231,7 @@ module _ {Q I : Type 0} (R : Rows Q I) (ready : HostName → (ℕ → ℕ) → B
     ans = hosts.gives u name low (c.place (i + 1)) v d to xs arrived (answer (Gives v d to xs) gives tt)
 
     writes : Writes m1 v d to xs
-    writes = subst (λ h. OnGives h (Writes m1)) gives (host_writes m1 name args s.variadic)
+    writes = subst (λ h. OnGives h (Writes m1)) gives (host_writes m1 name args (is_marked s.variadic))
 
     seen' : IsSeen (R.processor.seen u')
     seen' = record {
@@ -309,9 +309,9 @@ module _ {Q I : Type 0} (R : Rows Q I) (ready : HostName → (ℕ → ℕ) → B
         })
 
   pub host-called : (step c.nodes c.shape c.addresses s ≡ NoStep) ⊎ Leads R.processor c live (live_behind live n S s) i (step c.nodes c.shape c.addresses s) out q
-  host-called = by (host_of name args s.variadic m1) refl
+  host-called = by (host_of name args (is_marked s.variadic) m1) refl
     where
-      by : (h : Host) → host_of name args s.variadic m1 ≡ h → (step c.nodes c.shape c.addresses s ≡ NoStep) ⊎ Leads R.processor c live (live_behind live n S s) i (step c.nodes c.shape c.addresses s) out q
+      by : (h : Host) → host_of name args (is_marked s.variadic) m1 ≡ h → (step c.nodes c.shape c.addresses s ≡ NoStep) ⊎ Leads R.processor c live (live_behind live n S s) i (step c.nodes c.shape c.addresses s) out q
       by (Gives v d to xs) e = inr (answers v d to xs e)
       by (Exits status) e =
           let x = hosts.exits u name low (c.place (i + 1)) status arrived (answer (Exits status) e tt) in

@@ -1,4 +1,5 @@
 pub mod ComputationLemmas
+pub mod FormLemmas
 pub mod ResultLemmas
 pub mod OneResultLemmas
 pub mod TwoResultLemmas

@@ -21,8 +21,8 @@ use Rattle.lg_carry.specs.TextNodes.{IsInText}
 use Rattle.lg_sel_nodes.specs.Straight.{IsKept}
 use Rattle.lg_sel_values.specs.Computers.{Held, Computer, computed, HeldRead, HeldTo, ComputingNode}
 use Rattle.lg_sel_nodes.proofs.RegisterLemmas.{same-self, some-same}
-use Rattle.lg_sel_values.specs.ValueNodes.{unary_node, movi_node, retval_node}
-use Rattle.lg_sel_values.specs.Values.{ComputesInto, KeepsCarry, UnaryNodesCompute, MoviNodesCompute, RetvalNodesCompute}
+use Rattle.lg_sel_values.specs.ValueNodes.{unary_node, movi_node, va_start_node, retval_node}
+use Rattle.lg_sel_values.specs.Values.{ComputesInto, KeepsCarry, UnaryNodesCompute, MoviNodesCompute, VaStartNodesCompute, RetvalNodesCompute}
 use Rattle.lg_sel_values.proofs.ResultLemmas.{or-false, step-is, OneGiven, one-given, holds-one, kept-apart}
 
 module _ {Q I : Type 0} (M : Computer Q I) (scratch : ℕ → Bool) (c : Code) (i : ℕ) (n : Node) (d : Reg) (named : d ≢ Fp) (writes : (q : Reg) → is_written n q ≡ is_same d q) (choices : List Choice) (body : List I)
@@ -90,6 +90,12 @@ pub movi-nodes-compute : {Q I : Type 0} (M : Computer Q I) → MoviNodesCompute 
 movi-nodes-compute M scratch c i d x v line choices body named given t into carries makes =
     one-word-kept M scratch c i (movi_node d x line) d named (λ q. or-false (is_same d q)) choices body into (λ s. value c.addresses s x) (λ m. m)
     (λ s w m h e. makes w ∙ some-same v m (sym (given s) ∙ e)) (λ s w h. carries w s.carry h.carry) (λ s at. step-is c i (movi_node d x line) s t at)
+
+-- the number of the text
+pub va-start-nodes-compute : {Q I : Type 0} (M : Computer Q I) → VaStartNodesCompute M
+va-start-nodes-compute M scratch c i d k line choices body named t into makes =
+    one-word M scratch c i (va_start_node d k line) d named (λ q. or-false (is_same d q)) choices body into (λ s. Some k) (λ m. m)
+    (λ s w m h e. makes w ∙ some-same k m e) (λ s at. step-is c i (va_start_node d k line) s t at)
 
 -- the word of the result register, by its type
 pub retval-nodes-compute : {Q I : Type 0} (M : Computer Q I) → RetvalNodesCompute M

@@ -69,7 +69,7 @@ pub or-left : (b c : Bool) → b ≡ true → (b || c) ≡ true
 or-left true c e = refl
 or-left false c e = cc
 
-or-right : (b c : Bool) → c ≡ true → (b || c) ≡ true
+pub or-right : (b c : Bool) → c ≡ true → (b || c) ≡ true
 or-right true c e = refl
 or-right false c e = e
 
@@ -86,13 +86,13 @@ module _ (target : Target) (n : Node) (d e : Reg) (nd : d ≢ Fp) (ne : e ≢ Fp
   set-is : is_written n ≡ (λ q. is_same e q || is_same d q)
   set-is = λ i. λ q. writes q i
 
-  writes-first : is_written n d ≡ true
+  pub writes-first : is_written n d ≡ true
   writes-first = writes d ∙ or-right (is_same e d) (is_same d d) (same-self d nd)
 
-  writes-second : is_written n e ≡ true
+  pub writes-second : is_written n e ≡ true
   writes-second = writes e ∙ or-left (is_same e e) (is_same d e) (same-self e ne)
 
-  holds-two : (s t : State) (p : ℕ × ℕ) (u : ℕ → ℕ) → t.regs ≡ with_word (with_word s.regs (number d) p.0) (number e) p.1 → HoldsPair (register_of target d) (register_of target e) p u → (written : (r x : ℕ) → r < 6 → numbered (is_written n) r ≡ true → t.regs r ≡ Some x → u (portable_register target r) ≡ x) × ((r : ℕ) → r < 6 → numbered (is_written n) r ≡ false → t.regs r ≡ s.regs r)
+  pub holds-two : (s t : State) (p : ℕ × ℕ) (u : ℕ → ℕ) → t.regs ≡ with_word (with_word s.regs (number d) p.0) (number e) p.1 → HoldsPair (register_of target d) (register_of target e) p u → (written : (r x : ℕ) → r < 6 → numbered (is_written n) r ≡ true → t.regs r ≡ Some x → u (portable_register target r) ≡ x) × ((r : ℕ) → r < 6 → numbered (is_written n) r ≡ false → t.regs r ≡ s.regs r)
   holds-two s t p u regs h = (written, others)
     where
       at-first : (r x : ℕ) → r ≡ number d → t.regs r ≡ Some x → u (portable_register target r) ≡ x

@@ -23,7 +23,7 @@ use Rattle.lg_carry.specs.Registers.{HoldsCarry}
 use Rattle.lg_carry.specs.TextNodes.{IsInText}
 use Rattle.lg_sel_nodes.specs.Straight.{is_taken}
 use Rattle.lg_sel_values.specs.Computers.{Held, Computer, all_compute, computed, HeldRead, ComputingNode}
-use Rattle.lg_sel_values.specs.ValueNodes.{binary_node, wide_node, unary_node, movi_node, retval_node}
+use Rattle.lg_sel_values.specs.ValueNodes.{binary_node, wide_node, unary_node, movi_node, va_start_node, retval_node}
 
 -- ---- the code
 -- a register that stands for none of these portable ones
@@ -102,6 +102,14 @@ MoviNodesCompute {Q} {I} M =
     → d ≢ Fp → ((s : State) → value c.addresses s x ≡ Some v) → IsInText c i (movi_node d x line) → ComputesInto M scratch (d ∷ []) choices body
     → KeepsCarry M body → ((w : Held) → (computed M.computed_by body w).registers (register_of M.rows.processor.target d) ≡ v)
     → ComputingNode M scratch c i (movi_node d x line) choices body
+
+-- the number of the first variable argument
+abbrev pub VaStartNodesCompute : {Q I : Type 0} → Computer Q I → Type 0
+VaStartNodesCompute {Q} {I} M =
+    (scratch : ℕ → Bool) (c : Code) (i : ℕ) (d : Reg) (k line : ℕ) (choices : List Choice) (body : List I)
+    → d ≢ Fp → IsInText c i (va_start_node d k line) → ComputesInto M scratch (d ∷ []) choices body
+    → ((w : Held) → (computed M.computed_by body w).registers (register_of M.rows.processor.target d) ≡ k)
+    → ComputingNode M scratch c i (va_start_node d k line) choices body
 
 -- the result of a call, by its type
 abbrev pub RetvalNodesCompute : {Q I : Type 0} → Computer Q I → Type 0

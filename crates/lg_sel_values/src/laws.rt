@@ -1,7 +1,7 @@
 // The nodes whose code only computes, on every target. The functions do nothing: their contracts are the laws.
 
 ghost use Rattle.lg_sel_values.specs.Computers.{Computer, IsComputer, ComputingNodesCompute};
-ghost use Rattle.lg_sel_values.specs.Values.{BinaryNodesCompute, CarriedNodesCompute, WideNodesCompute, UnaryNodesCompute, MoviNodesCompute};
+ghost use Rattle.lg_sel_values.specs.Values.{BinaryNodesCompute, CarriedNodesCompute, WideNodesCompute, UnaryNodesCompute, MoviNodesCompute, VaStartNodesCompute};
 ghost use Rattle.lg_sel_values.specs.Values.{RetvalNodesCompute};
 
 /// A processor with instructions that only compute.
@@ -47,6 +47,11 @@ pub fn unary_nodes_compute<T: Computing>()
 /// So is one that loads a word of the text, by code that keeps the carry.
 pub fn movi_nodes_compute<T: Computing>()
     ensures { MoviNodesCompute T.computer }
+{}
+
+/// So is one that begins a list of variable arguments.
+pub fn va_start_nodes_compute<T: Computing>()
+    ensures { VaStartNodesCompute T.computer }
 {}
 
 /// So is one that takes the result of a call.

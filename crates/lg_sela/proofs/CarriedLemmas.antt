@@ -41,7 +41,6 @@ use Rattle.lg_sela.proofs.NodeFits.{node-emits, items-fit, items-within}
 use Rattle.lg_sela.proofs.NodeLemmas.{items-carry}
 use Rattle.lg_sel.proofs.PlaceLemmas.{and-first}
 use Rattle.lg_sel.proofs.ReachLemmas.{led-fits, is-near, same-label}
-use Rattle.lg_sel_control.proofs.ControlLemmas.{differ}
 use Rattle.lg_sel_items.specs.Reaches.{Leads, IsChecked, IsLeast}
 use Rattle.lg_sela.proofs.ShortLemmas.{node-short}
 use Rattle.lg_sela.specs.Items.{node_items}

@@ -1,5 +1,5 @@
 -- The items of the nodes that branch, jump, call and return, of `prolog`, `.align` and of those without code; none but those of a `prolog` store.
-use Rattle.std.proofs.Common.{◌≡◌, ℕ, zero, suc, ◌+◌, ◌≤◌, Bool, true, false, List, [], ◌∷◌, ◌++◌, refl, arith}
+use Rattle.std.proofs.Common.{◌≡◌, ℕ, zero, suc, ◌≤◌, Bool, true, false, List, [], ◌∷◌, refl, arith}
 use Rattle.std.specs.Prelude.{pos}
 use Rattle.lg_a64.specs.declared.instruction.BranchOp.TheVariants.{B, Bl}
 use Rattle.lg_a64.specs.declared.instruction.BranchRegOp.{BranchRegOp}
@@ -21,7 +21,6 @@ use Rattle.lg_op.specs.declared.op.LastOperand.{LastOperand}
 use Rattle.lg_op.specs.declared.op.LastOperand.TheVariants as last_operand
 use Rattle.lg_op.specs.declared.op.Op.{Op}
 use Rattle.lg_op.specs.declared.op.Op.TheVariants as op
-use Rattle.lg_op.specs.declared.op.PlainOp.{PlainOp}
 use Rattle.lg_op.specs.declared.op.PlainOp.TheVariants as plain_op
 use Rattle.lg_op.specs.declared.operand.Label.{Label}
 use Rattle.lg_op.specs.declared.operand.Operand.{Operand}
@@ -35,12 +34,11 @@ use Rattle.lg_sel_items.specs.declared.reach.Reach.TheVariants.{Short, Near, Far
 use Rattle.lg_sela.proofs.Emissions.{NoneStores, Emits, none, append, more, instructions, plain, number, address, branch, branch_if, front, behind}
 use Rattle.lg_sela_control.specs.Alignments.{padding, idle, align_code}
 use Rattle.lg_sela_control.specs.Branches.{comparison, taken, turned}
-use Rattle.lg_sela_control.specs.ControlItems.{second_register, word_items, second_items, leads_items, branch_if_items, branch_items, sum_items, jump_items, call_items, result_items, ret_items, register_leap_items, leap_items, align_items, plain_items, control_items, is_control}
+use Rattle.lg_sela_control.specs.ControlItems.{second_register, word_items, second_items, leads_items, branch_if_items, branch_items, sum_items, jump_items, call_items, result_items, ret_items, register_leap_items, leap_items, align_items, control_items}
 use Rattle.lg_sela_control.specs.Prologs.{prolog_code}
 use Rattle.lg_sela_control.specs.RegisterLeaps.{register_leap_code}
 use Rattle.lg_sela_control.specs.Returns.{result, return_code}
 use Rattle.lg_sela_control.specs.SumBranches.{sum_instruction, sum_taken}
-use Rattle.lg_sela_items.specs.Items.{ones}
 use Rattle.lg_sela_items.specs.declared.items.Item.{Item}
 use Rattle.lg_sela_items.specs.declared.items.Item.TheVariants.{Branch}
 use Rattle.lg_temp.specs.Abis.{register_of}

@@ -1,5 +1,5 @@
 -- The items of loads, stores and nodes that read and pass arguments: a store and an argument that is passed store once.
-use Rattle.std.proofs.Common.{◌≡◌, ℕ, ◌+◌, ◌-◌, ◌*◌, ◌/◌, ◌≤◌, Bool, true, false, List, [], ◌∷◌, ◌++◌, refl, arith}
+use Rattle.std.proofs.Common.{ℕ, ◌-◌, ◌/◌, ◌≤◌, Bool, true, false, [], ◌∷◌, ◌++◌, refl, arith}
 use Rattle.std.specs.Prelude.{nat_lt, slice_index, if◌then◌else◌}
 use Rattle.lg_a64.specs.declared.instruction.ImmOp.TheVariants.{Subi}
 use Rattle.lg_a64.specs.declared.instruction.Instr.TheVariants as instr
@@ -26,10 +26,10 @@ use Rattle.lg_sel_memory.specs.Accesses.{Address, Base, At, Sum, Index, address_
 use Rattle.lg_sel_items.specs.declared.reach.Reach.{Reach}
 use Rattle.lg_sela.proofs.Emissions.{NoneStores, number-none, Emits, none, append, more, either, instructions, plain, number, address}
 use Rattle.lg_sela_items.specs.Items.{ones}
-use Rattle.lg_sela_items.specs.declared.items.Item.{Item}
 use Rattle.lg_sela_memory.specs.Accesses.{register, load_row, store_row, Place, at_link, is_scaled, indexed, place_of, loading, storing, load_code, store_code}
 use Rattle.lg_sela_memory.specs.ArgumentCode.{home_distance, stack_count, argument_load, argument_code}
 use Rattle.lg_sela_memory.specs.PushCode.{into, stack_push, onto_stack, push_code}
+use Rattle.lg_sela_memory.specs.VariableArgumentCode.{next_argument_code}
 use Rattle.lg_operators.specs.Operators.{width, store_width}
 use Rattle.lg_temp.specs.Abis.{register_of}
 
@@ -85,6 +85,9 @@ module _ (reach : Reach) (is : ℕ → Bool) where
   arguments-emit t n = plain reach is 1 (argument_code t n)
       (stores.none-if a64_stores (nat_lt (slot (operand_at n 1)) 16) (argument_load t (register (operand_at n 0)) (slot (operand_at n 1))) []
       (argument-none t (register (operand_at n 0)) (slot (operand_at n 1))) refl)
+
+  pub next-arguments-emit : (n : Node) → Emits reach is 1 0 (ones (next_argument_code n))
+  next-arguments-emit n = plain reach is 1 (next_argument_code n) refl
 
   puts : (rd : ℕ) (x : Operand) → Passes is x → Emits reach is 1 0 (into rd x)
   puts rd (operand.Reg r) h = plain reach is 1 (instr.Reg reg.Orr rd zero_register (register_of Aarch64 r) ∷ []) refl

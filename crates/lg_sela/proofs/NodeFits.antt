@@ -18,7 +18,7 @@ use Rattle.lg_sel.specs.Stores.{a64_stores}
 use Rattle.lg_sel_items.specs.declared.reach.Reach.{Reach}
 use Rattle.lg_sela.proofs.ControlEmissions.{controls-emit, prologs-emit}
 use Rattle.lg_sela.proofs.Emissions.{Names, Emits, more}
-use Rattle.lg_sela.proofs.MemoryEmissions.{loads-emit, stores-emit, arguments-emit, pushes-emit}
+use Rattle.lg_sela.proofs.MemoryEmissions.{loads-emit, stores-emit, arguments-emit, next-arguments-emit, pushes-emit}
 use Rattle.lg_sel.specs.Asked.{NamesBelow, NameBelow}
 use Rattle.lg_sela.proofs.OperandLemmas.{are-below, are-given}
 use Rattle.lg_sela.proofs.ValueEmissions.{values-emit}
@@ -51,6 +51,7 @@ families-emit reach = record {
   loads = λ is frame t at n choices. more reach is 1 1 0 (spills choices) (ones (load_code t at n)) (omega arith) (omega arith) (loads-emit reach is t at n);
   stores = λ is frame t at n choices. more reach is 1 1 1 (spills choices + 1) (ones (store_code t at n)) (omega arith) (omega arith) (stores-emit reach is t at n);
   arguments = λ is frame t n. arguments-emit reach is t n;
+  next_arguments = λ is n. next-arguments-emit reach is n;
   results = λ is frame t n choices h. values-emit reach is n choices h;
   pushes = λ is frame j n h. pushes-emit reach is j n h;
   controls = controls-emit reach;
@@ -82,6 +83,7 @@ families-fit reach labels = record {
   values = λ frame n live set choices sized is are named words. values reach labels n live set choices are named;
   loads = λ frame n t at live set choices sized e are words. record { instrs = (memory-items-fit.loads t at n).appendable.fit; names = memory-items-name.loads labels t at n };
   stores = λ frame n t at live set choices sized e are words. record { instrs = (memory-items-fit.stores t at n).appendable.fit; names = memory-items-name.stores labels t at n };
+  next_arguments = λ n. record { instrs = (memory-items-fit.next_arguments n).appendable.fit; names = memory-items-name.next_arguments labels n };
   arguments = λ frame n t sized. record { instrs = (memory-items-fit.arguments t n).appendable.fit; names = memory-items-name.arguments labels t n };
   results = λ frame n t live set choices sized e formed are named words. values reach labels n live set choices are named;
   pushes = λ frame n j sized few named word.
@@ -109,6 +111,7 @@ families-stay reach = record {
   loads = λ frame t at n live set choices e are. memory-items-stay.loads t at n;
   stores = λ frame t at n live set choices e are. memory-items-stay.stores t at n;
   arguments = λ frame t n. memory-items-stay.arguments t n;
+  next_arguments = λ n. memory-items-stay.next_arguments n;
   results = λ frame t n live set choices are. value-items-stay n live set choices are;
   pushes = λ frame j n. memory-items-stay.pushes j n;
   controls = λ n frame place. control-items-stay reach n frame place;

@@ -1,10 +1,10 @@
 -- Each node is carried by its items.
-use Rattle.std.proofs.Common.{◌≡◌, ℕ, ◌+◌, ◌<◌, Bool, true, false, List, [], ◌∷◌, refl, sym, ap, subst, ◌∙◌, arith}
+use Rattle.std.proofs.Common.{◌≡◌, ℕ, ◌+◌, ◌<◌, Bool, true, false, List, [], refl, sym, ap, subst, ◌∙◌}
 use Rattle.std.specs.Prelude.{slice_get, slice_index}
 use Rattle.std.specs.List.{list_any}
 use Rattle.lg_base.specs.Layout.{code_base}
 use Rattle.lg_base.specs.declared.target.Target.TheVariants.{Aarch64}
-use Rattle.lg_op.specs.Forms.{forms_of, admit}
+use Rattle.lg_op.specs.Forms.{forms_of}
 use Rattle.lg_op.specs.declared.node.Node.{Node}
 use Rattle.lg_op.specs.declared.op.Op.{Op}
 use Rattle.lg_op.specs.declared.op.Op.TheVariants as op
@@ -14,17 +14,13 @@ use Rattle.lg_op.specs.declared.op.LastOperand.{LastOperand}
 use Rattle.lg_op.specs.declared.op.Addressing.{Addressing}
 use Rattle.lg_op.specs.declared.op.StoreType.{StoreType}
 use Rattle.lg_op.specs.declared.op.ValueType.{ValueType}
-use Rattle.lg_op.specs.declared.operand.Operand.{Operand}
-use Rattle.lg_op.specs.declared.operand.Operand.TheVariants as operand
 use Rattle.lg_op.specs.declared.operand.Reg.{Reg}
 use Rattle.lg_carry.specs.Carries.{leaps, leaps_at}
 use Rattle.lg_carry.specs.FinalNodes.{Code}
 use Rattle.lg_carry.specs.NodeCode.{numbered, CarriesNode}
 use Rattle.lg_node.specs.Preparations.{pushed}
 use Rattle.lg_carry_a64.specs.Places.{IsInCode}
-use Rattle.lg_carry.specs.Passages.{IsNodeCode}
-use Rattle.lg_carry_a64.specs.A64Rows.{a64_processor, a64_rows}
-use Rattle.lg_a64.specs.Spelling.{IsInstr}
+use Rattle.lg_carry_a64.specs.A64Rows.{a64_processor}
 use Rattle.lg_a64.specs.declared.instruction.Instr.{Instr}
 use Rattle.lg_sel.proofs.CountLemmas.{count-is}
 use Rattle.lg_sel.proofs.FamilyLemmas.{HoldsOfFamilies, of-node}
@@ -36,7 +32,6 @@ use Rattle.lg_sela.specs.Items.{a64_families, node_items}
 use Rattle.lg_sel.specs.Selected.{is_pusharg, may_take_label, IsNodeOf}
 use Rattle.lg_sela.specs.Selected.{IsAsked}
 use Rattle.lg_sel.proofs.NodeFitLemmas.{few-staged}
-use Rattle.lg_meaning.specs.Steps.{operand_at}
 use Rattle.lg_sela.proofs.OperandLemmas.{are-given, are-words}
 use Rattle.lg_sela.proofs.PlaceLemmas.{control-items-at}
 use Rattle.lg_sela_control.specs.ControlFits.{AreEmitted}
@@ -54,6 +49,7 @@ use Rattle.lg_sela_items.proofs.NodeLemmas.{items-are-node-code, items-are-in-co
 use Rattle.lg_sela_memory.specs.Accesses.{load_code, store_code}
 use Rattle.lg_sela_memory.specs.ArgumentCode.{argument_code}
 use Rattle.lg_sela_memory.specs.PushCode.{push_code}
+use Rattle.lg_sela_memory.specs.VariableArgumentCode.{next_argument_code}
 use Rattle.lg_sela_memory.proofs.FitLemmas.{memory-items-fit}
 use Rattle.lg_sela_memory.proofs.MemoryNodeLemmas.{memory-is-carried}
 use Rattle.lg_sela_values.specs.ValueItems.{computes_value, value_needs, value_items}
@@ -91,6 +87,7 @@ value-computes (op.Binary o last) is = refl
 value-computes (op.Wide o last) is = refl
 value-computes (op.Unary o) is = refl
 value-computes (op.Plain plain.Movi) is = refl
+value-computes (op.Plain plain.VaStart) is = refl
 value-computes o is = cc
 
 value-stays : (o : Op) → is_value o ≡ true → leaps o ≡ false
@@ -98,6 +95,7 @@ value-stays (op.Binary o last) is = refl
 value-stays (op.Wide o last) is = refl
 value-stays (op.Unary o) is = refl
 value-stays (op.Plain plain.Movi) is = refl
+value-stays (op.Plain plain.VaStart) is = refl
 value-stays o is = cc
 
 module _ (reach : Reach) (code : List ℕ) (trash : ℕ) (c : Code) (i frame : ℕ) (live : Reg → Bool) (staged : List Bool) (choices : List Choice) (labels place : ℕ) where
@@ -133,6 +131,11 @@ module _ (reach : Reach) (code : List ℕ) (trash : ℕ) (c : Code) (i frame : �
       (memory-is-carried code trash a.small a.bytes a.word).arguments c i n t frame (numbered live) e k.node.text k.node.frame_is
       (plain-code code trash c i n (argument_code t n) k.node.text (ap leaps e) (memory-items-fit.arguments t n).appendable a).block
 
+  next-arguments : (n : Node) → n.op ≡ op.Plain plain.VaArg → Carries n (ones (next_argument_code n))
+  next-arguments n e k a =
+      (memory-is-carried code trash a.small a.bytes a.word).next_arguments c i n frame (numbered live) e k.node.text k.node.frame_is
+      (plain-code code trash c i n (next_argument_code n) k.node.text (ap leaps e) (memory-items-fit.next_arguments n).appendable a).block
+
   pushes : (n : Node) (last : LastOperand) → n.op ≡ op.Control control.Pusharg last → Carries n (push_code (staged_count staged) n)
   pushes n last e k a =
       let j = staged_count staged in
@@ -164,6 +167,7 @@ module _ (reach : Reach) (code : List ℕ) (trash : ℕ) (c : Code) (i frame : �
     loads = loads;
     stores = stores;
     arguments = arguments;
+    next_arguments = next-arguments;
     results = λ n t e. values n (ap computes_value e) (ap leaps e);
     pushes = pushes;
     controls = controls;

@@ -1,6 +1,6 @@
 -- Code that leads back to a label has the shortest form that reaches it.
-use Rattle.std.proofs.Common.{◌≡◌, ℕ, ◌+◌, ◌-◌, ◌*◌, ◌/◌, ◌%◌, ◌^◌, ◌≤◌, Bool, true, false, List, [], ◌∷◌, ◌++◌, length, Option, Some, refl, sym, ap, ◌∙◌, subst, arith, append_assoc}
-use Rattle.std.specs.Prelude.{◌==◌, pos, ◌-ℤ◌, ◌+ℤ◌, ◌*ℤ◌, nat_lt, if◌then◌else◌, slice_get, slice_index}
+use Rattle.std.proofs.Common.{◌≡◌, ℕ, ◌+◌, ◌-◌, ◌*◌, ◌/◌, ◌%◌, ◌^◌, Bool, true, false, List, [], ◌∷◌, ◌++◌, length, Some, refl, sym, ap, ◌∙◌, subst, arith, append_assoc}
+use Rattle.std.specs.Prelude.{◌==◌, pos, ◌+ℤ◌, ◌*ℤ◌, nat_lt, if◌then◌else◌, slice_get, slice_index}
 use Rattle.std.proofs.lemmas.Int.{ints}
 use Rattle.lg_base.specs.HostNames.{host_address}
 use Rattle.lg_base.specs.Layout.{code_base}
@@ -33,7 +33,7 @@ use Rattle.lg_a64.specs.Spelling.{IsInstr, spelling}
 use Rattle.lg_a64.specs.declared.instruction.Cond.{Cond}
 use Rattle.lg_a64.specs.declared.instruction.Instr.{Instr}
 use Rattle.lg_a64.specs.declared.instruction.Instr.TheVariants as instr
-use Rattle.lg_a64.specs.declared.instruction.WideOp.TheVariants.{Movz, Movn, Movk}
+use Rattle.lg_a64.specs.declared.instruction.WideOp.TheVariants.{Movk}
 use Rattle.lg_sel.proofs.FinishedLemmas.{items-lead}
 use Rattle.lg_sel.specs.Finished.{AreAppended}
 use Rattle.lg_sel.specs.Selected.{IsFinished, part_of}

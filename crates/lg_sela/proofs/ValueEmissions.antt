@@ -1,5 +1,5 @@
 -- The items of a node that computes values name the labels of its operands, have at most one fix, and store where a temporary is saved.
-use Rattle.std.proofs.Common.{◌≡◌, ℕ, ◌+◌, ◌-◌, ◌%◌, ◌≤◌, Bool, true, false, List, [], ◌∷◌, ◌++◌, refl, arith}
+use Rattle.std.proofs.Common.{ℕ, ◌+◌, Bool, List, [], ◌∷◌, ◌++◌, refl, arith}
 use Rattle.std.specs.Prelude.{◌==◌, if◌then◌else◌}
 use Rattle.lg_a64.specs.declared.instruction.Instr.{Instr}
 use Rattle.lg_a64.specs.declared.instruction.Instr.TheVariants as instr
@@ -21,7 +21,6 @@ use Rattle.lg_op.specs.declared.op.PlainOp.TheVariants as plain_op
 use Rattle.lg_op.specs.declared.op.UnaryOp.{UnaryOp}
 use Rattle.lg_op.specs.declared.op.UnaryOp.TheVariants as unary
 use Rattle.lg_op.specs.declared.op.ValueType.{ValueType}
-use Rattle.lg_op.specs.declared.op.ValueType.TheVariants as value
 use Rattle.lg_op.specs.declared.op.WideOp.{WideOp}
 use Rattle.lg_op.specs.declared.op.WideOp.TheVariants as wide
 use Rattle.lg_op.specs.declared.operand.Operand.{Operand}
@@ -33,7 +32,6 @@ use Rattle.lg_sel_items.specs.declared.reach.Reach.{Reach}
 use Rattle.lg_sela.proofs.Emissions.{NoneStores, number-none, Emits, none, append, more, instructions, plain, number, address, behind}
 use Rattle.lg_sela_items.specs.Items.{ones}
 use Rattle.lg_sela_items.specs.declared.items.Item.{Item}
-use Rattle.lg_sela_items.specs.declared.items.Item.TheVariants.{One}
 use Rattle.lg_sela_values.specs.BinaryCode.{register_code, second_register, loaded_code, is_small, takes_small, small_code, takes_negative, negative_code, negative_form_code, small_form_code, number_form_code}
 use Rattle.lg_sela_values.specs.UnaryCode.{unary_code, extension, retval_code}
 use Rattle.lg_sela_values.specs.ValueItems.{load_items, binary_items, wide_items, operand_in, register_in, body_items, first_taken, saved_items, value_items}
@@ -130,6 +128,7 @@ module _ (reach : Reach) (is : ℕ → Bool) where
   body (op.Wide o last) xs u h = wide-emits o (register_in xs 0) (register_in xs 1) (register_in xs 2) (operand_in xs 3) (passes-at is xs 3 h)
   body (op.Unary o) xs u h = plain reach is 1 (unary_code o (register_in xs 0) (register_in xs 1)) (unary-none o (register_in xs 0) (register_in xs 1))
   body (op.Plain plain_op.Movi) xs u h = load (register_in xs 0) (operand_in xs 1) (passes-at is xs 1 h)
+  body (op.Plain plain_op.VaStart) xs u h = load (register_in xs 0) (operand_in xs 1) (passes-at is xs 1 h)
   body (op.Plain o) xs u h = none reach is 1 0
   body (op.Retval t) xs u h = plain reach is 1 (retval_code t (register_in xs 0)) (retval-none t (register_in xs 0))
     where

@@ -10,6 +10,7 @@ use Rattle.lg_sela_items.specs.Items.{ones}
 use Rattle.lg_sela_memory.specs.Accesses.{load_code, store_code}
 use Rattle.lg_sela_memory.specs.ArgumentCode.{argument_code}
 use Rattle.lg_sela_memory.specs.PushCode.{push_code}
+use Rattle.lg_sela_memory.specs.VariableArgumentCode.{next_argument_code}
 use Rattle.lg_sela_values.specs.ValueItems.{value_items}
 use Rattle.lg_temp.specs.declared.choice.Choice.{Choice}
 
@@ -20,6 +21,7 @@ a64_families reach = record {
   load = λ frame t at n choices. ones (load_code t at n);
   store = λ frame t at n choices. ones (store_code t at n);
   argument = λ frame t n. ones (argument_code t n);
+  next_argument = λ n. ones (next_argument_code n);
   result = λ frame t n choices. value_items n choices;
   push = λ frame j n. push_code j n;
   control = control_items reach;

@@ -11,7 +11,7 @@ use lg_sel::operands::staged_count;
 use lg_sel_items::{Items, Reach};
 use lg_sela_control::put_control;
 use lg_sela_items::Item;
-use lg_sela_memory::{put_argument, put_getarg, put_load, put_store};
+use lg_sela_memory::{put_argument, put_getarg, put_load, put_next_argument, put_store};
 use lg_sela_values::value_items;
 use lg_temp::choice::{Choices, Staged};
 
@@ -37,11 +37,12 @@ pub(crate) fn put_items(
         Op::Binary(_, _)
         | Op::Wide(_, _)
         | Op::Unary(_)
-        | Op::Plain(PlainOp::Movi)
+        | Op::Plain(PlainOp::Movi | PlainOp::VaStart)
         | Op::Retval(_) => value_items(node, choices, items),
         Op::Load(t, at) => put_load(t, at, node, items),
         Op::Store(t, at) => put_store(t, at, node, items),
         Op::Getarg(t) => put_getarg(t, node, items),
+        Op::Plain(PlainOp::VaArg) => put_next_argument(node, items),
         Op::Control(ControlOp::Pusharg, _) => put_argument(staged_count(staged), node, items),
         _ => put_control(node, frame, place, reach, items),
     }

@@ -30,8 +30,7 @@ use Rattle.lg_sel_control.specs.Control.{control_code, branch_of, sum_branch_of,
 use Rattle.lg_sel_control.specs.Control as target_control
 use Rattle.lg_sel_control.proofs.ControlLemmas as target_lemmas
 use Rattle.lg_sela_items.specs.declared.items.Item.{Item}
-use Rattle.lg_sela_items.specs.declared.items.Item.TheVariants.{CondBranch}
-use Rattle.lg_sela_items.specs.Items.{words_between, bytes_in, settled, ones}
+use Rattle.lg_sela_items.specs.Items.{bytes_in, settled, ones}
 use Rattle.lg_sela_items.proofs.ItemLemmas.{settled-append, settled-ones, words-ones, ones-append}
 use Rattle.lg_sel_items.specs.declared.reach.Reach.{Reach}
 use Rattle.lg_sel_items.specs.declared.reach.Reach.TheVariants.{Short, Near, Far}

@@ -1,6 +1,6 @@
 -- The items of loads, stores and arguments: their numbers are in the ranges of their instructions, there are few, and each is followed by the next.
 use Rattle.std.proofs.Common.{◌≡◌, ℕ, zero, suc, ◌+◌, ◌-◌, ◌/◌, ◌<◌, ◌≤◌, Bool, true, false, List, [], ◌∷◌, ◌++◌, length, refl, ap, arith, length-append}
-use Rattle.std.specs.Prelude.{nat_lt, slice_index, if◌then◌else◌}
+use Rattle.std.specs.Prelude.{nat_lt, pos, negsuc, ◌≤ℤ◌, slice_index, if◌then◌else◌}
 use Rattle.lg_base.specs.Conventions.{argument_registers}
 use Rattle.lg_base.specs.HostNames.{host_address}
 use Rattle.lg_base.specs.declared.target.Target.TheVariants.{Aarch64}
@@ -14,8 +14,9 @@ use Rattle.lg_op.specs.declared.operand.Operand.{Operand}
 use Rattle.lg_op.specs.declared.operand.Operand.TheVariants as operand
 use Rattle.lg_a64.specs.declared.instruction.Instr.{Instr}
 use Rattle.lg_a64.specs.declared.instruction.Instr.TheVariants as instr
-use Rattle.lg_a64.specs.declared.instruction.ImmOp.TheVariants.{Subi}
+use Rattle.lg_a64.specs.declared.instruction.ImmOp.TheVariants.{Addi, Subi}
 use Rattle.lg_a64.specs.declared.instruction.RegOp.TheVariants as row
+use Rattle.lg_a64.specs.declared.instruction.UnscaledOp.TheVariants.{Ldur}
 use Rattle.lg_operators.specs.Operators.{width, store_width}
 use Rattle.lg_meaning.specs.Steps.{operand_at, stored_operand, slot}
 use Rattle.lg_temp.specs.Abis.{register_of}
@@ -36,6 +37,7 @@ use Rattle.lg_sela_memory.specs.Accesses.{register, load_row, store_row, Place, 
 use Rattle.lg_sela_memory.specs.ArgumentCode.{home_distance, stack_count, argument_load, argument_code}
 use Rattle.lg_sela_memory.specs.MemoryFits.{AreMemoryItems, MemoryItemsFit}
 use Rattle.lg_sela_memory.specs.PushCode.{into, stack_push, onto_stack, push_code}
+use Rattle.lg_sela_memory.specs.VariableArgumentCode.{direction_code, address_code, argument_offset, next_argument_load, next_argument_code}
 
 register-fine : (x : Operand) → Fine (register x)
 register-fine x = let s = register-small (named x) in (omega (arith, s), portable (named x))
@@ -139,6 +141,27 @@ argument-fits t n = by (nat_lt (slot (operand_at n 1)) 16) refl
     by true e = argument-load-fits t (register (operand_at n 0)) (slot (operand_at n 1)) (register-fine (operand_at n 0)) (grind (arith, e))
     by false e = record { good = tt; few = omega arith }
 
+direction-good : (s : ℕ) → s < 32 → AreGood (direction_code s)
+direction-good s h =
+    let link-is : 30 < 32 = omega arith in
+    (((link-is, h, omega arith, omega arith), refl, refl), (((link-is, link-is, omega arith, omega arith), refl, refl), (((link-is, link-is, omega arith), refl, refl), tt)))
+
+address-good : (d s : ℕ) → Fine d → s < 32 → AreGood (address_code d s)
+address-good d s h k = (((h.0, k, omega arith), h.1, refl), (((h.0, h.0, omega arith, omega arith), h.1, refl), tt))
+
+behind-address : (d s : ℕ) → Fine d → Fine s → AreGood (instr.Imm Addi s s 1 false ∷ instr.Unscaled Ldur d d argument_offset ∷ [])
+behind-address d s h k =
+    let near : (negsuc 255 ≤ℤ argument_offset) × (argument_offset ≤ℤ pos 255) = (grind arith, grind arith) in
+    (((k.0, k.0, omega arith), k.1, refl), (((h.0, h.0, near.0, near.1), h.1, refl), tt))
+
+next-argument-fits : (d s : ℕ) → Fine d → Fine s → IsFitCode 7 (next_argument_load d s)
+next-argument-fits d s h k =
+    let last = instr.Imm Addi s s 1 false ∷ instr.Unscaled Ldur d d argument_offset ∷ [] in
+    record {
+      good = good-append (direction_code s) (address_code d s ++ last) (direction-good s k.0) (good-append (address_code d s) last (address-good d s h k.0) (behind-address d s h k));
+      few = omega arith;
+    }
+
 -- ---- items
 -- good ones, of which there are at most so many instructions and so many fixes
 record AreFit (most fixes : ℕ) (xs : List Item) : Type 0 where
@@ -220,5 +243,6 @@ memory-items-fit = record {
   loads = λ t at n. are-items 6 0 (ones (load_code t at n)) (omega arith) (code-fit 6 (load_code t at n) (load-fits t at n));
   stores = λ t at n. are-items 6 0 (ones (store_code t at n)) (omega arith) (code-fit 6 (store_code t at n) (store-fits t at n));
   arguments = λ t n. are-items 2 0 (ones (argument_code t n)) (omega arith) (code-fit 2 (argument_code t n) (argument-fits t n));
+  next_arguments = λ n. are-items 7 0 (ones (next_argument_code n)) (omega arith) (code-fit 7 (next_argument_code n) (next-argument-fits (register (operand_at n 0)) (register (operand_at n 1)) (register-fine (operand_at n 0)) (register-fine (operand_at n 1))));
   pushes = λ j n few. are-items 5 1 (push_code j n) (omega arith) (push-fit j n few);
 }

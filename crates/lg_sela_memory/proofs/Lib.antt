@@ -7,4 +7,5 @@ pub mod PlaceLemmas
 pub mod PushLemmas
 pub mod PutLemmas
 pub mod StoreLemmas
+pub mod VariableArgumentLemmas
 pub mod WithinLemmas

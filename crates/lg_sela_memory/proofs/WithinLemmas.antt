@@ -18,6 +18,7 @@ use Rattle.lg_sela_memory.specs.Accesses.{load_code, store_code}
 use Rattle.lg_sela_memory.specs.ArgumentCode.{argument_code}
 use Rattle.lg_sela_memory.specs.MemoryFits.{MemoryItemsStay, MemoryItemsName}
 use Rattle.lg_sela_memory.specs.PushCode.{into, stack_push, onto_stack, push_code}
+use Rattle.lg_sela_memory.specs.VariableArgumentCode.{next_argument_code}
 use Rattle.lg_sela_memory.proofs.FitLemmas.{argument-fine, memory-items-fit}
 
 -- ---- registers
@@ -50,6 +51,7 @@ memory-items-stay = record {
   loads = λ t at n. (memory-items-fit.loads t at n).appendable.within;
   stores = λ t at n. (memory-items-fit.stores t at n).appendable.within;
   arguments = λ t n. (memory-items-fit.arguments t n).appendable.within;
+  next_arguments = λ n. (memory-items-fit.next_arguments n).appendable.within;
   pushes = pushes;
 }
 
@@ -84,5 +86,6 @@ memory-items-name = record {
   loads = λ labels t at n. names-ones labels (load_code t at n);
   stores = λ labels t at n. names-ones labels (store_code t at n);
   arguments = λ labels t n. names-ones labels (argument_code t n);
+  next_arguments = λ labels n. names-ones labels (next_argument_code n);
   pushes = passes;
 }

@@ -8,14 +8,17 @@ use Rattle.lg_sel_memory.specs.Arguments.{ArgumentsCarry}
 use Rattle.lg_sel_memory.specs.Loads.{LoadsCarry}
 use Rattle.lg_sel_memory.specs.Pushes.{PushesCarry}
 use Rattle.lg_sel_memory.specs.Stores.{StoresCarry}
+use Rattle.lg_sel_memory.specs.VariableArguments.{NextArgumentsCarry}
 use Rattle.lg_sela_memory.specs.Accesses.{a64_load, a64_store}
 use Rattle.lg_sela_memory.specs.ArgumentCode.{a64_argument}
 use Rattle.lg_sela_memory.specs.PushCode.{a64_push}
+use Rattle.lg_sela_memory.specs.VariableArgumentCode.{a64_next_argument}
 
 pub record MemoryNodesCarry (code : List ℕ) (trash : ℕ) : Type 0 where
   pub loads : LoadsCarry (a64_rows code trash) IsInstr a64_load
   pub stores : StoresCarry (a64_rows code trash) IsInstr a64_store
   pub arguments : ArgumentsCarry (a64_rows code trash) IsInstr a64_argument
+  pub next_arguments : NextArgumentsCarry (a64_rows code trash) IsInstr a64_next_argument
   pub pushes : PushesCarry (a64_rows code trash) IsInstr a64_push
 
 abbrev pub MemoryIsCarried : Type 0

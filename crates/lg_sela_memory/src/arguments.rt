@@ -5,15 +5,18 @@ ghost use Rattle.lg_sela_items.specs.declared.items.Item.TheVariants as item;
 ghost use Rattle.lg_sela_items.specs.Items.{ones, words_in};
 ghost use Rattle.lg_sela_memory.specs.ArgumentCode.{home_distance, stack_count, argument_load, argument_code};
 ghost use Rattle.lg_sela_memory.specs.PushCode.{into, stack_push, onto_stack, push_code};
+ghost use Rattle.lg_sela_memory.specs.VariableArgumentCode.{argument_offset, next_argument_code};
 
 use crate::accesses::{load_row, scaled};
 use crate::operands::register;
-use lg_a64::{ImmOp, Instr, RegOp, ScaledOp};
+use lg_a64::{BitfieldOp, ImmOp, Instr, MulAddOp, RegOp, ScaledOp, UnscaledOp};
 use lg_op::{Node, Operand, ValueType};
 use lg_operators::operators::width;
 use lg_sel_items::Items;
 use lg_sel_memory::operands::{operand, slot};
-use lg_sela_items::{FRAME_POINTER, Item, LINK, ZERO, imm, put_number, register_of, row};
+use lg_sela_items::{
+    FRAME_POINTER, Item, LINK, ZERO, bitfield, imm, mul_add, put_number, register_of, row,
+};
 
 // The stack pointer, 31 as the base of an address.
 const STACK_POINTER: u8 = 31;
@@ -117,4 +120,34 @@ pub fn put_getarg(t: ValueType, node: &Node, items: &mut Items<Item>)
     if index < 16 {
         put_argument_load(t, register(operand(node, 0)), index, items);
     }
+}
+
+// The argument by an address in a register, 40 bytes below it, into the register.
+fn load_argument(register: u8) -> Instr
+    ensures { result ≡ Instr.Unscaled (UnscaledOp.Ldur) register register argument_offset }
+{
+    Instr::Unscaled {
+        op: UnscaledOp::Ldur,
+        rt: register,
+        rn: register,
+        imm: -40,
+    }
+}
+
+/// Appends the code of a node that reads the next variable argument of its function to no items: 7 instructions.
+pub fn put_next_argument(node: &Node, items: &mut Items<Item>)
+    requires { items.old ≡ [] }
+    ensures { items.new ≡ ones (next_argument_code node.now) }
+{
+    let to = register(operand(node, 0));
+    let list = register(operand(node, 1));
+    items.all(&[
+        bitfield(BitfieldOp::Sbfm, LINK, list, 3, 3),
+        bitfield(BitfieldOp::Ubfm, LINK, LINK, 60, 59),
+        imm(ImmOp::Addi, LINK, LINK, 8),
+        imm(ImmOp::Subi, to, list, 1),
+        mul_add(MulAddOp::Msub, to, to, LINK, FRAME_POINTER),
+        imm(ImmOp::Addi, list, list, 1),
+        load_argument(to),
+    ]);
 }

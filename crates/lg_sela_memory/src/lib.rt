@@ -7,4 +7,4 @@ pub mod laws;
 mod operands;
 
 pub use accesses::{put_load, put_store};
-pub use arguments::{put_argument, put_getarg};
+pub use arguments::{put_argument, put_getarg, put_next_argument};

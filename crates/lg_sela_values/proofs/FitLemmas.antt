@@ -202,6 +202,7 @@ body-good (op.Binary o last) xs u h = binary-good o u (register_in xs 0) (regist
 body-good (op.Wide o last) xs u h = wide-items-good o (register_in xs 0) (register_in xs 1) (register_in xs 2) (operand_in xs 3) (fine-at xs 0) (fine-at xs 1) (fine-at xs 2).0
 body-good (op.Unary o) xs u h = ones-good (unary_code o (register_in xs 0) (register_in xs 1)) (unary-good o (register_in xs 0) (register_in xs 1) (fine-at xs 0) (fine-at xs 1).0)
 body-good (op.Plain plain.Movi) xs u h = load-good (register_in xs 0) (operand_in xs 1) (fine-at xs 0)
+body-good (op.Plain plain.VaStart) xs u h = load-good (register_in xs 0) (operand_in xs 1) (fine-at xs 0)
 body-good (op.Plain o) xs u h = tt
 body-good (op.Retval t) xs u h = ones-good (retval_code t (register_in xs 0)) (unary-good (extension t) (register_in xs 0) 0 (fine-at xs 0) (omega arith))
 body-good o xs u h = tt

@@ -5,7 +5,6 @@ pub mod DivisionLemmas
 pub mod EmissionLemmas
 pub mod FitLemmas
 pub mod FlagLemmas
-pub mod FormLemmas
 pub mod ImmediateLemmas
 pub mod LoadCodeLemmas
 pub mod MadeLemmas

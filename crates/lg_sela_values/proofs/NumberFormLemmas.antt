@@ -1,7 +1,7 @@
 -- The code of the operations on a register and a number.
 use Rattle.std.proofs.Common.{◌≡◌, ◌≢◌, ℕ, ◌-◌, ◌%◌, ◌^◌, ◌<◌, Bool, true, false, List, [], ◌∷◌, Some, refl, ap, ◌∙◌, arith}
 use Rattle.std.specs.Prelude.{if◌then◌else◌}
-use Rattle.lg_base.specs.Words.{negated, shifted_left, shifted_right, shifted_right_signed}
+use Rattle.lg_base.specs.Words.{negated}
 use Rattle.lg_op.specs.declared.op.BinaryOp.{BinaryOp}
 use Rattle.lg_op.specs.declared.op.BinaryOp.TheVariants as binary
 use Rattle.lg_operators.specs.Operators.{binary_value, is_carried}

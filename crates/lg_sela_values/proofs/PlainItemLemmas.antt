@@ -14,8 +14,9 @@ use Rattle.lg_op.specs.declared.operand.Reg.TheVariants.{Fp}
 use Rattle.lg_op.specs.declared.operand.Operand.{Operand}
 use Rattle.lg_op.specs.declared.operand.Operand.TheVariants as operand
 use Rattle.lg_temp.specs.Abis.{register_of}
-use Rattle.lg_sel_values.specs.ValueNodes.{binary_node, wide_node, unary_node, movi_node, retval_node}
+use Rattle.lg_sel_values.specs.ValueNodes.{binary_node, wide_node, unary_node, movi_node, va_start_node, retval_node}
 use Rattle.lg_carry_a64.specs.A64Rows.{link}
+use Rattle.lg_carry_a64.specs.Numbers.{number_code}
 use Rattle.lg_carry_a64.proofs.RegisterLemmas.{register-small}
 use Rattle.lg_sela_items.specs.Items.{ones}
 use Rattle.lg_sela_values.specs.BinaryCode.{register_code}
@@ -24,8 +25,9 @@ use Rattle.lg_sela_values.specs.WideCode.{wide_code, wide_by_link}
 use Rattle.lg_sela_values.specs.ValueItems.{load_items, wide_items}
 use Rattle.lg_sela_values.proofs.BinaryItemLemmas.{registers-compute, is-made, immediate-computes, is_remainder, none-for-registers, none-needed, link-second}
 use Rattle.lg_sela_values.proofs.ImmediateLemmas.{is-load}
+use Rattle.lg_sela_values.proofs.LoadCodeLemmas.{loads-number}
 use Rattle.lg_sela_values.proofs.SettledLemmas.{Settles, settles-ones, settles-append, IsCarried, carried-plain}
-use Rattle.lg_sela_values.proofs.UnaryNodeLemmas.{movi-computes, retval-computes, unary-node-computes}
+use Rattle.lg_sela_values.proofs.UnaryNodeLemmas.{movi-computes, va-start-computes, retval-computes, unary-node-computes}
 use Rattle.lg_sela_values.proofs.WideNodeLemmas.{wide-registers, wide-loaded}
 
 -- ---- one word
@@ -40,6 +42,14 @@ movi-carried d x line named immediate = carried-plain (movi_node d x line) refl 
     let dl = register-small d in
     let l = is-load c.addresses (register_of Aarch64 d) x (omega (arith, dl)) immediate words.1.0 in
     record { body = l.code; settles = record { become = l.settles }; computes = movi-computes c i d x l.word line named l.given t l.code l.loads })
+
+pub va-start-carried : (d : Reg) (k line : ℕ) → d ≢ Fp → IsCarried (va_start_node d k line)
+va-start-carried d k line named = carried-plain (va_start_node d k line) refl refl refl
+    (λ c i t words.
+    let dl = register-small d in
+    let code = number_code (register_of Aarch64 d) k in
+    let l = loads-number (register_of Aarch64 d) k (omega (arith, dl)) words.1.0 in
+    record { body = code; settles = settles-ones (slice_index c.addresses) code; computes = va-start-computes c i d k line named t code l })
 
 pub retval-carried : (t : ValueType) (d : Reg) (line : ℕ) → d ≢ Fp → IsCarried (retval_node t d line)
 retval-carried t d line named = carried-plain (retval_node t d line) refl refl refl

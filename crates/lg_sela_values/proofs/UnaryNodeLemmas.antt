@@ -15,9 +15,9 @@ use Rattle.lg_a64.specs.declared.instruction.Instr.{Instr}
 use Rattle.lg_temp.specs.Abis.{register_of}
 use Rattle.lg_carry.specs.FinalNodes.{Code}
 use Rattle.lg_carry.specs.TextNodes.{IsInText}
-use Rattle.lg_sel_values.specs.ValueNodes.{unary_node, movi_node, retval_node}
+use Rattle.lg_sel_values.specs.ValueNodes.{unary_node, movi_node, va_start_node, retval_node}
 use Rattle.lg_sel_values.specs.Values.{KeepsCarry}
-use Rattle.lg_sel_values.proofs.OneWordLemmas.{unary-nodes-compute, movi-nodes-compute, retval-nodes-compute}
+use Rattle.lg_sel_values.proofs.OneWordLemmas.{unary-nodes-compute, movi-nodes-compute, va-start-nodes-compute, retval-nodes-compute}
 use Rattle.lg_carry_a64.specs.A64Computers.{a64_scratch, a64_computer, IsComputed}
 use Rattle.lg_carry_a64.specs.Computations.{computed}
 use Rattle.lg_carry_a64.proofs.ComputerLemmas.{into, carry-stays, known-carry}
@@ -58,6 +58,17 @@ movi-computes c i d x v line named given t load l code trash =
     })
     (λ w k e. carry-stays k w.registers (computed load w).registers (carry_of w.flags) (carry_of (computed load w).flags) (λ b z. ap (λ u. carry_of u.flags) (l.value w) ∙ z) e)
     (λ w. ap (λ u. u.registers (register_of Aarch64 d)) (l.value w) ∙ put-same w.registers (register_of Aarch64 d) v)
+
+pub va-start-computes : (c : Code) (i : ℕ) (d : Reg) (k line : ℕ) → d ≢ Fp → IsInText c i (va_start_node d k line) → (load : List Instr) → LoadsWord load (register_of Aarch64 d) k
+    → IsComputed c i (va_start_node d k line) [] load
+va-start-computes c i d k line named t load l code trash =
+    va-start-nodes-compute (a64_computer code trash) a64_scratch c i d k line [] load named t
+    (into code trash (d ∷ []) [] load record {
+      some = l.some;
+      computes = l.computes;
+      keeps = λ w r apart taken off. ap (λ u. u.registers r) (l.value w) ∙ put-other w.registers (register_of Aarch64 d) k r apart.0;
+    })
+    (λ w. ap (λ u. u.registers (register_of Aarch64 d)) (l.value w) ∙ put-same w.registers (register_of Aarch64 d) k)
 
 -- ---- the result of a call
 extends : (t : ValueType) (x : ℕ) → unary_value (extension t) x ≡ typed t x

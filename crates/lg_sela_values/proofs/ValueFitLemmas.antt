@@ -165,6 +165,7 @@ body-names labels (op.Binary o last) xs u h = binary-names labels o u (register_
 body-names labels (op.Wide o last) xs u h = wide-names labels o (register_in xs 0) (register_in xs 1) (register_in xs 2) (operand_in xs 3) (operand-below labels xs 3 h)
 body-names labels (op.Unary o) xs u h = names-ones labels (unary_code o (register_in xs 0) (register_in xs 1))
 body-names labels (op.Plain plain.Movi) xs u h = load-names labels (register_in xs 0) (operand_in xs 1) (operand-below labels xs 1 h)
+body-names labels (op.Plain plain.VaStart) xs u h = load-names labels (register_in xs 0) (operand_in xs 1) (operand-below labels xs 1 h)
 body-names labels (op.Plain o) xs u h = tt
 body-names labels (op.Retval t) xs u h = names-ones labels (retval_code t (register_in xs 0))
 body-names labels o xs u h = tt

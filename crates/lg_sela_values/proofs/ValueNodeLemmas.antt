@@ -1,7 +1,7 @@
 -- The nodes that compute values are carried by their items.
 use Rattle.std.proofs.Common.{◌≡◌, ◌≢◌, ℕ, ◌⊎◌, inl, inr, Bool, true, false, [], ◌∷◌, refl, sym, ap, ◌∙◌, subst}
 use Rattle.lg_op.specs.Forms.{last_form, admits}
-use Rattle.lg_op.specs.declared.form.Form.TheVariants.{Write, Read, Immediate}
+use Rattle.lg_op.specs.declared.form.Form.TheVariants.{Write, Read, Immediate, ArgumentCount}
 use Rattle.lg_op.specs.declared.op.Op.{Op}
 use Rattle.lg_op.specs.declared.op.Op.TheVariants as op
 use Rattle.lg_op.specs.declared.op.BinaryOp.{BinaryOp}
@@ -14,14 +14,14 @@ use Rattle.lg_op.specs.declared.operand.Reg.{Reg}
 use Rattle.lg_op.specs.declared.operand.Reg.TheVariants.{Fp}
 use Rattle.lg_op.specs.declared.operand.Operand.{Operand}
 use Rattle.lg_op.specs.declared.operand.Operand.TheVariants as operand
-use Rattle.lg_sel_values.specs.ValueNodes.{binary_node, wide_node, unary_node, movi_node, retval_node}
+use Rattle.lg_sel_values.specs.ValueNodes.{binary_node, wide_node, unary_node, movi_node, va_start_node, retval_node}
 use Rattle.lg_sela_values.specs.ValueItems.{computes_value}
 use Rattle.lg_sela_values.specs.ValueLaws.{ValueNodesCarry}
-use Rattle.lg_sela_values.proofs.FormLemmas.{is-target, is-source, one-operand, two-operands, three-operands, four-operands}
+use Rattle.lg_sel_values.proofs.FormLemmas.{is-target, is-source, is-count, one-operand, two-operands, three-operands, four-operands}
 use Rattle.lg_op.specs.Forms.{forms_of, admit}
 use Rattle.lg_op.specs.Nodes.{InForm, IsApart}
 use Rattle.lg_sela_values.proofs.SettledLemmas.{IsCarried}
-use Rattle.lg_sela_values.proofs.PlainItemLemmas.{unary-carried, movi-carried, retval-carried, registers-carried, immediate-carried, wide-registers-carried, wide-immediate-carried}
+use Rattle.lg_sela_values.proofs.PlainItemLemmas.{unary-carried, movi-carried, va-start-carried, retval-carried, registers-carried, immediate-carried, wide-registers-carried, wide-immediate-carried}
 use Rattle.lg_sela_values.proofs.TemporaryItemLemmas.{temporary-carried}
 use Rattle.lg_sela_values.proofs.BinaryItemLemmas.{is_remainder}
 
@@ -78,6 +78,13 @@ module _ (n : Node) (form : InForm n) where
       let are : n.operands ≡ operand.Reg d.register ∷ m.y ∷ [] = m.are ∙ (λ j. d.is j ∷ m.y ∷ []) in
       let same : n ≡ movi_node d.register m.y n.line = λ j. record { op = e j; operands = are j; line = n.line } in
       subst IsCarried (sym same) (movi-carried d.register m.y n.line d.named m.second)
+  by-operation (op.Plain plain.VaStart) e h =
+      let m = two-operands Write ArgumentCount n.operands (admitted (op.Plain plain.VaStart) e) in
+      let d = is-target m.x m.first in
+      let k = is-count m.y m.second in
+      let are : n.operands ≡ operand.Reg d.register ∷ operand.Number k.count ∷ [] = m.are ∙ (λ j. d.is j ∷ k.is j ∷ []) in
+      let same : n ≡ va_start_node d.register k.count n.line = λ j. record { op = e j; operands = are j; line = n.line } in
+      subst IsCarried (sym same) (va-start-carried d.register k.count n.line d.named)
   by-operation (op.Retval t) e h =
       let m = one-operand Write n.operands (admitted (op.Retval t) e) in
       let d = is-target m.x m.first in

@@ -141,6 +141,7 @@ body_few (op.Binary o last) xs u = let h = binary-few o u (register_in xs 0) (re
 body_few (op.Wide o last) xs u = wide-items-few o (register_in xs 0) (register_in xs 1) (register_in xs 2) (operand_in xs 3)
 body_few (op.Unary o) xs u = let h = ones-few (unary_code o (register_in xs 0) (register_in xs 1)) 2 (unary-few o (register_in xs 0) (register_in xs 1)) in omega (arith, h)
 body_few (op.Plain plain.Movi) xs u = let h = load-few (register_in xs 0) (operand_in xs 1) in omega (arith, h)
+body_few (op.Plain plain.VaStart) xs u = let h = load-few (register_in xs 0) (operand_in xs 1) in omega (arith, h)
 body_few (op.Plain o) xs u = omega arith
 body_few (op.Retval t) xs u = let h = ones-few (retval_code t (register_in xs 0)) 2 (unary-few (extension t) (register_in xs 0) 0) in omega (arith, h)
 body_few o xs u = omega arith

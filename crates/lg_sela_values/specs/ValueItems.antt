@@ -35,6 +35,7 @@ computes_value (op.Binary o last) = true
 computes_value (op.Wide o last) = true
 computes_value (op.Unary o) = true
 computes_value (op.Plain plain.Movi) = true
+computes_value (op.Plain plain.VaStart) = true
 computes_value (op.Retval t) = true
 computes_value o = false
 
@@ -85,6 +86,7 @@ body_items (op.Binary o last) xs u = binary_items o u (register_in xs 0) (regist
 body_items (op.Wide o last) xs u = wide_items o (register_in xs 0) (register_in xs 1) (register_in xs 2) (operand_in xs 3)
 body_items (op.Unary o) xs u = ones (unary_code o (register_in xs 0) (register_in xs 1))
 body_items (op.Plain plain.Movi) xs u = load_items (register_in xs 0) (operand_in xs 1)
+body_items (op.Plain plain.VaStart) xs u = load_items (register_in xs 0) (operand_in xs 1)
 body_items (op.Retval t) xs u = ones (retval_code t (register_in xs 0))
 body_items o xs u = []
 

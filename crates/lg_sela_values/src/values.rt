@@ -102,7 +102,7 @@ fn body_items(op: Op, operands: &[Operand], u: u8, items: &mut Items<Item>)
             items,
         ),
         Op::Unary(o) => unary_code(o, register_for(x), register_for(y), items),
-        Op::Plain(PlainOp::Movi) => load_items(register_for(x), y, items),
+        Op::Plain(PlainOp::Movi | PlainOp::VaStart) => load_items(register_for(x), y, items),
         Op::Retval(value) => retval_code(value, register_for(x), items),
         _ => {}
     }

@@ -1,5 +1,5 @@
 -- The items of the nodes that branch, jump, call and return, of `prolog`, `.align` and of those without code; none but those of a `prolog` store.
-use Rattle.std.proofs.Common.{◌≡◌, ℕ, zero, suc, ◌+◌, ◌-◌, ◌≤◌, Bool, true, false, List, [], ◌∷◌, ◌++◌, refl, arith}
+use Rattle.std.proofs.Common.{◌≡◌, ℕ, zero, suc, ◌-◌, ◌≤◌, Bool, true, false, List, [], ◌∷◌, ◌++◌, refl, arith}
 use Rattle.std.specs.Prelude.{nat_le, negsuc, pos, if◌then◌else◌}
 use Rattle.lg_base.specs.HostNames.{host_address}
 use Rattle.lg_base.specs.declared.target.Target.TheVariants.{Riscv64}
@@ -14,7 +14,6 @@ use Rattle.lg_op.specs.declared.op.LastOperand.{LastOperand}
 use Rattle.lg_op.specs.declared.op.LastOperand.TheVariants as last_operand
 use Rattle.lg_op.specs.declared.op.Op.{Op}
 use Rattle.lg_op.specs.declared.op.Op.TheVariants as op
-use Rattle.lg_op.specs.declared.op.PlainOp.{PlainOp}
 use Rattle.lg_op.specs.declared.op.PlainOp.TheVariants as plain_op
 use Rattle.lg_op.specs.declared.op.ValueType.{ValueType}
 use Rattle.lg_op.specs.declared.operand.Label.{Label}
@@ -35,7 +34,7 @@ use Rattle.lg_selr.proofs.Emissions.{NoneStores, Emits, none, append, more, inst
 use Rattle.lg_selr.proofs.ValueEmissions.{unary-none}
 use Rattle.lg_selr_control.specs.Alignments.{padding, idle, align_code}
 use Rattle.lg_selr_control.specs.Branches.{turned, failing, left_of, right_of, bits_code}
-use Rattle.lg_selr_control.specs.ControlItems.{second_register, word_items, second_items, jump_unless_items, branch_items, sum_items, label_items, jump_items, call_items, result_items, ret_items, register_leap_items, leap_items, align_items, plain_items, control_items, is_control}
+use Rattle.lg_selr_control.specs.ControlItems.{second_register, word_items, second_items, jump_unless_items, branch_items, sum_items, label_items, jump_items, call_items, result_items, ret_items, register_leap_items, leap_items, align_items, control_items}
 use Rattle.lg_selr_control.specs.HostCalls.{host_code}
 use Rattle.lg_selr_control.specs.Prologs.{stored_registers, stores_below, prolog_code}
 use Rattle.lg_selr_control.specs.RegisterLeaps.{register_leap_code}

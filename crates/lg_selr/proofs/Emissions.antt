@@ -7,7 +7,7 @@ use Rattle.lg_sel.proofs.EmissionLemmas as emission
 use Rattle.lg_sel.proofs.StoreLemmas as stores
 use Rattle.lg_sel.specs.Stores.{rv_stores}
 use Rattle.lg_sel_items.specs.declared.reach.Reach.{Reach}
-use Rattle.lg_sel_items.specs.declared.reach.Reach.TheVariants.{Short, Near, Far}
+use Rattle.lg_sel_items.specs.declared.reach.Reach.TheVariants.{Short, Far}
 use Rattle.lg_selr_items.specs.Items.{rv_holes, fix_of, settle, ones}
 use Rattle.lg_selr_items.specs.declared.items.Item.{Item}
 use Rattle.lg_selr_items.specs.declared.items.Item.TheVariants.{One, Branch, Jump, FarJump, Address}

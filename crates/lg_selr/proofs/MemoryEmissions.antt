@@ -25,10 +25,10 @@ use Rattle.lg_sel_memory.specs.Accesses.{Address, Base, At, Sum, Index, address_
 use Rattle.lg_sel_items.specs.declared.reach.Reach.{Reach}
 use Rattle.lg_selr.proofs.Emissions.{NoneStores, number-none, Emits, none, append, more, either, instructions, plain, number, address}
 use Rattle.lg_selr_items.specs.Items.{ones}
-use Rattle.lg_selr_items.specs.declared.items.Item.{Item}
 use Rattle.lg_selr_memory.specs.Accesses.{link, register, Place, at_link, indexed, place_of, lower_bytes, higher_bytes, load_at, store_at, loading, storing, load_row, high_row, load_code, store_code, load_items, store_items}
 use Rattle.lg_selr_memory.specs.ArgumentCode.{argument_offset, argument_code}
 use Rattle.lg_selr_memory.specs.PushCode.{into, stack_push, onto_stack, push_code}
+use Rattle.lg_selr_memory.specs.VariableArgumentCode.{next_argument_code}
 use Rattle.lg_selr_values.specs.ValueItems.{first_taken}
 use Rattle.lg_selr.proofs.ValueEmissions.{saved}
 use Rattle.lg_sel_memory.proofs.StoreLemmas.{some-stored}
@@ -97,6 +97,9 @@ module _ (reach : Reach) (is : ℕ → Bool) where
   pub arguments-emit : (t : ValueType) (n : Node) → Emits reach is 1 0 (ones (argument_code t n))
   arguments-emit t n = plain reach is 1 (argument_code t n)
       (stores.none-if rv_stores (nat_lt (slot (operand_at n 1)) 16) (instr.Imm (load_row t) (register (operand_at n 0)) 8 (argument_offset (slot (operand_at n 1))) ∷ []) [] refl refl)
+
+  pub next-arguments-emit : (n : Node) → Emits reach is 1 0 (ones (next_argument_code n))
+  next-arguments-emit n = plain reach is 1 (next_argument_code n) refl
 
   puts : (rd : ℕ) (x : Operand) → Passes is x → Emits reach is 1 0 (into rd x)
   puts rd (operand.Reg r) h = plain reach is 1 (instr.Imm imm.Addi rd (register_of Riscv64 r) (pos 0) ∷ []) refl

@@ -19,7 +19,7 @@ use Rattle.lg_sel.specs.Stores.{rv_stores}
 use Rattle.lg_sel_items.specs.declared.reach.Reach.{Reach}
 use Rattle.lg_selr.proofs.ControlEmissions.{controls-emit, prologs-emit, retvals-emit}
 use Rattle.lg_selr.proofs.Emissions.{Names, Emits, more}
-use Rattle.lg_selr.proofs.MemoryEmissions.{loads-emit, stores-emit, arguments-emit, pushes-emit}
+use Rattle.lg_selr.proofs.MemoryEmissions.{loads-emit, stores-emit, arguments-emit, next-arguments-emit, pushes-emit}
 use Rattle.lg_selr.proofs.OperandLemmas.{below, are-below, are-given}
 use Rattle.lg_selr.proofs.PushFits.{push-good}
 use Rattle.lg_selr.proofs.ValueEmissions.{values-emit}
@@ -31,10 +31,11 @@ use Rattle.lg_selr_control.proofs.WithinLemmas.{control-items-stay, retval-items
 use Rattle.lg_selr_items.proofs.ItemLemmas.{items-ones, names-ones}
 use Rattle.lg_selr_items.specs.Items.{rv_holes, IsItem, NamesOneOf, StaysWithin, StayWithin, fixes_of, AreItems, NameLabels, ones}
 use Rattle.lg_selr_items.specs.declared.items.Item.{Item}
-use Rattle.lg_selr_memory.proofs.FitLemmas.{IsFitCode, argument-fits}
+use Rattle.lg_selr_memory.proofs.FitLemmas.{IsFitCode, argument-fits, next-argument-fits}
 use Rattle.lg_selr_memory.proofs.AccessFitLemmas.{load-items-fit, store-items-fit, load-items-name, store-items-name}
 use Rattle.lg_selr_memory.proofs.WithinLemmas.{memory-items-stay}
 use Rattle.lg_selr_memory.specs.ArgumentCode.{argument_code}
+use Rattle.lg_selr_memory.specs.VariableArgumentCode.{next_argument_code}
 use Rattle.lg_selr_values.proofs.ValueFitLemmas.{value-items-fit, value-items-name, value-items-stay}
 use Rattle.lg_selr_values.specs.ValueItems.{value_needs, HaveSlots}
 use Rattle.lg_temp.proofs.ChoiceLemmas.{choices-are-for}
@@ -89,6 +90,7 @@ families-emit reach = record {
   loads = λ is frame t at n choices. loads-emit reach is t at n choices;
   stores = λ is frame t at n choices. stores-emit reach is t at n choices;
   arguments = λ is frame t n. arguments-emit reach is t n;
+  next_arguments = λ is n. next-arguments-emit reach is n;
   results = λ is frame t n choices h. more reach is 1 1 0 _ _ (omega arith) (omega arith) (retvals-emit reach is t n.operands);
   pushes = λ is frame j n h. pushes-emit reach is j n h;
   controls = controls-emit reach;
@@ -111,6 +113,7 @@ families-fit reach labels = record {
   loads = λ frame n t at live set choices sized e are words. record { instrs = (load-items-fit t at n live set choices (made-access n (op.Load t at) live set choices e are)).fit; names = load-items-name labels t at n choices };
   stores = λ frame n t at live set choices sized e are words. record { instrs = (store-items-fit t at n live set choices (made-access n (op.Store t at) live set choices e are)).fit; names = store-items-name labels t at n choices };
   arguments = λ frame n t sized. plain reach labels 1 (argument_code t n) (argument-fits t n);
+  next_arguments = λ n. plain reach labels 8 (next_argument_code n) (next-argument-fits n);
   results = λ frame n t live set choices sized e formed are named words. let emitted = retval-items-fit n t labels e formed in record { instrs = emitted.items; names = emitted.labels };
   pushes = λ frame n j sized few named word. let good = push-good labels j n few (below labels _ named) word in record { instrs = good.fit.instrs; names = good.fit.names };
   controls = λ n frame place sized is formed named words ends.
@@ -136,6 +139,7 @@ families-stay reach = record {
   loads = λ frame t at n live set choices e are. memory-items-stay.loads t at n live set choices (made-access n (op.Load t at) live set choices e are);
   stores = λ frame t at n live set choices e are. memory-items-stay.stores t at n live set choices (made-access n (op.Store t at) live set choices e are);
   arguments = λ frame t n. memory-items-stay.arguments t n;
+  next_arguments = λ n. memory-items-stay.next_arguments n;
   results = λ frame t n live set choices are. retval-items-stay t n.operands;
   pushes = λ frame j n. memory-items-stay.pushes j n;
   controls = λ n frame place. control-items-stay reach n frame place;

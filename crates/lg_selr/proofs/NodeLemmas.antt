@@ -1,5 +1,5 @@
 -- Each node is carried by its items.
-use Rattle.std.proofs.Common.{◌≡◌, ℕ, ◌+◌, ◌<◌, Bool, true, false, List, [], ◌∷◌, refl, sym, ap, subst, ◌∙◌, arith}
+use Rattle.std.proofs.Common.{◌≡◌, ℕ, ◌+◌, ◌<◌, Bool, true, false, List, refl, sym, ap, subst, ◌∙◌}
 use Rattle.std.specs.Prelude.{slice_get, slice_index}
 use Rattle.std.specs.List.{list_any}
 use Rattle.lg_base.specs.Layout.{code_base}
@@ -15,7 +15,6 @@ use Rattle.lg_op.specs.declared.op.Addressing.{Addressing}
 use Rattle.lg_op.specs.declared.op.StoreType.{StoreType}
 use Rattle.lg_op.specs.declared.op.ValueType.{ValueType}
 use Rattle.lg_op.specs.declared.operand.Operand.{Operand}
-use Rattle.lg_op.specs.declared.operand.Operand.TheVariants as operand
 use Rattle.lg_op.specs.declared.operand.Reg.{Reg}
 use Rattle.lg_carry.specs.Carries.{leaps, leaps_at}
 use Rattle.lg_carry.specs.Blocks.{IsBlock}
@@ -60,15 +59,15 @@ use Rattle.lg_selr_items.proofs.NodeLemmas.{items-are-node-code, items-are-in-co
 use Rattle.lg_selr_memory.specs.Accesses.{load_code, store_code, load_items, store_items}
 use Rattle.lg_selr_memory.specs.ArgumentCode.{argument_code}
 use Rattle.lg_selr_memory.specs.PushCode.{push_code}
-use Rattle.lg_selr_memory.proofs.FitLemmas.{IsFitCode, argument-fits}
+use Rattle.lg_selr_memory.specs.VariableArgumentCode.{next_argument_code}
+use Rattle.lg_selr_memory.proofs.FitLemmas.{IsFitCode, argument-fits, next-argument-fits}
 use Rattle.lg_selr_memory.proofs.AccessFitLemmas.{load-items-fit, store-items-fit}
 use Rattle.lg_selr_memory.proofs.MemoryNodeLemmas.{memory-is-carried}
-use Rattle.lg_selr_values.specs.ValueItems.{computes_value, value_needs, first_taken, saved_items, value_items}
+use Rattle.lg_selr_values.specs.ValueItems.{computes_value, first_taken, saved_items, value_items}
 use Rattle.lg_selr_values.proofs.SettledLemmas.{settles-ones, settles-saved}
 use Rattle.lg_selr_values.proofs.ValueFitLemmas.{value-items-fit}
 use Rattle.lg_selr_values.proofs.ValueNodeLemmas.{value-nodes-carry}
 use Rattle.lg_temp.specs.declared.choice.Choice.{Choice}
-use Rattle.lg_temp.specs.Choices.{AreFor}
 use Rattle.lg_temp.specs.Chosen.{around}
 use Rattle.lg_temp.proofs.ChoiceLemmas.{choices-are-for}
 use Rattle.lg_carry.specs.TextNodes.{IsInText}
@@ -100,6 +99,7 @@ value-computes (op.Binary o last) is = refl
 value-computes (op.Wide o last) is = refl
 value-computes (op.Unary o) is = refl
 value-computes (op.Plain plain.Movi) is = refl
+value-computes (op.Plain plain.VaStart) is = refl
 value-computes o is = cc
 
 computed-is-none : (o : Op) → computes_value o ≡ true → is_access o ≡ false
@@ -112,6 +112,7 @@ value-stays (op.Binary o last) is = refl
 value-stays (op.Wide o last) is = refl
 value-stays (op.Unary o) is = refl
 value-stays (op.Plain plain.Movi) is = refl
+value-stays (op.Plain plain.VaStart) is = refl
 value-stays o is = cc
 
 module _ (reach : Reach) (code : List ℕ) (trash : ℕ) (c : Code) (i frame : ℕ) (live : Reg → Bool) (staged : List Bool) (choices : List Choice) (labels place : ℕ) where
@@ -162,6 +163,11 @@ module _ (reach : Reach) (code : List ℕ) (trash : ℕ) (c : Code) (i frame : �
       (memory-is-carried code trash a.small a.bytes a.word).arguments c i n t frame (numbered live) e k.node.text k.node.frame_is
       (plain-code code trash c i n 1 (argument_code t n) k.node.text (ap leaps e) (argument-fits t n) a).block
 
+  next-arguments : (n : Node) → n.op ≡ op.Plain plain.VaArg → Carries n (ones (next_argument_code n))
+  next-arguments n e k a =
+      (memory-is-carried code trash a.small a.bytes a.word).next_arguments c i n frame (numbered live) e k.node.text k.node.frame_is
+      (plain-code code trash c i n 8 (next_argument_code n) k.node.text (ap leaps e) (next-argument-fits n) a).block
+
   pushes : (n : Node) (last : LastOperand) → n.op ≡ op.Control control.Pusharg last → Carries n (push_code (staged_count staged) n)
   pushes n last e k a =
       let j = staged_count staged in
@@ -211,6 +217,7 @@ module _ (reach : Reach) (code : List ℕ) (trash : ℕ) (c : Code) (i frame : �
     loads = loads;
     stores = stores;
     arguments = arguments;
+    next_arguments = next-arguments;
     results = retvals;
     pushes = pushes;
     controls = controls;

@@ -1,5 +1,5 @@
 -- Code that leads back to a label has the shortest form that reaches it.
-use Rattle.std.proofs.Common.{◌≡◌, ℕ, ◌+◌, ◌-◌, ◌*◌, ◌≤◌, Bool, true, false, List, [], ◌∷◌, ◌++◌, length, Option, Some, refl, sym, ap, ◌∙◌, subst, arith, append_assoc}
+use Rattle.std.proofs.Common.{◌≡◌, ℕ, ◌+◌, ◌-◌, ◌*◌, Bool, true, false, List, [], ◌∷◌, ◌++◌, length, Some, refl, sym, ap, ◌∙◌, subst, arith, append_assoc}
 use Rattle.std.specs.Prelude.{pos, ◌-ℤ◌, if◌then◌else◌, slice_get, slice_index}
 use Rattle.std.proofs.lemmas.Int.{ints}
 use Rattle.lg_base.specs.Layout.{code_base}
@@ -30,7 +30,6 @@ use Rattle.lg_rv.specs.Spelling.{IsInstr, spelling}
 use Rattle.lg_rv.specs.declared.instruction.BranchOp.{BranchOp}
 use Rattle.lg_rv.specs.declared.instruction.Instr.{Instr}
 use Rattle.lg_rv.specs.declared.instruction.Instr.TheVariants as instr
-use Rattle.lg_rv.specs.declared.instruction.UpperOp.TheVariants.{Auipc}
 use Rattle.lg_sel.proofs.FinishedLemmas.{items-lead}
 use Rattle.lg_sel.specs.Finished.{AreAppended}
 use Rattle.lg_sel.specs.Selected.{IsFinished, part_of}

@@ -1,6 +1,6 @@
 -- The items of a node that computes values name the labels of its operands, have at most one fix, and store where a temporary is saved.
-use Rattle.std.proofs.Common.{◌≡◌, ℕ, zero, suc, ◌+◌, ◌≤◌, Bool, true, false, List, [], ◌∷◌, ◌++◌, refl, arith}
-use Rattle.std.specs.Prelude.{pos, if◌then◌else◌}
+use Rattle.std.proofs.Common.{ℕ, zero, suc, ◌+◌, Bool, List, [], ◌∷◌, ◌++◌, refl, arith}
+use Rattle.std.specs.Prelude.{pos}
 use Rattle.lg_base.specs.HostNames.{host_address}
 use Rattle.lg_base.specs.declared.target.Target.TheVariants.{Riscv64}
 use Rattle.lg_carry_rv.specs.Numbers.{number_code}
@@ -126,6 +126,7 @@ module _ (reach : Reach) (is : ℕ → Bool) where
   body (op.Wide o last) xs u h = wide-emits o (register_in xs 0) (register_in xs 1) (register_in xs 2) (operand_in xs 3) (passes-at is xs 3 h)
   body (op.Unary o) xs u h = plain reach is 1 (unary_code o (register_in xs 0) (register_in xs 1)) (unary-none o (register_in xs 0) (register_in xs 1))
   body (op.Plain plain_op.Movi) xs u h = load (register_in xs 0) (operand_in xs 1) (passes-at is xs 1 h)
+  body (op.Plain plain_op.VaStart) xs u h = load (register_in xs 0) (operand_in xs 1) (passes-at is xs 1 h)
   body (op.Plain o) xs u h = none reach is 1 0
   body o xs u h = none reach is 1 0
 

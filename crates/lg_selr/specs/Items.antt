@@ -11,6 +11,7 @@ use Rattle.lg_selr_items.specs.Items.{ones}
 use Rattle.lg_selr_memory.specs.Accesses.{load_items, store_items}
 use Rattle.lg_selr_memory.specs.ArgumentCode.{argument_code}
 use Rattle.lg_selr_memory.specs.PushCode.{push_code}
+use Rattle.lg_selr_memory.specs.VariableArgumentCode.{next_argument_code}
 use Rattle.lg_selr_values.specs.ValueItems.{value_items}
 use Rattle.lg_temp.specs.declared.choice.Choice.{Choice}
 
@@ -21,6 +22,7 @@ rv_families reach = record {
   load = λ frame t at n choices. load_items t at n choices;
   store = λ frame t at n choices. store_items t at n choices;
   argument = λ frame t n. ones (argument_code t n);
+  next_argument = λ n. ones (next_argument_code n);
   result = λ frame t n choices. retval_items t n.operands;
   push = λ frame j n. push_code j n;
   control = control_items reach;

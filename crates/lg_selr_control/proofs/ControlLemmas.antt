@@ -1,6 +1,6 @@
 -- The nodes that branch, jump, call and return, `prolog`, `.align` and those without code are carried by their items.
 use Rattle.std.proofs.Common.{◌≡◌, ℕ, ◌+◌, ◌*◌, List, [], ◌∷◌, ◌++◌, refl, sym, ap, ◌∙◌, subst, arith, length, append_assoc}
-use Rattle.std.specs.Prelude.{pos, ◌-ℤ◌, slice_index}
+use Rattle.std.specs.Prelude.{slice_index}
 use Rattle.lg_base.specs.HostNames.{host_address}
 use Rattle.lg_base.specs.declared.target.Target.TheVariants.{Riscv64}
 use Rattle.lg_op.specs.declared.op.Op.{Op}
@@ -19,7 +19,6 @@ use Rattle.lg_op.specs.declared.operand.Operand.TheVariants as operand
 use Rattle.lg_rv.specs.Spelling.{IsInstr}
 use Rattle.lg_rv.specs.declared.instruction.BranchOp.{BranchOp}
 use Rattle.lg_rv.specs.declared.instruction.Instr.{Instr}
-use Rattle.lg_rv.specs.declared.instruction.Instr.TheVariants as instr
 use Rattle.lg_temp.specs.Abis.{register_of}
 use Rattle.lg_carry.specs.Passages.{IsNodeCode}
 use Rattle.lg_carry_rv.specs.Numbers.{number_code}

@@ -294,6 +294,7 @@ module _ (r : Reach) (labels frame at : ℕ) where
   by-op (op.Plain plain.Ellipsis) xs c h v e = nothing
   by-op (op.Plain plain.Arg) xs c h v e = nothing
   by-op (op.Plain plain.Allocai) xs c h v e = nothing
+  by-op (op.Plain plain.VaEnd) xs c h v e = nothing
   by-op o xs c h v e = absurd (differ c)
 
 pub control-items-fit : ControlItemsFit

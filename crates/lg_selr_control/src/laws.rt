@@ -11,8 +11,8 @@ pub fn is_target()
     ensures { IsTarget }
 {}
 
-/// Branches, jumps, calls, returns, `prolog`, `.align`, and nodes without code (`prepare`, `ellipsis`, `arg`, `allocai`) are carried by their
-/// items, once the labels have their addresses.
+/// Branches, jumps, calls, returns, `prolog`, `.align`, and nodes without code (`prepare`, `ellipsis`, `arg`, `allocai`, `va_end`) are carried by
+/// their items, once the labels have their addresses.
 pub fn control_nodes_are_carried()
     ensures { ControlNodesCarry }
 {}

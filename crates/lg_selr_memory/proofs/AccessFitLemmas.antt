@@ -30,7 +30,7 @@ use Rattle.lg_selr_items.specs.declared.items.Item.{Item}
 use Rattle.lg_selr_items.proofs.GoodLemmas.{good-append, link-fine, number-good, ones-good, good-items-are-appendable}
 use Rattle.lg_selr_items.proofs.ItemLemmas.{names-ones}
 use Rattle.lg_selr_items.proofs.WithinLemmas.{portable}
-use Rattle.lg_selr_memory.specs.Accesses.{link, register, Place, at_link, indexed, place_of, high_row, lower_bytes, higher_bytes, load_at, store_at, access_needs, load_code, store_code, load_items, store_items}
+use Rattle.lg_selr_memory.specs.Accesses.{link, Place, at_link, indexed, place_of, high_row, lower_bytes, higher_bytes, load_at, store_at, access_needs, load_code, store_code, load_items, store_items}
 use Rattle.lg_selr_values.specs.ValueItems.{HaveSlots, saved_items, first_taken}
 use Rattle.lg_selr_values.proofs.ValueFitLemmas.{saved-names, temporary-good}
 use Rattle.lg_temp.specs.Abis.{register_of}

@@ -1,31 +1,23 @@
 -- The numbers of the code are in the ranges of their instructions, there are few of these, and the next one follows each.
-use Rattle.std.proofs.Common.{◌≡◌, ℕ, ◌+◌, ◌-◌, ◌*◌, ◌^◌, ◌<◌, ◌≤◌, Bool, true, false, List, [], ◌∷◌, ◌++◌, length, refl, arith, length-append}
+use Rattle.std.proofs.Common.{◌≡◌, ℕ, ◌+◌, ◌-◌, ◌*◌, ◌<◌, ◌≤◌, Bool, true, false, List, [], ◌∷◌, length, refl, arith}
 use Rattle.std.specs.Prelude.{ℤ, pos, negsuc, ◌≤ℤ◌, nat_lt, if◌then◌else◌}
 use Rattle.std.specs.List.{All}
 use Rattle.std.proofs.lemmas.Int.{ints}
-use Rattle.std.proofs.lemmas.List.Elements.{All-append, All-from_recursion}
+use Rattle.std.proofs.lemmas.List.Elements.{All-from_recursion}
 use Rattle.lg_op.specs.declared.node.Node.{Node}
 use Rattle.lg_op.specs.declared.op.ValueType.{ValueType}
-use Rattle.lg_op.specs.declared.op.StoreType.{StoreType}
-use Rattle.lg_op.specs.declared.op.Addressing.{Addressing}
 use Rattle.lg_op.specs.declared.op.ValueType.TheVariants as value_type
 use Rattle.lg_op.specs.declared.operand.Operand.{Operand}
 use Rattle.lg_rv.specs.Spelling.{IsInstr}
 use Rattle.lg_rv.specs.declared.instruction.Instr.{Instr}
 use Rattle.lg_rv.specs.declared.instruction.Instr.TheVariants as instr
-use Rattle.lg_rv.specs.declared.instruction.RegOp.TheVariants as row
-use Rattle.lg_meaning.specs.Steps.{operand_at, stored_operand, slot}
-use Rattle.lg_carry_rv.specs.Numbers.{is_short, low_part, number_code}
+use Rattle.lg_meaning.specs.Steps.{operand_at, slot}
 use Rattle.lg_carry_rv.specs.RvRows.{is_straight}
-use Rattle.lg_carry_rv.proofs.NumberCodeLemmas.{low-small, numbers-are-loaded}
 use Rattle.lg_carry_rv.proofs.RegisterLemmas.{register-small}
-use Rattle.lg_base.specs.declared.target.Target.TheVariants.{Riscv64}
-use Rattle.lg_temp.specs.Abis.{register_of}
-use Rattle.lg_sel_memory.specs.Accesses.{Address, Base, At, Sum, Index, address_of, IsAddress}
-use Rattle.lg_sel_memory.specs.Operands.{named, HasWords}
-use Rattle.lg_sel_memory.proofs.ReadLemmas.{address-small, words-of}
-use Rattle.lg_selr_memory.specs.Accesses.{register, load_row}
+use Rattle.lg_sel_memory.specs.Operands.{named}
+use Rattle.lg_selr_memory.specs.Accesses.{link, register, load_row}
 use Rattle.lg_selr_memory.specs.ArgumentCode.{argument_offset, argument_code}
+use Rattle.lg_selr_memory.specs.VariableArgumentCode.{next_argument_instrs, next_argument_code}
 
 abbrev pub Straight : Instr → Type 0
 Straight i = is_straight i ≡ true
@@ -74,3 +66,37 @@ argument-fits t n = by (nat_lt (slot (operand_at n 1)) 16) refl
     by : (b : Bool) → nat_lt (slot (operand_at n 1)) 16 ≡ b → IsFitCode 1 (if b then instr.Imm (load_row t) (register (operand_at n 0)) 8 (argument_offset (slot (operand_at n 1))) ∷ [] else [])
     by true e = let k = offset-fits (slot (operand_at n 1)) (few e) in one (instr.Imm (load_row t) (register (operand_at n 0)) 8 (argument_offset (slot (operand_at n 1)))) (register-few (operand_at n 0), omega arith, k.0, k.1) (load-straight t (register (operand_at n 0)) 8 (argument_offset (slot (operand_at n 1))))
     by false e = fewer 0 1 [] (omega arith) none
+
+-- ---- reading the next variable argument
+next-fits : (d s : ℕ) → d < 32 → s < 32 → IsFitCode 8 (next_argument_instrs d s)
+next-fits d s fd fs =
+    let fl : link < 32 = omega arith in
+    record {
+      few = omega arith;
+      fit = All-from_recursion IsInstr (next_argument_instrs d s) (
+        (fl, fs, omega (arith, ints), omega (arith, ints)),
+        (
+          (fl, fl, omega arith, λ z. absurd (omega (arith, z))),
+          (
+            (fl, fl, omega (arith, ints), omega (arith, ints)),
+            (
+              (fd, fs, omega (arith, ints), omega (arith, ints)),
+              (
+                (fd, fd, fl),
+                (
+                  (fd, fd, omega arith),
+                  (
+                    (fd, fd, omega (arith, ints), omega (arith, ints)),
+                    ((fs, fs, omega (arith, ints), omega (arith, ints)), tt),
+                  ),
+                ),
+              ),
+            ),
+          ),
+        ),
+      );
+      straight = All-from_recursion Straight (next_argument_instrs d s) (refl, (refl, (refl, (refl, (refl, (refl, (refl, (refl, tt))))))));
+    }
+
+pub next-argument-fits : (n : Node) → IsFitCode 8 (next_argument_code n)
+next-argument-fits n = next-fits (register (operand_at n 0)) (register (operand_at n 1)) (register-few (operand_at n 0)) (register-few (operand_at n 1))

@@ -39,9 +39,9 @@ use Rattle.lg_sel_memory.specs.Accesses.{Address, address_word, IsAddress}
 use Rattle.lg_sel_memory.specs.Loads.{IsReadable, LoadDoes}
 use Rattle.lg_sel_memory.proofs.BehindLemmas.{told, in-a-row}
 use Rattle.lg_sel_memory.proofs.LoadLemmas.{some-wide}
-use Rattle.lg_selr_memory.specs.Accesses.{Place, load_row, high_row, place_of, lower_bytes, load_at, loading}
+use Rattle.lg_selr_memory.specs.Accesses.{Place, load_row, high_row, place_of, lower_bytes, loading}
 use Rattle.lg_selr_memory.proofs.ByteLemmas.{IsByte, readable-byte, loaded-one}
-use Rattle.lg_selr_memory.proofs.EndLemmas.{access-keeps, access-does, behind-registers}
+use Rattle.lg_selr_memory.proofs.EndLemmas.{access-keeps, behind-registers}
 use Rattle.lg_selr_memory.proofs.JoinLemmas.{joined, high_type, joined-typed}
 use Rattle.lg_selr_memory.proofs.PlaceLemmas.{IsPlaced, off-scratch, placed, to_link, linked, read-some}
 
@@ -56,10 +56,10 @@ load-act value_type.Int q rd base offset a v at even e lt = rw (at, even) (ap (l
 load-act value_type.UnsignedInt q rd base offset a v at even e lt = rw (at, even) (ap (loads q rd 4 false) e ∙ ap (sets q rd) (let z : v ≡ v % 2 ^ 32 = omega (arith, lt) in z))
 load-act value_type.Long q rd base offset a v at even e lt = rw (at, even) (ap (loads q rd 8 false) e)
 
--- and does so in code
-pub load-does : (code : List ℕ) (trash : ℕ) (t : ValueType) (s : Seen) (rd base : ℕ) (offset : ℤ) (a v fp : ℕ) (T : ℕ → Bool) → add_words (read s.registers base) (word_of offset) ≡ a → (a % width t == 0) ≡ true → IsReadable s fp a (width t) v
-    → v < 256 ^ width t → Does (rv_rows code trash) (from_to s (with_register s.registers rd (typed t v)) s.bytes s.flags) (instr.Imm (load_row t) rd base offset ∷ []) fp 0 T
-load-does code trash t s rd base offset a v fp T at even readable lt = access-does code trash (instr.Imm (load_row t) rd base offset) s (with_register s.registers rd (typed t v)) s.bytes fp T
+-- and does so in code, which keeps each slot
+pub load-keeps : (code : List ℕ) (trash : ℕ) (t : ValueType) (s : Seen) (rd base : ℕ) (offset : ℤ) (a v fp n : ℕ) (T : ℕ → Bool) → add_words (read s.registers base) (word_of offset) ≡ a → (a % width t == 0) ≡ true → IsReadable s fp a (width t) v
+    → v < 256 ^ width t → Does (rv_rows code trash) (from_to s (with_register s.registers rd (typed t v)) s.bytes s.flags) (instr.Imm (load_row t) rd base offset ∷ []) fp n T
+load-keeps code trash t s rd base offset a v fp n T at even readable lt = access-keeps code trash (instr.Imm (load_row t) rd base offset) s (with_register s.registers rd (typed t v)) s.bytes fp n T
     (λ q registers bytes.
     let g : q.registers ≡ s.registers = pointwise q.registers s.registers registers in
     record {
@@ -69,6 +69,7 @@ load-does code trash t s rd base offset a v fp T at even readable lt = access-do
       registers_are = λ r. ap (λ h. put h rd (typed t v) r) g;
       bytes_are = bytes;
     })
+    (λ q r bs y on. refl)
 
 -- ---- byte by byte
 -- the row that loads the highest byte does so by its type

@@ -1,5 +1,5 @@
 -- Loads, stores and nodes that read and pass arguments are carried: RV64's code is that of a target.
-use Rattle.std.proofs.Common.{◌≡◌, ◌≢◌, ℕ, ◌+◌, ◌<◌, ◌≤◌, ◌⊎◌, inl, inr, Bool, true, false, List, [], ◌∷◌, refl, sym, ap, ◌∙◌, arith, subst, length}
+use Rattle.std.proofs.Common.{◌≡◌, ◌≢◌, ℕ, ◌≤◌, inl, inr, Bool, true, false, List, [], ◌∷◌, refl, sym, ap, ◌∙◌, arith, subst, length}
 use Rattle.std.specs.Prelude.{◌==◌, ◌||◌, ◌&&◌, if◌then◌else◌, slice_index_or}
 use Rattle.std.specs.List.{list_any}
 use Rattle.lg_base.specs.declared.target.Target.TheVariants.{Riscv64}
@@ -8,7 +8,7 @@ use Rattle.lg_carry_rv.specs.RvComputers.{rv_scratch}
 use Rattle.lg_carry_rv.specs.RvRows.{rv_rows}
 use Rattle.lg_carry_rv.proofs.IsaLemmas.{is-isa}
 use Rattle.lg_live.specs.Registers.{is_same}
-use Rattle.lg_live.specs.Uses.{is_for, is_register, names, is_read, is_written}
+use Rattle.lg_live.specs.Uses.{is_for, is_register, names}
 use Rattle.lg_live.specs.declared.uses.Access.{Access}
 use Rattle.lg_live.specs.declared.uses.Access.TheVariants as access
 use Rattle.lg_meaning.specs.Steps.{operand_at, stored_operand}
@@ -18,7 +18,6 @@ use Rattle.lg_op.specs.declared.form.Form.TheVariants as form
 use Rattle.lg_op.specs.declared.node.Node.{Node}
 use Rattle.lg_op.specs.declared.op.Addressing.{Addressing}
 use Rattle.lg_op.specs.declared.op.Addressing.TheVariants as addressing
-use Rattle.lg_op.specs.declared.op.Op.{Op}
 use Rattle.lg_op.specs.declared.op.Op.TheVariants as op
 use Rattle.lg_op.specs.declared.op.StoreType.{StoreType}
 use Rattle.lg_op.specs.declared.op.ValueType.{ValueType}
@@ -34,6 +33,7 @@ use Rattle.lg_sel_memory.proofs.FormLemmas.{starts-written, starts-read, starts-
 use Rattle.lg_sel_memory.proofs.GetargLemmas.{arguments-carry}
 use Rattle.lg_sel_memory.proofs.MemoryNodeLemmas.{loads-with-temporaries-carry, stores-with-temporaries-carry}
 use Rattle.lg_sel_memory.proofs.PushLemmas.{pushes-carry}
+use Rattle.lg_sel_memory.proofs.VariableArgumentLemmas.{next-arguments-carry}
 use Rattle.lg_sel_nodes.specs.Isas.{IsIsa}
 use Rattle.lg_sel_nodes.specs.Straight.{is_taken, spoils}
 use Rattle.lg_sel_nodes.proofs.RegisterLemmas.{same-self}
@@ -41,12 +41,14 @@ use Rattle.lg_selr_memory.specs.Accesses.{access_needs, place_of, load_code, sto
 use Rattle.lg_selr_memory.specs.ArgumentCode.{rv_argument}
 use Rattle.lg_selr_memory.specs.MemoryNodes.{AccessesCarry, MemoryIsCarried}
 use Rattle.lg_selr_memory.specs.PushCode.{rv_push}
+use Rattle.lg_selr_memory.specs.VariableArgumentCode.{rv_next_argument}
 use Rattle.lg_selr_memory.proofs.ArgumentLemmas.{arguments-do, has-argument-code}
 use Rattle.lg_selr_memory.proofs.LoadLemmas.{IsFor, load-does-so, load-has-code}
 use Rattle.lg_selr_memory.proofs.PushLemmas.{pushes-do, has-push-code}
 use Rattle.lg_selr_memory.proofs.StoreLemmas.{store-does-so, store-has-code}
+use Rattle.lg_selr_memory.proofs.VariableArgumentLemmas.{next-arguments-do, has-next-argument-code}
 use Rattle.lg_selr_values.specs.ValueItems.{first_taken}
-use Rattle.lg_selr_values.proofs.TemporaryLemmas.{IsOf, IsTemporary, temporary-apart}
+use Rattle.lg_selr_values.proofs.TemporaryLemmas.{IsOf, temporary-apart}
 use Rattle.lg_temp.specs.Abis.{register_of}
 use Rattle.lg_temp.specs.Choices.{AreFor}
 use Rattle.lg_temp.specs.Chosen.{Around, around, is_named}
@@ -187,5 +189,6 @@ memory-is-carried code trash small bytes word =
       loads = loads-carry code trash isa;
       stores = stores-carry code trash isa;
       arguments = arguments-carry (rv_rows code trash) rv_scratch IsInstr isa rv_argument (arguments-do code trash) (has-argument-code code trash);
+      next_arguments = next-arguments-carry (rv_rows code trash) rv_scratch IsInstr isa rv_next_argument (next-arguments-do code trash) (has-next-argument-code code trash);
       pushes = pushes-carry (rv_rows code trash) rv_scratch IsInstr isa rv_push (pushes-do code trash) (has-push-code code trash);
     }

@@ -4,25 +4,21 @@ use Rattle.std.specs.Prelude.{nat_lt, slice_index, if◌then◌else◌}
 use Rattle.lg_base.specs.Conventions.{argument_registers}
 use Rattle.lg_base.specs.HostNames.{host_address}
 use Rattle.lg_base.specs.declared.target.Target.TheVariants.{Riscv64}
-use Rattle.lg_carry_rv.specs.Numbers.{is_short, low_part, number_code}
+use Rattle.lg_carry_rv.specs.Numbers.{number_code}
 use Rattle.lg_meaning.specs.Steps.{operand_at, slot}
 use Rattle.lg_op.specs.declared.node.Node.{Node}
-use Rattle.lg_op.specs.declared.op.Addressing.{Addressing}
-use Rattle.lg_op.specs.declared.op.StoreType.{StoreType}
 use Rattle.lg_op.specs.declared.op.ValueType.{ValueType}
 use Rattle.lg_op.specs.declared.operand.Operand.{Operand}
 use Rattle.lg_op.specs.declared.operand.Operand.TheVariants as operand
 use Rattle.lg_rv.specs.declared.instruction.Instr.TheVariants as instr
-use Rattle.lg_rv.specs.declared.instruction.RegOp.TheVariants.{Add}
 use Rattle.lg_selr_items.specs.Items.{StayWithin}
 use Rattle.lg_selr_memory.specs.Accesses.{link, place_of, indexed, at_link, load_code, store_code}
-use Rattle.lg_sel_memory.specs.Accesses.{Address, Base, At, Sum, Index, address_of}
 use Rattle.lg_sel_memory.specs.Operands.{named}
 use Rattle.lg_selr_memory.specs.Accesses as accesses
 use Rattle.lg_selr_memory.specs.ArgumentCode.{argument_offset, argument_code}
 use Rattle.lg_selr_memory.specs.PushCode.{into, stack_push, onto_stack, push_code}
-use Rattle.lg_temp.specs.Abis.{register_of}
-use Rattle.lg_selr_items.proofs.WithinLemmas.{In, portable, Within, join, stay-append, stay-ones, number}
+use Rattle.lg_selr_memory.specs.VariableArgumentCode.{next_argument_code}
+use Rattle.lg_selr_items.proofs.WithinLemmas.{In, portable, Within, stay-append, stay-ones, number}
 use Rattle.lg_selr_memory.specs.MemoryFits.{MemoryItemsStay}
 use Rattle.lg_selr_memory.proofs.AccessFitLemmas.{load-items-fit, store-items-fit}
 
@@ -47,6 +43,12 @@ arguments t n = by (nat_lt (slot (operand_at n 1)) 16)
     by : (b : Bool) → Within (if b then instr.Imm (accesses.load_row t) (accesses.register (operand_at n 0)) 8 (argument_offset (slot (operand_at n 1))) ∷ [] else [])
     by true = (accessed (operand_at n 0), tt)
     by false = tt
+
+next-arguments : (n : Node) → Within (next_argument_code n)
+next-arguments n =
+    let d = accessed (operand_at n 0) in
+    let s = accessed (operand_at n 1) in
+    (refl, (refl, (refl, (d, (d, (d, (d, (s, tt))))))))
 
 puts : (rd : ℕ) (x : Operand) → In rd → StayWithin (into rd x)
 puts rd (operand.Reg r) h = (h, tt)
@@ -77,5 +79,6 @@ memory-items-stay = record {
   loads = λ t at n live staged choices are. (load-items-fit t at n live staged choices are).within;
   stores = λ t at n live staged choices are. (store-items-fit t at n live staged choices are).within;
   arguments = λ t n. stay-ones (argument_code t n) (arguments t n);
+  next_arguments = λ n. stay-ones (next_argument_code n) (next-arguments n);
   pushes = pushes;
 }

@@ -23,9 +23,11 @@ use Rattle.lg_rv.specs.declared.instruction.Instr.{Instr}
 use Rattle.lg_sel_memory.specs.Arguments.{ArgumentsCarry}
 use Rattle.lg_sel_memory.specs.Operands.{names_label, HasWords}
 use Rattle.lg_sel_memory.specs.Pushes.{PushesCarry}
+use Rattle.lg_sel_memory.specs.VariableArguments.{NextArgumentsCarry}
 use Rattle.lg_selr_memory.specs.Accesses.{access_needs, load_code, store_code}
 use Rattle.lg_selr_memory.specs.ArgumentCode.{rv_argument}
 use Rattle.lg_selr_memory.specs.PushCode.{rv_push}
+use Rattle.lg_selr_memory.specs.VariableArgumentCode.{rv_next_argument}
 use Rattle.lg_selr_values.specs.ValueItems.{first_taken}
 use Rattle.lg_temp.specs.Choices.{AreFor}
 use Rattle.lg_temp.specs.Chosen.{around}
@@ -44,6 +46,7 @@ pub record MemoryNodesCarry (code : List ℕ) (trash : ℕ) : Type 0 where
   pub loads : (t : ValueType) (at : Addressing) → AccessesCarry code trash (op.Load t at) (width t) (load_code t at)
   pub stores : (t : StoreType) (at : Addressing) → AccessesCarry code trash (op.Store t at) (store_width t) (store_code t at)
   pub arguments : ArgumentsCarry (rv_rows code trash) IsInstr rv_argument
+  pub next_arguments : NextArgumentsCarry (rv_rows code trash) IsInstr rv_next_argument
   pub pushes : PushesCarry (rv_rows code trash) IsInstr rv_push
 
 abbrev pub MemoryIsCarried : Type 0

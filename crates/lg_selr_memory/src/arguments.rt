@@ -7,17 +7,21 @@ ghost use Rattle.lg_selr_items.specs.declared.items.Item.TheVariants as item;
 ghost use Rattle.lg_selr_items.specs.Items.{ones};
 ghost use Rattle.lg_selr_memory.specs.ArgumentCode.{argument_offset, argument_code};
 ghost use Rattle.lg_selr_memory.specs.PushCode.{into, stack_push, onto_stack, push_code};
+ghost use Rattle.lg_selr_memory.specs.VariableArgumentCode.{next_argument_code};
 
 use crate::accesses::load_row;
 use crate::operands::register;
 use lg_op::{Node, Operand, ValueType};
-use lg_rv::{ImmOp, Instr, StoreOp};
+use lg_rv::{ImmOp, Instr, RegOp, ShiftOp, StoreOp};
 use lg_sel_items::Items;
 use lg_sel_memory::operands::{operand, slot};
-use lg_selr_items::{Item, imm, put_number, register_of};
+use lg_selr_items::{Item, imm, put_number, register_of, row, shift};
 
 // The link holds nothing that is needed behind a `prolog`.
 const LINK: u8 = 1;
+
+// The register of FP.
+const FP: u8 = 8;
 
 // The word of an operand into a register.
 fn put_into(rd: u8, operand: Operand, items: &mut Items<Item>)
@@ -99,6 +103,26 @@ pub fn put_getarg(t: ValueType, node: &Node, items: &mut Items<Item>)
     let index = slot(operand(node, 1));
     if index < 16 {
         let rd = register(operand(node, 0));
-        items.one(imm(load_row(t), rd, 8, argument_offset(index)));
+        items.one(imm(load_row(t), rd, FP, argument_offset(index)));
     }
+}
+
+/// Appends the code of a node that reads the next variable argument of its function to no items: 8 instructions. Where the code runs the number
+/// of the argument is below 16, and its place is `factor * (number - 1) - 40` bytes from FP, with a factor of -8 below 8, and else of 8.
+pub fn put_next_argument(node: &Node, items: &mut Items<Item>)
+    requires { items.old ≡ [] }
+    ensures { items.new ≡ ones (next_argument_code node.now) }
+{
+    let rd = register(operand(node, 0));
+    let list = register(operand(node, 1));
+    items.all(&[
+        imm(ImmOp::Andi, LINK, list, 8),
+        shift(ShiftOp::Slli, LINK, LINK, 1),
+        imm(ImmOp::Addi, LINK, LINK, -8),
+        imm(ImmOp::Addi, rd, list, -1),
+        row(RegOp::Mul, rd, rd, LINK),
+        row(RegOp::Add, rd, rd, FP),
+        imm(ImmOp::Ld, rd, rd, -40),
+        imm(ImmOp::Addi, list, list, 1),
+    ]);
 }

@@ -3,7 +3,7 @@
 ghost use Rattle.lg_selr_memory.specs.MemoryNodes.{MemoryIsCarried};
 ghost use Rattle.lg_selr_memory.specs.MemoryFits.{MemoryItemsStay};
 
-/// Loads, stores and nodes that read and pass arguments are carried, whatever is live behind them.
+/// Loads, stores and nodes that read and pass arguments, the next variable one too, are carried, whatever is live behind them.
 pub fn memory_nodes_are_carried()
     ensures { MemoryIsCarried }
 {}

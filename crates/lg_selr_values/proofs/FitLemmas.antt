@@ -204,5 +204,6 @@ body-good (op.Binary o last) xs u h = operation-good o u (register_in xs 0) (reg
 body-good (op.Wide o last) xs u h = wide-items-good o (register_in xs 0) (register_in xs 1) (register_in xs 2) (operand_in xs 3) (fine-at xs 0) (fine-at xs 1) (fine-at xs 2).0
 body-good (op.Unary o) xs u h = ones-good (unary_code o (register_in xs 0) (register_in xs 1)) (unary-good o (register_in xs 0) (register_in xs 1) (fine-at xs 0) (fine-at xs 1).0)
 body-good (op.Plain plain.Movi) xs u h = load-good (register_in xs 0) (operand_in xs 1) (fine-at xs 0)
+body-good (op.Plain plain.VaStart) xs u h = load-good (register_in xs 0) (operand_in xs 1) (fine-at xs 0)
 body-good (op.Plain o) xs u h = tt
 body-good o xs u h = tt

@@ -6,7 +6,6 @@ pub mod CarriedNodeLemmas
 pub mod ComputedNodeLemmas
 pub mod EmissionLemmas
 pub mod FitLemmas
-pub mod FormLemmas
 pub mod ImmediateLemmas
 pub mod LoadCodeLemmas
 pub mod PlainItemLemmas

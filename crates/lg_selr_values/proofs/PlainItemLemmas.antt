@@ -18,17 +18,18 @@ use Rattle.lg_op.specs.declared.operand.Operand.TheVariants as operand
 use Rattle.lg_operators.specs.Operators.{is_carried}
 use Rattle.lg_rv.specs.declared.instruction.Instr.{Instr}
 use Rattle.lg_temp.specs.Abis.{register_of}
+use Rattle.lg_carry_rv.specs.Numbers.{number_code}
 use Rattle.lg_carry_rv.proofs.RegisterLemmas.{register-small, register-nonzero}
 use Rattle.lg_selr_items.specs.Items.{ones}
 use Rattle.lg_selr_values.specs.BinaryCode.{register_code, number_form_code}
 use Rattle.lg_selr_values.specs.UnaryCode.{unary_code}
 use Rattle.lg_selr_values.specs.WideCode.{wide_code}
-use Rattle.lg_sel_values.specs.ValueNodes.{binary_node, wide_node, unary_node, movi_node}
+use Rattle.lg_sel_values.specs.ValueNodes.{binary_node, wide_node, unary_node, movi_node, va_start_node}
 use Rattle.lg_selr_values.specs.ValueItems.{value_needs, load_items, binary_items, carried_items, wide_items}
 use Rattle.lg_selr_values.proofs.ImmediateLemmas.{is-load}
 use Rattle.lg_selr_values.proofs.BinaryNodeLemmas.{registers-compute, number-computed, loaded-computed}
-use Rattle.lg_selr_values.proofs.UnaryNodeLemmas.{movi-computes}
-use Rattle.lg_selr_values.proofs.UnaryNodeLemmas.{unary-node-computes}
+use Rattle.lg_selr_values.proofs.LoadCodeLemmas.{loads-number}
+use Rattle.lg_selr_values.proofs.UnaryNodeLemmas.{unary-node-computes, movi-computes, va-start-computes}
 use Rattle.lg_selr_values.proofs.WideNodeLemmas.{wide-registers, wide-loaded}
 use Rattle.lg_selr_values.proofs.SettledLemmas.{Settles, settles-ones, settles-append, IsCarried, carried-plain}
 
@@ -41,6 +42,16 @@ pub movi-carried : (d : Reg) (x : Operand) (line : ℕ) → d ≢ Fp → admits 
 movi-carried d x line named immediate = carried-plain (movi_node d x line) refl refl refl
     (λ c i t words. let l = is-load c.addresses (register_of Riscv64 d) x (register-nonzero d) (register-small d) immediate words.1.0 in
     record { body = l.code; settles = record { become = l.settles }; computes = movi-computes c i d x l.word line named l.given t l.code l.loads })
+
+-- the number of the first variable argument
+pub va-start-carried : (d : Reg) (k line : ℕ) → d ≢ Fp → IsCarried (va_start_node d k line)
+va-start-carried d k line named = carried-plain (va_start_node d k line) refl refl refl
+    (λ c i t words. let rd = register_of Riscv64 d in
+    record {
+      body = number_code rd k;
+      settles = settles-ones (slice_index c.addresses) (number_code rd k);
+      computes = va-start-computes c i d k line named t (number_code rd k) (loads-number rd k (register-nonzero d) (register-small d) words.1.0);
+    })
 
 -- ---- two words
 no-needs : (o : BinaryOp) (last : LastOperand) → is_carried o ≡ false → value_needs (op.Binary o last) ≡ []

@@ -13,14 +13,17 @@ use Rattle.lg_temp.specs.Abis.{register_of}
 use Rattle.lg_carry.specs.FinalNodes.{Code}
 use Rattle.lg_carry.specs.TextNodes.{IsInText}
 use Rattle.lg_carry_rv.specs.Computations.{computed}
-use Rattle.lg_carry_rv.specs.RvComputers.{rv_scratch, rv_computer, IsComputed}
+use Rattle.lg_carry_rv.specs.RvComputers.{rv_scratch, held_by, rv_computer, IsComputed}
 use Rattle.lg_carry_rv.proofs.ComputerLemmas.{held-at, into, carry-kept}
 use Rattle.lg_carry_rv.proofs.ComputationLemmas.{put-same, put-other}
 use Rattle.lg_carry_rv.proofs.RegisterLemmas.{register-apart, register-nonzero, read-of}
 use Rattle.lg_selr_values.specs.UnaryCode.{unary_code}
-use Rattle.lg_sel_values.specs.ValueNodes.{unary_node, movi_node}
+use Rattle.lg_sel_values.specs.Computers.{Held}
+use Rattle.lg_sel_values.specs.Computers as computer
+use Rattle.lg_sel_values.specs.Values.{ComputesInto}
+use Rattle.lg_sel_values.specs.ValueNodes.{unary_node, movi_node, va_start_node}
 use Rattle.lg_selr_values.proofs.UnaryCodeLemmas.{unary-computed, unary-keeps, unary-computes, unary-some}
-use Rattle.lg_sel_values.proofs.OneWordLemmas.{unary-nodes-compute, movi-nodes-compute}
+use Rattle.lg_sel_values.proofs.OneWordLemmas.{unary-nodes-compute, movi-nodes-compute, va-start-nodes-compute}
 use Rattle.lg_selr_values.proofs.LoadCodeLemmas.{LoadsWord}
 
 -- ---- of a register; `movr` keeps the carry, and its code does
@@ -45,13 +48,24 @@ unary-node-computes c i o d a line named t code trash =
     (unary-computed rd (register-nonzero d) (register-apart d).0 (register-apart d).1 o ra w.registers h.words ∙ ap (unary_value o) (read-of w.registers a ∙ em)))
 
 -- ---- of the text
+-- code that puts a word into a register changes no other, and the register holds the word
+others : (load : List Instr) (d v : ℕ) → LoadsWord load d v → (w : ℕ → ℕ) (r : ℕ) → r ≢ d → computed load w r ≡ w r
+others load d v l w r ne = ap (λ u. u r) (l.value w) ∙ put-other w d v r ne
+
+holds : (load : List Instr) (d v : ℕ) → LoadsWord load d v → (w : Held) → (computer.computed held_by load w).registers d ≡ v
+holds load d v l w = held-at load w d v (ap (λ u. u d) (l.value w.registers) ∙ put-same w.registers d v)
+
+loads-into : (code : List ℕ) (trash : ℕ) (d : Reg) (v : ℕ) (load : List Instr) → LoadsWord load (register_of Riscv64 d) v → ComputesInto (rv_computer code trash) rv_scratch (d ∷ []) [] load
+loads-into code trash d v load l =
+    into code trash (d ∷ []) [] load record { some = l.some; computes = l.computes; keeps = λ w r apart taken link carry. others load (register_of Riscv64 d) v l w r apart.0 }
+
 pub movi-computes : (c : Code) (i : ℕ) (d : Reg) (x : Operand) (v line : ℕ) → d ≢ Fp → ((s : State) → value c.addresses s x ≡ Some v) → IsInText c i (movi_node d x line)
     → (load : List Instr) → LoadsWord load (register_of Riscv64 d) v → IsComputed c i (movi_node d x line) [] load
 movi-computes c i d x v line named given t load l code trash =
-    movi-nodes-compute (rv_computer code trash) rv_scratch c i d x v line [] load named given t
-    (into code trash (d ∷ []) [] load record { some = l.some; computes = l.computes; keeps = λ w r apart taken link carry. at w r apart.0 })
-    (carry-kept code trash load (λ w. at w 31 (λ e. (register-apart d).1 (sym e))))
-    (λ w. held-at load w (register_of Riscv64 d) v (ap (λ u. u (register_of Riscv64 d)) (l.value w.registers) ∙ put-same w.registers (register_of Riscv64 d) v))
-  where
-    at : (w : ℕ → ℕ) (r : ℕ) → r ≢ register_of Riscv64 d → computed load w r ≡ w r
-    at w r ne = ap (λ u. u r) (l.value w) ∙ put-other w (register_of Riscv64 d) v r ne
+    movi-nodes-compute (rv_computer code trash) rv_scratch c i d x v line [] load named given t (loads-into code trash d v load l)
+    (carry-kept code trash load (λ w. others load (register_of Riscv64 d) v l w 31 (λ e. (register-apart d).1 (sym e)))) (holds load (register_of Riscv64 d) v l)
+
+pub va-start-computes : (c : Code) (i : ℕ) (d : Reg) (k line : ℕ) → d ≢ Fp → IsInText c i (va_start_node d k line)
+    → (load : List Instr) → LoadsWord load (register_of Riscv64 d) k → IsComputed c i (va_start_node d k line) [] load
+va-start-computes c i d k line named t load l code trash =
+    va-start-nodes-compute (rv_computer code trash) rv_scratch c i d k line [] load named t (loads-into code trash d k load l) (holds load (register_of Riscv64 d) k l)

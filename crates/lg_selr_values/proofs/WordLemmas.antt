@@ -111,6 +111,7 @@ body_few (op.Binary o last) xs u = let h = operation-few o u (register_in xs 0) 
 body_few (op.Wide o last) xs u = let h = wide-items-few o (register_in xs 0) (register_in xs 1) (register_in xs 2) (operand_in xs 3) in omega (arith, h)
 body_few (op.Unary o) xs u = ones-few (unary_code o (register_in xs 0) (register_in xs 1)) 30 (unary-few o (register_in xs 0) (register_in xs 1))
 body_few (op.Plain plain.Movi) xs u = let h = load-few (register_in xs 0) (operand_in xs 1) in omega (arith, h)
+body_few (op.Plain plain.VaStart) xs u = let h = load-few (register_in xs 0) (operand_in xs 1) in omega (arith, h)
 body_few (op.Plain o) xs u = omega arith
 body_few o xs u = omega arith
 

@@ -1,5 +1,5 @@
 -- What `select` appends carries the node once the buffer is finished, and what is known of the buffer.
-use Rattle.std.proofs.Common.{◌≡◌, ℕ, ◌+◌, ◌*◌, ◌%◌, ◌<◌, ◌≤◌, Bool, true, false, List, [], ◌∷◌, ◌++◌, length, drop, sym, ap, ◌∙◌, subst, arith, length-append, ◌-◌, Some}
+use Rattle.std.proofs.Common.{◌≡◌, ℕ, ◌+◌, ◌%◌, ◌<◌, ◌≤◌, Bool, true, false, List, [], ◌∷◌, ◌++◌, length, drop, sym, ap, ◌∙◌, subst, arith, length-append, ◌-◌, Some}
 use Rattle.std.specs.Prelude.{IsTrue, count_by, slice_index, slice_get}
 use Rattle.std.specs.List.{All, AllByRecursion}
 use Rattle.lg_base.specs.declared.target.Target.TheVariants.{X86_64}
@@ -22,7 +22,7 @@ use Rattle.lg_op.specs.declared.operand.Operand.{Operand}
 use Rattle.lg_op.specs.declared.operand.Operand.TheVariants as operand
 use Rattle.lg_op.specs.declared.operand.Reg.{Reg}
 use Rattle.lg_x86.specs.Spelling.{IsInstr, spelling}
-use Rattle.lg_sel.proofs.AppendedLemmas.{appended-by, begins-appended, fixes-of-lead}
+use Rattle.lg_sel.proofs.AppendedLemmas.{begins-appended, fixes-of-lead}
 use Rattle.lg_sel.proofs.EmissionLemmas.{stores-counted}
 use Rattle.lg_sel.proofs.FamilyLemmas.{node_of}
 use Rattle.lg_sel.proofs.FinishedLemmas.{items-are-sparing}
@@ -41,7 +41,7 @@ use Rattle.lg_selx.proofs.FinishedLemmas.{AreAppended, are-of-node, are-whole}
 use Rattle.lg_selx.proofs.NodeFits.{node-emits, items-fit, items-within}
 use Rattle.lg_selx.proofs.NodeLemmas.{items-carry}
 use Rattle.lg_sel.proofs.PlaceLemmas.{and-first}
-use Rattle.lg_sel.proofs.ReachLemmas.{led-fits, is-near, same-label}
+use Rattle.lg_sel.proofs.ReachLemmas.{led-fits, same-label}
 use Rattle.lg_sel_control.proofs.ControlLemmas.{differ}
 use Rattle.lg_sel_items.specs.Reaches.{Leads, IsChecked, IsLeast}
 use Rattle.lg_selx.proofs.ShortLemmas.{node-short}

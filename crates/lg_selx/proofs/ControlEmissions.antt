@@ -1,5 +1,5 @@
 -- The items of the nodes that branch, jump, call and return, of `prolog`, `.align` and of those without code; none but those of a `prolog` store.
-use Rattle.std.proofs.Common.{◌≡◌, ℕ, zero, suc, ◌+◌, ◌≤◌, Bool, true, false, List, [], ◌∷◌, ◌++◌, refl, arith}
+use Rattle.std.proofs.Common.{◌≡◌, ℕ, zero, suc, ◌≤◌, Bool, true, false, List, [], ◌∷◌, refl, arith}
 use Rattle.std.specs.Prelude.{◌==◌, ◌&&◌, if◌then◌else◌, Option, Some, None}
 use Rattle.lg_base.specs.HostNames.{host_address}
 use Rattle.lg_base.specs.Words.{signed_view}
@@ -13,7 +13,6 @@ use Rattle.lg_op.specs.declared.op.LastOperand.{LastOperand}
 use Rattle.lg_op.specs.declared.op.LastOperand.TheVariants as last_operand
 use Rattle.lg_op.specs.declared.op.Op.{Op}
 use Rattle.lg_op.specs.declared.op.Op.TheVariants as op
-use Rattle.lg_op.specs.declared.op.PlainOp.{PlainOp}
 use Rattle.lg_op.specs.declared.op.PlainOp.TheVariants as plain_op
 use Rattle.lg_op.specs.declared.operand.Label.{Label}
 use Rattle.lg_op.specs.declared.operand.Operand.{Operand}
@@ -24,7 +23,7 @@ use Rattle.lg_sel.proofs.StoreLemmas as stores
 use Rattle.lg_sel.specs.Stores.{x86_stores, is_free}
 use Rattle.lg_sel_items.specs.declared.reach.Reach.{Reach}
 use Rattle.lg_sel_items.specs.declared.reach.Reach.TheVariants as reaches
-use Rattle.lg_selx.proofs.Emissions.{Names, Keeps, NoneStores, keep-none, number-keeps, Emits, none, append, more, instructions, plain, number, address, jump, front, behind}
+use Rattle.lg_selx.proofs.Emissions.{Names, NoneStores, keep-none, number-keeps, Emits, none, instructions, plain, number, address, jump, front, behind}
 use Rattle.lg_selx_control.specs.Alignments.{padding, idle, align_code}
 use Rattle.lg_selx_control.specs.Branches.{comparison, is_difference, taken, lowered, wide_comparison, word_comparison, before_branch}
 use Rattle.lg_selx_control.specs.ControlItems.{jump_kind, branch_if_items, branch_items, sum_items, jump_items, call_items, result_items, ret_items, register_jump_items, register_call_items, leap_items, align_items, control_items}
@@ -32,9 +31,7 @@ use Rattle.lg_selx_control.specs.HostCalls.{host_code}
 use Rattle.lg_selx_control.specs.Prologs.{prolog_code}
 use Rattle.lg_selx_control.specs.RegisterLeaps.{register_jump_code, register_call_code}
 use Rattle.lg_selx_control.specs.Returns.{result, return_code}
-use Rattle.lg_selx_control.specs.SumBranches.{sum_row, sum_number, sum_taken, number_sum, word_sum, before_sum_branch}
-use Rattle.lg_selx_items.specs.Items.{ones}
-use Rattle.lg_selx_items.specs.declared.items.Item.{Item}
+use Rattle.lg_selx_control.specs.SumBranches.{sum_row, sum_number, sum_taken, number_sum, before_sum_branch}
 use Rattle.lg_selx_items.specs.declared.items.Item.TheVariants.{Jump}
 use Rattle.lg_selx_items.specs.declared.items.JumpKind.TheVariants.{Near}
 use Rattle.lg_selx_values.specs.Scratch.{again}

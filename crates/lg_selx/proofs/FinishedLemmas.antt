@@ -1,5 +1,5 @@
 -- From a finished buffer to the code of the node.
-use Rattle.std.proofs.Common.{◌≡◌, ℕ, ◌^◌, ◌<◌, ◌≤◌, List, refl}
+use Rattle.std.proofs.Common.{ℕ, ◌^◌, ◌<◌, ◌≤◌, List, refl}
 use Rattle.std.specs.Prelude.{slice_index}
 use Rattle.lg_base.specs.declared.target.Target.TheVariants.{X86_64}
 use Rattle.lg_buf.specs.Buffers.{Buffer}

@@ -1,6 +1,6 @@
 -- The items of loads, stores and nodes that read and pass arguments: a store and an argument that is passed store once.
-use Rattle.std.proofs.Common.{◌≡◌, ℕ, ◌+◌, ◌-◌, ◌*◌, ◌≤◌, Bool, true, false, List, [], ◌∷◌, ◌++◌, refl, arith}
-use Rattle.std.specs.Prelude.{◌==◌, nat_lt, slice_index, if◌then◌else◌, ℤ, pos}
+use Rattle.std.proofs.Common.{ℕ, ◌-◌, ◌*◌, ◌≤◌, Bool, true, false, List, [], ◌∷◌, ◌++◌, refl, arith}
+use Rattle.std.specs.Prelude.{◌==◌, nat_lt, slice_index, if◌then◌else◌, pos}
 use Rattle.lg_base.specs.Conventions.{argument_registers}
 use Rattle.lg_base.specs.HostNames.{host_address}
 use Rattle.lg_base.specs.Words.{signed_view}
@@ -18,14 +18,14 @@ use Rattle.lg_sel.proofs.StoreLemmas as stores
 use Rattle.lg_sel.specs.Stores.{x86_stores}
 use Rattle.lg_sel_memory.specs.Accesses.{Address, Base, At, Sum, Index, address_of}
 use Rattle.lg_sel_items.specs.declared.reach.Reach.{Reach}
-use Rattle.lg_selx.proofs.Emissions.{Keeps, NoneStores, keep-none, number-keeps, Emits, none, append, more, either, instructions, plain, number, address, behind}
+use Rattle.lg_selx.proofs.Emissions.{NoneStores, keep-none, number-keeps, Emits, none, append, more, either, instructions, plain, number, address}
 use Rattle.lg_selx_control.specs.Branches.{lowered}
 use Rattle.lg_selx_items.specs.Items.{ones}
-use Rattle.lg_selx_items.specs.declared.items.Item.{Item}
 use Rattle.lg_selx_memory.specs.Accesses as accesses
 use Rattle.lg_selx_memory.specs.Accesses.{register, load_row, store_row, Place, at_register, at_spare, indexed, place_of, remade, load_spare, store_spare, loading, storing, load_into, store_from, load_code, store_code}
 use Rattle.lg_selx_memory.specs.ArgumentCode.{argument_load, argument_code}
 use Rattle.lg_selx_memory.specs.PushCode.{into, stack_push, onto_stack, push_code}
+use Rattle.lg_selx_memory.specs.VariableArgumentCode.{next_argument_code}
 use Rattle.lg_selx_values.specs.Scratch.{again}
 use Rattle.lg_temp.specs.Abis.{register_of}
 use Rattle.lg_x86.specs.declared.instruction.Instr.{Instr}
@@ -75,6 +75,9 @@ argument-none : (t : ValueType) (rd k : ℕ) → NoneStores (argument_load t rd 
 argument-none t rd k = refl
 
 -- ---- items
+pub next-arguments-emit : (reach : Reach) (is : ℕ → Bool) (n : Node) → Emits reach is 1 0 (ones (next_argument_code n))
+next-arguments-emit reach is n = plain reach is 1 (next_argument_code n) refl
+
 module _ (reach : Reach) (is : ℕ → Bool) (frame : ℕ) where
   pub loads-emit : (t : ValueType) (at : Addressing) (n : Node) → Emits reach is 1 0 (ones (load_code frame t at n))
   loads-emit t at n =

@@ -19,7 +19,7 @@ use Rattle.lg_sel.specs.Stores.{x86_stores}
 use Rattle.lg_sel_items.specs.declared.reach.Reach.{Reach}
 use Rattle.lg_selx.proofs.ControlEmissions.{controls-emit, prologs-emit}
 use Rattle.lg_selx.proofs.Emissions.{Names, Emits, more}
-use Rattle.lg_selx.proofs.MemoryEmissions.{loads-emit, stores-emit, arguments-emit, pushes-emit}
+use Rattle.lg_selx.proofs.MemoryEmissions.{loads-emit, stores-emit, arguments-emit, next-arguments-emit, pushes-emit}
 use Rattle.lg_sel.specs.Asked.{NamesBelow, NameBelow}
 use Rattle.lg_selx.proofs.OperandLemmas.{are-below, are-given, are-numbers}
 use Rattle.lg_selx.proofs.SmallLemmas.{items-small}
@@ -54,6 +54,7 @@ families-emit reach = record {
   loads = λ is frame t at n choices. more reach is 1 1 0 (spills choices) (ones (load_code frame t at n)) (omega arith) (omega arith) (loads-emit reach is frame t at n);
   stores = λ is frame t at n choices. more reach is 1 1 1 (spills choices + 1) (ones (store_code frame t at n)) (omega arith) (omega arith) (stores-emit reach is frame t at n);
   arguments = λ is frame t n. arguments-emit reach is frame t n;
+  next_arguments = λ is n. next-arguments-emit reach is n;
   results = λ is frame t n choices h. values-emit reach is frame n choices h;
   pushes = λ is frame j n h. pushes-emit reach is frame j n h;
   controls = controls-emit reach;
@@ -93,6 +94,7 @@ families-fit reach labels = record {
   loads = λ frame n t at live set choices sized e are words. record { instrs = (memory-items-fit.loads frame t at n (frame-small frame sized) words).appendable.fit; names = memory-items-name.loads labels frame t at n };
   stores = λ frame n t at live set choices sized e are words. record { instrs = (memory-items-fit.stores frame t at n (frame-small frame sized) words).appendable.fit; names = memory-items-name.stores labels frame t at n };
   arguments = λ frame n t sized. record { instrs = (memory-items-fit.arguments frame t n (frame-small frame sized)).appendable.fit; names = memory-items-name.arguments labels frame t n };
+  next_arguments = λ n. record { instrs = (memory-items-fit.next_arguments n).appendable.fit; names = memory-items-name.next_arguments labels n };
   results = λ frame n t live set choices sized e formed are named words. values reach labels frame n live set choices sized are named words;
   pushes = λ frame n j sized few named word. record {
     instrs = (memory-items-fit.pushes frame j n (frame-small frame sized) few (λ v e. word-is (operand_at n 0) v e word)).appendable.fit;
@@ -122,6 +124,7 @@ families-stay reach = record {
   loads = λ frame t at n live set choices e are. memory-items-stay.loads frame t at n;
   stores = λ frame t at n live set choices e are. memory-items-stay.stores frame t at n;
   arguments = λ frame t n. memory-items-stay.arguments frame t n;
+  next_arguments = λ n. memory-items-stay.next_arguments n;
   results = λ frame t n live set choices are. value-items-stay frame n live set choices are;
   pushes = λ frame j n. memory-items-stay.pushes frame j n;
   controls = λ n frame place. control-items-stay reach n frame place;

@@ -1,10 +1,10 @@
 -- Each node is carried by its items.
-use Rattle.std.proofs.Common.{◌≡◌, ℕ, ◌+◌, ◌<◌, Bool, true, false, List, [], ◌∷◌, refl, sym, ap, subst, ◌∙◌, arith}
+use Rattle.std.proofs.Common.{◌≡◌, ℕ, ◌+◌, ◌<◌, Bool, true, false, List, [], refl, sym, ap, subst, ◌∙◌, arith}
 use Rattle.std.specs.Prelude.{slice_get, slice_index}
 use Rattle.std.specs.List.{list_any}
 use Rattle.lg_base.specs.Layout.{code_base}
 use Rattle.lg_base.specs.declared.target.Target.TheVariants.{X86_64}
-use Rattle.lg_op.specs.Forms.{forms_of, admit}
+use Rattle.lg_op.specs.Forms.{forms_of}
 use Rattle.lg_op.specs.declared.node.Node.{Node}
 use Rattle.lg_op.specs.declared.op.Op.{Op}
 use Rattle.lg_op.specs.declared.op.Op.TheVariants as op
@@ -15,17 +15,13 @@ use Rattle.lg_op.specs.declared.op.LastOperand.TheVariants as last_operand
 use Rattle.lg_op.specs.declared.op.Addressing.{Addressing}
 use Rattle.lg_op.specs.declared.op.StoreType.{StoreType}
 use Rattle.lg_op.specs.declared.op.ValueType.{ValueType}
-use Rattle.lg_op.specs.declared.operand.Operand.{Operand}
-use Rattle.lg_op.specs.declared.operand.Operand.TheVariants as operand
 use Rattle.lg_op.specs.declared.operand.Reg.{Reg}
 use Rattle.lg_carry.specs.Carries.{leaps, leaps_at}
 use Rattle.lg_carry.specs.FinalNodes.{Code}
 use Rattle.lg_carry.specs.NodeCode.{numbered, CarriesNode}
 use Rattle.lg_node.specs.Preparations.{pushed}
 use Rattle.lg_carry_x86.specs.Places.{IsInCode}
-use Rattle.lg_carry.specs.Passages.{IsNodeCode}
-use Rattle.lg_carry_x86.specs.X86Rows.{x86_processor, x86_rows}
-use Rattle.lg_x86.specs.Spelling.{IsInstr}
+use Rattle.lg_carry_x86.specs.X86Rows.{x86_processor}
 use Rattle.lg_x86.specs.declared.instruction.Instr.{Instr}
 use Rattle.lg_sel.proofs.CountLemmas.{count-is}
 use Rattle.lg_sel.proofs.FamilyLemmas.{HoldsOfFamilies, of-node}
@@ -37,7 +33,6 @@ use Rattle.lg_selx.specs.Items.{x86_families, node_items}
 use Rattle.lg_sel.specs.Selected.{IsFrame, is_pusharg, may_take_label, IsNodeOf}
 use Rattle.lg_selx.specs.Selected.{IsAsked}
 use Rattle.lg_sel.proofs.NodeFitLemmas.{few-staged}
-use Rattle.lg_meaning.specs.Steps.{operand_at}
 use Rattle.lg_selx.proofs.OperandLemmas.{are-given, are-numbers, are-unlabelled, are-words, are-control-words}
 use Rattle.lg_selx.proofs.PlaceLemmas.{control-items-at}
 use Rattle.lg_selx_control.specs.ControlFits.{AreEmitted}
@@ -55,6 +50,7 @@ use Rattle.lg_selx_items.proofs.NodeLemmas.{items-are-node-code, items-are-in-co
 use Rattle.lg_selx_memory.specs.Accesses.{load_code, store_code}
 use Rattle.lg_selx_memory.specs.ArgumentCode.{argument_code}
 use Rattle.lg_selx_memory.specs.PushCode.{push_code}
+use Rattle.lg_selx_memory.specs.VariableArgumentCode.{next_argument_code}
 use Rattle.lg_selx_memory.proofs.FitLemmas.{memory-items-fit}
 use Rattle.lg_selx_memory.proofs.MemoryNodeLemmas.{memory-is-carried}
 use Rattle.lg_selx_values.specs.Needs.{value_needs}
@@ -94,6 +90,7 @@ value-computes (op.Binary o last) is = refl
 value-computes (op.Wide o last) is = refl
 value-computes (op.Unary o) is = refl
 value-computes (op.Plain plain.Movi) is = refl
+value-computes (op.Plain plain.VaStart) is = refl
 value-computes o is = cc
 
 value-stays : (o : Op) → is_value o ≡ true → leaps o ≡ false
@@ -101,6 +98,7 @@ value-stays (op.Binary o last) is = refl
 value-stays (op.Wide o last) is = refl
 value-stays (op.Unary o) is = refl
 value-stays (op.Plain plain.Movi) is = refl
+value-stays (op.Plain plain.VaStart) is = refl
 value-stays o is = cc
 
 -- where one takes no label, no operand may be one
@@ -109,6 +107,7 @@ value-may (op.Binary o last) is t = refl
 value-may (op.Wide o last) is t = refl
 value-may (op.Unary o) is t = refl
 value-may (op.Plain plain.Movi) is t = true-false t
+value-may (op.Plain plain.VaStart) is t = refl
 value-may o is t = cc
 
 value-leads : (o : Op) → is_value o ≡ true → takes_label o ≡ false → leads_nowhere (forms_of o) ≡ true
@@ -118,6 +117,7 @@ value-leads (op.Wide o last_operand.Register) is t = refl
 value-leads (op.Wide o last_operand.Immediate) is t = refl
 value-leads (op.Unary o) is t = refl
 value-leads (op.Plain plain.Movi) is t = true-false t
+value-leads (op.Plain plain.VaStart) is t = refl
 value-leads o is t = cc
 
 module _ (reach : Reach) (code : List ℕ) (trash : ℕ) (c : Code) (i frame : ℕ) (sized : IsFrame frame) (live : Reg → Bool) (staged : List Bool) (choices : List Choice) (labels place : ℕ) where
@@ -161,6 +161,11 @@ module _ (reach : Reach) (code : List ℕ) (trash : ℕ) (c : Code) (i frame : �
       (memory-is-carried code trash a.small a.bytes a.word).arguments c i n t frame (numbered live) e k.node.text k.node.frame_is
       (plain-code code trash c i n (argument_code frame t n) k.node.text (ap leaps e) (memory-items-fit.arguments frame t n small).appendable a).block
 
+  next-arguments : (n : Node) → n.op ≡ op.Plain plain.VaArg → Carries n (ones (next_argument_code n))
+  next-arguments n e k a =
+      (memory-is-carried code trash a.small a.bytes a.word).next_arguments c i n frame (numbered live) e k.node.text k.node.frame_is
+      (plain-code code trash c i n (next_argument_code n) k.node.text (ap leaps e) (memory-items-fit.next_arguments n).appendable a).block
+
   pushes : (n : Node) (last : LastOperand) → n.op ≡ op.Control control.Pusharg last → Carries n (push_code frame (staged_count staged) n)
   pushes n last e k a =
       let j = staged_count staged in
@@ -192,6 +197,7 @@ module _ (reach : Reach) (code : List ℕ) (trash : ℕ) (c : Code) (i frame : �
     loads = loads;
     stores = stores;
     arguments = arguments;
+    next_arguments = next-arguments;
     results = λ n t e. values n (ap computes_value e) (ap leaps e) (λ no. ap may_take_label e) (λ no. ap (λ o. leads_nowhere (forms_of o)) e);
     pushes = pushes;
     controls = controls;

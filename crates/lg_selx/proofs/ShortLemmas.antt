@@ -1,5 +1,5 @@
 -- Code that leads back to a label has the shortest form that reaches it.
-use Rattle.std.proofs.Common.{◌≡◌, ℕ, ◌+◌, ◌-◌, ◌≤◌, Bool, true, false, List, [], ◌∷◌, ◌++◌, length, Option, Some, None, refl, sym, ap, ◌∙◌, subst, arith}
+use Rattle.std.proofs.Common.{◌≡◌, ℕ, ◌+◌, ◌-◌, Bool, true, false, List, [], ◌∷◌, ◌++◌, length, Option, Some, None, refl, sym, ap, ◌∙◌, subst, arith}
 use Rattle.std.specs.Prelude.{◌==◌, ◌&&◌, ◌^◌, pos, ◌-ℤ◌, nat_lt, if◌then◌else◌, slice_get, slice_index}
 use Rattle.std.proofs.lemmas.Int.{ints}
 use Rattle.lg_base.specs.HostNames.{host_address}
@@ -47,7 +47,7 @@ use Rattle.lg_selx_control.specs.SumBranches.{sum_row, sum_number, number_sum, b
 use Rattle.lg_selx_control.specs.TwoWays.{jump_if}
 use Rattle.lg_selx_items.proofs.ItemLemmas.{fixes-append, fixes-ones}
 use Rattle.lg_selx_items.proofs.PatchLemmas.{are-holes}
-use Rattle.lg_selx_items.specs.Items.{x86_holes, IsItem, AreItems, settled, fixes_of, blanks, ones}
+use Rattle.lg_selx_items.specs.Items.{x86_holes, IsItem, AreItems, fixes_of, blanks, ones}
 use Rattle.lg_selx_items.specs.declared.items.Item.{Item}
 use Rattle.lg_selx_items.specs.declared.items.Item.TheVariants.{Jump}
 use Rattle.lg_selx_values.specs.Scratch.{again}

@@ -1,5 +1,5 @@
 -- How many bytes items have: an instruction of x86-64 has at most 10.
-use Rattle.std.proofs.Common.{ℕ, ◌+◌, ◌*◌, ◌≤◌, List, [], ◌∷◌, ◌++◌, length, length-append, arith}
+use Rattle.std.proofs.Common.{◌*◌, ◌≤◌, List, [], ◌∷◌, length, length-append, arith}
 use Rattle.lg_selx_items.specs.Items.{blank, words_in, blanks}
 use Rattle.lg_selx_items.specs.declared.items.Item.{Item}
 use Rattle.lg_x86.specs.Spelling.{spelling}

@@ -1,6 +1,6 @@
 -- The items of each node have at most 256 bytes.
-use Rattle.std.proofs.Common.{◌≡◌, ◌⊎◌, ⊎_elim, ℕ, zero, suc, ◌+◌, ◌-◌, ◌*◌, ◌<◌, ◌≤◌, Bool, true, false, List, [], ◌∷◌, ◌++◌, length, refl, sym, ap, subst, arith}
-use Rattle.std.specs.Prelude.{◌==◌, ◌%◌, ◌&&◌, if◌then◌else◌, Option, Some, None}
+use Rattle.std.proofs.Common.{◌≡◌, ◌⊎◌, ⊎_elim, ℕ, zero, suc, ◌<◌, ◌≤◌, Bool, true, false, List, [], ◌∷◌, ◌++◌, length, refl, sym, ap, subst, arith}
+use Rattle.std.specs.Prelude.{◌==◌, ◌&&◌, if◌then◌else◌, Option, Some, None}
 use Rattle.lg_base.specs.HostNames.{host_address}
 use Rattle.lg_base.specs.Words.{signed_view}
 use Rattle.lg_base.specs.declared.target.Target.TheVariants.{X86_64}
@@ -31,15 +31,16 @@ use Rattle.lg_selx.proofs.OperandLemmas.{are-numbers}
 use Rattle.lg_selx.proofs.SizeLemmas.{bytes-few}
 use Rattle.lg_selx.specs.Items.{x86_families, node_items}
 use Rattle.lg_selx.specs.Selected.{needs, IsAsked}
-use Rattle.lg_selx_control.specs.Alignments.{padding, idle, align_code}
+use Rattle.lg_selx_control.specs.Alignments.{padding, idle}
 use Rattle.lg_selx_control.specs.Branches.{comparison, is_difference, lowered, wide_comparison, word_comparison, before_branch}
-use Rattle.lg_selx_control.specs.ControlItems.{branch_if_items, branch_items, sum_items, jump_items, call_items, result_items, ret_items, register_jump_items, register_call_items, leap_items, align_items, plain_items, control_items}
+use Rattle.lg_selx_control.specs.ControlItems.{branch_items, sum_items, jump_items, call_items, result_items, ret_items, register_jump_items, register_call_items, leap_items, align_items, plain_items, control_items}
 use Rattle.lg_selx_control.specs.Prologs.{prolog_code}
 use Rattle.lg_selx_control.specs.Returns.{return_code}
 use Rattle.lg_selx_control.specs.SumBranches.{sum_row, sum_number, number_sum, before_sum_branch}
 use Rattle.lg_selx_items.proofs.ItemLemmas.{words_append, words-ones}
 use Rattle.lg_selx_items.specs.Items.{words_in, blanks, ones}
 use Rattle.lg_selx_items.specs.declared.items.Item.{Item}
+use Rattle.lg_selx_memory.specs.VariableArgumentCode.{next_argument_code}
 use Rattle.lg_selx_memory.proofs.FitLemmas.{memory-items-fit}
 use Rattle.lg_selx_values.proofs.ValueFitLemmas.{value-items-fit}
 use Rattle.lg_selx_values.specs.Scratch.{again}
@@ -212,6 +213,7 @@ module _ (reach : Reach) (frame : ℕ) (sized : IsFrame frame) (live : Reg → B
     loads = λ n t at e k. few-small _ 4 (memory-items-fit.loads frame t at n near (has-words n k.words)).short (omega arith);
     stores = λ n t at e k. few-small _ 4 (memory-items-fit.stores frame t at n near (has-words n k.words)).short (omega arith);
     arguments = λ n t e k. few-small _ 1 (memory-items-fit.arguments frame t n near).short (omega arith);
+    next_arguments = λ n e k. few-small (ones (next_argument_code n)) 8 (memory-items-fit.next_arguments n).short (omega arith);
     results = λ n t e. values-small n;
     pushes = λ n last e k. few-small _ 3 (memory-items-fit.pushes frame (staged_count staged) n near (few-staged n live staged choices labels last k e) (has-words n k.words 0)).short (omega arith);
     controls = λ n is k. control-small reach n.op n.operands frame place k.formed.forms;

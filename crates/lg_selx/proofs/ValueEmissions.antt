@@ -1,5 +1,5 @@
 -- The items of a node that computes values name the labels of its operands, have at most one fix, and store where a temporary is saved.
-use Rattle.std.proofs.Common.{◌≡◌, ℕ, ◌+◌, ◌-◌, ◌<◌, ◌≤◌, Bool, true, false, List, [], ◌∷◌, ◌++◌, refl, arith}
+use Rattle.std.proofs.Common.{ℕ, ◌+◌, Bool, List, [], ◌∷◌, ◌++◌, refl, arith}
 use Rattle.std.specs.Prelude.{⊤}
 use Rattle.lg_base.specs.HostNames.{host_address}
 use Rattle.lg_base.specs.declared.target.Target.TheVariants.{X86_64}
@@ -11,15 +11,13 @@ use Rattle.lg_op.specs.declared.op.PlainOp.TheVariants as plain_op
 use Rattle.lg_op.specs.declared.op.WideOp.{WideOp}
 use Rattle.lg_op.specs.declared.operand.Operand.{Operand}
 use Rattle.lg_op.specs.declared.operand.Operand.TheVariants as operand
-use Rattle.lg_op.specs.declared.operand.Reg.{Reg}
 use Rattle.lg_sel.proofs.LabelLemmas.{Passes, AllPass, passes-at}
 use Rattle.lg_sel_items.specs.declared.reach.Reach.{Reach}
-use Rattle.lg_selx.proofs.Emissions.{Keeps, NoneStores, keep-none, number-keeps, Emits, none, append, more, instructions, plain, number, address}
+use Rattle.lg_selx.proofs.Emissions.{Keeps, keep-none, number-keeps, Emits, none, append, more, instructions, plain, number, address}
 use Rattle.lg_selx_items.proofs.WithinLemmas.{portable}
 use Rattle.lg_selx_items.specs.GoodItems.{Fine}
 use Rattle.lg_selx_items.specs.Items.{ones}
 use Rattle.lg_selx_items.specs.declared.items.Item.{Item}
-use Rattle.lg_selx_items.specs.declared.items.Item.TheVariants.{One}
 use Rattle.lg_selx_values.proofs.RegisterLemmas.{register-portable}
 use Rattle.lg_selx_values.proofs.RowLemmas.{HoldsOfRows, Holds, rax-fine, binary-made, binary-number-made, unary-made, retval-made, wide-made, wide-number-made}
 use Rattle.lg_selx_values.specs.UnaryCode.{unary_code, retval_code}
@@ -87,6 +85,7 @@ module _ (reach : Reach) (is : ℕ → Bool) (frame : ℕ) where
   body (op.Wide o last) xs h = wide-emits o (register_in xs 0) (register_in xs 1) (register_in xs 2) (operand_in xs 3) (fine-at xs 0) (fine-at xs 1) (fine-at xs 2)
   body (op.Unary o) xs h = of 3 (unary_code o (register_in xs 0) (register_in xs 1)) (unary-made frame Keeps (λ v. ⊤) (rows-keep frame) o (register_in xs 0) (register_in xs 1) (fine-at xs 0) (fine-at xs 1).0)
   body (op.Plain plain_op.Movi) xs h = load (register_in xs 0) (operand_in xs 1) (passes-at is xs 1 h)
+  body (op.Plain plain_op.VaStart) xs h = load (register_in xs 0) (operand_in xs 1) (passes-at is xs 1 h)
   body (op.Plain o) xs h = none reach is 1 0
   body (op.Retval t) xs h = of 3 (retval_code t (register_in xs 0)) (retval-made frame Keeps (λ v. ⊤) (rows-keep frame) t (register_in xs 0) (fine-at xs 0))
   body o xs h = none reach is 1 0

@@ -10,6 +10,7 @@ use Rattle.lg_selx_items.specs.Items.{ones}
 use Rattle.lg_selx_memory.specs.Accesses.{load_code, store_code}
 use Rattle.lg_selx_memory.specs.ArgumentCode.{argument_code}
 use Rattle.lg_selx_memory.specs.PushCode.{push_code}
+use Rattle.lg_selx_memory.specs.VariableArgumentCode.{next_argument_code}
 use Rattle.lg_selx_values.specs.ValueItems.{value_items}
 use Rattle.lg_temp.specs.declared.choice.Choice.{Choice}
 
@@ -20,6 +21,7 @@ x86_families reach = record {
   load = λ frame t at n choices. ones (load_code frame t at n);
   store = λ frame t at n choices. ones (store_code frame t at n);
   argument = λ frame t n. ones (argument_code frame t n);
+  next_argument = λ n. ones (next_argument_code n);
   result = λ frame t n choices. value_items frame n choices;
   push = push_code;
   control = control_items reach;

@@ -45,7 +45,7 @@ arguments-do code trash frame t d k q a v named few f place even readable lt =
     let rd = register_of X86_64 d in
     let low : 272 ≤ sp = (let l = f.large in omega (arith, l)) in
     let high : sp ≤ 0x40000000 = (let h = f.high in omega (arith, h)) in
-    makes-does code trash (x86_argument frame t d k) s (with_register w rd (typed t v)) s.bytes (w 5) (spoils x86_scratch [])
+    makes-does code trash (x86_argument frame t d k) s (with_register w rd (typed t v)) s.bytes s.flags (w 5) (spoils x86_scratch [])
     (λ bytes same. record {
       end = bytes;
       makes_it = ap (option_and_then (makes []))

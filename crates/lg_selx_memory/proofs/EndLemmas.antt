@@ -1,5 +1,6 @@
 -- Code that makes a scene, whatever stands in the slots.
 use Rattle.std.proofs.Common.{◌≡◌, ℕ, ◌<◌, Bool, false, List, [], ◌∷◌, ◌++◌, Option, Some, ap, ◌∙◌, arith, length, length-append}
+use Rattle.lg_base.specs.declared.flags.Flags.{Flags}
 use Rattle.lg_x86.specs.Spelling.{spelling}
 use Rattle.lg_x86.specs.declared.instruction.Instr.{Instr}
 use Rattle.lg_x86.proofs.SizeLemmas.{sized}
@@ -14,20 +15,20 @@ use Rattle.lg_carry_x86.proofs.MakingLemmas.{makings-run}
 use Rattle.lg_sel_nodes.specs.Straight.{from_to}
 use Rattle.lg_sel_memory.proofs.BehindLemmas.{no-slots}
 
--- over a memory the code makes these registers and these bytes, but for the slots, and keeps the flags
-pub record Leads (is : List Instr) (s : Seen) (W : ℕ → ℕ) (M : ℕ → Option ℕ) (fp : ℕ) (bytes : ℕ → Option ℕ) : Type 0 where
+-- over a memory the code makes these registers and flags, and these bytes but for the slots
+pub record Leads (is : List Instr) (s : Seen) (W : ℕ → ℕ) (M : ℕ → Option ℕ) (F : Flags) (fp : ℕ) (bytes : ℕ → Option ℕ) : Type 0 where
   pub end : ℕ → Option ℕ
-  pub makes_it : makes is (scene s.registers s.flags bytes) ≡ Some (scene W s.flags end)
+  pub makes_it : makes is (scene s.registers s.flags bytes) ≡ Some (scene W F end)
   pub bytes_are : (a : ℕ) → in_slots fp a ≡ false → end a ≡ M a
 
 -- where it does so over each memory that looks so, it is code that does so
-pub makes-does : (code : List ℕ) (trash : ℕ) (is : List Instr) (s : Seen) (W : ℕ → ℕ) (M : ℕ → Option ℕ) (fp : ℕ) (T : ℕ → Bool)
-    → ((bytes : ℕ → Option ℕ) → ((a : ℕ) → in_slots fp a ≡ false → bytes a ≡ s.bytes a) → Leads is s W M fp bytes)
-    → Does (x86_rows code trash) (from_to s W M s.flags) is fp 0 T
-makes-does code trash is s W M fp T leads q looks room =
+pub makes-does : (code : List ℕ) (trash : ℕ) (is : List Instr) (s : Seen) (W : ℕ → ℕ) (M : ℕ → Option ℕ) (F : Flags) (fp : ℕ) (T : ℕ → Bool)
+    → ((bytes : ℕ → Option ℕ) → ((a : ℕ) → in_slots fp a ≡ false → bytes a ≡ s.bytes a) → Leads is s W M F fp bytes)
+    → Does (x86_rows code trash) (from_to s W M F) is fp 0 T
+makes-does code trash is s W M F fp T leads q looks room =
     let l = leads q.state.bytes looks.has_bytes in
     let same : scene_of q.state ≡ scene s.registers s.flags q.state.bytes = λ j. scene (λ r. looks.has_registers r j) (looks.has_flags j) q.state.bytes in
-    let r = makings-run is q (scene W s.flags l.end) (ap (makes is) same ∙ l.makes_it) looks.runs room.low room.high in
+    let r = makings-run is q (scene W F l.end) (ap (makes is) same ∙ l.makes_it) looks.runs room.low room.high in
     record {
       through = r.through;
       runs = r.runs;

@@ -17,6 +17,10 @@ use Rattle.lg_op.specs.declared.operand.Operand.TheVariants as operand
 use Rattle.lg_x86.specs.Spelling.{IsNumber32}
 use Rattle.lg_x86.specs.declared.instruction.Instr.{Instr}
 use Rattle.lg_x86.specs.declared.instruction.Instr.TheVariants as instr
+use Rattle.lg_x86.specs.declared.instruction.ImmOp.{ImmOp}
+use Rattle.lg_x86.specs.declared.instruction.ImmOp.TheVariants.{Addi, Ori}
+use Rattle.lg_x86.specs.declared.instruction.LoadOp.{LoadOp}
+use Rattle.lg_x86.specs.declared.instruction.LoadOp.TheVariants.{Lea, Ld64}
 use Rattle.lg_x86.specs.declared.instruction.RmRegOp.TheVariants.{Mov}
 use Rattle.lg_x86.specs.declared.instruction.StoreOp.TheVariants.{St64}
 use Rattle.lg_meaning.specs.Steps.{operand_at, stored_operand, slot}
@@ -40,6 +44,7 @@ use Rattle.lg_selx_memory.specs.Accesses.{register, load_row, store_row, Place, 
 use Rattle.lg_selx_memory.specs.ArgumentCode.{argument_offset, argument_load, argument_code}
 use Rattle.lg_selx_memory.specs.MemoryFits.{AreMemoryItems, MemoryItemsFit}
 use Rattle.lg_selx_memory.specs.PushCode.{into, stack_push, onto_stack, push_code}
+use Rattle.lg_selx_memory.specs.VariableArgumentCode.{next_code, next_argument_code}
 
 register-fine : (x : Operand) → Fine (register x)
 register-fine x = ((register-portable (named x)).small, portable (named x))
@@ -135,8 +140,8 @@ address-fine addressing.RegisterImmediate (operand.Label l) y h k = number-word 
 address-fine addressing.RegisterImmediate (operand.Slot s) y h k = number-word (operand.Slot s) h
 
 -- ---- rows
-load-row-good : (t : ValueType) (rd base : ℕ) (disp : ℤ) → Fine rd → base < 16 → IsNumber32 disp → IsGood (instr.Load (load_row t) rd base disp)
-load-row-good t rd base disp h b d = ((h.0, b, d), (h.1, tt), refl)
+load-good : (o : LoadOp) (rd base : ℕ) (disp : ℤ) → Fine rd → base < 16 → IsNumber32 disp → IsGood (instr.Load o rd base disp)
+load-good o rd base disp h b d = ((h.0, b, d), (h.1, tt), refl)
 
 store-row-good : (t : StoreType) (base : ℕ) (disp : ℤ) (from : ℕ) → base < 16 → IsNumber32 disp → from < 16 → IsGood (instr.Store (store_row t) base disp from)
 store-row-good t base disp from b d h = ((b, d, h), tt, refl)
@@ -160,7 +165,7 @@ load-fits : (frame : ℕ) (t : ValueType) (d : ℕ) (at : Address) → frame < 0
 load-fits frame t d at lt fine ok =
     let p = place_of (load_spare d at) at in
     let g = place-good (load_spare d at) at (load-spare-fine d at fine) ok in
-    around-place frame p (instr.Load (load_row t) d p.base p.disp) lt g (load-row-good t d p.base p.disp fine g.base g.disp)
+    around-place frame p (instr.Load (load_row t) d p.base p.disp) lt g (load-good (load_row t) d p.base p.disp fine g.base g.disp)
 
 store-fits : (frame : ℕ) (t : StoreType) (from : ℕ) (at : Address) → frame < 0x40000000 → from < 16 → IsAddress at → IsFitCode 4 (store_from frame t from at)
 store-fits frame t from at lt few ok =
@@ -182,10 +187,38 @@ argument-fits frame t n = by (nat_lt (slot (operand_at n 1)) 16) refl
     by true e =
         let k = slot (operand_at n 1) in
         record {
-          good = (load-row-good t (register (operand_at n 0)) 5 (argument_offset k) (register-fine (operand_at n 0)) (omega arith) (offset-number k (grind (arith, e))), tt);
+          good = (load-good (load_row t) (register (operand_at n 0)) 5 (argument_offset k) (register-fine (operand_at n 0)) (omega arith) (offset-number k (grind (arith, e))), tt);
           few = omega arith;
         }
     by false e = record { good = tt; few = omega arith }
+
+imm-good : (o : ImmOp) (rd n : ℕ) → Fine rd → n < 0x40000000 → IsGood (instr.Imm o rd (pos n))
+imm-good o rd n h few = ((h.0, near-number n few), (h.1, tt), refl)
+
+next-fits : (rd rs : ℕ) → Fine rd → Fine rs → IsFitCode 8 (next_code rd rs)
+next-fits rd rs d s =
+    record {
+      good = (
+        load-good Lea rd rs (negsuc 5) d s.0 (low-number 5 (omega arith)),
+        (
+          ((d.0, omega arith), (d.1, tt), refl),
+          (
+            imm-good Ori rd 1 d (omega arith),
+            (
+              ((d.0, s.0), (d.1, tt), refl),
+              (
+                ((d.0, omega arith), (d.1, tt), refl),
+                (
+                  ((d.0, omega arith), (d.1, tt), refl),
+                  (load-good Ld64 rd rd (negsuc 31) d d.0 (low-number 31 (omega arith)), (imm-good Addi rs 1 s (omega arith), tt)),
+                ),
+              ),
+            ),
+          ),
+        ),
+      );
+      few = omega arith;
+    }
 
 -- ---- items
 -- good ones, of which there are at most so many instructions and so many fixes
@@ -285,5 +318,8 @@ memory-items-fit = record {
       (store-fits frame t (register (operand_at n (stored_operand at))) (address_of at (operand_at n 0) (operand_at n 1)) lt
       (register-fine (operand_at n (stored_operand at))).0 (address-fine at (operand_at n 0) (operand_at n 1) (words 0) (words 1))));
   arguments = λ frame t n lt. are-items 1 0 (ones (argument_code frame t n)) (omega arith) (code-fit 1 (argument_code frame t n) (argument-fits frame t n));
+  next_arguments = λ n.
+      are-items 8 0 (ones (next_argument_code n)) (omega arith)
+      (code-fit 8 (next_argument_code n) (next-fits (register (operand_at n 0)) (register (operand_at n 1)) (register-fine (operand_at n 0)) (register-fine (operand_at n 1))));
   pushes = λ frame j n lt few words. are-items 3 1 (push_code frame j n) (omega arith) (push-fit frame j n lt few words);
 }

@@ -56,7 +56,7 @@ loads-do code trash frame t d at q a v named ok f address end readable lt =
     let p = place_of ts at in
     let h = placed ts w at k.few ok f.seen.words k.free in
     let x = instr.Load (load_row t) rd p.base p.disp in
-    makes-does code trash (x86_load frame t d at) s (with_register w rd (typed t v)) s.bytes (w 5) (spoils x86_scratch [])
+    makes-does code trash (x86_load frame t d at) s (with_register w rd (typed t v)) s.bytes s.flags (w 5) (spoils x86_scratch [])
     (λ bytes same. record {
       end = bytes;
       makes_it = makes-append p.code (x ∷ behind frame p) (scene w s.flags bytes) (scene (put w ts h.word) s.flags bytes)

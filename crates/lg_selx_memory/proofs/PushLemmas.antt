@@ -68,7 +68,7 @@ module _ (code : List ℕ) (trash : ℕ) (q : Run CpuState) where
   -- ---- into a register
   into-does : (to : ℕ → ℕ) (from rd : ℕ) (x : Operand) (v : ℕ) → rd < 16 → IsPassed X86_64 w to x v → Leaves (with_register w rd v) s.bytes (settled to from (into rd x))
   into-does to from rd x v small p =
-      makes-does code trash (settled to from (into rd x)) s (with_register w rd v) s.bytes (w 5) (spoils x86_scratch [])
+      makes-does code trash (settled to from (into rd x)) s (with_register w rd v) s.bytes s.flags (w 5) (spoils x86_scratch [])
       (λ bytes same. record { end = bytes; makes_it = operand-put w s.flags bytes rd small x to from v p; bytes_are = same })
 
   -- ---- into a stack word
@@ -81,7 +81,7 @@ module _ (code : List ℕ) (trash : ℕ) (q : Run CpuState) where
 
     register-does : (r : ℕ) → w r ≡ v → Leaves w (stored s.bytes a 8 v) (instr.Store St64 4 (pos (8 * (j - 6))) r ∷ [])
     register-does r holds =
-        makes-does code trash (instr.Store St64 4 (pos (8 * (j - 6))) r ∷ []) s w (stored s.bytes a 8 v) (w 5) (spoils x86_scratch [])
+        makes-does code trash (instr.Store St64 4 (pos (8 * (j - 6))) r ∷ []) s w (stored s.bytes a 8 v) s.flags (w 5) (spoils x86_scratch [])
         (λ bytes same. record {
           end = stored bytes a 8 v;
           makes_it = ap (option_and_then (makes []))
@@ -96,7 +96,7 @@ module _ (code : List ℕ) (trash : ℕ) (q : Run CpuState) where
         → Leaves w (stored s.bytes a 8 v) (settled to from (into 5 x ++ stack_push j 5 ∷ ones (again frame)))
     through-does to from x p =
         subst (Leaves w (stored s.bytes a 8 v)) (sym (settled-append to from (into 5 x) (stack_push j 5 ∷ ones (again frame))))
-        (makes-does code trash (settled to from (into 5 x) ++ stores) s w (stored s.bytes a 8 v) (w 5) (spoils x86_scratch [])
+        (makes-does code trash (settled to from (into 5 x) ++ stores) s w (stored s.bytes a 8 v) s.flags (w 5) (spoils x86_scratch [])
         (λ bytes same. record {
           end = stored bytes a 8 v;
           makes_it = makes-append (settled to from (into 5 x)) stores (scene w s.flags bytes) (scene (put w 5 v) s.flags bytes)

@@ -48,7 +48,7 @@ stores-do code trash frame t at b q a ok f address end writable off =
     let p = place_of ts at in
     let h = placed ts w at k.few ok f.seen.words k.free in
     let x = instr.Store (store_row t) p.base p.disp rb in
-    makes-does code trash (x86_store frame t at b) s w (stored s.bytes a (store_width t) (w rb)) (w 5) (spoils x86_scratch [])
+    makes-does code trash (x86_store frame t at b) s w (stored s.bytes a (store_width t) (w rb)) s.flags (w 5) (spoils x86_scratch [])
     (λ bytes same. record {
       end = stored bytes a (store_width t) (w rb);
       makes_it = makes-append p.code (x ∷ behind frame p) (scene w s.flags bytes) (scene (put w ts h.word) s.flags bytes)

@@ -28,6 +28,7 @@ use Rattle.lg_selx_memory.specs.Accesses.{register, load_row, store_row, Place, 
 use Rattle.lg_selx_memory.specs.ArgumentCode.{argument_load, argument_code}
 use Rattle.lg_selx_memory.specs.MemoryFits.{MemoryItemsStay, MemoryItemsName}
 use Rattle.lg_selx_memory.specs.PushCode.{into, stack_push, onto_stack, push_code}
+use Rattle.lg_selx_memory.specs.VariableArgumentCode.{next_code, next_argument_code}
 use Rattle.lg_selx_memory.proofs.FitLemmas.{argument-fine}
 
 -- ---- registers
@@ -92,6 +93,9 @@ arguments frame t n = by (nat_lt (slot (operand_at n 1)) 16)
     by true = ((portable (named (operand_at n 0)), tt), tt)
     by false = tt
 
+next : (rd rs : ℕ) → In rd → In rs → Within (next_code rd rs)
+next rd rs d s = ((d, tt), ((d, tt), ((d, tt), ((d, tt), ((d, tt), ((d, tt), ((d, tt), ((s, tt), tt))))))))
+
 puts : (rd : ℕ) (x : Operand) → In rd → StayWithin (into rd x)
 puts rd (operand.Reg r) h = ((h, tt), tt)
 puts rd (operand.Number v) h = (number rd v h, tt)
@@ -125,6 +129,9 @@ memory-items-stay = record {
       stay-ones (store_code frame t at n)
       (stores frame t (register (operand_at n (stored_operand at))) (address_of at (operand_at n 0) (operand_at n 1)));
   arguments = λ frame t n. stay-ones (argument_code frame t n) (arguments frame t n);
+  next_arguments = λ n.
+      stay-ones (next_argument_code n)
+      (next (register (operand_at n 0)) (register (operand_at n 1)) (portable (named (operand_at n 0))) (portable (named (operand_at n 1))));
   pushes = pushes;
 }
 
@@ -159,5 +166,6 @@ memory-items-name = record {
   loads = λ labels frame t at n. names-ones labels (load_code frame t at n);
   stores = λ labels frame t at n. names-ones labels (store_code frame t at n);
   arguments = λ labels frame t n. names-ones labels (argument_code frame t n);
+  next_arguments = λ labels n. names-ones labels (next_argument_code n);
   pushes = passes;
 }

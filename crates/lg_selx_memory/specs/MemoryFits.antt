@@ -14,12 +14,14 @@ use Rattle.lg_selx_items.specs.Items.{words_in, fixes_of, ones, NameLabels, Stay
 use Rattle.lg_selx_memory.specs.Accesses.{load_code, store_code}
 use Rattle.lg_selx_memory.specs.ArgumentCode.{argument_code}
 use Rattle.lg_selx_memory.specs.PushCode.{push_code}
+use Rattle.lg_selx_memory.specs.VariableArgumentCode.{next_argument_code}
 
 -- the registers that the items write: none that is outside of the conventions
 pub record MemoryItemsStay : Type 0 where
   pub loads : (frame : ℕ) (t : ValueType) (at : Addressing) (n : Node) → StayWithin (ones (load_code frame t at n))
   pub stores : (frame : ℕ) (t : StoreType) (at : Addressing) (n : Node) → StayWithin (ones (store_code frame t at n))
   pub arguments : (frame : ℕ) (t : ValueType) (n : Node) → StayWithin (ones (argument_code frame t n))
+  pub next_arguments : (n : Node) → StayWithin (ones (next_argument_code n))
   pub pushes : (frame j : ℕ) (n : Node) → StayWithin (push_code frame j n)
 
 -- the items are in the ranges of their instructions, of which there are at most so many, with at most one fix, and each is followed by the next
@@ -35,6 +37,7 @@ pub record MemoryItemsFit : Type 0 where
   pub stores : (frame : ℕ) (t : StoreType) (at : Addressing) (n : Node) → frame < 0x40000000 → HasWords n
       → AreMemoryItems 4 (ones (store_code frame t at n))
   pub arguments : (frame : ℕ) (t : ValueType) (n : Node) → frame < 0x40000000 → AreMemoryItems 1 (ones (argument_code frame t n))
+  pub next_arguments : (n : Node) → AreMemoryItems 8 (ones (next_argument_code n))
   pub pushes : (frame j : ℕ) (n : Node) → frame < 0x40000000 → j < 16 → ((v : ℕ) → operand_at n 0 ≡ operand.Number v → v < 2 ^ 64)
       → AreMemoryItems 3 (push_code frame j n)
 
@@ -43,5 +46,6 @@ pub record MemoryItemsName : Type 0 where
   pub loads : (labels frame : ℕ) (t : ValueType) (at : Addressing) (n : Node) → NameLabels labels (ones (load_code frame t at n))
   pub stores : (labels frame : ℕ) (t : StoreType) (at : Addressing) (n : Node) → NameLabels labels (ones (store_code frame t at n))
   pub arguments : (labels frame : ℕ) (t : ValueType) (n : Node) → NameLabels labels (ones (argument_code frame t n))
+  pub next_arguments : (labels : ℕ) (n : Node) → NameLabels labels (ones (next_argument_code n))
   pub pushes : (labels frame j : ℕ) (n : Node) → ((l : Label) → operand_at n 0 ≡ operand.Label l → l.0 < labels)
       → NameLabels labels (push_code frame j n)

@@ -7,15 +7,16 @@ ghost use Rattle.lg_selx_items.specs.declared.items.Item.TheVariants as item;
 ghost use Rattle.lg_selx_items.specs.Items.{ones, words_in};
 ghost use Rattle.lg_selx_memory.specs.ArgumentCode.{argument_offset, argument_load, argument_code};
 ghost use Rattle.lg_selx_memory.specs.PushCode.{into, stack_push, onto_stack, push_code};
+ghost use Rattle.lg_selx_memory.specs.VariableArgumentCode.{next_code, next_argument_code};
 
 use crate::accesses::load_row;
 use crate::operands::register;
-use crate::pointers::{FRAME_POINTER, STACK_POINTER, pointer_again};
+use crate::pointers::{FRAME_POINTER, STACK_POINTER, lea, pointer_again};
 use lg_op::{Node, Operand, ValueType};
 use lg_sel_items::Items;
 use lg_sel_memory::operands::{operand, slot};
-use lg_selx_items::{Item, mov, put_number, register_of};
-use lg_x86::{Instr, StoreOp};
+use lg_selx_items::{Item, mov, put_number, register_of, row};
+use lg_x86::{ImmOp, Instr, LoadOp, RegRmOp, RmRegOp, ShiftOp, StoreOp};
 
 // The word of an operand into a register: at most one instruction.
 fn put_into(reg: u8, operand: Operand, items: &mut Items<Item>)
@@ -133,4 +134,58 @@ pub fn put_getarg(t: ValueType, node: &Node, items: &mut Items<Item>)
     if index < 16 {
         items.one(argument_load(t, register(operand(node, 0)), index));
     }
+}
+
+// A register is combined with a number.
+fn imm(op: ImmOp, reg: u8, number: i32) -> Instr
+    ensures { result ≡ Instr.Imm op reg number }
+{
+    Instr::Imm {
+        op,
+        rm: reg,
+        imm: number,
+    }
+}
+
+// A register is shifted by a count.
+fn shift(op: ShiftOp, reg: u8, count: u8) -> Instr
+    ensures { result ≡ Instr.Shift op reg count }
+{
+    Instr::Shift { op, rm: reg, count }
+}
+
+// The argument whose number is in `next` into `reg`, and the number behind it into `next`: the first 6 arguments lie below the address that is 32 bytes
+// below FP, by as many words as the number says, and the others above it.
+fn next_code(reg: u8, next: u8) -> [Instr; 8]
+    ensures { result ≡ next_code reg next }
+{
+    [
+        lea(reg, next, -6),
+        shift(ShiftOp::Sari, reg, 63),
+        imm(ImmOp::Ori, reg, 1),
+        Instr::RegRm {
+            op: RegRmOp::Imul,
+            reg,
+            rm: next,
+        },
+        shift(ShiftOp::Shli, reg, 3),
+        row(RmRegOp::Add, reg, FRAME_POINTER),
+        Instr::Load {
+            op: LoadOp::Ld64,
+            reg,
+            base: reg,
+            disp: -32,
+        },
+        imm(ImmOp::Addi, next, 1),
+    ]
+}
+
+/// Appends the code of a node that reads the next variable argument of its function to no items: 8 instructions.
+pub fn put_next_argument(node: &Node, items: &mut Items<Item>)
+    requires { items.old ≡ [] }
+    ensures { items.new ≡ ones (next_argument_code node.now) }
+{
+    let reg = register(operand(node, 0));
+    let next = register(operand(node, 1));
+    items.all(&next_code(reg, next));
 }

@@ -3,12 +3,12 @@
 ghost use Rattle.lg_selx_memory.specs.MemoryNodes.{MemoryIsCarried};
 ghost use Rattle.lg_selx_memory.specs.MemoryFits.{MemoryItemsFit, MemoryItemsName, MemoryItemsStay};
 
-/// Loads, stores and nodes that read and pass arguments are carried, whatever is live behind them.
+/// Loads, stores and nodes that read and pass arguments, also variable ones, are carried, whatever is live behind them.
 pub fn memory_nodes_are_carried()
     ensures { MemoryIsCarried }
 {}
 
-/// The items are in the ranges of their instructions, of which there are at most 4, and each is followed by the next.
+/// The items are in the ranges of their instructions, of which there are at most 8, and each is followed by the next.
 pub fn memory_items_fit()
     ensures { MemoryItemsFit }
 {}

@@ -8,4 +8,4 @@ mod operands;
 mod pointers;
 
 pub use accesses::{put_load, put_store};
-pub use arguments::{put_argument, put_getarg};
+pub use arguments::{put_argument, put_getarg, put_next_argument};

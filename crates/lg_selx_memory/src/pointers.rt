@@ -13,7 +13,7 @@ pub(crate) const STACK_POINTER: u8 = 4;
 pub(crate) const FRAME_POINTER: u8 = 5;
 
 // A register gets an address.
-fn lea(reg: u8, base: u8, disp: i32) -> Instr
+pub(crate) fn lea(reg: u8, base: u8, disp: i32) -> Instr
     ensures { result ≡ Instr.Load Lea reg base disp }
 {
     Instr::Load {

@@ -23,7 +23,7 @@ use Rattle.lg_temp.specs.Choices.{AreFor}
 use Rattle.lg_carry.specs.FinalNodes.{Code}
 use Rattle.lg_carry.specs.NodeCode.{numbered, CarriesNode}
 use Rattle.lg_carry.specs.TextNodes.{IsInText, IsFrameOf}
-use Rattle.lg_sel_values.specs.ValueNodes.{binary_node, wide_node, unary_node, movi_node, retval_node}
+use Rattle.lg_sel_values.specs.ValueNodes.{binary_node, wide_node, unary_node, movi_node, va_start_node, retval_node}
 use Rattle.lg_x86.specs.declared.instruction.Instr.{Instr}
 use Rattle.lg_carry_x86.specs.Numbers.{number_row}
 use Rattle.lg_carry_x86.specs.Places.{IsInCode}
@@ -42,7 +42,7 @@ use Rattle.lg_selx_values.proofs.GivenLemmas.{is-load, is-given}
 use Rattle.lg_selx_values.proofs.NumberNodeLemmas.{binary-numbers-carry, carried-numbers-carry}
 use Rattle.lg_selx_values.proofs.RegisterNodeLemmas.{binary-registers-carry, carried-registers-carry}
 use Rattle.lg_selx_values.proofs.SettledLemmas.{Settles, settles-ones, settles-saved}
-use Rattle.lg_selx_values.proofs.UnaryLemmas.{unaries-carry, movis-carry, retvals-carry}
+use Rattle.lg_selx_values.proofs.UnaryLemmas.{unaries-carry, movis-carry, va-starts-carry, retvals-carry}
 use Rattle.lg_selx_values.proofs.WideNodeLemmas.{wide-registers-carry, wide-numbers-carry}
 
 -- ---- a node is carried
@@ -78,6 +78,12 @@ movi-carried d x line named immediate code trash c i frame live choices words la
     let l = is-load c.addresses (register_of X86_64 d) x immediate words.1.0 in
     movis-carry code trash c i frame d x l.word line live choices named l.small l.given
     (is-chosen code trash c i frame (movi_node d x line) live choices (number_row (register_of X86_64 d) l.word ∷ []) k l.loads)
+
+pub va-start-carried : (d : Reg) (k line : ℕ) → d ≢ Fp → IsCarried (va_start_node d k line)
+va-start-carried d k line named code trash c i frame live choices words labels h =
+    let body : List Instr = number_row (register_of X86_64 d) k ∷ [] in
+    va-starts-carry code trash c i frame d k line live choices named words.1.0
+    (is-chosen code trash c i frame (va_start_node d k line) live choices body h (settles-ones (slice_index c.addresses) body body refl))
 
 pub retval-carried : (t : ValueType) (d : Reg) (line : ℕ) → d ≢ Fp → IsCarried (retval_node t d line)
 retval-carried t d line named code trash c i frame live choices words labels k =

@@ -4,7 +4,6 @@ pub mod CarriedCodeLemmas
 pub mod ChoiceLemmas
 pub mod EmissionLemmas
 pub mod EndLemmas
-pub mod FormLemmas
 pub mod GivenLemmas
 pub mod ItemNodeLemmas
 pub mod NeedLemmas
@@ -12,7 +11,6 @@ pub mod NodeLemmas
 pub mod NumberLemmas
 pub mod NumberNodeLemmas
 pub mod NumberWordLemmas
-pub mod PairLemmas
 pub mod QuotientLemmas
 pub mod RegisterLemmas
 pub mod RegisterNodeLemmas

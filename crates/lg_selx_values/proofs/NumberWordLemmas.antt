@@ -1,6 +1,6 @@
 -- The code of the operations on a register and a number.
 use Rattle.std.proofs.Common.{◌≡◌, ◌≢◌, ℕ, ◌+◌, ◌-◌, ◌*◌, ◌/◌, ◌%◌, ◌^◌, ◌<◌, Bool, true, false, List, [], ◌∷◌, ◌++◌, Option, Some, refl, sym, ap, subst, ◌∙◌, arith}
-use Rattle.std.specs.Prelude.{◌==◌, ◌||◌, not, nat_lt, if◌then◌else◌, bit_and, bit_or, bit_xor}
+use Rattle.std.specs.Prelude.{◌==◌, ◌||◌, not, if◌then◌else◌, bit_and, bit_or, bit_xor}
 use Rattle.std.specs.Option.{option_and_then}
 use Rattle.lg_base.specs.Words.{add_words, sub_words, mul_words, negated, signed_view, word_of_test, quotient, remainder, quotient_signed, remainder_signed, shifted_left, shifted_right, shifted_right_signed}
 use Rattle.lg_base.specs.Wide.{zero_part_of, quotient_wide, quotient_wide_signed}

@@ -1,5 +1,5 @@
 -- The items of a node are spelled in at most 10 bytes each.
-use Rattle.std.proofs.Common.{ℕ, ◌+◌, ◌-◌, ◌*◌, ◌≤◌, List, [], ◌∷◌, ◌++◌, length, length-append, arith}
+use Rattle.std.proofs.Common.{ℕ, ◌-◌, ◌*◌, ◌≤◌, List, [], ◌∷◌, length, length-append, arith}
 use Rattle.std.specs.Prelude.{⊤, pos}
 use Rattle.lg_base.specs.Words.{signed_view}
 use Rattle.lg_x86.specs.Spelling.{spelling}

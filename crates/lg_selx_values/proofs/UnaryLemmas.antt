@@ -26,15 +26,15 @@ use Rattle.lg_carry.specs.Registers.{HoldsCarry}
 use Rattle.lg_sel_values.specs.Computers.{Held, all_compute, computed}
 use Rattle.lg_sel_values.specs.Values.{ComputesInto, KeepsCarry}
 use Rattle.lg_sel_values.proofs.ComputationLemmas.{computing-computes}
-use Rattle.lg_sel_values.proofs.OneWordLemmas.{unary-nodes-compute, movi-nodes-compute, retval-nodes-compute}
+use Rattle.lg_sel_values.proofs.OneWordLemmas.{unary-nodes-compute, movi-nodes-compute, va-start-nodes-compute, retval-nodes-compute}
 use Rattle.lg_carry_x86.specs.Numbers.{number_row}
 use Rattle.lg_carry_x86.specs.X86Computers.{x86_scratch, computes, bare, held_of, held_by, x86_computer}
 use Rattle.lg_carry_x86.proofs.ComputerLemmas.{is-computer}
 use Rattle.lg_carry_x86.proofs.NumberCodeLemmas.{row-loads}
-use Rattle.lg_selx_values.specs.RegisterNodes.{UnariesCarry, MovisCarry, RetvalsCarry}
+use Rattle.lg_selx_values.specs.RegisterNodes.{UnariesCarry, MovisCarry, VaStartsCarry, RetvalsCarry}
 use Rattle.lg_selx_values.specs.Scratch.{moved}
 use Rattle.lg_selx_values.specs.UnaryCode.{unary_code, retval_code}
-use Rattle.lg_sel_values.specs.ValueNodes.{unary_node, movi_node, retval_node}
+use Rattle.lg_sel_values.specs.ValueNodes.{unary_node, movi_node, va_start_node, retval_node}
 use Rattle.lg_selx_values.proofs.NodeLemmas.{some-spelled}
 use Rattle.lg_selx_values.proofs.RegisterLemmas.{put-same, put-other, put-twice, put-own, equal, register-portable}
 use Rattle.lg_selx_values.proofs.RegisterNodeLemmas.{straight-carries}
@@ -164,6 +164,19 @@ movis-carry code trash c i frame d x v line live choices named small given k =
     (into code trash d choices body (λ w. v) record { computes_all = ap (λ b. b && true) l.computes_it; some = omega arith } (λ w. ap (λ z. z.registers) (is w)))
     (carry-kept code trash body (λ w. ap (λ z. z.flags) (is w)))
     (λ w. ap (λ z. z.registers rd) (is w) ∙ put-same w.registers rd v)))
+
+pub va-starts-carry : VaStartsCarry
+va-starts-carry code trash c i frame d k line live choices named small chosen =
+    let rd = register_of X86_64 d in
+    let body = number_row rd k ∷ [] in
+    let n = va_start_node d k line in
+    let l = row-loads rd k (register-portable d).small small in
+    let is : (w : Held) → by-all body w ≡ with (put w.registers rd k) w = λ w. ap (held_of w) (l.value (bare w)) in
+    straight-carries code trash c i frame n live choices body refl refl no-need (omega arith) chosen
+    (computing-computes (x86_computer code trash) (is-computer code trash) x86_scratch c i n frame choices body
+    (va-start-nodes-compute (x86_computer code trash) x86_scratch c i d k line choices body named chosen.in_text
+    (into code trash d choices body (λ w. k) record { computes_all = ap (λ b. b && true) l.computes_it; some = omega arith } (λ w. ap (λ z. z.registers) (is w)))
+    (λ w. ap (λ z. z.registers rd) (is w) ∙ put-same w.registers rd k)))
 
 retval-computed : (t : ValueType) (d : ℕ) (w : Held) → (by-all (retval_code t d) w).registers ≡ put w.registers d (typed t (w.registers 0))
 retval-computed value_type.Char d w = refl

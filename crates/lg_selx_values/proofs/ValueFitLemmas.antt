@@ -107,6 +107,7 @@ module _ (frame : ℕ) (Q : Item → Type 0) (S : ℕ → Type 0) (h : HoldsOfRo
   body-are (op.Wide o last) xs s = wide-are o (register_in xs 0) (register_in xs 1) (register_in xs 2) (operand_in xs 3) (fine-at xs 0) (fine-at xs 1) (fine-at xs 2) (s 3)
   body-are (op.Unary o) xs s = of 3 (unary_code o (register_in xs 0) (register_in xs 1)) (omega arith) (unary-made frame P S h o (register_in xs 0) (register_in xs 1) (fine-at xs 0) (fine-at xs 1).0)
   body-are (op.Plain plain.Movi) xs s = load-are (register_in xs 0) (operand_in xs 1) (fine-at xs 0) (s 1)
+  body-are (op.Plain plain.VaStart) xs s = load-are (register_in xs 0) (operand_in xs 1) (fine-at xs 0) (s 1)
   body-are (op.Plain o) xs s = none
   body-are (op.Retval t) xs s = of 3 (retval_code t (register_in xs 0)) (omega arith) (retval-made frame P S h t (register_in xs 0) (fine-at xs 0))
   body-are o xs s = none
@@ -257,6 +258,7 @@ body-names labels frame (op.Binary o last) xs h = binary-names labels o frame (r
 body-names labels frame (op.Wide o last) xs h = wide-names labels o frame (register_in xs 0) (register_in xs 1) (register_in xs 2) (operand_in xs 3)
 body-names labels frame (op.Unary o) xs h = names-ones labels (unary_code o (register_in xs 0) (register_in xs 1))
 body-names labels frame (op.Plain plain.Movi) xs h = load-names labels (register_in xs 0) (operand_in xs 1) (operand-below labels xs 1 h)
+body-names labels frame (op.Plain plain.VaStart) xs h = load-names labels (register_in xs 0) (operand_in xs 1) (operand-below labels xs 1 h)
 body-names labels frame (op.Plain o) xs h = tt
 body-names labels frame (op.Retval t) xs h = names-ones labels (retval_code t (register_in xs 0))
 body-names labels frame o xs h = tt

@@ -37,7 +37,7 @@ use Rattle.lg_selx_values.specs.WideCode.{wide_code, wide_number_code}
 use Rattle.lg_selx_values.specs.Words.{MakesPair}
 use Rattle.lg_selx_values.proofs.NeedLemmas.{named-apart, same-register}
 use Rattle.lg_selx_values.proofs.NodeLemmas.{holding, in-frame, some-spelled}
-use Rattle.lg_selx_values.proofs.PairLemmas.{registers-apart, or-left, or-right, holds-two, writes-first, writes-second}
+use Rattle.lg_sel_values.proofs.TwoResultLemmas.{registers-apart, or-left, or-right, holds-two, writes-first, writes-second}
 use Rattle.lg_selx_values.proofs.RegisterLemmas.{register-portable, register-not-frame}
 use Rattle.lg_selx_values.proofs.RegisterNodeLemmas.{two-named, chosen-carries}
 use Rattle.lg_selx_values.proofs.WideCodeLemmas.{some-same, wide-pairs-are-made}

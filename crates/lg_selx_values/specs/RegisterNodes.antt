@@ -23,7 +23,7 @@ use Rattle.lg_carry.specs.FinalNodes.{Code}
 use Rattle.lg_carry.specs.NodeCode.{numbered, CarriesNode}
 use Rattle.lg_carry.specs.Spills.{wrapped}
 use Rattle.lg_carry.specs.TextNodes.{IsInText, IsFrameOf}
-use Rattle.lg_sel_values.specs.ValueNodes.{binary_node, wide_node, unary_node, movi_node, retval_node}
+use Rattle.lg_sel_values.specs.ValueNodes.{binary_node, wide_node, unary_node, movi_node, va_start_node, retval_node}
 use Rattle.lg_x86.specs.declared.instruction.Instr.{Instr}
 use Rattle.lg_carry_x86.specs.Numbers.{number_row}
 use Rattle.lg_carry_x86.specs.Places.{IsInCode}
@@ -86,6 +86,12 @@ MovisCarry =
     → ((s : State) → value c.addresses s x ≡ Some v)
     → IsChosen code trash c i frame (movi_node d x line) live choices (number_row (register_of X86_64 d) v ∷ [])
     → CarriesNode (x86_processor code trash) c i (movi_node d x line) (numbered live)
+
+abbrev pub VaStartsCarry : Type 0
+VaStartsCarry =
+    (code : List ℕ) (trash : ℕ) (c : Code) (i frame : ℕ) (d : Reg) (k line : ℕ) (live : Reg → Bool) (choices : List Choice) → d ≢ Fp → k < 2 ^ 64
+    → IsChosen code trash c i frame (va_start_node d k line) live choices (number_row (register_of X86_64 d) k ∷ [])
+    → CarriesNode (x86_processor code trash) c i (va_start_node d k line) (numbered live)
 
 abbrev pub RetvalsCarry : Type 0
 RetvalsCarry =

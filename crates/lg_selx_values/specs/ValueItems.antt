@@ -34,6 +34,7 @@ computes_value (op.Binary o last) = true
 computes_value (op.Wide o last) = true
 computes_value (op.Unary o) = true
 computes_value (op.Plain plain.Movi) = true
+computes_value (op.Plain plain.VaStart) = true
 computes_value (op.Retval t) = true
 computes_value o = false
 
@@ -83,6 +84,7 @@ body_items frame (op.Binary o last) xs = binary_items o frame (register_in xs 0)
 body_items frame (op.Wide o last) xs = wide_items o frame (register_in xs 0) (register_in xs 1) (register_in xs 2) (operand_in xs 3)
 body_items frame (op.Unary o) xs = ones (unary_code o (register_in xs 0) (register_in xs 1))
 body_items frame (op.Plain plain.Movi) xs = load_items (register_in xs 0) (operand_in xs 1)
+body_items frame (op.Plain plain.VaStart) xs = load_items (register_in xs 0) (operand_in xs 1)
 body_items frame (op.Retval t) xs = ones (retval_code t (register_in xs 0))
 body_items frame o xs = []
 

@@ -3,7 +3,8 @@
 ghost use Rattle.lg_selx_values.specs.NumberLaws.{NumberRowsAreMade};
 ghost use Rattle.lg_selx_values.specs.NumberWords.{NumbersAreMade, WideNumbersAreMade};
 ghost use Rattle.lg_selx_values.specs.RegisterNodes.{BinaryRegistersCarry, CarriedRegistersCarry, WideRegistersCarry};
-ghost use Rattle.lg_selx_values.specs.RegisterNodes.{BinaryNumbersCarry, CarriedNumbersCarry, WideNumbersCarry, UnariesCarry, MovisCarry, RetvalsCarry};
+ghost use Rattle.lg_selx_values.specs.RegisterNodes.{BinaryNumbersCarry, CarriedNumbersCarry, WideNumbersCarry, UnariesCarry, MovisCarry, VaStartsCarry};
+ghost use Rattle.lg_selx_values.specs.RegisterNodes.{RetvalsCarry};
 ghost use Rattle.lg_selx_values.specs.ValueFits.{ChoicesHaveSlots, ValueItemsFit, ValueItemsName, ValueItemsStay};
 ghost use Rattle.lg_selx_values.specs.ValueLaws.{ValueNodesCarry};
 ghost use Rattle.lg_selx_values.specs.WordLaws.{BinariesAreMade, CarriedAreMade, WidePairsAreMade};
@@ -41,6 +42,11 @@ pub fn unaries_are_carried()
 /// So is one that takes a word of the text: a number, or the address of a host function.
 pub fn movis_are_carried()
     ensures { MovisCarry }
+{}
+
+/// So is one that begins a list of variable arguments.
+pub fn va_starts_are_carried()
+    ensures { VaStartsCarry }
 {}
 
 /// So is one that takes the result of a call.

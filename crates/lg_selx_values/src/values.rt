@@ -134,7 +134,7 @@ fn body_items(frame: u32, op: Op, operands: &[Operand], items: &mut Items<Item>)
         Op::Binary(o, _) => binary_items(o, frame, d, register_for(y), z, items),
         Op::Wide(o, _) => wide_items(o, frame, d, register_for(y), register_for(z), last, items),
         Op::Unary(o) => unary_code(o, d, register_for(y), items),
-        Op::Plain(PlainOp::Movi) => load_items(d, y, items),
+        Op::Plain(PlainOp::Movi | PlainOp::VaStart) => load_items(d, y, items),
         Op::Retval(value) => retval_code(value, d, items),
         _ => {}
     }

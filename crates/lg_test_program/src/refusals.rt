@@ -171,8 +171,12 @@ const CHECKS: &[u8] = b"2: refused 9 FunctionOpen\x1fprolog jmpi x\nprolog x: re
         1: refused 20 NoCode\x1f.align 8\x1e\
         1: refused 10 TargetOutside\x1fjmpi x x:\x1e\
         1: refused 20 NoCode\x1f\n\n.data 8\x1e\
-        2: refused 11 BadCall\x1fprolog\nellipsis epilog\x1e\
-        1: refused 2 UnknownName\x1fprolog va_start %r0 epilog\x1e\
+        2: refused 11 BadCall\x1fprolog ellipsis\nellipsis epilog\x1e\
+        2: refused 11 BadCall\x1fprolog ellipsis\narg $a epilog\x1e\
+        1: refused 11 BadCall\x1fprolog va_start %r0 epilog\x1e\
+        2: refused 11 BadCall\x1fprolog ellipsis epilog\nprolog va_start %r0 epilog\x1e\
+        2: refused 4 BadOperand\x1fprolog ellipsis\nva_arg %r0 %r0 epilog\x1e\
+        1: refused 3 FloatRefused\x1fprolog ellipsis va_start %r0 va_arg_d %f0 %r0 epilog\x1e\
         2: refused 12 TooManyArgs\x1fprolog arg $a arg $b arg $c arg $d arg $e arg $f arg $g arg $h arg $i arg $j arg $k arg $l arg $m arg $n arg $o arg $p\narg $q epilog\x1e\
         2: refused 12 TooManyArgs\x1fprolog prepare pushargi 1 pushargi 2 pushargi 3 pushargi 4 pushargi 5 pushargi 6 pushargi 7 pushargi 8 pushargi 9 pushargi 10 pushargi 11 pushargi 12 pushargi 13 pushargi 14 pushargi 15 pushargi 16\npushargi 17 finishi @puts epilog";
 
@@ -184,6 +188,7 @@ const RIGHT: &[u8] = b"prolog movi %r0 ret ret: ret epilog\x1e\
         prolog prepare arg $a addi %r0 %r0 1 retval %r0 .align 4 finishi @puts epilog\x1e\
         prolog x: prepare finishi @puts epilog\x1e\
         .data 8 d: .code prolog addi %r0 %r0 d epilog\x1e\
+        prolog ellipsis va_start %v0 va_end %v0 epilog\x1e\
         prolog allocai 65536 $x epilog";
 
 // Where a row's text begins, behind the byte 1F.

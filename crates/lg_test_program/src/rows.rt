@@ -17,6 +17,7 @@ const ROWS: &[u8] =
         .data 32 fmt: .c \"%d %d %d %d %d %d %d %d\\n\" .code prolog prepare pushargi fmt ellipsis pushargi 1 pushargi 2 pushargi 3 pushargi 4 pushargi 5 pushargi 6 pushargi 7 pushargi 8 finishi @printf ret epilog\x1f1 2 3 4 5 6 7 8\n\x1e\
         .data 16384 fmt: .c \"%ld %ld\\n\" .align 4096 .size 4096 mid: .size 4097 .code prolog movi %v0 mid movi %r1 0x80 stxi_c 2047 %v0 %r1 ldxi_c %v1 %v0 2047 ldxi_uc %v2 %v0 2047 prepare pushargi fmt ellipsis pushargr %v1 pushargr %v2 finishi @printf  movi %r1 0x80 stxi_c 2048 %v0 %r1 ldxi_c %v1 %v0 2048 ldxi_uc %v2 %v0 2048 prepare pushargi fmt ellipsis pushargr %v1 pushargr %v2 finishi @printf  movi %r1 0x80 stxi_c -2048 %v0 %r1 ldxi_c %v1 %v0 -2048 ldxi_uc %v2 %v0 -2048 prepare pushargi fmt ellipsis pushargr %v1 pushargr %v2 finishi @printf  movi %r1 0x80 stxi_c -2049 %v0 %r1 ldxi_c %v1 %v0 -2049 ldxi_uc %v2 %v0 -2049 prepare pushargi fmt ellipsis pushargr %v1 pushargr %v2 finishi @printf  movi %r1 0x80 stxi_c 4095 %v0 %r1 ldxi_c %v1 %v0 4095 ldxi_uc %v2 %v0 4095 prepare pushargi fmt ellipsis pushargr %v1 pushargr %v2 finishi @printf  movi %r1 0x80 stxi_c 4096 %v0 %r1 ldxi_c %v1 %v0 4096 ldxi_uc %v2 %v0 4096 prepare pushargi fmt ellipsis pushargr %v1 pushargr %v2 finishi @printf  ret epilog\x1f-128 128\n-128 128\n-128 128\n-128 128\n-128 128\n-128 128\n\x1e\
         .data 16 fmt: .c \"%ld %ld %ld\\n\" .code prolog prepare pushargi fmt ellipsis pushargi $(1 << 4 | 3) pushargi $(-7 / 2) pushargi $(0xffffffffffffffff) finishi @printf ret epilog\x1f19 -3 -1\n\x1e\
+        .data 16\nfmt: .c \"%ld\\n\"\n.code\njmpi main\nsum:\nprolog\narg $n\nellipsis\ngetarg %v0 $n\nva_start %v1\nmovi %v2 0\nmore:\nblei done %v0 0\nva_arg %r0 %v1\naddr %v2 %v2 %r0\nsubi %v0 %v0 1\njmpi more\ndone:\nva_end %v1\nretr %v2\nepilog\nmain:\nprolog\nprepare pushargi 10 ellipsis pushargi 1 pushargi 2 pushargi 3 pushargi 4 pushargi 5 pushargi 6 pushargi 7 pushargi 8 pushargi 9 pushargi 10 finishi sum\nretval %r0\nprepare pushargi fmt ellipsis pushargr %r0 finishi @printf\nret\nepilog\x1f55\n\x1e\
         .data 40 fmt: .c \"[%5d|%-5d|%05d|%hhd|%x|%c|%%]\\n\" .code prolog prepare pushargi fmt ellipsis pushargi 42 pushargi 42 pushargi -42 pushargi 300 pushargi 255 pushargi 65 finishi @printf ret epilog\x1f[   42|42   |-0042|44|ff|A|%]\n";
 
 // A text that writes this and ends with this status: on each target it does what it means.
@@ -191,6 +192,13 @@ fn undefined_steps(rt: HostRuntime) -> Result<(), Fail> {
     begins(&rt, &on_aarch64(division, b"x", b"", 0))?;
     let fault = b"lightning: fault Divide at 0x10000062 after 25\n";
     check(&rt, &on_x86_64(division, b"x", fault, 126))?;
+    // an argument that was not pushed
+    let sum =
+        b".data 16\nfmt: .c \"%ld\\n\"\n.code\njmpi main\nsum:\nprolog\narg $n\nellipsis\ngetarg %v0 $n\nva_start %v1\nmovi %v2 0\nmore:\nblei done %v0 0\nva_arg %r0 %v1\naddr %v2 %v2 %r0\nsubi %v0 %v0 1\njmpi more\ndone:\nva_end %v1\nretr %v2\nepilog\nmain:\nprolog\nprepare pushargi 11 ellipsis pushargi 1 pushargi 2 pushargi 3 pushargi 4 pushargi 5 pushargi 6 pushargi 7 pushargi 8 pushargi 9 pushargi 10 finishi sum\nretval %r0\nprepare pushargi fmt ellipsis pushargr %r0 finishi @printf\nret\nepilog";
+    check(
+        &rt,
+        &meant(sum, b"", b"lightning: undefined at line 14 after 73\n", 120),
+    )?;
     // a call leaves R0 undefined
     let behind =
         b".code prolog\nmovi %r0 65\nprepare pushargr %r0 finishi @putchar\naddi %r0 %r0 1\nret epilog";

@@ -30,6 +30,11 @@ const ACCEPTED: &str = "accepted\x1f.code prolog ret epilog\x1e\
         accepted\x1fprolog allocai 65529 $a epilog\x1e\
         accepted\x1fprolog arg $a arg $b arg $c arg $d arg $e arg $f arg $g arg $h arg $i arg $j arg $k arg $l arg $m arg $n arg $o arg $p epilog\x1e\
         accepted\x1fprolog arg $a arg $b arg $c arg $d arg $e arg $f arg $g arg $h arg $i arg $j arg $k arg $l arg $m arg $n arg $o arg $p epilog prolog arg $q epilog\x1e\
+        accepted\x1fprolog ellipsis epilog\x1e\
+        accepted\x1fprolog ellipsis epilog prolog arg $x ellipsis epilog\x1e\
+        accepted\x1fprolog ellipsis prepare ellipsis va_start %r0 finishi @puts epilog\x1e\
+        accepted\x1fprolog ellipsis va_start %r0 va_arg %r1 %r0 va_end %r0 epilog\x1e\
+        accepted\x1fprolog va_end %r0 va_arg %r1 %r0 epilog\x1e\
         accepted\x1fprolog prepare pushargi 1 pushargi 2 pushargi 3 pushargi 4 pushargi 5 pushargi 6 pushargi 7 pushargi 8 pushargi 9 pushargi 10 pushargi 11 pushargi 12 pushargi 13 pushargi 14 pushargi 15 pushargr %v0 finishi @puts epilog";
 
 // Targets and labels.
@@ -62,7 +67,13 @@ const CALLS: &str = "BadCall 2\x1f.code prolog prepare\nret epilog\x1e\
         BadCall 2\x1fprolog prepare\nprepare finishi @puts epilog\x1e\
         BadCall 2\x1fprolog prepare\nepilog\x1e\
         BadCall 2\x1fprolog prepare ellipsis\nellipsis finishi @puts epilog\x1e\
-        BadCall 2\x1fprolog\nellipsis epilog\x1e\
+        BadCall 2\x1fprolog ellipsis\nellipsis epilog\x1e\
+        BadCall 2\x1fprolog prepare ellipsis finishi @puts ellipsis\nellipsis epilog\x1e\
+        BadCall 2\x1fprolog ellipsis\narg $x epilog\x1e\
+        BadCall 2\x1fprolog arg $a arg $b arg $c arg $d arg $e arg $f arg $g arg $h arg $i arg $j arg $k arg $l arg $m arg $n arg $o arg $p ellipsis\narg $q epilog\x1e\
+        BadCall 2\x1fprolog\nva_start %r0 ellipsis epilog\x1e\
+        BadCall 2\x1fprolog prepare ellipsis\nva_start %r0 finishi @puts epilog\x1e\
+        BadCall 2\x1fprolog ellipsis epilog prolog\nva_start %r0 epilog\x1e\
         BadCall 2\x1fprolog\npushargi 1 epilog\x1e\
         BadCall 2\x1fprolog\npushargr %r0 epilog\x1e\
         BadCall 2\x1fprolog\nfinishi @puts epilog\x1e\

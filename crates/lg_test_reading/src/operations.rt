@@ -13,7 +13,7 @@ const NAMES: &[u8] =
         bmci boaddr boaddi boaddr_u boaddi_u bosubr bosubi bosubr_u bosubi_u bxaddr bxaddi bxaddr_u \
         bxaddi_u bxsubr bxsubi bxsubr_u bxsubi_u jmpr jmpi callr calli finishr finishi pushargr pushargi \
         retr reti negr comr movr extr_c extr_uc extr_s extr_us extr_i extr_ui htonr_us htonr_ui htonr_ul \
-        movi prepare ellipsis prolog epilog ret arg allocai .align ldr_c ldi_c ldxr_c ldxi_c ldr_uc ldi_uc \
+        movi prepare ellipsis prolog epilog ret arg allocai .align va_start va_arg va_end ldr_c ldi_c ldxr_c ldxi_c ldr_uc ldi_uc \
         ldxr_uc ldxi_uc ldr_s ldi_s ldxr_s ldxi_s ldr_us ldi_us ldxr_us ldxi_us ldr_i ldi_i ldxr_i ldxi_i \
         ldr_ui ldi_ui ldxr_ui ldxi_ui ldr ldi ldxr ldxi str_c sti_c stxr_c stxi_c str_s sti_s stxr_s stxi_s \
         str_i sti_i stxr_i stxi_i str sti stxr stxi retval_c retval_uc retval_s retval_us retval_i \
@@ -30,7 +30,7 @@ fn reads_and_writes_every_name(rt: HostRuntime) {
         );
         count = count.wrapping_add(1);
     }
-    assert_eq!(rt; count, 193);
+    assert_eq!(rt; count, 196);
 }
 
 // Words, and the operations that they name.
@@ -59,6 +59,7 @@ const OPERATIONS: &[(&[u8], Op)] = &[
     (b"htonr_ul", Op::Unary(UnaryOp::HtonrUl)),
     (b"movi", Op::Plain(PlainOp::Movi)),
     (b".align", Op::Plain(PlainOp::Align)),
+    (b"va_arg", Op::Plain(PlainOp::VaArg)),
     (b"ldr", Op::Load(ValueType::Long, Addressing::Register)),
     (b"ldi_l", Op::Load(ValueType::Long, Addressing::Immediate)),
     (

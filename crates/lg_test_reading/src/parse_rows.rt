@@ -17,7 +17,7 @@ const NAMES: &str =
         bmci boaddr boaddi boaddr_u boaddi_u bosubr bosubi bosubr_u bosubi_u bxaddr bxaddi bxaddr_u \
         bxaddi_u bxsubr bxsubi bxsubr_u bxsubi_u jmpr jmpi callr calli finishr finishi pushargr pushargi \
         retr reti negr comr movr extr_c extr_uc extr_s extr_us extr_i extr_ui htonr_us htonr_ui htonr_ul \
-        movi prepare ellipsis prolog epilog ret arg allocai .align ldr_c ldi_c ldxr_c ldxi_c ldr_uc ldi_uc \
+        movi prepare ellipsis prolog epilog ret arg allocai .align va_start va_arg va_end ldr_c ldi_c ldxr_c ldxi_c ldr_uc ldi_uc \
         ldxr_uc ldxi_uc ldr_s ldi_s ldxr_s ldxi_s ldr_us ldi_us ldxr_us ldxi_us ldr_i ldi_i ldxr_i ldxi_i \
         ldr_ui ldi_ui ldxr_ui ldxi_ui ldr ldi ldxr ldxi str_c sti_c stxr_c stxi_c str_s sti_s stxr_s stxi_s \
         str_i sti_i stxr_i stxi_i str sti stxr stxi retval_c retval_uc retval_s retval_us retval_i \
@@ -123,6 +123,21 @@ fn numbers_arguments_and_locals(rt: HostRuntime) -> Result<(), Fail> {
     Ok(())
 }
 
+#[test]
+fn numbers_the_first_variable_argument(rt: HostRuntime) -> Result<(), Fail> {
+    let unit = read(
+        rt.alloc(),
+        b"prolog va_start %r0 arg $a arg $b ellipsis va_start %r0\nva_arg %r1 %r0 va_end %r0 prolog va_start %v0",
+    )?;
+    // the number counts the `arg`s since the `prolog`
+    assert_eq!(rt;
+        last_operands(rt.alloc(), &unit.nodes)?.as_str(),
+        "1 none\n1 Number(0)\n1 Slot(0)\n1 Slot(1)\n1 none\n1 Number(2)\n\
+        2 Reg(R0)\n2 Reg(R0)\n2 none\n2 Number(0)\n"
+    );
+    Ok(())
+}
+
 // An operand of a form.
 fn sample(form: Form, place: usize) -> &'static [u8] {
     match form {
@@ -135,6 +150,7 @@ fn sample(form: Form, place: usize) -> &'static [u8] {
         Form::NewLocal => b" $b",
         Form::Size => b" 010",
         Form::Alignment => b" $(1 << 4)",
+        Form::ArgumentCount => b"",
     }
 }
 
@@ -160,7 +176,7 @@ fn reads_every_instruction(rt: HostRuntime) -> Result<(), Fail> {
         }
         index = index.wrapping_add(1);
     }
-    assert_eq!(rt; (index, unit.nodes.len()), (203, 203));
+    assert_eq!(rt; (index, unit.nodes.len()), (206, 206));
     Ok(())
 }
 

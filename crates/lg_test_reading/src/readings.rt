@@ -27,6 +27,7 @@ const READ: &str = "accepted\x1f\x1e\
         accepted\x1f.data 8 x: .code addi %r0 %r1 x movi %r0 @puts calli @puts finishi f\x1e\
         accepted\x1fsti 7 %r0 ldi %r0 'a' stxi $(1+1) %r0 %r1 ldr_l %r0 %fp\x1e\
         accepted\x1farg $a arg $b arg $c arg $d arg $e arg $f arg $g arg $h arg $i arg $j arg $k arg $l arg $m arg $n arg $o arg $p arg $q\x1e\
+        accepted\x1fva_arg %r0 %v0 va_end %fp\x1e\
         accepted\x1fqmulr %r0 %r1 %r0 %r0 qdivi %r0 %v0 %fp 1";
 
 // What is no statement.
@@ -40,6 +41,9 @@ const NO_STATEMENTS: &str = "UnknownName 1\x1fnop\x1e\
         FloatRefused 1\x1f.d\x1e\
         FloatRefused 1\x1f.data 4 .c 1 .f\x1e\
         UnknownName 1\x1f.x_f\x1e\
+        FloatRefused 1\x1fva_arg_d %r0 %r1\x1e\
+        UnknownName 1\x1fva_push %r0\x1e\
+        UnknownName 2\x1fva_start %r0\n1\x1e\
         FloatRefused 1\x1f%f0\x1e\
         UnknownName 1\x1f%f\x1e\
         UnknownName 1\x1f%f1x\x1e\
@@ -63,6 +67,11 @@ const OPERANDS: &str = "BadOperand 3\x1fprolog\nmovr %r0\nepilog\x1e\
         BadOperand 2\x1fprolog\nmovr %r0\n\n\x1e\
         BadOperand 4\x1fprolog\nqmulr\n%r0\n%r0\x1e\
         BadOperand 1\x1fqdivi %r0 %r0 @foo\x1e\
+        BadOperand 2\x1fva_arg %r0\n%r0\x1e\
+        BadOperand 1\x1fva_arg %r0 %fp\x1e\
+        BadOperand 1\x1fva_arg %fp %r0\x1e\
+        BadOperand 1\x1fva_start %fp\x1e\
+        BadOperand 1\x1fva_end 1\x1e\
         BadExpr 1\x1fmovr %r0 $(1/0)\x1e\
         BadOperand 1\x1fmovr %fp %r0\x1e\
         BadOperand 1\x1fboaddr x %fp %r0\x1e\

@@ -9,6 +9,7 @@ use Rattle.lg_lex.specs.declared.token.Token.{Token}
 use Rattle.lg_op.specs.Forms.{forms_of, admits, admit}
 use Rattle.lg_op.specs.Nodes.{InForm, IsApart}
 use Rattle.lg_op.specs.declared.form.Form.{Form}
+use Rattle.lg_op.specs.declared.form.Form.TheVariants.{ArgumentCount, Write}
 use Rattle.lg_op.specs.declared.op.Op.{Op}
 use Rattle.lg_op.specs.declared.op.Op.TheVariants.{Binary, Wide, Branch, BranchSum, Control, Unary, Plain, Load, Store, Retval, Getarg}
 use Rattle.lg_op.specs.declared.op.LastOperand.TheVariants as last_operand
@@ -20,11 +21,12 @@ use Rattle.lg_op.specs.declared.operand.Operand.TheVariants as operand
 use Rattle.lg_node.specs.Nodes.{with_node}
 use Rattle.lg_tst.specs.Operands.{differ, stays_apart}
 use Rattle.lg_tst.specs.Streams.{◌>>=◌}
-use Rattle.lg_tst.specs.Units.{State, wanted, behind, operand_of, noted, operands, most_nodes}
+use Rattle.lg_tst.specs.Names.{FunctionNames}
+use Rattle.lg_tst.specs.Units.{State, all_operands, wanted, behind, operand_of, noted, operands, most_nodes, written_forms}
 use Rattle.lg_tst.specs.Words.{register_word}
 
 -- no operation has more than four operands
-pub few_forms : (op : Op) → length (forms_of op) ≤ 4
+pub few_forms : (op : Op) → length (written_forms op) ≤ 4
 few_forms (Binary op last) = lit≤ tt
 few_forms (Wide op last) = lit≤ tt
 few_forms (Branch op last) = lit≤ tt
@@ -45,6 +47,9 @@ few_forms (Plain plain.Ellipsis) = lit≤ tt
 few_forms (Plain plain.Prolog) = lit≤ tt
 few_forms (Plain plain.Epilog) = lit≤ tt
 few_forms (Plain plain.Ret) = lit≤ tt
+few_forms (Plain plain.VaStart) = lit≤ tt
+few_forms (Plain plain.VaArg) = lit≤ tt
+few_forms (Plain plain.VaEnd) = lit≤ tt
 few_forms (Load t addressing.Register) = lit≤ tt
 few_forms (Load t addressing.Immediate) = lit≤ tt
 few_forms (Load t addressing.RegisterRegister) = lit≤ tt
@@ -91,18 +96,30 @@ apart_more (Branch op last) done x apart e = tt
 apart_more (BranchSum op last) done x apart e = tt
 apart_more (Control op last) done x apart e = tt
 apart_more (Unary op) done x apart e = tt
+apart_more (Plain plain.VaArg) [] x apart e = tt
+apart_more (Plain plain.VaArg) (a ∷ []) x apart e = differ_apart a x e
+apart_more (Plain plain.VaArg) (a ∷ b ∷ more) x apart e = apart
 apart_more (Plain op) done x apart e = tt
 apart_more (Load t at) done x apart e = tt
 apart_more (Store t at) done x apart e = tt
 apart_more (Retval t) done x apart e = tt
 apart_more (Getarg t) done x apart e = tt
 
+-- all operands are in form where those that have tokens are
+all_admitted : (op : Op) (done : List Operand) (names : FunctionNames) → admit (written_forms op) done ≡ true → admit (forms_of op) (all_operands op done names) ≡ true
+all_admitted (Plain plain.VaStart) done names e = admit_more (Write ∷ []) done ArgumentCount (operand.Number names.arguments) e refl
+all_admitted op done names e = e
+
+all_apart : (op : Op) (done : List Operand) (names : FunctionNames) → IsApart op done → IsApart op (all_operands op done names)
+all_apart (Plain plain.VaStart) done names e = tt
+all_apart op done names e = e
+
 -- so many operands of an instruction have been read, and the others decide what all of them give
 pub record IsRead (op : Op) (line i : ℕ) (done : List Operand) (s first : State) : Type 0 where
-  pub whole : operands op line (drop i (forms_of op)) done s ≡ operands op line (forms_of op) [] first
+  pub whole : operands op line (drop i (written_forms op)) done s ≡ operands op line (written_forms op) [] first
   pub room : length s.list.nodes < most_nodes
   pub count : length done ≡ i
-  pub form : admit (take i (forms_of op)) done ≡ true
+  pub form : admit (take i (written_forms op)) done ≡ true
   pub apart : IsApart op done
 
 pub none_read : (op : Op) (line : ℕ) (s : State) → length s.list.nodes < most_nodes → IsRead op line 0 [] s s
@@ -115,6 +132,7 @@ none_read op line s room = record { whole = refl; room = room; count = refl; for
     apart_none (BranchSum op last) = tt
     apart_none (Control op last) = tt
     apart_none (Unary op) = tt
+    apart_none (Plain plain.VaArg) = tt
     apart_none (Plain op) = tt
     apart_none (Load t at) = tt
     apart_none (Store t at) = tt
@@ -122,44 +140,44 @@ none_read op line s room = record { whole = refl; room = room; count = refl; for
     apart_none (Getarg t) = tt
 
 module _ (op : Op) (line i : ℕ) (done : List Operand) (s first : State) (read : IsRead op line i done s first) where
-  module _ (d : Form) (within : i < length (forms_of op)) where
+  module _ (d : Form) (within : i < length (written_forms op)) where
     abbrev form : Form
-    form = get_or (forms_of op) i d
+    form = get_or (written_forms op) i d
 
-    here : operands op line (forms_of op) [] first ≡ operands op line (form ∷ drop (i + 1) (forms_of op)) done s
-    here = sym read.whole ∙ ap (λ fs. operands op line fs done s) (rw add-one (drop-cons (forms_of op) i d within))
+    here : operands op line (written_forms op) [] first ≡ operands op line (form ∷ drop (i + 1) (written_forms op)) done s
+    here = sym read.whole ∙ ap (λ fs. operands op line fs done s) (rw add-one (drop-cons (written_forms op) i d within))
 
     -- no token is there
-    pub not_wanted : (refusal : Refusal) → wanted line s ≡ Err refusal → operands op line (forms_of op) [] first ≡ Err refusal
+    pub not_wanted : (refusal : Refusal) → wanted line s ≡ Err refusal → operands op line (written_forms op) [] first ≡ Err refusal
     unfolding operands
-    not_wanted refusal e = here ∙ ap (λ r. r >>= λ t. operand_of (behind s) op form done t >>= λ x. operands op line (drop (i + 1) (forms_of op)) (done ++ x ∷ []) (noted (behind s) form done t)) e
+    not_wanted refusal e = here ∙ ap (λ r. r >>= λ t. operand_of (behind s) op form done t >>= λ x. operands op line (drop (i + 1) (written_forms op)) (done ++ x ∷ []) (noted (behind s) form done t)) e
 
     module _ (t : Token) (is : wanted line s ≡ Ok t) where
-      there : operands op line (forms_of op) [] first ≡ (operand_of (behind s) op form done t >>= λ x. operands op line (drop (i + 1) (forms_of op)) (done ++ x ∷ []) (noted (behind s) form done t))
+      there : operands op line (written_forms op) [] first ≡ (operand_of (behind s) op form done t >>= λ x. operands op line (drop (i + 1) (written_forms op)) (done ++ x ∷ []) (noted (behind s) form done t))
       unfolding operands
-      there = here ∙ ap (λ r. r >>= λ t. operand_of (behind s) op form done t >>= λ x. operands op line (drop (i + 1) (forms_of op)) (done ++ x ∷ []) (noted (behind s) form done t)) is
+      there = here ∙ ap (λ r. r >>= λ t. operand_of (behind s) op form done t >>= λ x. operands op line (drop (i + 1) (written_forms op)) (done ++ x ∷ []) (noted (behind s) form done t)) is
 
-      not_operand : (refusal : Refusal) → operand_of (behind s) op form done t ≡ Err refusal → operands op line (forms_of op) [] first ≡ Err refusal
-      not_operand refusal e = there ∙ ap (λ r. r >>= λ x. operands op line (drop (i + 1) (forms_of op)) (done ++ x ∷ []) (noted (behind s) form done t)) e
+      not_operand : (refusal : Refusal) → operand_of (behind s) op form done t ≡ Err refusal → operands op line (written_forms op) [] first ≡ Err refusal
+      not_operand refusal e = there ∙ ap (λ r. r >>= λ x. operands op line (drop (i + 1) (written_forms op)) (done ++ x ∷ []) (noted (behind s) form done t)) e
 
       operand_read : (x : Operand) (new : State) → operand_of (behind s) op form done t ≡ Ok x → new ≡ noted (behind s) form done t → admits form x ≡ true → stays_apart op done x ≡ true → length new.list.nodes ≡ length s.list.nodes → IsRead op line (i + 1) (done ++ x ∷ []) new first
       operand_read x new e same admitted apart kept =
           let more = length-append done (x ∷ []) in
           record {
-            whole = ap (λ u. operands op line (drop (i + 1) (forms_of op)) (done ++ x ∷ []) u) same ∙ sym (there ∙ ap (λ r. r >>= λ x. operands op line (drop (i + 1) (forms_of op)) (done ++ x ∷ []) (noted (behind s) form done t)) e);
+            whole = ap (λ u. operands op line (drop (i + 1) (written_forms op)) (done ++ x ∷ []) u) same ∙ sym (there ∙ ap (λ r. r >>= λ x. operands op line (drop (i + 1) (written_forms op)) (done ++ x ∷ []) (noted (behind s) form done t)) e);
             room = omega (arith, kept, read.room);
             count = more ∙ ap (λ n. n + 1) read.count;
-            form = rw (add-one i, take-suc (forms_of op) i d within) (admit_more (take i (forms_of op)) done form x read.form admitted);
+            form = rw (add-one i, take-suc (written_forms op) i d within) (admit_more (take i (written_forms op)) done form x read.form admitted);
             apart = apart_more op done x read.apart apart;
           }
 
       -- the forms, the operands and the state as the code has them
-      module _ (fs : List Form) (ds : List Operand) (mid : State) (as_forms : fs ≡ forms_of op) (as_done : ds ≡ done) (as_state : mid ≡ behind s) where
+      module _ (fs : List Form) (ds : List Operand) (mid : State) (as_forms : fs ≡ written_forms op) (as_done : ds ≡ done) (as_state : mid ≡ behind s) where
         here_is : {A : Type 0} (g : State → Form → List Operand → A) → g mid (get_or fs i d) ds ≡ g (behind s) form done
         here_is g = ap (λ f. g mid (get_or f i d) ds) as_forms ∙ ap (λ x. g mid form x) as_done ∙ ap (λ u. g u form done) as_state
 
         -- the token is no such operand
-        pub no_operand : (refusal : Refusal) → operand_of mid op (get_or fs i d) ds t ≡ Err refusal → operands op line (forms_of op) [] first ≡ Err refusal
+        pub no_operand : (refusal : Refusal) → operand_of mid op (get_or fs i d) ds t ≡ Err refusal → operands op line (written_forms op) [] first ≡ Err refusal
         no_operand refusal e = not_operand refusal (sym (here_is (λ u f x. operand_of u op f x t)) ∙ e)
 
         -- one operand more
@@ -174,9 +192,12 @@ module _ (op : Op) (line i : ℕ) (done : List Operand) (s first : State) (read 
             (kept ∙ ap (λ (u : State). length u.list.nodes) as_state))
 
   -- all are read
-  pub in_form : length (forms_of op) ≤ i → InForm record { op = op; operands = done; line = line }
-  in_form past = record { forms = subst (λ fs. admit fs done ≡ true) (take_all i (forms_of op) past) read.form; apart = read.apart }
+  pub in_form : length (written_forms op) ≤ i → (names : FunctionNames) → InForm record { op = op; operands = all_operands op done names; line = line }
+  in_form past names = record {
+    forms = all_admitted op done names (subst (λ fs. admit fs done ≡ true) (take_all i (written_forms op) past) read.form);
+    apart = all_apart op done names read.apart;
+  }
 
-  pub all_read : length (forms_of op) ≤ i → operands op line (forms_of op) [] first ≡ Ok record s { list = with_node s.list (record { op = op; operands = done; line = line }) }
+  pub all_read : length (written_forms op) ≤ i → operands op line (written_forms op) [] first ≡ Ok record s { list = with_node s.list (record { op = op; operands = all_operands op done s.names; line = line }) }
   unfolding operands
-  all_read past = sym read.whole ∙ ap (λ fs. operands op line fs done s) (drop_all i (forms_of op) past)
+  all_read past = sym read.whole ∙ ap (λ fs. operands op line fs done s) (drop_all i (written_forms op) past)

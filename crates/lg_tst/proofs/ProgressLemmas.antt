@@ -5,7 +5,6 @@ use Rattle.lg_base.specs.declared.refusal.RefusalKind.{RefusalKind}
 use Rattle.lg_lex.specs.declared.token.Token.{Token}
 use Rattle.lg_lex.specs.declared.token.TokenKind.{TokenKind}
 use Rattle.lg_lex.specs.declared.token.TokenKind.TheVariants.{Word, Directive, LabelMark, Register, Number, Character, Expression, Name, Host, Str}
-use Rattle.lg_op.specs.Forms.{forms_of}
 use Rattle.lg_op.specs.declared.form.Form.{Form}
 use Rattle.lg_op.specs.declared.op.Op.{Op}
 use Rattle.lg_op.specs.declared.op.Op.TheVariants.{Binary, Wide, Branch, BranchSum, Control, Unary, Plain, Load, Store, Retval, Getarg}
@@ -15,7 +14,7 @@ use Rattle.lg_node.specs.Nodes.{LabelledNodes}
 use Rattle.lg_tst.specs.DataParts.{fits}
 use Rattle.lg_tst.specs.Statements.{is_value}
 use Rattle.lg_tst.specs.Streams.{◌>>=◌, tail_of}
-use Rattle.lg_tst.specs.Units.{State, token_text, behind, wanted, operand_of, noted_by, noted, operands, begun, instruction, number_wanted, opened, data_section, stored, is_data_alignment, aligned, item, more_values, first_value, values, or_twice, is_word_kind, named, is_string, is_digits, behind_if, skip_if, note, statement_by, statement_from}
+use Rattle.lg_tst.specs.Units.{State, token_text, behind, wanted, operand_of, noted_by, noted, operands, written_forms, begun, instruction, number_wanted, opened, data_section, stored, is_data_alignment, aligned, item, more_values, first_value, values, or_twice, is_word_kind, named, is_string, is_digits, behind_if, skip_if, note, statement_by, statement_from}
 use Rattle.lg_tst.specs.declared.statement.ItemSize.{ItemSize}
 use Rattle.lg_tst.specs.declared.statement.Statement.{Statement}
 use Rattle.lg_tst.specs.declared.statement.Statement.TheVariants as statement
@@ -77,6 +76,9 @@ begun_left (Plain plain.Ret) s = omega arith
 begun_left (Plain plain.Arg) s = omega arith
 begun_left (Plain plain.Allocai) s = omega arith
 begun_left (Plain plain.Align) s = omega arith
+begun_left (Plain plain.VaStart) s = omega arith
+begun_left (Plain plain.VaArg) s = omega arith
+begun_left (Plain plain.VaEnd) s = omega arith
 begun_left (Binary op last) s = omega arith
 begun_left (Wide op last) s = omega arith
 begun_left (Branch op last) s = omega arith
@@ -89,7 +91,7 @@ begun_left (Retval t) s = omega arith
 begun_left (Getarg t) s = omega arith
 
 instruction_leaves : (op : Op) (s : State) (line : ℕ) → Leaves (length s.source.left) (instruction op s line)
-instruction_leaves op s line = cond_leaves _ (nat_lt (length s.list.nodes) 1048576) _ _ (weaker (length (begun op s).source.left) _ _ (begun_left op s) (operands_leave op line (forms_of op) [] (begun op s))) tt
+instruction_leaves op s line = cond_leaves _ (nat_lt (length s.list.nodes) 1048576) _ _ (weaker (length (begun op s).source.left) _ _ (begun_left op s) (operands_leave op line (written_forms op) [] (begun op s))) tt
 
 -- a part of a statement whose other tokens have been taken
 stored_leaves : (line n : ℕ) (bytes : List ℕ) (s : State) → Leaves (length s.source.left) (stored line n bytes s)

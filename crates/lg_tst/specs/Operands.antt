@@ -11,7 +11,8 @@ use Rattle.lg_op.specs.Forms.{admits}
 use Rattle.lg_op.specs.declared.form.Form.{Form}
 use Rattle.lg_op.specs.declared.form.Form.TheVariants.{Immediate, NewArgument, Argument, NewLocal}
 use Rattle.lg_op.specs.declared.op.Op.{Op}
-use Rattle.lg_op.specs.declared.op.Op.TheVariants.{Wide}
+use Rattle.lg_op.specs.declared.op.Op.TheVariants.{Plain, Wide}
+use Rattle.lg_op.specs.declared.op.PlainOp.TheVariants as plain
 use Rattle.lg_op.specs.declared.operand.Reg.{Reg}
 use Rattle.lg_op.specs.declared.operand.Operand.{Operand}
 use Rattle.lg_op.specs.declared.operand.Operand.TheVariants as operand
@@ -71,9 +72,10 @@ abbrev pub differ : Operand → Operand → Bool
 differ (operand.Reg a) (operand.Reg b) = not (bytes_eq (register_word a) (register_word b))
 differ x y = false
 
--- the second result of a product or quotient of two words goes to another register than the first
+-- the second result of a product or quotient of two words, or of `va_arg`, goes to another register than the first
 abbrev pub stays_apart : Op → List Operand → Operand → Bool
 stays_apart (Wide op last) (first ∷ []) x = differ first x
+stays_apart (Plain plain.VaArg) (first ∷ []) x = differ first x
 stays_apart op done x = true
 
 abbrev pub apart_or : Op → List Operand → Result Operand RefusalKind → Result Operand RefusalKind

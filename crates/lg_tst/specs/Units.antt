@@ -11,10 +11,12 @@ use Rattle.lg_lex.specs.declared.token.TokenKind.{TokenKind}
 use Rattle.lg_lex.specs.declared.token.TokenKind.TheVariants.{Word, Number, Name, Str}
 use Rattle.lg_op.specs.Forms.{forms_of}
 use Rattle.lg_op.specs.declared.form.Form.{Form}
+use Rattle.lg_op.specs.declared.form.Form.TheVariants.{Write}
 use Rattle.lg_op.specs.declared.op.Op.{Op}
 use Rattle.lg_op.specs.declared.op.Op.TheVariants.{Plain}
 use Rattle.lg_op.specs.declared.op.PlainOp.TheVariants as plain
 use Rattle.lg_op.specs.declared.operand.Operand.{Operand}
+use Rattle.lg_op.specs.declared.operand.Operand.TheVariants as operand
 use Rattle.lg_node.specs.Nodes.{LabelledNodes, with_node, number_of, mentioned, with_place}
 use Rattle.lg_node.specs.declared.place.Place.{Place}
 use Rattle.lg_node.specs.declared.place.Place.TheVariants as place
@@ -69,9 +71,19 @@ noted_by kind s form done text = s
 abbrev pub noted : State → Form → List Operand → Token → State
 noted s form done t = noted_by t.kind s form done (token_text s t)
 
+-- the operands of which each has its token: `va_start` has a second one, for which none stands
+abbrev pub written_forms : Op → List Form
+written_forms (Plain plain.VaStart) = Write ∷ []
+written_forms op = forms_of op
+
+-- and all of them: that of `va_start` is the number of its function's arguments so far
+abbrev pub all_operands : Op → List Operand → FunctionNames → List Operand
+all_operands (Plain plain.VaStart) done names = done ++ operand.Number names.arguments ∷ []
+all_operands op done names = done
+
 -- the operands that are left of an instruction, each at its token, and then the node
 unfoldable pub operands : Op → ℕ → List Form → List Operand → State → Result State Refusal
-operands op line [] done s = Ok (record s { list = with_node s.list (record { op = op; operands = done; line = line }) })
+operands op line [] done s = Ok (record s { list = with_node s.list (record { op = op; operands = all_operands op done s.names; line = line }) })
 operands op line (form ∷ forms) done s =
     wanted line s >>= λ t.
     operand_of (behind s) op form done t >>= λ x.
@@ -88,7 +100,7 @@ most_nodes = 1048576
 -- an instruction, and `.align N` of code
 abbrev pub instruction : Op → State → ℕ → Result State Refusal
 instruction op s line =
-    if nat_lt (length s.list.nodes) most_nodes then operands op line (forms_of op) [] (begun op s) else refuse TooManyNodes line
+    if nat_lt (length s.list.nodes) most_nodes then operands op line (written_forms op) [] (begun op s) else refuse TooManyNodes line
 
 -- ---- data
 

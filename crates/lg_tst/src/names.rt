@@ -53,6 +53,13 @@ impl Names {
         *self = Names::new(self.alloc);
     }
 
+    /// How many arguments the function has made.
+    pub fn arguments(&self) -> u32
+        ensures { result ≡ self.now.arguments }
+    {
+        self.arguments
+    }
+
     // The operand at a place.
     fn meaning_at(&self, index: usize) -> Operand
         requires { index < length self.now.meanings }

@@ -8,7 +8,7 @@ use crate::words::{behind_mark, is_float_register, register_of, register_word};
 use lg_base::host_name::HostName;
 use lg_base::refusal::RefusalKind;
 use lg_lex::TokenKind;
-use lg_op::{Form, Op, Operand};
+use lg_op::{Form, Op, Operand, PlainOp};
 
 /// An operand, where its place admits it.
 pub fn admitted(form: Form, operand: Operand) -> Result<Operand, RefusalKind>
@@ -79,13 +79,13 @@ fn differ(a: Operand, b: Operand) -> bool
     }
 }
 
-/// Whether an operand may follow these: the second result of a product or quotient of two words goes to another register than
-/// the first.
+/// Whether an operand may follow these: the second result of a product or quotient of two words, or of `va_arg`, goes to another register
+/// than the first.
 pub fn stays_apart(op: Op, done: &[Operand], operand: Operand) -> bool
     ensures { result ≡ stays_apart op done.now operand }
 {
     match (op, done) {
-        (Op::Wide(_, _), [first]) => differ(*first, operand),
+        (Op::Wide(_, _) | Op::Plain(PlainOp::VaArg), [first]) => differ(*first, operand),
         _ => true,
     }
 }

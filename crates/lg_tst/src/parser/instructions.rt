@@ -1,14 +1,14 @@
 // Instructions and their operands.
 
 ghost use Rattle.std.specs.Prelude.{◌≡◌, ◌<◌, [], Ok, true, length, IfOk};
-ghost use Rattle.lg_op.specs.Forms.{admits, forms_of};
+ghost use Rattle.lg_op.specs.Forms.{admits};
 ghost use Rattle.lg_op.specs.Nodes.{InForm};
 ghost use Rattle.lg_lex.specs.declared.token.TokenKind.TheVariants as kind;
 ghost use Rattle.lg_node.specs.Nodes.{is_word, with_node};
 ghost use Rattle.lg_tst.specs.Answers.{Gives, GivesWith, HasRoom};
 ghost use Rattle.lg_tst.specs.Operands.{name_operand, names_behind, operand_at, stays_apart};
 ghost use Rattle.lg_tst.specs.Streams.{IsToken};
-ghost use Rattle.lg_tst.specs.Units.{at_line, token_text, noted_by, noted, operand_of, operands, instruction, most_nodes};
+ghost use Rattle.lg_tst.specs.Units.{at_line, token_text, noted_by, noted, operand_of, operands, written_forms, all_operands, instruction, most_nodes};
 
 use super::{Parser, at_line, refuse};
 use crate::operand::{
@@ -22,6 +22,16 @@ use lg_op::{Form, Node, Op, Operand, Operands, PlainOp};
 
 // The most nodes of a text.
 const MOST_NODES: u32 = 1_048_576;
+
+// The forms of the operands that have tokens: `va_start` has one more.
+fn written_forms(op: Op) -> &'static [Form]
+    ensures { result.now ≡ written_forms op }
+{
+    match op {
+        Op::Plain(PlainOp::VaStart) => &[Form::Write],
+        _ => op.forms(),
+    }
+}
 
 impl Parser<'_> {
     // The label of a word, as an operand.
@@ -94,7 +104,8 @@ impl Parser<'_> {
             | Form::Target
             | Form::Callee
             | Form::Size
-            | Form::Alignment => { refuse(RefusalKind::BadOperand, line) }
+            | Form::Alignment
+            | Form::ArgumentCount => { refuse(RefusalKind::BadOperand, line) }
         }
     }
 
@@ -159,23 +170,33 @@ impl Parser<'_> {
         }
     }
 
+    // All operands of an operation, behind those that have tokens.
+    fn all_operands(&self, op: Op, done: Operands) -> Operands
+        requires { length done ≡ length (written_forms op) }
+        ensures { result ≡ all_operands op done self.now.names }
+    {
+        match op {
+            Op::Plain(PlainOp::VaStart) => {
+                done.with(Operand::Number(u64::from(self.names.arguments())))
+            }
+            _ => done,
+        }
+    }
+
     // The operands of an instruction, and then its node.
     fn operands(&mut self, op: Op, line: u32) -> Result<(), Stop>
         requires room { length self.old.list.nodes < most_nodes }
-        ensures { Gives result self.new (operands op line (forms_of op) [] self.old) }
+        ensures { Gives result self.new (operands op line (written_forms op) [] self.old) }
     {
-        let forms = op.forms();
+        let forms = written_forms(op);
         let mut done = Operands::of(&[]);
         for form in forms {
             let token = self.wanted(line)?;
             let operand = self.operand(op, *form, done.as_slice(), token)?;
             done = done.with(operand);
         }
-        self.push(Node {
-            op,
-            operands: done,
-            line,
-        })
+        let operands = self.all_operands(op, done);
+        self.push(Node { op, operands, line })
     }
 
     // An instruction, and `.align N` of code.

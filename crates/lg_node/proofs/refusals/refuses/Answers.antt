@@ -2,7 +2,7 @@ use Rattle.std.proofs.Common.{◌≡◌, ap}
 use Rattle.std.proofs.lemmas.Option.{slice_get_within}
 use Rattle.lg_node.specs.Functions.{home}
 use Rattle.lg_node.specs.Labels.{is_labelled}
-use Rattle.lg_node.specs.Preparations.{prepared_before}
+use Rattle.lg_node.specs.Preparations.{prepared_before, varies_before}
 use Rattle.lg_node.specs.declared.walk.Walk.{Walk}
 use Rattle.lg_node.proofs.refusals.refuses.Goals as goal
 
@@ -15,4 +15,5 @@ pub returns-in-BadCall : goal.returns-in-BadCall
 returns-in-BadCall c =
     let labelled : c.is_labelled.result ≡ is_labelled c.args.nodes.now.places c.args.index = c.is_labelled.ensures c.args.nodes.now c.requires.tables (slice_get_within c.args.nodes.now.nodes c.args.index c.args.node.now c.requires.node) in
     let call : c.args.walk.call ≡ prepared_before c.args.nodes.now.nodes c.args.index = ap (λ (w : Walk). w.call) c.requires.walk in
-    rw c.in-BadCall.is (rw (labelled, call) at c.is_bad_call.ensures)
+    let varies : c.args.walk.varies ≡ varies_before c.args.nodes.now.nodes c.args.index = ap (λ (w : Walk). w.varies) c.requires.walk in
+    rw c.in-BadCall.is (rw (labelled, call, varies) at c.is_bad_call.ensures)

@@ -1,5 +1,4 @@
-use Rattle.std.proofs.Common.{◌+◌, ◌≤◌, List, length, ◌∙◌, arith}
-use Rattle.lg_base.specs.Layout.{most_code}
+use Rattle.std.proofs.Common.{length, ◌∙◌, arith}
 use Rattle.lg_live.specs.RegSets.{has}
 use Rattle.lg_sela.proofs.CarriedLemmas.{at-most-256}
 use Rattle.lg_sela.proofs.NodeFits.{asked-of, made-fits}

@@ -1,4 +1,4 @@
-use Rattle.std.proofs.Common.{◌≡◌, ℕ, ◌≤◌, Bool, true, List, length, subst, arith, rules}
+use Rattle.std.proofs.Common.{◌≤◌, length, subst, arith, rules}
 use Rattle.lg_live.specs.RegSets.{has}
 use Rattle.lg_sel.proofs.AppendedLemmas.{short-appended, one-fixed}
 use Rattle.lg_selx.proofs.CarriedLemmas.{selected-carries, selected-whole, selected-spares, selected-shortest, aligned-behind, appended-begins, appended-lead}

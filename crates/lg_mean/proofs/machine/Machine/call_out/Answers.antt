@@ -2,6 +2,7 @@ use Rattle.std.proofs.Common.{ℕ, Bool, map, reverse, take, ◌∷◌, subst}
 use Rattle.lg_host.specs.Host.{Mem, HostSays, host_of, memory, outcome}
 use Rattle.lg_cells.specs.Memories.{byte_at, room_at}
 use Rattle.lg_meaning.specs.States.{is_part}
+use Rattle.lg_meaning.specs.Steps.{is_marked}
 use Rattle.lg_mean.specs.Machines.{frame_in}
 use Rattle.lg_mean.proofs.HostLemmas.{IsLater, host_mark, host_later}
 use Rattle.lg_host.proofs.HostLemmas.{HostSays-count}
@@ -13,7 +14,7 @@ invariant_of-self g c =
     let i = c.self.invariant in
     let old : Mem = memory (byte_at m.memory) (room_at m.memory) m.heap in
     let new : Mem = memory (byte_at c.call.new.mem) (room_at c.call.new.mem) c.call.new.heap in
-    let later : IsLater m.data_size m.args_size (frame_in m.top ∷ map frame_in (reverse m.below.items)) new = host_later _ m.data_size m.args_size _ old new _ c.call.result (host_mark c.args.name (take c.args.count m.staged) m.variadic old i.heap_high) i.heap_low i.heap_high i.rooms c.call.ensures.says in
+    let later : IsLater m.data_size m.args_size (frame_in m.top ∷ map frame_in (reverse m.below.items)) new = host_later _ m.data_size m.args_size _ old new _ c.call.result (host_mark c.args.name (take c.args.count m.staged) (is_marked m.variadic) old i.heap_high) i.heap_low i.heap_high i.rooms (rw c.is_marked-variadic.ensures at c.call.ensures.says) in
     record {
       stacked = i.stacked;
       top_fits = i.top_fits;
@@ -37,9 +38,9 @@ returns-clause-says g c =
     let new : Mem = memory (byte_at c.call.new.mem) (room_at c.call.new.mem) c.call.new.heap in
     let frames = frame_in m.top ∷ map frame_in (reverse m.below.items) in
     let out = outcome (g.O.Sink.taken c.args.out.now) (g.O.Sink.taken c.call.new.out) (g.O.Sink.faults c.args.out.now) (g.O.Sink.faults c.call.new.out) in
-    let later : IsLater m.data_size m.args_size frames new = host_later _ m.data_size m.args_size _ old new _ c.call.result (host_mark name args m.variadic old i.heap_high) i.heap_low i.heap_high i.rooms c.call.ensures.says in
-    let first = subst (λ (q : ℕ → Bool). HostSays (host_of name args m.variadic old) old (memory (byte_at c.call.new.mem) q c.call.new.heap) out c.call.result) later.room c.call.ensures.says in
-    let second = subst (λ (p : ℕ → Bool). HostSays (host_of name args m.variadic (memory (byte_at m.memory) p m.heap)) (memory (byte_at m.memory) p m.heap) (memory (byte_at c.call.new.mem) (is_part m.data_size m.args_size c.call.new.heap frames) c.call.new.heap) out c.call.result) i.rooms first in
+    let later : IsLater m.data_size m.args_size frames new = host_later _ m.data_size m.args_size _ old new _ c.call.result (host_mark name args (is_marked m.variadic) old i.heap_high) i.heap_low i.heap_high i.rooms (rw c.is_marked-variadic.ensures at c.call.ensures.says) in
+    let first = subst (λ (q : ℕ → Bool). HostSays (host_of name args (is_marked m.variadic) old) old (memory (byte_at c.call.new.mem) q c.call.new.heap) out c.call.result) later.room (rw c.is_marked-variadic.ensures at c.call.ensures.says) in
+    let second = subst (λ (p : ℕ → Bool). HostSays (host_of name args (is_marked m.variadic) (memory (byte_at m.memory) p m.heap)) (memory (byte_at m.memory) p m.heap) (memory (byte_at c.call.new.mem) (is_part m.data_size m.args_size c.call.new.heap frames) c.call.new.heap) out c.call.result) i.rooms first in
     rw (← c.self.view_is) second
 
 pub returns-clause-kept : goal.returns-clause-kept

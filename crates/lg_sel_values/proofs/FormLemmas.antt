@@ -1,9 +1,9 @@
 -- The operands of nodes that compute values.
-use Rattle.std.proofs.Common.{◌≡◌, ◌≢◌, Bool, true, false, List, [], ◌∷◌, refl, ap, ◌∙◌}
+use Rattle.std.proofs.Common.{◌≡◌, ◌≢◌, ℕ, Bool, true, false, List, [], ◌∷◌, refl, ap, ◌∙◌}
 use Rattle.std.specs.Prelude.{◌&&◌}
 use Rattle.lg_op.specs.Forms.{admits, admit}
 use Rattle.lg_op.specs.declared.form.Form.{Form}
-use Rattle.lg_op.specs.declared.form.Form.TheVariants.{Write, Read}
+use Rattle.lg_op.specs.declared.form.Form.TheVariants.{Write, Read, ArgumentCount}
 use Rattle.lg_op.specs.declared.operand.Reg.{Reg}
 use Rattle.lg_op.specs.declared.operand.Reg.TheVariants.{R0, R1, R2, V0, V1, V2, Fp}
 use Rattle.lg_op.specs.declared.operand.Operand.{Operand}
@@ -42,6 +42,18 @@ is-source (operand.Number v) h = cc
 is-source (operand.Label l) h = cc
 is-source (operand.Host name) h = cc
 is-source (operand.Slot k) h = cc
+
+-- how many arguments have names
+pub record IsCount (x : Operand) : Type 0 where
+  pub count : ℕ
+  pub is : x ≡ operand.Number count
+
+pub is-count : (x : Operand) → admits ArgumentCount x ≡ true → IsCount x
+is-count (operand.Number k) h = record { count = k; is = refl }
+is-count (operand.Reg r) h = cc
+is-count (operand.Label l) h = cc
+is-count (operand.Host name) h = cc
+is-count (operand.Slot s) h = cc
 
 -- the operands of so many forms
 pub record OneOperand (f : Form) (xs : List Operand) : Type 0 where

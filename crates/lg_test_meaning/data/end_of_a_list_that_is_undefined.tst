@@ -1,0 +1,1 @@
+.code prolog ellipsis va_end %r0 ret epilog

@@ -1,0 +1,1 @@
+.data 8 fmt: .c "a" .code prolog ellipsis prepare pushargi fmt finishi @printf ret epilog
