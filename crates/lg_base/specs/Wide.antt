@@ -1,5 +1,7 @@
 -- Double words, and parts of words by their number of bytes.
-use Rattle.std.specs.Prelude.{ℕ, ◌+◌, ◌-◌, ◌*◌, ◌/◌, ◌%◌, ◌^◌, ◌==◌, ◌||◌, Bool, nat_lt, nat_le, Option, Some, None, if◌then◌else◌}
+use Rattle.std.specs.Prelude.{ℕ, ℤ, ◌+◌, ◌-◌, ◌*◌, ◌/◌, ◌%◌, ◌^◌, ◌==◌, ◌||◌, Bool, nat_lt, nat_le, Option, Some, None, if◌then◌else◌}
+use Rattle.std.specs.Int.{cast_unsigned, w64}
+use Rattle.std.specs.Option.{option_map}
 use Rattle.lg_base.specs.Words.{is_negative, differ, magnitude, with_sign}
 
 -- one more than the largest number of so many bytes, which are 1, 2, 4 or 8
@@ -47,3 +49,7 @@ quotient_wide_signed high low by =
     if by == 0 then None
     else if fits_signed negative (size / divisor) then Some (with_sign negative (size / divisor), with_sign (is_negative high) (size % divisor))
     else None
+
+-- two signed words by their bits
+abbrev pub as_words : Option (ℤ × ℤ) → Option (ℕ × ℕ)
+as_words = option_map (λ p. (cast_unsigned w64 p.0, cast_unsigned w64 p.1))

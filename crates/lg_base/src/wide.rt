@@ -2,9 +2,8 @@
 
 ghost use Rattle.std.specs.Prelude.{◌≡◌, ◌+◌, ◌*◌, ◌/◌, ◌%◌, ◌⊎◌};
 ghost use Rattle.std.specs.Int.{cast_unsigned, w64};
-ghost use Rattle.std.specs.Option.{option_map};
 ghost use Rattle.lg_base.specs.Words.{extended, high_product, high_product_signed, high_product_mixed, with_sign};
-ghost use Rattle.lg_base.specs.Wide.{quotient_wide, quotient_wide_signed, wide_magnitude, fits_signed, sign_part_of, zero_part_of, swapped};
+ghost use Rattle.lg_base.specs.Wide.{as_words, quotient_wide, quotient_wide_signed, wide_magnitude, fits_signed, sign_part_of, zero_part_of, swapped};
 
 use crate::word::{magnitude_of, signed_word};
 
@@ -105,7 +104,7 @@ pub fn div_wide_words(high: u64, low: u64, by: u64) -> Option<(u64, u64)>
 /// Quotient towards zero and remainder, with the dividend's sign, of a signed double word by a signed
 /// word. None exactly where the divisor is 0 or the quotient does not fit a signed word.
 pub fn div_wide(high: i64, low: u64, by: i64) -> Option<(i64, i64)>
-    ensures { option_map (λ p. (cast_unsigned w64 p.0, cast_unsigned w64 p.1)) result ≡ quotient_wide_signed (cast_unsigned w64 high) low (cast_unsigned w64 by) }
+    ensures { as_words result ≡ quotient_wide_signed (cast_unsigned w64 high) low (cast_unsigned w64 by) }
 {
     match div_wide_words(high.cast_unsigned(), low, by.cast_unsigned()) {
         Some((quotient, remainder)) => Some((quotient.cast_signed(), remainder.cast_signed())),

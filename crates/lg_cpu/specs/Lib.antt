@@ -1,3 +1,4 @@
+pub mod A64Groups
 pub mod A64Operators
 pub mod A64Step
 pub mod Answers

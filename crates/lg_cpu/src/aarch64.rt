@@ -55,6 +55,7 @@ impl Aarch64 {
     ghost use Rattle.lg_cpu.specs.RvStep.{in_code};
     ghost use Rattle.lg_cpu.specs.States.{goes_on};
     ghost use Rattle.lg_cpu.specs.Machines.{a64_state, a64_inner, Does};
+    ghost use Rattle.lg_cpu.specs.A64Groups.{is_rest};
 
     // What a register reads as where it is no stack pointer.
     pub(crate) fn read(&self, register: u8) -> u64
@@ -251,7 +252,7 @@ impl Aarch64 {
         }
     }
 
-    // Executes an instruction.
+    // Executes an instruction, here one that makes a register of registers and numbers.
     fn act(&mut self, instr: Instr) -> CpuStep
         requires { IsInstr instr }
         ensures { Does (act instr (a64_state self.old)) (a64_inner self.old) (a64_inner self.new) result }
@@ -289,6 +290,17 @@ impl Aarch64 {
                 csinc_value(holds(cond, self.flags), self.read(rn), self.read(rm)),
             ),
             Instr::Reverse { op, rd, rn } => self.set(rd, reverse_value(op, self.read(rn))),
+            other => self.act_rest(other),
+        }
+    }
+
+    // Executes any other instruction: a load, a store, a branch or `nop`.
+    fn act_rest(&mut self, instr: Instr) -> CpuStep
+        requires fits { IsInstr instr }
+        requires rest { is_rest instr ≡ true }
+        ensures { Does (act instr (a64_state self.old)) (a64_inner self.old) (a64_inner self.new) result }
+    {
+        match instr {
             Instr::Scaled { op, rt, rn, imm } => self.act_scaled(
                 op,
                 rt,
@@ -311,6 +323,7 @@ impl Aarch64 {
             }
             Instr::BranchReg { op, rn } => self.act_branch_reg(op, self.read(rn)),
             Instr::Nop => self.go(self.pc.wrapping_add(4)),
+            _ => CpuStep::Fault(FaultKind::Decode),
         }
     }
 

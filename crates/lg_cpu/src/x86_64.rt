@@ -24,8 +24,8 @@ use lg_base::flags::Flags;
 use lg_base::number::sign_extended;
 use lg_base::wide::{div_wide_u, div_wide_words, mul_high_u, sign_part, swap_bytes};
 use lg_x86::{
-    BareOp, Cond, Instr, JumpNearOp, JumpRegOp, LoadOp, RmRegOp, ShiftOp, StackOp, StoreOp,
-    UnaryOp, decode,
+    BareOp, Cond, Instr, JumpNearOp, JumpRegOp, LoadOp, RegRmOp, RmRegOp, ShiftOp, StackOp,
+    StoreOp, UnaryOp, decode,
 };
 
 /// The program counter, the registers and the flags, and what the processor works on.
@@ -431,6 +431,17 @@ impl X86_64 {
         }
     }
 
+    fn act_reg_rm(&mut self, next: u64, op: RegRmOp, reg: u8, rm: u8) -> CpuStep
+        requires reg { reg < 16 }
+        requires rm { rm < 16 }
+        ensures { Does (does (Instr.RegRm op reg rm) next (x86_state self.old)) (x86_inner self.old) (x86_inner self.new) result }
+    {
+        let a = self.registers[reg as usize];
+        let b = self.registers[rm as usize];
+        let flags = reg_rm_flags(op, self.flags, a, b);
+        self.set(next, reg, reg_rm_value(op, a, b), flags)
+    }
+
     fn act_bare(&mut self, next: u64, op: BareOp) -> CpuStep
         ensures { Does (does (Instr.Bare op) next (x86_state self.old)) (x86_inner self.old) (x86_inner self.new) result }
     {
@@ -464,21 +475,7 @@ impl X86_64 {
                 self.registers[reg as usize],
             ),
             Instr::Imm { op, rm, imm } => self.combine(next, alu_of(op), rm, sign_extended(imm)),
-            Instr::RegRm { op, reg, rm } => self.set(
-                next,
-                reg,
-                reg_rm_value(
-                    op,
-                    self.registers[reg as usize],
-                    self.registers[rm as usize],
-                ),
-                reg_rm_flags(
-                    op,
-                    self.flags,
-                    self.registers[reg as usize],
-                    self.registers[rm as usize],
-                ),
-            ),
+            Instr::RegRm { op, reg, rm } => self.act_reg_rm(next, op, reg, rm),
             Instr::Lea2 { reg, base, index } => self.set(
                 next,
                 reg,

@@ -6,9 +6,9 @@ use Rattle.std.proofs.lemmas.Bool.{and_parts}
 use Rattle.lg_base.specs.Spaces.{mapped}
 use Rattle.lg_base.specs.declared.host_name.HostName.{HostName}
 use Rattle.lg_base.specs.declared.host_name.HostName.TheVariants as host
-use Rattle.lg_host.specs.Runs.{Bytes, memory_end, before, run_of, run}
+use Rattle.lg_host.specs.Runs.{Bytes, address_end, before, run_of, run}
 use Rattle.lg_host.specs.Strings.{string_in, compared, is_space, is_digit, int_word, number_in, signed_in, atoi_in}
-use Rattle.lg_host.specs.Blocks.{Changes, unchanged, in_range, copied, filled, can_write, is_below_end, overlaps}
+use Rattle.lg_host.specs.Blocks.{Changes, unchanged, in_range, copied, filled, can_write, is_addressed, overlaps}
 use Rattle.lg_host.specs.Printed.{printed_at}
 use Rattle.lg_host.specs.Host.{Mem, Host, Gives, Undefined, int_answer, answered, text, heap_end, rounded, fits, malloc, calloc, memset, memcpy, named, table, host_of}
 use Rattle.lg_host.specs.HostLaws.{Extends, IsLarger, IsDefined, IsKept, OnGives, IsAllowed, AnswersAllowed}
@@ -26,18 +26,18 @@ answered-kept k k' None o' e h d = absurd d
 answered-kept k k' (Some v) o' e h d = ap₂ answered e h
 
 memset-kept : (m m' : Mem) (to w n : ℕ) → IsLarger m m' → IsDefined (memset m to w n) → memset m' to w n ≡ memset m to w n
-memset-kept m m' to w n l d = by (n == 0) (is_below_end to n && can_write m.room to n) refl refl d
+memset-kept m m' to w n l d = by (n == 0) (is_addressed to n && can_write m.room to n) refl refl d
   where
-    by : (t c : Bool) → (n == 0) ≡ t → (is_below_end to n && can_write m.room to n) ≡ c → IsDefined (if t then Gives to unchanged m.mark [] else if c then Gives to (filled to (w % 256) n) m.mark [] else Undefined) → memset m' to w n ≡ memset m to w n
+    by : (t c : Bool) → (n == 0) ≡ t → (is_addressed to n && can_write m.room to n) ≡ c → IsDefined (if t then Gives to unchanged m.mark [] else if c then Gives to (filled to (w % 256) n) m.mark [] else Undefined) → memset m' to w n ≡ memset m to w n
     by true c e f d = rw e (ap (λ k. Gives to unchanged k []) l.mark)
     by false true e f d =
-        let p = and_parts (is_below_end to n) (can_write m.room to n) f in
-        let g : (is_below_end to n && can_write m'.room to n) ≡ true = ap₂ (λ x y. x && y) p.0 (can_write-extends m.room m'.room to n l.room p.1) in
+        let p = and_parts (is_addressed to n) (can_write m.room to n) f in
+        let g : (is_addressed to n && can_write m'.room to n) ≡ true = ap₂ (λ x y. x && y) p.0 (can_write-extends m.room m'.room to n l.room p.1) in
         rw (e, f, g) (ap (λ k. Gives to (filled to (w % 256) n) k []) l.mark)
     by false false e f d = absurd d
 
 abbrev can_copy : Mem → ℕ → ℕ → ℕ → Bool
-can_copy m to from n = is_below_end to n && is_below_end from n && not (overlaps to from n) && mapped m.bytes from n && can_write m.room to n
+can_copy m to from n = is_addressed to n && is_addressed from n && not (overlaps to from n) && mapped m.bytes from n && can_write m.room to n
 
 memcpy-kept : (m m' : Mem) (to from n : ℕ) → IsLarger m m' → IsDefined (memcpy m to from n) → memcpy m' to from n ≡ memcpy m to from n
 memcpy-kept m m' to from n l d = by (n == 0) (can_copy m to from n) refl refl d
@@ -45,7 +45,7 @@ memcpy-kept m m' to from n l d = by (n == 0) (can_copy m to from n) refl refl d
     by : (t c : Bool) → (n == 0) ≡ t → can_copy m to from n ≡ c → IsDefined (if t then Gives to unchanged m.mark [] else if c then Gives to (copied m.bytes to from n) m.mark [] else Undefined) → memcpy m' to from n ≡ memcpy m to from n
     by true c e f d = rw e (ap (λ k. Gives to unchanged k []) l.mark)
     by false true e f d =
-        let head = is_below_end to n && is_below_end from n && not (overlaps to from n) in
+        let head = is_addressed to n && is_addressed from n && not (overlaps to from n) in
         let p = and_parts (head && mapped m.bytes from n) (can_write m.room to n) f in
         let q = and_parts head (mapped m.bytes from n) p.0 in
         let g : can_copy m' to from n ≡ true = ap₂ (λ x y. x && y) (ap₂ (λ x y. x && y) q.0 (mapped-extends m.bytes m'.bytes from n l.bytes q.1)) (can_write-extends m.room m'.room to n l.room p.1) in
@@ -160,19 +160,19 @@ run_of-length (suc n) m a = by (m a) (run_of n m (a + 1)) (run_of-length n m (a 
     by None bs le = omega arith
     by (Some b) bs le = omega arith
 
-string-length : (bs : List ℕ) → IfSome (string_in bs) (λ s. length s ≤ length bs)
+string-length : (bs : List ℕ) → IfSome (string_in bs) (λ s. length s < length bs)
 string-length [] = tt
 string-length (b ∷ bs) = by (b == 0) (string_in bs) (string-length bs)
   where
-    by : (t : Bool) (o : Option (List ℕ)) → IfSome o (λ s. length s ≤ length bs) → IfSome (if t then Some [] else option_map (λ string. b ∷ string) o) (λ s. length s ≤ length (b ∷ bs))
+    by : (t : Bool) (o : Option (List ℕ)) → IfSome o (λ s. length s < length bs) → IfSome (if t then Some [] else option_map (λ string. b ∷ string) o) (λ s. length s < length (b ∷ bs))
     by true o h = omega arith
     by false None h = tt
     by false (Some s) h = omega arith
 
 strlen-lt : (m : Bytes) (a : ℕ) → IfSome (option_map length (string_in (run m a))) (λ v. v < 2 ^ 64)
-strlen-lt m a = by (string_in (run m a)) (string-length (run m a)) (run_of-length (memory_end - a) m a)
+strlen-lt m a = by (string_in (run m a)) (string-length (run m a)) (run_of-length (address_end - a) m a)
   where
-    by : (o : Option (List ℕ)) → IfSome o (λ s. length s ≤ length (run m a)) → length (run m a) ≤ memory_end - a → IfSome (option_map length o) (λ v. v < 2 ^ 64)
+    by : (o : Option (List ℕ)) → IfSome o (λ s. length s < length (run m a)) → length (run m a) ≤ address_end - a → IfSome (option_map length o) (λ v. v < 2 ^ 64)
     by None h k = tt
     by (Some s) h k = omega arith
 
@@ -209,17 +209,17 @@ calloc-allowed m size le = on-if (fits m.mark size) (Gives m.mark (filled m.mark
     (λ e. unchanged-allowed m 0 [] (omega arith) le)
 
 memset-allowed : (m : Mem) (to w n : ℕ) → to < 2 ^ 64 → m.mark ≤ heap_end → OnGives (memset m to w n) (IsAllowed m)
-memset-allowed m to w n lt le = on-if (n == 0) (Gives to unchanged m.mark []) (if is_below_end to n && can_write m.room to n then Gives to (filled to (w % 256) n) m.mark [] else Undefined) (IsAllowed m)
+memset-allowed m to w n lt le = on-if (n == 0) (Gives to unchanged m.mark []) (if is_addressed to n && can_write m.room to n then Gives to (filled to (w % 256) n) m.mark [] else Undefined) (IsAllowed m)
     (λ e. unchanged-allowed m to [] lt le)
-    (λ e. on-if (is_below_end to n && can_write m.room to n) (Gives to (filled to (w % 256) n) m.mark []) Undefined (IsAllowed m)
-    (λ c. let p = and_parts (is_below_end to n) (can_write m.room to n) c in record { word = lt; written = λ a b is. let t = filled-there to (w % 256) n a b is in (omega (arith, t.0), inl (can_write-there m.room to n a p.1 t.1 t.2)); rises = omega arith; within = le })
+    (λ e. on-if (is_addressed to n && can_write m.room to n) (Gives to (filled to (w % 256) n) m.mark []) Undefined (IsAllowed m)
+    (λ c. let p = and_parts (is_addressed to n) (can_write m.room to n) c in record { word = lt; written = λ a b is. let t = filled-there to (w % 256) n a b is in (omega (arith, t.0), inl (can_write-there m.room to n a p.1 t.1 t.2)); rises = omega arith; within = le })
     (λ c. tt))
 
 memcpy-allowed : (m : Mem) (to from n : ℕ) → ((a b : ℕ) → m.bytes a ≡ Some b → b < 256) → to < 2 ^ 64 → m.mark ≤ heap_end → OnGives (memcpy m to from n) (IsAllowed m)
 memcpy-allowed m to from n bytes lt le = on-if (n == 0) (Gives to unchanged m.mark []) (if can_copy m to from n then Gives to (copied m.bytes to from n) m.mark [] else Undefined) (IsAllowed m)
     (λ e. unchanged-allowed m to [] lt le)
     (λ e. on-if (can_copy m to from n) (Gives to (copied m.bytes to from n) m.mark []) Undefined (IsAllowed m)
-    (λ c. let p = and_parts (is_below_end to n && is_below_end from n && not (overlaps to from n) && mapped m.bytes from n) (can_write m.room to n) c in record { word = lt; written = λ a b is. let t = copied-there m.bytes to from n a b is in (bytes (from + (a - to)) b t.0, inl (can_write-there m.room to n a p.1 t.1 t.2)); rises = omega arith; within = le })
+    (λ c. let p = and_parts (is_addressed to n && is_addressed from n && not (overlaps to from n) && mapped m.bytes from n) (can_write m.room to n) c in record { word = lt; written = λ a b is. let t = copied-there m.bytes to from n a b is in (bytes (from + (a - to)) b t.0, inl (can_write-there m.room to n a p.1 t.1 t.2)); rises = omega arith; within = le })
     (λ c. tt))
 
 table-allowed : (name : HostName) (a b c : ℕ) (args : List ℕ) (v : Bool) (m : Mem) → a < 2 ^ 64 → ((a b : ℕ) → m.bytes a ≡ Some b → b < 256) → m.mark ≤ heap_end → OnGives (table name a b c args v m) (IsAllowed m)

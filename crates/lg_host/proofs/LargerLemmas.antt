@@ -6,7 +6,7 @@ use Rattle.std.proofs.lemmas.Bool.{false≢true}
 use mathlib.Core.Path.{fun_ext}
 use Rattle.lg_base.specs.Spaces.{mapped}
 use Rattle.lg_base.proofs.SpaceLemmas.{mapped-each, mapped-all}
-use Rattle.lg_host.specs.Runs.{Bytes, memory_end, before, run_of, run}
+use Rattle.lg_host.specs.Runs.{Bytes, address_end, before, run_of, run}
 use Rattle.lg_host.specs.Strings.{string_in, compared, is_space, is_digit, int_word, number_in, signed_in, atoi_in}
 use Rattle.lg_host.specs.Blocks.{in_range, copied, can_write}
 use Rattle.lg_host.specs.Formats.{next_of, is_plain}
@@ -54,7 +54,7 @@ run_of-begins zero p q a h = tt
 run_of-begins (suc n) p q a h = before-begins (p a) (q a) (run_of n p (a + 1)) (run_of n q (a + 1)) (h a) (run_of-begins n p q (a + 1) h)
 
 pub run-begins : (p q : Bytes) (a : ℕ) → HasBytes p q → Begins (run p a) (run q a)
-run-begins p q a h = run_of-begins (memory_end - a) p q a h
+run-begins p q a h = run_of-begins (address_end - a) p q a h
 
 -- ---- strings and numbers
 pub string-extends : (xs ys : List ℕ) → Begins xs ys → Extends (string_in xs) (string_in ys)

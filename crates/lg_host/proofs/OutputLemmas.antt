@@ -1,11 +1,12 @@
 -- Output that was passed on in pieces, and prefixes of it.
-use Rattle.std.proofs.Common.{◌≡◌, ℕ, zero, suc, ◌+◌, ◌-◌, ◌<◌, ◌≤◌, List, [], ◌∷◌, ◌++◌, length, take, drop, get_or, Option, refl, sym, ap, ap₂, ◌∙◌, subst, arith, append_assoc, drop-cons}
+use Rattle.std.proofs.Common.{◌≡◌, ℕ, zero, suc, ◌+◌, ◌-◌, ◌%◌, ◌^◌, ◌<◌, ◌≤◌, List, [], ◌∷◌, ◌++◌, length, take, drop, get_or, Option, refl, sym, ap, ap₂, ◌∙◌, subst, arith, append_assoc, drop-cons}
 use Rattle.std.specs.Prelude.{replicate, unwrap_or, Result, Ok, Err}
 use Rattle.std.specs.Io.KnownBytes.{Appends}
 use Rattle.std.proofs.KnownBytes.{Appends-nil, Appends-trans}
 use Rattle.std.proofs.lemmas.List.{take-append-drop, append-nil, take_more, replicate-append-replicate, replicate_more}
 use Rattle.lg_io.specs.Wrote.{AppendsPrefix, Wrote}
 use Rattle.lg_io.proofs.WroteLemmas.{AppendsPrefix-after}
+use Rattle.lg_host.specs.Host.{int_answer}
 use Rattle.lg_host.specs.Runs.{Bytes}
 use Rattle.lg_host.specs.Output.{Output, Passes, bytes_from, part_bytes, parts_bytes}
 use Rattle.lg_host.specs.declared.parts.Part.{Part}
@@ -80,3 +81,7 @@ bytes_from-split m a at to le lt =
     let e : to - a ≡ at + 1 - a + (to - (at + 1)) = omega arith in
     let f : a + (at + 1 - a) ≡ at + 1 = omega arith in
     ap (λ n. bytes_from n m a) e ∙ bytes_from-add (at + 1 - a) (to - (at + 1)) m a ∙ ap₂ (λ x y. x ++ bytes_from (to - (at + 1)) m y) (bytes_from-more m a at le) f ∙ append_assoc (bytes_from (at - a) m a) (unwrap_or (m at) 0 ∷ []) (bytes_from (to - (at + 1)) m (at + 1))
+
+-- an int looks at the low bits alone
+pub int_answer-low : (n : ℕ) → int_answer (n % 2 ^ 64) ≡ int_answer n
+int_answer-low n = let e : n % 2 ^ 64 % 2 ^ 32 ≡ n % 2 ^ 32 = omega arith in rw e refl

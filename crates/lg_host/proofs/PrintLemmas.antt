@@ -25,13 +25,13 @@ onto done rest = option_map (λ bytes. done ++ bytes) rest
 pub printed-none : (m : Bytes) (r : Reading) (a : ℕ) (args : List ℕ) → None ≡ m a → printed_at m r a args ≡ None
 printed-none m r a args is = rw (run-none m a is) refl
 
-pub printed-top : (m : Bytes) (r : Reading) (a : ℕ) (args : List ℕ) → 0x40000000 ≤ a → printed_at m r a args ≡ None
+pub printed-top : (m : Bytes) (r : Reading) (a : ℕ) (args : List ℕ) → 2 ^ 64 ≤ a → printed_at m r a args ≡ None
 printed-top m r a args le = rw (run-end m a le) refl
 
-pub printed-end : (m : Bytes) (r : Reading) (a b : ℕ) (args : List ℕ) → a < 0x40000000 → Some b ≡ m a → b ≡ 0 → is_plain r ≡ true → printed_at m r a args ≡ Some []
+pub printed-end : (m : Bytes) (r : Reading) (a b : ℕ) (args : List ℕ) → a < 2 ^ 64 → Some b ≡ m a → b ≡ 0 → is_plain r ≡ true → printed_at m r a args ≡ Some []
 printed-end m r a b args lt is z p = let t = eq-eqb b 0 z in rw (run-some m a b lt is, t, p) refl
 
-pub printed-open : (m : Bytes) (r : Reading) (a b : ℕ) (args : List ℕ) → a < 0x40000000 → Some b ≡ m a → b ≡ 0 → is_plain r ≡ false → printed_at m r a args ≡ None
+pub printed-open : (m : Bytes) (r : Reading) (a b : ℕ) (args : List ℕ) → a < 2 ^ 64 → Some b ≡ m a → b ≡ 0 → is_plain r ≡ false → printed_at m r a args ≡ None
 printed-open m r a b args lt is z p = let t = eq-eqb b 0 z in rw (run-some m a b lt is, t, p) refl
 
 follow-none : (eff : Option Effect) → None ≡ followed_by eff (λ _. None)
@@ -47,12 +47,12 @@ cons-string : (m : Bytes) (r : Reading) (b : ℕ) (args : List ℕ) (o : Option 
 cons-string m r b args None = refl
 cons-string m r b args (Some format) = refl
 
-pub printed-step : (m : Bytes) (r : Reading) (a b : ℕ) (args : List ℕ) → a < 0x40000000 → Some b ≡ m a → (b ≡ 0 → ⊥) → printed_at m r a args ≡ followed_by (step_of m r b args) (λ e. printed_at m e.reading (a + 1) e.left)
+pub printed-step : (m : Bytes) (r : Reading) (a b : ℕ) (args : List ℕ) → a < 2 ^ 64 → Some b ≡ m a → (b ≡ 0 → ⊥) → printed_at m r a args ≡ followed_by (step_of m r b args) (λ e. printed_at m e.reading (a + 1) e.left)
 printed-step m r a b args lt is ne =
     let t = ne_eqb b 0 ne in
     rw (run-some m a b lt is, t) (cons-string m r b args (string_in (run m (a + 1))) ∙ follow-string m (step_of m r b args) b (string_in (run m (a + 1))))
 
-pub printed-stop : (m : Bytes) (r : Reading) (a b : ℕ) (args : List ℕ) → a < 0x40000000 → Some b ≡ m a → (b ≡ 0 → ⊥) → step_of m r b args ≡ None → printed_at m r a args ≡ None
+pub printed-stop : (m : Bytes) (r : Reading) (a b : ℕ) (args : List ℕ) → a < 2 ^ 64 → Some b ≡ m a → (b ≡ 0 → ⊥) → step_of m r b args ≡ None → printed_at m r a args ≡ None
 printed-stop m r a b args lt is ne stop = printed-step m r a b args lt is ne ∙ ap (λ o. followed_by o (λ e. printed_at m e.reading (a + 1) e.left)) stop
 
 pub onto-nil : (o : Option (List ℕ)) → o ≡ onto [] o
@@ -113,7 +113,7 @@ pub record SoFar (all : Option (List ℕ)) (m : Bytes) (w : Walk) (args : List �
   pub count_is : w.count ≡ length done % 2 ^ 64
   pub is : all ≡ onto done (printed_at m w.reading a (drop w.used args))
 
-pub SoFar-more : (all : Option (List ℕ)) (m : Bytes) (w v : Walk) (b a : ℕ) (args : List ℕ) (old mid new : Output) → a < 0x40000000 → Some b ≡ m a → (b ≡ 0 → ⊥) → SoFar all m w args a old mid → IsAfter (step_of m w.reading b (drop w.used args)) w.count args mid new (Some v) → SoFar all m v args (a + 1) old new
+pub SoFar-more : (all : Option (List ℕ)) (m : Bytes) (w v : Walk) (b a : ℕ) (args : List ℕ) (old mid new : Output) → a < 2 ^ 64 → Some b ≡ m a → (b ≡ 0 → ⊥) → SoFar all m w args a old mid → IsAfter (step_of m w.reading b (drop w.used args)) w.count args mid new (Some v) → SoFar all m v args (a + 1) old new
 SoFar-more all m w v b a args old mid new lt is ne s h =
     let k = more m (step_of m w.reading b (drop w.used args)) v args w.count (a + 1) mid new h in
     record {

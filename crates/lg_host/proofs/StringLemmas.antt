@@ -3,7 +3,7 @@ use Rattle.std.proofs.Common.{◌≡◌, ◌⊎◌, ℕ, zero, suc, ◌+◌, ◌
 use Rattle.std.specs.Prelude.{max, nat_lt, nat_le, unwrap_or, if◌then◌else◌}
 use Rattle.std.specs.Option.{option_map}
 use Rattle.std.proofs.lemmas.Bool.{cases_lt}
-use Rattle.lg_host.specs.Runs.{Bytes, memory_end, before, run_of, run}
+use Rattle.lg_host.specs.Runs.{Bytes, address_end, before, run_of, run}
 use Rattle.lg_host.specs.Strings.{string_in, compared, is_space, is_digit, int_word, number_in, signed_in, atoi_in}
 use Rattle.lg_host.specs.Output.{bytes_from}
 use Rattle.lg_host.proofs.RunLemmas.{run-end, run-some, run-none}
@@ -54,13 +54,13 @@ end_at m a = option_map (λ string. a + length string) (string_in (run m a))
 pub end-none : (m : Bytes) (a : ℕ) → None ≡ m a → end_at m a ≡ None
 end-none m a is = rw (run-none m a is) refl
 
-pub end-top : (m : Bytes) (a : ℕ) → 0x40000000 ≤ a → end_at m a ≡ None
+pub end-top : (m : Bytes) (a : ℕ) → 2 ^ 64 ≤ a → end_at m a ≡ None
 end-top m a le = rw (run-end m a le) refl
 
-pub end-zero : (m : Bytes) (a b : ℕ) → a < 0x40000000 → Some b ≡ m a → b ≡ 0 → end_at m a ≡ Some a
+pub end-zero : (m : Bytes) (a b : ℕ) → a < 2 ^ 64 → Some b ≡ m a → b ≡ 0 → end_at m a ≡ Some a
 end-zero m a b lt is z = let t : eqb b 0 ≡ true = grind arith in rw (run-some m a b lt is, t) (ap Some (omega arith))
 
-pub end-more : (m : Bytes) (a b : ℕ) → a < 0x40000000 → Some b ≡ m a → (b ≡ 0 → ⊥) → end_at m a ≡ end_at m (a + 1)
+pub end-more : (m : Bytes) (a b : ℕ) → a < 2 ^ 64 → Some b ≡ m a → (b ≡ 0 → ⊥) → end_at m a ≡ end_at m (a + 1)
 end-more m a b lt is ne = rw (run-some m a b lt is) (string-step a b (run m (a + 1)) ne)
 
 -- how the strings at two addresses compare
@@ -73,10 +73,10 @@ compare-none m a b is = rw (run-none m a is) refl
 pub compare-none2 : (m : Bytes) (a b : ℕ) → None ≡ m b → compare_at m a b ≡ None
 compare-none2 m a b is = rw (run-none m b is) (compared-none (run m a))
 
-pub compare-top : (m : Bytes) (a b : ℕ) → (0x40000000 ≤ a) ⊎ (0x40000000 ≤ b) → compare_at m a b ≡ None
-compare-top m a b h = ⊎_elim (λ (x : 0x40000000 ≤ a). rw (run-end m a x) refl) (λ (x : 0x40000000 ≤ b). rw (run-end m b x) (compared-none (run m a))) h
+pub compare-top : (m : Bytes) (a b : ℕ) → (2 ^ 64 ≤ a) ⊎ (2 ^ 64 ≤ b) → compare_at m a b ≡ None
+compare-top m a b h = ⊎_elim (λ (x : 2 ^ 64 ≤ a). rw (run-end m a x) refl) (λ (x : 2 ^ 64 ≤ b). rw (run-end m b x) (compared-none (run m a))) h
 
-pub compare-both : (m : Bytes) (a b x y : ℕ) → a < 0x40000000 → b < 0x40000000 → Some x ≡ m a → Some y ≡ m b → compare_at m a b ≡ compared (x ∷ run m (a + 1)) (y ∷ run m (b + 1))
+pub compare-both : (m : Bytes) (a b x y : ℕ) → a < 2 ^ 64 → b < 2 ^ 64 → Some x ≡ m a → Some y ≡ m b → compare_at m a b ≡ compared (x ∷ run m (a + 1)) (y ∷ run m (b + 1))
 compare-both m a b x y p q i j = ap₂ compared (run-some m a x p i) (run-some m b y q j)
 
 pub compared-less : (x y : ℕ) (xs ys : List ℕ) → x < y → compared (x ∷ xs) (y ∷ ys) ≡ Some (2 ^ 64 - 1)
@@ -88,16 +88,16 @@ compared-more x y xs ys h = let t : nat_lt x y ≡ false = grind arith in let u 
 pub compared-zero : (x y : ℕ) (xs ys : List ℕ) → x ≡ y → x ≡ 0 → compared (x ∷ xs) (y ∷ ys) ≡ Some 0
 compared-zero x y xs ys e z = let t : nat_lt x y ≡ false = grind arith in let u : nat_lt y x ≡ false = grind arith in let v : eqb x 0 ≡ true = grind arith in rw (t, u, v)
 
-pub compare-less : (m : Bytes) (a b x y : ℕ) → a < 0x40000000 → b < 0x40000000 → Some x ≡ m a → Some y ≡ m b → x < y → compare_at m a b ≡ Some (2 ^ 64 - 1)
+pub compare-less : (m : Bytes) (a b x y : ℕ) → a < 2 ^ 64 → b < 2 ^ 64 → Some x ≡ m a → Some y ≡ m b → x < y → compare_at m a b ≡ Some (2 ^ 64 - 1)
 compare-less m a b x y p q i j h = compare-both m a b x y p q i j ∙ compared-less x y (run m (a + 1)) (run m (b + 1)) h
 
-pub compare-more : (m : Bytes) (a b x y : ℕ) → a < 0x40000000 → b < 0x40000000 → Some x ≡ m a → Some y ≡ m b → y < x → compare_at m a b ≡ Some 1
+pub compare-more : (m : Bytes) (a b x y : ℕ) → a < 2 ^ 64 → b < 2 ^ 64 → Some x ≡ m a → Some y ≡ m b → y < x → compare_at m a b ≡ Some 1
 compare-more m a b x y p q i j h = compare-both m a b x y p q i j ∙ compared-more x y (run m (a + 1)) (run m (b + 1)) h
 
-pub compare-zero : (m : Bytes) (a b x y : ℕ) → a < 0x40000000 → b < 0x40000000 → Some x ≡ m a → Some y ≡ m b → x ≡ y → x ≡ 0 → compare_at m a b ≡ Some 0
+pub compare-zero : (m : Bytes) (a b x y : ℕ) → a < 2 ^ 64 → b < 2 ^ 64 → Some x ≡ m a → Some y ≡ m b → x ≡ y → x ≡ 0 → compare_at m a b ≡ Some 0
 compare-zero m a b x y p q i j e h = compare-both m a b x y p q i j ∙ compared-zero x y (run m (a + 1)) (run m (b + 1)) e h
 
-pub compare-next : (m : Bytes) (a b x y : ℕ) → a < 0x40000000 → b < 0x40000000 → Some x ≡ m a → Some y ≡ m b → x ≡ y → (x ≡ 0 → ⊥) → compare_at m a b ≡ compare_at m (a + 1) (b + 1)
+pub compare-next : (m : Bytes) (a b x y : ℕ) → a < 2 ^ 64 → b < 2 ^ 64 → Some x ≡ m a → Some y ≡ m b → x ≡ y → (x ≡ 0 → ⊥) → compare_at m a b ≡ compare_at m (a + 1) (b + 1)
 compare-next m a b x y p q i j e h = compare-both m a b x y p q i j ∙ compared-step x y (run m (a + 1)) (run m (b + 1)) e h
 
 pub again : (m : Bytes) (a b i : ℕ) → compare_at m (a + i + 1) (b + i + 1) ≡ compare_at m (a + (i + 1)) (b + (i + 1))
@@ -110,16 +110,16 @@ number_at negative n m a = number_in negative n (run m a)
 pub number-none : (negative : Bool) (n : ℕ) (m : Bytes) (a : ℕ) → None ≡ m a → number_at negative n m a ≡ None
 number-none negative n m a is = rw (run-none m a is) refl
 
-pub number-top : (negative : Bool) (n : ℕ) (m : Bytes) (a : ℕ) → 0x40000000 ≤ a → number_at negative n m a ≡ None
+pub number-top : (negative : Bool) (n : ℕ) (m : Bytes) (a : ℕ) → 2 ^ 64 ≤ a → number_at negative n m a ≡ None
 number-top negative n m a le = rw (run-end m a le) refl
 
-pub number-end : (negative : Bool) (n : ℕ) (m : Bytes) (a b : ℕ) → a < 0x40000000 → Some b ≡ m a → (b < 48) ⊎ (57 < b) → number_at negative n m a ≡ int_word negative n
+pub number-end : (negative : Bool) (n : ℕ) (m : Bytes) (a b : ℕ) → a < 2 ^ 64 → Some b ≡ m a → (b < 48) ⊎ (57 < b) → number_at negative n m a ≡ int_word negative n
 number-end negative n m a b lt is h = rw (run-some m a b lt is) (number-stops negative n b (run m (a + 1)) h)
 
-pub number-more : (negative : Bool) (n : ℕ) (m : Bytes) (a b : ℕ) → a < 0x40000000 → Some b ≡ m a → 48 ≤ b → b ≤ 57 → number_at negative n m a ≡ number_at negative (n * 10 + (b - 48)) m (a + 1)
+pub number-more : (negative : Bool) (n : ℕ) (m : Bytes) (a b : ℕ) → a < 2 ^ 64 → Some b ≡ m a → 48 ≤ b → b ≤ 57 → number_at negative n m a ≡ number_at negative (n * 10 + (b - 48)) m (a + 1)
 number-more negative n m a b lt is le ge = rw (run-some m a b lt is) (number-step negative n b (run m (a + 1)) le ge)
 
-pub number-over : (negative : Bool) (n : ℕ) (m : Bytes) (a b : ℕ) → a < 0x40000000 → Some b ≡ m a → 48 ≤ b → b ≤ 57 → 2 ^ 31 < n * 10 + (b - 48) → number_at negative n m a ≡ None
+pub number-over : (negative : Bool) (n : ℕ) (m : Bytes) (a b : ℕ) → a < 2 ^ 64 → Some b ≡ m a → 48 ≤ b → b ≤ 57 → 2 ^ 31 < n * 10 + (b - 48) → number_at negative n m a ≡ None
 number-over negative n m a b lt is le ge big = number-more negative n m a b lt is le ge ∙ number-big negative (n * 10 + (b - 48)) (run m (a + 1)) big
 
 abbrev pub atoi_at : Bytes → ℕ → Option ℕ
@@ -128,28 +128,28 @@ atoi_at m a = atoi_in (run m a)
 pub atoi-none : (m : Bytes) (a : ℕ) → None ≡ m a → atoi_at m a ≡ None
 atoi-none m a is = rw (run-none m a is) refl
 
-pub atoi-top : (m : Bytes) (a : ℕ) → 0x40000000 ≤ a → atoi_at m a ≡ None
+pub atoi-top : (m : Bytes) (a : ℕ) → 2 ^ 64 ≤ a → atoi_at m a ≡ None
 atoi-top m a le = rw (run-end m a le) refl
 
-pub atoi-space : (m : Bytes) (a b : ℕ) → a < 0x40000000 → Some b ≡ m a → is_space b ≡ true → atoi_at m a ≡ atoi_at m (a + 1)
+pub atoi-space : (m : Bytes) (a b : ℕ) → a < 2 ^ 64 → Some b ≡ m a → is_space b ≡ true → atoi_at m a ≡ atoi_at m (a + 1)
 atoi-space m a b lt is t = rw (run-some m a b lt is, t) refl
 
-pub atoi-signed : (m : Bytes) (a b : ℕ) → a < 0x40000000 → Some b ≡ m a → is_space b ≡ false → atoi_at m a ≡ signed_in (run m a)
+pub atoi-signed : (m : Bytes) (a b : ℕ) → a < 2 ^ 64 → Some b ≡ m a → is_space b ≡ false → atoi_at m a ≡ signed_in (run m a)
 atoi-signed m a b lt is t = rw (run-some m a b lt is, t) refl
 
 abbrev pub signed_at : Bytes → ℕ → Option ℕ
 signed_at m a = signed_in (run m a)
 
-pub signed-minus : (m : Bytes) (a b : ℕ) → a < 0x40000000 → m a ≡ Some b → b ≡ 45 → signed_at m a ≡ number_at true 0 m (a + 1)
+pub signed-minus : (m : Bytes) (a b : ℕ) → a < 2 ^ 64 → m a ≡ Some b → b ≡ 45 → signed_at m a ≡ number_at true 0 m (a + 1)
 signed-minus m a b lt is e = let t : eqb b 45 ≡ true = grind arith in rw (run-some m a b lt (sym is), t) refl
 
-pub signed-plus : (m : Bytes) (a b : ℕ) → a < 0x40000000 → m a ≡ Some b → b ≡ 43 → signed_at m a ≡ number_at false 0 m (a + 1)
+pub signed-plus : (m : Bytes) (a b : ℕ) → a < 2 ^ 64 → m a ≡ Some b → b ≡ 43 → signed_at m a ≡ number_at false 0 m (a + 1)
 signed-plus m a b lt is e = let t : eqb b 45 ≡ false = grind arith in let u : eqb b 43 ≡ true = grind arith in rw (run-some m a b lt (sym is), t, u) refl
 
-pub signed-none : (m : Bytes) (a b : ℕ) → a < 0x40000000 → m a ≡ Some b → (b ≡ 45 → ⊥) → (b ≡ 43 → ⊥) → signed_at m a ≡ number_at false 0 m a
+pub signed-none : (m : Bytes) (a b : ℕ) → a < 2 ^ 64 → m a ≡ Some b → (b ≡ 45 → ⊥) → (b ≡ 43 → ⊥) → signed_at m a ≡ number_at false 0 m a
 signed-none m a b lt is x y = let t : eqb b 45 ≡ false = grind arith in let u : eqb b 43 ≡ false = grind arith in rw (run-some m a b lt (sym is), t, u) refl
 
-pub reached : (a b i : ℕ) → 0x40000000 - max a b ≤ i → (0x40000000 ≤ a + i) ⊎ (0x40000000 ≤ b + i)
+pub reached : (a b i : ℕ) → 2 ^ 64 - max a b ≤ i → (2 ^ 64 ≤ a + i) ⊎ (2 ^ 64 ≤ b + i)
 reached a b i h = ⊎_elim (λ lt. inr (omega arith)) (λ ge. inl (omega arith)) (cases_lt a b)
 
 -- ---- the bytes of a string
@@ -181,7 +181,7 @@ string-told m a e h = by (string_in (run m a)) refl h
     by (Some s) is h =
         let z : e ≡ a + length s = cc in
         let k : length s ≡ e - a = omega arith in
-        is ∙ ap Some (sym (string-bytes (memory_end - a) m a s is) ∙ ap (λ n. bytes_from n m a) k)
+        is ∙ ap Some (sym (string-bytes (address_end - a) m a s is) ∙ ap (λ n. bytes_from n m a) k)
 
 pub string-no : (m : Bytes) (a : ℕ) → None ≡ option_map (λ s. a + length s) (string_in (run m a)) → string_in (run m a) ≡ None
 string-no m a h = by (string_in (run m a)) h

@@ -1,6 +1,6 @@
 -- Ranges of bytes that are copied and filled.
 use Rattle.std.specs.Prelude.{ℕ, zero, suc, ◌+◌, ◌-◌, ◌&&◌, Bool, true, nat_lt, nat_le, Option, Some, None, is_some, if◌then◌else◌}
-use Rattle.lg_host.specs.Runs.{Bytes, memory_end}
+use Rattle.lg_host.specs.Runs.{Bytes, address_end}
 
 -- bytes that are written, by their addresses; None where nothing is written
 abbrev pub Changes : Type 0
@@ -31,9 +31,9 @@ unfoldable pub can_write : (ℕ → Bool) → ℕ → ℕ → Bool
 can_write room from zero = true
 can_write room from (suc count) = room from && can_write room (from + 1) count
 
--- whether so many bytes from an address on end before the end of memory
-abbrev pub is_below_end : ℕ → ℕ → Bool
-is_below_end from count = nat_le (from + count) memory_end
+-- whether so many bytes from an address on have addresses
+abbrev pub is_addressed : ℕ → ℕ → Bool
+is_addressed from count = nat_le (from + count) address_end
 
 -- whether the distance of two addresses is below a number
 abbrev pub overlaps : ℕ → ℕ → ℕ → Bool

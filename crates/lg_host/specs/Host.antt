@@ -9,7 +9,7 @@ use Rattle.lg_io.specs.Counts.{Rose}
 use Rattle.lg_io.specs.Wrote.{AppendsPrefix}
 use Rattle.lg_host.specs.Runs.{Bytes, run}
 use Rattle.lg_host.specs.Strings.{string_in, compared, atoi_in}
-use Rattle.lg_host.specs.Blocks.{Changes, unchanged, over, copied, filled, can_write, is_below_end, overlaps}
+use Rattle.lg_host.specs.Blocks.{Changes, unchanged, over, copied, filled, can_write, is_addressed, overlaps}
 use Rattle.lg_host.specs.Printed.{printed_at}
 use Rattle.lg_host.specs.declared.format.Reading.TheVariants as reading
 use Rattle.lg_host.specs.declared.host_end.HostEnd.{HostEnd}
@@ -70,13 +70,13 @@ calloc mark size = if fits mark size then Gives mark (filled mark 0 size) (mark 
 abbrev pub memset : Mem → ℕ → ℕ → ℕ → Host
 memset m to word count =
     if count == 0 then Gives to unchanged m.mark []
-    else if is_below_end to count && can_write m.room to count then Gives to (filled to (word % 256) count) m.mark []
+    else if is_addressed to count && can_write m.room to count then Gives to (filled to (word % 256) count) m.mark []
     else Undefined
 
 abbrev pub memcpy : Mem → ℕ → ℕ → ℕ → Host
 memcpy m to from count =
     if count == 0 then Gives to unchanged m.mark []
-    else if is_below_end to count && is_below_end from count && not (overlaps to from count) && mapped m.bytes from count && can_write m.room to count then Gives to (copied m.bytes to from count) m.mark []
+    else if is_addressed to count && is_addressed from count && not (overlaps to from count) && mapped m.bytes from count && can_write m.room to count then Gives to (copied m.bytes to from count) m.mark []
     else Undefined
 
 -- how many arguments are named

@@ -1,13 +1,13 @@
 -- The bytes that can be read from an address on.
-use Rattle.std.specs.Prelude.{ℕ, zero, suc, ◌+◌, ◌-◌, List, [], ◌∷◌, Option, Some, None}
+use Rattle.std.specs.Prelude.{ℕ, zero, suc, ◌+◌, ◌-◌, ◌^◌, List, [], ◌∷◌, Option, Some, None}
 
 -- bytes by their addresses; one that can't be read is None
 abbrev pub Bytes : Type 0
 Bytes = ℕ → Option ℕ
 
--- no part of memory lies from this address on
-abbrev pub memory_end : ℕ
-memory_end = 0x40000000
+-- addresses are words: one more than the largest
+abbrev pub address_end : ℕ
+address_end = 2 ^ 64
 
 -- a byte before others, of which none counts where the byte can't be read
 abbrev pub before : Option ℕ → List ℕ → List ℕ
@@ -21,4 +21,4 @@ run_of (suc n) m a = before (m a) (run_of n m (a + 1))
 
 -- the bytes from an address on, up to the first that can't be read
 abbrev pub run : Bytes → ℕ → List ℕ
-run m a = run_of (memory_end - a) m a
+run m a = run_of (address_end - a) m a

@@ -3,7 +3,7 @@
 ghost use Rattle.std.specs.Prelude.{◌≡◌, ◌≤◌, ◌<◌, ◌+◌, ◌-◌, ◌*◌, ◌%◌, ◌^◌, ℕ, IfSome};
 ghost use Rattle.lg_host.specs.Host.{memory, Reserves, MemSays, malloc, calloc, memset, memcpy};
 
-use crate::blocks::{can_get_all, can_put_all, copy, fill, is_below_end, overlaps};
+use crate::blocks::{can_get_all, can_put_all, copy, fill, is_addressed, overlaps};
 use crate::heap_mark::HeapMark;
 use crate::host_end::HostEnd;
 use lg_base::space::Space;
@@ -76,7 +76,7 @@ pub fn memset<S: Space>(to: u64, word: u64, count: u64, mem: &mut S, heap: &mut 
     if count == 0 {
         return HostEnd::Value(to);
     }
-    if !is_below_end(to, count) {
+    if !is_addressed(to, count) {
         return HostEnd::Undefined;
     }
     if !can_put_all(mem, to, count) {
@@ -95,10 +95,10 @@ pub fn memcpy<S: Space>(to: u64, from: u64, count: u64, mem: &mut S, heap: &mut 
     if count == 0 {
         return HostEnd::Value(to);
     }
-    if !is_below_end(to, count) {
+    if !is_addressed(to, count) {
         return HostEnd::Undefined;
     }
-    if !is_below_end(from, count) {
+    if !is_addressed(from, count) {
         return HostEnd::Undefined;
     }
     if overlaps(to, from, count) {

@@ -1,17 +1,16 @@
 // Ranges of bytes in memory.
 
-ghost use Rattle.std.specs.Prelude.{◌≡◌, ◌≤◌, ◌+◌, ℕ, true, false, ◌&&◌, ◌||◌, ◌==◌, not};
+ghost use Rattle.std.specs.Prelude.{◌≡◌, ◌≤◌, ◌+◌, ◌^◌, ℕ, true, false, ◌&&◌, ◌||◌, ◌==◌, not};
 ghost use Rattle.lg_base.specs.Spaces.{mapped};
-ghost use Rattle.lg_host.specs.Blocks.{over, copied, filled, can_write, is_below_end, overlaps};
+ghost use Rattle.lg_host.specs.Blocks.{over, copied, filled, can_write, is_addressed, overlaps};
 
-use crate::strings::MEMORY_END;
 use lg_base::space::Space;
 
-/// Whether a range ends before the end of memory.
-pub fn is_below_end(from: u64, count: u64) -> bool
-    ensures { result ≡ is_below_end from count }
+/// Whether so many bytes from an address on have addresses.
+pub fn is_addressed(from: u64, count: u64) -> bool
+    ensures { result ≡ is_addressed from count }
 {
-    count <= MEMORY_END && from <= MEMORY_END - count
+    count == 0 || count - 1 <= u64::MAX - from
 }
 
 /// Whether the distance of two addresses is below a number.
@@ -27,7 +26,7 @@ pub fn overlaps(to: u64, from: u64, count: u64) -> bool
 
 /// Whether all of a range can be read.
 pub fn can_get_all<S: Space>(mem: &S, from: u64, count: u64) -> bool
-    requires { from + count ≤ 0x40000000 }
+    requires { from + count ≤ 2 ^ 64 }
     ensures { result ≡ mapped (S.byte_of mem.now) from count }
 {
     for i in 0..count {
@@ -40,7 +39,7 @@ pub fn can_get_all<S: Space>(mem: &S, from: u64, count: u64) -> bool
 
 /// Whether all of a range can be written.
 pub fn can_put_all<S: Space>(mem: &S, from: u64, count: u64) -> bool
-    requires { from + count ≤ 0x40000000 }
+    requires { from + count ≤ 2 ^ 64 }
     ensures { result ≡ can_write (S.room mem.now) from count }
 {
     for i in 0..count {
@@ -53,7 +52,7 @@ pub fn can_put_all<S: Space>(mem: &S, from: u64, count: u64) -> bool
 
 /// Sets the bytes of a range.
 pub fn fill<S: Space>(mem: &mut S, to: u64, byte: u8, count: u64)
-    requires below { to + count ≤ 0x40000000 }
+    requires below { to + count ≤ 2 ^ 64 }
     requires can { can_write (S.room mem.old) to count ≡ true }
     ensures bytes { S.byte_of mem.new ≡ over (filled to byte count) (S.byte_of mem.old) }
     ensures rooms { S.room mem.new ≡ S.room mem.old }
@@ -65,8 +64,8 @@ pub fn fill<S: Space>(mem: &mut S, to: u64, byte: u8, count: u64)
 
 /// Copies the bytes of a range.
 pub fn copy<S: Space>(mem: &mut S, to: u64, from: u64, count: u64)
-    requires below { to + count ≤ 0x40000000 }
-    requires below_from { from + count ≤ 0x40000000 }
+    requires below { to + count ≤ 2 ^ 64 }
+    requires below_from { from + count ≤ 2 ^ 64 }
     requires can { can_write (S.room mem.old) to count ≡ true }
     requires can_read { mapped (S.byte_of mem.old) from count ≡ true }
     requires apart { overlaps to from count ≡ false }

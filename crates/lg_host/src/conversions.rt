@@ -43,7 +43,7 @@ fn put_padded<'a, S: Space, O: Sink>(
     out: &mut O,
 ) -> Result<Option<u64>, SinkFault>
     requires len { length (part_bytes (S.byte_of mem.now) body) ≡ len }
-    requires small { len < 2 ^ 32 }
+    requires small { length sign.now + len < 2 ^ 64 }
     requires sign { length sign.now ≤ 2 }
     ensures { Told (Some (padded style sign.now (part_bytes (S.byte_of mem.now) body.entry)))
         (output (O.taken out.old) buffer.old (O.faults out.old))

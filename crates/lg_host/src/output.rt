@@ -55,7 +55,7 @@ pub fn puts<S: Space, O: Sink>(mem: &S, from: u64, out: &mut O) -> HostEnd
         return HostEnd::Undefined;
     };
     match write_parts(mem, &[Part::Text(from, end), Part::Bytes(b"\n")], out) {
-        Ok(()) => HostEnd::Value(int_answer(end - from + 1)),
+        Ok(()) => HostEnd::Value(int_answer((end - from).wrapping_add(1))),
         Err(_) => HostEnd::WriteFault,
     }
 }

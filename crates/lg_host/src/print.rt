@@ -11,7 +11,6 @@ use crate::buffer::Buffer;
 use crate::conversions::convert;
 use crate::format::{Kind, Next, Reading, Style};
 use crate::letters::{is_plain, next};
-use crate::strings::MEMORY_END;
 use crate::walk::Walk;
 use lg_base::space::Space;
 use lg_io::sink::{Sink, SinkFault};
@@ -108,7 +107,7 @@ fn put_format<S: Space, O: Sink>(
         used: 0,
         count: 0,
     };
-    for at in from..MEMORY_END {
+    for at in from..=u64::MAX {
         let Some(byte) = mem.get(at) else {
             return Ok(None);
         };
@@ -134,7 +133,8 @@ pub fn print<S: Space, O: Sink>(
     args: &[u64],
     out: &mut O,
 ) -> Result<Option<u64>, SinkFault>
-    ensures { Prints (printed_at (S.byte_of mem.now) Reading.Plain from args.now) (O.taken out.old) (O.taken out.new) (O.faults out.old) (O.faults out.new) result }
+    ensures { Prints (printed_at (S.byte_of mem.now) Reading.Plain from args.now)
+        (O.taken out.old) (O.taken out.new) (O.faults out.old) (O.faults out.new) result }
 {
     let mut buffer = Buffer::new();
     match put_format(mem, from, args, &mut buffer, out) {

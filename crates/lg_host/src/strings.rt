@@ -1,21 +1,18 @@
 // Strings of C in memory.
 
-ghost use Rattle.std.specs.Prelude.{◌≡◌, ℕ, ◌+◌, ◌<◌, ◌≤◌, Some, IfSome, length};
+ghost use Rattle.std.specs.Prelude.{◌≡◌, ℕ, ◌+◌, ◌≤◌, Some, IfSome, length};
 ghost use Rattle.std.specs.Option.{option_map};
 ghost use Rattle.lg_host.specs.Runs.{run};
 ghost use Rattle.lg_host.specs.Strings.{string_in, compared, number_in, signed_in, atoi_in, int_word, is_space};
 
 use lg_base::space::Space;
 
-/// No part of memory lies from this address on.
-pub const MEMORY_END: u64 = 0x4000_0000;
-
 /// The address of the zero byte that ends the string at an address; None where a byte before it can't be read.
 pub fn string_end<S: Space>(mem: &S, from: u64) -> Option<u64>
     ensures value { result ≡ option_map (λ s. from + length s) (string_in (run (S.byte_of mem.now) from)) }
-    ensures below { IfSome result (λ end. (from ≤ end) × (end < 0x40000000)) }
+    ensures behind { IfSome result (λ end. from ≤ end) }
 {
-    for at in from..MEMORY_END {
+    for at in from..=u64::MAX {
         let Some(byte) = mem.get(at) else {
             return None;
         };
@@ -30,7 +27,7 @@ pub fn string_end<S: Space>(mem: &S, from: u64) -> Option<u64>
 pub fn compare<S: Space>(mem: &S, first: u64, second: u64) -> Option<u64>
     ensures { result ≡ compared (run (S.byte_of mem.now) first) (run (S.byte_of mem.now) second) }
 {
-    for i in 0..MEMORY_END.saturating_sub(first.max(second)) {
+    for i in 0..=u64::MAX - first.max(second) {
         let Some(a) = mem.get(first + i) else {
             return None;
         };
@@ -54,7 +51,7 @@ pub fn compare<S: Space>(mem: &S, first: u64, second: u64) -> Option<u64>
 pub fn atoi<S: Space>(mem: &S, from: u64) -> Option<u64>
     ensures { result ≡ atoi_in (run (S.byte_of mem.now) from) }
 {
-    for at in from..MEMORY_END {
+    for at in from..=u64::MAX {
         let Some(byte) = mem.get(at) else {
             return None;
         };
@@ -74,16 +71,25 @@ fn is_space(byte: u8) -> bool
 
 // The number from its sign or first digit on.
 fn signed<S: Space>(mem: &S, at: u64, byte: u8) -> Option<u64>
-    requires low { at < 0x40000000 }
     requires here { S.byte_of mem.now at ≡ Some byte }
     ensures { result ≡ signed_in (run (S.byte_of mem.now) at) }
 {
     if byte == b'-' {
-        number(mem, at + 1, true)
+        number_behind(mem, at, true)
     } else if byte == b'+' {
-        number(mem, at + 1, false)
+        number_behind(mem, at, false)
     } else {
         number(mem, at, false)
+    }
+}
+
+// The number of the digits behind an address, of which there is none behind the largest.
+fn number_behind<S: Space>(mem: &S, at: u64, negative: bool) -> Option<u64>
+    ensures { result ≡ number_in negative 0 (run (S.byte_of mem.now) (at + 1)) }
+{
+    match at.checked_add(1) {
+        Some(from) => number(mem, from, negative),
+        None => None,
     }
 }
 
@@ -92,7 +98,7 @@ fn number<S: Space>(mem: &S, from: u64, negative: bool) -> Option<u64>
     ensures { result ≡ number_in negative 0 (run (S.byte_of mem.now) from) }
 {
     let mut value: u64 = 0;
-    for at in from..MEMORY_END {
+    for at in from..=u64::MAX {
         let Some(byte) = mem.get(at) else {
             return None;
         };

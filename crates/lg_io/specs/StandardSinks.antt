@@ -31,6 +31,10 @@ source_of selected.Nothing = Source.NoText
 source_of (selected.File f) = Source.FileText
 source_of (selected.Input i) = Source.InputText
 
+-- what is seen of texts, by what a file and the standard input tell that is left of them
+abbrev pub seen_texts : {F I : Type 0} → (F → Option (List ℕ)) → (I → Option (List ℕ)) → Selected F I → ℕ → ReaderState
+seen_texts file input selected faults = record { left = left_of file input selected; source = source_of selected; faults = faults }
+
 -- the standard input has the name `-`, and every other name is that of a file
 abbrev pub source_under : List ℕ → Source
 source_under name = if bytes_eq name (codes "-") then Source.InputText else Source.FileText

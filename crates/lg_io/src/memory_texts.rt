@@ -4,7 +4,7 @@ ghost use Rattle.std.specs.Prelude.{◌≡◌, ◌<◌, ◌≤◌, ℕ, [], ◌�
 ghost use Rattle.std.specs.Io.KnownBytes.{ReadConsumes};
 ghost use Rattle.lg_io.specs.Counts.{HasCause};
 ghost use Rattle.lg_io.specs.NamedTexts.{text_under, Selects};
-ghost use Rattle.lg_io.specs.Rests.{rest_of};
+ghost use Rattle.lg_io.specs.Rests.{rest_of, IsPlaceOf};
 ghost use Rattle.lg_io.specs.MemoryTexts.{select_answer, after_select, read_answer, read_into, after_read};
 
 use crate::calls::FailingCalls;
@@ -39,7 +39,7 @@ impl Model for MemoryTexts {
 
 // The place of the first text of a name.
 fn place_of(texts: &[NamedText], name: &str) -> Option<usize>
-    ensures { MatchOption result (text_under texts.now name.now ≡ None) (λ place. (place < length texts.now) × (text_under texts.now name.now ≡ Some (rest_of texts.now (Some place) 0))) }
+    ensures { MatchOption result (text_under texts.now name.now ≡ None) (IsPlaceOf texts.now name.now) }
 {
     for (place, named) in texts.iter().enumerate() {
         if named.has_name(name) {

@@ -85,11 +85,11 @@ pub struct StdTexts<'a, R: Files + Input> {
 }
 
 impl<'a, R: Files + Input> Model for StdTexts<'a, R> {
-    ghost use Rattle.lg_io.specs.StandardSinks.{ReaderState, left_of, source_of};
+    ghost use Rattle.lg_io.specs.StandardSinks.{ReaderState, seen_texts};
 
     ghost Value = { ReaderState };
 
-    ghost view = { λ texts. record { left = left_of R.File.remaining R.Reader.remaining texts.selected; source = source_of texts.selected; faults = texts.faults } };
+    ghost view = { λ texts. seen_texts R.File.remaining R.Reader.remaining texts.selected texts.faults };
 }
 
 impl<'a, R: Files + Input> StdTexts<'a, R> {

@@ -20,7 +20,8 @@ fn label_before(next: &[Option<Label>], first: Label, label: Label) -> Label
     requires first { first.0 < label.0 }
     ensures bound { (at : ℕ → Bool) (ends : Option Ends) → IsChain at next.now ends → at first.0 ≡ true → at result.0 ≡ true }
     ensures before { result.0 < label.0 }
-    ensures none { (at : ℕ → Bool) (ends : Option Ends) → IsChain at next.now ends → at first.0 ≡ true → at label.0 ≡ false → (k : ℕ) → result.0 < k → k < label.0 → at k ≡ false }
+    ensures none { (at : ℕ → Bool) (ends : Option Ends) → IsChain at next.now ends → at first.0 ≡ true → at label.0 ≡ false
+        → (k : ℕ) → result.0 < k → k < label.0 → at k ≡ false }
 {
     let mut before = first;
     while let Some(behind) = next[before.0 as usize] {
@@ -47,7 +48,8 @@ pub fn link(next: &mut [Option<Label>], ends: Option<Ends>, label: Label) -> End
     requires label { label.0 < length next.old }
     requires chain { (at : ℕ → Bool) × IsChain at next.old ends × (at label.0 ≡ false) }
     ensures chain { (at more : ℕ → Bool) → IsChain at next.old ends → at label.0 ≡ false → IsJoined at more label.0 → IsChain more next.new (Some result) }
-    ensures others { (at : ℕ → Bool) → IsChain at next.old ends → at label.0 ≡ false → (k : ℕ) → k ≢ label.0 → at k ≡ false → slice_index_or next.new k None ≡ slice_index_or next.old k None }
+    ensures others { (at : ℕ → Bool) → IsChain at next.old ends → at label.0 ≡ false → (k : ℕ) → k ≢ label.0 → at k ≡ false
+        → slice_index_or next.new k None ≡ slice_index_or next.old k None }
 {
     let Some(ends) = ends else {
         next[label.0 as usize] = None;

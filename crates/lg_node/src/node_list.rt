@@ -169,7 +169,8 @@ impl NodeList {
     /// The label that comes next at the node at which a label, which is below `labels`, is bound.
     pub fn next_at(&self, label: Label) -> Option<Label>
         requires { label.0 < length self.now.words }
-        ensures found { (i : ℕ) → IsTrue (is_at i (slice_index_or self.now.places label.0 None)) → IfSome result (λ l. NextAt self.now.places i (label.0 + 1) l.0) }
+        ensures found { (i : ℕ) → IsTrue (is_at i (slice_index_or self.now.places label.0 None))
+            → IfSome result (λ l. NextAt self.now.places i (label.0 + 1) l.0) }
         ensures none { (i : ℕ) → IsTrue (is_at i (slice_index_or self.now.places label.0 None)) → IfNone result (NoneAt self.now.places i (label.0 + 1)) }
     {
         self.bindings.next_at(label)

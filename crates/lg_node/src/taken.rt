@@ -24,7 +24,8 @@ fn mark_operand(marks: &mut [bool], operand: Operand)
 
 // Marks the labels that are among the operands.
 fn mark_operands(marks: &mut [bool], operands: &[Operand])
-    ensures { (label : ℕ) → label < length marks.old → slice_index_or marks.new label false ≡ (slice_index_or marks.old label false || list_any (is_label label) operands.now) }
+    ensures { (label : ℕ) → label < length marks.old
+        → slice_index_or marks.new label false ≡ (slice_index_or marks.old label false || list_any (is_label label) operands.now) }
 {
     for operand in operands {
         mark_operand(marks, *operand);
@@ -33,7 +34,8 @@ fn mark_operands(marks: &mut [bool], operands: &[Operand])
 
 // Marks the labels whose addresses a node names.
 fn mark_node(marks: &mut [bool], node: &Node)
-    ensures { (label : ℕ) → label < length marks.old → slice_index_or marks.new label false ≡ (slice_index_or marks.old label false || names_address label node.now) }
+    ensures { (label : ℕ) → label < length marks.old
+        → slice_index_or marks.new label false ≡ (slice_index_or marks.old label false || names_address label node.now) }
 {
     if takes_address(node.op) {
         mark_operands(marks, node.operands.as_slice());

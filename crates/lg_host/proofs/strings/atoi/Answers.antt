@@ -1,4 +1,4 @@
-use Rattle.std.proofs.Common.{sym, ◌∙◌, arith}
+use Rattle.std.proofs.Common.{◌+◌, sym, ◌∙◌, arith}
 use Rattle.lg_host.proofs.StringLemmas.{atoi-none, atoi-signed, atoi-space, atoi-top}
 use Rattle.lg_host.proofs.strings.atoi.Goals as goal
 
@@ -13,3 +13,8 @@ loop-at-preserved g c = c.loop-at.invariant ∙ atoi-space (g.S.Space.byte_of c.
 
 pub returns : goal.returns
 returns g c = sym (c.loop-at.invariant ∙ atoi-top (g.S.Space.byte_of c.args.mem.now) _ (omega arith))
+
+pub returns-else-not-is_space : goal.returns-else-not-is_space
+returns-else-not-is_space g c =
+    let m = g.S.Space.byte_of c.args.mem.now in
+    sym (c.loop-at.invariant ∙ atoi-space m _ _ (omega arith) c.in-Some.ensures (sym c.is_space.ensures ∙ c.if-not-is_space.false) ∙ atoi-top m (c.loop-at.at + 1) (omega arith))

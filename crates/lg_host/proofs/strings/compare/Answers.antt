@@ -1,4 +1,4 @@
-use Rattle.std.proofs.Common.{sym, ◌∙◌, arith}
+use Rattle.std.proofs.Common.{◌+◌, sym, ◌∙◌, arith}
 use Rattle.lg_host.proofs.StringLemmas.{compare-none, compare-none2, compare-less, compare-more, compare-zero, compare-next, compare-top, again, reached}
 use Rattle.lg_host.proofs.strings.compare.Goals as goal
 
@@ -22,3 +22,9 @@ loop-i-preserved g c = c.loop-i.invariant ∙ compare-next (g.S.Space.byte_of c.
 
 pub returns : goal.returns
 returns g c = sym (c.loop-i.invariant ∙ compare-top (g.S.Space.byte_of c.args.mem.now) _ _ (reached c.args.first c.args.second c.loop-i.i (omega arith)))
+
+pub returns-else-a-eq0 : goal.returns-else-a-eq0
+returns-else-a-eq0 g c =
+    let m = g.S.Space.byte_of c.args.mem.now in
+    sym (c.loop-i.invariant ∙ compare-next m _ _ _ _ (omega arith) (omega arith) c.in-Some.ensures c.in-Some-get.ensures (omega arith) c.if-a-eq0.false
+    ∙ again m c.args.first c.args.second c.loop-i.i ∙ compare-top m _ _ (reached c.args.first c.args.second (c.loop-i.i + 1) (omega arith)))

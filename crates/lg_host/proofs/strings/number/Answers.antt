@@ -1,4 +1,4 @@
-use Rattle.std.proofs.Common.{sym, ◌∙◌, inl, inr, arith}
+use Rattle.std.proofs.Common.{◌+◌, sym, ◌∙◌, inl, inr, arith}
 use Rattle.lg_host.proofs.StringLemmas.{number-none, number-end, number-over, number-more, number-top}
 use Rattle.lg_host.proofs.strings.number.Goals.{then-byte-lt48-via-then-byte-lt48, then-byte-lt48-via-else-byte-lt48+then-byte-gt57}
 use Rattle.lg_host.proofs.strings.number.Goals as goal
@@ -20,3 +20,8 @@ loop-at-preserved g c = record {
 
 pub returns : goal.returns
 returns g c = sym (c.loop-at.invariant.told ∙ number-top _ _ (g.S.Space.byte_of c.args.mem.now) _ (omega arith))
+
+pub returns-else-value-gt2147483648 : goal.returns-else-value-gt2147483648
+returns-else-value-gt2147483648 g c =
+    let m = g.S.Space.byte_of c.args.mem.now in
+    sym (c.loop-at.invariant.told ∙ number-more _ _ m _ _ (omega arith) c.in-Some.ensures (omega arith) (omega arith) ∙ number-top _ _ m (c.loop-at.at + 1) (omega arith))
