@@ -6,7 +6,7 @@ use mathlib.Core.Path.{fun_ext}
 use Rattle.lg_base.specs.Spaces.{raised, in_heap, mapped}
 use Rattle.lg_base.specs.declared.host_name.HostName.{HostName}
 use Rattle.lg_base.specs.declared.host_name.HostName.TheVariants as host
-use Rattle.lg_host.specs.Blocks.{Changes, unchanged, copied, filled, can_write, is_below_end, overlaps}
+use Rattle.lg_host.specs.Blocks.{Changes, unchanged, copied, filled, can_write, is_addressed, overlaps}
 use Rattle.lg_host.specs.Host.{Mem, Host, Gives, Exits, Undefined, heap_end, rounded, fits, text, answered, table, named, host_of, Out, HostSays}
 use Rattle.lg_host.specs.declared.host_end.HostEnd.{HostEnd}
 use Rattle.lg_host.specs.declared.host_end.HostEnd.TheVariants as end
@@ -56,8 +56,8 @@ table_mark host.Atoi a b c args v m h = answered_mark m.mark _ h
 table_mark host.Malloc a b c args v m h = if_mark m.mark (fits m.mark a) _ _ (λ t. handed m.mark a t) (same m.mark h)
 table_mark host.Calloc a b c args v m h = if_mark m.mark (fits m.mark (a * b)) _ _ (λ t. handed m.mark (a * b) t) (same m.mark h)
 table_mark host.Free a b c args v m h = same m.mark h
-table_mark host.Memcpy a b c args v m h = block_mark m.mark a (copied m.bytes a b c) (c == 0) (is_below_end a c && is_below_end b c && not (overlaps a b c) && mapped m.bytes b c && can_write m.room a c) h
-table_mark host.Memset a b c args v m h = block_mark m.mark a (filled a (b % 256) c) (c == 0) (is_below_end a c && can_write m.room a c) h
+table_mark host.Memcpy a b c args v m h = block_mark m.mark a (copied m.bytes a b c) (c == 0) (is_addressed a c && is_addressed b c && not (overlaps a b c) && mapped m.bytes b c && can_write m.room a c) h
+table_mark host.Memset a b c args v m h = block_mark m.mark a (filled a (b % 256) c) (c == 0) (is_addressed a c && can_write m.room a c) h
 table_mark host.Strlen a b c args v m h = answered_mark m.mark _ h
 table_mark host.Strcmp a b c args v m h = answered_mark m.mark _ h
 

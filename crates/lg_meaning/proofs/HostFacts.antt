@@ -6,7 +6,7 @@ use Rattle.std.proofs.lemmas.Bool.{and_parts, cases_eq}
 use Rattle.lg_base.specs.Spaces.{mapped}
 use Rattle.lg_base.specs.declared.host_name.HostName.{HostName}
 use Rattle.lg_base.specs.declared.host_name.HostName.TheVariants as host
-use Rattle.lg_host.specs.Blocks.{Changes, unchanged, in_range, copied, filled, can_write, is_below_end, overlaps}
+use Rattle.lg_host.specs.Blocks.{Changes, unchanged, in_range, copied, filled, can_write, is_addressed, overlaps}
 use Rattle.lg_host.specs.Runs.{run}
 use Rattle.lg_host.specs.Strings.{string_in, compared, atoi_in}
 use Rattle.lg_host.specs.Printed.{printed_at}
@@ -64,14 +64,14 @@ module _ (m : Mem) where
       (λ e. nothing 0 [])
 
   memset_writes : (to word count : ℕ) → OnGives (memset m to word count) (Writes m)
-  memset_writes to word count = on_if (count == 0) (Gives to unchanged m.mark []) (if is_below_end to count && can_write m.room to count then Gives to (filled to (word % 256) count) m.mark [] else Undefined) (Writes m)
+  memset_writes to word count = on_if (count == 0) (Gives to unchanged m.mark []) (if is_addressed to count && can_write m.room to count then Gives to (filled to (word % 256) count) m.mark [] else Undefined) (Writes m)
       (λ e. nothing to [])
-      (λ e. on_if (is_below_end to count && can_write m.room to count) (Gives to (filled to (word % 256) count) m.mark []) Undefined (Writes m)
-      (λ can. record { where_may = λ a b is. let t = in_there to count (Some (word % 256)) a b is in inl (can_there m.room count to a (and_parts (is_below_end to count) (can_write m.room to count) can).1 t.0 t.1); rises = omega arith; stays = λ h. h })
+      (λ e. on_if (is_addressed to count && can_write m.room to count) (Gives to (filled to (word % 256) count) m.mark []) Undefined (Writes m)
+      (λ can. record { where_may = λ a b is. let t = in_there to count (Some (word % 256)) a b is in inl (can_there m.room count to a (and_parts (is_addressed to count) (can_write m.room to count) can).1 t.0 t.1); rises = omega arith; stays = λ h. h })
       (λ no. tt))
 
   can_copy : ℕ → ℕ → ℕ → Bool
-  can_copy to from count = is_below_end to count && is_below_end from count && not (overlaps to from count) && mapped m.bytes from count
+  can_copy to from count = is_addressed to count && is_addressed from count && not (overlaps to from count) && mapped m.bytes from count
 
   memcpy_writes : (to from count : ℕ) → OnGives (memcpy m to from count) (Writes m)
   unfolding can_copy
