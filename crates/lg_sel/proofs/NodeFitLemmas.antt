@@ -18,9 +18,10 @@ use Rattle.lg_op.specs.declared.operand.Reg.{Reg}
 use Rattle.lg_sel.proofs.CountLemmas.{count-is}
 use Rattle.lg_sel.proofs.FamilyLemmas.{HoldsOfFamilies, of-node}
 use Rattle.lg_sel.proofs.OperandLemmas.{word-at, has-words, control-ends}
-use Rattle.lg_sel.specs.Asked.{NamesBelow, NameBelow, IsAsked}
+use Rattle.lg_sel_nodes.specs.Operands.{NamesBelow, NameBelow, HasWord, HaveWords}
+use Rattle.lg_sel.specs.Asked.{IsAsked}
 use Rattle.lg_sel.specs.Families.{Families, is_value, staged_count, node_items}
-use Rattle.lg_sel.specs.Selected.{IsFrame, is_pusharg, IsWord, HaveWords}
+use Rattle.lg_sel.specs.Selected.{IsFrame, is_pusharg}
 use Rattle.lg_sel_control.specs.Control.{is_control, ends_in_label}
 use Rattle.lg_sel_items.specs.Holes.{Each}
 use Rattle.lg_sel_memory.specs.Operands.{HasWords}
@@ -62,7 +63,7 @@ module _ {L : Type 0} (target : Target) (needs : Op → List Need) (F : Families
       pub arguments : (frame : ℕ) (n : Node) (t : ValueType) → IsFrame frame → Fit (F.argument frame t n)
       pub next_arguments : (n : Node) → Fit (F.next_argument n)
       pub results : (frame : ℕ) (n : Node) (t : ValueType) (live : Reg → Bool) (set : List Bool) (choices : List Choice) → IsFrame frame → n.op ≡ op.Retval t → InForm n → AreMade n live set choices → NameBelow labels n.operands → HaveWords n.operands → Fit (F.result frame t n choices)
-      pub pushes : (frame : ℕ) (n : Node) (j : ℕ) → IsFrame frame → j < 16 → NamesBelow labels (operand_at n 0) → IsWord (operand_at n 0) → Fit (F.push frame j n)
+      pub pushes : (frame : ℕ) (n : Node) (j : ℕ) → IsFrame frame → j < 16 → NamesBelow labels (operand_at n 0) → HasWord (operand_at n 0) → Fit (F.push frame j n)
       pub controls : (n : Node) (frame place : ℕ) → IsFrame frame → is_control n.op ≡ true → InForm n → NameBelow labels n.operands → HaveWords n.operands → ends_in_label n.operands ≡ false → Fit (F.control n.op n.operands frame place)
 
     module _ (f : FamiliesFit) (frame : ℕ) (sized : IsFrame frame) (live : Reg → Bool) (staged : List Bool) (choices : List Choice) (place : ℕ) where

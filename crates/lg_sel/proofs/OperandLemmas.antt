@@ -20,18 +20,19 @@ use Rattle.lg_op.specs.declared.operand.Operand.{Operand}
 use Rattle.lg_op.specs.declared.operand.Operand.TheVariants as operand
 use Rattle.lg_op.specs.declared.operand.Reg.{Reg}
 use Rattle.lg_meaning.specs.Steps.{operand_at}
-use Rattle.lg_sel.specs.Selected.{IsWord, HaveWords, is_label_for, has_label_for, may_take_label, TakesLabelsWell}
+use Rattle.lg_sel_nodes.specs.Operands.{HasWord, HaveWords}
+use Rattle.lg_sel.specs.Selected.{is_label_for, has_label_for, may_take_label, TakesLabelsWell}
 use Rattle.lg_sel.proofs.FamilyLemmas.{node_of}
 use Rattle.lg_sel_control.specs.Control.{is_control, ends_in_label}
 use Rattle.lg_sel_memory.specs.Operands.{is_label, HasWords}
 
 -- ---- numbers
-pub word-at : (xs : List Operand) (k : ℕ) → HaveWords xs → IsWord (slice_index_or xs k (operand.Number 0))
+pub word-at : (xs : List Operand) (k : ℕ) → HaveWords xs → HasWord (slice_index_or xs k (operand.Number 0))
 word-at [] k words = omega arith
 word-at (x ∷ xs) zero words = words.0
 word-at (x ∷ xs) (suc k) words = word-at xs k words.1
 
-pub word-is : (x : Operand) (v : ℕ) → x ≡ operand.Number v → IsWord x → v < 2 ^ 64
+pub word-is : (x : Operand) (v : ℕ) → x ≡ operand.Number v → HasWord x → v < 2 ^ 64
 word-is (operand.Number w) v e word = let same : w ≡ v = cc in omega (arith, same, word)
 word-is (operand.Reg r) v e word = cc
 word-is (operand.Label l) v e word = cc

@@ -1,24 +1,14 @@
 -- What is asked of a node, its choices and the labels of a buffer before its code is appended.
-use Rattle.std.specs.Prelude.{◌≡◌, ℕ, ◌<◌, Bool, true, List, [], ◌∷◌, ⊤}
+use Rattle.std.specs.Prelude.{◌≡◌, ℕ, Bool, true, List}
 use Rattle.lg_base.specs.declared.target.Target.{Target}
 use Rattle.lg_op.specs.Nodes.{InForm}
 use Rattle.lg_op.specs.declared.node.Node.{Node}
 use Rattle.lg_op.specs.declared.op.Op.{Op}
-use Rattle.lg_op.specs.declared.operand.Operand.{Operand}
-use Rattle.lg_op.specs.declared.operand.Operand.TheVariants as operand
 use Rattle.lg_op.specs.declared.operand.Reg.{Reg}
-use Rattle.lg_sel.specs.Selected.{AreChosen, AreFirst, is_pusharg, TakesLabelsWell, HaveWords}
+use Rattle.lg_sel_nodes.specs.Operands.{HaveWords, NameBelow}
+use Rattle.lg_sel.specs.Selected.{AreChosen, AreFirst, is_pusharg, TakesLabelsWell}
 use Rattle.lg_temp.specs.declared.choice.Choice.{Choice}
 use Rattle.lg_temp.specs.declared.choice.Need.{Need}
-
--- the labels of operands are below a number
-abbrev pub NamesBelow : ℕ → Operand → Type 0
-NamesBelow labels (operand.Label l) = l.0 < labels
-NamesBelow labels x = ⊤
-
-abbrev pub NameBelow : ℕ → List Operand → Type 0
-NameBelow labels [] = ⊤
-NameBelow labels (x ∷ xs) = NamesBelow labels x × NameBelow labels xs
 
 -- the choices are those for the node's needs, a `pushargr` or `pushargi` finds the first arguments staged, and the node names labels of the buffer, of
 -- which there are so many, and those in the place of an immediate only where they may stand

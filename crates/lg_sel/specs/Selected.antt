@@ -1,5 +1,5 @@
 -- What is asked of a node and its buffer, and when the buffer is finished, on every target.
-use Rattle.std.specs.Prelude.{◌≡◌, ℕ, ◌+◌, ◌-◌, ◌%◌, ◌^◌, ◌<◌, ◌≤◌, ◌||◌, Bool, true, false, List, [], ◌∷◌, ◌++◌, length, take, drop, replicate, slice_index, slice_index_or, Option, Some, None, ⊤}
+use Rattle.std.specs.Prelude.{◌≡◌, ℕ, ◌+◌, ◌-◌, ◌%◌, ◌^◌, ◌<◌, ◌≤◌, ◌||◌, Bool, true, false, List, [], ◌∷◌, ◌++◌, length, take, drop, replicate, slice_index, slice_index_or, Option, Some, None}
 use Rattle.std.specs.List.{All, list_any}
 use Rattle.lg_base.specs.Layout.{code_base, most_code}
 use Rattle.lg_base.specs.declared.target.Target.{Target}
@@ -77,15 +77,6 @@ may_take_label o = false
 
 abbrev pub TakesLabelsWell : Node → Type 0
 TakesLabelsWell node = has_label_for (forms_of node.op) node.operands ≡ true → may_take_label node.op ≡ true
-
--- ---- the numbers of a node
-abbrev pub IsWord : Operand → Type 0
-IsWord (operand.Number v) = v < 2 ^ 64
-IsWord x = ⊤
-
-abbrev pub HaveWords : List Operand → Type 0
-HaveWords [] = ⊤
-HaveWords (x ∷ xs) = IsWord x × HaveWords xs
 
 -- ---- what follows
 -- where a field at a place may be led in a buffer of this size: to the place of its label, if that is bound, and else to every place, which lies within

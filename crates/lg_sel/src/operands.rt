@@ -4,9 +4,8 @@ ghost use Rattle.std.specs.Prelude.{◌≡◌, ◌≢◌, ℕ, ◌≤◌, Some, 
 ghost use Rattle.lg_base.specs.Layout.{most_code};
 ghost use Rattle.lg_buf.specs.Buffers.{place_of};
 ghost use Rattle.lg_op.specs.declared.operand.Label.{Label};
-ghost use Rattle.lg_sel.specs.Asked.{NameBelow};
+ghost use Rattle.lg_sel_nodes.specs.Operands.{NameBelow, HasWord, HaveWords};
 ghost use Rattle.lg_sel.specs.Families.{staged_count};
-ghost use Rattle.lg_sel.specs.Selected.{IsWord, HaveWords};
 
 use lg_buf::{CodeBuf, Label32};
 use lg_op::Operand;
@@ -58,7 +57,7 @@ pub fn staged_count(staged: &Staged) -> u32
 
 // The number of an operand is a word.
 fn see_number(operand: Operand)
-    ensures { IsWord operand }
+    ensures { HasWord operand }
 {
     if let Operand::Number(value) = operand {
         let _value = value;

@@ -1,5 +1,5 @@
 -- The code of every node that branches, jumps, calls or returns, of `prolog`, `.align` and those without code, on a target, and that it carries them.
-use Rattle.std.specs.Prelude.{◌≡◌, ℕ, ◌^◌, ◌<◌, Bool, true, false, List, [], ◌∷◌, slice_index, ⊤}
+use Rattle.std.specs.Prelude.{◌≡◌, ℕ, Bool, true, false, List, [], ◌∷◌, slice_index}
 use Rattle.lg_base.specs.HostNames.{host_address}
 use Rattle.lg_base.specs.declared.host_name.HostName.{HostName}
 use Rattle.lg_op.specs.declared.op.Op.{Op}
@@ -28,6 +28,7 @@ use Rattle.lg_sel_control.specs.RegisterLeaps.{RegisterJumpsWalk, RegisterCallsL
 use Rattle.lg_sel_control.specs.Returns.{Returned, NoWord, OfRegister, OfNumber, OfLabel, ReturnsLead}
 use Rattle.lg_sel_control.specs.SumBranches.{SumBranchesLead}
 use Rattle.lg_sel_control.specs.Walks.{JumpsWalk, AlignmentsWalk}
+use Rattle.lg_sel_nodes.specs.Operands.{AreWords}
 
 -- ---- the code
 -- the code of each family: those with a frame take its size first, and those that lead to an address take their own and then that one
@@ -122,16 +123,6 @@ is_control o = false
 abbrev pub ends_in_label : List Operand → Bool
 ends_in_label (x ∷ y ∷ operand.Label l ∷ xs) = true
 ends_in_label xs = false
-
--- numbers are words, and labels lie low
-abbrev pub IsWord : List ℕ → Operand → Type 0
-IsWord addresses (operand.Number v) = v < 2 ^ 64
-IsWord addresses (operand.Label l) = slice_index addresses l.0 < 2 ^ 30
-IsWord addresses x = ⊤
-
-abbrev pub AreWords : List ℕ → List Operand → Type 0
-AreWords addresses [] = ⊤
-AreWords addresses (x ∷ xs) = IsWord addresses x × AreWords addresses xs
 
 -- what the code of each family does wherever it stands
 pub record Controls {Q I : Type 0} (R : Rows Q I) (scratch : ℕ → Bool) (fits : I → Type 0) (ready : HostName → (ℕ → ℕ) → Bool) (C : Codes I) : Type 0 where

@@ -1,5 +1,4 @@
 pub mod Control
-pub mod Givens
 pub mod Paddings
 pub mod Prologs
 pub mod RegisterLeaps

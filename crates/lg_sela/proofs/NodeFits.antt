@@ -8,19 +8,18 @@ use Rattle.lg_op.specs.declared.operand.Operand.TheVariants as operand
 use Rattle.lg_op.specs.declared.operand.Reg.{Reg}
 use Rattle.lg_meaning.specs.Steps.{operand_at}
 use Rattle.lg_op.specs.Nodes.{InForm}
-use Rattle.lg_sel.specs.Asked as asked
 use Rattle.lg_sel.proofs.LabelLemmas.{names, all-self}
 use Rattle.lg_sel.proofs.NodeEmissionLemmas as emission
 use Rattle.lg_sel.proofs.NodeFitLemmas as fit
 use Rattle.lg_sel.proofs.StoreLemmas.{allowed}
-use Rattle.lg_sel.specs.Selected.{AreFirst, HaveWords, IsFrame, TakesLabelsWell, is_pusharg}
+use Rattle.lg_sel_nodes.specs.Operands.{HaveWords, NamesBelow, NameBelow}
+use Rattle.lg_sel.specs.Selected.{AreFirst, IsFrame, TakesLabelsWell, is_pusharg}
 use Rattle.lg_sel.specs.Stores.{a64_stores}
 use Rattle.lg_sel_items.specs.declared.reach.Reach.{Reach}
 use Rattle.lg_sela.proofs.ControlEmissions.{controls-emit, prologs-emit}
 use Rattle.lg_sela.proofs.Emissions.{Names, Emits, more}
 use Rattle.lg_sela.proofs.MemoryEmissions.{loads-emit, stores-emit, arguments-emit, next-arguments-emit, pushes-emit}
-use Rattle.lg_sel.specs.Asked.{NamesBelow, NameBelow}
-use Rattle.lg_sela.proofs.OperandLemmas.{are-below, are-given}
+use Rattle.lg_sel_nodes.proofs.GivenLemmas.{are-given}
 use Rattle.lg_sela.proofs.ValueEmissions.{values-emit}
 use Rattle.lg_sela.specs.Items.{a64_families, node_items}
 use Rattle.lg_sela.specs.Selected.{needs, AreChosen, IsAsked}
@@ -68,7 +67,7 @@ Fit reach labels xs = fit.Fit Aarch64 needs (a64_families reach) IsItem NamesOne
 -- those of values
 values : (reach : Reach) (labels : ℕ) (n : Node) (live : Reg → Bool) (set : List Bool) (choices : List Choice) → AreFor (around Aarch64 n live set) (needs n.op) [] (needs n.op) choices → NameBelow labels n.operands → Fit reach labels (value_items n choices)
 values reach labels n live set choices are named =
-    record { instrs = (value-items-fit n live set choices are).fit; names = value-items-name labels n choices (are-below labels n.operands named) }
+    record { instrs = (value-items-fit n live set choices are).fit; names = value-items-name labels n choices named }
 
 -- the label that is passed is one of the buffer's
 passed : (labels : ℕ) (x : Operand) → NamesBelow labels x → (l : Label) → x ≡ operand.Label l → l.0 < labels
@@ -123,7 +122,7 @@ items-within reach frame live staged choices labels place n k =
 
 -- ---- what is asked of a node
 pub asked-of : (n : Node) (live : Reg → Bool) (staged : List Bool) (choices : List Choice) (labels : ℕ) (xs : List Operand) → InForm n → AreChosen n live staged choices
-    → (is_pusharg n.op ≡ true → AreFirst staged) → asked.NameBelow labels n.operands → TakesLabelsWell n → xs ≡ n.operands → HaveWords xs → IsAsked n live staged choices labels
+    → (is_pusharg n.op ≡ true → AreFirst staged) → NameBelow labels n.operands → TakesLabelsWell n → xs ≡ n.operands → HaveWords xs → IsAsked n live staged choices labels
 asked-of n live staged choices labels xs formed chosen first named takes e words =
     record { formed = formed; chosen = chosen; first = first; named = named; takes = takes; words = subst HaveWords e words }
 

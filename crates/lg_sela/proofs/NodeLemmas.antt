@@ -32,7 +32,7 @@ use Rattle.lg_sela.specs.Items.{a64_families, node_items}
 use Rattle.lg_sel.specs.Selected.{is_pusharg, may_take_label, IsNodeOf}
 use Rattle.lg_sela.specs.Selected.{IsAsked}
 use Rattle.lg_sel.proofs.NodeFitLemmas.{few-staged}
-use Rattle.lg_sela.proofs.OperandLemmas.{are-given, are-words}
+use Rattle.lg_sel_nodes.proofs.GivenLemmas.{are-given, are-words}
 use Rattle.lg_sela.proofs.PlaceLemmas.{control-items-at}
 use Rattle.lg_sela_control.specs.ControlFits.{AreEmitted}
 use Rattle.lg_sela_control.specs.ControlItems.{control_items, is_control}

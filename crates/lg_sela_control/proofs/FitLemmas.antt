@@ -45,7 +45,8 @@ use Rattle.lg_sel_items.specs.declared.reach.Reach.{Reach}
 use Rattle.lg_sel_items.specs.declared.reach.Reach.TheVariants.{Short, Near, Far}
 use Rattle.lg_sela_control.specs.Alignments.{padding, idle, align_code}
 use Rattle.lg_sela_control.specs.Branches.{comparison, taken}
-use Rattle.lg_sela_control.specs.ControlFits.{IsGiven, AreGiven, AreEmitted, ControlItemsFit}
+use Rattle.lg_sel_nodes.specs.Operands.{IsGiven, AreGiven}
+use Rattle.lg_sela_control.specs.ControlFits.{AreEmitted, ControlItemsFit}
 use Rattle.lg_sela_control.specs.ControlItems.{second_register, second_items, branch_if_items, register_leap_items, control_items, is_control}
 use Rattle.lg_sela_control.specs.ControlLaws.{ends_in_label}
 use Rattle.lg_sela_control.specs.Prologs.{stored_registers, stores_below, fall_code, prolog_code}

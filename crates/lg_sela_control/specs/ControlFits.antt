@@ -1,22 +1,14 @@
 -- The items of these nodes fit their instructions, name the labels of their operands, and have at most one fix.
 use Rattle.std.specs.Prelude.{◌≡◌, ℕ, ◌<◌, ◌≤◌, Bool, true, false, List, length}
 use Rattle.lg_op.specs.declared.node.Node.{Node}
-use Rattle.lg_op.specs.declared.operand.Operand.{Operand}
 use Rattle.lg_op.specs.Nodes.{InForm}
 use Rattle.lg_carry.specs.Carries.{leaps}
-use Rattle.lg_sel_control.specs.Givens as givens
+use Rattle.lg_sel_nodes.specs.Operands.{AreGiven}
 use Rattle.lg_sel_items.specs.declared.reach.Reach.{Reach}
 use Rattle.lg_sela_items.specs.declared.items.Item.{Item}
 use Rattle.lg_sela_items.specs.Items.{words_in, fixes_of, AreItems, NameLabels, StayWithin}
 use Rattle.lg_sela_control.specs.ControlItems.{control_items, is_control}
 use Rattle.lg_sela_control.specs.ControlLaws.{ends_in_label}
-
--- a number is a word, and a label is one of so many
-abbrev pub IsGiven : ℕ → Operand → Type 0
-IsGiven labels x = givens.IsGiven labels x
-
-abbrev pub AreGiven : ℕ → List Operand → Type 0
-AreGiven labels xs = givens.AreGiven labels xs
 
 -- the items can be appended to a buffer with so many labels, and where the node leaps there are some
 pub record AreEmitted (count : ℕ) (leaping : Bool) (xs : List Item) : Type 0 where

@@ -28,7 +28,7 @@ use Rattle.lg_carry_a64.proofs.RegisterLemmas.{register-small, register-off-link
 use Rattle.lg_sela_items.specs.Items.{ones}
 use Rattle.lg_sela_values.specs.BinaryCode.{register_code, second_register, number_form_code}
 use Rattle.lg_sela_values.specs.ValueItems.{value_needs, load_items, binary_items}
-use Rattle.lg_sela_values.specs.ValueLaws.{IsWord}
+use Rattle.lg_sel_nodes.specs.Operands.{IsWord}
 use Rattle.lg_sela_values.proofs.BinaryCodeLemmas.{some-same, IsApartFor}
 use Rattle.lg_sela_values.proofs.ImmediateLemmas.{is-load}
 use Rattle.lg_sela_values.proofs.MadeLemmas.{Makes, made-computes, register-makes, loaded-makes}

@@ -21,7 +21,7 @@ use Rattle.lg_carry_a64.proofs.NumberCodeLemmas.{first, more}
 use Rattle.lg_sela_items.specs.Items.{low_quarter, next_quarter, settled}
 use Rattle.lg_sela_items.proofs.ItemLemmas.{settled-ones}
 use Rattle.lg_sela_values.specs.ValueItems.{load_items}
-use Rattle.lg_sela_values.specs.ValueLaws.{IsWord}
+use Rattle.lg_sel_nodes.specs.Operands.{IsWord}
 use Rattle.lg_sela_values.proofs.LoadCodeLemmas.{LoadsWord, loads-number}
 
 address-made : (v : ℕ) → v < 2 ^ 30 → replaced (low_quarter v * 1) (2 ^ 16) (next_quarter v) ≡ v

@@ -26,7 +26,7 @@ use Rattle.lg_sela_items.specs.declared.items.Item.TheVariants.{One}
 use Rattle.lg_sela_items.specs.Items.{bytes_in, settled, ones}
 use Rattle.lg_sela_items.proofs.ItemLemmas.{settled-append, settled-ones}
 use Rattle.lg_sela_values.specs.ValueItems.{value_needs, body_items, saved_items, value_items}
-use Rattle.lg_sela_values.specs.ValueLaws.{AreWords}
+use Rattle.lg_sel_nodes.specs.Operands.{AreWords}
 use Rattle.lg_carry.specs.TextNodes.{IsInText}
 
 -- ---- items

@@ -35,7 +35,7 @@ use Rattle.lg_carry_a64.proofs.IsaLemmas.{tried-saved}
 use Rattle.lg_carry_a64.proofs.RegisterLemmas.{register-small}
 use Rattle.lg_sela_items.specs.Items.{settled}
 use Rattle.lg_sela_values.specs.ValueItems.{body_items, value_items}
-use Rattle.lg_sela_values.specs.ValueLaws.{AreWords}
+use Rattle.lg_sel_nodes.specs.Operands.{AreWords}
 use Rattle.lg_sela_values.proofs.BinaryItemLemmas.{is-made, immediate-computes, is_remainder, one-needed, temporary-second}
 use Rattle.lg_sela_values.proofs.ComputedNodeLemmas.{computed-carries}
 use Rattle.lg_sela_values.proofs.SettledLemmas.{settles-saved, IsCarried}

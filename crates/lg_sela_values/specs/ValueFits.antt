@@ -1,10 +1,8 @@
 -- What is asked of the items of a node that are emitted.
-use Rattle.std.specs.Prelude.{ℕ, ◌<◌, ◌≤◌, Bool, List, [], ◌∷◌, length, ⊤}
+use Rattle.std.specs.Prelude.{ℕ, ◌≤◌, Bool, List, [], length}
 use Rattle.lg_base.specs.declared.target.Target.TheVariants.{Aarch64}
 use Rattle.lg_op.specs.declared.node.Node.{Node}
 use Rattle.lg_op.specs.declared.operand.Reg.{Reg}
-use Rattle.lg_op.specs.declared.operand.Operand.{Operand}
-use Rattle.lg_op.specs.declared.operand.Operand.TheVariants as operand
 use Rattle.lg_temp.specs.declared.choice.Choice.{Choice}
 use Rattle.lg_temp.specs.Chosen.{around}
 use Rattle.lg_temp.specs.Choices.{AreFor}
@@ -12,6 +10,7 @@ use Rattle.lg_carry.specs.Blocks.{IsBlock}
 use Rattle.lg_carry_a64.specs.A64Rows.{is_straight}
 use Rattle.lg_sela_items.specs.Items.{words_in, settled, AreItems, NameLabels, StayWithin}
 use Rattle.lg_sela_values.specs.ValueItems.{value_needs, value_items, HaveSlots}
+use Rattle.lg_sel_nodes.specs.Operands.{NameBelow}
 
 -- at most one register is chosen; the items are in the ranges of their instructions, of which there are at most 10, and each is followed by the next
 pub record AreValueItems (n : Node) (choices : List Choice) : Type 0 where
@@ -24,15 +23,6 @@ pub record AreValueItems (n : Node) (choices : List Choice) : Type 0 where
 abbrev pub ValueItemsFit : Type 0
 ValueItemsFit = (n : Node) (live : Reg → Bool) (staged : List Bool) (choices : List Choice)
     → AreFor (around Aarch64 n live staged) (value_needs n.op) [] (value_needs n.op) choices → AreValueItems n choices
-
--- the labels of operands are below a number
-abbrev pub NamesBelow : ℕ → Operand → Type 0
-NamesBelow labels (operand.Label l) = l.0 < labels
-NamesBelow labels x = ⊤
-
-abbrev pub NameBelow : ℕ → List Operand → Type 0
-NameBelow labels [] = ⊤
-NameBelow labels (x ∷ xs) = NamesBelow labels x × NameBelow labels xs
 
 -- then so are those of the items
 abbrev pub ValueItemsName : Type 0

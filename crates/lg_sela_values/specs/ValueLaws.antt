@@ -1,10 +1,8 @@
 -- The nodes that compute values are carried by their items.
-use Rattle.std.specs.Prelude.{◌≡◌, ℕ, ◌^◌, ◌<◌, Bool, true, false, List, [], ◌∷◌, slice_index, slice_index_or, ⊤}
+use Rattle.std.specs.Prelude.{◌≡◌, ℕ, ◌<◌, Bool, true, false, List, [], slice_index, slice_index_or}
 use Rattle.lg_base.specs.declared.target.Target.TheVariants.{Aarch64}
 use Rattle.lg_op.specs.declared.node.Node.{Node}
 use Rattle.lg_op.specs.declared.operand.Reg.{Reg}
-use Rattle.lg_op.specs.declared.operand.Operand.{Operand}
-use Rattle.lg_op.specs.declared.operand.Operand.TheVariants as operand
 use Rattle.lg_node.specs.Preparations.{pushed}
 use Rattle.lg_temp.specs.declared.choice.Choice.{Choice}
 use Rattle.lg_temp.specs.Chosen.{around}
@@ -16,16 +14,7 @@ use Rattle.lg_carry_a64.specs.Places.{IsInCode}
 use Rattle.lg_sela_items.specs.Items.{settled}
 use Rattle.lg_sela_values.specs.ValueItems.{computes_value, value_needs, value_items}
 use Rattle.lg_carry.specs.TextNodes.{IsInText}
-
--- a number is a word, and the address of a label is below 2 ^ 30, as all of the memory is
-abbrev pub IsWord : List ℕ → Operand → Type 0
-IsWord addresses (operand.Number v) = v < 2 ^ 64
-IsWord addresses (operand.Label l) = slice_index addresses l.0 < 2 ^ 30
-IsWord addresses x = ⊤
-
-abbrev pub AreWords : List ℕ → List Operand → Type 0
-AreWords addresses [] = ⊤
-AreWords addresses (x ∷ xs) = IsWord addresses x × AreWords addresses xs
+use Rattle.lg_sel_nodes.specs.Operands.{AreWords}
 
 -- for all choices for the node's needs, whatever is live and staged
 abbrev pub ValueNodesCarry : Type 0

@@ -6,7 +6,6 @@ pub mod FitLemmas
 pub mod MemoryEmissions
 pub mod NodeFits
 pub mod NodeLemmas
-pub mod OperandLemmas
 pub mod PlaceLemmas
 pub mod PushFits
 pub mod ShortLemmas

@@ -8,19 +8,19 @@ use Rattle.lg_op.specs.declared.operand.Reg.{Reg}
 use Rattle.lg_rv.specs.declared.instruction.Instr.{Instr}
 use Rattle.lg_op.specs.Nodes.{InForm}
 use Rattle.lg_op.specs.declared.operand.Operand.{Operand}
-use Rattle.lg_sel.specs.Asked as asked
 use Rattle.lg_sel.proofs.LabelLemmas.{names, all-self}
 use Rattle.lg_sel.proofs.NodeEmissionLemmas as emission
 use Rattle.lg_sel.proofs.NodeFitLemmas as fit
 use Rattle.lg_sel.proofs.StoreLemmas.{allowed}
-use Rattle.lg_sel.specs.Selected.{AreFirst, HaveWords, IsFrame, TakesLabelsWell, is_pusharg}
+use Rattle.lg_sel_nodes.specs.Operands.{HaveWords, NameBelow}
+use Rattle.lg_sel.specs.Selected.{AreFirst, IsFrame, TakesLabelsWell, is_pusharg}
 use Rattle.lg_sel.specs.Families.{is_value}
 use Rattle.lg_sel.specs.Stores.{rv_stores}
 use Rattle.lg_sel_items.specs.declared.reach.Reach.{Reach}
 use Rattle.lg_selr.proofs.ControlEmissions.{controls-emit, prologs-emit, retvals-emit}
 use Rattle.lg_selr.proofs.Emissions.{Names, Emits, more}
 use Rattle.lg_selr.proofs.MemoryEmissions.{loads-emit, stores-emit, arguments-emit, next-arguments-emit, pushes-emit}
-use Rattle.lg_selr.proofs.OperandLemmas.{below, are-below, are-given}
+use Rattle.lg_sel_nodes.proofs.GivenLemmas.{are-given}
 use Rattle.lg_selr.proofs.PushFits.{push-good}
 use Rattle.lg_selr.proofs.ValueEmissions.{values-emit}
 use Rattle.lg_selr.specs.Items.{rv_families, node_items}
@@ -109,13 +109,13 @@ plain reach labels most is code = record { instrs = items-ones is code.fit; name
 
 families-fit : (reach : Reach) (labels : ℕ) → fit.FamiliesFit Riscv64 needs (rv_families reach) IsItem NamesOneOf labels
 families-fit reach labels = record {
-  values = λ frame n live set choices sized is are named words. record { instrs = (value-items-fit n live set choices (made-values n live set choices (value-is-none n.op is) are)).fit; names = value-items-name labels n choices (are-below labels n.operands named) };
+  values = λ frame n live set choices sized is are named words. record { instrs = (value-items-fit n live set choices (made-values n live set choices (value-is-none n.op is) are)).fit; names = value-items-name labels n choices named };
   loads = λ frame n t at live set choices sized e are words. record { instrs = (load-items-fit t at n live set choices (made-access n (op.Load t at) live set choices e are)).fit; names = load-items-name labels t at n choices };
   stores = λ frame n t at live set choices sized e are words. record { instrs = (store-items-fit t at n live set choices (made-access n (op.Store t at) live set choices e are)).fit; names = store-items-name labels t at n choices };
   arguments = λ frame n t sized. plain reach labels 1 (argument_code t n) (argument-fits t n);
   next_arguments = λ n. plain reach labels 8 (next_argument_code n) (next-argument-fits n);
   results = λ frame n t live set choices sized e formed are named words. let emitted = retval-items-fit n t labels e formed in record { instrs = emitted.items; names = emitted.labels };
-  pushes = λ frame n j sized few named word. let good = push-good labels j n few (below labels _ named) word in record { instrs = good.fit.instrs; names = good.fit.names };
+  pushes = λ frame n j sized few named word. let good = push-good labels j n few named word in record { instrs = good.fit.instrs; names = good.fit.names };
   controls = λ n frame place sized is formed named words ends.
       let emitted = control-items-fit reach n labels frame place is formed (are-given labels n.operands named words) ends in
       record { instrs = emitted.items; names = emitted.labels };
@@ -151,7 +151,7 @@ items-within reach frame live staged choices labels place n k =
 
 -- ---- what is asked of a node
 pub asked-of : (n : Node) (live : Reg → Bool) (staged : List Bool) (choices : List Choice) (labels : ℕ) (xs : List Operand) → InForm n → AreChosen n live staged choices
-    → (is_pusharg n.op ≡ true → AreFirst staged) → asked.NameBelow labels n.operands → TakesLabelsWell n → xs ≡ n.operands → HaveWords xs → IsAsked n live staged choices labels
+    → (is_pusharg n.op ≡ true → AreFirst staged) → NameBelow labels n.operands → TakesLabelsWell n → xs ≡ n.operands → HaveWords xs → IsAsked n live staged choices labels
 asked-of n live staged choices labels xs formed chosen first named takes e words =
     record { formed = formed; chosen = chosen; first = first; named = named; takes = takes; words = subst HaveWords e words }
 

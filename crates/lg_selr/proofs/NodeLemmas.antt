@@ -39,8 +39,7 @@ use Rattle.lg_selr.specs.Selected.{needs, IsAsked}
 use Rattle.lg_selr.proofs.NodeFits.{is_access, made-values, made-access}
 use Rattle.lg_selr.proofs.FitLemmas.{straight-block, straight-ones}
 use Rattle.lg_sel.proofs.NodeFitLemmas.{named-at, few-staged}
-use Rattle.lg_meaning.specs.Steps.{operand_at}
-use Rattle.lg_selr.proofs.OperandLemmas.{below, are-given, are-words}
+use Rattle.lg_sel_nodes.proofs.GivenLemmas.{are-given, are-words}
 use Rattle.lg_selr.proofs.PlaceLemmas.{control-items-at}
 use Rattle.lg_selr.proofs.PushFits.{push-good}
 use Rattle.lg_selr_control.specs.ControlFits.{AreEmitted}
@@ -172,7 +171,7 @@ module _ (reach : Reach) (code : List ℕ) (trash : ℕ) (c : Code) (i frame : �
   pushes n last e k a =
       let j = staged_count staged in
       let to : ℕ → ℕ = slice_index c.addresses in
-      let good = push-good labels j n (few-staged n live staged choices labels last k.asked e) (below labels (operand_at n 0) (named-at labels n.operands 0 k.asked.named)) (word-at n.operands 0 k.asked.words) in
+      let good = push-good labels j n (few-staged n live staged choices labels last k.asked e) (named-at labels n.operands 0 k.asked.named) (word-at n.operands 0 k.asked.words) in
       let stands = items-are-in-code code trash c i (push_code j n) a (falls c i n (push_code j n) k.node.text (ap leaps e)) (straight-block to (c.place i) (push_code j n) good.straight) in
       (memory-is-carried code trash a.small a.bytes a.word).pushes c i n last frame (numbered live) e (has-words n k.asked.words) k.node.names k.node.text k.node.frame_is
       (subst (λ m. IsInCode code trash c i (settled to (c.place i) (push_code m n))) (count-is (pushed c.nodes.nodes i) staged (k.node.exact (ap is_pusharg e))) stands).block

@@ -19,11 +19,10 @@ use Rattle.lg_rv.specs.declared.instruction.Instr.TheVariants as instr
 use Rattle.lg_rv.specs.declared.instruction.ImmOp.TheVariants.{Addi}
 use Rattle.lg_rv.specs.declared.instruction.StoreOp.TheVariants.{Sd}
 use Rattle.lg_rv.specs.Spelling.{IsInstr}
-use Rattle.lg_sel.specs.Selected.{IsWord}
+use Rattle.lg_sel_nodes.specs.Operands.{HasWord, NamesBelow}
 use Rattle.lg_selr.proofs.FitLemmas.{AreCode, Straight, AreGood, number-is-code, good-none, good-ones, good-address, good-append, good-more}
 use Rattle.lg_selr_memory.specs.Accesses.{link}
 use Rattle.lg_selr_memory.specs.PushCode.{into, stack_push, onto_stack, push_code}
-use Rattle.lg_selr_values.specs.ValueFits.{NamesBelow}
 use Rattle.lg_temp.specs.Abis.{register_of}
 
 host-small : (name : HostName) → host_address name < 2 ^ 64
@@ -44,7 +43,7 @@ push-is-code j r hj hr = record {
   straight = All-from_recursion Straight (instr.Store Sd 2 r (pos (8 * (j - 8))) ∷ []) (refl, tt);
 }
 
-into-good : (labels rd : ℕ) (x : Operand) → rd ≢ 0 → rd < 32 → NamesBelow labels x → IsWord x → AreGood labels 8 1 (into rd x)
+into-good : (labels rd : ℕ) (x : Operand) → rd ≢ 0 → rd < 32 → NamesBelow labels x → HasWord x → AreGood labels 8 1 (into rd x)
 into-good labels rd (operand.Reg r) some small named word = good-more labels 1 8 0 1 _ (omega arith) (omega arith) (good-ones labels 1 _ (move-is-code rd (register_of Riscv64 r) small (register-small r)))
 into-good labels rd (operand.Number v) some small named word = good-more labels 8 8 0 1 _ (omega arith) (omega arith) (good-ones labels 8 (number_code rd v) (number-is-code rd v some small word))
 into-good labels rd (operand.Host name) some small named word =
@@ -52,10 +51,10 @@ into-good labels rd (operand.Host name) some small named word =
 into-good labels rd (operand.Label l) some small named word = good-more labels 2 8 1 1 _ (omega arith) (omega arith) (good-address labels rd l.0 small named)
 into-good labels rd (operand.Slot k) some small named word = good-more labels 0 8 0 1 [] (omega arith) (omega arith) (good-none labels)
 
-loaded-good : (labels j : ℕ) (x : Operand) → j < 16 → NamesBelow labels x → IsWord x → AreGood labels 9 1 (into link x ++ stack_push j link ∷ [])
+loaded-good : (labels j : ℕ) (x : Operand) → j < 16 → NamesBelow labels x → HasWord x → AreGood labels 9 1 (into link x ++ stack_push j link ∷ [])
 loaded-good labels j x few named word = good-append labels 8 1 1 0 (into link x) (stack_push j link ∷ []) (into-good labels link x (omega arith) (omega arith) named word) (good-ones labels 1 _ (push-is-code j link few (omega arith)))
 
-stack-good : (labels j : ℕ) (x : Operand) → j < 16 → NamesBelow labels x → IsWord x → AreGood labels 9 1 (onto_stack j x)
+stack-good : (labels j : ℕ) (x : Operand) → j < 16 → NamesBelow labels x → HasWord x → AreGood labels 9 1 (onto_stack j x)
 stack-good labels j (operand.Reg r) few named word = good-more labels 1 9 0 1 _ (omega arith) (omega arith) (good-ones labels 1 _ (push-is-code j (register_of Riscv64 r) few (register-small r)))
 stack-good labels j (operand.Number v) few named word = loaded-good labels j (operand.Number v) few named word
 stack-good labels j (operand.Host name) few named word = loaded-good labels j (operand.Host name) few named word
@@ -78,7 +77,7 @@ argument-is (suc (suc (suc (suc (suc (suc zero)))))) h = record { some = omega a
 argument-is (suc (suc (suc (suc (suc (suc (suc zero))))))) h = record { some = omega arith; small = omega arith }
 argument-is (suc (suc (suc (suc (suc (suc (suc (suc j)))))))) h = absurd (omega (arith, h))
 
-pub push-good : (labels j : ℕ) (n : Node) → j < 16 → NamesBelow labels (operand_at n 0) → IsWord (operand_at n 0) → AreGood labels 9 1 (push_code j n)
+pub push-good : (labels j : ℕ) (n : Node) → j < 16 → NamesBelow labels (operand_at n 0) → HasWord (operand_at n 0) → AreGood labels 9 1 (push_code j n)
 push-good labels j n few named word = by (nat_lt j 8) refl
   where
     by : (b : Bool) → nat_lt j 8 ≡ b → AreGood labels 9 1 (if b then into (slice_index (argument_registers Riscv64) j) (operand_at n 0) else onto_stack j (operand_at n 0))

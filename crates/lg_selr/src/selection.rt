@@ -3,7 +3,7 @@
 ghost use Rattle.std.specs.Prelude.{◌≡◌, ◌+◌, ◌%◌, ◌<◌, ◌≤◌, ◌++◌, true, false, drop, length, IsTrue};
 ghost use Rattle.std.specs.List.{All};
 ghost use Rattle.lg_node.specs.Functions.{is_prolog};
-ghost use Rattle.lg_sel.specs.Asked.{NameBelow};
+ghost use Rattle.lg_sel_nodes.specs.Operands.{NameBelow};
 ghost use Rattle.lg_op.specs.Nodes.{InForm};
 ghost use Rattle.lg_live.specs.RegSets.{has};
 ghost use Rattle.lg_sel.specs.Selected.{IsFrame, AreFirst, is_pusharg, TakesLabelsWell, IsAligned, IsFixOf};

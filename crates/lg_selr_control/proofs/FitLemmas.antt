@@ -40,7 +40,8 @@ use Rattle.lg_sel_items.specs.declared.reach.Reach.{Reach}
 use Rattle.lg_sel_items.specs.declared.reach.Reach.TheVariants.{Short, Near, Far}
 use Rattle.lg_selr_control.specs.Alignments.{padding, idle, align_code}
 use Rattle.lg_selr_control.specs.Branches.{failing, left_of, right_of, bits_code}
-use Rattle.lg_selr_control.specs.ControlFits.{IsGiven, AreGiven, AreEmitted, ControlItemsFit}
+use Rattle.lg_sel_nodes.specs.Operands.{IsGiven, AreGiven}
+use Rattle.lg_selr_control.specs.ControlFits.{AreEmitted, ControlItemsFit}
 use Rattle.lg_selr_control.specs.ControlItems.{second_register, second_items, jump_unless_items, label_items, register_leap_items, control_items, is_control}
 use Rattle.lg_selr_control.specs.TwoWays.{second_code}
 use Rattle.lg_selr_control.proofs.ControlLemmas.{second-is}

@@ -8,7 +8,7 @@ use Rattle.lg_carry.specs.TextNodes.{IsInText, IsFrameOf, HasPlaces}
 use Rattle.lg_carry_rv.specs.RvRows.{rv_processor}
 use Rattle.lg_sel_items.specs.declared.reach.Reach.{Reach}
 use Rattle.lg_selr_items.specs.Items.{settled}
-use Rattle.lg_selr_values.specs.ValueLaws.{AreWords}
+use Rattle.lg_sel_nodes.specs.Operands.{AreWords}
 use Rattle.lg_selr_control.specs.Standing.{StandsInCode}
 use Rattle.lg_sel_control.specs.Control as target_control
 use Rattle.lg_selr_control.specs.ControlItems.{control_items, is_control}

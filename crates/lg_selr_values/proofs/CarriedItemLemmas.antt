@@ -43,7 +43,7 @@ use Rattle.lg_selr_items.specs.Items.{settled, ones}
 use Rattle.lg_selr_values.specs.CarriedCode.{carried_code}
 use Rattle.lg_sel_values.specs.ValueNodes.{binary_node}
 use Rattle.lg_selr_values.specs.ValueItems.{value_needs, load_items, binary_items, second_items, carried_items, body_items, value_items}
-use Rattle.lg_selr_values.specs.ValueLaws.{IsWord, AreWords}
+use Rattle.lg_sel_nodes.specs.Operands.{IsWord, AreWords}
 use Rattle.lg_selr_values.proofs.ImmediateLemmas.{is-load}
 use Rattle.lg_selr_values.proofs.CarriedCodeLemmas.{IsOtherThan}
 use Rattle.lg_selr_values.proofs.LoadCodeLemmas.{some-same}

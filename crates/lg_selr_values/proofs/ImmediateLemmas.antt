@@ -21,7 +21,7 @@ use Rattle.lg_carry_rv.proofs.ComputationLemmas.{put-again}
 use Rattle.lg_selr_items.specs.Items.{settled}
 use Rattle.lg_selr_items.proofs.ItemLemmas.{settled-ones}
 use Rattle.lg_selr_values.specs.ValueItems.{load_items}
-use Rattle.lg_selr_values.specs.ValueLaws.{IsWord}
+use Rattle.lg_sel_nodes.specs.Operands.{IsWord}
 use Rattle.lg_selr_values.proofs.LoadCodeLemmas.{LoadsWord, loads-number}
 
 address-made : (v : ℕ) → v < 2 ^ 30 → add_words (sign_32 (high_part v * 4096)) (word_of (low_part v)) ≡ v

@@ -27,7 +27,7 @@ use Rattle.lg_selr_items.specs.declared.items.Item.TheVariants.{One}
 use Rattle.lg_selr_items.specs.Items.{bytes_in, settled, ones}
 use Rattle.lg_selr_items.proofs.ItemLemmas.{settled-append, settled-ones}
 use Rattle.lg_selr_values.specs.ValueItems.{value_needs, body_items, saved_items, value_items}
-use Rattle.lg_selr_values.specs.ValueLaws.{AreWords}
+use Rattle.lg_sel_nodes.specs.Operands.{AreWords}
 use Rattle.lg_carry.specs.TextNodes.{IsInText}
 
 -- ---- items

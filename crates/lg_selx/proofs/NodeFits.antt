@@ -8,20 +8,19 @@ use Rattle.lg_op.specs.declared.operand.Operand.TheVariants as operand
 use Rattle.lg_op.specs.declared.operand.Reg.{Reg}
 use Rattle.lg_meaning.specs.Steps.{operand_at}
 use Rattle.lg_op.specs.Nodes.{InForm}
-use Rattle.lg_sel.specs.Asked as asked
 use Rattle.lg_sel.proofs.LabelLemmas.{names, all-self}
 use Rattle.lg_sel.proofs.NodeEmissionLemmas as emission
 use Rattle.lg_sel.proofs.NodeFitLemmas as fit
 use Rattle.lg_sel.proofs.StoreLemmas.{allowed}
 use Rattle.lg_sel.proofs.OperandLemmas.{word-is}
-use Rattle.lg_sel.specs.Selected.{AreFirst, HaveWords, IsFrame, TakesLabelsWell, is_pusharg}
+use Rattle.lg_sel_nodes.specs.Operands.{HaveWords, NamesBelow, NameBelow}
+use Rattle.lg_sel.specs.Selected.{AreFirst, IsFrame, TakesLabelsWell, is_pusharg}
 use Rattle.lg_sel.specs.Stores.{x86_stores}
 use Rattle.lg_sel_items.specs.declared.reach.Reach.{Reach}
 use Rattle.lg_selx.proofs.ControlEmissions.{controls-emit, prologs-emit}
 use Rattle.lg_selx.proofs.Emissions.{Names, Emits, more}
 use Rattle.lg_selx.proofs.MemoryEmissions.{loads-emit, stores-emit, arguments-emit, next-arguments-emit, pushes-emit}
-use Rattle.lg_sel.specs.Asked.{NamesBelow, NameBelow}
-use Rattle.lg_selx.proofs.OperandLemmas.{are-below, are-given, are-numbers}
+use Rattle.lg_sel_nodes.proofs.GivenLemmas.{are-given}
 use Rattle.lg_selx.proofs.SmallLemmas.{items-small}
 use Rattle.lg_selx.proofs.ValueEmissions.{values-emit}
 use Rattle.lg_selx.specs.Items.{x86_families, node_items}
@@ -72,8 +71,8 @@ Fit reach labels xs = fit.Fit X86_64 needs (x86_families reach) IsItem NamesOneO
 values : (reach : Reach) (labels frame : ℕ) (n : Node) (live : Reg → Bool) (set : List Bool) (choices : List Choice) → IsFrame frame → AreFor (around X86_64 n live set) (needs n.op) [] (needs n.op) choices → NameBelow labels n.operands
     → HaveWords n.operands → Fit reach labels (value_items frame n choices)
 values reach labels frame n live set choices sized are named words = record {
-  instrs = (value-items-fit frame n live set choices sized.low sized.high (are-numbers n.operands words) are).fit;
-  names = value-items-name labels frame n choices (are-below labels n.operands named);
+  instrs = (value-items-fit frame n live set choices sized.low sized.high words are).fit;
+  names = value-items-name labels frame n choices named;
 }
 
 -- a frame is a number of 31 bits
@@ -136,7 +135,7 @@ items-within reach frame live staged choices labels place n k =
 
 -- ---- what is asked of a node
 pub asked-of : (n : Node) (live : Reg → Bool) (staged : List Bool) (choices : List Choice) (labels : ℕ) (xs : List Operand) → InForm n → AreChosen n live staged choices
-    → (is_pusharg n.op ≡ true → AreFirst staged) → asked.NameBelow labels n.operands → TakesLabelsWell n → xs ≡ n.operands → HaveWords xs → IsAsked n live staged choices labels
+    → (is_pusharg n.op ≡ true → AreFirst staged) → NameBelow labels n.operands → TakesLabelsWell n → xs ≡ n.operands → HaveWords xs → IsAsked n live staged choices labels
 asked-of n live staged choices labels xs formed chosen first named takes e words =
     record { formed = formed; chosen = chosen; first = first; named = named; takes = takes; words = subst HaveWords e words }
 

@@ -33,7 +33,8 @@ use Rattle.lg_selx.specs.Items.{x86_families, node_items}
 use Rattle.lg_sel.specs.Selected.{IsFrame, is_pusharg, may_take_label, IsNodeOf}
 use Rattle.lg_selx.specs.Selected.{IsAsked}
 use Rattle.lg_sel.proofs.NodeFitLemmas.{few-staged}
-use Rattle.lg_selx.proofs.OperandLemmas.{are-given, are-numbers, are-unlabelled, are-words, are-control-words}
+use Rattle.lg_sel_nodes.proofs.GivenLemmas.{are-given, are-words}
+use Rattle.lg_selx.proofs.OperandLemmas.{are-unlabelled}
 use Rattle.lg_selx.proofs.PlaceLemmas.{control-items-at}
 use Rattle.lg_selx_control.specs.ControlFits.{AreEmitted}
 use Rattle.lg_selx_control.specs.ControlItems.{control_items, is_control}
@@ -140,7 +141,7 @@ module _ (reach : Reach) (code : List ℕ) (trash : ℕ) (c : Code) (i frame : �
   values n computes stays may leads k a =
       let set = k.asked.chosen.set in
       let are : AreFor (around X86_64 n live set) (value_needs n.op) [] (value_needs n.op) choices = choices-are-for (around X86_64 n live set) (value_needs n.op) choices k.asked.chosen.chosen in
-      let fit = value-items-fit frame n live set choices sized.low sized.high (are-numbers n.operands k.asked.words) are in
+      let fit = value-items-fit frame n live set choices sized.low sized.high k.asked.words are in
       value-nodes-carry code trash c i frame n live set choices computes (are-words c.addresses k.node.low n.operands k.asked.words) (λ t. no-value-labels n (may t) (leads t) k) are (λ j below. k.asked.chosen.holds j (k.node.pushed_are j below)) k.node.text
       k.node.frame_is (items-are-in-code code trash c i (value_items frame n choices) a (falls c i n (value_items frame n choices) k.node.text stays) (fit.block (slice_index c.addresses) (c.place i)))
 
@@ -188,7 +189,7 @@ module _ (reach : Reach) (code : List ℕ) (trash : ℕ) (c : Code) (i frame : �
         node = items-are-node-code code trash c i items a (λ leaping. fit.some (sym (ap leaps_at k.node.text.here) ∙ leaping));
       } in
       let same : items ≡ control_items reach n.op n.operands frame (c.place i) = sym (control-items-at reach n.op n.operands frame place (operands-are c i n k.node.text)) ∙ ap (control_items reach n.op n.operands frame) (sym k.address) in
-      control-nodes-carry reach code trash c i n frame (numbered live) is k.node.places (are-control-words c.addresses k.node.low n.operands k.asked.words) ends k.node.frame_is k.node.text
+      control-nodes-carry reach code trash c i n frame (numbered live) is k.node.places (are-words c.addresses k.node.low n.operands k.asked.words) ends k.node.frame_is k.node.text
       (subst (λ l. StandsInCode code trash c i (settled to (c.place i) l)) same stands)
 
   families : HoldsOfFamilies (x86_families reach) Carries frame choices staged place

@@ -27,7 +27,6 @@ use Rattle.lg_sel.proofs.PlaceLemmas.{and-first}
 use Rattle.lg_sel.specs.Families.{staged_count}
 use Rattle.lg_sel.specs.Selected.{IsFrame}
 use Rattle.lg_sel_items.specs.declared.reach.Reach.{Reach}
-use Rattle.lg_selx.proofs.OperandLemmas.{are-numbers}
 use Rattle.lg_selx.proofs.SizeLemmas.{bytes-few}
 use Rattle.lg_selx.specs.Items.{x86_families, node_items}
 use Rattle.lg_selx.specs.Selected.{needs, IsAsked}
@@ -204,7 +203,7 @@ module _ (reach : Reach) (frame : ℕ) (sized : IsFrame frame) (live : Reg → B
   values-small : (n : Node) → IsSmall n ((x86_families reach).values frame n choices)
   values-small n k =
       let set = k.chosen.set in
-      let fit = value-items-fit frame n live set choices sized.low sized.high (are-numbers n.operands k.words) (choices-are-for (around X86_64 n live set) (needs n.op) choices k.chosen.chosen) in
+      let fit = value-items-fit frame n live set choices sized.low sized.high k.words (choices-are-for (around X86_64 n live set) (needs n.op) choices k.chosen.chosen) in
       let s = fit.small in omega (arith, s)
 
   families-small : HoldsOfFamilies (x86_families reach) IsSmall frame choices staged place

@@ -7,7 +7,7 @@ ghost use Rattle.lg_live.specs.RegSets.{has};
 ghost use Rattle.lg_op.specs.Nodes.{InForm};
 ghost use Rattle.lg_op.specs.declared.operand.Label.{Label};
 ghost use Rattle.lg_op.specs.declared.operand.Operand.{Operand};
-ghost use Rattle.lg_sel.specs.Asked.{NameBelow};
+ghost use Rattle.lg_sel_nodes.specs.Operands.{NameBelow};
 ghost use Rattle.lg_sel.specs.Selected.{IsFrame, AreFirst, is_pusharg, TakesLabelsWell};
 ghost use Rattle.lg_sel_items.specs.Holes.{Each};
 ghost use Rattle.lg_sel_items.specs.Reaches.{Leads, IsChecked, IsLeast};

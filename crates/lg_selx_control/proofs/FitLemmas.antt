@@ -45,7 +45,8 @@ use Rattle.lg_selx_values.proofs.RegisterLemmas.{register-portable}
 use Rattle.lg_sel_items.specs.declared.reach.Reach.{Reach}
 use Rattle.lg_selx_control.specs.Alignments.{padding, idle, align_code}
 use Rattle.lg_selx_control.specs.Branches.{comparison, is_difference, lowered, wide_comparison, number_comparison, before_branch, taken}
-use Rattle.lg_selx_control.specs.ControlFits.{IsGiven, AreGiven, AreEmitted, ControlItemsFit}
+use Rattle.lg_sel_nodes.specs.Operands.{IsGiven, AreGiven}
+use Rattle.lg_selx_control.specs.ControlFits.{AreEmitted, ControlItemsFit}
 use Rattle.lg_selx_control.specs.ControlItems.{jump_kind, branch_if_items, register_jump_items, register_call_items, control_items, is_control}
 use Rattle.lg_selx_control.specs.ControlLaws.{ends_in_label}
 use Rattle.lg_selx_control.specs.HostCalls.{host_code}

@@ -7,6 +7,7 @@ use Rattle.lg_carry.specs.NodeCode.{CarriesNode}
 use Rattle.lg_carry.specs.TextNodes.{IsInText, IsFrameOf, HasPlaces}
 use Rattle.lg_carry_x86.specs.X86Rows.{x86_processor}
 use Rattle.lg_sel_items.specs.declared.reach.Reach.{Reach}
+use Rattle.lg_sel_nodes.specs.Operands.{AreWords}
 use Rattle.lg_selx_items.specs.Items.{settled}
 use Rattle.lg_selx_control.specs.Standing.{StandsInCode}
 use Rattle.lg_sel_control.specs.Control as target_control
@@ -19,7 +20,7 @@ ends_in_label xs = target_control.ends_in_label xs
 abbrev pub ControlNodesCarry : Type 0
 ControlNodesCarry =
     (r : Reach) (code : List ℕ) (trash : ℕ) (c : Code) (i : ℕ) (n : Node) (frame : ℕ) (S : ℕ → Bool) → is_control n.op ≡ true → HasPlaces 1 c
-    → target_control.AreWords c.addresses n.operands
+    → AreWords c.addresses n.operands
     → ends_in_label n.operands ≡ false → IsFrameOf c i frame → IsInText c i n
     → StandsInCode code trash c i (settled (slice_index c.addresses) (c.place i) (control_items r n.op n.operands frame (c.place i)))
     → CarriesNode (x86_processor code trash) c i n S

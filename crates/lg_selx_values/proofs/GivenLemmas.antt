@@ -17,7 +17,8 @@ use Rattle.lg_x86.specs.declared.instruction.Instr.TheVariants.{Movi32, Movs32, 
 use Rattle.lg_carry_x86.specs.Numbers.{is_half, number_row}
 use Rattle.lg_selx_items.specs.Items.{ones}
 use Rattle.lg_selx_values.specs.ValueItems.{load_items, binary_number_code, binary_items, wide_items}
-use Rattle.lg_selx_values.specs.ValueLaws.{IsWord, IsUnlabelled}
+use Rattle.lg_sel_nodes.specs.Operands.{IsWord}
+use Rattle.lg_selx_values.specs.ValueLaws.{IsUnlabelled}
 use Rattle.lg_selx_values.specs.WideCode.{wide_number_code}
 use Rattle.lg_selx_values.proofs.SettledLemmas.{Settles, settles-ones}
 

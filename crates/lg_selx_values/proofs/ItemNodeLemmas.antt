@@ -36,7 +36,8 @@ use Rattle.lg_selx_values.specs.Needs.{value_needs}
 use Rattle.lg_selx_values.specs.RegisterNodes.{IsChosen}
 use Rattle.lg_selx_values.specs.UnaryCode.{unary_code, retval_code}
 use Rattle.lg_selx_values.specs.ValueItems.{binary_code, binary_number_code, body_items, value_items}
-use Rattle.lg_selx_values.specs.ValueLaws.{AreWords, AreUnlabelled, takes_label}
+use Rattle.lg_sel_nodes.specs.Operands.{AreWords}
+use Rattle.lg_selx_values.specs.ValueLaws.{AreUnlabelled, takes_label}
 use Rattle.lg_selx_values.specs.WideCode.{wide_code, wide_number_code}
 use Rattle.lg_selx_values.proofs.GivenLemmas.{is-load, is-given}
 use Rattle.lg_selx_values.proofs.NumberNodeLemmas.{binary-numbers-carry, carried-numbers-carry}

@@ -35,7 +35,8 @@ use Rattle.lg_selx_items.proofs.GoodLemmas.{number-good, good-items-are-appendab
 use Rattle.lg_selx_items.proofs.ItemLemmas.{words_append, words-ones, names-append, names-ones}
 use Rattle.lg_selx_items.proofs.WithinLemmas.{In, portable}
 use Rattle.lg_selx_values.specs.UnaryCode.{unary_code, retval_code}
-use Rattle.lg_selx_values.specs.ValueFits.{IsNumber, AreNumbers, ValueItemsFit, NamesBelow, NameBelow, ValueItemsName, ValueItemsStay}
+use Rattle.lg_sel_nodes.specs.Operands.{HasWord, HaveWords, NamesBelow, NameBelow}
+use Rattle.lg_selx_values.specs.ValueFits.{ValueItemsFit, ValueItemsName, ValueItemsStay}
 use Rattle.lg_selx_values.specs.ValueItems.{load_items, binary_code, binary_number_code, binary_items, wide_items, operand_in, register_for, register_in, body_items, save, restore, saved_items, value_items}
 use Rattle.lg_selx_values.specs.WideCode.{wide_code, wide_number_code}
 use Rattle.lg_selx_values.proofs.ChoiceLemmas.{AreSaved, chosen-well, slots-of}
@@ -148,11 +149,11 @@ rows-good frame high = record {
   again = ((omega arith, omega arith, frame-number frame high), (refl, tt), refl);
 }
 
-number-at : (xs : List Operand) (i : ℕ) → AreNumbers xs → Has (λ v. v < 2 ^ 64) (operand_in xs i)
+number-at : (xs : List Operand) (i : ℕ) → HaveWords xs → Has (λ v. v < 2 ^ 64) (operand_in xs i)
 number-at [] i h = omega arith
 number-at (x ∷ xs) zero h = by x h.0
   where
-    by : (x : Operand) → IsNumber x → Has (λ v. v < 2 ^ 64) x
+    by : (x : Operand) → HasWord x → Has (λ v. v < 2 ^ 64) x
     by (operand.Number v) h = h
     by (operand.Reg r) h = tt
     by (operand.Host name) h = tt

@@ -1,10 +1,8 @@
 -- What is asked of the items of a node that are emitted.
-use Rattle.std.specs.Prelude.{ℕ, ◌^◌, ◌<◌, ◌≤◌, Bool, List, [], ◌∷◌, length, ⊤}
+use Rattle.std.specs.Prelude.{ℕ, ◌≤◌, Bool, List, [], length}
 use Rattle.lg_base.specs.declared.target.Target.TheVariants.{X86_64}
 use Rattle.lg_op.specs.declared.node.Node.{Node}
 use Rattle.lg_op.specs.declared.operand.Reg.{Reg}
-use Rattle.lg_op.specs.declared.operand.Operand.{Operand}
-use Rattle.lg_op.specs.declared.operand.Operand.TheVariants as operand
 use Rattle.lg_temp.specs.declared.choice.Choice.{Choice}
 use Rattle.lg_temp.specs.Chosen.{around}
 use Rattle.lg_temp.specs.Choices.{AreFor}
@@ -13,6 +11,7 @@ use Rattle.lg_carry_x86.specs.X86Rows.{is_straight}
 use Rattle.lg_selx_items.specs.Items.{words_in, blanks, settled, AreItems, NameLabels, StayWithin}
 use Rattle.lg_selx_values.specs.Needs.{value_needs}
 use Rattle.lg_selx_values.specs.ValueItems.{value_items, HaveSlots}
+use Rattle.lg_sel_nodes.specs.Operands.{HaveWords, NameBelow}
 
 -- at most two registers are chosen; the items are in the ranges of their instructions, of which there are at most 12, with at most 128 bytes in all, and
 -- each is followed by the next
@@ -24,18 +23,9 @@ pub record AreValueItems (frame : ℕ) (n : Node) (choices : List Choice) : Type
   pub small : length (blanks (value_items frame n choices)) ≤ 128
   pub block : (to : ℕ → ℕ) (at : ℕ) → IsBlock is_straight (settled to at (value_items frame n choices))
 
--- numbers are words
-abbrev pub IsNumber : Operand → Type 0
-IsNumber (operand.Number v) = v < 2 ^ 64
-IsNumber x = ⊤
-
-abbrev pub AreNumbers : List Operand → Type 0
-AreNumbers [] = ⊤
-AreNumbers (x ∷ xs) = IsNumber x × AreNumbers xs
-
 -- in a function with a frame of 272 to 65,808 bytes
 abbrev pub ValueItemsFit : Type 0
-ValueItemsFit = (frame : ℕ) (n : Node) (live : Reg → Bool) (staged : List Bool) (choices : List Choice) → 272 ≤ frame → frame ≤ 65808 → AreNumbers n.operands
+ValueItemsFit = (frame : ℕ) (n : Node) (live : Reg → Bool) (staged : List Bool) (choices : List Choice) → 272 ≤ frame → frame ≤ 65808 → HaveWords n.operands
     → AreFor (around X86_64 n live staged) (value_needs n.op) [] (value_needs n.op) choices → AreValueItems frame n choices
 
 -- the choices alone, as the emitter asks for them
@@ -46,15 +36,6 @@ pub record AreSlots (choices : List Choice) : Type 0 where
 abbrev pub ChoicesHaveSlots : Type 0
 ChoicesHaveSlots = (n : Node) (live : Reg → Bool) (staged : List Bool) (choices : List Choice)
     → AreFor (around X86_64 n live staged) (value_needs n.op) [] (value_needs n.op) choices → AreSlots choices
-
--- the labels of operands are below a number
-abbrev pub NamesBelow : ℕ → Operand → Type 0
-NamesBelow labels (operand.Label l) = l.0 < labels
-NamesBelow labels x = ⊤
-
-abbrev pub NameBelow : ℕ → List Operand → Type 0
-NameBelow labels [] = ⊤
-NameBelow labels (x ∷ xs) = NamesBelow labels x × NameBelow labels xs
 
 -- then so are those of the items
 abbrev pub ValueItemsName : Type 0

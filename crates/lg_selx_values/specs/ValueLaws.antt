@@ -1,5 +1,5 @@
 -- The nodes that compute values are carried by their items.
-use Rattle.std.specs.Prelude.{◌≡◌, ℕ, ◌^◌, ◌<◌, Bool, true, false, List, [], ◌∷◌, slice_index, slice_index_or, ⊤}
+use Rattle.std.specs.Prelude.{◌≡◌, ℕ, ◌<◌, Bool, true, false, List, [], ◌∷◌, slice_index, slice_index_or, ⊤}
 use Rattle.lg_base.specs.declared.target.Target.TheVariants.{X86_64}
 use Rattle.lg_op.specs.declared.node.Node.{Node}
 use Rattle.lg_op.specs.declared.op.Op.{Op}
@@ -20,16 +20,7 @@ use Rattle.lg_carry_x86.specs.X86Rows.{x86_processor}
 use Rattle.lg_selx_items.specs.Items.{settled}
 use Rattle.lg_selx_values.specs.Needs.{value_needs}
 use Rattle.lg_selx_values.specs.ValueItems.{computes_value, value_items}
-
--- a number is a word, and the address of a label is below 2 ^ 30, as all of the memory is
-abbrev pub IsWord : List ℕ → Operand → Type 0
-IsWord addresses (operand.Number v) = v < 2 ^ 64
-IsWord addresses (operand.Label l) = slice_index addresses l.0 < 2 ^ 30
-IsWord addresses x = ⊤
-
-abbrev pub AreWords : List ℕ → List Operand → Type 0
-AreWords addresses [] = ⊤
-AreWords addresses (x ∷ xs) = IsWord addresses x × AreWords addresses xs
+use Rattle.lg_sel_nodes.specs.Operands.{AreWords}
 
 -- no operand is a label
 abbrev pub IsUnlabelled : Operand → Type 0
