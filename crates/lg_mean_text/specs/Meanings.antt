@@ -12,7 +12,7 @@ use Rattle.lg_meaning.specs.Addresses.{plain_addresses}
 use Rattle.lg_meaning.specs.Means.{mean}
 use Rattle.lg_meaning.specs.States.{State}
 use Rattle.lg_meaning.specs.Texts.{line_at}
-use Rattle.lg_mean.specs.Runs.{ComesTo}
+use Rattle.lg_mean.specs.Runs.{ComesTo, KeepsCountBehind}
 use Rattle.lg_mean.specs.declared.run.RunEnd.{RunEnd}
 use Rattle.lg_mean.specs.declared.run.RunEnd.TheVariants as runs_end
 use Rattle.lg_mean_text.specs.declared.end.MeaningEnd.{MeaningEnd}
@@ -35,6 +35,10 @@ pub record Change : Type 0 where
 abbrev pub changed : Option (List ℕ) → Option (List ℕ) → ℕ → ℕ → Change
 changed taken taken' faults faults' = record { taken = taken; taken' = taken'; faults = faults; faults' = faults' }
 
+-- nothing was written, and no fault was counted
+abbrev pub IsStill : Change → Type 0
+IsStill c = (c.taken' ≡ c.taken) × (c.faults' ≡ c.faults)
+
 -- the end of a run that took so many steps
 abbrev pub end_of : RunEnd → ℕ → MeaningEnd
 end_of (runs_end.Ended status) steps = ends.Ended status steps
@@ -42,7 +46,8 @@ end_of (runs_end.Undefined line) steps = ends.Undefined line steps
 end_of runs_end.StepsOut steps = ends.StepsOut steps
 end_of runs_end.WriteFault steps = ends.WriteFault steps
 
--- a unit is accepted, and its meaning over the plain addresses and an argument part comes to this end
+-- a unit is accepted, and its meaning over the plain addresses and an argument part comes to this end; a fault of the sink was counted only where it is
+-- the end
 pub record IsFollowed (unit : TextUnit) (args : List ℕ) (most : ℕ) (c : Change) (end : MeaningEnd) : Type 0 where
   pub shape : TextShape
   pub shaped : IsShapeOf unit.nodes shape
@@ -52,6 +57,7 @@ pub record IsFollowed (unit : TextUnit) (args : List ℕ) (most : ℕ) (c : Chan
   pub is : end ≡ end_of run_end steps
   pub state : State
   pub comes : ComesTo (mean unit.nodes shape (plain_addresses unit.nodes) unit.image args) run_end steps most state (line_at unit.nodes state) c.taken c.taken' c.faults c.faults'
+  pub kept : KeepsCountBehind run_end c.faults c.faults'
 
 -- a unit has a fault in being read, or is refused by the checks
 abbrev pub IsRefusedUnit : Result TextUnit Refusal → Refusal → Type 0
@@ -76,7 +82,7 @@ pub record IsFollowedText (text : List ℕ) (words : List (List ℕ)) (most : �
   pub reads : unit_of text ≡ Ok unit
   pub follows : IsFollowed unit (args_of words) most c end
 
--- what an end says; where the text or its words are refused, nothing is written
+-- what an end says; where the text or its words are refused, nothing is written, and no fault is counted
 abbrev pub MeaningSays : List ℕ → List (List ℕ) → ℕ → Change → MeaningEnd → Type 0
-MeaningSays text words most c (ends.Refused refusal) = IsRefusedText text words refusal × (c.taken' ≡ c.taken)
+MeaningSays text words most c (ends.Refused refusal) = IsRefusedText text words refusal × IsStill c
 MeaningSays text words most c end = IsFollowedText text words most c end

@@ -1,10 +1,10 @@
 // The portable meaning of a text from its bytes.
 
-ghost use Rattle.std.specs.Prelude.{◌≡◌, ◌<◌, ◌≤◌, Err, length, IfOk};
+ghost use Rattle.std.specs.Prelude.{◌≡◌, ◌<◌, ◌≤◌, Err, length, IfOk, OnErr};
 ghost use Rattle.lg_base.specs.Arguments.{args_of, texts_of, most_args};
 ghost use Rattle.lg_node.specs.Checks.{IsRefused};
 ghost use Rattle.lg_tst.specs.Units.{unit_of};
-ghost use Rattle.lg_mean_text.specs.Meanings.{most_text, changed, end_of, IsFollowed, IsFollowedText, IsRefusedWith, MeaningSays};
+ghost use Rattle.lg_mean_text.specs.Meanings.{most_text, changed, end_of, IsStill, IsFollowed, IsFollowedText, IsRefusedWith, MeaningSays};
 
 use crate::end::MeaningEnd;
 use lg_base::args::args_image;
@@ -45,7 +45,8 @@ fn run<O: Sink>(
     requires args { length args.now ≤ most_args }
     ensures followed { IfOk result (λ end. IsFollowed unit.now args.now most (changed (O.taken out.old) (O.taken out.new) (O.faults out.old)
         (O.faults out.new)) end) }
-    ensures refused { (r : _) → result ≡ Err (Stop.Refused r) → IsRefused unit.now.nodes r × (O.taken out.new ≡ O.taken out.old) }
+    ensures refused { (r : _) → result ≡ Err (Stop.Refused r) → IsRefused unit.now.nodes r }
+    ensures still { OnErr result (IsStill (changed (O.taken out.old) (O.taken out.new) (O.faults out.old) (O.faults out.new))) }
 {
     let shape = check(alloc, unit)?;
     let Ok(labels) = plain_addresses(alloc, &unit.nodes) else {
@@ -71,8 +72,8 @@ fn read_and_run<O: Sink>(
     requires words { 0 < length words.now.items }
     ensures followed { IfOk result (λ end. IsFollowedText text.now (texts_of words.now.items) most (changed (O.taken out.old) (O.taken out.new)
         (O.faults out.old) (O.faults out.new)) end) }
-    ensures refused { (r : _) → result ≡ Err (Stop.Refused r) → IsRefusedWith (texts_of words.now.items) (unit_of text.now) r
-        × (O.taken out.new ≡ O.taken out.old) }
+    ensures refused { (r : _) → result ≡ Err (Stop.Refused r) → IsRefusedWith (texts_of words.now.items) (unit_of text.now) r }
+    ensures still { OnErr result (IsStill (changed (O.taken out.old) (O.taken out.new) (O.faults out.old) (O.faults out.new))) }
 {
     let args = args_image(alloc, words)?;
     let unit = parse(alloc, text)?;
@@ -82,7 +83,8 @@ fn read_and_run<O: Sink>(
 /// Follows the portable meaning of a text for at most so many steps, with the words as its argument part, of which there is at least
 /// one. The addresses of its labels are the plain ones: 0x10000000 + 256 i for a label at node i. What it writes goes to `out`. The
 /// end is that of the meaning; `Refused` comes exactly where the text has more than 16,777,216 bytes, else the words do not fit the
-/// argument part, else the text has a fault in being read, else its unit is refused by the checks, and then nothing is written.
+/// argument part, else the text has a fault in being read, else its unit is refused by the checks, and then nothing is written. The sink's count of
+/// faults rises only where `WriteFault` is the end. Want of memory comes before the first step, with nothing written.
 pub fn meaning<O: Sink>(
     alloc: Global,
     text: &[u8],
@@ -91,8 +93,9 @@ pub fn meaning<O: Sink>(
     out: &mut O,
 ) -> Result<MeaningEnd, OutOfMemory>
     requires { 0 < length words.now.items }
-    ensures { IfOk result (λ end. MeaningSays text.now (texts_of words.now.items) most (changed (O.taken out.old) (O.taken out.new)
+    ensures says { IfOk result (λ end. MeaningSays text.now (texts_of words.now.items) most (changed (O.taken out.old) (O.taken out.new)
         (O.faults out.old) (O.faults out.new)) end) }
+    ensures still { OnErr result (IsStill (changed (O.taken out.old) (O.taken out.new) (O.faults out.old) (O.faults out.new))) }
 {
     if text.len() > MOST_TEXT {
         return Ok(MeaningEnd::Refused(Refusal {

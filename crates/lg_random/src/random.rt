@@ -1,6 +1,6 @@
 // Numbers by a fixed generator, the same on each run.
 
-ghost use Rattle.std.specs.Prelude.{◌≡◌, ◌<◌};
+ghost use Rattle.std.specs.Prelude.{◌≡◌, ◌<◌, ◌%◌};
 ghost use Rattle.lg_random.specs.Random.{next, mixed};
 
 /// The generator splitmix64.
@@ -22,10 +22,12 @@ impl Random {
         word ^ (word >> 31)
     }
 
-    /// A number below a bound, which is not 0.
+    /// A number below a bound, which is not 0: what is left of the next word by the bound.
     pub fn below(&mut self, bound: usize) -> usize
         requires { 0 < bound }
-        ensures { result < bound }
+        ensures below { result < bound }
+        ensures value { result ≡ mixed (next self.old.state) % bound }
+        ensures state { self.new.state ≡ next self.old.state }
     {
         (self.word() % bound as u64) as usize
     }

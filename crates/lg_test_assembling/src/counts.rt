@@ -3,8 +3,10 @@
 ghost use Rattle.std.specs.Prelude.{◌≤◌, length};
 
 use crate::code::code_of;
+use lg_asm::Code;
 use lg_base::refusal::Stop;
 use lg_base::target::Target;
+use lg_temp::choice::Choice;
 use std::alloc::Global;
 use std::test::Fail;
 
@@ -36,7 +38,22 @@ const NODES: &[u8] =
 #[derive(Clone, Copy)]
 struct Counts {
     spills: u32,
+    saved: u32,
     nodes: u32,
+}
+
+// How many of the choices of all nodes save a register.
+fn saved(code: &Code) -> u32 {
+    let mut saved: u32 = 0;
+    for index in 0..code.nodes().len() {
+        let choices = code.choices(index);
+        for choice in choices.as_slice() {
+            if let Choice::Spill { reg: _, slot: _ } = choice {
+                saved = saved.saturating_add(1);
+            }
+        }
+    }
+    saved
 }
 
 // What the code of a text has, or the reason why there is none.
@@ -46,6 +63,7 @@ fn assembled(alloc: Global, target: Target, text: &[u8]) -> Result<Counts, Stop>
     let code = code_of(alloc, target, 1_048_576, text)?;
     Ok(Counts {
         spills: code.spills(),
+        saved: saved(&code),
         nodes: code.nodes().len(),
     })
 }
@@ -54,6 +72,7 @@ fn assembled(alloc: Global, target: Target, text: &[u8]) -> Result<Counts, Stop>
 fn counted(alloc: Global, target: Target, text: &[u8]) -> Counts {
     let none = Counts {
         spills: u32::MAX,
+        saved: u32::MAX,
         nodes: u32::MAX,
     };
     if text.len() > 16_777_216 {
@@ -71,13 +90,10 @@ fn registers_are_saved_where_none_is_dead(rt: HostRuntime) -> Result<(), Fail> {
         if let [first, second, third, text @ ..] = row {
             let aarch64 = counted(rt.alloc(), Target::Aarch64, text);
             let riscv64 = counted(rt.alloc(), Target::Riscv64, text);
-            assert_eq!(rt;
-                (aarch64.spills, riscv64.spills),
-                (
-                    u32::from(first.saturating_sub(b'0')),
-                    u32::from(second.saturating_sub(b'0'))
-                )
-            );
+            let x86_64 = counted(rt.alloc(), Target::X86_64, text);
+            let row = [*first, *second, *third].map(|digit| u32::from(digit.saturating_sub(b'0')));
+            assert_eq!(rt; [aarch64.spills, riscv64.spills, x86_64.spills], row);
+            assert_eq!(rt; [aarch64.saved, riscv64.saved, x86_64.saved], row);
         }
     }
     Ok(())

@@ -9,4 +9,4 @@ returns-in-Err-Refused g c =
     let refusal = c.in-Err-Refused.refusal-is in
     let e : c.read_and_run.result ≡ Err (Refused c.in-Err-Refused.refusal) = cc in
     let refused = c.read_and_run.ensures.refused c.in-Err-Refused.refusal e in
-    (inr (omega (arith, c.if-text-gt-MOST_TEXT.false), refused.0), refused.1)
+    record { says = (inr (omega (arith, c.if-text-gt-MOST_TEXT.false), refused), c.in-Err-Refused.ensures.still); still = tt }

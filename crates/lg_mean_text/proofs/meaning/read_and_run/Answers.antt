@@ -10,4 +10,4 @@ pub returns-clause-refused : goal.returns-clause-refused
 returns-clause-refused g c r is =
     let refused = c.run.ensures.refused r is in
     let fits = subst (λ (xs : List ℕ). length xs ≤ most_args) c.in_ok-args.ensures.image c.in_ok-args.ensures.size in
-    (inr (fits, subst (λ (u : Result TextUnit Refusal). IsRefusedUnit u r) (sym c.in_ok-unit.ensures.unit) refused.0), refused.1)
+    inr (fits, subst (λ (u : Result TextUnit Refusal). IsRefusedUnit u r) (sym c.in_ok-unit.ensures.unit) refused)

@@ -19,4 +19,5 @@ returns-clause-followed g c =
       comes = meaning_comes c.args.unit.now c.in_ok-shape.shape c.args.args.now made.labels.addresses (state_of made.machine) c.run-end.result (behind.steps - made.steps) c.steps.result c.args.most (state_of behind.machine)
           (changed (g.O.Sink.taken c.args.out.now) (g.O.Sink.taken c.run-end.new.out) (g.O.Sink.faults c.args.out.now) (g.O.Sink.faults c.run-end.new.out))
           (c.in-Ok-new.ensures.addresses ∙ c.in-Ok.ensures.value) c.in-Ok-new.ensures.start (omega (arith, c.steps.ensures, c.in-Ok-new.ensures.steps)) c.run-end.ensures.says;
+      kept = c.run-end.ensures.kept;
     }
