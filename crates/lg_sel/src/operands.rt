@@ -1,10 +1,11 @@
 //! What a target's code asks of a node's operands and of the arguments that are staged.
 
-ghost use Rattle.std.specs.Prelude.{◌≡◌, ◌≢◌, ℕ, ◌≤◌, Some, length, slice_get};
+ghost use Rattle.std.specs.Prelude.{◌≡◌, ◌≢◌, ℕ, ◌≤◌, nat_le, if◌then◌else◌, Some, None, length, slice_get};
 ghost use Rattle.lg_base.specs.Layout.{most_code};
 ghost use Rattle.lg_buf.specs.Buffers.{place_of};
 ghost use Rattle.lg_op.specs.declared.operand.Label.{Label};
 ghost use Rattle.lg_sel_nodes.specs.Operands.{NameBelow, HasWord, HaveWords};
+ghost use Rattle.lg_sel_items.specs.Reaches.{near_size};
 ghost use Rattle.lg_sel.specs.Families.{staged_count};
 
 use lg_buf::{CodeBuf, Label32};
@@ -16,7 +17,9 @@ use lg_temp::choice::Staged;
 const MOST_CODE: u32 = 0x400_0000;
 
 // The reach of code that leads forward in a buffer of this size.
-fn forward_reach(size: u32) -> Reach {
+fn forward_reach(size: u32) -> Reach
+    ensures { result ≡ (if nat_le size near_size then Reach.Near else Reach.Far) }
+{
     if size <= NEAR_SIZE {
         Reach::Near
     } else {
@@ -31,6 +34,8 @@ pub fn first_reach(operands: &[Operand], buf: &CodeBuf) -> Reach
     ensures low { result ≢ Reach.Far → length buf.now.bytes ≤ most_code }
     ensures bound { (l : Label) (goal : ℕ) → slice_get operands.now 0 ≡ Some (Operand.Label l) → place_of buf.now.labels l.0 ≡ Some goal
         → length buf.now.bytes ≤ most_code → result ≡ Reach.Short }
+    ensures ahead { (l : Label) → slice_get operands.now 0 ≡ Some (Operand.Label l) → place_of buf.now.labels l.0 ≡ None
+        → length buf.now.bytes ≤ most_code → result ≡ (if nat_le buf.now.size near_size then Reach.Near else Reach.Far) }
 {
     if buf.here() > MOST_CODE {
         return Reach::Far;

@@ -17,8 +17,10 @@ fn holds_bytes(rt: HostRuntime) -> Result<(), Fail> {
     assert_eq!(rt; grown.get(1), 8);
     let data = DataImage::of(rt.alloc(), b"data")?;
     assert_eq!(rt; data.as_slice(), b"data".as_slice());
+    assert_eq!(rt; data.get(1), b'a');
     let args = ArgImage::of(rt.alloc(), b"args")?;
     assert_eq!(rt; args.as_slice(), b"args".as_slice());
+    assert_eq!(rt; args.get(0), b'a');
     Ok(())
 }
 

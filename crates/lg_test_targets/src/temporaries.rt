@@ -6,7 +6,7 @@ use lg_base::target::Target;
 use lg_live::reg_set::RegSet;
 use lg_op::{Node, Op, Operand, Operands, Reg};
 use lg_temp::abi::{Abi, ArgPlace};
-use lg_temp::choice::{Choice, Need, Needs, Staged};
+use lg_temp::choice::{Choice, Choices, Need, Needs, Staged};
 use lg_temp::choose::choose;
 
 // `addi %r0 %r0 4096`
@@ -66,6 +66,14 @@ fn chooses_in_the_order(rt: HostRuntime) {
         choices(Target::X86_64, &both, 0),
         Some((Choice::Free(8), Some(Choice::Free(9))))
     );
+}
+
+#[test]
+fn holds_choices_and_staged_arguments(rt: HostRuntime) {
+    let list = [Choice::Free(9), Choice::Own(0)];
+    assert_eq!(rt; Choices::of(&list).as_slice(), list.as_slice());
+    let staged = Staged::of(&[0, 5]);
+    assert!(rt; staged.has(5) && !staged.has(1) && staged.len() == 2);
 }
 
 #[test]
