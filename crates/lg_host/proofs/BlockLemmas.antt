@@ -1,6 +1,6 @@
 -- Ranges of bytes: whether all can be read or written, and one more byte that is copied or set.
 use Rattle.std.proofs.Common.{◌≡◌, ℕ, zero, suc, ◌+◌, ◌-◌, ◌<◌, ◌≤◌, Bool, true, false, Option, Some, None, refl, sym, ap, ◌∙◌, ⊎_elim, arith}
-use Rattle.std.specs.Prelude.{◌==◌, ◌&&◌, ◌||◌, is_some, unwrap_or, if◌then◌else◌}
+use Rattle.std.specs.Prelude.{◌==◌, ◌&&◌, is_some, unwrap_or, if◌then◌else◌}
 use Rattle.std.proofs.lemmas.Bool.{cases_eq, ne_eqb, false≢true, or_right, and_parts}
 use mathlib.Core.Path.{fun_ext}
 use Rattle.lg_base.specs.Spaces.{put_some, mapped, in_heap, raised}

@@ -2,6 +2,7 @@ pub mod BlockLemmas
 pub mod HostLawLemmas
 pub mod HostLemmas
 pub mod LargerLemmas
+pub mod NumberLawLemmas
 pub mod OutputLemmas
 pub mod PieceLemmas
 pub mod PrintLemmas

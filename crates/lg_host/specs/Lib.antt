@@ -2,6 +2,7 @@ pub mod Blocks
 pub mod Formats
 pub mod Host
 pub mod HostLaws
+pub mod NumberLaws
 pub mod Output
 pub mod Pieces
 pub mod Printed

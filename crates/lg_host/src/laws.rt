@@ -1,6 +1,7 @@
 // What holds of every host function, for the crates that call them. The functions do nothing: their contracts are the laws.
 
 ghost use Rattle.lg_host.specs.HostLaws.{IsKept, AnswersAllowed};
+ghost use Rattle.lg_host.specs.NumberLaws.{ReadsItsDigits, ReadsWhatIsPrinted};
 ghost use Rattle.lg_host.specs.Pieces.{PrintsItsPieces, IsSpelledByPieces};
 
 /// A call that is defined answers, changes and writes the same over a memory that holds more, with further arguments, and
@@ -23,4 +24,14 @@ pub fn formats_print_their_pieces()
 /// A format of `printf` that prints anything is spelled by pieces.
 pub fn formats_are_spelled_by_pieces()
     ensures { IsSpelledByPieces }
+{}
+
+/// `atoi` reads the value of the digits behind white space and a sign.
+pub fn atoi_reads_its_digits()
+    ensures { ReadsItsDigits }
+{}
+
+/// `atoi` reads back what `printf` writes of an int that is not negative.
+pub fn atoi_reads_what_is_printed()
+    ensures { ReadsWhatIsPrinted }
 {}
