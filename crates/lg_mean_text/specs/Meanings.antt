@@ -1,5 +1,5 @@
 -- What the end of a meaning says of a text.
-use Rattle.std.specs.Prelude.{◌≡◌, ◌⊎◌, ℕ, ◌<◌, ◌≤◌, List, Option, length, Result, Ok, Err}
+use Rattle.std.specs.Prelude.{◌≡◌, ◌⊎◌, ℕ, ◌<◌, ◌≤◌, List, length, Result, Ok, Err}
 use Rattle.lg_base.specs.Arguments.{args_of, args_too_long, most_args}
 use Rattle.lg_base.specs.Refusals.{text_too_long}
 use Rattle.lg_base.specs.declared.refusal.Refusal.{Refusal}
