@@ -7,7 +7,7 @@ use Rattle.lg_base.specs.Parts.{data_base}
 use Rattle.lg_base.specs.declared.target.Target.{Target}
 use Rattle.lg_carry.specs.FinalNodes.{Code}
 use Rattle.lg_carry.specs.NodeCode.{numbered, live_before, IsLiveness}
-use Rattle.lg_live.specs.Registers.{number_of}
+use Rattle.lg_op.specs.Operands.{number_of}
 use Rattle.lg_live.specs.Uses.{is_for, is_register, names, is_call, is_read, is_written}
 use Rattle.lg_live.specs.declared.uses.Access.{Access}
 use Rattle.lg_live.specs.declared.uses.Access.TheVariants as access

@@ -13,5 +13,6 @@ pub mod Rooms
 pub mod Runs
 pub mod Spaces
 pub mod Wide
+pub mod WordBytes
 pub mod WordFronts
 pub mod Words

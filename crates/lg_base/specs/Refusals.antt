@@ -1,7 +1,22 @@
--- The kinds of refusal, by number and by name.
-use Rattle.std.specs.Prelude.{ℕ, List, codes}
+-- Refusals: steps that may be refused, and the kinds by number and by name.
+use Rattle.std.specs.Prelude.{ℕ, List, codes, Result, Ok, Err}
+use Rattle.lg_base.specs.declared.refusal.Refusal.{Refusal}
 use Rattle.lg_base.specs.declared.refusal.RefusalKind.{RefusalKind}
 use Rattle.lg_base.specs.declared.refusal.RefusalKind.TheVariants.{BadToken, UnknownName, FloatRefused, BadOperand, BadExpr, LabelTwice, LabelMissing, NotInFunction, FunctionOpen, TargetOutside, BadCall, TooManyArgs, NoSuchArg, UnknownHost, DataFull, TextTooLong, TooManyNodes, CodeFull, FrameTooBig, NoCode, ArgsTooLong, BadDirective, BadMacro, ExpandTooMuch}
+
+-- a refusal of a kind in a line
+abbrev pub refuse : {A : Type 0} → RefusalKind → ℕ → Result A Refusal
+refuse kind line = Err (record { kind = kind; line = line })
+
+-- a step, and a further step on what it gives
+infixl 10 ◌>>=◌
+abbrev pub ◌>>=◌ : {A B : Type 0} → Result A Refusal → (A → Result B Refusal) → Result B Refusal
+(Ok x) >>= f = f x
+(Err e) >>= f = Err e
+
+-- the answer to a text of more than 16,777,216 bytes
+abbrev pub text_too_long : Refusal
+text_too_long = record { kind = TextTooLong; line = 0 }
 
 -- the number that the program prints
 abbrev pub number_of_kind : RefusalKind → ℕ

@@ -1,5 +1,5 @@
 //! What every crate of the assembler speaks of: targets, refusals, faults, host functions, fields of
-//! instruction words, arithmetic on words, and memory.
+//! instruction words, arithmetic on words, the bytes of a text's words, and memory.
 #![tactic(auto)]
 
 pub mod args;
@@ -17,3 +17,4 @@ pub mod space;
 pub mod target;
 pub mod wide;
 pub mod word;
+pub mod word_bytes;

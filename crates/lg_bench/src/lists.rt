@@ -1,7 +1,7 @@
 // Lists of nodes of five shapes, of any length: longer than a text may be.
 
 ghost use Rattle.std.specs.Prelude.{◌≡◌, ◌≤◌, length, true};
-ghost use Rattle.lg_node.specs.Nodes.{is_word_byte};
+ghost use Rattle.lg_base.specs.WordBytes.{is_word_byte};
 
 use lg_base::refusal::{OutOfMemory, Stop};
 use lg_node::{Label, Node, NodeList, Op, Operand, Operands, Place, Reg, Unit};

@@ -16,7 +16,7 @@ use Rattle.lg_host.specs.Output.{Output, Passes, IsAfter, IsTold, Told, Prints}
 use Rattle.lg_host.proofs.RunLemmas.{run-end, run-some, run-none}
 use Rattle.lg_host.proofs.OutputLemmas.{Passes-trans, Passes-prefix, Passes-flushed, Passes-cut}
 use Rattle.lg_host.specs.declared.format.Reading.{Reading}
-use Rattle.lg_host.specs.declared.walk.Walk.{Walk}
+use Rattle.lg_host.specs.declared.format_place.FormatPlace.{FormatPlace}
 
 -- bytes before others that may be undefined
 abbrev pub onto : List ℕ → Option (List ℕ) → Option (List ℕ)
@@ -88,13 +88,13 @@ pub Told-err : (o : Option (List ℕ)) (old mid new : Output) (fault : SinkFault
 Told-err o old mid new fault done eff rest e told h le later rose =
     subst (λ (p : Option (List ℕ)). Told {E = SinkFault} p old new (Err fault)) (sym e) record { ok = tt; err = prefix-by old mid new done eff rest told h; cause = record { later = omega arith; kept = tt; failed = omega (arith, rose) } }
 
-pub record More (m : Bytes) (eff : Option Effect) (w : Walk) (args : List ℕ) (count a : ℕ) (mid new : Output) : Type 0 where
+pub record More (m : Bytes) (eff : Option Effect) (w : FormatPlace) (args : List ℕ) (count a : ℕ) (mid new : Output) : Type 0 where
   pub bytes : List ℕ
   pub told : Passes mid new bytes
   pub count_is : w.count ≡ (count + length bytes) % 2 ^ 64
   pub is : followed_by eff (λ e. printed_at m e.reading a e.left) ≡ onto bytes (printed_at m w.reading a (drop w.used args))
 
-more : (m : Bytes) (eff : Option Effect) (w : Walk) (args : List ℕ) (count a : ℕ) (mid new : Output) → IsAfter eff count args mid new (Some w) → More m eff w args count a mid new
+more : (m : Bytes) (eff : Option Effect) (w : FormatPlace) (args : List ℕ) (count a : ℕ) (mid new : Output) → IsAfter eff count args mid new (Some w) → More m eff w args count a mid new
 more m None w args count a mid new h = absurd h
 more m (Some e) w args count a mid new h = record {
   bytes = e.bytes;
@@ -107,13 +107,13 @@ count-more : (c n x : ℕ) → c ≡ n % 2 ^ 64 → (c + x) % 2 ^ 64 ≡ (n + x)
 count-more c n x e = grind arith
 
 -- ---- the bytes so far and what is left
-pub record SoFar (all : Option (List ℕ)) (m : Bytes) (w : Walk) (args : List ℕ) (a : ℕ) (old new : Output) : Type 0 where
+pub record SoFar (all : Option (List ℕ)) (m : Bytes) (w : FormatPlace) (args : List ℕ) (a : ℕ) (old new : Output) : Type 0 where
   pub done : List ℕ
   pub told : Passes old new done
   pub count_is : w.count ≡ length done % 2 ^ 64
   pub is : all ≡ onto done (printed_at m w.reading a (drop w.used args))
 
-pub SoFar-more : (all : Option (List ℕ)) (m : Bytes) (w v : Walk) (b a : ℕ) (args : List ℕ) (old mid new : Output) → a < 2 ^ 64 → Some b ≡ m a → (b ≡ 0 → ⊥) → SoFar all m w args a old mid → IsAfter (step_of m w.reading b (drop w.used args)) w.count args mid new (Some v) → SoFar all m v args (a + 1) old new
+pub SoFar-more : (all : Option (List ℕ)) (m : Bytes) (w v : FormatPlace) (b a : ℕ) (args : List ℕ) (old mid new : Output) → a < 2 ^ 64 → Some b ≡ m a → (b ≡ 0 → ⊥) → SoFar all m w args a old mid → IsAfter (step_of m w.reading b (drop w.used args)) w.count args mid new (Some v) → SoFar all m v args (a + 1) old new
 SoFar-more all m w v b a args old mid new lt is ne s h =
     let k = more m (step_of m w.reading b (drop w.used args)) v args w.count (a + 1) mid new h in
     record {

@@ -7,7 +7,7 @@ use Rattle.lg_host.specs.Runs.{Bytes}
 use Rattle.lg_host.specs.Printed.{Effect}
 use Rattle.lg_host.specs.declared.parts.Part.{Part}
 use Rattle.lg_host.specs.declared.parts.Part.TheVariants as part
-use Rattle.lg_host.specs.declared.walk.Walk.{Walk}
+use Rattle.lg_host.specs.declared.format_place.FormatPlace.{FormatPlace}
 
 -- so many bytes from an address on
 abbrev pub bytes_from : ℕ → Bytes → ℕ → List ℕ
@@ -64,15 +64,15 @@ pub record Prints {E : Type 0} (bytes old new : Option (List ℕ)) (before now :
   pub cause : HasCause before now result
 
 -- ---- one byte of a format
-abbrev pub IsAfter : Option Effect → ℕ → List ℕ → Output → Output → Option Walk → Type 0
+abbrev pub IsAfter : Option Effect → ℕ → List ℕ → Output → Output → Option FormatPlace → Type 0
 IsAfter None count args old new None = Unit {0}
-IsAfter None count args old new (Some walk) = ⊥
+IsAfter None count args old new (Some place) = ⊥
 IsAfter (Some effect) count args old new None = ⊥
-IsAfter (Some effect) count args old new (Some walk) =
-    (walk.reading ≡ effect.reading) × (drop walk.used args ≡ effect.left) × (walk.count ≡ (count + length effect.bytes) % 2 ^ 64) × Passes old new effect.bytes
+IsAfter (Some effect) count args old new (Some place) =
+    (place.reading ≡ effect.reading) × (drop place.used args ≡ effect.left) × (place.count ≡ (count + length effect.bytes) % 2 ^ 64) × Passes old new effect.bytes
 
 -- the effect of one byte of the format, where it is defined
-pub record Steps {E : Type 0} (effect : Option Effect) (count : ℕ) (args : List ℕ) (old new : Output) (result : Result (Option Walk) E) : Type 0 where
+pub record Steps {E : Type 0} (effect : Option Effect) (count : ℕ) (args : List ℕ) (old new : Output) (result : Result (Option FormatPlace) E) : Type 0 where
   pub ok : IfOk result (IsAfter effect count args old new)
   pub err : OnErr result (IfSome effect (λ e. AppendsPrefix old.taken new.taken (old.waiting ++ e.bytes)))
   pub cause : HasCause old.faults new.faults result

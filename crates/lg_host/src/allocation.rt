@@ -28,7 +28,8 @@ fn reserve<S: Space>(size: u64, mem: &mut S, heap: &mut HeapMark) -> Option<u64>
     Some(mark)
 }
 
-/// Hands out so many bytes.
+/// Takes `size` bytes of the heap, rounded up to a multiple of 16 and at least 16, and answers their first address; 0 where they do not fit,
+/// and then nothing changes.
 pub fn malloc<S: Space>(size: u64, mem: &mut S, heap: &mut HeapMark) -> HostEnd
     ensures { MemSays (malloc heap.old size)
         (memory (S.byte_of mem.old) (S.room mem.old) heap.old)
@@ -40,7 +41,7 @@ pub fn malloc<S: Space>(size: u64, mem: &mut S, heap: &mut HeapMark) -> HostEnd
     }
 }
 
-/// Hands out so many zero bytes of a size each.
+/// Takes `count * size` bytes as `malloc` does, all 0. A product beyond a word does not fit.
 pub fn calloc<S: Space>(count: u64, size: u64, mem: &mut S, heap: &mut HeapMark) -> HostEnd
     ensures { MemSays (calloc heap.old (count * size))
         (memory (S.byte_of mem.old) (S.room mem.old) heap.old)
@@ -67,7 +68,8 @@ fn zeroed<S: Space>(size: u64, mem: &mut S, heap: &mut HeapMark) -> HostEnd
     }
 }
 
-/// Sets the bytes of a range.
+/// Sets `count` bytes from `to` on to the low byte of `word`, and answers `to`. Undefined where one of them has no address or cannot be
+/// written; with a count of 0 nothing is looked at.
 pub fn memset<S: Space>(to: u64, word: u64, count: u64, mem: &mut S, heap: &mut HeapMark) -> HostEnd
     ensures { MemSays (memset (memory (S.byte_of mem.old) (S.room mem.old) heap.old) to word count)
         (memory (S.byte_of mem.old) (S.room mem.old) heap.old)
@@ -86,7 +88,8 @@ pub fn memset<S: Space>(to: u64, word: u64, count: u64, mem: &mut S, heap: &mut 
     HostEnd::Value(to)
 }
 
-/// Copies the bytes of a range to another that lies apart from it.
+/// Copies `count` bytes from `from` on to those from `to` on, and answers `to`. Undefined where one of them has no address, cannot be read or
+/// cannot be written, and where the two ranges overlap; with a count of 0 nothing is looked at.
 pub fn memcpy<S: Space>(to: u64, from: u64, count: u64, mem: &mut S, heap: &mut HeapMark) -> HostEnd
     ensures { MemSays (memcpy (memory (S.byte_of mem.old) (S.room mem.old) heap.old) to from count)
         (memory (S.byte_of mem.old) (S.room mem.old) heap.old)

@@ -13,7 +13,7 @@ pub fn is_addressed(from: u64, count: u64) -> bool
     count == 0 || count - 1 <= u64::MAX - from
 }
 
-/// Whether the distance of two addresses is below a number.
+/// Whether two ranges of `count` bytes have a byte in common.
 pub fn overlaps(to: u64, from: u64, count: u64) -> bool
     ensures { result ≡ overlaps to from count }
 {
@@ -24,7 +24,7 @@ pub fn overlaps(to: u64, from: u64, count: u64) -> bool
     }
 }
 
-/// Whether all of a range can be read.
+/// Whether all `count` bytes from an address on can be read. The range ends by 2^64.
 pub fn can_get_all<S: Space>(mem: &S, from: u64, count: u64) -> bool
     requires { from + count ≤ 2 ^ 64 }
     ensures { result ≡ mapped (S.byte_of mem.now) from count }
@@ -37,7 +37,7 @@ pub fn can_get_all<S: Space>(mem: &S, from: u64, count: u64) -> bool
     true
 }
 
-/// Whether all of a range can be written.
+/// Whether all `count` bytes from an address on can be written. The range ends by 2^64.
 pub fn can_put_all<S: Space>(mem: &S, from: u64, count: u64) -> bool
     requires { from + count ≤ 2 ^ 64 }
     ensures { result ≡ can_write (S.room mem.now) from count }
@@ -50,7 +50,7 @@ pub fn can_put_all<S: Space>(mem: &S, from: u64, count: u64) -> bool
     true
 }
 
-/// Sets the bytes of a range.
+/// Sets the bytes of a range, which can be written. The range ends by 2^64.
 pub fn fill<S: Space>(mem: &mut S, to: u64, byte: u8, count: u64)
     requires below { to + count ≤ 2 ^ 64 }
     requires can { can_write (S.room mem.old) to count ≡ true }
@@ -62,7 +62,7 @@ pub fn fill<S: Space>(mem: &mut S, to: u64, byte: u8, count: u64)
     }
 }
 
-/// Copies the bytes of a range.
+/// Copies the bytes of a range, which can be read, to another, which can be written. Each ends by 2^64, and the two lie apart.
 pub fn copy<S: Space>(mem: &mut S, to: u64, from: u64, count: u64)
     requires below { to + count ≤ 2 ^ 64 }
     requires below_from { from + count ≤ 2 ^ 64 }

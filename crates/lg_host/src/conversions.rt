@@ -52,29 +52,14 @@ fn put_padded<'a, S: Space, O: Sink>(
     let used = sign.len() as u64 + len;
     let gap = (style.width as u64).saturating_sub(used) as u32;
     if style.left {
-        put(
-            mem,
-            &[Part::Bytes(sign), body, Part::Fill(b' ', gap)],
-            used + gap as u64,
-            buffer,
-            out,
-        )
+        let parts = [Part::Bytes(sign), body, Part::Fill(b' ', gap)];
+        put(mem, &parts, used + gap as u64, buffer, out)
     } else if style.zero {
-        put(
-            mem,
-            &[Part::Bytes(sign), Part::Fill(b'0', gap), body],
-            used + gap as u64,
-            buffer,
-            out,
-        )
+        let parts = [Part::Bytes(sign), Part::Fill(b'0', gap), body];
+        put(mem, &parts, used + gap as u64, buffer, out)
     } else {
-        put(
-            mem,
-            &[Part::Fill(b' ', gap), Part::Bytes(sign), body],
-            used + gap as u64,
-            buffer,
-            out,
-        )
+        let parts = [Part::Fill(b' ', gap), Part::Bytes(sign), body];
+        put(mem, &parts, used + gap as u64, buffer, out)
     }
 }
 

@@ -28,7 +28,9 @@ fn int_answer(count: u64) -> u64
     }
 }
 
-/// Writes what a format prints of the arguments behind it.
+/// Writes what a format prints of the arguments behind it. Answers the number of bytes, as an int; `WriteFault` where the sink failed, and then
+/// a part may be written; Undefined, with nothing written, where the format is wrong, asks for an argument that is not there, or it or a string
+/// cannot be read to its end.
 pub fn printf<S: Space, O: Sink>(mem: &S, format: u64, args: &[u64], out: &mut O) -> HostEnd
     ensures says { TextSays (printed_at (S.byte_of mem.now) Reading.Plain format args.now)
         (outcome (O.taken out.old) (O.taken out.new) (O.faults out.old) (O.faults out.new)) result }
@@ -45,7 +47,8 @@ pub fn printf<S: Space, O: Sink>(mem: &S, format: u64, args: &[u64], out: &mut O
     }
 }
 
-/// Writes a string and a line feed.
+/// Writes a string and a line feed. Answers the number of bytes, as an int; `WriteFault` where the sink failed, and then a part may be
+/// written; Undefined, with nothing written, where the string cannot be read to its end.
 pub fn puts<S: Space, O: Sink>(mem: &S, from: u64, out: &mut O) -> HostEnd
     ensures says { TextSays (option_map (λ string. string ++ 10 ∷ []) (string_in (run (S.byte_of mem.now) from)))
         (outcome (O.taken out.old) (O.taken out.new) (O.faults out.old) (O.faults out.new)) result }
@@ -60,7 +63,7 @@ pub fn puts<S: Space, O: Sink>(mem: &S, from: u64, out: &mut O) -> HostEnd
     }
 }
 
-/// Writes a byte.
+/// Writes the low byte of a word. Answers the byte; `WriteFault` where the sink failed, and then nothing was written.
 pub fn putchar<O: Sink>(word: u64, out: &mut O) -> HostEnd
     ensures says { ByteSays (word % 256)
         (outcome (O.taken out.old) (O.taken out.new) (O.faults out.old) (O.faults out.new)) result }

@@ -10,53 +10,53 @@ ghost use Rattle.lg_host.specs.Printed.{wrote, effect_of, step_of, printed_at};
 use crate::buffer::Buffer;
 use crate::conversions::convert;
 use crate::format::{Kind, Next, Reading, Style};
+use crate::format_place::FormatPlace;
 use crate::letters::{is_plain, next};
-use crate::walk::Walk;
 use lg_base::space::Space;
 use lg_io::sink::{Sink, SinkFault};
 
 // What one byte of a format does.
 fn step<S: Space, O: Sink>(
     mem: &S,
-    walk: Walk,
+    place: FormatPlace,
     byte: u8,
     args: &[u64],
     buffer: &mut Buffer,
     out: &mut O,
-) -> Result<Option<Walk>, SinkFault>
-    ensures { Steps (step_of (S.byte_of mem.now) walk.reading byte (drop walk.used args.now)) walk.count args.now
+) -> Result<Option<FormatPlace>, SinkFault>
+    ensures { Steps (step_of (S.byte_of mem.now) place.reading byte (drop place.used args.now)) place.count args.now
         (output (O.taken out.old) buffer.old (O.faults out.old))
         (output (O.taken out.new) buffer.new (O.faults out.new)) result }
 {
-    match next(walk.reading, byte) {
-        Next::Reads(reading) => Ok(Some(Walk {
+    match next(place.reading, byte) {
+        Next::Reads(reading) => Ok(Some(FormatPlace {
             reading,
-            used: walk.used,
-            count: walk.count,
+            used: place.used,
+            count: place.count,
         })),
-        Next::Puts(plain) => put_plain(walk, plain, args, buffer, out),
-        Next::Converts(style, kind) => put_converted(mem, walk, style, kind, args, buffer, out),
+        Next::Puts(plain) => put_plain(place, plain, args, buffer, out),
+        Next::Converts(style, kind) => put_converted(mem, place, style, kind, args, buffer, out),
         Next::Wrong => Ok(None),
     }
 }
 
 // Passes on a byte that stands for itself.
 fn put_plain<O: Sink>(
-    walk: Walk,
+    place: FormatPlace,
     byte: u8,
     args: &[u64],
     buffer: &mut Buffer,
     out: &mut O,
-) -> Result<Option<Walk>, SinkFault>
-    ensures { Steps (Some (wrote (byte ∷ []) (drop walk.used args.now))) walk.count args.now
+) -> Result<Option<FormatPlace>, SinkFault>
+    ensures { Steps (Some (wrote (byte ∷ []) (drop place.used args.now))) place.count args.now
         (output (O.taken out.old) buffer.old (O.faults out.old))
         (output (O.taken out.new) buffer.new (O.faults out.new)) result }
 {
     match buffer.push(byte, out) {
-        Ok(()) => Ok(Some(Walk {
+        Ok(()) => Ok(Some(FormatPlace {
             reading: Reading::Plain,
-            used: walk.used,
-            count: walk.count.wrapping_add(1),
+            used: place.used,
+            count: place.count.wrapping_add(1),
         })),
         Err(fault) => Err(fault),
     }
@@ -65,25 +65,25 @@ fn put_plain<O: Sink>(
 // Passes on the next argument.
 fn put_converted<S: Space, O: Sink>(
     mem: &S,
-    walk: Walk,
+    place: FormatPlace,
     style: Style,
     kind: Kind,
     args: &[u64],
     buffer: &mut Buffer,
     out: &mut O,
-) -> Result<Option<Walk>, SinkFault>
-    ensures { Steps (effect_of (S.byte_of mem.now) (Next.Converts style kind) (drop walk.used args.now)) walk.count args.now
+) -> Result<Option<FormatPlace>, SinkFault>
+    ensures { Steps (effect_of (S.byte_of mem.now) (Next.Converts style kind) (drop place.used args.now)) place.count args.now
         (output (O.taken out.old) buffer.old (O.faults out.old))
         (output (O.taken out.new) buffer.new (O.faults out.new)) result }
 {
-    if walk.used >= args.len() {
+    if place.used >= args.len() {
         return Ok(None);
     }
-    match convert(mem, style, kind, args[walk.used], buffer, out) {
-        Ok(Some(len)) => Ok(Some(Walk {
+    match convert(mem, style, kind, args[place.used], buffer, out) {
+        Ok(Some(len)) => Ok(Some(FormatPlace {
             reading: Reading::Plain,
-            used: walk.used + 1,
-            count: walk.count.wrapping_add(len),
+            used: place.used + 1,
+            count: place.count.wrapping_add(len),
         })),
         Ok(None) => Ok(None),
         Err(fault) => Err(fault),
@@ -102,7 +102,7 @@ fn put_format<S: Space, O: Sink>(
         (output (O.taken out.old) buffer.old (O.faults out.old))
         (output (O.taken out.new) buffer.new (O.faults out.new)) result }
 {
-    let mut walk = Walk {
+    let mut place = FormatPlace {
         reading: Reading::Plain,
         used: 0,
         count: 0,
@@ -112,13 +112,13 @@ fn put_format<S: Space, O: Sink>(
             return Ok(None);
         };
         if byte == 0 {
-            if is_plain(walk.reading) {
-                return Ok(Some(walk.count));
+            if is_plain(place.reading) {
+                return Ok(Some(place.count));
             }
             return Ok(None);
         }
-        match step(mem, walk, byte, args, buffer, out) {
-            Ok(Some(more)) => walk = more,
+        match step(mem, place, byte, args, buffer, out) {
+            Ok(Some(more)) => place = more,
             Ok(None) => return Ok(None),
             Err(fault) => return Err(fault),
         }

@@ -10,7 +10,7 @@ use Rattle.lg_io.specs.Wrote.{AppendsPrefix, joined, row}
 -- all of xs was appended, and then a part of ys
 pub AppendsPrefix-after : (a b c : Option (List ℕ)) (xs ys zs all : List ℕ) → all ≡ xs ++ (ys ++ zs) → Appends a b xs → AppendsPrefix b c ys → AppendsPrefix a c all
 AppendsPrefix-after a b c xs ys zs all e h p =
-    let part : take (length xs + p.0) all ≡ xs ++ take p.0 ys = rw (e, take-append-add xs (ys ++ zs) p.0, take-append-le p.0 ys zs p.1) refl in
+    let part : take (length xs + p.0) all ≡ xs ++ take p.0 ys = rw (e, take-append-add xs (ys ++ zs) p.0, take-append-le p.0 ys zs (omega (arith, p.1))) refl in
     (length xs + p.0, omega (arith, ap length e, length-append xs (ys ++ zs), length-append ys zs, p.1), subst (Appends a c) (sym part) (Appends-trans a b c xs (take p.0 ys) h p.2))
 
 pub joined-append : (ps qs : List (Bor (List ℕ))) → joined (ps ++ qs) ≡ joined ps ++ joined qs

@@ -5,5 +5,6 @@ pub mod MemoryTexts
 pub mod NamedTexts
 pub mod Radixes
 pub mod Rests
-pub mod Wrote
+pub mod SinkChanges
 pub mod StandardSinks
+pub mod Wrote

@@ -32,7 +32,7 @@ pub trait Sink {
         ensures cause { HasCause (faults self.old) (faults self.new) result };
 }
 
-/// Writes all of the bytes. After a fault some of them were written, from the first one on.
+/// Writes all of the bytes. After a fault some of them were written, from the first one on, and not all: no bytes are written without a fault.
 pub fn write_all<O: Sink>(out: &mut O, bytes: &[u8]) -> Result<(), SinkFault>
     ensures { Wrote (O.taken out.old) (O.taken out.new) (O.faults out.old) (O.faults out.new) result bytes.now }
 {
@@ -43,7 +43,7 @@ pub fn write_all<O: Sink>(out: &mut O, bytes: &[u8]) -> Result<(), SinkFault>
     Ok(())
 }
 
-/// Writes pieces one after another. After a fault some of their bytes were written, from the first one on.
+/// Writes pieces one after another. After a fault some of their bytes were written, from the first one on, and not all.
 pub fn write_parts<O: Sink>(out: &mut O, parts: &[&[u8]]) -> Result<(), SinkFault>
     ensures { Wrote (O.taken out.old) (O.taken out.new) (O.faults out.old) (O.faults out.new) result (joined parts.now) }
 {

@@ -14,7 +14,8 @@ use Rattle.lg_lex.specs.declared.token.TokenKind.{TokenKind}
 use Rattle.lg_lex.specs.declared.token.TokenKind.TheVariants.{Directive, Register, Number, Character, Name, Host}
 use Rattle.lg_lex.specs.declared.fronts.Front.{Front}
 use Rattle.lg_lex.specs.declared.fronts.Front.TheVariants.{Skips, Fails}
-use Rattle.lg_lex.specs.Bytes.{is_word_start, is_word_byte, is_in_line}
+use Rattle.lg_base.specs.WordBytes.{is_word_start, is_word_byte}
+use Rattle.lg_lex.specs.Bytes.{is_in_line}
 use Rattle.lg_lex.specs.Blanks.{blank_at, behind_blanks}
 use Rattle.lg_lex.specs.Numbers.{number_at}
 use Rattle.lg_lex.specs.Escapes.{character_at, string_at}

@@ -1,19 +1,10 @@
 -- The classes of bytes.
 use Rattle.std.specs.Prelude.{ℕ, ◌+◌, Bool, ◌||◌, ◌==◌, not, Option, option_map}
 use Rattle.std.specs.Int.{is_in_range}
-use Rattle.std.specs.Char.{is_ascii_alphabetic, is_ascii_alphanumeric}
 
 -- space, tab, line feed, vertical tab, form feed, carriage return
 abbrev pub is_space : ℕ → Bool
 is_space b = (b == 32) || is_in_range 9 13 b
-
--- a letter or _
-abbrev pub is_word_start : ℕ → Bool
-is_word_start b = is_ascii_alphabetic b || (b == 95)
-
--- a letter, a digit or _
-abbrev pub is_word_byte : ℕ → Bool
-is_word_byte b = is_ascii_alphanumeric b || (b == 95)
 
 -- a letter of u U l L
 abbrev pub is_suffix_letter : ℕ → Bool

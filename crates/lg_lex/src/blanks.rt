@@ -1,9 +1,9 @@
 // White space and comments.
 
-ghost use Rattle.std.specs.Prelude.{◌≡◌, ◌+◌, ◌<◌, ◌≤◌, ◌==◌, ◌&&◌, length, slice_index, IfSome};
+ghost use Rattle.std.specs.Prelude.{◌≡◌, ◌<◌, ◌≤◌, length, IfSome};
 ghost use Rattle.lg_lex.specs.Blanks.{block_rest, comment_at, blank_at, behind_blanks};
 
-use crate::bytes::{behind, byte_at, is_space, line_len, space_len};
+use crate::bytes::{behind, byte_at, closes_block, is_space, line_len, space_len};
 
 // How many bytes come to the first `*/`, that included.
 fn block_rest(bytes: &[u8]) -> Option<usize>
@@ -16,14 +16,6 @@ fn block_rest(bytes: &[u8]) -> Option<usize>
         }
     }
     None
-}
-
-// Whether a `*` at a place and the byte behind it end a comment.
-fn closes_block(bytes: &[u8], at: usize, b: u8) -> bool
-    requires { at < length bytes.now }
-    ensures { result ≡ ((b == 42) && (slice_index bytes.now (at + 1) == 47)) }
-{
-    b == b'*' && byte_at(bytes, at + 1) == b'/'
 }
 
 // The length of a comment at the front.

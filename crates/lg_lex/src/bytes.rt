@@ -1,29 +1,40 @@
 // Bytes of a text by place and by class, and runs of them at the front.
 
-ghost use Rattle.std.specs.Prelude.{◌≡◌, ◌≤◌, ◌==◌, length, take, drop, slice_index};
+ghost use Rattle.std.specs.Prelude.{◌≡◌, ◌+◌, ◌<◌, ◌≤◌, ◌==◌, ◌&&◌, length, take, drop, slice_index};
 ghost use Rattle.std.specs.Char.{is_digit};
 ghost use Rattle.std.specs.List.{prefix_len};
-ghost use Rattle.lg_lex.specs.Bytes.{is_space, is_word_start, is_word_byte, is_suffix_letter, is_in_line};
+ghost use Rattle.lg_base.specs.WordBytes.{is_word_byte};
+ghost use Rattle.lg_lex.specs.Bytes.{is_space, is_suffix_letter, is_in_line};
 
-/// The byte at a place, and 0 past the end.
-pub(crate) fn byte_at(bytes: &[u8], at: usize) -> u8
+use lg_base::word_bytes::is_word_byte;
+
+/// The byte at a place from 0 on, and 0 past the end.
+pub fn byte_at(bytes: &[u8], at: usize) -> u8
     ensures { result ≡ slice_index bytes.now at }
 {
     bytes.get(at).copied().unwrap_or(0)
 }
 
 /// The bytes from the n-th on, none where there are fewer.
-pub(crate) fn behind(bytes: &[u8], n: usize) -> &[u8]
+pub fn behind(bytes: &[u8], n: usize) -> &[u8]
     ensures { result.now ≡ drop n bytes.now }
 {
     bytes.split_at(n.min(bytes.len())).1
 }
 
 /// The first n bytes, all where there are fewer.
-pub(crate) fn ahead(bytes: &[u8], n: usize) -> &[u8]
+pub fn ahead(bytes: &[u8], n: usize) -> &[u8]
     ensures { result.now ≡ take n bytes.now }
 {
     bytes.split_at(n.min(bytes.len())).0
+}
+
+/// Whether a byte `b`, a `*` at place `at`, and the byte behind it end a comment.
+pub fn closes_block(bytes: &[u8], at: usize, b: u8) -> bool
+    requires { at < length bytes.now }
+    ensures { result ≡ ((b == 42) && (slice_index bytes.now (at + 1) == 47)) }
+{
+    b == b'*' && byte_at(bytes, at + 1) == b'/'
 }
 
 /// Whether a byte is white space.
@@ -31,20 +42,6 @@ pub(crate) fn is_space(b: u8) -> bool
     ensures { result ≡ is_space b }
 {
     b == b' ' || (b'\t' <= b && b <= b'\r')
-}
-
-/// Whether a word may begin with a byte.
-pub(crate) fn is_word_start(b: u8) -> bool
-    ensures { result ≡ is_word_start b }
-{
-    b.is_ascii_alphabetic() || b == b'_'
-}
-
-/// Whether a word may go on with a byte.
-pub(crate) fn is_word_byte(b: u8) -> bool
-    ensures { result ≡ is_word_byte b }
-{
-    b.is_ascii_alphanumeric() || b == b'_'
 }
 
 /// Whether a byte may stand behind the digits of a number.
@@ -70,8 +67,8 @@ pub(crate) fn gap_len(bytes: &[u8]) -> usize
     bytes.iter().take_while(|b| **b == b' ').count()
 }
 
-/// How many bytes of words stand at the front.
-pub(crate) fn word_byte_len(bytes: &[u8]) -> usize
+/// How many bytes of words stand at the front: letters, digits and `_`.
+pub fn word_byte_len(bytes: &[u8]) -> usize
     ensures value { result ≡ prefix_len is_word_byte bytes.now }
     ensures inside { result ≤ length bytes.now }
 {
@@ -79,7 +76,7 @@ pub(crate) fn word_byte_len(bytes: &[u8]) -> usize
 }
 
 /// How many bytes stand at the front before the first line feed.
-pub(crate) fn line_len(bytes: &[u8]) -> usize
+pub fn line_len(bytes: &[u8]) -> usize
     ensures value { result ≡ prefix_len is_in_line bytes.now }
     ensures inside { result ≤ length bytes.now }
 {

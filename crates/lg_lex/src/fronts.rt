@@ -6,12 +6,13 @@ ghost use Rattle.lg_lex.specs.Numbers.{number_at};
 ghost use Rattle.lg_lex.specs.Fronts.{LiesWithin, word_len, word_at, marked_at, marker_at, literal_token, string_token, dollar_at, mark_at, token_at, front_at};
 
 use crate::blanks::blank;
-use crate::bytes::{behind, byte_at, gap_len, is_word_start, line_len, word_byte_len};
+use crate::bytes::{behind, byte_at, gap_len, line_len, word_byte_len};
 use crate::escapes::{character, string_len};
 use crate::expressions::expression;
 use crate::numbers::number;
 use crate::token::TokenKind;
 use lg_base::refusal::RefusalKind;
+use lg_base::word_bytes::is_word_start;
 
 /// What stands at the front of a text.
 #[derive(Clone, Copy, Debug, PartialEq, Eq)]

@@ -2,7 +2,7 @@
 #![tactic(auto)]
 
 mod blanks;
-mod bytes;
+pub mod bytes;
 mod escapes;
 mod expressions;
 mod fronts;

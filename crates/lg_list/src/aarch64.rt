@@ -190,7 +190,7 @@ fn push_csinc(line: &mut Line, name: &[u8], rd: u8, rn: u8, rm: u8, cond: Cond)
     line.push(letters.as_slice());
 }
 
-/// Appends the text of an instruction at an address.
+/// Appends the text of an instruction at an address. The line has at most 52 bytes before and 274 behind.
 pub fn push_instruction(line: &mut Line, at: u32, instr: &Instr)
     requires { length line.old ≤ 52 }
     ensures text { line.new ≡ line.old ++ text_of at instr.now }

@@ -145,7 +145,8 @@ impl Line {
         }
     }
 
-    /// Appends the text of an instruction: its name and its operands.
+    /// Appends the text of an instruction: its name and its operands. Each operand adds at most 51 bytes with what stands before it, and the line
+    /// has at most 288 bytes behind.
     pub fn push_text(&mut self, name: &[u8], operands: &[Operand])
         requires { length self.old + length name.now + 51 * length operands.now ≤ 288 }
         ensures value { self.new ≡ self.old ++ text name.now operands.now }

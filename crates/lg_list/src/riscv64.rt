@@ -48,7 +48,7 @@ fn is_access(op: ImmOp) -> bool
     )
 }
 
-/// Appends the text of an instruction at an address.
+/// Appends the text of an instruction at an address. The line has at most 52 bytes before and 272 behind.
 pub fn push_instruction(line: &mut Line, at: u32, instr: &Instr)
     requires { length line.old ≤ 52 }
     ensures text { line.new ≡ line.old ++ text_of at instr.now }

@@ -1,16 +1,8 @@
--- The registers by their numbers and bits.
+-- The registers by their bits.
 use Rattle.std.specs.Prelude.{ℕ, ◌==◌, ◌&&◌, nat_lt, Bool}
+use Rattle.lg_op.specs.Operands.{number_of}
 use Rattle.lg_op.specs.declared.operand.Reg.{Reg}
 use Rattle.lg_op.specs.declared.operand.Reg.TheVariants.{R0, R1, R2, V0, V1, V2, Fp}
-
-abbrev pub number_of : Reg → ℕ
-number_of R0 = 0
-number_of R1 = 1
-number_of R2 = 2
-number_of V0 = 3
-number_of V1 = 4
-number_of V2 = 5
-number_of Fp = 6
 
 -- whether both are one register, other than FP, which is in no set
 abbrev pub is_same : Reg → Reg → Bool

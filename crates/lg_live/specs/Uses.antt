@@ -11,7 +11,8 @@ use Rattle.lg_op.specs.declared.form.Form.TheVariants.{Write, Update, Read}
 use Rattle.lg_op.specs.declared.operand.Reg.{Reg}
 use Rattle.lg_op.specs.declared.operand.Operand.{Operand}
 use Rattle.lg_op.specs.declared.operand.Operand.TheVariants as operand
-use Rattle.lg_live.specs.Registers.{number_of, is_same}
+use Rattle.lg_op.specs.Operands.{number_of}
+use Rattle.lg_live.specs.Registers.{is_same}
 use Rattle.lg_live.specs.declared.uses.Access.{Access}
 use Rattle.lg_live.specs.declared.uses.Access.TheVariants as access
 

@@ -2,7 +2,8 @@
 
 ghost use Rattle.std.specs.Prelude.{◌≡◌, ◌||◌, nat_lt, false, ⊤, [], ◌∷◌, codes};
 ghost use Rattle.lg_op.specs.declared.operand.Reg.{Reg};
-ghost use Rattle.lg_live.specs.Registers.{bit_of, is_same, number_of};
+ghost use Rattle.lg_op.specs.Operands.{number_of};
+ghost use Rattle.lg_live.specs.Registers.{bit_of, is_same};
 
 use bitflags::{Flag, Flags, bitflag_items};
 use lg_op::Reg;

@@ -19,7 +19,8 @@ use Rattle.lg_live.specs.Uses.{is_read, is_written}
 use Rattle.lg_live.specs.declared.reg_set.RegSet.{RegSet}
 use Rattle.lg_liveness.specs.Liveness.{IsLive, IsLiveBehind, LiveSets, AreLive}
 use Rattle.lg_liveness.specs.Liveness as live
-use Rattle.lg_meaning.specs.States.{State, number}
+use Rattle.lg_op.specs.Operands.{number_of}
+use Rattle.lg_meaning.specs.States.{State}
 use Rattle.lg_meaning.specs.Steps.{Goes}
 use Rattle.lg_meaning.specs.Texts.{step}
 use Rattle.lg_meaning.specs.Fits.{is_call}
@@ -31,7 +32,7 @@ use Rattle.lg_liveness_laws.specs.CarriedLiveness.{live_at, LiveSetsAreLiveness,
 -- ---- registers by their numbers
 pub record IsNumber (r : ℕ) (q : Reg) : Type 0 where
   pub is : (f : Reg → Bool) → numbered f r ≡ f q
-  pub small : number q < 6
+  pub small : number_of q < 6
 
 reg_at : (r : ℕ) → (f : Reg → Bool) → numbered f r ≡ true → (q : Reg) × IsNumber r q
 reg_at zero f e = (R0, record { is = λ g. refl; small = omega arith })

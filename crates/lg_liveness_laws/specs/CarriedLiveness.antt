@@ -7,7 +7,7 @@ use Rattle.lg_node.specs.Shapes.{IsShapeOf}
 use Rattle.lg_live.specs.RegSets.{has}
 use Rattle.lg_live.specs.declared.reg_set.RegSet.{RegSet}
 use Rattle.lg_liveness.specs.Liveness.{LiveSets, AreLive}
-use Rattle.lg_meaning.specs.States.{number}
+use Rattle.lg_op.specs.Operands.{number_of}
 use Rattle.lg_carry.specs.FinalNodes.{Code}
 use Rattle.lg_carry.specs.NodeCode.{numbered, IsLiveness}
 
@@ -20,4 +20,4 @@ LiveSetsAreLiveness = (c : Code) (sets : LiveSets) → IsShapeOf c.nodes c.shape
 
 -- with every register live everywhere, too
 abbrev pub AllIsLiveness : Type 0
-AllIsLiveness = (c : Code) (all : Reg → Bool) → ((q : Reg) → number q < 6 → all q ≡ true) → IsLiveness c (λ i. numbered all) (λ i. numbered all)
+AllIsLiveness = (c : Code) (all : Reg → Bool) → ((q : Reg) → number_of q < 6 → all q ≡ true) → IsLiveness c (λ i. numbered all) (λ i. numbered all)

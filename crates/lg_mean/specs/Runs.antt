@@ -25,7 +25,7 @@ pub record FailsToWrite (meaning : ℕ → Run) (n : ℕ) (s : State) (out out' 
   pub more : List ℕ
   pub goes : meaning (n + 1) ≡ run_at next (bytes ++ more)
   pub part : ℕ
-  pub short : part ≤ length more
+  pub short : part < length more
   pub written : Appends out out' (bytes ++ take part more)
   pub rose : Rose faults faults'
 

@@ -74,7 +74,7 @@ impl Machine {
     {
         match self.read(value_type, address) {
             Some(word) => {
-                self.operate_with_carry(operand, operators::typed(value_type, word));
+                self.operate_with_carry(operand, operators::extended_by_type(value_type, word));
                 true
             }
             None => false,

@@ -113,7 +113,7 @@ impl Machine {
             return false;
         };
         let word = operators::unary(op, a);
-        if operators::is_move(op) {
+        if operators::keeps_carry(op) {
             self.operate_with_carry(operand(node, 0), word);
         } else {
             self.operate(operand(node, 0), word);
@@ -220,7 +220,10 @@ impl Machine {
     {
         match self.answer {
             Some(word) => {
-                self.operate(operand(node, 0), operators::typed(value_type, word));
+                self.operate(
+                    operand(node, 0),
+                    operators::extended_by_type(value_type, word),
+                );
                 true
             }
             None => false,
@@ -246,7 +249,10 @@ impl Machine {
     {
         match self.argument(u64::from(slot(operand(node, 1)))) {
             Some(word) => {
-                self.operate(operand(node, 0), operators::typed(value_type, word));
+                self.operate(
+                    operand(node, 0),
+                    operators::extended_by_type(value_type, word),
+                );
                 true
             }
             None => false,

@@ -1,7 +1,8 @@
 // The state of the portable machine, and how it goes on.
 
 ghost use Rattle.std.specs.Prelude.{◌≡◌, ◌<◌, ◌≤◌, ◌-◌, ◌+◌, ◌^◌, ◌∷◌, ◌++◌, [], ℕ, length, slice_index_or, take, true, Some, None};
-ghost use Rattle.lg_meaning.specs.States.{value, reg, named, number, is_open};
+ghost use Rattle.lg_op.specs.Operands.{number_of};
+ghost use Rattle.lg_meaning.specs.States.{value, reg, named, is_open};
 ghost use Rattle.lg_meaning.specs.Steps.{on, on_with_carry, to, with_reg, operand_at, node_of_label, node_in, slot};
 ghost use Rattle.lg_meaning.specs.Fits.{IsHeapMark};
 ghost use Rattle.lg_mean.specs.Machines.{state_of, regs_of};
@@ -43,8 +44,8 @@ impl Model for Machine {
 }
 
 // The number of a register.
-fn number(reg: Reg) -> usize
-    ensures value { result ≡ number reg }
+fn number_of(reg: Reg) -> usize
+    ensures value { result ≡ number_of reg }
     ensures bound { result < 7 }
 {
     match reg {
@@ -64,7 +65,7 @@ fn named(operand: Operand) -> usize
     ensures bound { result < 7 }
 {
     match operand {
-        Operand::Reg(reg) => number(reg),
+        Operand::Reg(reg) => number_of(reg),
         _ => 6,
     }
 }
@@ -128,7 +129,7 @@ impl Machine {
     {
         match register {
             Reg::Fp => Some(self.top.sp - 16),
-            Reg::R0 | Reg::R1 | Reg::R2 | Reg::V0 | Reg::V1 | Reg::V2 => self.registers[number(
+            Reg::R0 | Reg::R1 | Reg::R2 | Reg::V0 | Reg::V1 | Reg::V2 => self.registers[number_of(
                 register,
             )],
         }

@@ -9,10 +9,10 @@ use Rattle.lg_meaning.specs.States.{State}
 use Rattle.lg_meaning.specs.Texts.{line_at}
 use Rattle.lg_mean.specs.Runs.{ComesTo}
 use Rattle.lg_mean.specs.declared.run.RunEnd.{RunEnd}
-use Rattle.lg_mean_text.specs.Meanings.{Change}
+use Rattle.lg_io.specs.SinkChanges.{SinkChange}
 
 -- a run of a machine from the start of a unit, over the plain addresses of its labels, is one of the unit's meaning
-pub meaning_comes : (unit : TextUnit) (shape : TextShape) (args addresses : List ℕ) (start : State) (end : RunEnd) (n steps most : ℕ) (s : State) (c : Change)
+pub meaning_comes : (unit : TextUnit) (shape : TextShape) (args addresses : List ℕ) (start : State) (end : RunEnd) (n steps most : ℕ) (s : State) (c : SinkChange)
     → addresses ≡ plain_addresses unit.nodes → start ≡ start_state unit.image args → n ≡ steps
     → ComesTo (mean_from unit.nodes shape addresses start) end n most s (line_at unit.nodes s) c.taken c.taken' c.faults c.faults'
     → ComesTo (mean unit.nodes shape (plain_addresses unit.nodes) unit.image args) end steps most s (line_at unit.nodes s) c.taken c.taken' c.faults c.faults'

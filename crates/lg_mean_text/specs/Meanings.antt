@@ -1,8 +1,9 @@
 -- What the end of a meaning says of a text.
-use Rattle.std.specs.Prelude.{◌≡◌, ◌⊎◌, ℕ, ◌<◌, ◌≤◌, List, Option, length, Result, Ok, Err}
+use Rattle.std.specs.Prelude.{◌≡◌, ◌⊎◌, ℕ, ◌<◌, ◌≤◌, List, length, Result, Ok, Err}
 use Rattle.lg_base.specs.Arguments.{args_of, args_too_long, most_args}
+use Rattle.lg_base.specs.Refusals.{text_too_long}
 use Rattle.lg_base.specs.declared.refusal.Refusal.{Refusal}
-use Rattle.lg_base.specs.declared.refusal.RefusalKind.TheVariants.{TextTooLong}
+use Rattle.lg_io.specs.SinkChanges.{SinkChange}
 use Rattle.lg_node.specs.declared.unit.Unit.{Unit as TextUnit}
 use Rattle.lg_node.specs.Checks.{IsRefused}
 use Rattle.lg_node.specs.Labels.{taken_labels}
@@ -22,21 +23,8 @@ use Rattle.lg_mean_text.specs.declared.end.MeaningEnd.TheVariants as ends
 abbrev pub most_text : ℕ
 most_text = 16777216
 
-abbrev pub text_too_long : Refusal
-text_too_long = record { kind = TextTooLong; line = 0 }
-
--- what the sink tells of the bytes that it took, and its count of faults, before and after
-pub record Change : Type 0 where
-  pub taken : Option (List ℕ)
-  pub taken' : Option (List ℕ)
-  pub faults : ℕ
-  pub faults' : ℕ
-
-abbrev pub changed : Option (List ℕ) → Option (List ℕ) → ℕ → ℕ → Change
-changed taken taken' faults faults' = record { taken = taken; taken' = taken'; faults = faults; faults' = faults' }
-
 -- nothing was written, and no fault was counted
-abbrev pub IsStill : Change → Type 0
+abbrev pub IsStill : SinkChange → Type 0
 IsStill c = (c.taken' ≡ c.taken) × (c.faults' ≡ c.faults)
 
 -- the end of a run that took so many steps
@@ -48,7 +36,7 @@ end_of runs_end.WriteFault steps = ends.WriteFault steps
 
 -- a unit is accepted, and its meaning over the plain addresses and an argument part comes to this end; a fault of the sink was counted only where it is
 -- the end
-pub record IsFollowed (unit : TextUnit) (args : List ℕ) (most : ℕ) (c : Change) (end : MeaningEnd) : Type 0 where
+pub record IsFollowed (unit : TextUnit) (args : List ℕ) (most : ℕ) (c : SinkChange) (end : MeaningEnd) : Type 0 where
   pub shape : TextShape
   pub shaped : IsShapeOf unit.nodes shape
   pub taken : shape.taken ≡ taken_labels unit.nodes
@@ -75,7 +63,7 @@ IsRefusedText text words refusal =
     ((most_text < length text) × (refusal ≡ text_too_long)) ⊎ ((length text ≤ most_text) × IsRefusedWith words (unit_of text) refusal)
 
 -- a text and its words are not too long, and the meaning of its unit comes to this end
-pub record IsFollowedText (text : List ℕ) (words : List (List ℕ)) (most : ℕ) (c : Change) (end : MeaningEnd) : Type 0 where
+pub record IsFollowedText (text : List ℕ) (words : List (List ℕ)) (most : ℕ) (c : SinkChange) (end : MeaningEnd) : Type 0 where
   pub text_fits : length text ≤ most_text
   pub words_fit : length (args_of words) ≤ most_args
   pub unit : TextUnit
@@ -83,6 +71,6 @@ pub record IsFollowedText (text : List ℕ) (words : List (List ℕ)) (most : �
   pub follows : IsFollowed unit (args_of words) most c end
 
 -- what an end says; where the text or its words are refused, nothing is written, and no fault is counted
-abbrev pub MeaningSays : List ℕ → List (List ℕ) → ℕ → Change → MeaningEnd → Type 0
+abbrev pub MeaningSays : List ℕ → List (List ℕ) → ℕ → SinkChange → MeaningEnd → Type 0
 MeaningSays text words most c (ends.Refused refusal) = IsRefusedText text words refusal × IsStill c
 MeaningSays text words most c end = IsFollowedText text words most c end

@@ -2,9 +2,10 @@
 
 ghost use Rattle.std.specs.Prelude.{◌≡◌, ◌<◌, ◌≤◌, Err, length, IfOk, OnErr};
 ghost use Rattle.lg_base.specs.Arguments.{args_of, texts_of, most_args};
+ghost use Rattle.lg_io.specs.SinkChanges.{on_sink};
 ghost use Rattle.lg_node.specs.Checks.{IsRefused};
 ghost use Rattle.lg_tst.specs.Units.{unit_of};
-ghost use Rattle.lg_mean_text.specs.Meanings.{most_text, changed, end_of, IsStill, IsFollowed, IsFollowedText, IsRefusedWith, MeaningSays};
+ghost use Rattle.lg_mean_text.specs.Meanings.{most_text, end_of, IsStill, IsFollowed, IsFollowedText, IsRefusedWith, MeaningSays};
 
 use crate::end::MeaningEnd;
 use lg_base::args::args_image;
@@ -43,10 +44,9 @@ fn run<O: Sink>(
 ) -> Result<MeaningEnd, Stop>
     requires image { length unit.now.image ≤ 16777216 }
     requires args { length args.now ≤ most_args }
-    ensures followed { IfOk result (λ end. IsFollowed unit.now args.now most (changed (O.taken out.old) (O.taken out.new) (O.faults out.old)
-        (O.faults out.new)) end) }
+    ensures followed { IfOk result (λ end. IsFollowed unit.now args.now most (on_sink O.taken O.faults out.old out.new) end) }
     ensures refused { (r : _) → result ≡ Err (Stop.Refused r) → IsRefused unit.now.nodes r }
-    ensures still { OnErr result (IsStill (changed (O.taken out.old) (O.taken out.new) (O.faults out.old) (O.faults out.new))) }
+    ensures still { OnErr result (IsStill (on_sink O.taken O.faults out.old out.new)) }
 {
     let shape = check(alloc, unit)?;
     let Ok(labels) = plain_addresses(alloc, &unit.nodes) else {
@@ -70,10 +70,9 @@ fn read_and_run<O: Sink>(
 ) -> Result<MeaningEnd, Stop>
     requires text { length text.now ≤ most_text }
     requires words { 0 < length words.now.items }
-    ensures followed { IfOk result (λ end. IsFollowedText text.now (texts_of words.now.items) most (changed (O.taken out.old) (O.taken out.new)
-        (O.faults out.old) (O.faults out.new)) end) }
+    ensures followed { IfOk result (λ end. IsFollowedText text.now (texts_of words.now.items) most (on_sink O.taken O.faults out.old out.new) end) }
     ensures refused { (r : _) → result ≡ Err (Stop.Refused r) → IsRefusedWith (texts_of words.now.items) (unit_of text.now) r }
-    ensures still { OnErr result (IsStill (changed (O.taken out.old) (O.taken out.new) (O.faults out.old) (O.faults out.new))) }
+    ensures still { OnErr result (IsStill (on_sink O.taken O.faults out.old out.new)) }
 {
     let args = args_image(alloc, words)?;
     let unit = parse(alloc, text)?;
@@ -93,9 +92,8 @@ pub fn meaning<O: Sink>(
     out: &mut O,
 ) -> Result<MeaningEnd, OutOfMemory>
     requires { 0 < length words.now.items }
-    ensures says { IfOk result (λ end. MeaningSays text.now (texts_of words.now.items) most (changed (O.taken out.old) (O.taken out.new)
-        (O.faults out.old) (O.faults out.new)) end) }
-    ensures still { OnErr result (IsStill (changed (O.taken out.old) (O.taken out.new) (O.faults out.old) (O.faults out.new))) }
+    ensures says { IfOk result (λ end. MeaningSays text.now (texts_of words.now.items) most (on_sink O.taken O.faults out.old out.new) end) }
+    ensures still { OnErr result (IsStill (on_sink O.taken O.faults out.old out.new)) }
 {
     if text.len() > MOST_TEXT {
         return Ok(MeaningEnd::Refused(Refusal {

@@ -11,7 +11,7 @@ use Rattle.lg_op.specs.declared.op.UnaryOp.{UnaryOp}
 use Rattle.lg_op.specs.declared.op.ValueType.{ValueType}
 use Rattle.lg_op.specs.declared.op.WideOp.{WideOp}
 use Rattle.lg_operators.specs.declared.carry.Carry.{Carry}
-use Rattle.lg_operators.specs.Operators.{is_carried, is_move, binary_value, unary_value, carry_in, wide_value, width}
+use Rattle.lg_operators.specs.Operators.{is_carried, keeps_carry, binary_value, unary_value, carry_in, wide_value, width}
 use Rattle.lg_meaning.specs.States.{State, value}
 use Rattle.lg_meaning.specs.Steps.{Outcome, Text, slot, operand_at, on, on_with_carry, with_reg, operate, binary_step, carried_step, wide_step, unary_step, movi_step, read, address, load_step, retval_step, getarg_step, va_start_step, va_arg_step, va_end_step, node_step}
 use Rattle.lg_meaning.proofs.Outcomes.{OnGoes, need_on}
@@ -63,7 +63,7 @@ module _ (s : State) where
   one_of_two false u v h k = k
 
   pub unary_falls : (A : List ℕ) (n : Node) (o : UnaryOp) → OnGoes (Falls s) (unary_step A n o s)
-  unary_falls A n o = need_on (Falls s) (value A s (operand_at n 1)) _ (λ a e. one_of_two (is_move o) (on_with_carry (with_reg s (operand_at n 0) (unary_value o a))) (on (with_reg s (operand_at n 0) (unary_value o a))) (fall _ _ _) (fall _ _ _))
+  unary_falls A n o = need_on (Falls s) (value A s (operand_at n 1)) _ (λ a e. one_of_two (keeps_carry o) (on_with_carry (with_reg s (operand_at n 0) (unary_value o a))) (on (with_reg s (operand_at n 0) (unary_value o a))) (fall _ _ _) (fall _ _ _))
 
   pub movi_falls : (A : List ℕ) (n : Node) → OnGoes (Falls s) (movi_step A n s)
   movi_falls A n = need_on (Falls s) (value A s (operand_at n 1)) _ (λ a e. fall _ _ _)

@@ -1,6 +1,7 @@
 -- The portable state.
 use Rattle.std.specs.Prelude.{ℕ, ◌-◌, Bool, false, ◌||◌, Option, Some, None, List, [], ◌∷◌, slice_index}
 use Rattle.lg_base.specs.HostNames.{host_address}
+use Rattle.lg_op.specs.Operands.{number_of}
 use Rattle.lg_op.specs.declared.operand.Reg.{Reg}
 use Rattle.lg_op.specs.declared.operand.Reg.TheVariants.{R0, R1, R2, V0, V1, V2, Fp}
 use Rattle.lg_op.specs.declared.operand.Operand.{Operand}
@@ -36,15 +37,6 @@ pub record State : Type 0 where
   pub data_size : ℕ
   pub args_size : ℕ
 
-abbrev pub number : Reg → ℕ
-number R0 = 0
-number R1 = 1
-number R2 = 2
-number V0 = 3
-number V1 = 4
-number V2 = 5
-number Fp = 6
-
 -- what a register holds; the frame pointer stands 16 bytes below the stack pointer at the call
 abbrev pub reg : State → Reg → Option ℕ
 reg s Fp = Some (s.frame.sp - 16)
@@ -65,7 +57,7 @@ value addresses s (operand.Slot k) = None
 
 -- the number of the register that an operand names
 abbrev pub named : Operand → ℕ
-named (operand.Reg r) = number r
+named (operand.Reg r) = number_of r
 named x = 6
 
 -- the locals of a frame lie below its frame pointer and the 128 bytes of its saved words

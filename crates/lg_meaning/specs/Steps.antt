@@ -35,7 +35,7 @@ use Rattle.lg_node.specs.Labels.{place_of}
 use Rattle.lg_cells.specs.Memories.{without, writable}
 use Rattle.lg_operators.specs.declared.carry.Carry.{Carry}
 use Rattle.lg_operators.specs.declared.carry.Carry.TheVariants as carry
-use Rattle.lg_operators.specs.Operators.{binary_value, is_carried, carry_in, carried_value, carried_out, holds, branch_sum_value, branch_sum_goes, wide_value, unary_value, is_move, width, typed, store_width}
+use Rattle.lg_operators.specs.Operators.{binary_value, is_carried, carry_in, carried_value, carried_out, holds, branch_sum_value, branch_sum_goes, wide_value, unary_value, keeps_carry, width, extended_by_type, store_width}
 use Rattle.lg_meaning.specs.States.{Frame, State, value, named, is_open}
 
 -- what a step does: it goes to a state and writes bytes, ends the run with a status, or is undefined
@@ -113,7 +113,7 @@ wide_step A n o s =
 
 abbrev pub unary_step : List ℕ → Node → UnaryOp → State → Outcome
 unary_step A n o s =
-    need (value A s (operand_at n 1)) (λ a. quiet (if is_move o then on_with_carry (with_reg s (operand_at n 0) (unary_value o a)) else on (with_reg s (operand_at n 0) (unary_value o a))))
+    need (value A s (operand_at n 1)) (λ a. quiet (if keeps_carry o then on_with_carry (with_reg s (operand_at n 0) (unary_value o a)) else on (with_reg s (operand_at n 0) (unary_value o a))))
 
 abbrev pub movi_step : List ℕ → Node → State → Outcome
 movi_step A n s = need (value A s (operand_at n 1)) (λ a. quiet (on_with_carry (with_reg s (operand_at n 0) a)))
@@ -184,7 +184,7 @@ abbrev pub read : State → ℕ → ℕ → Option ℕ
 read s a w = if writable (is_open s) a w then loaded s.mem a w else None
 
 abbrev pub load_to : State → ValueType → ℕ → Operand → Outcome
-load_to s t a d = need (read s a (width t)) (λ v. quiet (on_with_carry (with_reg s d (typed t v))))
+load_to s t a d = need (read s a (width t)) (λ v. quiet (on_with_carry (with_reg s d (extended_by_type t v))))
 
 abbrev pub store_to : State → StoreType → ℕ → ℕ → Outcome
 store_to s t a v = when (writable (is_open s) a (store_width t)) (quiet (on_with_carry (record s { mem = stored s.mem a (store_width t) v })))
@@ -322,14 +322,14 @@ call_step t n last_operand.Register args s = need (value t.addresses s (operand_
 
 -- the result of the call that the step before returned from
 abbrev pub retval_step : Node → ValueType → State → Outcome
-retval_step n t s = need s.answer (λ v. operate s (operand_at n 0) (Some (typed t v)))
+retval_step n t s = need s.answer (λ v. operate s (operand_at n 0) (Some (extended_by_type t v)))
 
 abbrev pub slot : Operand → ℕ
 slot (operand.Slot k) = k
 slot x = 0
 
 abbrev pub getarg_step : Node → ValueType → State → Outcome
-getarg_step n t s = need (slice_get s.frame.args (slot (operand_at n 1))) (λ v. operate s (operand_at n 0) (Some (typed t v)))
+getarg_step n t s = need (slice_get s.frame.args (slot (operand_at n 1))) (λ v. operate s (operand_at n 0) (Some (extended_by_type t v)))
 
 -- ---- variable arguments: a list of them is the number of the next argument, from 0
 -- the list begins behind the arguments with names, of which there are so many

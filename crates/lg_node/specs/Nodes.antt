@@ -1,19 +1,11 @@
 -- A list of nodes with its labels.
-use Rattle.std.specs.Prelude.{ℕ, ◌≤◌, ◌==◌, Bool, false, ◌&&◌, ◌||◌, if◌then◌else◌, List, [], ◌∷◌, ◌++◌, Option, Some, None, slice_set}
+use Rattle.std.specs.Prelude.{ℕ, ◌≤◌, Bool, false, ◌&&◌, if◌then◌else◌, List, [], ◌∷◌, ◌++◌, Option, Some, None, slice_set}
 use Rattle.std.specs.List.{list_all, list_any, position_or_len}
 use Rattle.std.specs.Str.{bytes_eq}
-use Rattle.std.specs.Char.{is_ascii_alphabetic, is_ascii_alphanumeric}
+use Rattle.lg_base.specs.WordBytes.{is_word_start, is_word_byte}
 use Rattle.lg_op.specs.declared.node.Node.{Node}
 use Rattle.lg_node.specs.declared.place.Place.{Place}
 use Rattle.lg_node.specs.declared.place.Place.TheVariants as place
-
--- a letter or _
-abbrev pub is_word_start : ℕ → Bool
-is_word_start b = is_ascii_alphabetic b || (b == 95)
-
--- a letter, a digit or _
-abbrev pub is_word_byte : ℕ → Bool
-is_word_byte b = is_ascii_alphanumeric b || (b == 95)
 
 -- a word of a text
 abbrev pub is_word : List ℕ → Bool

@@ -148,9 +148,10 @@ impl Bindings {
         }
     }
 
-    /// The label that comes next at the node at which a label is bound.
+    /// The label that comes next at the node at which a label is bound, which is at a node or behind the last; None behind the last label.
     pub fn next_at(&self, label: Label) -> Option<Label>
-        requires { label.0 < length self.now.places }
+        requires label { label.0 < length self.now.places }
+        requires bound { (i : ℕ) × (is_at i (slice_index_or self.now.places label.0 None) ≡ true) }
         ensures found { (i : ℕ) → is_at i (slice_index_or self.now.places label.0 None) ≡ true
             → IfSome result (λ l. NextAt self.now.places i (label.0 + 1) l.0) }
         ensures none { (i : ℕ) → is_at i (slice_index_or self.now.places label.0 None) ≡ true → IfNone result (NoneAt self.now.places i (label.0 + 1)) }

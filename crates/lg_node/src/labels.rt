@@ -3,23 +3,12 @@
 ghost use Rattle.std.specs.Prelude.{◌≡◌};
 ghost use Rattle.lg_node.specs.Tables.{AreHomes};
 ghost use Rattle.lg_node.specs.Functions.{home};
-ghost use Rattle.lg_node.specs.Labels.{place_of, is_code, is_entry, is_inside, is_inside_some, takes_address};
+ghost use Rattle.lg_node.specs.Labels.{is_code, is_entry, is_inside, is_inside_some, takes_address};
 
 use crate::node_list::NodeList;
 use crate::place::Place;
 use crate::walk::is_prolog;
-use lg_op::{ControlOp, Label, LastOperand, Op, PlainOp};
-
-/// The place at which a label is bound, and None where it is not bound or there is no such label.
-pub fn place_of(nodes: &NodeList, label: Label) -> Option<Place>
-    ensures { result ≡ place_of nodes.now.places label }
-{
-    if label.0 < nodes.labels() {
-        nodes.place(label)
-    } else {
-        None
-    }
-}
+use lg_op::{ControlOp, LastOperand, Op, PlainOp};
 
 /// Whether a place is in the code.
 pub fn is_code(place: Option<Place>) -> bool

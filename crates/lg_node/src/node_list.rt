@@ -2,7 +2,7 @@
 
 ghost use Rattle.std.specs.Prelude.{◌≡◌, ◌↔◌, ◌<◌, ◌≤◌, ◌+◌, ◌-◌, ◌^◌, ℕ, Bool, false, IsTrue, Some, None, [], length, slice_get, slice_index_or, OnOk, OnErr, IfOk, IfSome, IfNone};
 ghost use Rattle.std.specs.List.{All};
-ghost use Rattle.lg_node.specs.Labels.{is_at};
+ghost use Rattle.lg_node.specs.Labels.{is_at, place_of};
 ghost use Rattle.lg_node.specs.NextLabels.{NextAt, NoneAt};
 ghost use Rattle.lg_op.specs.Nodes.{InForm};
 ghost use Rattle.lg_node.specs.Nodes.{IsWithin, MayStand, with_node, mentioned, number_of, with_place, is_word};
@@ -157,6 +157,17 @@ impl NodeList {
         self.bindings.place(label)
     }
 
+    /// The place at which a label is bound, and None exactly where it is not bound or there is no such label.
+    pub fn place_of(&self, label: Label) -> Option<Place>
+        ensures { result ≡ place_of self.now.places label }
+    {
+        if label.0 < self.labels() {
+            self.place(label)
+        } else {
+            None
+        }
+    }
+
     /// The first label that is bound at the node of an index, or behind the last, in the order of first mention. The index is at most `len`.
     pub fn first_at(&self, index: u32) -> Option<Label>
         requires { index ≤ length self.now.nodes }
@@ -166,9 +177,11 @@ impl NodeList {
         self.bindings.first_at(index)
     }
 
-    /// The label that comes next at the node at which a label, which is below `labels`, is bound.
+    /// The label that comes next at the node at which a label, which is below `labels` and bound at a node or behind the last, is bound,
+    /// in the order of first mention; None behind the last.
     pub fn next_at(&self, label: Label) -> Option<Label>
-        requires { label.0 < length self.now.words }
+        requires label { label.0 < length self.now.words }
+        requires bound { (i : ℕ) × IsTrue (is_at i (slice_index_or self.now.places label.0 None)) }
         ensures found { (i : ℕ) → IsTrue (is_at i (slice_index_or self.now.places label.0 None))
             → IfSome result (λ l. NextAt self.now.places i (label.0 + 1) l.0) }
         ensures none { (i : ℕ) → IsTrue (is_at i (slice_index_or self.now.places label.0 None)) → IfNone result (NoneAt self.now.places i (label.0 + 1)) }

@@ -8,7 +8,7 @@ ghost use Rattle.lg_node.specs.Tables.{AreHomes, AreTables};
 ghost use Rattle.lg_node.specs.Walks.{walk_at, IsWithinLimits};
 ghost use Rattle.lg_node.specs.Checks.{is_missing, may_stand_outside, is_astray, any_by_form, needs_preparation, breaks_preparation, is_ellipsis, is_out_of_turn, is_bad_call, is_too_many, is_too_big, refuses, kinds};
 
-use crate::labels::{home_in, is_code, is_entry, is_inside, place_of, takes_address};
+use crate::labels::{home_in, is_code, is_entry, is_inside, takes_address};
 use crate::node_list::NodeList;
 use crate::preparation::Preparation;
 use crate::tables::Tables;
@@ -21,7 +21,7 @@ fn is_missing(nodes: &NodeList, operand: Operand) -> bool
     ensures { result ≡ is_missing nodes.now.places operand }
 {
     match operand {
-        Operand::Label(label) => place_of(nodes, label).is_none(),
+        Operand::Label(label) => nodes.place_of(label).is_none(),
         _ => false,
     }
 }
@@ -59,7 +59,7 @@ fn is_astray(
     let Operand::Label(label) = operand else {
         return false;
     };
-    let place = place_of(nodes, label);
+    let place = nodes.place_of(label);
     match (form, home) {
         (Form::Target, None) => !is_entry(nodes, place),
         (Form::Target, Some(function)) => !is_inside(homes, function, place),

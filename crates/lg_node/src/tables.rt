@@ -4,7 +4,6 @@ ghost use Rattle.std.specs.Prelude.{◌≡◌, ◌<◌, ◌==◌, ◌&&◌, ◌|
 ghost use Rattle.lg_node.specs.Labels.{is_at};
 ghost use Rattle.lg_node.specs.Tables.{AreHomes, AreMarks, AreTables};
 
-use crate::labels::place_of;
 use crate::node_list::NodeList;
 use crate::place::Place;
 use crate::walk::{home_of, open_behind};

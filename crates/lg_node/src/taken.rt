@@ -5,7 +5,7 @@ ghost use Rattle.std.specs.List.{list_any};
 ghost use Rattle.lg_node.specs.Labels.{is_label, names_address, is_taken, taken_labels};
 ghost use Rattle.lg_node.specs.Tables.{AreHomes, AreNamed};
 
-use crate::labels::{is_inside_some, place_of, takes_address};
+use crate::labels::{is_inside_some, takes_address};
 use crate::node_list::NodeList;
 use lg_base::refusal::OutOfMemory;
 use lg_op::{Label, Node, Operand};
@@ -60,7 +60,7 @@ fn is_taken(nodes: &NodeList, named: &[bool], homes: &[Option<u32>], label: u32)
     requires homes { AreHomes nodes.now.nodes homes.now }
     ensures { result ≡ is_taken nodes.now label }
 {
-    named[label as usize] && is_inside_some(homes, place_of(nodes, Label(label)))
+    named[label as usize] && is_inside_some(homes, nodes.place_of(Label(label)))
 }
 
 /// Of each label whether it is taken, by the table of the nodes' functions.

@@ -20,7 +20,8 @@ pub struct Node {
 }
 
 impl Node {
-    /// Whether the operands are those of the operation's row in the instruction table.
+    /// Whether the operands are those of the operation's row in the instruction table, and the two results of `qmul`, `qdiv` and `va_arg` two
+    /// registers.
     pub fn is_in_form(&self) -> bool
         ensures { IsTrue result ↔ InForm self.now }
     {

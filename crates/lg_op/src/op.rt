@@ -195,9 +195,9 @@ pub enum PlainOp {
     Ret,
     /// The function's next argument.
     Arg,
-    /// A local.
+    /// A local of O1 bytes, 1 to 65,536.
     Allocai,
-    /// The next node's code begins at a multiple of a number.
+    /// The next node's code begins at a multiple of O1, a power of two from 1 to 64.
     Align,
     /// The list of a function's variable arguments from its first one on.
     VaStart,

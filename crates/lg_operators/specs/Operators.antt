@@ -154,9 +154,9 @@ unary_value unary.HtonrUi a = swapped a 4
 unary_value unary.HtonrUl a = swapped a 8
 
 -- `movr` alone keeps the carry
-abbrev pub is_move : UnaryOp → Bool
-is_move unary.Mov = true
-is_move op = false
+abbrev pub keeps_carry : UnaryOp → Bool
+keeps_carry unary.Mov = true
+keeps_carry op = false
 
 -- how many bytes a type reads
 abbrev pub width : ValueType → ℕ
@@ -169,14 +169,14 @@ width value_type.UnsignedInt = 4
 width value_type.Long = 8
 
 -- how it extends them
-abbrev pub typed : ValueType → ℕ → ℕ
-typed value_type.Char a = sign_part_of a 1
-typed value_type.UnsignedChar a = zero_part_of a 1
-typed value_type.Short a = sign_part_of a 2
-typed value_type.UnsignedShort a = zero_part_of a 2
-typed value_type.Int a = sign_part_of a 4
-typed value_type.UnsignedInt a = zero_part_of a 4
-typed value_type.Long a = a
+abbrev pub extended_by_type : ValueType → ℕ → ℕ
+extended_by_type value_type.Char a = sign_part_of a 1
+extended_by_type value_type.UnsignedChar a = zero_part_of a 1
+extended_by_type value_type.Short a = sign_part_of a 2
+extended_by_type value_type.UnsignedShort a = zero_part_of a 2
+extended_by_type value_type.Int a = sign_part_of a 4
+extended_by_type value_type.UnsignedInt a = zero_part_of a 4
+extended_by_type value_type.Long a = a
 
 -- how many bytes a type writes
 abbrev pub store_width : StoreType → ℕ

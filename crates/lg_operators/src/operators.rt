@@ -1,7 +1,7 @@
 // What the operations of the instruction set make of words.
 
 ghost use Rattle.std.specs.Prelude.{◌≡◌, ◌⊎◌, ◌≤◌, ◌<◌, Bool, if◌then◌else◌};
-ghost use Rattle.lg_operators.specs.Operators.{binary_value, partial_value, is_carried, carry_in, is_sum, carried_value, carried_out, holds, branch_sum_value, branch_sum_goes, wide_value, unary_value, is_move, width, typed, store_width, divides};
+ghost use Rattle.lg_operators.specs.Operators.{binary_value, partial_value, is_carried, carry_in, is_sum, carried_value, carried_out, holds, branch_sum_value, branch_sum_goes, wide_value, unary_value, keeps_carry, width, extended_by_type, store_width, divides};
 
 use crate::carry::Carry;
 use lg_base::wide::{mul_high, mul_high_u, sign_part, swap_bytes, zero_part};
@@ -102,7 +102,8 @@ pub fn carried(op: BinaryOp, a: u64, b: u64, bit: bool) -> u64
     }
 }
 
-/// The carry behind such an operation: that of the sum, or the borrow of the whole difference.
+/// The carry that `addc`, `addx`, `subc` and `subx` leave, for the carry `bit` that they take: that of the sum, or the borrow of the whole
+/// difference.
 pub fn carry_out(op: BinaryOp, a: u64, b: u64, bit: bool) -> Carry
     ensures { result ≡ carried_out op a b (if bit then 1 else 0) }
 {
@@ -113,7 +114,7 @@ pub fn carry_out(op: BinaryOp, a: u64, b: u64, bit: bool) -> Carry
     }
 }
 
-/// Whether a branch goes.
+/// Whether a condition holds of O2 and O3: whether the branch goes.
 pub fn holds(condition: Condition, a: u64, b: u64) -> bool
     ensures { result ≡ holds condition a b }
 {
@@ -186,7 +187,7 @@ pub fn wide(op: WideOp, a: u64, b: u64) -> Option<(u64, u64)>
     }
 }
 
-/// The word of one word.
+/// What an operation makes of one word, O2.
 pub fn unary(op: UnaryOp, a: u64) -> u64
     ensures { result ≡ unary_value op a }
 {
@@ -206,9 +207,9 @@ pub fn unary(op: UnaryOp, a: u64) -> u64
     }
 }
 
-/// Whether an operation keeps the carry, as `movr` does.
-pub fn is_move(op: UnaryOp) -> bool
-    ensures { result ≡ is_move op }
+/// Whether an operation of one word keeps the carry, as `movr` does alone.
+pub fn keeps_carry(op: UnaryOp) -> bool
+    ensures { result ≡ keeps_carry op }
 {
     matches!(op, UnaryOp::Mov)
 }
@@ -226,9 +227,9 @@ pub fn width(value_type: ValueType) -> u32
     }
 }
 
-/// The low bytes of a word, extended by a type.
-pub fn typed(value_type: ValueType, a: u64) -> u64
-    ensures { result ≡ typed value_type a }
+/// The low 1, 2, 4 or 8 bytes of a word, by the type, extended to a word as the type says: by their sign, or by zeros.
+pub fn extended_by_type(value_type: ValueType, a: u64) -> u64
+    ensures { result ≡ extended_by_type value_type a }
 {
     match value_type {
         ValueType::Char => sign_part(a, 1),

@@ -8,7 +8,7 @@ use Rattle.lg_op.specs.declared.operand.Operand.TheVariants as operand
 use Rattle.lg_op.specs.declared.operand.Reg.{Reg}
 use Rattle.lg_op.specs.declared.node.Node.{Node}
 use Rattle.lg_carry.specs.Carries.{leaps}
-use Rattle.lg_live.specs.Registers.{number_of}
+use Rattle.lg_op.specs.Operands.{number_of}
 use Rattle.lg_live.specs.Uses.{is_written}
 use Rattle.lg_node.specs.Nodes.{LabelledNodes}
 use Rattle.lg_node.specs.Labels.{is_labelled}

@@ -2,12 +2,11 @@
 
 ghost use Rattle.std.specs.Prelude.{◌≡◌, ◌<◌, ◌≤◌, ◌+◌, ◌^◌, ℕ, length, slice_index, IfOk};
 ghost use Rattle.lg_node.specs.Nodes.{LabelledNodes};
-ghost use Rattle.lg_node.specs.Labels.{place_of};
 ghost use Rattle.lg_opt.specs.Hops.{AreHops, AreLeads, AreWithin, JumpsWithin, hop, is_jump};
 ghost use Rattle.lg_opt.specs.Targets.{target_node};
 
 use lg_base::refusal::OutOfMemory;
-use lg_node::{ControlOp, Label, LastOperand, Node, NodeList, Op, Operand, Place};
+use lg_node::{ControlOp, LastOperand, Node, NodeList, Op, Operand, Place};
 use std::alloc::Global;
 
 // Where twice as many jumps lead, or more: each lead is followed once.
@@ -21,23 +20,12 @@ fn double(table: &mut [u32])
     }
 }
 
-// The place at which a label is bound, and None where it is not bound or there is no such label.
-fn place_of(nodes: &NodeList, label: Label) -> Option<Place>
-    ensures { result ≡ place_of nodes.now.places label }
-{
-    if label.0 < nodes.labels() {
-        nodes.place(label)
-    } else {
-        None
-    }
-}
-
 /// The node to which a branch or jump goes.
 pub fn target_node(nodes: &NodeList, node: &Node) -> u32
     ensures { result ≡ target_node nodes.now node.now }
 {
     match node.operands.as_slice() {
-        [Operand::Label(label), ..] => match place_of(nodes, *label) {
+        [Operand::Label(label), ..] => match nodes.place_of(*label) {
             Some(Place::Node(target)) => target,
             _ => 0,
         },

@@ -5,7 +5,8 @@ use Rattle.std.proofs.lemmas.List.{drop_all}
 use Rattle.std.specs.List.{list_any}
 use Rattle.std.specs.Str.{bytes_eq}
 use Rattle.lg_pre.specs.Pieces.{Piece, piece_at, between, is_byte, is_feed}
-use Rattle.lg_pre.specs.Arguments.{further, gathered}
+use Rattle.lg_lex.specs.Bytes.{further}
+use Rattle.lg_pre.specs.Arguments.{gathered}
 use Rattle.lg_pre.specs.Defines.{first_is_feed, spaced, spliced, to_close, one_word, names_of, no_group, parameters_of}
 use Rattle.lg_pre.proofs.CallLemmas.{drop_piece, further_more, between_cons, between_end}
 

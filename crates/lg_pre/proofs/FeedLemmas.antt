@@ -5,7 +5,8 @@ use Rattle.std.proofs.lemmas.List.{take-append-drop, drop-drop}
 use Rattle.std.proofs.lemmas.List.Sums.{sum_by-append, sum_by-cons}
 use Rattle.std.specs.List.{prefix_len}
 use Rattle.lg_pre.specs.Arguments.{feed, with_feed, with_feeds_of, with_feeds, in_argument, solid_len, stripped, gathered, depth_behind, is_empty_list, without_empty, arguments_of}
-use Rattle.lg_pre.specs.Cutting.{front_of, cut, cut_in, quoted_len, is_word_start, is_word_byte, begins_comment, comment_len}
+use Rattle.lg_base.specs.WordBytes.{is_word_start, is_word_byte}
+use Rattle.lg_pre.specs.Cutting.{front_of, cut, cut_in, quoted_len, begins_comment, comment_len}
 use Rattle.lg_pre.specs.Defines.{spliced, spaced, first_is_feed}
 use Rattle.lg_pre.specs.Given.{feeds_in}
 use Rattle.lg_pre.specs.Pasting.{joined}

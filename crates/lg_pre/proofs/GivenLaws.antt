@@ -9,7 +9,8 @@ use Rattle.lg_pre.specs.Expanded.{defines, undefines, opens_named, opens_if, rea
 use Rattle.lg_pre.specs.Expansion.{step, expand_in}
 use Rattle.lg_pre.specs.Given.{gives_text, gives, given_all, flushed, fed, feeds_in}
 use Rattle.lg_pre.specs.Lines.{BeginsWith, GivenBytesStay}
-use Rattle.lg_pre.specs.Macros.{◌>>=◌, most}
+use Rattle.lg_base.specs.Refusals.{◌>>=◌}
+use Rattle.lg_pre.specs.Macros.{most}
 use Rattle.lg_pre.specs.Pieces.{Piece, piece_at, between}
 use Rattle.lg_pre.specs.Questions.{asks}
 use Rattle.lg_pre.specs.Text.{line_len, mark_in}

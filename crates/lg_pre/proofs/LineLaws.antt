@@ -16,7 +16,8 @@ use Rattle.lg_pre.specs.Expansion.{Given, Step, kept, named, put, put_name, obje
 use Rattle.lg_pre.specs.Expansion.{Expander as Replacer}
 use Rattle.lg_pre.specs.Given.{gives_text, gives, given_all, flushed, fed, feeds_in}
 use Rattle.lg_pre.specs.Lines.{LineFeedsAreKept, HaveLines}
-use Rattle.lg_pre.specs.Macros.{◌>>=◌, most, place_in, without, without_at, with_macro, counted}
+use Rattle.lg_base.specs.Refusals.{◌>>=◌}
+use Rattle.lg_pre.specs.Macros.{most, place_in, without, without_at, with_macro, counted}
 use Rattle.lg_pre.specs.Pieces.{Piece, piece_at, between, froze, is_word, is_white, is_byte, is_spaced}
 use Rattle.lg_pre.specs.Questions.{sure, asks}
 use Rattle.lg_pre.specs.Substitution.{substituted}

@@ -1,6 +1,7 @@
 -- Calls that stop, and calls that go on.
 use Rattle.std.proofs.Common.{◌≡◌, sym, subst, refl, ℕ, IsErrAnd, Result, Ok, Err}
-use Rattle.lg_pre.specs.Macros.{◌>>=◌, CountsAs, StepsAs, GivesAs, Reads}
+use Rattle.lg_base.specs.Refusals.{◌>>=◌}
+use Rattle.lg_pre.specs.Macros.{CountsAs, StepsAs, GivesAs, Reads}
 use Rattle.lg_base.specs.declared.refusal.Refusal.{Refusal}
 use Rattle.lg_base.specs.declared.refusal.Stop.{Stop}
 use Rattle.lg_base.specs.declared.refusal.Stop.TheVariants.{Refused, OutOfMemory}

@@ -2,7 +2,7 @@
 use Rattle.std.proofs.Common.{◌≡◌, ℕ, zero, suc, ◌+◌, ◌-◌, ◌<◌, ◌≤◌, max, Bool, true, false, not, ◌&&◌, List, [], ◌∷◌, ◌++◌, length, take, drop, refl, ap, arith, append_assoc, append-nil, length-drop, Some, None}
 use Rattle.std.proofs.lemmas.List.{drop_all, drop-drop}
 use Rattle.lg_pre.specs.Pieces.{Piece, piece_at, is_byte, is_feed}
-use Rattle.lg_pre.specs.Arguments.{further}
+use Rattle.lg_lex.specs.Bytes.{further}
 use Rattle.lg_pre.specs.Cutting.{front_of}
 use Rattle.lg_pre.specs.Text.{is_margin, is_number, is_comment, feeds_of, text_pieces, line_len, ends_with_slash, marks_line, begins_directive, mark_in}
 use Rattle.lg_pre.specs.declared.pieces.PieceKind.{PieceKind}

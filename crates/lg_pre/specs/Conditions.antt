@@ -1,6 +1,6 @@
 -- Open conditions, the innermost at the end.
 use Rattle.std.specs.Prelude.{ℕ, ◌-◌, ◌==◌, nat_le, Bool, true, false, not, ◌&&◌, if◌then◌else◌, List, [], ◌∷◌, ◌++◌, length, take, slice_get, Option, Some, None, Result, Ok}
-use Rattle.lg_pre.specs.Macros.{refuse}
+use Rattle.lg_base.specs.Refusals.{refuse}
 use Rattle.lg_pre.specs.declared.conditions.Condition.{Condition}
 use Rattle.lg_pre.specs.declared.directive.Directive.{Directive}
 use Rattle.lg_pre.specs.declared.directive.Directive.TheVariants.{If, IfDefined, Else, EndIf}

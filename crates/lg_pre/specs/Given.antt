@@ -1,7 +1,8 @@
 -- Bytes that are given, piece by piece.
 use Rattle.std.specs.Prelude.{ℕ, zero, suc, ◌+◌, ◌==◌, nat_lt, if◌then◌else◌, List, [], ◌∷◌, ◌++◌, length, drop, filter, None, ◌≡◌, Result, Ok}
 use Rattle.lg_pre.specs.Expansion.{expand_in, named, step}
-use Rattle.lg_pre.specs.Macros.{◌>>=◌, refuse, most}
+use Rattle.lg_base.specs.Refusals.{◌>>=◌, refuse}
+use Rattle.lg_pre.specs.Macros.{most}
 use Rattle.lg_pre.specs.Pieces.{Piece}
 use Rattle.lg_pre.specs.declared.macros.Macro.{Macro}
 use Rattle.lg_base.specs.declared.refusal.Refusal.{Refusal}

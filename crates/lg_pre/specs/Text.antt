@@ -1,6 +1,6 @@
 -- The pieces of a text with their lines, and the lines that are directives.
 use Rattle.std.specs.Prelude.{ℕ, zero, suc, ◌+◌, ◌-◌, ◌==◌, max, Bool, true, false, not, ◌&&◌, ◌||◌, if◌then◌else◌, List, [], ◌∷◌, ◌++◌, length, take, drop, slice_index, count_by, Option, Some, None}
-use Rattle.lg_pre.specs.Arguments.{further}
+use Rattle.lg_lex.specs.Bytes.{further}
 use Rattle.lg_pre.specs.Cutting.{front_of}
 use Rattle.lg_pre.specs.Pieces.{Piece, is_byte, is_feed}
 use Rattle.lg_pre.specs.declared.pieces.PieceKind.{PieceKind}

@@ -330,7 +330,7 @@ fn expand_pieces(alloc: Global, text: &Pieces, mut expander: Expander) -> Result
     expander.finish(alloc)
 }
 
-/// The expansion of a text, or its first fault: 22 to 24 with its line.
+/// The expansion of a text of at most 16,777,216 bytes, or its first fault, `BadDirective`, `BadMacro` or `ExpandTooMuch`, with its line.
 #[tactic(auto, unfolding(crate::specs::Expanded::expanded))]
 pub fn expand(alloc: Global, text: &[u8]) -> Result<PlainText, Stop>
     requires { length text.now ≤ 16777216 }

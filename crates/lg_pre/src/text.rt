@@ -4,9 +4,10 @@ ghost use Rattle.std.specs.Prelude.{◌≡◌, ◌+◌, ◌-◌, ◌<◌, ◌≤
 ghost use Rattle.lg_pre.specs.Pieces.{piece_at, is_feed};
 ghost use Rattle.lg_pre.specs.Text.{is_comment, feeds_of, text_pieces, ends_with_slash, line_len, marks_line, begins_directive, mark_in};
 
-use crate::cutting::{ahead, behind, front_of};
+use crate::cutting::front_of;
 use crate::pieces::{PieceKind, Pieces};
 use lg_base::refusal::OutOfMemory;
+use lg_lex::bytes::{ahead, behind};
 use std::alloc::Global;
 
 // How many line feeds bytes have.

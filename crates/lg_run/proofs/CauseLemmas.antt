@@ -8,7 +8,8 @@ use Rattle.lg_command.specs.Commands.{AreNoCommand, Command, HasFault, IsCommand
 use Rattle.lg_command.specs.declared.command.Mode.{Mode}
 use Rattle.lg_command.specs.declared.command.Mode.TheVariants as mode
 use Rattle.lg_run.specs.Causes.{Causes, FaultCause, HasCode, StepsOutCause, UndefinedCause}
-use Rattle.lg_run.specs.Changes.{SinkChange, TextsChange, TellsReads, TellsWrites, Took}
+use Rattle.lg_io.specs.SinkChanges.{SinkChange, Took}
+use Rattle.lg_run.specs.Changes.{TextsChange, TellsReads, TellsWrites}
 use Rattle.lg_run.specs.Refused.{IsRefusedCall}
 use Rattle.lg_run.specs.Runs.{HasRun, HasMeant}
 use Rattle.lg_run.specs.Says.{AskedSays, IsCodeOf, IsStill, IsUntouched, ModeSays, NoCommandSays, ReadsFile, ReportSays, RunsCode, Says, code_meaning, code_run, lines_of, listing_of}

@@ -12,7 +12,8 @@ use Rattle.lg_io.specs.Counts.{Rose}
 use Rattle.lg_io.specs.NamedTexts.{NamedTexts}
 use Rattle.lg_node.specs.declared.unit.Unit.{Unit as TextUnit}
 use Rattle.lg_tst.specs.Units.{unit_of}
-use Rattle.lg_run.specs.Changes.{SinkChange, TellsReads, TellsWrites, TextsChange}
+use Rattle.lg_io.specs.SinkChanges.{SinkChange}
+use Rattle.lg_run.specs.Changes.{TellsReads, TellsWrites, TextsChange}
 use Rattle.lg_run.specs.Complete.{AnswersCode, AnswersCommand, AnswersMeaning, AnswersRun, Comes, Completeness, IsCompleteIn, IsCompleteMean, IsCompleteRun, IsFit}
 use Rattle.lg_run.specs.Runs.{HasMeant, MeanSays, RunSays}
 use Rattle.lg_run.specs.Says.{AnswerSays, AskedSays, CodeSays, IsCodeOf, ListSays, ModeSays, NoCommandSays, Ran, TellsFaults, code_meaning, code_run}

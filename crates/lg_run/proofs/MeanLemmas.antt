@@ -9,7 +9,8 @@ use Rattle.lg_meaning.proofs.MeanLemmas.{means_are_machines}
 use Rattle.lg_mean.specs.Runs.{ComesTo, KeepsCountBehind}
 use Rattle.lg_mean.specs.declared.run.RunEnd.{RunEnd}
 use Rattle.lg_mean.specs.declared.run.RunEnd.TheVariants as runs_end
-use Rattle.lg_run.specs.Changes.{SinkChange, TellsWrites, Took}
+use Rattle.lg_io.specs.SinkChanges.{SinkChange, Took}
+use Rattle.lg_run.specs.Changes.{TellsWrites}
 use Rattle.lg_run.specs.Means.{answer_of}
 use Rattle.lg_run.specs.Runs.{HasMeant, MeanSays}
 use Rattle.lg_run.specs.declared.answer.Answer.{Answer}

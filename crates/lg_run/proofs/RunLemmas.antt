@@ -12,7 +12,7 @@ use Rattle.lg_cpu.specs.Steps.{Effect, Progress, Goes, EndedWith, Faulted, machi
 use Rattle.lg_cpu.specs.declared.answer.CpuStep.{CpuStep}
 use Rattle.lg_cpu.specs.declared.answer.CpuStep.TheVariants as cpu
 use Rattle.lg_cpu.proofs.RunLemmas.{machine_is}
-use Rattle.lg_run.specs.Changes.{SinkChange, Took}
+use Rattle.lg_io.specs.SinkChanges.{SinkChange, Took}
 use Rattle.lg_cpu.specs.Series.{Advances, AdvancesAfter, IsAt, effect_at, run_from}
 use Rattle.lg_cpu.proofs.SeriesLemmas.{next}
 use Rattle.lg_run.specs.Runs.{HasRun, RunSays}

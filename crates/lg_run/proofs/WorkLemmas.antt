@@ -13,7 +13,8 @@ use Rattle.lg_node.specs.Labels.{taken_labels}
 use Rattle.lg_node.specs.Nodes.{LabelledNodes}
 use Rattle.lg_node.specs.Shapes.{IsChecked, TextShape, shape_of}
 use Rattle.lg_node.specs.declared.unit.Unit.{Unit as TextUnit}
-use Rattle.lg_run.specs.Changes.{SinkChange, TellsWrites}
+use Rattle.lg_io.specs.SinkChanges.{SinkChange}
+use Rattle.lg_run.specs.Changes.{TellsWrites}
 use Rattle.lg_run.specs.Refused.{IsRefusedCall}
 use Rattle.lg_run.specs.Runs.{MeanSays, RunSays}
 use Rattle.lg_run.specs.Says.{AnswerSays, CodeSays, IsCodeOf, IsUntouched, ModeSays, code_meaning, code_run}

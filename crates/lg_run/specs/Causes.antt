@@ -12,7 +12,8 @@ use Rattle.lg_io.specs.NamedTexts.{NamedTexts}
 use Rattle.lg_meaning.specs.Means as means
 use Rattle.lg_meaning.specs.Texts.{line_at}
 use Rattle.lg_node.specs.declared.unit.Unit.{Unit as TextUnit}
-use Rattle.lg_run.specs.Changes.{SinkChange, TextsChange, Took}
+use Rattle.lg_io.specs.SinkChanges.{SinkChange, Took}
+use Rattle.lg_run.specs.Changes.{TextsChange}
 use Rattle.lg_run.specs.Refused.{IsRefusedCall}
 use Rattle.lg_run.specs.Runs.{HasMeant, HasRun}
 use Rattle.lg_run.specs.Says.{IsCodeOf, IsStill, IsUntouched, ReadsFile, RunsCode, code_meaning, code_run, listing_of}

@@ -13,7 +13,8 @@ use Rattle.lg_io.specs.Counts.{Rose}
 use Rattle.lg_io.specs.NamedTexts.{NamedTexts}
 use Rattle.lg_node.specs.Checks.{IsAccepted}
 use Rattle.lg_node.specs.declared.unit.Unit.{Unit as TextUnit}
-use Rattle.lg_run.specs.Changes.{SinkChange, TextsChange}
+use Rattle.lg_io.specs.SinkChanges.{SinkChange}
+use Rattle.lg_run.specs.Changes.{TextsChange}
 use Rattle.lg_run.specs.Refused.{ArgumentsFit, IsRefusedCall, IsTextIn, IsUnitOf, code_full}
 use Rattle.lg_run.specs.Says.{IsCodeOf, Says, code_meaning, code_run}
 use Rattle.lg_run.specs.declared.answer.Answer.{Answer}

@@ -7,7 +7,7 @@ use Rattle.lg_mean.specs.declared.run.RunEnd.TheVariants as runs_end
 use Rattle.lg_meaning.specs.Means as means
 use Rattle.lg_node.specs.Nodes.{LabelledNodes}
 use Rattle.lg_node.specs.Shapes.{TextShape}
-use Rattle.lg_run.specs.Changes.{SinkChange}
+use Rattle.lg_io.specs.SinkChanges.{SinkChange}
 use Rattle.lg_run.specs.Runs.{MeanSays}
 use Rattle.lg_run.specs.declared.answer.Answer.{Answer}
 use Rattle.lg_run.specs.declared.answer.Answer.TheVariants as answer

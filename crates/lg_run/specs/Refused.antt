@@ -1,8 +1,9 @@
 -- Why a call is refused, in the order of the reasons.
 use Rattle.std.specs.Prelude.{◌≡◌, ◌⊎◌, ℕ, ◌+◌, ◌*◌, ◌<◌, ◌≤◌, List, length, Option, Some, None, Result, Ok, Err, ⊤}
 use Rattle.lg_base.specs.Arguments.{args_of, most_args, args_too_long}
+use Rattle.lg_base.specs.Refusals.{text_too_long}
 use Rattle.lg_base.specs.declared.refusal.Refusal.{Refusal}
-use Rattle.lg_base.specs.declared.refusal.RefusalKind.TheVariants.{CodeFull, TextTooLong}
+use Rattle.lg_base.specs.declared.refusal.RefusalKind.TheVariants.{CodeFull}
 use Rattle.lg_base.specs.declared.target.Target.{Target}
 use Rattle.lg_command.specs.Commands.{Command}
 use Rattle.lg_command.specs.declared.command.Mode.{Mode}
@@ -18,9 +19,6 @@ use Rattle.lg_tst.specs.Units.{unit_of}
 -- the most bytes of a text
 abbrev pub most_text : ℕ
 most_text = 16777216
-
-abbrev pub text_too_long : Refusal
-text_too_long = record { kind = TextTooLong; line = 0 }
 
 abbrev pub code_full : Refusal
 code_full = record { kind = CodeFull; line = 0 }

@@ -7,13 +7,13 @@ use Rattle.lg_cpu.specs.Steps.{Run, Goes, EndedWith, Faulted}
 use Rattle.lg_meaning.specs.Means as means
 use Rattle.lg_meaning.specs.Texts.{line_at}
 use Rattle.lg_node.specs.Nodes.{LabelledNodes}
-use Rattle.lg_run.specs.Changes.{SinkChange, Took}
+use Rattle.lg_io.specs.SinkChanges.{SinkChange, Took}
 use Rattle.lg_run.specs.declared.answer.Answer.{Answer}
 use Rattle.lg_run.specs.declared.answer.Answer.TheVariants.{Ended, Undefined, WriteFault, StepsOut, Fault}
 
 -- a sink took a prefix of the later output that begins with the earlier one
 abbrev pub TookBetween : SinkChange → (before after : List ℕ) → Type 0
-TookBetween s before after = (more : List ℕ) × (after ≡ before ++ more) × ((n : ℕ) × (n ≤ length more) × Took s (before ++ take n more))
+TookBetween s before after = (more : List ℕ) × (after ≡ before ++ more) × ((n : ℕ) × (n < length more) × Took s (before ++ take n more))
 
 abbrev pub HasRun : (ℕ → Run CpuState) → ℕ → Type 0
 HasRun run n = (run n).progress ≡ Goes

@@ -16,7 +16,8 @@ use Rattle.lg_list.specs.Listing.{listing}
 use Rattle.lg_meaning.specs.Means as means
 use Rattle.lg_node.specs.Checks.{IsAccepted}
 use Rattle.lg_node.specs.declared.unit.Unit.{Unit as TextUnit}
-use Rattle.lg_run.specs.Changes.{TextsChange, SinkChange, Took, TookPart, TellsReads, TellsWrites}
+use Rattle.lg_io.specs.SinkChanges.{SinkChange, Took, TookPart}
+use Rattle.lg_run.specs.Changes.{TextsChange, TellsReads, TellsWrites}
 use Rattle.lg_run.specs.Lines.{line_of, stats_of}
 use Rattle.lg_run.specs.Refused.{ArgumentsFit, IsRefusedCall, IsTextIn, IsUnitOf}
 use Rattle.lg_run.specs.Runs.{RunSays, MeanSays}

@@ -5,7 +5,8 @@ use Rattle.lg_command.specs.Commands.{Command}
 use Rattle.lg_command.specs.declared.command.Mode.{Mode}
 use Rattle.lg_io.specs.NamedTexts.{NamedTexts}
 use Rattle.lg_node.specs.declared.unit.Unit.{Unit as TextUnit}
-use Rattle.lg_run.specs.Changes.{TextsChange, SinkChange, TellsReads}
+use Rattle.lg_io.specs.SinkChanges.{SinkChange}
+use Rattle.lg_run.specs.Changes.{TextsChange, TellsReads}
 use Rattle.lg_run.specs.Refused.{IsTextIn, IsTextUnder, IsUnitOf}
 use Rattle.lg_run.specs.Says.{AnswerSays, IsStill, ModeSays, WorkSays}
 use Rattle.lg_run.specs.declared.answer.Answer.{Answer}

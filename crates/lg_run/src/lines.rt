@@ -1,7 +1,7 @@
 // The lines on err.
 
 ghost use Rattle.std.specs.Prelude.{◌≡◌, [], ◌++◌, Some};
-ghost use Rattle.lg_run.specs.Changes.{WroteTo, on_sink};
+ghost use Rattle.lg_io.specs.SinkChanges.{WroteTo, on_sink};
 ghost use Rattle.lg_run.specs.Lines.{code_stats, is_write_fault, line_of, refusal_line, stats_line, stats_of};
 
 use crate::answer::Answer;

@@ -2,7 +2,8 @@
 
 ghost use Rattle.lg_command.specs.Commands.{shown};
 ghost use Rattle.lg_command.specs.declared.command.Mode.TheVariants as modes;
-ghost use Rattle.lg_run.specs.Changes.{TellsWrites, on_sink};
+ghost use Rattle.lg_io.specs.SinkChanges.{on_sink};
+ghost use Rattle.lg_run.specs.Changes.{TellsWrites};
 ghost use Rattle.lg_run.specs.Work.{RanSays};
 
 use crate::answer::Answer;

@@ -4,7 +4,8 @@ ghost use Rattle.std.specs.Prelude.{◌≡◌, ◌<◌, ◌^◌, None};
 ghost use Rattle.lg_meaning.specs.Fits.{Fits};
 ghost use Rattle.lg_mean.specs.Machines.{state_of};
 ghost use Rattle.lg_mean.specs.Programs.{IsTableOf};
-ghost use Rattle.lg_run.specs.Changes.{TellsWrites, on_sink};
+ghost use Rattle.lg_io.specs.SinkChanges.{on_sink};
+ghost use Rattle.lg_run.specs.Changes.{TellsWrites};
 ghost use Rattle.lg_run.specs.Means.{MeantFrom, answer_of};
 
 use crate::answer::Answer;

@@ -4,7 +4,8 @@ ghost use Rattle.std.specs.Prelude.{◌≡◌, ◌<◌, ◌-◌, ◌^◌};
 ghost use Rattle.lg_cpu.specs.Machines.{shown};
 ghost use Rattle.lg_cpu.specs.Series.{run_from};
 ghost use Rattle.lg_cpu.specs.declared.answer.CpuStep.{CpuStep};
-ghost use Rattle.lg_run.specs.Changes.{TellsWrites, on_sink};
+ghost use Rattle.lg_io.specs.SinkChanges.{on_sink};
+ghost use Rattle.lg_run.specs.Changes.{TellsWrites};
 ghost use Rattle.lg_run.specs.Runs.{RunSays};
 
 use crate::answer::Answer;

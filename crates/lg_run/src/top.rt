@@ -4,7 +4,8 @@ ghost use Rattle.std.specs.Prelude.{◌≡◌, [], Some};
 ghost use Rattle.lg_base.specs.Arguments.{texts_of};
 ghost use Rattle.lg_command.specs.Commands.{shown};
 ghost use Rattle.lg_run.specs.Causes.{Causes};
-ghost use Rattle.lg_run.specs.Changes.{on_sink, on_texts};
+ghost use Rattle.lg_io.specs.SinkChanges.{on_sink};
+ghost use Rattle.lg_run.specs.Changes.{on_texts};
 ghost use Rattle.lg_run.specs.Lines.{line_of};
 ghost use Rattle.lg_run.specs.Says.{ReportSays, Says, lines_of, name_in};
 

@@ -14,7 +14,7 @@ use Rattle.lg_op.specs.declared.operand.Operand.TheVariants as operand
 use Rattle.lg_op.specs.declared.node.Node.{Node}
 use Rattle.lg_live.specs.Registers.{is_same}
 use Rattle.lg_live.specs.Uses.{is_written}
-use Rattle.lg_operators.specs.Operators.{width, typed}
+use Rattle.lg_operators.specs.Operators.{width, extended_by_type}
 use Rattle.lg_meaning.specs.States.{State, is_open}
 use Rattle.lg_meaning.specs.Steps.{Goes, Undefined, need, on_with_carry, with_reg, load_to}
 use Rattle.lg_meaning.specs.Steps as steps
@@ -78,17 +78,17 @@ module _ {Q I : Type 0} (R : Rows Q I) (scratch : ℕ → Bool) (c : Code) (i : 
       let readable : IsReadable (R.processor.seen q) (w (frame_register target)) a (width t) v = λ bytes same. loaded-more s.mem bytes (λ j b e. same j (ap (λ p. in_slots p j) h.pointer ∙ h.off_slots j b e) ∙ h.memory.is j b e) a (width t) v r in
       let here-read = readable (R.processor.seen q).bytes (λ j off. refl) in
       let does = lead q a v named is-address h.in_frame (gives s q a h address) (ends s q h a v r) readable (loaded-small (R.processor.seen q).bytes h.in_frame.seen.bytes a (width t) v here-read) in
-      writes-word R scratch c n choices body s (R.processor.seen q) d named (on_with_carry (with_reg s (operand.Reg d) (typed t v))) (typed t v) writes
-      (steps_so s here ∙ ap (λ z. need z (λ b. load_to s t b (operand.Reg d))) address ∙ ap (λ z. need z (λ y. Goes (on_with_carry (with_reg s (operand.Reg d) (typed t y))) [])) got)
+      writes-word R scratch c n choices body s (R.processor.seen q) d named (on_with_carry (with_reg s (operand.Reg d) (extended_by_type t v))) (extended_by_type t v) writes
+      (steps_so s here ∙ ap (λ z. need z (λ b. load_to s t b (operand.Reg d))) address ∙ ap (λ z. need z (λ y. Goes (on_with_carry (with_reg s (operand.Reg d) (extended_by_type t y))) [])) got)
       record { at = refl; frame = refl; callers = refl; pushed = refl; mem = refl; mark = refl; data_size = refl; args_size = refl; answer = refl } refl
       (λ u e. carry-moved target s.carry w u (carry_of (R.processor.seen q).flags) e h.carry)
-      (subst (λ p. Does R (from_to (R.processor.seen q) (with_register w (register_of target d) (typed t v)) (R.processor.seen q).bytes (R.processor.seen q).flags) body p (spilled choices) (spoils scratch choices)) h.pointer does)
+      (subst (λ p. Does R (from_to (R.processor.seen q) (with_register w (register_of target d) (extended_by_type t v)) (R.processor.seen q).bytes (R.processor.seen q).flags) body p (spilled choices) (spoils scratch choices)) h.pointer does)
 
   pub load-computes : ComputesNode R scratch c i n frame choices body
   load-computes = record { some = some; steps = λ s q here h. by s q here h (o s) refl }
     where
       at-address : (s : State) (q : Q) (here : s.at ≡ i) (h : HoldsRead target n frame s (R.processor.seen q)) (a : ℕ) → o s ≡ Some a → (r : Option ℕ) → steps.read s a (width t) ≡ r → (step c.nodes c.shape c.addresses s ≡ Undefined) ⊎ StepsTo R scratch c n choices body s (R.processor.seen q)
-      at-address s q here h a e None g = inl (steps_so s here ∙ ap (λ z. need z (λ b. load_to s t b (operand.Reg d))) e ∙ ap (λ z. need z (λ y. Goes (on_with_carry (with_reg s (operand.Reg d) (typed t y))) [])) g)
+      at-address s q here h a e None g = inl (steps_so s here ∙ ap (λ z. need z (λ b. load_to s t b (operand.Reg d))) e ∙ ap (λ z. need z (λ y. Goes (on_with_carry (with_reg s (operand.Reg d) (extended_by_type t y))) [])) g)
       at-address s q here h a e (Some v) g = inr (loads s q a v here h e g)
 
       by : (s : State) (q : Q) (here : s.at ≡ i) (h : HoldsRead target n frame s (R.processor.seen q)) (oa : Option ℕ) → o s ≡ oa → (step c.nodes c.shape c.addresses s ≡ Undefined) ⊎ StepsTo R scratch c n choices body s (R.processor.seen q)

@@ -10,7 +10,8 @@ use Rattle.lg_op.specs.declared.operand.Operand.TheVariants as operand
 use Rattle.lg_op.specs.declared.node.Node.{Node}
 use Rattle.lg_live.specs.Registers.{is_same}
 use Rattle.lg_live.specs.Uses.{is_written}
-use Rattle.lg_meaning.specs.States.{State, number}
+use Rattle.lg_op.specs.Operands.{number_of}
+use Rattle.lg_meaning.specs.States.{State}
 use Rattle.lg_meaning.specs.Steps.{Goes, with_reg}
 use Rattle.lg_meaning.specs.Texts.{step}
 use Rattle.lg_temp.specs.Abis.{register_of}
@@ -46,17 +47,17 @@ module _ {Q I : Type 0} (R : Rows Q I) (scratch : ℕ → Bool) (c : Code) (n : 
   clash : {b : Bool} → b ≡ false → b ≡ true → ⊥
   clash e f = cc
 
-  self : numbered (is_same d) (number d) ≡ true
+  self : numbered (is_same d) (number_of d) ≡ true
   self = numbered-at (is_same d) d named ∙ same-self d named
 
   written-here : is_written n d ≡ true
-  written-here = sym (numbered-at (is_written n) d named) ∙ writes (number d) ∙ self
+  written-here = sym (numbered-at (is_written n) d named) ∙ writes (number_of d) ∙ self
 
-  at-number : (r y : ℕ) → r ≡ number d → (with_reg s (operand.Reg d) v).regs r ≡ Some y → Some v ≡ Some y
-  at-number r y z e = let g : (r == number d) ≡ true = grind (arith, z) in sym (ap (λ b. if b then Some v else s.regs r) g) ∙ e
+  at-number : (r y : ℕ) → r ≡ number_of d → (with_reg s (operand.Reg d) v).regs r ≡ Some y → Some v ≡ Some y
+  at-number r y z e = let g : (r == number_of d) ≡ true = grind (arith, z) in sym (ap (λ b. if b then Some v else s.regs r) g) ∙ e
 
-  other-regs : (r : ℕ) → (r ≡ number d → ⊥) → (with_reg s (operand.Reg d) v).regs r ≡ s.regs r
-  other-regs r off = let g : (r == number d) ≡ false = grind (arith, off) in ap (λ b. if b then Some v else s.regs r) g
+  other-regs : (r : ℕ) → (r ≡ number_of d → ⊥) → (with_reg s (operand.Reg d) v).regs r ≡ s.regs r
+  other-regs r off = let g : (r == number_of d) ≡ false = grind (arith, off) in ap (λ b. if b then Some v else s.regs r) g
 
   pub writes-word : step c.nodes c.shape c.addresses s ≡ Goes to [] → GoesOn s to → to.regs ≡ (with_reg s (operand.Reg d) v).regs
       → ((u : ℕ → ℕ) → ((x : ℕ) → carry_register target ≡ Some x → u x ≡ q.registers x) → HoldsCarry target u (carry_of q.flags) to.carry)
@@ -73,6 +74,6 @@ module _ {Q I : Type 0} (R : Rows Q I) (scratch : ℕ → Bool) (c : Code) (n : 
       written = λ r y lt is e. let z = only-number d r (sym (writes r) ∙ is) in
           ap (λ p. with_register q.registers rd v p) (ap (portable_register target) z ∙ sym (stands-for target d named)) ∙ with-same q.registers rd v ∙ some-is v y (at-number r y z (ap (λ f. f r) (sym regs) ∙ e));
       others = λ r lt off. ap (λ f. f r) regs ∙ other-regs r (λ z. clash (sym (writes r) ∙ off) (ap (numbered (is_same d)) z ∙ self));
-      carry = carry (with_register q.registers rd v) (λ y e. with-other q.registers rd v y (λ z. ((conventions-apart target).carry y e).portable (number d) (number-few d named) (sym (stands-for target d named) ∙ sym z)));
+      carry = carry (with_register q.registers rd v) (λ y e. with-other q.registers rd v y (λ z. ((conventions-apart target).carry y e).portable (number_of d) (number-few d named) (sym (stands-for target d named) ∙ sym z)));
     };
   }

@@ -9,7 +9,7 @@ use Rattle.lg_op.specs.declared.op.Op.TheVariants as op
 use Rattle.lg_op.specs.declared.op.ValueType.{ValueType}
 use Rattle.lg_op.specs.declared.operand.Reg.{Reg}
 use Rattle.lg_op.specs.declared.operand.Reg.TheVariants.{Fp}
-use Rattle.lg_operators.specs.Operators.{width, typed}
+use Rattle.lg_operators.specs.Operators.{width, extended_by_type}
 use Rattle.lg_meaning.specs.Steps.{operand_at}
 use Rattle.lg_temp.specs.Abis.{register_of}
 use Rattle.lg_temp.specs.Choices.{AreFor}
@@ -41,7 +41,7 @@ IsReadable q fp a w v = (bytes : ℕ → Option ℕ) → ((j : ℕ) → in_slots
 abbrev pub Reads : {Q I : Type 0} → Rows Q I → (ℕ → Bool) → List Choice → ValueType → Reg → Q → ℕ → List I → Type 0
 Reads {Q} R scratch choices t d q v code =
     Does R
-    (from_to (R.processor.seen q) (with_register (R.processor.seen q).registers (register_of R.processor.target d) (typed t v)) (R.processor.seen q).bytes
+    (from_to (R.processor.seen q) (with_register (R.processor.seen q).registers (register_of R.processor.target d) (extended_by_type t v)) (R.processor.seen q).bytes
     (R.processor.seen q).flags)
     code ((R.processor.seen q).registers (frame_register R.processor.target)) (spilled choices) (spoils scratch choices)
 

@@ -17,7 +17,8 @@ use Rattle.lg_node.specs.declared.place.Place.TheVariants as place
 use Rattle.lg_operators.specs.Operators.{holds}
 use Rattle.lg_live.specs.Uses.{is_written}
 use Rattle.lg_live.specs.declared.uses.Access.TheVariants.{Read}
-use Rattle.lg_meaning.specs.States.{Frame, State, reg, number, value}
+use Rattle.lg_op.specs.Operands.{number_of}
+use Rattle.lg_meaning.specs.States.{Frame, State, reg, value}
 use Rattle.lg_meaning.specs.Steps.{Goes, Undefined, need, branch, to, node_in, node_of_label}
 use Rattle.lg_meaning.specs.Texts.{text, step_at, step}
 use Rattle.lg_temp.specs.Abis.{register_of}
@@ -52,11 +53,11 @@ module _ {Q I : Type 0} (R : Rows Q I) (scratch : ℕ → Bool) (fits : I → Ty
   abbrev target : Target
   target = R.processor.target
 
-  live-a : a ≢ Fp → live_before n S (number a) ≡ true
+  live-a : a ≢ Fp → live_before n S (number_of a) ≡ true
   live-a ne = read-is-live n S a (λ z. named-later Read form.Target (form.Read ∷ last_form (last_of third) ∷ []) a (operand.Label l) (operand.Reg a ∷ third ∷ []) (named-here Read form.Read (last_form (last_of third) ∷ []) a (third ∷ []) refl z)) ne
 
-  live-b : (b : Reg) → third ≡ operand.Reg b → b ≢ Fp → live_before n S (number b) ≡ true
-  live-b b e ne = subst (λ x. live_before (branch_node o l a x line) S (number b) ≡ true) (sym e)
+  live-b : (b : Reg) → third ≡ operand.Reg b → b ≢ Fp → live_before n S (number_of b) ≡ true
+  live-b b e ne = subst (λ x. live_before (branch_node o l a x line) S (number_of b) ≡ true) (sym e)
       (read-is-live (branch_node o l a (operand.Reg b) line) S b (λ z. named-later Read form.Target (form.Read ∷ form.Read ∷ []) b (operand.Label l) (operand.Reg a ∷ operand.Reg b ∷ []) (named-later Read form.Read (form.Read ∷ []) b (operand.Reg a) (operand.Reg b ∷ []) (named-here Read form.Read [] b [] refl z))) ne)
 
   unwritten-here : (r : ℕ) → numbered (is_written n) r ≡ false

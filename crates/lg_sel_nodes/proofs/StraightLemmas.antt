@@ -22,7 +22,8 @@ use Rattle.lg_node.specs.Functions.{home, is_epilog, is_epilog_at, frame_of}
 use Rattle.lg_node.specs.declared.function.Function.{Function}
 use Rattle.lg_node.specs.Preparations.{pushed}
 use Rattle.lg_live.specs.Uses.{is_read, is_written}
-use Rattle.lg_meaning.specs.States.{Frame, State, number, in_locals, in_any_locals, is_open}
+use Rattle.lg_op.specs.Operands.{number_of}
+use Rattle.lg_meaning.specs.States.{Frame, State, in_locals, in_any_locals, is_open}
 use Rattle.lg_meaning.specs.Steps.{Goes, Undefined, function_here}
 use Rattle.lg_meaning.specs.Texts.{step}
 use Rattle.lg_meaning.specs.Laws.{IsFormedAt}
@@ -214,7 +215,7 @@ module _ {Q I : Type 0} (R : Rows Q I) (scratch : ℕ → Bool) (fits : I → Ty
   other-portable r lt off =
       let apart = conventions-apart target in
       record {
-        written = λ d named w e. clash (let z = apart.portable r (number d) lt (number-few d named) (e ∙ stands-for target d named) in ap (numbered (is_written n)) z ∙ numbered-at (is_written n) d named ∙ w) off;
+        written = λ d named w e. clash (let z = apart.portable r (number_of d) lt (number-few d named) (e ∙ stands-for target d named) in ap (numbered (is_written n)) z ∙ numbered-at (is_written n) d named ∙ w) off;
         kept = is-false (scratch (portable_register target r)) (λ e. (isa.apart (portable_register target r) e).portable r lt refl);
         carry = λ e. (apart.carry (portable_register target r) e).portable r lt refl;
       }
@@ -223,7 +224,7 @@ module _ {Q I : Type 0} (R : Rows Q I) (scratch : ℕ → Bool) (fits : I → Ty
   other-argument j lt =
       let apart = conventions-apart target in
       record {
-        written = λ d named w e. apart.both (number d) j (number-few d named) lt (sym (stands-for target d named) ∙ sym e);
+        written = λ d named w e. apart.both (number_of d) j (number-few d named) lt (sym (stands-for target d named) ∙ sym e);
         kept = is-false (scratch (slice_index (argument_registers target) j)) (λ e. (isa.apart (slice_index (argument_registers target) j) e).argument j lt refl);
         carry = λ e. (apart.carry (slice_index (argument_registers target) j) e).argument j lt refl;
       }
@@ -232,7 +233,7 @@ module _ {Q I : Type 0} (R : Rows Q I) (scratch : ℕ → Bool) (fits : I → Ty
   other-frame =
       let apart = conventions-apart target in
       record {
-        written = λ d named w e. apart.portable_pointer (number d) (number-few d named) (sym (stands-for target d named) ∙ sym e);
+        written = λ d named w e. apart.portable_pointer (number_of d) (number-few d named) (sym (stands-for target d named) ∙ sym e);
         kept = is-false (scratch (frame_register target)) (λ e. (isa.apart (frame_register target) e).pointer refl);
         carry = λ e. (apart.carry (frame_register target) e).pointer refl;
       }
@@ -241,7 +242,7 @@ module _ {Q I : Type 0} (R : Rows Q I) (scratch : ℕ → Bool) (fits : I → Ty
   other-stack =
       let apart = conventions-apart target in
       record {
-        written = λ d named w e. apart.portable_stack (number d) (number-few d named) (sym (stands-for target d named) ∙ sym e);
+        written = λ d named w e. apart.portable_stack (number_of d) (number-few d named) (sym (stands-for target d named) ∙ sym e);
         kept = is-false (scratch (stack_register target)) (λ e. (isa.apart (stack_register target) e).stack refl);
         carry = λ e. (apart.carry (stack_register target) e).stack refl;
       }
@@ -305,7 +306,7 @@ module _ {Q I : Type 0} (R : Rows Q I) (scratch : ℕ → Bool) (fits : I → Ty
     pub read-before : (frame : ℕ) → IsFrameOf c i frame → HoldsRead target n frame s (R.processor.seen q)
     read-before frame is-frame = record {
       in_frame = frame-held target c i frames s (R.processor.seen q) (live_before n S) at inside st frame is-frame;
-      registers = λ a x reads e. given target c frames s (R.processor.seen q) (live_before n S) a x st inside (λ ne. ap (λ z. z || (S (number a) && not (numbered (is_written n) (number a)))) (numbered-at (is_read n) a ne ∙ reads ne)) e;
+      registers = λ a x reads e. given target c frames s (R.processor.seen q) (live_before n S) a x st inside (λ ne. ap (λ z. z || (S (number_of a) && not (numbered (is_written n) (number_of a)))) (numbered-at (is_read n) a ne ∙ reads ne)) e;
       carry = st.carry;
       result = st.result;
       memory = st.memory;

@@ -6,7 +6,7 @@ use Rattle.lg_op.specs.declared.node.Node.{Node}
 use Rattle.lg_op.specs.declared.operand.Reg.{Reg}
 use Rattle.lg_op.specs.declared.operand.Reg.TheVariants.{Fp}
 use Rattle.lg_op.specs.declared.operand.Operand.TheVariants as operand
-use Rattle.lg_operators.specs.Operators.{typed, unary_value, is_move}
+use Rattle.lg_operators.specs.Operators.{extended_by_type, unary_value, keeps_carry}
 use Rattle.lg_live.specs.Registers.{is_same}
 use Rattle.lg_live.specs.Uses.{is_written}
 use Rattle.lg_meaning.specs.States.{State, reg, value}
@@ -61,7 +61,7 @@ module _ {Q I : Type 0} (M : Computer Q I) (scratch : ℕ → Bool) (c : Code) (
 
 -- ---- the nodes
 module _ {Q I : Type 0} (M : Computer Q I) (scratch : ℕ → Bool) (c : Code) (i : ℕ) (o : UnaryOp) (d a : Reg) (line : ℕ) (named : d ≢ Fp) (t : IsInText c i (unary_node o d a line))
-    (choices : List Choice) (body : List I) (into : ComputesInto M scratch (d ∷ []) choices body) (moves : is_move o ≡ true → KeepsCarry M body)
+    (choices : List Choice) (body : List I) (into : ComputesInto M scratch (d ∷ []) choices body) (moves : keeps_carry o ≡ true → KeepsCarry M body)
     (makes : (s : State) (w : Held) (m : ℕ) → HeldRead M.rows.processor.target (unary_node o d a line) s w → w.registers (register_of M.rows.processor.target a) ≡ m
     → (computed M.computed_by body w).registers (register_of M.rows.processor.target d) ≡ unary_value o m) where
   abbrev n : Node
@@ -73,13 +73,13 @@ module _ {Q I : Type 0} (M : Computer Q I) (scratch : ℕ → Bool) (c : Code) (
   made : (s : State) (w : Held) (m : ℕ) → HeldRead M.rows.processor.target n s w → reg s a ≡ Some m → (computed M.computed_by body w).registers (register_of M.rows.processor.target d) ≡ unary_value o m
   made s w m h e = makes s w m h (h.registers a m (λ ne. ap (λ z. z || false) (same-self a ne)) e)
 
-  step-so : (b : Bool) → is_move o ≡ b → (s : State) → s.at ≡ i → step c.nodes c.shape c.addresses s ≡ need (reg s a) (λ m. quiet (if b then on_with_carry (to s m) else on (to s m)))
+  step-so : (b : Bool) → keeps_carry o ≡ b → (s : State) → s.at ≡ i → step c.nodes c.shape c.addresses s ≡ need (reg s a) (λ m. quiet (if b then on_with_carry (to s m) else on (to s m)))
   step-so b e s at = step-is c i n s t at ∙ ap (λ z. need (reg s a) (λ m. quiet (if z then on_with_carry (to s m) else on (to s m)))) e
 
   unary-computes : ComputingNode M scratch c i n choices body
-  unary-computes = by (is_move o) refl
+  unary-computes = by (keeps_carry o) refl
     where
-      by : (b : Bool) → is_move o ≡ b → ComputingNode M scratch c i n choices body
+      by : (b : Bool) → keeps_carry o ≡ b → ComputingNode M scratch c i n choices body
       by true e = one-word-kept M scratch c i n d named (λ q. or-false (is_same d q)) choices body into (λ s. reg s a) (unary_value o) made (λ s w h. moves e w s.carry h.carry) (step-so true e)
       by false e = one-word M scratch c i n d named (λ q. or-false (is_same d q)) choices body into (λ s. reg s a) (unary_value o) made (step-so false e)
 
@@ -100,5 +100,5 @@ va-start-nodes-compute M scratch c i d k line choices body named t into makes =
 -- the word of the result register, by its type
 pub retval-nodes-compute : {Q I : Type 0} (M : Computer Q I) → RetvalNodesCompute M
 retval-nodes-compute M scratch c i t d line choices body named x into makes =
-    one-word M scratch c i (retval_node t d line) d named (λ q. or-false (is_same d q)) choices body into (λ s. s.answer) (typed t)
-    (λ s w m h e. makes w h.words ∙ ap (typed t) (h.result.is m e)) (λ s at. step-is c i (retval_node t d line) s x at)
+    one-word M scratch c i (retval_node t d line) d named (λ q. or-false (is_same d q)) choices body into (λ s. s.answer) (extended_by_type t)
+    (λ s w m h e. makes w h.words ∙ ap (extended_by_type t) (h.result.is m e)) (λ s at. step-is c i (retval_node t d line) s x at)

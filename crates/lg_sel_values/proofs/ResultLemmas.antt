@@ -8,7 +8,8 @@ use Rattle.lg_op.specs.declared.operand.Reg.{Reg}
 use Rattle.lg_op.specs.declared.operand.Reg.TheVariants.{Fp}
 use Rattle.lg_live.specs.Registers.{is_same}
 use Rattle.lg_live.specs.Uses.{is_written}
-use Rattle.lg_meaning.specs.States.{State, number}
+use Rattle.lg_op.specs.Operands.{number_of}
+use Rattle.lg_meaning.specs.States.{State}
 use Rattle.lg_meaning.specs.Steps.{Outcome, Goes, Undefined, need, quiet, with_word}
 use Rattle.lg_meaning.specs.Texts.{text, step_at, step}
 use Rattle.lg_temp.specs.declared.choice.Choice.{Choice}
@@ -68,7 +69,7 @@ module _ (target : Target) (n : Node) (d : Reg) (named : d ≢ Fp) (writes : (q 
   set-is : is_written n ≡ is_same d
   set-is = λ i. λ q. writes q i
 
-  pub holds-one : (s t : State) (v : ℕ) (u : Held) → t.regs ≡ with_word s.regs (number d) v → u.registers (register_of target d) ≡ v → HoldsCarry target u.registers (carry_of u.flags) t.carry → HoldsWritten target n s t u.registers u.flags
+  pub holds-one : (s t : State) (v : ℕ) (u : Held) → t.regs ≡ with_word s.regs (number_of d) v → u.registers (register_of target d) ≡ v → HoldsCarry target u.registers (carry_of u.flags) t.carry → HoldsWritten target n s t u.registers u.flags
   holds-one s t v u regs value carry = record { written = written; others = others; carry = carry }
     where
       same : (a b : ℕ) → a ≡ b → with_word s.regs b v a ≡ Some v
@@ -79,12 +80,12 @@ module _ (target : Target) (n : Node) (d : Reg) (named : d ≢ Fp) (writes : (q 
 
       written : (r x : ℕ) → r < 6 → numbered (is_written n) r ≡ true → t.regs r ≡ Some x → u.registers (portable_register target r) ≡ x
       written r x lt on e =
-          let z : r ≡ number d = only-number d r (ap (λ set. numbered set r) (sym set-is) ∙ on) in
-          let w : v ≡ x = some-same v x (sym (ap (λ f. f r) regs ∙ same r (number d) z) ∙ e) in
+          let z : r ≡ number_of d = only-number d r (ap (λ set. numbered set r) (sym set-is) ∙ on) in
+          let w : v ≡ x = some-same v x (sym (ap (λ f. f r) regs ∙ same r (number_of d) z) ∙ e) in
           ap (λ k. u.registers (portable_register target k)) z ∙ ap u.registers (sym (stands-for target d named)) ∙ value ∙ w
 
       others : (r : ℕ) → r < 6 → numbered (is_written n) r ≡ false → t.regs r ≡ s.regs r
-      others r lt off = ap (λ f. f r) regs ∙ apart r (number d) (λ z. clash (ap (numbered (is_written n)) z ∙ numbered-at (is_written n) d named ∙ writes d ∙ same-self d named) off)
+      others r lt off = ap (λ f. f r) regs ∙ apart r (number_of d) (λ z. clash (ap (numbered (is_written n)) z ∙ numbered-at (is_written n) d named ∙ writes d ∙ same-self d named) off)
         where
           clash : {b : Bool} → b ≡ true → b ≡ false → ⊥
           clash e h = cc

@@ -14,7 +14,8 @@ use Rattle.lg_op.specs.declared.operand.Operand.TheVariants as operand
 use Rattle.lg_operators.specs.Operators.{wide_value}
 use Rattle.lg_live.specs.Registers.{is_same}
 use Rattle.lg_live.specs.Uses.{is_read, is_written}
-use Rattle.lg_meaning.specs.States.{State, reg, value, number}
+use Rattle.lg_op.specs.Operands.{number_of}
+use Rattle.lg_meaning.specs.States.{State, reg, value}
 use Rattle.lg_meaning.specs.Steps.{Undefined, on, with_reg, with_word}
 use Rattle.lg_meaning.specs.Texts.{step}
 use Rattle.lg_temp.specs.Abis.{register_of}
@@ -40,7 +41,7 @@ register-at (suc (suc (suc (suc zero)))) = V1
 register-at (suc (suc (suc (suc (suc zero))))) = V2
 register-at r = Fp
 
-numbered-back : (d : Reg) → register-at (number d) ≡ d
+numbered-back : (d : Reg) → register-at (number_of d) ≡ d
 unfolding register-at
 numbered-back R0 = refl
 numbered-back R1 = refl
@@ -50,11 +51,11 @@ numbered-back V1 = refl
 numbered-back V2 = refl
 numbered-back Fp = refl
 
-number-apart : (d e : Reg) → d ≢ e → number d ≢ number e
+number-apart : (d e : Reg) → d ≢ e → number_of d ≢ number_of e
 number-apart d e ne = λ z. ne (sym (numbered-back d) ∙ ap register-at z ∙ numbered-back e)
 
 pub registers-apart : (target : Target) (d e : Reg) → d ≢ Fp → e ≢ Fp → d ≢ e → register_of target d ≢ register_of target e
-registers-apart target d e nd ne apart = λ z. number-apart d e apart ((conventions-apart target).portable (number d) (number e) (number-few d nd) (number-few e ne) (sym (stands-for target d nd) ∙ z ∙ stands-for target e ne))
+registers-apart target d e nd ne apart = λ z. number-apart d e apart ((conventions-apart target).portable (number_of d) (number_of e) (number-few d nd) (number-few e ne) (sym (stands-for target d nd) ∙ z ∙ stands-for target e ne))
 
 numbered-or : (f g : Reg → Bool) (r : ℕ) → numbered (λ q. f q || g q) r ≡ (numbered f r || numbered g r)
 numbered-or f g zero = refl
@@ -92,18 +93,18 @@ module _ (target : Target) (n : Node) (d e : Reg) (nd : d ≢ Fp) (ne : e ≢ Fp
   pub writes-second : is_written n e ≡ true
   writes-second = writes e ∙ or-left (is_same e e) (is_same d e) (same-self e ne)
 
-  pub holds-two : (s t : State) (p : ℕ × ℕ) (u : ℕ → ℕ) → t.regs ≡ with_word (with_word s.regs (number d) p.0) (number e) p.1 → HoldsPair (register_of target d) (register_of target e) p u → (written : (r x : ℕ) → r < 6 → numbered (is_written n) r ≡ true → t.regs r ≡ Some x → u (portable_register target r) ≡ x) × ((r : ℕ) → r < 6 → numbered (is_written n) r ≡ false → t.regs r ≡ s.regs r)
+  pub holds-two : (s t : State) (p : ℕ × ℕ) (u : ℕ → ℕ) → t.regs ≡ with_word (with_word s.regs (number_of d) p.0) (number_of e) p.1 → HoldsPair (register_of target d) (register_of target e) p u → (written : (r x : ℕ) → r < 6 → numbered (is_written n) r ≡ true → t.regs r ≡ Some x → u (portable_register target r) ≡ x) × ((r : ℕ) → r < 6 → numbered (is_written n) r ≡ false → t.regs r ≡ s.regs r)
   holds-two s t p u regs h = (written, others)
     where
-      at-first : (r x : ℕ) → r ≡ number d → t.regs r ≡ Some x → u (portable_register target r) ≡ x
+      at-first : (r x : ℕ) → r ≡ number_of d → t.regs r ≡ Some x → u (portable_register target r) ≡ x
       at-first r x z k =
-          let m : r ≢ number e = λ y. number-apart d e apart (sym z ∙ y) in
-          let v : p.0 ≡ x = some-same p.0 x (sym (ap (λ f. f r) regs ∙ with-other (with_word s.regs (number d) p.0) r (number e) p.1 m ∙ with-same s.regs r (number d) p.0 z) ∙ k) in
+          let m : r ≢ number_of e = λ y. number-apart d e apart (sym z ∙ y) in
+          let v : p.0 ≡ x = some-same p.0 x (sym (ap (λ f. f r) regs ∙ with-other (with_word s.regs (number_of d) p.0) r (number_of e) p.1 m ∙ with-same s.regs r (number_of d) p.0 z) ∙ k) in
           ap (λ y. u (portable_register target y)) z ∙ ap u (sym (stands-for target d nd)) ∙ h.first ∙ v
 
-      at-second : (r x : ℕ) → r ≡ number e → t.regs r ≡ Some x → u (portable_register target r) ≡ x
+      at-second : (r x : ℕ) → r ≡ number_of e → t.regs r ≡ Some x → u (portable_register target r) ≡ x
       at-second r x z k =
-          let v : p.1 ≡ x = some-same p.1 x (sym (ap (λ f. f r) regs ∙ with-same (with_word s.regs (number d) p.0) r (number e) p.1 z) ∙ k) in
+          let v : p.1 ≡ x = some-same p.1 x (sym (ap (λ f. f r) regs ∙ with-same (with_word s.regs (number_of d) p.0) r (number_of e) p.1 z) ∙ k) in
           ap (λ y. u (portable_register target y)) z ∙ ap u (sym (stands-for target e ne)) ∙ h.second ∙ v
 
       written : (r x : ℕ) → r < 6 → numbered (is_written n) r ≡ true → t.regs r ≡ Some x → u (portable_register target r) ≡ x
@@ -115,9 +116,9 @@ module _ (target : Target) (n : Node) (d e : Reg) (nd : d ≢ Fp) (ne : e ≢ Fp
 
       others : (r : ℕ) → r < 6 → numbered (is_written n) r ≡ false → t.regs r ≡ s.regs r
       others r lt off =
-          let md : r ≢ number d = λ z. clash (ap (numbered (is_written n)) z ∙ numbered-at (is_written n) d nd ∙ writes-first) off in
-          let me : r ≢ number e = λ z. clash (ap (numbered (is_written n)) z ∙ numbered-at (is_written n) e ne ∙ writes-second) off in
-          ap (λ f. f r) regs ∙ with-other (with_word s.regs (number d) p.0) r (number e) p.1 me ∙ with-other s.regs r (number d) p.0 md
+          let md : r ≢ number_of d = λ z. clash (ap (numbered (is_written n)) z ∙ numbered-at (is_written n) d nd ∙ writes-first) off in
+          let me : r ≢ number_of e = λ z. clash (ap (numbered (is_written n)) z ∙ numbered-at (is_written n) e ne ∙ writes-second) off in
+          ap (λ f. f r) regs ∙ with-other (with_word s.regs (number_of d) p.0) r (number_of e) p.1 me ∙ with-other s.regs r (number_of d) p.0 md
 
 -- ---- the nodes
 -- the code makes the two words from the two that are given

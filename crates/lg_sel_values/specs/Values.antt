@@ -12,7 +12,7 @@ use Rattle.lg_op.specs.declared.operand.Operand.{Operand}
 use Rattle.lg_op.specs.declared.operand.Reg.{Reg}
 use Rattle.lg_op.specs.declared.operand.Reg.TheVariants.{Fp}
 use Rattle.lg_operators.specs.declared.carry.Carry.{Carry}
-use Rattle.lg_operators.specs.Operators.{binary_value, is_carried, carry_in, carried_value, carried_out, wide_value, unary_value, is_move, typed}
+use Rattle.lg_operators.specs.Operators.{binary_value, is_carried, carry_in, carried_value, carried_out, wide_value, unary_value, keeps_carry, extended_by_type}
 use Rattle.lg_meaning.specs.States.{State, value}
 use Rattle.lg_meaning.specs.Steps.{bit_word}
 use Rattle.lg_temp.specs.Abis.{register_of}
@@ -89,7 +89,7 @@ WideNodesCompute {Q} {I} M =
 abbrev pub UnaryNodesCompute : {Q I : Type 0} → Computer Q I → Type 0
 UnaryNodesCompute {Q} {I} M =
     (scratch : ℕ → Bool) (c : Code) (i : ℕ) (o : UnaryOp) (d a : Reg) (line : ℕ) (choices : List Choice) (body : List I)
-    → d ≢ Fp → IsInText c i (unary_node o d a line) → ComputesInto M scratch (d ∷ []) choices body → (is_move o ≡ true → KeepsCarry M body)
+    → d ≢ Fp → IsInText c i (unary_node o d a line) → ComputesInto M scratch (d ∷ []) choices body → (keeps_carry o ≡ true → KeepsCarry M body)
     → ((s : State) (w : Held) (m : ℕ) → HeldRead M.rows.processor.target (unary_node o d a line) s w
     → w.registers (register_of M.rows.processor.target a) ≡ m
     → (computed M.computed_by body w).registers (register_of M.rows.processor.target d) ≡ unary_value o m)
@@ -117,5 +117,5 @@ RetvalNodesCompute {Q} {I} M =
     (scratch : ℕ → Bool) (c : Code) (i : ℕ) (t : ValueType) (d : Reg) (line : ℕ) (choices : List Choice) (body : List I)
     → d ≢ Fp → IsInText c i (retval_node t d line) → ComputesInto M scratch (d ∷ []) choices body
     → ((w : Held) → ((r : ℕ) → w.registers r < 2 ^ 64)
-    → (computed M.computed_by body w).registers (register_of M.rows.processor.target d) ≡ typed t (w.registers (result_register M.rows.processor.target)))
+    → (computed M.computed_by body w).registers (register_of M.rows.processor.target d) ≡ extended_by_type t (w.registers (result_register M.rows.processor.target)))
     → ComputingNode M scratch c i (retval_node t d line) choices body

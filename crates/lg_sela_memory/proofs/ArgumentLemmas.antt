@@ -6,7 +6,7 @@ use Rattle.lg_base.specs.Words.{add_words, sub_words}
 use Rattle.lg_base.specs.declared.target.Target.TheVariants.{Aarch64}
 use Rattle.lg_op.specs.declared.op.ValueType.{ValueType}
 use Rattle.lg_op.specs.declared.op.ValueType.TheVariants as value_type
-use Rattle.lg_operators.specs.Operators.{width, typed}
+use Rattle.lg_operators.specs.Operators.{width, extended_by_type}
 use Rattle.lg_a64.specs.declared.instruction.Instr.{Instr}
 use Rattle.lg_a64.specs.declared.instruction.Instr.TheVariants as instr
 use Rattle.lg_a64.specs.declared.instruction.ImmOp.TheVariants.{Subi}
@@ -51,7 +51,7 @@ stack-leads sp k few low high = omega (arith, few, low, high)
 -- ---- the two codes
 module _ (code : List ℕ) (trash : ℕ) (t : ValueType) (s : Seen) (rd a v fp : ℕ) (small : rd < 31) (readable : IsReadable s fp a (width t) v) (lt : v < 256 ^ width t) where
   abbrev Loads : List Instr → Type 0
-  Loads is = Does (a64_rows code trash) (from_to s (with_register s.registers rd (typed t v)) s.bytes s.flags) is fp 0 (spoils a64_scratch [])
+  Loads is = Does (a64_rows code trash) (from_to s (with_register s.registers rd (extended_by_type t v)) s.bytes s.flags) is fp 0 (spoils a64_scratch [])
 
   from-home : (k : ℕ) → known s.flags ≡ s.flags → sub_words (s.registers 29) (home_distance k) ≡ a → a < 2 ^ 64 → Loads (instr.Imm Subi link 29 (home_distance k) false ∷ instr.Scaled (load_row t) rd link 0 ∷ [])
   from-home k same at low =
@@ -60,9 +60,9 @@ module _ (code : List ℕ) (trash : ℕ) (t : ValueType) (s : Seen) (rd a v fp :
       let x = instr.Scaled (load_row t) rd link 0 in
       let h = sub_words (s.registers 29) (home_distance k) in
       let mid = seen_behind M (y ∷ []) s in
-      behind-computed M (is-computer code trash) (y ∷ []) (x ∷ []) s (with_register s.registers rd (typed t v)) s.bytes s.flags fp 0 (spoils a64_scratch []) (omega arith) refl
-      (told (a64_rows code trash) mid (with_register mid.registers rd (typed t v)) (with_register s.registers rd (typed t v)) s.bytes s.bytes mid.flags s.flags (x ∷ []) fp 0 (spoils a64_scratch [])
-      (λ r free. ap (λ z. if r == rd then typed t v else z) (put-other s.registers link h r (off-scratch r free))) (λ r off. refl) same
+      behind-computed M (is-computer code trash) (y ∷ []) (x ∷ []) s (with_register s.registers rd (extended_by_type t v)) s.bytes s.flags fp 0 (spoils a64_scratch []) (omega arith) refl
+      (told (a64_rows code trash) mid (with_register mid.registers rd (extended_by_type t v)) (with_register s.registers rd (extended_by_type t v)) s.bytes s.bytes mid.flags s.flags (x ∷ []) fp 0 (spoils a64_scratch [])
+      (λ r free. ap (λ z. if r == rd then extended_by_type t v else z) (put-other s.registers link h r (off-scratch r free))) (λ r off. refl) same
       (load-does code trash t mid rd link 0 a v fp (spoils a64_scratch []) small (ap (λ z. add_words z (0 * width t)) (put-same s.registers link h ∙ at) ∙ none-behind (width t) a low) readable lt))
 
   from-stack : (k : ℕ) → add_words (s.registers 29) (16 + 8 * (k - 8)) ≡ a → Loads (instr.Scaled (load_row t) rd 29 (stack_count t k) ∷ [])
@@ -72,7 +72,7 @@ pub arguments-do : (code : List ℕ) (trash : ℕ) → ArgumentsDo (a64_rows cod
 arguments-do code trash frame t d k q a v named few f place even readable lt = by (nat_lt k 8) refl place
   where
     by : (b : Bool) → nat_lt k 8 ≡ b → (if b then home_word (frame_pointer (q.state.registers 31 + frame)) k else stack_argument (q.state.registers 31 + frame) (k - 8)) ≡ a
-        → Does (a64_rows code trash) (from_to (a64_seen q) (with_register q.state.registers (register_of Aarch64 d) (typed t v)) q.state.bytes (nzcv q.state.flags))
+        → Does (a64_rows code trash) (from_to (a64_seen q) (with_register q.state.registers (register_of Aarch64 d) (extended_by_type t v)) q.state.bytes (nzcv q.state.flags))
         (if b then instr.Imm Subi link 29 (home_distance k) false ∷ instr.Scaled (load_row t) (register_of Aarch64 d) link 0 ∷ [] else instr.Scaled (load_row t) (register_of Aarch64 d) 29 (stack_count t k) ∷ [])
         (q.state.registers 29) 0 (spoils a64_scratch [])
     by true e at =

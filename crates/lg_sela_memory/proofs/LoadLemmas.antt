@@ -6,7 +6,7 @@ use Rattle.lg_base.specs.Words.{add_words}
 use Rattle.lg_base.specs.declared.target.Target.TheVariants.{Aarch64}
 use Rattle.lg_op.specs.declared.op.ValueType.{ValueType}
 use Rattle.lg_op.specs.declared.op.ValueType.TheVariants as value_type
-use Rattle.lg_operators.specs.Operators.{width, typed}
+use Rattle.lg_operators.specs.Operators.{width, extended_by_type}
 use Rattle.lg_a64.specs.declared.instruction.Instr.TheVariants as instr
 use Rattle.lg_cpu.specs.HostSteps.{put}
 use Rattle.lg_cpu.specs.States.{CpuState}
@@ -29,7 +29,7 @@ use Rattle.lg_sela_memory.proofs.PlaceLemmas.{placed}
 
 -- a row loads by its type, wherever the address lies
 load-act : (t : ValueType) (q : CpuState) (rd base count a v : ℕ) → add_words (q.registers base) (count * width t) ≡ a → loaded q.bytes a (width t) ≡ Some v → v < 256 ^ width t
-    → act (instr.Scaled (load_row t) rd base count) q ≡ sets q rd (typed t v)
+    → act (instr.Scaled (load_row t) rd base count) q ≡ sets q rd (extended_by_type t v)
 load-act value_type.Char q rd base count a v at e lt = rw at (ap (loads q rd 1 true) e)
 load-act value_type.UnsignedChar q rd base count a v at e lt = rw at (ap (loads q rd 1 false) e ∙ ap (sets q rd) (let z : v ≡ v % 2 ^ 8 = omega (arith, lt) in z))
 load-act value_type.Short q rd base count a v at e lt = rw at (ap (loads q rd 2 true) e)
@@ -40,15 +40,15 @@ load-act value_type.Long q rd base count a v at e lt = rw at (ap (loads q rd 8 f
 
 -- and does so in code
 pub load-does : (code : List ℕ) (trash : ℕ) (t : ValueType) (s : Seen) (rd base count a v fp : ℕ) (T : ℕ → Bool) → rd < 31 → add_words (s.registers base) (count * width t) ≡ a → IsReadable s fp a (width t) v → v < 256 ^ width t
-    → Does (a64_rows code trash) (from_to s (with_register s.registers rd (typed t v)) s.bytes s.flags) (instr.Scaled (load_row t) rd base count ∷ []) fp 0 T
-load-does code trash t s rd base count a v fp T small at readable lt = access-does code trash (instr.Scaled (load_row t) rd base count) s (with_register s.registers rd (typed t v)) s.bytes fp T
+    → Does (a64_rows code trash) (from_to s (with_register s.registers rd (extended_by_type t v)) s.bytes s.flags) (instr.Scaled (load_row t) rd base count ∷ []) fp 0 T
+load-does code trash t s rd base count a v fp T small at readable lt = access-does code trash (instr.Scaled (load_row t) rd base count) s (with_register s.registers rd (extended_by_type t v)) s.bytes fp T
     (λ q registers bytes.
     let g : q.registers ≡ s.registers = pointwise q.registers s.registers registers in
     record {
-      registers = write q.registers rd (typed t v);
+      registers = write q.registers rd (extended_by_type t v);
       bytes = q.bytes;
       effect = load-act t q rd base count a v (ap (λ h. add_words (h base) (count * width t)) g ∙ at) (readable q.bytes bytes) lt;
-      registers_are = λ r. ap (λ h. h r) (write-is q.registers rd (typed t v) small) ∙ ap (λ h. put h rd (typed t v) r) g;
+      registers_are = λ r. ap (λ h. h r) (write-is q.registers rd (extended_by_type t v) small) ∙ ap (λ h. put h rd (extended_by_type t v) r) g;
       bytes_are = bytes;
     })
 
@@ -62,9 +62,9 @@ loads-do code trash frame t d at q a v named ok f address end readable lt =
     let x = instr.Scaled (load_row t) rd p.base p.count in
     let m = placed (width t) s.registers q.state.flags at ok f.seen.words in
     let mid = seen_behind M p.code s in
-    behind-computed M (is-computer code trash) p.code (x ∷ []) s (with_register s.registers rd (typed t v)) s.bytes s.flags fp 0 (spoils a64_scratch []) (omega arith) m.computes
-    (told (a64_rows code trash) mid (with_register mid.registers rd (typed t v)) (with_register s.registers rd (typed t v)) s.bytes s.bytes mid.flags s.flags (x ∷ []) fp 0 (spoils a64_scratch [])
-    (λ y free. ap (λ z. if y == rd then typed t v else z) (m.keeps y (off-scratch y free))) (λ y off. refl) m.flags
+    behind-computed M (is-computer code trash) p.code (x ∷ []) s (with_register s.registers rd (extended_by_type t v)) s.bytes s.flags fp 0 (spoils a64_scratch []) (omega arith) m.computes
+    (told (a64_rows code trash) mid (with_register mid.registers rd (extended_by_type t v)) (with_register s.registers rd (extended_by_type t v)) s.bytes s.bytes mid.flags s.flags (x ∷ []) fp 0 (spoils a64_scratch [])
+    (λ y free. ap (λ z. if y == rd then extended_by_type t v else z) (m.keeps y (off-scratch y free))) (λ y off. refl) m.flags
     (load-does code trash t mid rd p.base p.count a v fp (spoils a64_scratch []) (let h = register-small d in omega (arith, h)) (m.makes ∙ address) readable lt))
 
 pub has-code : (code : List ℕ) (trash : ℕ) → HasCode (a64_rows code trash) a64_load

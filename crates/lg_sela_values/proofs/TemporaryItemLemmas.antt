@@ -14,7 +14,7 @@ use Rattle.lg_op.specs.declared.operand.Operand.{Operand}
 use Rattle.lg_node.specs.Preparations.{pushed}
 use Rattle.lg_live.specs.Registers.{is_same}
 use Rattle.lg_live.specs.Uses.{is_read, is_written}
-use Rattle.lg_meaning.specs.States.{number}
+use Rattle.lg_op.specs.Operands.{number_of}
 use Rattle.lg_temp.specs.declared.choice.Need.TheVariants.{Any}
 use Rattle.lg_temp.specs.declared.choice.Choice.{Choice}
 use Rattle.lg_temp.specs.declared.choice.Choice.TheVariants.{Free, Own, Spill}
@@ -74,7 +74,7 @@ is-temporary n a live staged choice reads chosen =
     }
   where
     of : (b : Reg) (u : ℕ) → a ≡ b → b ≢ Fp → stands_in Aarch64 (is_read n) u ≡ false → register_of Aarch64 b ≢ u
-    of b u e ne off = λ z. none-stood-for Aarch64 (is_read n) u off (number b) (number-few b ne) (numbered-at (is_read n) b ne ∙ ap (is_read n) (sym e) ∙ reads (λ w. ne (sym e ∙ w))) (sym (stands-for Aarch64 b ne) ∙ z)
+    of b u e ne off = λ z. none-stood-for Aarch64 (is_read n) u off (number_of b) (number-few b ne) (numbered-at (is_read n) b ne ∙ ap (is_read n) (sym e) ∙ reads (λ w. ne (sym e ∙ w))) (sym (stands-for Aarch64 b ne) ∙ z)
 
     by : (b : Reg) → a ≡ b → (u : ℕ) → 29 ≢ u → stands_in Aarch64 (is_read n) u ≡ false → register_of Aarch64 b ≢ u
     by Fp e u apart off = apart

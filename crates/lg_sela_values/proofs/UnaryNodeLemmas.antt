@@ -9,7 +9,7 @@ use Rattle.lg_op.specs.declared.op.ValueType.TheVariants as value_type
 use Rattle.lg_op.specs.declared.operand.Reg.{Reg}
 use Rattle.lg_op.specs.declared.operand.Reg.TheVariants.{Fp}
 use Rattle.lg_op.specs.declared.operand.Operand.{Operand}
-use Rattle.lg_operators.specs.Operators.{unary_value, is_move, typed}
+use Rattle.lg_operators.specs.Operators.{unary_value, keeps_carry, extended_by_type}
 use Rattle.lg_meaning.specs.States.{State, value}
 use Rattle.lg_a64.specs.declared.instruction.Instr.{Instr}
 use Rattle.lg_temp.specs.Abis.{register_of}
@@ -28,7 +28,7 @@ use Rattle.lg_sela_values.proofs.LoadCodeLemmas.{LoadsWord}
 use Rattle.lg_sela_values.proofs.UnaryCodeLemmas.{unary-computed, unary-keeps, unary-computes, unary-some}
 
 -- ---- of a register; `movr` keeps the carry, and its code does
-moved : (code : List ℕ) (trash : ℕ) (o : UnaryOp) (d a : ℕ) → is_move o ≡ true → KeepsCarry (a64_computer code trash) (unary_code o d a)
+moved : (code : List ℕ) (trash : ℕ) (o : UnaryOp) (d a : ℕ) → keeps_carry o ≡ true → KeepsCarry (a64_computer code trash) (unary_code o d a)
 moved code trash unary.Mov d a h w k e =
     carry-stays k w.registers (computed (unary_code unary.Mov d a) w).registers (carry_of w.flags) (carry_of (computed (unary_code unary.Mov d a) w).flags) (λ b z. known-carry (carry_of w.flags) b z) e
 moved code trash o d a h w k e = cc
@@ -71,7 +71,7 @@ va-start-computes c i d k line named t load l code trash =
     (λ w. ap (λ u. u.registers (register_of Aarch64 d)) (l.value w) ∙ put-same w.registers (register_of Aarch64 d) k)
 
 -- ---- the result of a call
-extends : (t : ValueType) (x : ℕ) → unary_value (extension t) x ≡ typed t x
+extends : (t : ValueType) (x : ℕ) → unary_value (extension t) x ≡ extended_by_type t x
 extends value_type.Char x = refl
 extends value_type.UnsignedChar x = refl
 extends value_type.Short x = refl

@@ -10,7 +10,7 @@ use Rattle.lg_op.specs.declared.operand.Operand.{Operand}
 use Rattle.lg_op.specs.declared.operand.Operand.TheVariants as operand
 use Rattle.lg_op.specs.declared.operand.Reg.{Reg}
 use Rattle.lg_op.specs.declared.operand.Reg.TheVariants.{R0, R1, R2, V0, V1, V2, Fp}
-use Rattle.lg_operators.specs.Operators.{typed, unary_value}
+use Rattle.lg_operators.specs.Operators.{extended_by_type, unary_value}
 use Rattle.lg_temp.specs.Abis.{register_of}
 use Rattle.lg_carry.specs.FinalNodes.{Code}
 use Rattle.lg_carry_rv.specs.RvComputers.{rv_scratch, rv_computer, IsComputed}
@@ -30,7 +30,7 @@ use Rattle.lg_selr_control.specs.Retvals.{extension, retval_node, retval_code, r
 use Rattle.lg_sel_control.proofs.ChainLemmas.{straight-block}
 use Rattle.lg_selr_control.proofs.ComputedLemmas.{all-straight}
 
-extends : (t : ValueType) (x : ℕ) → unary_value (extension t) x ≡ typed t x
+extends : (t : ValueType) (x : ℕ) → unary_value (extension t) x ≡ extended_by_type t x
 extends value.Char x = refl
 extends value.UnsignedChar x = refl
 extends value.Short x = refl

@@ -18,7 +18,7 @@ fn shifted(back: ShiftOp, rd: u8, amount: u8) -> [Instr; 2]
     ]
 }
 
-/// Appends the items of a `retval` of a type to none.
+/// Appends the code of a `retval` to no items: 1 or 2 instructions, which extend the low bytes of the result's register by the type.
 pub fn put_retval(value: ValueType, operands: &[Operand], items: &mut Items<Item>)
     requires { items.old ≡ [] }
     ensures { items.new ≡ retval_items value operands.now }

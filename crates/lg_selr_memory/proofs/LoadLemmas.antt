@@ -9,7 +9,7 @@ use Rattle.lg_base.specs.declared.target.Target.TheVariants.{Riscv64}
 use Rattle.lg_op.specs.declared.op.ValueType.{ValueType}
 use Rattle.lg_op.specs.declared.op.ValueType.TheVariants as value_type
 use Rattle.lg_op.specs.declared.operand.Reg.{Reg}
-use Rattle.lg_operators.specs.Operators.{width, typed}
+use Rattle.lg_operators.specs.Operators.{width, extended_by_type}
 use Rattle.lg_rv.specs.Spelling.{spelling}
 use Rattle.lg_rv.specs.declared.instruction.Instr.{Instr}
 use Rattle.lg_rv.specs.declared.instruction.Instr.TheVariants as instr
@@ -47,7 +47,7 @@ use Rattle.lg_selr_memory.proofs.PlaceLemmas.{IsPlaced, off-scratch, placed, to_
 
 -- a row loads by its type
 load-act : (t : ValueType) (q : CpuState) (rd base : ℕ) (offset : ℤ) (a v : ℕ) → add_words (read q.registers base) (word_of offset) ≡ a → (a % width t == 0) ≡ true
-    → loaded q.bytes a (width t) ≡ Some v → v < 256 ^ width t → act (instr.Imm (load_row t) rd base offset) q ≡ sets q rd (typed t v)
+    → loaded q.bytes a (width t) ≡ Some v → v < 256 ^ width t → act (instr.Imm (load_row t) rd base offset) q ≡ sets q rd (extended_by_type t v)
 load-act value_type.Char q rd base offset a v at even e lt = rw (at, even) (ap (loads q rd 1 true) e)
 load-act value_type.UnsignedChar q rd base offset a v at even e lt = rw (at, even) (ap (loads q rd 1 false) e ∙ ap (sets q rd) (let z : v ≡ v % 2 ^ 8 = omega (arith, lt) in z))
 load-act value_type.Short q rd base offset a v at even e lt = rw (at, even) (ap (loads q rd 2 true) e)
@@ -58,15 +58,15 @@ load-act value_type.Long q rd base offset a v at even e lt = rw (at, even) (ap (
 
 -- and does so in code, which keeps each slot
 pub load-keeps : (code : List ℕ) (trash : ℕ) (t : ValueType) (s : Seen) (rd base : ℕ) (offset : ℤ) (a v fp n : ℕ) (T : ℕ → Bool) → add_words (read s.registers base) (word_of offset) ≡ a → (a % width t == 0) ≡ true → IsReadable s fp a (width t) v
-    → v < 256 ^ width t → Does (rv_rows code trash) (from_to s (with_register s.registers rd (typed t v)) s.bytes s.flags) (instr.Imm (load_row t) rd base offset ∷ []) fp n T
-load-keeps code trash t s rd base offset a v fp n T at even readable lt = access-keeps code trash (instr.Imm (load_row t) rd base offset) s (with_register s.registers rd (typed t v)) s.bytes fp n T
+    → v < 256 ^ width t → Does (rv_rows code trash) (from_to s (with_register s.registers rd (extended_by_type t v)) s.bytes s.flags) (instr.Imm (load_row t) rd base offset ∷ []) fp n T
+load-keeps code trash t s rd base offset a v fp n T at even readable lt = access-keeps code trash (instr.Imm (load_row t) rd base offset) s (with_register s.registers rd (extended_by_type t v)) s.bytes fp n T
     (λ q registers bytes.
     let g : q.registers ≡ s.registers = pointwise q.registers s.registers registers in
     record {
-      registers = put q.registers rd (typed t v);
+      registers = put q.registers rd (extended_by_type t v);
       bytes = q.bytes;
       effect = load-act t q rd base offset a v (ap (λ h. add_words (read h base) (word_of offset)) g ∙ at) even (readable q.bytes bytes) lt;
-      registers_are = λ r. ap (λ h. put h rd (typed t v) r) g;
+      registers_are = λ r. ap (λ h. put h rd (extended_by_type t v) r) g;
       bytes_are = bytes;
     })
     (λ q r bs y on. refl)
@@ -100,16 +100,16 @@ module _ (code : List ℕ) (trash : ℕ) (fp n : ℕ) (most : n ≤ 5) where
 
   -- a byte into a register, by a type of one byte
   byte-keeps : (t : ValueType) (s : Seen) (rd base : ℕ) (offset : ℤ) (x b m : ℕ) (T : ℕ → Bool) → width t ≡ 1 → add_words (read s.registers base) (word_of offset) ≡ x → IsByte s fp x b
-      → Does (rv_rows code trash) (from_to s (with_register s.registers rd (typed t b)) s.bytes s.flags) (instr.Imm (load_row t) rd base offset ∷ []) fp m T
-  byte-keeps t s rd base offset x b m T one at is = access-keeps code trash (instr.Imm (load_row t) rd base offset) s (with_register s.registers rd (typed t b)) s.bytes fp m T
+      → Does (rv_rows code trash) (from_to s (with_register s.registers rd (extended_by_type t b)) s.bytes s.flags) (instr.Imm (load_row t) rd base offset ∷ []) fp m T
+  byte-keeps t s rd base offset x b m T one at is = access-keeps code trash (instr.Imm (load_row t) rd base offset) s (with_register s.registers rd (extended_by_type t b)) s.bytes fp m T
       (λ q registers bytes.
       let g : q.registers ≡ s.registers = pointwise q.registers s.registers registers in
       record {
-        registers = put q.registers rd (typed t b);
+        registers = put q.registers rd (extended_by_type t b);
         bytes = q.bytes;
         effect = load-act t q rd base offset x b (ap (λ h. add_words (read h base) (word_of offset)) g ∙ at) (ap (λ k. x % k == 0) one ∙ by-one x)
             (ap (loaded q.bytes x) one ∙ loaded-one q.bytes x b (bytes x is.off ∙ is.is)) (subst (λ k. b < 256 ^ k) (sym one) is.small);
-        registers_are = λ r. ap (λ h. put h rd (typed t b) r) g;
+        registers_are = λ r. ap (λ h. put h rd (extended_by_type t b) r) g;
         bytes_are = bytes;
       })
       (λ q r bs y on. refl)
@@ -141,23 +141,23 @@ module _ (code : List ℕ) (trash : ℕ) (fp n : ℕ) (most : n ≤ 5) where
       let b = byte_of v k in
       let here = bytes k (omega arith) in
       let w1 : ℕ → ℕ = put w d (shifted_left (read w d) 8) in
-      let w2 : ℕ → ℕ = put w1 u (typed value_type.UnsignedChar b) in
+      let w2 : ℕ → ℕ = put w1 u (extended_by_type value_type.UnsignedChar b) in
       let w3 : ℕ → ℕ = put w2 d (add_words (read w2 d) (read w2 u)) in
       let s1 : Seen = record s { registers = w1 } in
       let s2 : Seen = record s { registers = w2 } in
       let s3 : Seen = record s { registers = w3 } in
       let x' = add_words (shifted_left x 8) b in
-      let value : typed value_type.UnsignedChar b ≡ b = (let lt = here.small in let z : b % 2 ^ 8 ≡ b = omega (arith, lt) in z) in
+      let value : extended_by_type value_type.UnsignedChar b ≡ b = (let lt = here.small in let z : b % 2 ^ 8 ≡ b = omega (arith, lt) in z) in
       let own : read w d ≡ x = read-some w d d0 ∙ is in
-      let first : read w2 d ≡ shifted_left x 8 = read-other w1 u (typed value_type.UnsignedChar b) d du ∙ read-put w d (shifted_left (read w d) 8) d0 ∙ ap (λ z. shifted_left z 8) own in
-      let second : read w2 u ≡ b = read-put w1 u (typed value_type.UnsignedChar b) u0 ∙ value in
+      let first : read w2 d ≡ shifted_left x 8 = read-other w1 u (extended_by_type value_type.UnsignedChar b) d du ∙ read-put w d (shifted_left (read w d) 8) d0 ∙ ap (λ z. shifted_left z 8) own in
+      let second : read w2 u ≡ b = read-put w1 u (extended_by_type value_type.UnsignedChar b) u0 ∙ value in
       let sum : w3 d ≡ x' = put-same w2 d (add_words (read w2 d) (read w2 u)) ∙ (λ i. add_words (first i) (second i)) in
       let base1 : w1 1 ≡ a = put-other w d (shifted_left (read w d) 8) 1 (λ e. d1 (sym e)) ∙ at in
-      let base3 : w3 1 ≡ a = put-other w2 d (add_words (read w2 d) (read w2 u)) 1 (λ e. d1 (sym e)) ∙ put-other w1 u (typed value_type.UnsignedChar b) 1 (λ e. u1 (sym e)) ∙ base1 in
+      let base3 : w3 1 ≡ a = put-other w2 d (add_words (read w2 d) (read w2 u)) 1 (λ e. d1 (sym e)) ∙ put-other w1 u (extended_by_type value_type.UnsignedChar b) 1 (λ e. u1 (sym e)) ∙ base1 in
       let place : add_words (read w1 1) k ≡ a + k = ap (λ z. add_words z k) (read-some w1 1 (λ e. cc) ∙ base1) ∙ omega (arith, end) in
       let rest = lower-do k s3 d u a x' v T d0 d1 u0 u1 du free base3 sum (omega (arith, end)) (λ j lt. let m = bytes j (omega (arith, lt)) in record { off = m.off; is = m.is; small = m.small }) in
       let others : (y : ℕ) → T y ≡ false → with_register w3 d (joined x' v k) y ≡ with_register w d (joined x' v k) y =
-      λ y off. by y (y == d) refl off (joined x' v k) (λ e. put-other w2 d (add_words (read w2 d) (read w2 u)) y e ∙ put-other w1 u (typed value_type.UnsignedChar b) y (unlike y off) ∙ put-other w d (shifted_left (read w d) 8) y e) in
+      λ y off. by y (y == d) refl off (joined x' v k) (λ e. put-other w2 d (add_words (read w2 d) (read w2 u)) y e ∙ put-other w1 u (extended_by_type value_type.UnsignedChar b) y (unlike y off) ∙ put-other w d (shifted_left (read w d) 8) y e) in
       behind-computing (instr.Shift shift.Slli d d 8) s (with_register w d (joined x' v k)) (instr.Imm imm.Lbu u 1 (pos k) ∷ instr.Reg reg.Add d d u ∷ lower_bytes d u k) T refl
       (behind-load (instr.Imm imm.Lbu u 1 (pos k)) s1 w2 (with_register w d (joined x' v k)) (instr.Reg reg.Add d d u ∷ lower_bytes d u k) T
       (byte-keeps value_type.UnsignedChar s1 u 1 (pos k) (a + k) b 5 (λ r. false) refl place record { off = here.off; is = here.is; small = here.small })
@@ -174,21 +174,21 @@ module _ (code : List ℕ) (trash : ℕ) (fp n : ℕ) (most : n ≤ 5) where
   -- all bytes of a type, from the address in the link
   bytes-do : (t : ValueType) (s : Seen) (d u a v : ℕ) (T : ℕ → Bool) → d ≢ 0 → d ≢ 1 → u ≢ 0 → u ≢ 1 → d ≢ u → T u ≡ true → s.registers 1 ≡ a → a + width t ≤ 2 ^ 64 → v < 256 ^ width t
       → ((j : ℕ) → j < width t → IsByte s fp (a + j) (byte_of v j))
-      → Goes s (with_register s.registers d (typed t v)) s.bytes (instr.Imm (high_row t) d 1 (pos (width t - 1)) ∷ lower_bytes d u (width t - 1)) T
+      → Goes s (with_register s.registers d (extended_by_type t v)) s.bytes (instr.Imm (high_row t) d 1 (pos (width t - 1)) ∷ lower_bytes d u (width t - 1)) T
   bytes-do t s d u a v T d0 d1 u0 u1 du free at end lt bytes =
       let w = s.registers in
       let k = width t - 1 in
       let wide = some-wide t in
       let here = bytes k (omega (arith, wide)) in
-      let x = typed (high_type t) (byte_of v k) in
+      let x = extended_by_type (high_type t) (byte_of v k) in
       let w1 : ℕ → ℕ = with_register w d x in
       let s1 : Seen = record s { registers = w1 } in
       let place : add_words (read w 1) k ≡ a + k = ap (λ z. add_words z k) (read-some w 1 (λ e. cc) ∙ at) ∙ omega (arith, end, wide) in
       let rest = lower-do k s1 d u a x v T d0 d1 u0 u1 du free (put-other w d x 1 (λ e. d1 (sym e)) ∙ at) (put-same w d x) (omega (arith, end, wide)) (λ j few. let m = bytes j (omega (arith, few)) in record { off = m.off; is = m.is; small = m.small }) in
-      subst (λ row. Goes s (with_register w d (typed t v)) s.bytes (instr.Imm row d 1 (pos k) ∷ lower_bytes d u k) T) (sym (high-rows t))
-      (behind-load (instr.Imm (load_row (high_type t)) d 1 (pos k)) s w1 (with_register w d (typed t v)) (lower_bytes d u k) T
+      subst (λ row. Goes s (with_register w d (extended_by_type t v)) s.bytes (instr.Imm row d 1 (pos k) ∷ lower_bytes d u k) T) (sym (high-rows t))
+      (behind-load (instr.Imm (load_row (high_type t)) d 1 (pos k)) s w1 (with_register w d (extended_by_type t v)) (lower_bytes d u k) T
       (byte-keeps (high_type t) s d 1 (pos k) (a + k) (byte_of v k) 5 (λ r. false) (high-width t) place here)
-      (told (rv_rows code trash) s1 (with_register w1 d (joined x v k)) (with_register w d (typed t v)) s.bytes s.bytes s.flags s.flags (lower_bytes d u k) fp n T
+      (told (rv_rows code trash) s1 (with_register w1 d (joined x v k)) (with_register w d (extended_by_type t v)) s.bytes s.bytes s.flags s.flags (lower_bytes d u k) fp n T
       (λ y off. again w d x (joined x v k) y ∙ ap (λ z. with_register w d z y) (joined-typed t v lt)) (λ y off. refl) refl rest))
     where
       again : (w : ℕ → ℕ) (d x z y : ℕ) → with_register (with_register w d x) d z y ≡ with_register w d z y
@@ -226,7 +226,7 @@ module _ (code : List ℕ) (trash : ℕ) (choices : List Choice) (u frame : ℕ)
   T = spoils rv_scratch choices
 
   abbrev W : ℕ → ℕ
-  W = with_register s.registers rd (typed t v)
+  W = with_register s.registers rd (extended_by_type t v)
 
   m : IsPlaced p s.registers (address_word Riscv64 s.registers at)
   m = placed at s.registers ok f.seen.words
@@ -244,11 +244,11 @@ module _ (code : List ℕ) (trash : ℕ) (choices : List Choice) (u frame : ℕ)
       let b = byte_of v 0 in
       let here = bytes 0 (omega (arith, single)) in
       let z : a + 0 ≡ a = omega arith in
-      let value : typed (high_type t) b ≡ typed t v = subst (λ k. joined (typed (high_type t) (byte_of v (k - 1))) v (k - 1) ≡ typed t v) single (joined-typed t v lt) in
+      let value : extended_by_type (high_type t) b ≡ extended_by_type t v = subst (λ k. joined (extended_by_type (high_type t) (byte_of v (k - 1))) v (k - 1) ≡ extended_by_type t v) single (joined-typed t v lt) in
       subst (λ row. Does (rv_rows code trash) (from_to s W s.bytes s.flags) (p.code ++ instr.Imm row rd p.base p.offset ∷ []) fp (spilled choices) T) (sym (high-rows t))
       (behind-registers code trash p.code (instr.Imm (load_row (high_type t)) rd p.base p.offset ∷ []) s W s.bytes fp (spilled choices) T most m.computes
-      (told (rv_rows code trash) mid (with_register mid.registers rd (typed (high_type t) b)) W s.bytes s.bytes s.flags s.flags (instr.Imm (load_row (high_type t)) rd p.base p.offset ∷ []) fp (spilled choices) T
-      (λ y free. (λ i. with_register mid.registers rd (value i) y) ∙ ap (λ r. if y == rd then typed t v else r) (m.keeps y (off-scratch y (spared y free)).1)) (λ y off. refl) refl
+      (told (rv_rows code trash) mid (with_register mid.registers rd (extended_by_type (high_type t) b)) W s.bytes s.bytes s.flags s.flags (instr.Imm (load_row (high_type t)) rd p.base p.offset ∷ []) fp (spilled choices) T
+      (λ y free. (λ i. with_register mid.registers rd (value i) y) ∙ ap (λ r. if y == rd then extended_by_type t v else r) (m.keeps y (off-scratch y (spared y free)).1)) (λ y off. refl) refl
       (byte-keeps code trash fp (spilled choices) most (high_type t) mid rd p.base p.offset a b (spilled choices) T (high-width t) (m.makes ∙ address)
       record { off = ap (in_slots fp) (sym z) ∙ here.off; is = ap s.bytes (sym z) ∙ here.is; small = here.small })))
 
@@ -258,8 +258,8 @@ module _ (code : List ℕ) (trash : ℕ) (choices : List Choice) (u frame : ℕ)
       let l = linked p s.registers (address_word Riscv64 s.registers at) m in
       let mid : Seen = record s { registers = computed (to_link p) s.registers } in
       behind-registers code trash (to_link p) (instr.Imm (high_row t) rd 1 (pos (width t - 1)) ∷ lower_bytes rd u (width t - 1)) s W s.bytes fp (spilled choices) T most l.computes
-      (told (rv_rows code trash) mid (with_register mid.registers rd (typed t v)) W s.bytes s.bytes s.flags s.flags (instr.Imm (high_row t) rd 1 (pos (width t - 1)) ∷ lower_bytes rd u (width t - 1)) fp (spilled choices) T
-      (λ y free. ap (λ r. if y == rd then typed t v else r) (l.keeps y (off-scratch y (spared y free)).1)) (λ y off. refl) refl
+      (told (rv_rows code trash) mid (with_register mid.registers rd (extended_by_type t v)) W s.bytes s.bytes s.flags s.flags (instr.Imm (high_row t) rd 1 (pos (width t - 1)) ∷ lower_bytes rd u (width t - 1)) fp (spilled choices) T
+      (λ y free. ap (λ r. if y == rd then extended_by_type t v else r) (l.keeps y (off-scratch y (spared y free)).1)) (λ y off. refl) refl
       (bytes-do code trash fp (spilled choices) most t mid rd u a v T (register-nonzero d) (register-apart d).0 temp.nonzero temp.link temp.apart temp.free (l.holds ∙ address) end lt
       (λ j few. let b = bytes j few in record { off = b.off; is = b.is; small = b.small })))
 

@@ -21,7 +21,8 @@ use Rattle.lg_live.specs.Uses.{is_read, is_written}
 use Rattle.lg_rv.specs.declared.instruction.Instr.{Instr}
 use Rattle.lg_rv.specs.declared.instruction.Instr.TheVariants.{Imm}
 use Rattle.lg_rv.specs.declared.instruction.ImmOp.TheVariants.{Addi}
-use Rattle.lg_meaning.specs.States.{State, value, number}
+use Rattle.lg_op.specs.Operands.{number_of}
+use Rattle.lg_meaning.specs.States.{State, value}
 use Rattle.lg_temp.specs.declared.choice.Need.TheVariants.{Any}
 use Rattle.lg_temp.specs.declared.choice.Choice.{Choice}
 use Rattle.lg_temp.specs.declared.choice.Choice.TheVariants.{Free, Own, Spill}
@@ -129,12 +130,12 @@ is-temporary n d a live staged choice named writes reads chosen =
       nonzero = saved-nonzero u (tried-saved u m.tried);
       link = λ e. spare.link 1 refl (sym e);
       carry = λ e. spare.carry 31 refl (sym e);
-      written = λ e. none-stood-for Riscv64 (is_written n) u own.1 (number d) (number-few d named) (numbered-at (is_written n) d named ∙ writes) (sym (stands-for Riscv64 d named) ∙ sym e);
+      written = λ e. none-stood-for Riscv64 (is_written n) u own.1 (number_of d) (number-few d named) (numbered-at (is_written n) d named ∙ writes) (sym (stands-for Riscv64 d named) ∙ sym e);
       read = by a refl u spare.pointer own.0;
     }
   where
     of : (b : Reg) (u : ℕ) → a ≡ b → b ≢ Fp → stands_in Riscv64 (is_read n) u ≡ false → register_of Riscv64 b ≢ u
-    of b u e ne off = λ z. none-stood-for Riscv64 (is_read n) u off (number b) (number-few b ne) (numbered-at (is_read n) b ne ∙ ap (is_read n) (sym e) ∙ reads (λ w. ne (sym e ∙ w))) (sym (stands-for Riscv64 b ne) ∙ z)
+    of b u e ne off = λ z. none-stood-for Riscv64 (is_read n) u off (number_of b) (number-few b ne) (numbered-at (is_read n) b ne ∙ ap (is_read n) (sym e) ∙ reads (λ w. ne (sym e ∙ w))) (sym (stands-for Riscv64 b ne) ∙ z)
 
     by : (b : Reg) → a ≡ b → (u : ℕ) → 8 ≢ u → stands_in Riscv64 (is_read n) u ≡ false → register_of Riscv64 b ≢ u
     by Fp e u apart off = apart

@@ -6,7 +6,7 @@ use Rattle.lg_op.specs.declared.node.Node.{Node}
 use Rattle.lg_op.specs.declared.operand.Reg.{Reg}
 use Rattle.lg_op.specs.declared.operand.Reg.TheVariants.{R0, R1, R2, V0, V1, V2, Fp}
 use Rattle.lg_live.specs.Uses.{is_read, is_written}
-use Rattle.lg_meaning.specs.States.{number}
+use Rattle.lg_op.specs.Operands.{number_of}
 use Rattle.lg_temp.specs.declared.choice.Need.TheVariants.{Any}
 use Rattle.lg_temp.specs.declared.choice.Choice.{Choice}
 use Rattle.lg_temp.specs.declared.choice.Choice.TheVariants.{Free, Own, Spill}
@@ -45,8 +45,8 @@ module _ (n : Node) (u : ℕ) where
   none-of r named read written of e = by (of named)
     where
       by : (is_written n r ≡ true) ⊎ (is_read n r ≡ true) → ⊥
-      by (inl w) = none-stood-for Riscv64 (is_written n) u written (number r) (number-few r named) (numbered-at (is_written n) r named ∙ w) (sym (stands-for Riscv64 r named) ∙ e)
-      by (inr w) = none-stood-for Riscv64 (is_read n) u read (number r) (number-few r named) (numbered-at (is_read n) r named ∙ w) (sym (stands-for Riscv64 r named) ∙ e)
+      by (inl w) = none-stood-for Riscv64 (is_written n) u written (number_of r) (number-few r named) (numbered-at (is_written n) r named ∙ w) (sym (stands-for Riscv64 r named) ∙ e)
+      by (inr w) = none-stood-for Riscv64 (is_read n) u read (number_of r) (number-few r named) (numbered-at (is_read n) r named ∙ w) (sym (stands-for Riscv64 r named) ∙ e)
 
   apart-from : (r : Reg) → 8 ≢ u → stands_in Riscv64 (is_read n) u ≡ false → stands_in Riscv64 (is_written n) u ≡ false → IsOf n r → register_of Riscv64 r ≢ u
   apart-from Fp pointer read written of = pointer

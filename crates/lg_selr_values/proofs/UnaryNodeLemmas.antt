@@ -6,7 +6,7 @@ use Rattle.lg_op.specs.declared.op.UnaryOp.TheVariants as unary
 use Rattle.lg_op.specs.declared.operand.Reg.{Reg}
 use Rattle.lg_op.specs.declared.operand.Reg.TheVariants.{Fp}
 use Rattle.lg_op.specs.declared.operand.Operand.{Operand}
-use Rattle.lg_operators.specs.Operators.{unary_value, is_move}
+use Rattle.lg_operators.specs.Operators.{unary_value, keeps_carry}
 use Rattle.lg_meaning.specs.States.{State, value}
 use Rattle.lg_rv.specs.declared.instruction.Instr.{Instr}
 use Rattle.lg_temp.specs.Abis.{register_of}
@@ -27,7 +27,7 @@ use Rattle.lg_sel_values.proofs.OneWordLemmas.{unary-nodes-compute, movi-nodes-c
 use Rattle.lg_selr_values.proofs.LoadCodeLemmas.{LoadsWord}
 
 -- ---- of a register; `movr` keeps the carry, and its code does
-moved : (o : UnaryOp) (d a : ℕ) (w : ℕ → ℕ) → d ≢ 31 → is_move o ≡ true → computed (unary_code o d a) w 31 ≡ w 31
+moved : (o : UnaryOp) (d a : ℕ) (w : ℕ → ℕ) → d ≢ 31 → keeps_carry o ≡ true → computed (unary_code o d a) w 31 ≡ w 31
 moved unary.Mov d a w ne h = put-other w d _ 31 (λ e. ne (sym e))
 moved o d a w ne h = cc
 

@@ -6,7 +6,7 @@ use Rattle.lg_base.specs.Fields.{word_of}
 use Rattle.lg_base.specs.Layout.{frame_pointer, home_word, stack_argument}
 use Rattle.lg_base.specs.Words.{add_words}
 use Rattle.lg_base.specs.declared.target.Target.TheVariants.{X86_64}
-use Rattle.lg_operators.specs.Operators.{typed}
+use Rattle.lg_operators.specs.Operators.{extended_by_type}
 use Rattle.lg_x86.specs.declared.instruction.Instr.TheVariants as instr
 use Rattle.lg_temp.specs.Abis.{register_of}
 use Rattle.lg_carry.specs.Spills.{with_register}
@@ -45,7 +45,7 @@ arguments-do code trash frame t d k q a v named few f place even readable lt =
     let rd = register_of X86_64 d in
     let low : 272 ≤ sp = (let l = f.large in omega (arith, l)) in
     let high : sp ≤ 0x40000000 = (let h = f.high in omega (arith, h)) in
-    makes-does code trash (x86_argument frame t d k) s (with_register w rd (typed t v)) s.bytes s.flags (w 5) (spoils x86_scratch [])
+    makes-does code trash (x86_argument frame t d k) s (with_register w rd (extended_by_type t v)) s.bytes s.flags (w 5) (spoils x86_scratch [])
     (λ bytes same. record {
       end = bytes;
       makes_it = ap (option_and_then (makes []))

@@ -8,7 +8,7 @@ use Rattle.lg_base.specs.Words.{add_words}
 use Rattle.lg_base.specs.declared.target.Target.TheVariants.{X86_64}
 use Rattle.lg_op.specs.declared.op.ValueType.{ValueType}
 use Rattle.lg_op.specs.declared.op.ValueType.TheVariants as value_type
-use Rattle.lg_operators.specs.Operators.{width, typed}
+use Rattle.lg_operators.specs.Operators.{width, extended_by_type}
 use Rattle.lg_x86.specs.declared.instruction.Instr.TheVariants as instr
 use Rattle.lg_x86.specs.declared.instruction.LoadOp.TheVariants.{Ld64, Ld32u, Ld32s, Ld8u, Ld16u, Ld8s, Ld16s}
 use Rattle.lg_cpu.specs.HostSteps.{put}
@@ -32,7 +32,7 @@ use Rattle.lg_selx_memory.proofs.PlaceLemmas.{placed, load-spare, loaded-behind}
 -- a row loads by its type, wherever the address lies
 pub load-made : (t : ValueType) (s : Scene) (d base : ℕ) (disp : ℤ) (a v : ℕ) → add_words (s.registers base) (word_of disp) ≡ a
     → loaded s.bytes a (width t) ≡ Some v → v < 256 ^ width t
-    → made (instr.Load (load_row t) d base disp) s ≡ Some (scene (put s.registers d (typed t v)) s.flags s.bytes)
+    → made (instr.Load (load_row t) d base disp) s ≡ Some (scene (put s.registers d (extended_by_type t v)) s.flags s.bytes)
 load-made value_type.Char s d base disp a v at e lt = rw at (ap (sets_loaded Ld8s d s) e)
 load-made value_type.UnsignedChar s d base disp a v at e lt =
     rw at (ap (sets_loaded Ld8u d s) e ∙ ap (λ x. Some (scene (put s.registers d x) s.flags s.bytes)) (let z : v ≡ v % 2 ^ 8 = omega (arith, lt) in z))
@@ -56,14 +56,14 @@ loads-do code trash frame t d at q a v named ok f address end readable lt =
     let p = place_of ts at in
     let h = placed ts w at k.few ok f.seen.words k.free in
     let x = instr.Load (load_row t) rd p.base p.disp in
-    makes-does code trash (x86_load frame t d at) s (with_register w rd (typed t v)) s.bytes s.flags (w 5) (spoils x86_scratch [])
+    makes-does code trash (x86_load frame t d at) s (with_register w rd (extended_by_type t v)) s.bytes s.flags (w 5) (spoils x86_scratch [])
     (λ bytes same. record {
       end = bytes;
       makes_it = makes-append p.code (x ∷ behind frame p) (scene w s.flags bytes) (scene (put w ts h.word) s.flags bytes)
-          (scene (put w rd (typed t v)) s.flags bytes) (h.makes_it s.flags bytes)
+          (scene (put w rd (extended_by_type t v)) s.flags bytes) (h.makes_it s.flags bytes)
           (ap (option_and_then (makes (behind frame p)))
           (load-made t (scene (put w ts h.word) s.flags bytes) rd p.base p.disp a v (h.address ∙ address) (readable bytes same) lt)
-          ∙ loaded-behind frame w s.flags bytes (framed frame s f) rd (typed t v) off portable.no_stack ts (address_word X86_64 w at) p h k.which);
+          ∙ loaded-behind frame w s.flags bytes (framed frame s f) rd (extended_by_type t v) off portable.no_stack ts (address_word X86_64 w at) p h k.which);
       bytes_are = same;
     })
 

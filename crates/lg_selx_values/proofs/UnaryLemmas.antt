@@ -13,7 +13,7 @@ use Rattle.lg_op.specs.declared.op.ValueType.TheVariants as value_type
 use Rattle.lg_op.specs.declared.operand.Reg.{Reg}
 use Rattle.lg_operators.specs.declared.carry.Carry.{Carry}
 use Rattle.lg_operators.specs.declared.carry.Carry.TheVariants as carry
-use Rattle.lg_operators.specs.Operators.{unary_value, is_move, typed}
+use Rattle.lg_operators.specs.Operators.{unary_value, keeps_carry, extended_by_type}
 use Rattle.lg_x86.specs.declared.instruction.Instr.{Instr}
 use Rattle.lg_x86.specs.declared.instruction.Instr.TheVariants.{RmReg, Unary, Shift, Bswap}
 use Rattle.lg_x86.specs.declared.instruction.RmRegOp.TheVariants.{Mov}
@@ -134,7 +134,7 @@ carry-kept code trash body h w k e = carry-again k w (by-all body w) (h w) e
 no-need : (r : ℕ) → is_named [] r ≡ true → r < 3
 no-need r e = cc
 
-move-flags : (o : UnaryOp) (d a : ℕ) → is_move o ≡ true → (w : Held) → (by-all (unary_code o d a) w).flags ≡ w.flags
+move-flags : (o : UnaryOp) (d a : ℕ) → keeps_carry o ≡ true → (w : Held) → (by-all (unary_code o d a) w).flags ≡ w.flags
 move-flags unary.Mov d a e w = refl
 move-flags o d a e w = cc
 
@@ -178,7 +178,7 @@ va-starts-carry code trash c i frame d k line live choices named small chosen =
     (into code trash d choices body (λ w. k) record { computes_all = ap (λ b. b && true) l.computes_it; some = omega arith } (λ w. ap (λ z. z.registers) (is w)))
     (λ w. ap (λ z. z.registers rd) (is w) ∙ put-same w.registers rd k)))
 
-retval-computed : (t : ValueType) (d : ℕ) (w : Held) → (by-all (retval_code t d) w).registers ≡ put w.registers d (typed t (w.registers 0))
+retval-computed : (t : ValueType) (d : ℕ) (w : Held) → (by-all (retval_code t d) w).registers ≡ put w.registers d (extended_by_type t (w.registers 0))
 retval-computed value_type.Char d w = refl
 retval-computed value_type.UnsignedChar d w = refl
 retval-computed value_type.Short d w = refl
@@ -204,5 +204,5 @@ retvals-carry code trash c i frame t d line live choices named k =
     straight-carries code trash c i frame n live choices body refl refl no-need (omega arith) k
     (computing-computes (x86_computer code trash) (is-computer code trash) x86_scratch c i n frame choices body
     (retval-nodes-compute (x86_computer code trash) x86_scratch c i t d line choices body named k.in_text
-    (into code trash d choices body (λ w. typed t (w.registers 0)) (retval-works t rd) (retval-computed t rd))
-    (λ w words. ap (λ g. g rd) (retval-computed t rd w) ∙ put-same w.registers rd (typed t (w.registers 0)))))
+    (into code trash d choices body (λ w. extended_by_type t (w.registers 0)) (retval-works t rd) (retval-computed t rd))
+    (λ w words. ap (λ g. g rd) (retval-computed t rd w) ∙ put-same w.registers rd (extended_by_type t (w.registers 0)))))

@@ -4,7 +4,7 @@ use Rattle.lg_base.specs.Conventions.{argument_register, argument_word, portable
 use Rattle.lg_base.specs.declared.target.Target.{Target}
 use Rattle.lg_op.specs.declared.operand.Reg.{Reg}
 use Rattle.lg_op.specs.declared.operand.Reg.TheVariants.{Fp}
-use Rattle.lg_live.specs.Registers.{number_of}
+use Rattle.lg_op.specs.Operands.{number_of}
 use Rattle.lg_temp.specs.declared.abi.ArgPlace.{ArgPlace}
 use Rattle.lg_temp.specs.declared.abi.ArgPlace.TheVariants as place
 

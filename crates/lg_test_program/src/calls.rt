@@ -47,39 +47,41 @@ fn refuses_other_words(rt: HostRuntime) -> Result<(), Fail> {
     Ok(())
 }
 
+// Words that are taken: options behind the file, by `=`, at their bounds, with a sign, and words behind `--`.
+const TAKEN: [&[&str]; 6] = [
+    &["lightning", "t.tst", "--target", "riscv64"],
+    &["lightning", "--target=riscv64", "--mode", "run", "t.tst"],
+    &[
+        "lightning",
+        "--steps",
+        "1000000000000",
+        "--target",
+        "riscv64",
+        "t.tst",
+    ],
+    &[
+        "lightning",
+        "--steps",
+        "+0100",
+        "--target",
+        "riscv64",
+        "t.tst",
+    ],
+    &["lightning", "--code", "256", "--target", "riscv64", "t.tst"],
+    &[
+        "lightning",
+        "--target",
+        "riscv64",
+        "--",
+        "t.tst",
+        "-x",
+        "--mode",
+    ],
+];
+
 #[test]
 fn takes_words(rt: HostRuntime) -> Result<(), Fail> {
-    let others: [&[&str]; 6] = [
-        &["lightning", "t.tst", "--target", "riscv64"],
-        &["lightning", "--target=riscv64", "--mode", "run", "t.tst"],
-        &[
-            "lightning",
-            "--steps",
-            "1000000000000",
-            "--target",
-            "riscv64",
-            "t.tst",
-        ],
-        &[
-            "lightning",
-            "--steps",
-            "+0100",
-            "--target",
-            "riscv64",
-            "t.tst",
-        ],
-        &["lightning", "--code", "256", "--target", "riscv64", "t.tst"],
-        &[
-            "lightning",
-            "--target",
-            "riscv64",
-            "--",
-            "t.tst",
-            "-x",
-            "--mode",
-        ],
-    ];
-    for words in others {
+    for words in TAKEN {
         check(
             &rt,
             &Row {

@@ -2,7 +2,8 @@
 use Rattle.std.proofs.Common.{◌≡◌, ℕ, suc, ◌-◌, ◌<◌, List, [], ◌∷◌, length, Option, Some, None, Result, Ok, Err, refl, sym, ap, ◌∙◌, arith}
 use Rattle.lg_base.specs.declared.refusal.Refusal.{Refusal}
 use Rattle.lg_lex.specs.declared.token.Token.{Token}
-use Rattle.lg_tst.specs.Streams.{◌>>=◌, next_of, tail_of}
+use Rattle.lg_base.specs.Refusals.{◌>>=◌}
+use Rattle.lg_tst.specs.Streams.{next_of, tail_of}
 use Rattle.lg_tst.proofs.ProgressLemmas.{statement_less}
 use Rattle.lg_tst.specs.Units.{State, behind, statement_from, text_from, statements, statements_of}
 

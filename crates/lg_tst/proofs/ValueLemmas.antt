@@ -2,7 +2,8 @@
 use Rattle.std.proofs.Common.{◌≡◌, true, false, if◌then◌else◌, List, [], ◌∷◌, Some, None, Ok, sym, ap, ◌∙◌, refl}
 use Rattle.lg_lex.specs.declared.token.Token.{Token}
 use Rattle.lg_tst.specs.Statements.{is_value}
-use Rattle.lg_tst.specs.Streams.{◌>>=◌, head_of, tail_of}
+use Rattle.lg_base.specs.Refusals.{◌>>=◌}
+use Rattle.lg_tst.specs.Streams.{head_of, tail_of}
 use Rattle.lg_tst.specs.Units.{State, behind, item, more_values, value_and_more}
 use Rattle.lg_tst.specs.declared.statement.ItemSize.{ItemSize}
 

@@ -1,7 +1,7 @@
 -- The tokens that are left of a text.
 use Rattle.std.specs.Prelude.{◌≡◌, ℕ, ◌-◌, ◌<◌, ◌≤◌, true, List, [], ◌∷◌, length, take, drop, Option, Some, None, Result, Ok, Err}
 use Rattle.lg_base.specs.declared.refusal.Refusal.{Refusal}
-use Rattle.lg_base.specs.declared.refusal.RefusalKind.{RefusalKind}
+use Rattle.lg_base.specs.Refusals.{refuse}
 use Rattle.lg_base.specs.declared.refusal.RefusalKind.TheVariants.{BadOperand}
 use Rattle.lg_lex.specs.declared.token.Token.{Token}
 use Rattle.lg_lex.specs.declared.token.TokenKind.TheVariants.{Word, LabelMark}
@@ -12,15 +12,6 @@ pub record Stream : Type 0 where
   pub text : List ℕ
   pub left : List Token
   pub fault : Option Refusal
-
-abbrev pub refuse : {A : Type 0} → RefusalKind → ℕ → Result A Refusal
-refuse kind line = Err (record { kind = kind; line = line })
-
--- a step, and a further step on what it gives
-infixl 10 ◌>>=◌
-abbrev pub ◌>>=◌ : {A B : Type 0} → Result A Refusal → (A → Result B Refusal) → Result B Refusal
-(Ok x) >>= f = f x
-(Err e) >>= f = Err e
 
 -- the bytes of a token
 abbrev pub text_of : List ℕ → Token → List ℕ

@@ -25,7 +25,8 @@ use Rattle.lg_tst.specs.DataParts.{DataBytes, no_data, fits, with_bytes, zeros, 
 use Rattle.lg_tst.specs.Names.{FunctionNames, no_names}
 use Rattle.lg_tst.specs.Operands.{operand_at, apart_or, names_behind, misfit}
 use Rattle.lg_tst.specs.Statements.{statement_of, bytes_in, is_number, is_value}
-use Rattle.lg_tst.specs.Streams.{Stream, ◌>>=◌, refuse, text_of, without_last, next_of, wanted_of, passed}
+use Rattle.lg_base.specs.Refusals.{◌>>=◌, refuse}
+use Rattle.lg_tst.specs.Streams.{Stream, text_of, without_last, next_of, wanted_of, passed}
 use Rattle.lg_tst.specs.declared.statement.ItemSize.{ItemSize}
 use Rattle.lg_tst.specs.declared.statement.Section.{Section}
 use Rattle.lg_tst.specs.declared.statement.Section.TheVariants as section

@@ -2,7 +2,8 @@
 
 ghost use Rattle.std.specs.Prelude.{◌≡◌, ◌≤◌, Ok, length, IfOk, IfSome};
 ghost use Rattle.lg_tst.specs.Answers.{Gives, GivesWith, Reads, HasRoom, IsWhole};
-ghost use Rattle.lg_tst.specs.Streams.{IsToken, refuse, next_of};
+ghost use Rattle.lg_base.specs.Refusals.{refuse};
+ghost use Rattle.lg_tst.specs.Streams.{IsToken, next_of};
 ghost use Rattle.lg_tst.specs.Units.{start, wanted, behind, at_line, statement_from, statements_of, unit_from};
 
 mod data;

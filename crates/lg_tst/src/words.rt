@@ -105,14 +105,6 @@ pub fn is_float_register(word: &[u8]) -> bool
     }
 }
 
-// The bytes from the n-th on.
-fn behind(bytes: &[u8], n: usize) -> &[u8]
-    requires { n ≤ length bytes.now }
-    ensures { result.now ≡ drop n bytes.now }
-{
-    bytes.split_at(n).1
-}
-
 // Whether `_` comes, and then f or d is all that comes before the end or the next `_`.
 fn begins_float_part(word: &[u8]) -> bool
     ensures { result ≡ begins_float_part word.now }

@@ -4,7 +4,8 @@ use Rattle.std.proofs.lemmas.List.{append-nil, length-append}
 use Rattle.lg_base.specs.declared.refusal.Refusal.{Refusal}
 use Rattle.lg_lex.specs.declared.token.Token.{Token}
 use Rattle.lg_node.specs.declared.unit.Unit.{Unit as TextUnit}
-use Rattle.lg_tst.specs.Streams.{◌>>=◌, next_of}
+use Rattle.lg_base.specs.Refusals.{◌>>=◌}
+use Rattle.lg_tst.specs.Streams.{next_of}
 use Rattle.lg_tst.specs.Units.{State, behind, statement_from, text_from, statements, statements_of, start, unit_from, unit_of}
 use Rattle.lg_unit_laws.specs.Laws.{StatementsJoin, FirstFaultsAreFirst, ReadingsDecide}
 use Rattle.lg_unit_laws.specs.Readings.{IsRead, AreRead, joined, IsRefusedNext, IsReadAs, IsFirstFault}

@@ -14,7 +14,8 @@ use Rattle.lg_op.specs.declared.operand.Operand.{Operand}
 use Rattle.lg_node.specs.Nodes.{LabelledNodes}
 use Rattle.lg_tst.specs.DataParts.{fits}
 use Rattle.lg_tst.specs.Statements.{is_value}
-use Rattle.lg_tst.specs.Streams.{Stream, ◌>>=◌, tail_of, passed}
+use Rattle.lg_base.specs.Refusals.{◌>>=◌}
+use Rattle.lg_tst.specs.Streams.{Stream, tail_of, passed}
 use Rattle.lg_tst.specs.Units.{State, token_text, behind, wanted, operand_of, noted_by, noted, operands, written_forms, begun, instruction, number_wanted, opened, data_section, stored, is_data_alignment, aligned, item, more_values, first_value, values, or_twice, is_word_kind, named, is_string, is_digits, behind_if, skip_if, note, statement_by, statement_from}
 use Rattle.lg_tst.specs.declared.statement.ItemSize.{ItemSize}
 use Rattle.lg_tst.specs.declared.statement.Statement.{Statement}

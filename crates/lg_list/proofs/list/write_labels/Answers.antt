@@ -61,3 +61,8 @@ returns-in-Err g c =
     let e = NextAt-address c.args.index c.in-Some.label.0 c.in-Some.label.0 l.places c.args.nodes.places.now.items c.args.nodes.labels.now c.requires.addressed here in
     let same = c.get-address.ensures ∙ address-is c.in-Some.label.0 _ c.args.nodes.labels.now e in
     stopped _ _ _ _ _ _ _ _ _ _ _ c.in-Err.fault c.loop-next.invariant.written split (ap (λ a. label_line a c.word.result.now) same) c.in-Err.ensures.err c.in-Err.ensures.cause.later c.in-Err.ensures.cause.failed
+
+pub next_at-next-requires-clause-bound : goal.next_at-next-requires-clause-bound
+next_at-next-requires-clause-bound g c =
+    let here : NextAt c.args.nodes.list.now.places c.args.index c.in-Some.label.0 c.in-Some.label.0 = subst (IsFound c.args.nodes.list.now.places c.args.index) c.in-Some.is c.loop-next.invariant.found in
+    (c.args.index, here.bound)

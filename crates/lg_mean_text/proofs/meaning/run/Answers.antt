@@ -1,6 +1,6 @@
 use Rattle.std.proofs.Common.{◌-◌, ◌∙◌, arith}
 use Rattle.lg_mean.specs.Machines.{state_of}
-use Rattle.lg_mean_text.specs.Meanings.{changed}
+use Rattle.lg_io.specs.SinkChanges.{on_sink}
 use Rattle.lg_mean_text.proofs.MeaningLemmas.{meaning_comes}
 use Rattle.lg_mean_text.proofs.meaning.run.Goals as goal
 
@@ -17,7 +17,7 @@ returns-clause-followed g c =
       is = c.end_of.ensures;
       state = state_of behind.machine;
       comes = meaning_comes c.args.unit.now c.in_ok-shape.shape c.args.args.now made.labels.addresses (state_of made.machine) c.run-end.result (behind.steps - made.steps) c.steps.result c.args.most (state_of behind.machine)
-          (changed (g.O.Sink.taken c.args.out.now) (g.O.Sink.taken c.run-end.new.out) (g.O.Sink.faults c.args.out.now) (g.O.Sink.faults c.run-end.new.out))
+          (on_sink g.O.Sink.taken g.O.Sink.faults c.args.out.now c.run-end.new.out)
           (c.in-Ok-new.ensures.addresses ∙ c.in-Ok.ensures.value) c.in-Ok-new.ensures.start (omega (arith, c.steps.ensures, c.in-Ok-new.ensures.steps)) c.run-end.ensures.says;
       kept = c.run-end.ensures.kept;
     }

@@ -1,5 +1,5 @@
 use Rattle.std.proofs.Common.{◌≡◌, ◌≤◌, ◌+◌, ◌-◌, length, drop}
-use Rattle.lg_pre.specs.Arguments.{further}
+use Rattle.lg_lex.specs.Bytes.{further}
 use Rattle.lg_pre.specs.Defines.{to_close}
 use Rattle.lg_pre.proofs.defines.to_close.Given as goal
 

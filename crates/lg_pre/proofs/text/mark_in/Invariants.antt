@@ -1,5 +1,5 @@
 use Rattle.std.proofs.Common.{◌≡◌, ◌≤◌, ◌+◌, ◌-◌, true, length, drop}
-use Rattle.lg_pre.specs.Arguments.{further}
+use Rattle.lg_lex.specs.Bytes.{further}
 use Rattle.lg_pre.specs.Text.{mark_in}
 use Rattle.lg_pre.proofs.text.mark_in.Given as goal
 

@@ -1,5 +1,5 @@
 use Rattle.lg_mean.specs.Machines.{state_of}
-use Rattle.lg_run.specs.Changes.{on_sink}
+use Rattle.lg_io.specs.SinkChanges.{on_sink}
 use Rattle.lg_run.proofs.MeanLemmas.{told, writes}
 use Rattle.lg_run.proofs.mean.run_meaning.Goals as goal
 

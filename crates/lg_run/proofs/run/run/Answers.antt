@@ -2,7 +2,7 @@ use Rattle.std.proofs.Common.{sym, subst}
 use Rattle.lg_cpu.specs.Machines.{shown}
 use Rattle.lg_cpu.specs.Series.{run_from}
 use Rattle.lg_cpu.specs.declared.answer.CpuStep.TheVariants as cpu
-use Rattle.lg_run.specs.Changes.{on_sink}
+use Rattle.lg_io.specs.SinkChanges.{on_sink}
 use Rattle.lg_run.specs.Runs.{RunSays}
 use Rattle.lg_run.specs.declared.answer.Answer.TheVariants.{Ended, Fault, WriteFault}
 use Rattle.lg_run.proofs.RunLemmas.{advanced, ran_out, ran_to_end, ran_to_fault, ran_to_write}

@@ -2,7 +2,7 @@ use Rattle.std.proofs.Common.{◌≤◌, inr, length, refl, sym, ap, ◌∙◌, 
 use Rattle.lg_base.specs.Arguments.{most_args}
 use Rattle.lg_command.specs.Commands.{shown}
 use Rattle.lg_cpu.specs.Laws.{AreBytes}
-use Rattle.lg_run.specs.Changes.{on_sink}
+use Rattle.lg_io.specs.SinkChanges.{on_sink}
 use Rattle.lg_run.specs.Refused.{IsRefusedAs}
 use Rattle.lg_run.proofs.RefusedLemmas.{text_refused}
 use Rattle.lg_run.proofs.WorkLemmas.{run_answers, stopped_says}

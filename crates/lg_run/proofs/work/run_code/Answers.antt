@@ -3,7 +3,7 @@ use Rattle.lg_command.specs.Commands.{shown as shown_command}
 use Rattle.lg_cpu.specs.Machines.{shown, shown_at_start}
 use Rattle.lg_cpu.specs.States.{CpuState}
 use Rattle.lg_cpu.specs.Steps.{Run}
-use Rattle.lg_run.specs.Changes.{on_sink}
+use Rattle.lg_io.specs.SinkChanges.{on_sink}
 use Rattle.lg_cpu.specs.Series.{run_from}
 use Rattle.lg_run.specs.Runs.{RunSays}
 use Rattle.lg_run.specs.Says.{code_run, trash_word}

@@ -4,7 +4,7 @@ use Rattle.lg_command.specs.Commands.{shown}
 use Rattle.lg_meaning.specs.Means as means
 use Rattle.lg_meaning.specs.Starts.{start_state}
 use Rattle.lg_mean.specs.Machines.{state_of}
-use Rattle.lg_run.specs.Changes.{on_sink}
+use Rattle.lg_io.specs.SinkChanges.{on_sink}
 use Rattle.lg_run.specs.Means.{meaning_from}
 use Rattle.lg_run.specs.Runs.{MeanSays}
 use Rattle.lg_run.specs.Says.{code_meaning}

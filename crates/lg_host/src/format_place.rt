@@ -1,10 +1,10 @@
-// How far a format was read.
+// The place in a format up to which it was read.
 
 use crate::format::Reading;
 
-/// Where the reading stands, how many arguments were used, and how many bytes were written, modulo 2^64.
+/// A place in a format: where the reading stands, how many arguments were used, and how many bytes were written, modulo 2^64.
 #[derive(Clone, Copy)]
-pub struct Walk {
+pub struct FormatPlace {
     /// Where the reading stands.
     pub reading: Reading,
     /// How many arguments were used.
