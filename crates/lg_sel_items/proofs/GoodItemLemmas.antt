@@ -3,8 +3,8 @@ use Rattle.std.proofs.Common.{◌≡◌, ℕ, zero, suc, ◌+◌, Bool, true, Li
 use Rattle.std.specs.List.{All}
 use Rattle.lg_carry.specs.Blocks.{IsBlock}
 use Rattle.lg_sel_items.specs.Holes.{Holes, Each, settled}
-use Rattle.lg_sel_items.specs.GoodItems.{Settles, GoodItemsSettle, GoodItemsAreBlocks}
-use Rattle.lg_sel_items.proofs.ListLemmas.{each-append}
+use Rattle.lg_sel_items.specs.GoodItems.{Settles, GoodItemsSettle, GoodItemsAreBlocks, GoodItemsAreAppendable}
+use Rattle.lg_sel_items.proofs.ListLemmas.{each-append, each-weaker}
 
 each-settled : {L I : Type 0} (H : Holes L I) (good : L → Type 0) (P : I → Type 0) → Settles H good P → (items : List L) → Each good items → (to : ℕ → ℕ) (at : ℕ) → Each P (settled H to at items)
 each-settled H good P one [] h to at = tt
@@ -30,3 +30,11 @@ good-items-settle H good P one items h to at = all-of P (settled H to at items) 
 pub good-items-are-blocks : {L I : Type 0} (H : Holes L I) (straight : I → Bool) (good : L → Type 0) → GoodItemsAreBlocks H straight good
 good-items-are-blocks H straight good one items h to at =
     block-of straight (settled H to at items) (each-settled H good (λ i. straight i ≡ true) one items h to at)
+
+pub good-items-are-appendable : {L I : Type 0} (H : Holes L I) (straight : I → Bool) (is_item stays good : L → Type 0) → ((x : L) → good x → is_item x)
+    → ((x : L) → good x → stays x) → Settles H good (λ i. straight i ≡ true) → GoodItemsAreAppendable H straight is_item stays good
+good-items-are-appendable H straight is_item stays good fit stay follow items h = record {
+  fit = each-weaker good is_item fit items h;
+  within = each-weaker good stays stay items h;
+  block = good-items-are-blocks H straight good follow items h;
+}

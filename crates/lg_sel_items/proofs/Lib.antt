@@ -1,3 +1,4 @@
+pub mod EmittedLemmas
 pub mod GoodItemLemmas
 pub mod HoleLemmas
 pub mod ListLemmas

@@ -1,6 +1,7 @@
 -- Lists of items.
 use Rattle.std.proofs.Common.{◌≡◌, ℕ, ◌+◌, ◌<◌, ◌≤◌, List, [], ◌∷◌, ◌++◌, length, refl, ap, sym, ◌∙◌, add_assoc, zero-add, append_assoc, arith, length-append}
-use Rattle.std.specs.List.{AllByRecursion}
+use Rattle.std.specs.List.{All}
+use Rattle.std.proofs.lemmas.List.Elements.{All-head, All-tail}
 use Rattle.lg_carry.specs.Blocks.{spellings}
 use Rattle.lg_sel_items.specs.Holes.{Holes, words_in, blanks, settled, fixes_of, Each, ones}
 
@@ -14,6 +15,10 @@ spellings-append spelling (i ∷ is) js = ap (λ l. spelling i ++ l) (spellings-
 pub each-append : {L : Type 0} (P : L → Type 0) (xs ys : List L) → Each P xs → Each P ys → Each P (xs ++ ys)
 each-append P [] ys a b = b
 each-append P (x ∷ xs) ys a b = (a.0, each-append P xs ys a.1 b)
+
+pub each-weaker : {L : Type 0} (P R : L → Type 0) → ((x : L) → P x → R x) → (xs : List L) → Each P xs → Each R xs
+each-weaker P R less [] h = tt
+each-weaker P R less (x ∷ xs) h = (less x h.0, each-weaker P R less xs h.1)
 
 pub ones-append : {L I : Type 0} (one : I → L) (is js : List I) → ones one (is ++ js) ≡ ones one is ++ ones one js
 ones-append one [] js = refl
@@ -69,7 +74,16 @@ module _ {L I : Type 0} (H : Holes L I) where
         let q = p + length (H.blank (one i)) in
         ap (λ l. l ++ fixes_of H q (ones one is)) (none p i) ∙ fixes-ones none q is
 
--- a fact of each instruction is one of each item
-pub each-ones : {L I : Type 0} (P : L → Type 0) (one : I → L) (is : List I) → AllByRecursion (λ i. P (one i)) is → Each P (ones one is)
-each-ones P one [] h = tt
-each-ones P one (i ∷ is) h = (h.0, each-ones P one is h.1)
+-- ---- a fact of each instruction is one of each item
+module _ {L I : Type 0} (P : L → Type 0) (one : I → L) where
+  pub each-ones : (R : I → Type 0) → ((i : I) → R i → P (one i)) → (is : List I) → Each R is → Each P (ones one is)
+  each-ones R less [] h = tt
+  each-ones R less (i ∷ is) h = (less i h.0, each-ones R less is h.1)
+
+  pub all-ones : (R : I → Type 0) → ((i : I) → R i → P (one i)) → (is : List I) → All R is → Each P (ones one is)
+  all-ones R less [] h = tt
+  all-ones R less (i ∷ is) h = (less i (All-head R i is h), all-ones R less is (All-tail R i is h))
+
+  pub any-ones : ((i : I) → P (one i)) → (is : List I) → Each P (ones one is)
+  any-ones h [] = tt
+  any-ones h (i ∷ is) = (h i, any-ones h is)

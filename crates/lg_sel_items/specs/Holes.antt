@@ -62,6 +62,10 @@ abbrev pub ones : {L I : Type 0} → (I → L) → List I → List L
 ones one [] = []
 ones one (i ∷ is) = one i ∷ ones one is
 
+-- the instructions of two lists in a row
+abbrev pub WordsAppend : {L I : Type 0} → Holes L I → Type 0
+WordsAppend {L} H = (xs ys : List L) → words_in H (xs ++ ys) ≡ words_in H xs + words_in H ys
+
 -- ---- what patched bytes become
 -- a fix lies within so many bytes from a place on, or has none of them
 abbrev pub IsWithin : ℕ → ℕ → Fix → Type 0

@@ -1,13 +1,14 @@
 -- Code of which some items are those of a node.
-use Rattle.std.specs.Prelude.{◌≡◌, ℕ, ◌+◌, ◌-◌, ◌<◌, ◌≤◌, true, List, length, slice_get, slice_index}
+use Rattle.std.specs.Prelude.{◌≡◌, ℕ, ◌+◌, ◌-◌, ◌^◌, ◌<◌, ◌≤◌, true, List, length, slice_get, slice_index}
 use Rattle.std.specs.List.{All}
-use Rattle.lg_base.specs.Layout.{code_base}
+use Rattle.lg_base.specs.Layout.{code_base, most_code}
 use Rattle.lg_carry.specs.Blocks.{StaysOutside, IsBlock}
 use Rattle.lg_carry.specs.Carries.{leaps_at}
 use Rattle.lg_carry.specs.FinalNodes.{Code}
 use Rattle.lg_carry.specs.NodeBlocks.{IsNodeBlock}
 use Rattle.lg_carry.specs.Passages.{IsNodeCode}
 use Rattle.lg_carry.specs.Rows.{Rows}
+use Rattle.lg_cpu.specs.Laws.{AreBytes}
 use Rattle.lg_sel_items.specs.Holes.{Holes, words_in, blanks, settled, Each, IsSettled}
 
 -- instructions that stay within the conventions change no register that is outside
@@ -25,6 +26,14 @@ pub record AreOfNode {L Q I : Type 0} (H : Holes L I) (R : Rows Q I) (fits stays
   pub next : c.place (i + 1) ≡ c.place i + length (blanks H items)
   pub few : words_in H items ≤ 64
   pub stay : All stays (settled H (slice_index c.addresses) (c.place i) items)
+
+-- the processor runs this code, and the registers that a call does not keep hold a word behind it
+pub record AreInCode {L Q I : Type 0} (H : Holes L I) (R : Rows Q I) (fits stays : I → Type 0) (is_item : L → Type 0) (trash : ℕ) (c : Code) (i : ℕ)
+    (items : List L) : Type 0 where
+  pub small : length R.code ≤ most_code
+  pub bytes : AreBytes R.code
+  pub word : trash < 2 ^ 64
+  pub of_node : AreOfNode H R fits stays is_item c i items
 
 -- they are the code of the node, of which a branch, jump, call or return has some
 abbrev pub ItemsAreNodeCode : {L Q I : Type 0} → Holes L I → Rows Q I → (I → Type 0) → (I → Type 0) → (L → Type 0) → Type 0

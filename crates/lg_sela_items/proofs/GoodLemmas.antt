@@ -2,28 +2,27 @@
 use Rattle.std.proofs.Common.{◌≡◌, ℕ, ◌/◌, ◌%◌, ◌^◌, ◌<◌, Bool, true, false, List, [], ◌∷◌, ◌++◌, refl, arith}
 use Rattle.std.specs.Prelude.{◌==◌, nat_lt, if◌then◌else◌}
 use Rattle.lg_carry_a64.specs.Numbers.{quarter_code, positive_code, number_code}
+use Rattle.lg_carry_a64.specs.Destinations.{WritesWithin}
 use Rattle.lg_carry_a64.specs.A64Rows.{is_straight}
 use Rattle.lg_a64.specs.declared.instruction.Instr.{Instr}
 use Rattle.lg_a64.specs.declared.instruction.Instr.TheVariants.{Wide}
 use Rattle.lg_a64.specs.declared.instruction.WideOp.TheVariants.{Movn, Movk}
 use Rattle.lg_base.specs.Words.{complement}
 use Rattle.lg_sel_items.specs.Holes.{Each}
-use Rattle.lg_sel_items.proofs.GoodItemLemmas.{good-items-are-blocks}
-use Rattle.lg_sel_items.proofs.ListLemmas.{each-append}
+use Rattle.lg_sel_items.proofs.GoodItemLemmas as good_items
+use Rattle.lg_sel_items.proofs.ListLemmas as lists
 use Rattle.lg_sela_items.specs.declared.items.Item.{Item}
 use Rattle.lg_sela_items.specs.declared.items.Item.TheVariants.{One, Branch, CondBranch, Address}
-use Rattle.lg_sela_items.specs.Items.{a64_holes, settle, ones, AreItems, StayWithin}
-use Rattle.lg_sela_items.specs.GoodItems.{Fine, AreGood, IsGoodItem, GoodItemsAreAppendable}
+use Rattle.lg_sela_items.specs.Items.{a64_holes, settle, ones, IsItem, StaysWithin}
+use Rattle.lg_sela_items.specs.GoodItems.{Fine, IsGood, AreGood, IsGoodItem, GoodItemsAreAppendable}
 use Rattle.lg_sela_items.proofs.WithinLemmas.{Within}
 
 -- ---- instructions
 pub good-append : (xs ys : List Instr) → AreGood xs → AreGood ys → AreGood (xs ++ ys)
-good-append [] ys h k = k
-good-append (x ∷ xs) ys h k = (h.0, good-append xs ys h.1 k)
+good-append = lists.each-append IsGood
 
 pub within-of : (is : List Instr) → AreGood is → Within is
-within-of [] h = tt
-within-of (i ∷ is) h = (h.0.1, within-of is h.1)
+within-of = lists.each-weaker IsGood WritesWithin (λ i h. h.1)
 
 -- the link, x30
 pub link-fine : Fine 30
@@ -50,19 +49,17 @@ number-good rd v h = by (nat_lt (complement v) (2 ^ 32)) (v / 2 ^ 16 % 2 ^ 16 ==
     )
 
 -- ---- items
-fit-of : (xs : List Item) → Each IsGoodItem xs → AreItems xs
-fit-of [] h = tt
-fit-of (One i ∷ xs) h = (h.0.0, fit-of xs h.1)
-fit-of (Branch op label ∷ xs) h = absurd h.0
-fit-of (CondBranch cond label ∷ xs) h = absurd h.0
-fit-of (Address rd label ∷ xs) h = (h.0.0, fit-of xs h.1)
+fit : (x : Item) → IsGoodItem x → IsItem x
+fit (One i) h = h.0
+fit (Branch op label) h = absurd h
+fit (CondBranch cond label) h = absurd h
+fit (Address rd label) h = h.0
 
-stay-of : (xs : List Item) → Each IsGoodItem xs → StayWithin xs
-stay-of [] h = tt
-stay-of (One i ∷ xs) h = (h.0.1, stay-of xs h.1)
-stay-of (Branch op label ∷ xs) h = absurd h.0
-stay-of (CondBranch cond label ∷ xs) h = absurd h.0
-stay-of (Address rd label ∷ xs) h = (h.0.1, stay-of xs h.1)
+stay : (x : Item) → IsGoodItem x → StaysWithin x
+stay (One i) h = h.1
+stay (Branch op label) h = absurd h
+stay (CondBranch cond label) h = absurd h
+stay (Address rd label) h = h.1
 
 follow : (x : Item) (to : ℕ → ℕ) (at : ℕ) → IsGoodItem x → Each (λ i. is_straight i ≡ true) (settle to at x)
 follow (One i) to at h = (h.2, tt)
@@ -71,15 +68,10 @@ follow (CondBranch cond label) to at h = absurd h
 follow (Address rd label) to at h = (refl, (refl, tt))
 
 pub good-items-are-appendable : GoodItemsAreAppendable
-good-items-are-appendable items h = record {
-  fit = fit-of items h;
-  within = stay-of items h;
-  block = λ to at. good-items-are-blocks a64_holes is_straight IsGoodItem follow items h to at;
-}
+good-items-are-appendable = good_items.good-items-are-appendable a64_holes is_straight IsItem StaysWithin IsGoodItem fit stay follow
 
 pub ones-good : (is : List Instr) → AreGood is → Each IsGoodItem (ones is)
-ones-good [] h = tt
-ones-good (i ∷ is) h = (h.0, ones-good is h.1)
+ones-good = lists.each-ones IsGoodItem One IsGood (λ i h. h)
 
 pub items-good : (xs ys : List Item) → Each IsGoodItem xs → Each IsGoodItem ys → Each IsGoodItem (xs ++ ys)
-items-good = each-append IsGoodItem
+items-good = lists.each-append IsGoodItem

@@ -1,7 +1,6 @@
 -- Lists of items.
 use Rattle.std.proofs.Common.{◌≡◌, ℕ, ◌+◌, List, [], ◌∷◌, ◌++◌, length, refl, ap, ◌∙◌, arith}
 use Rattle.std.specs.List.{All}
-use Rattle.std.proofs.lemmas.List.Elements.{All-head, All-tail}
 use Rattle.lg_a64.specs.declared.instruction.Instr.{Instr}
 use Rattle.lg_a64.specs.Spelling.{IsInstr}
 use Rattle.lg_sel_items.proofs.ListLemmas as lists
@@ -47,9 +46,7 @@ pub fixes-ones : (p : ℕ) (is : List Instr) → fixes_of p (ones is) ≡ []
 fixes-ones = lists.fixes-ones a64_holes One (λ p i. refl)
 
 pub items-ones : (is : List Instr) → All IsInstr is → AreItems (ones is)
-items-ones [] fit = tt
-items-ones (i ∷ is) fit = (All-head IsInstr i is fit, items-ones is (All-tail IsInstr i is fit))
+items-ones = lists.all-ones IsItem One IsInstr (λ i h. h)
 
 pub names-ones : (labels : ℕ) (is : List Instr) → NameLabels labels (ones is)
-names-ones labels [] = tt
-names-ones labels (i ∷ is) = (tt, names-ones labels is)
+names-ones labels = lists.any-ones (NamesOneOf labels) One (λ i. tt)

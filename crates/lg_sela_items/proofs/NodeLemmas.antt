@@ -1,8 +1,7 @@
 -- The items of a node as a block of instructions.
 use Rattle.std.proofs.Common.{◌≡◌, ℕ, ◌+◌, ◌<◌, true, List, [], ◌∷◌, length}
 use Rattle.std.specs.Prelude.{slice_get, slice_index}
-use Rattle.std.specs.List.{All, AllByRecursion}
-use Rattle.std.proofs.lemmas.List.Elements.{All-from_recursion}
+use Rattle.std.specs.List.{All}
 use Rattle.lg_carry.specs.Blocks.{spellings, IsBlock}
 use Rattle.lg_carry.specs.Carries.{leaps_at}
 use Rattle.lg_carry.specs.FinalNodes.{Code}
@@ -12,24 +11,25 @@ use Rattle.lg_carry_a64.specs.Places.{IsInCode}
 use Rattle.lg_carry_a64.proofs.OutsideLemmas.{instructions-stay}
 use Rattle.lg_carry_a64.specs.A64Rows.{a64_rows, is_straight}
 use Rattle.lg_a64.specs.Spelling.{spelling, IsInstr}
+use Rattle.lg_sel_items.proofs.GoodItemLemmas.{good-items-settle}
 use Rattle.lg_sel_items.proofs.HoleLemmas as holes
 use Rattle.lg_sel_items.proofs.NodeLemmas as nodes
+use Rattle.lg_sel_items.specs.GoodItems.{Settles}
 use Rattle.lg_sela_items.specs.declared.items.Item.{Item}
 use Rattle.lg_sela_items.specs.declared.items.Item.TheVariants.{One, Branch, CondBranch, Address}
-use Rattle.lg_sela_items.specs.Items.{a64_holes, IsItem, words_in, blanks, settled, AreItems, StayWithin}
+use Rattle.lg_sela_items.specs.Items.{a64_holes, IsItem, StaysWithin, words_in, blanks, settled, AreItems, StayWithin}
 use Rattle.lg_sela_items.specs.OfNodes.{AreOfNode}
 use Rattle.lg_sela_items.proofs.PatchLemmas.{are-holes}
 
 -- the instructions of items write no register that is outside, where none of the items does
-within : (to : ℕ → ℕ) (p : ℕ) (xs : List Item) → StayWithin xs → AllByRecursion WritesWithin (settled to p xs)
-within to p [] h = tt
-within to p (One i ∷ xs) h = (h.0, within to (p + 4) xs h.1)
-within to p (Branch op label ∷ xs) h = (h.0, within to (p + 4) xs h.1)
-within to p (CondBranch cond label ∷ xs) h = (tt, within to (p + 4) xs h.1)
-within to p (Address rd label ∷ xs) h = (h.0, (h.0, within to (p + 8) xs h.1))
+within : Settles a64_holes StaysWithin WritesWithin
+within (One i) to p h = (h, tt)
+within (Branch op label) to p h = (h, tt)
+within (CondBranch cond label) to p h = (tt, tt)
+within (Address rd label) to p h = (h, (h, tt))
 
 pub settled-within : (to : ℕ → ℕ) (p : ℕ) (xs : List Item) → StayWithin xs → All WritesWithin (settled to p xs)
-settled-within to p xs h = All-from_recursion WritesWithin (settled to p xs) (within to p xs h)
+settled-within to p xs h = good-items-settle a64_holes StaysWithin WritesWithin within xs h to p
 
 -- they have as many bytes as were emitted
 pub settled-bytes : (to : ℕ → ℕ) (p : ℕ) (xs : List Item) → AreItems xs → length (spellings spelling (settled to p xs)) ≡ length (blanks xs)

@@ -1,6 +1,6 @@
 -- Instructions and items that write no register that is outside of the conventions.
 use Rattle.std.proofs.Common.{◌≡◌, ℕ, ◌/◌, ◌%◌, ◌^◌, Bool, true, false, List, [], ◌∷◌, ◌++◌, refl}
-use Rattle.std.specs.Prelude.{⊤, ◌==◌, nat_lt, if◌then◌else◌}
+use Rattle.std.specs.Prelude.{◌==◌, nat_lt, if◌then◌else◌}
 use Rattle.lg_base.specs.declared.target.Target.TheVariants.{Aarch64}
 use Rattle.lg_carry.specs.Outside.{is_outside}
 use Rattle.lg_carry_a64.specs.Destinations.{WritesWithin}
@@ -11,8 +11,11 @@ use Rattle.lg_a64.specs.declared.instruction.Instr.{Instr}
 use Rattle.lg_a64.specs.declared.instruction.Instr.TheVariants.{Wide}
 use Rattle.lg_a64.specs.declared.instruction.WideOp.TheVariants.{Movn, Movk}
 use Rattle.lg_base.specs.Words.{complement}
+use Rattle.lg_sel_items.proofs.ListLemmas as lists
+use Rattle.lg_sel_items.specs.Holes.{Each}
 use Rattle.lg_sela_items.specs.declared.items.Item.{Item}
-use Rattle.lg_sela_items.specs.Items.{ones, StayWithin}
+use Rattle.lg_sela_items.specs.declared.items.Item.TheVariants.{One}
+use Rattle.lg_sela_items.specs.Items.{ones, StaysWithin, StayWithin}
 use Rattle.lg_temp.specs.Abis.{register_of}
 
 -- ---- registers
@@ -30,20 +33,16 @@ portable Fp = refl
 
 -- ---- lists
 abbrev pub Within : List Instr → Type 0
-Within [] = ⊤
-Within (i ∷ is) = WritesWithin i × Within is
+Within is = Each WritesWithin is
 
 pub join : (xs ys : List Instr) → Within xs → Within ys → Within (xs ++ ys)
-join [] ys a b = b
-join (x ∷ xs) ys a b = (a.0, join xs ys a.1 b)
+join = lists.each-append WritesWithin
 
 pub stay-append : (xs ys : List Item) → StayWithin xs → StayWithin ys → StayWithin (xs ++ ys)
-stay-append [] ys a b = b
-stay-append (x ∷ xs) ys a b = (a.0, stay-append xs ys a.1 b)
+stay-append = lists.each-append StaysWithin
 
 pub stay-ones : (is : List Instr) → Within is → StayWithin (ones is)
-stay-ones [] h = tt
-stay-ones (i ∷ is) h = (h.0, stay-ones is h.1)
+stay-ones = lists.each-ones StaysWithin One WritesWithin (λ i h. h)
 
 pub quarter : (rd part hw : ℕ) → In rd → Within (quarter_code rd part hw)
 quarter rd part hw h = by (part == 0)

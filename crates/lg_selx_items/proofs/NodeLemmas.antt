@@ -1,8 +1,7 @@
 -- The items of a node as a block of instructions.
 use Rattle.std.proofs.Common.{◌≡◌, ℕ, ◌+◌, ◌<◌, true, ℤ, List, [], ◌∷◌, length, refl}
 use Rattle.std.specs.Prelude.{slice_get, slice_index, pos, ◌-ℤ◌}
-use Rattle.std.specs.List.{All, AllByRecursion}
-use Rattle.std.proofs.lemmas.List.Elements.{All-from_recursion}
+use Rattle.std.specs.List.{All}
 use Rattle.lg_carry.specs.Blocks.{spellings, IsBlock}
 use Rattle.lg_carry.specs.Carries.{leaps_at}
 use Rattle.lg_carry.specs.FinalNodes.{Code}
@@ -13,13 +12,15 @@ use Rattle.lg_carry_x86.proofs.OutsideLemmas.{instructions-stay}
 use Rattle.lg_carry_x86.specs.X86Rows.{x86_rows, is_straight}
 use Rattle.lg_x86.specs.Spelling.{spelling, IsInstr}
 use Rattle.lg_x86.specs.declared.instruction.Instr.TheVariants.{Movi32}
+use Rattle.lg_sel_items.proofs.GoodItemLemmas.{good-items-settle}
 use Rattle.lg_sel_items.proofs.HoleLemmas as holes
 use Rattle.lg_sel_items.proofs.NodeLemmas as nodes
+use Rattle.lg_sel_items.specs.GoodItems.{Settles}
 use Rattle.lg_selx_items.specs.declared.items.Item.{Item}
 use Rattle.lg_selx_items.specs.declared.items.Item.TheVariants.{One, Jump, Address}
 use Rattle.lg_selx_items.specs.declared.items.JumpKind.{JumpKind}
 use Rattle.lg_selx_items.specs.declared.items.JumpKind.TheVariants.{Near, NearIf, Short, ShortIf}
-use Rattle.lg_selx_items.specs.Items.{x86_holes, jump_by, jump_size, IsItem, words_in, blanks, settled, AreItems, StayWithin}
+use Rattle.lg_selx_items.specs.Items.{x86_holes, jump_by, jump_size, IsItem, StaysWithin, words_in, blanks, settled, AreItems, StayWithin}
 use Rattle.lg_selx_items.specs.OfNodes.{AreOfNode}
 use Rattle.lg_selx_items.proofs.PatchLemmas.{are-holes}
 
@@ -31,14 +32,13 @@ jump-within Short z = tt
 jump-within (ShortIf cond) z = tt
 
 -- the instructions of items write no register that is outside, where none of the items does
-within : (to : ℕ → ℕ) (p : ℕ) (xs : List Item) → StayWithin xs → AllByRecursion WritesWithin (settled to p xs)
-within to p [] h = tt
-within to p (One i ∷ xs) h = (h.0, within to (p + length (spelling i)) xs h.1)
-within to p (Jump kind label ∷ xs) h = (jump-within kind (pos (to label) -ℤ pos (p + jump_size kind)), within to (p + length (spelling (jump_by kind (pos 0)))) xs h.1)
-within to p (Address reg label ∷ xs) h = ((h.0, tt), within to (p + length (spelling (Movi32 reg 0))) xs h.1)
+within : Settles x86_holes StaysWithin WritesWithin
+within (One i) to p h = (h, tt)
+within (Jump kind label) to p h = (jump-within kind (pos (to label) -ℤ pos (p + jump_size kind)), tt)
+within (Address reg label) to p h = ((h, tt), tt)
 
 pub settled-within : (to : ℕ → ℕ) (p : ℕ) (xs : List Item) → StayWithin xs → All WritesWithin (settled to p xs)
-settled-within to p xs h = All-from_recursion WritesWithin (settled to p xs) (within to p xs h)
+settled-within to p xs h = good-items-settle x86_holes StaysWithin WritesWithin within xs h to p
 
 -- they have as many bytes as were emitted
 pub settled-bytes : (to : ℕ → ℕ) (p : ℕ) (xs : List Item) → AreItems xs → length (spellings spelling (settled to p xs)) ≡ length (blanks xs)

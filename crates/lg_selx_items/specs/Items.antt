@@ -132,4 +132,4 @@ X86Holes = AreHoles x86_holes spelling IsInstr IsItem
 
 -- the instructions of two lists in a row
 abbrev pub WordsAppend : Type 0
-WordsAppend = (xs ys : List Item) → words_in (xs ++ ys) ≡ words_in xs + words_in ys
+WordsAppend = holes.WordsAppend x86_holes

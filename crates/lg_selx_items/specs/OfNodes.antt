@@ -16,11 +16,8 @@ use Rattle.lg_selx_items.specs.Items.{x86_holes, IsItem, words_in, settled}
 
 -- the code that the processor runs, in which the instructions of these items, with the addresses of the labels, are those of node i; they write no
 -- register that is outside of the conventions
-pub record AreOfNode (code : List ℕ) (trash : ℕ) (c : Code) (i : ℕ) (items : List Item) : Type 0 where
-  pub small : length code ≤ most_code
-  pub bytes : AreBytes code
-  pub word : trash < 2 ^ 64
-  pub of_node : node_items.AreOfNode x86_holes (x86_rows code trash) IsInstr WritesWithin IsItem c i items
+abbrev pub AreOfNode : List ℕ → ℕ → Code → ℕ → List Item → Type 0
+AreOfNode code trash c i items = node_items.AreInCode x86_holes (x86_rows code trash) IsInstr WritesWithin IsItem trash c i items
 
 -- they are the code of the node, of which a branch, jump, call or return has some
 abbrev pub ItemsAreNodeCode : Type 0

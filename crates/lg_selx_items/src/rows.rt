@@ -3,11 +3,18 @@
 ghost use Rattle.std.specs.Prelude.{◌≡◌};
 ghost use Rattle.lg_base.specs.declared.target.Target.TheVariants.{X86_64};
 ghost use Rattle.lg_temp.specs.Abis.{register_of};
+ghost use Rattle.lg_x86.specs.declared.instruction.LoadOp.TheVariants.{Lea};
 
 use lg_base::target::Target;
 use lg_op::Reg;
 use lg_temp::abi::Abi;
-use lg_x86::{Instr, RmRegOp};
+use lg_x86::{Instr, LoadOp, RmRegOp};
+
+/// The stack pointer, rsp.
+pub const STACK_POINTER: u8 = 4;
+
+/// FP, rbp.
+pub const FRAME_POINTER: u8 = 5;
 
 /// `rm` gets what the row makes of it and of another register.
 pub fn row(op: RmRegOp, rm: u8, reg: u8) -> Instr
@@ -21,6 +28,18 @@ pub fn mov(to: u8, from: u8) -> Instr
     ensures { result ≡ Instr.RmReg (RmRegOp.Mov) to from }
 {
     row(RmRegOp::Mov, to, from)
+}
+
+/// `reg` gets the address that lies `disp` bytes from the word of `base`; no flag changes.
+pub fn lea(reg: u8, base: u8, disp: i32) -> Instr
+    ensures { result ≡ Instr.Load Lea reg base disp }
+{
+    Instr::Load {
+        op: LoadOp::Lea,
+        reg,
+        base,
+        disp,
+    }
 }
 
 /// The register that stands for a portable one, by the calling convention of x86-64.
