@@ -12,7 +12,7 @@ use Rattle.lg_a64.specs.declared.instruction.UnscaledOp.TheVariants.{Ldur, Stur}
 use Rattle.lg_cpu.specs.Laws.{AreBytes}
 use Rattle.lg_cpu.specs.Steps.{Run, after, on_going, machine}
 use Rattle.lg_cpu.specs.States.{CpuState}
-use Rattle.lg_cpu.specs.A64Operators.{negative_flag, zero_flag, carry_flag, overflow_flag}
+use Rattle.lg_base.specs.Flags.{negative_flag, zero_flag, carry_flag, overflow_flag}
 use Rattle.lg_cpu.specs.A64Step.{act, effect}
 use Rattle.lg_carry.specs.Processors.{Seen, Processor}
 use Rattle.lg_carry.specs.Rows.{Rows, AreRows}

@@ -1,7 +1,7 @@
 -- What instructions write, and where they go on.
 use Rattle.std.proofs.Common.{◌≡◌, ℕ, Bool, true, false, [], Option, Some, None, refl}
 use Rattle.std.specs.Prelude.{is_some, IfSome, if◌then◌else◌}
-use Rattle.lg_base.specs.CarryFlags.{carry_of}
+use Rattle.lg_base.specs.Flags.{carry_of}
 use Rattle.lg_base.specs.Fields.{word_of}
 use Rattle.lg_base.specs.Spaces.{mapped, loaded, stored}
 use Rattle.lg_base.specs.Words.{add_words, sub_words}

@@ -7,7 +7,7 @@ use Rattle.lg_base.specs.Spaces.{mapped, loaded, stored}
 use Rattle.lg_base.specs.Parts.{args_base}
 use Rattle.lg_base.specs.Layout.{stop_address, code_base, stack_end, return_word}
 use Rattle.lg_base.specs.HostNames.{host_by_address}
-use Rattle.lg_base.specs.CarryFlags.{carry_of}
+use Rattle.lg_base.specs.Flags.{carry_of}
 use Rattle.lg_base.specs.declared.flags.Flags.{Flags}
 use Rattle.lg_base.specs.declared.target.Target.TheVariants as target
 use Rattle.lg_base.specs.declared.fault.FaultKind.{FaultKind}

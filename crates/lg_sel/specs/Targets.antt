@@ -5,7 +5,7 @@ use Rattle.lg_base.specs.declared.flags.Flags.TheVariants.{NoFlags, Nzcv}
 use Rattle.lg_base.specs.declared.target.Target.{Target}
 use Rattle.lg_base.specs.declared.target.Target.TheVariants.{X86_64, Aarch64, Riscv64}
 use Rattle.lg_carry.specs.Processors.{Seen, Processor}
-use Rattle.lg_cpu.specs.A64Operators.{negative_flag, zero_flag, carry_flag, overflow_flag}
+use Rattle.lg_base.specs.Flags.{negative_flag, zero_flag, carry_flag, overflow_flag}
 use Rattle.lg_cpu.specs.States.{CpuState}
 use Rattle.lg_cpu.specs.Steps.{Run}
 use Rattle.lg_cpu.specs.Targets.{machine_of}

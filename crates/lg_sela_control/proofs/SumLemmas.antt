@@ -5,7 +5,8 @@ use Rattle.lg_base.specs.Words.{add_words, sub_words, sum_overflows, difference_
 use Rattle.lg_op.specs.declared.op.BranchSumOp.{BranchSumOp}
 use Rattle.lg_op.specs.declared.op.BranchSumOp.TheVariants as sum
 use Rattle.lg_operators.specs.Operators.{branch_sum_value, branch_sum_goes}
-use Rattle.lg_cpu.specs.A64Operators.{holds, sum_of, sum_leaves, difference_leaves, overflow_flag, carry_flag, sum_flags, difference_flags}
+use Rattle.lg_cpu.specs.A64Operators.{holds, sum_of, sum_leaves, difference_leaves, sum_flags, difference_flags}
+use Rattle.lg_base.specs.Flags.{overflow_flag, carry_flag}
 use Rattle.lg_cpu.specs.A64Step.{read, write}
 use Rattle.lg_carry_a64.specs.Computations.{all_compute, computed_by}
 use Rattle.lg_carry_a64.proofs.HeldLemmas.{read-is}

@@ -1,7 +1,7 @@
 -- What the code of the operations on two words computes.
 use Rattle.std.proofs.Common.{◌≡◌, ◌≢◌, ℕ, ◌+◌, ◌*◌, ◌%◌, ◌^◌, ◌<◌, Bool, true, false, Some, refl, sym, ap, ◌∙◌, arith, length}
 use Rattle.std.specs.Prelude.{◌==◌, ◌||◌, not, if◌then◌else◌, ⊤}
-use Rattle.lg_base.specs.CarryFlags.{carry_of}
+use Rattle.lg_base.specs.Flags.{carry_of, carry_flag}
 use Rattle.lg_base.specs.Words.{add_words, mul_words, sub_words, quotient, quotient_signed, remainder, remainder_signed, is_less, is_less_signed, word_of_test, shifted_left, shifted_right, shifted_right_signed, carry_out, borrow_out}
 use Rattle.lg_base.specs.declared.target.Target.TheVariants.{Aarch64}
 use Rattle.lg_op.specs.declared.op.BinaryOp.{BinaryOp}
@@ -13,7 +13,7 @@ use Rattle.lg_meaning.specs.Steps.{bit_word}
 use Rattle.lg_a64.specs.declared.instruction.RegOp.TheVariants as row
 use Rattle.lg_a64.specs.declared.instruction.Cond.{Cond}
 use Rattle.lg_cpu.specs.HostSteps.{put}
-use Rattle.lg_cpu.specs.A64Operators.{carry_flag, reg_value, divided, divided_signed, difference_flags, sum_flags, csinc_value, holds, sum_of, difference_of, carry_word, borrow_word}
+use Rattle.lg_cpu.specs.A64Operators.{reg_value, divided, divided_signed, difference_flags, sum_flags, csinc_value, holds, sum_of, difference_of, carry_word, borrow_word}
 use Rattle.lg_cpu.specs.A64Step.{read, write}
 use Rattle.lg_carry.specs.Registers.{HoldsCarry}
 use Rattle.lg_sel_values.specs.Computers.{Held}

@@ -2,7 +2,7 @@
 use Rattle.std.proofs.Common.{◌≡◌, ◌≢◌, ℕ, ◌+◌, ◌-◌, ◌*◌, ◌/◌, ◌%◌, ◌^◌, ◌<◌, Bool, true, false, List, [], ◌∷◌, ◌++◌, Option, Some, refl, sym, ap, subst, ◌∙◌, arith}
 use Rattle.std.specs.Prelude.{◌==◌, ◌||◌, not, if◌then◌else◌, bit_and, bit_or, bit_xor}
 use Rattle.std.specs.Option.{option_and_then}
-use Rattle.lg_base.specs.Words.{add_words, sub_words, mul_words, negated, signed_view, word_of_test, quotient, remainder, quotient_signed, remainder_signed, shifted_left, shifted_right, shifted_right_signed}
+use Rattle.lg_base.specs.Words.{add_words, sub_words, mul_words, negated, signed_view, word_of_test, quotient, remainder, quotient_signed, remainder_signed, shifted_left, shifted_right, shifted_right_signed, is_half}
 use Rattle.lg_base.specs.Wide.{zero_part_of, quotient_wide, quotient_wide_signed}
 use Rattle.lg_base.specs.declared.flags.Flags.{Flags}
 use Rattle.lg_op.specs.declared.op.BinaryOp.{BinaryOp}
@@ -13,7 +13,7 @@ use Rattle.lg_x86.specs.declared.instruction.Cond.{Cond}
 use Rattle.lg_x86.specs.declared.instruction.Cond.TheVariants as cond
 use Rattle.lg_x86.specs.declared.instruction.ImmOp.{ImmOp}
 use Rattle.lg_x86.specs.declared.instruction.ImmOp.TheVariants as imm
-use Rattle.lg_base.specs.CarryFlags.{carry_of}
+use Rattle.lg_base.specs.Flags.{carry_of}
 use Rattle.lg_x86.specs.declared.instruction.Instr.{Instr}
 use Rattle.lg_x86.specs.declared.instruction.Instr.TheVariants.{RmReg, Imm, RegRm, Unary, Shift, Set, Bare, Movi32}
 use Rattle.lg_x86.specs.declared.instruction.RegRmOp.TheVariants.{Imul, Ext8u}
@@ -29,7 +29,7 @@ use Rattle.lg_sel_nodes.specs.Straight.{is_taken}
 use Rattle.lg_sel_values.specs.Computers.{Held}
 use Rattle.lg_carry_x86.specs.MakingNodes.{scene}
 use Rattle.lg_carry_x86.specs.Makings.{makes}
-use Rattle.lg_carry_x86.specs.Numbers.{is_half, number_row}
+use Rattle.lg_carry_x86.specs.Numbers.{number_row}
 use Rattle.lg_carry_x86.proofs.NumberCodeLemmas.{view-word, row-loads}
 use Rattle.lg_selx_values.specs.BinaryCode.{with_number, answer, compared_number, shifted_number, divided_number, number_form_code}
 use Rattle.lg_selx_values.specs.NumberWords.{number_spoils, NumbersAreMade}

@@ -2,7 +2,8 @@
 // number's length say that the bytes are its spelling.
 
 ghost use Rattle.std.specs.Prelude.{◌≡◌, ◌≤◌, ◌+◌, ◌++◌, ◌==◌, ◌&&◌, not, ℕ, List, length, Some, IfSome, IfNone};
-ghost use Rattle.lg_x86.specs.Spelling.{IsInstr, BeginsWith, spelling};
+ghost use Rattle.lg_base.specs.Fronts.{BeginsWith};
+ghost use Rattle.lg_x86.specs.Spelling.{IsInstr, spelling};
 ghost use Rattle.lg_x86.specs.Reading.{checked, front_of, guess_of, accepted, is_wide, is_wide_one, is_plain_one, is_low_one, is_marked, is_low, is_memory, memory_length};
 ghost use Rattle.lg_x86.specs.Reading.{read_of, read_sized, read_code, read_short, read_escaped, read_reg, read_rm, read_imm, read_movi, read_lea};
 ghost use Rattle.lg_x86.specs.Reading.{mark_in, has_registers, rm_reg_of, imm_of, reg_rm_of, load_of, store_of, lea_of, movi_of, movs_of, unary_of, shift_of, bswap_of, stack_of, jump_if_short_of, jump_if_near_of, set_of, jump_short_of, jump_near_of, jump_reg_of, bare_of};
@@ -24,8 +25,8 @@ pub fn decode(bytes: &[u8]) -> Option<(Instr, u32)>
     // whatever follows its spelling, an instruction is read as itself
     ensures again { (i : Instr) (more : List ℕ) → IsInstr i → bytes.now ≡ spelling i ++ more → result ≡ Some (i, length (spelling i)) }
     // what is read is spelled by the bytes in front
-    ensures front { IfSome result (λ found. BeginsWith bytes.now found.0 × (found.1 ≡ length (spelling found.0))) }
-    ensures none { IfNone result ((i : Instr) → BeginsWith bytes.now i → ⊥) }
+    ensures front { IfSome result (λ found. BeginsWith spelling IsInstr bytes.now found.0 × (found.1 ≡ length (spelling found.0))) }
+    ensures none { IfNone result ((i : Instr) → BeginsWith spelling IsInstr bytes.now i → ⊥) }
     ensures value { result ≡ front_of bytes.now }
 {
     decode_front(bytes)

@@ -2,7 +2,8 @@
 
 ghost use Rattle.std.specs.Prelude.{◌≡◌, ◌<◌, ◌≤◌, ◌*◌, ◌^◌};
 ghost use Rattle.lg_base.specs.Words.{word_of_test, differ, is_negative, carry_out, borrow_out};
-ghost use Rattle.lg_cpu.specs.A64Operators.{negative_flag, zero_flag, carry_flag, overflow_flag, result_flags, sum_leaves, difference_leaves};
+ghost use Rattle.lg_cpu.specs.A64Operators.{result_flags, sum_leaves, difference_leaves};
+ghost use Rattle.lg_base.specs.Flags.{negative_flag, zero_flag, carry_flag, overflow_flag};
 ghost use Rattle.lg_cpu.specs.A64Operators.{sum_of, difference_of, sum_flags, difference_flags, carry_word, borrow_word, holds, divided, divided_signed};
 ghost use Rattle.lg_cpu.specs.A64Operators.{reg_value, reg_flags, imm_number, imm_value, imm_flags, quarter, replaced, wide_value, mul_add_value};
 ghost use Rattle.lg_cpu.specs.A64Operators.{csinc_value, reverse_value};
@@ -11,13 +12,13 @@ ghost use Rattle.lg_a64.specs.declared.instruction.ReverseOp.{ReverseOp};
 use lg_a64::{Cond, ImmOp, MulAddOp, RegOp, ReverseOp, WideOp};
 use lg_base::flags::Flags;
 use lg_base::wide::{mul_high, mul_high_u, swap_bytes};
-use lg_base::word::{divide_signed, shift_right_signed};
+use lg_base::word::{SIGN_BIT, divide_signed, shift_right_signed};
 
 // The highest bit.
 fn is_negative(a: u64) -> bool
     ensures { result ≡ is_negative a }
 {
-    a >= 0x8000_0000_0000_0000
+    a >= SIGN_BIT
 }
 
 // N, Z, C and V; the flags of other processors read as 0.
@@ -25,7 +26,7 @@ fn negative_flag(flags: Flags) -> bool
     ensures { result ≡ negative_flag flags }
 {
     match flags {
-        Flags::Nzcv(negative, _, _, _) => negative,
+        Flags::Nzcv { negative, .. } => negative,
         _ => false,
     }
 }
@@ -34,7 +35,7 @@ fn zero_flag(flags: Flags) -> bool
     ensures { result ≡ zero_flag flags }
 {
     match flags {
-        Flags::Nzcv(_, zero, _, _) => zero,
+        Flags::Nzcv { zero, .. } => zero,
         _ => false,
     }
 }
@@ -43,7 +44,7 @@ fn carry_flag(flags: Flags) -> bool
     ensures { result ≡ carry_flag flags }
 {
     match flags {
-        Flags::Nzcv(_, _, carry, _) => carry,
+        Flags::Nzcv { carry, .. } => carry,
         _ => false,
     }
 }
@@ -52,7 +53,7 @@ fn overflow_flag(flags: Flags) -> bool
     ensures { result ≡ overflow_flag flags }
 {
     match flags {
-        Flags::Nzcv(_, _, _, overflow) => overflow,
+        Flags::Nzcv { overflow, .. } => overflow,
         _ => false,
     }
 }
@@ -61,7 +62,12 @@ fn overflow_flag(flags: Flags) -> bool
 fn result_flags(word: u64, carry: bool, overflow: bool) -> Flags
     ensures { result ≡ result_flags word carry overflow }
 {
-    Flags::Nzcv(is_negative(word), word == 0, carry, overflow)
+    Flags::Nzcv {
+        negative: is_negative(word),
+        zero: word == 0,
+        carry,
+        overflow,
+    }
 }
 
 fn sum_leaves(a: u64, b: u64, sum: u64) -> bool

@@ -24,12 +24,12 @@ fn trash_registers(trash: u64) -> [u64; 32]
 pub(crate) fn trash_flags(trash: u64) -> Flags
     ensures { result ≡ trash_flags trash }
 {
-    Flags::Nzcv(
-        trash / 8 % 2 == 1,
-        trash / 4 % 2 == 1,
-        trash / 2 % 2 == 1,
-        trash % 2 == 1,
-    )
+    Flags::Nzcv {
+        negative: trash / 8 % 2 == 1,
+        zero: trash / 4 % 2 == 1,
+        carry: trash / 2 % 2 == 1,
+        overflow: trash % 2 == 1,
+    }
 }
 
 // The registers at the start of a run with so many arguments.
