@@ -17,12 +17,12 @@ use lg_base::word::word_in_front;
 /// no word of the table, or there are fewer than 4.
 #[inline(always)]
 pub fn decode(bytes: &[u8]) -> Option<(Instr, u32)>
+    ensures value { result ≡ front_of bytes.now }
     // whatever follows its spelling, an instruction is read as itself
     ensures again { (i : Instr) (more : List ℕ) → IsInstr i → bytes.now ≡ spelling i ++ more → result ≡ Some (i, length (spelling i)) }
     // what is read is spelled by the bytes in front
     ensures front { IfSome result (λ found. BeginsWith spelling IsInstr bytes.now found.0 × (found.1 ≡ length (spelling found.0))) }
     ensures none { IfNone result ((i : Instr) → BeginsWith spelling IsInstr bytes.now i → ⊥) }
-    ensures value { result ≡ front_of bytes.now }
 {
     decode_front(bytes)
 }
