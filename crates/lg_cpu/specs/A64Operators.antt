@@ -55,21 +55,21 @@ abbrev pub borrow_word : Flags → ℕ
 borrow_word f = word_of_test (not (carry_flag f))
 
 -- whether a condition holds
-abbrev pub holds : Cond → Flags → Bool
-holds Eq f = zero_flag f
-holds Ne f = not (zero_flag f)
-holds Cs f = carry_flag f
-holds Cc f = not (carry_flag f)
-holds Mi f = negative_flag f
-holds Pl f = not (negative_flag f)
-holds Vs f = overflow_flag f
-holds Vc f = not (overflow_flag f)
-holds Hi f = carry_flag f && not (zero_flag f)
-holds Ls f = not (carry_flag f && not (zero_flag f))
-holds Ge f = not (differ (negative_flag f) (overflow_flag f))
-holds Lt f = differ (negative_flag f) (overflow_flag f)
-holds Gt f = not (zero_flag f) && not (differ (negative_flag f) (overflow_flag f))
-holds Le f = not (not (zero_flag f) && not (differ (negative_flag f) (overflow_flag f)))
+abbrev pub condition_holds : Cond → Flags → Bool
+condition_holds Eq f = zero_flag f
+condition_holds Ne f = not (zero_flag f)
+condition_holds Cs f = carry_flag f
+condition_holds Cc f = not (carry_flag f)
+condition_holds Mi f = negative_flag f
+condition_holds Pl f = not (negative_flag f)
+condition_holds Vs f = overflow_flag f
+condition_holds Vc f = not (overflow_flag f)
+condition_holds Hi f = carry_flag f && not (zero_flag f)
+condition_holds Ls f = not (carry_flag f && not (zero_flag f))
+condition_holds Ge f = not (differ (negative_flag f) (overflow_flag f))
+condition_holds Lt f = differ (negative_flag f) (overflow_flag f)
+condition_holds Gt f = not (zero_flag f) && not (differ (negative_flag f) (overflow_flag f))
+condition_holds Le f = not (not (zero_flag f) && not (differ (negative_flag f) (overflow_flag f)))
 
 -- ---- three registers
 -- by zero the quotient is 0

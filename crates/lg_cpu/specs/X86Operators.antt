@@ -177,18 +177,18 @@ abbrev pub either : Bool → Bool → Bool
 either a b = a || b
 
 -- a condition is undefined where a flag that it names is
-abbrev pub condition : Cond → Flags → Option Bool
-condition cond.Overflow f = overflow_of f
-condition cond.NoOverflow f = turned (overflow_of f)
-condition cond.Below f = carry_of f
-condition cond.AboveOrEqual f = turned (carry_of f)
-condition cond.Equal f = zero_of f
-condition cond.NotEqual f = turned (zero_of f)
-condition cond.BelowOrEqual f = both either (carry_of f) (zero_of f)
-condition cond.Above f = turned (both either (carry_of f) (zero_of f))
-condition cond.Sign f = sign_of f
-condition cond.NoSign f = turned (sign_of f)
-condition cond.Less f = both differ (sign_of f) (overflow_of f)
-condition cond.GreaterOrEqual f = turned (both differ (sign_of f) (overflow_of f))
-condition cond.LessOrEqual f = both either (zero_of f) (both differ (sign_of f) (overflow_of f))
-condition cond.Greater f = turned (both either (zero_of f) (both differ (sign_of f) (overflow_of f)))
+abbrev pub condition_holds : Cond → Flags → Option Bool
+condition_holds cond.Overflow f = overflow_of f
+condition_holds cond.NoOverflow f = turned (overflow_of f)
+condition_holds cond.Below f = carry_of f
+condition_holds cond.AboveOrEqual f = turned (carry_of f)
+condition_holds cond.Equal f = zero_of f
+condition_holds cond.NotEqual f = turned (zero_of f)
+condition_holds cond.BelowOrEqual f = both either (carry_of f) (zero_of f)
+condition_holds cond.Above f = turned (both either (carry_of f) (zero_of f))
+condition_holds cond.Sign f = sign_of f
+condition_holds cond.NoSign f = turned (sign_of f)
+condition_holds cond.Less f = both differ (sign_of f) (overflow_of f)
+condition_holds cond.GreaterOrEqual f = turned (both differ (sign_of f) (overflow_of f))
+condition_holds cond.LessOrEqual f = both either (zero_of f) (both differ (sign_of f) (overflow_of f))
+condition_holds cond.Greater f = turned (both either (zero_of f) (both differ (sign_of f) (overflow_of f)))

@@ -4,7 +4,7 @@ ghost use Rattle.std.specs.Prelude.{◌≡◌, ◌<◌, ◌≢◌};
 ghost use Rattle.lg_base.specs.Words.{carry_out, borrow_out, differ};
 ghost use Rattle.lg_cpu.specs.X86Operators.{overflow_of, zero_of, sign_of, no_flags, flags_of, bit, overflows_sum, overflows_difference};
 ghost use Rattle.lg_cpu.specs.X86Operators.{sum_flags, difference_flags, bit_flags, product_flags, reg_rm_flags, negation_flags};
-ghost use Rattle.lg_cpu.specs.X86Operators.{last_out, shift_overflow, shift_flags, turned, both, either, condition};
+ghost use Rattle.lg_cpu.specs.X86Operators.{last_out, shift_overflow, shift_flags, turned, both, either, condition_holds};
 
 use crate::x86_64::operators::{needs_high_signed, shift_value};
 use lg_base::flags::Flags;
@@ -223,8 +223,8 @@ fn differ(a: Option<bool>, b: Option<bool>) -> Option<bool>
 }
 
 /// Whether a condition holds, and None where a flag that it names is undefined.
-pub fn condition(cond: Cond, flags: Flags) -> Option<bool>
-    ensures { result ≡ condition cond flags }
+pub fn condition_holds(cond: Cond, flags: Flags) -> Option<bool>
+    ensures { result ≡ condition_holds cond flags }
 {
     match cond {
         Cond::Overflow => overflow_of(flags),
