@@ -6,7 +6,7 @@ ghost use Rattle.lg_buf.specs.FixFields.{fix_len};
 ghost use Rattle.lg_buf.specs.Fixing.{Fits, Patched};
 ghost use Rattle.lg_buf.specs.Buffers.{AreApart, AreDone, EndsWithin, IsReady, place_of, place_or_zero};
 
-use crate::fixes::{Fix, FixKind, CodeLabel};
+use crate::fixes::{CodeLabel, Fix, FixKind};
 use crate::patches;
 use crate::store::Store;
 use lg_base::code::{CodeBytes, Places};

@@ -6,7 +6,7 @@ ghost use Rattle.lg_buf.specs.FixFields.{fix_len};
 ghost use Rattle.lg_buf.specs.Fixing.{Fits, Patched};
 ghost use Rattle.lg_buf.specs.Buffers.{AreSound, AreDone, IsReady, place_of};
 
-use crate::fixes::{Fix, FixKind, CodeLabel};
+use crate::fixes::{CodeLabel, Fix, FixKind};
 use crate::store::Store;
 use crate::words::{
     distance, far_distance, with_branch, with_branch_26, with_cond_19, with_immediate, with_jump,
