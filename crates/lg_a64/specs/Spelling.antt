@@ -65,7 +65,3 @@ IsInstr (Branch op words) = (negsuc 33554431 ≤ℤ words) × (words ≤ℤ pos 
 IsInstr (BranchIf cond words) = (negsuc 262143 ≤ℤ words) × (words ≤ℤ pos 262143)
 IsInstr (BranchReg op rn) = rn < 32
 IsInstr Nop = Unit {0}
-
--- the bytes begin with the spelling of an instruction
-abbrev pub BeginsWith : List ℕ → Instr → Type 0
-BeginsWith bytes i = IsInstr i × (more : List ℕ) × (bytes ≡ spelling i ++ more)

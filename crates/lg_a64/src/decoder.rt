@@ -1,8 +1,8 @@
 // From bytes to instructions.
 
-ghost use Rattle.std.specs.Prelude.{◌≡◌, ◌≤◌, ◌++◌, ℕ, List, length, take, Some, IfSome, IfNone};
-ghost use Rattle.std.specs.Int.{w32, from_le_bytes};
-ghost use Rattle.lg_a64.specs.Spelling.{IsInstr, BeginsWith, spelling};
+ghost use Rattle.std.specs.Prelude.{◌≡◌, ◌≤◌, ◌++◌, ℕ, List, length, Some, IfSome, IfNone};
+ghost use Rattle.lg_base.specs.Fronts.{BeginsWith};
+ghost use Rattle.lg_a64.specs.Spelling.{IsInstr, spelling};
 ghost use Rattle.lg_base.specs.WordFronts.{word_front};
 ghost use Rattle.lg_a64.specs.Reading.{front_of, instr_of, reg_of, imm_of, wide_of, mul_add_of, bitfield_of, csinc_of, reverse_of, scaled_of, ldrx_of, unscaled_of, branch_of, branch_if_of, branch_reg_of, nop_of, reg_fixed, imm_fixed, mul_add_fixed, bitfield_fixed, select_fixed, reverse_fixed, branch_fixed, branch_if_fixed, branch_reg_fixed};
 
@@ -17,6 +17,7 @@ use crate::instruction::{
 use crate::rows::{BRANCH_IF, CSINC, LDRX, NOP};
 use lg_base::field::Field;
 use lg_base::number::from_bits;
+use lg_base::word::word_in_front;
 
 /// The instruction that the bytes begin with, and its length, 4. `None` where the first 4 bytes are
 /// no word of the table, or there are fewer than 4.
@@ -25,8 +26,8 @@ pub fn decode(bytes: &[u8]) -> Option<(Instr, u32)>
     // whatever follows its spelling, an instruction is read as itself
     ensures again { (i : Instr) (more : List ℕ) → IsInstr i → bytes.now ≡ spelling i ++ more → result ≡ Some (i, length (spelling i)) }
     // what is read is spelled by the bytes in front
-    ensures front { IfSome result (λ found. BeginsWith bytes.now found.0 × (found.1 ≡ length (spelling found.0))) }
-    ensures none { IfNone result ((i : Instr) → BeginsWith bytes.now i → ⊥) }
+    ensures front { IfSome result (λ found. BeginsWith spelling IsInstr bytes.now found.0 × (found.1 ≡ length (spelling found.0))) }
+    ensures none { IfNone result ((i : Instr) → BeginsWith spelling IsInstr bytes.now i → ⊥) }
 {
     decode_front(bytes)
 }
@@ -40,14 +41,6 @@ fn decode_front(bytes: &[u8]) -> Option<(Instr, u32)>
     }
     let instr = decode_word(word_in_front(bytes))?;
     Some((instr, 4))
-}
-
-// The word of the first four bytes. In a function of its own it becomes one load.
-fn word_in_front(bytes: &[u8]) -> u32
-    requires { 4 ≤ length bytes.now }
-    ensures { result ≡ from_le_bytes w32 (take 4 bytes.now) }
-{
-    u32::from_le_bytes([bytes[0], bytes[1], bytes[2], bytes[3]])
 }
 
 #[tactic(auto, unfolding(crate::specs::Reading::instr_at))]

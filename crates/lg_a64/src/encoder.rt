@@ -110,7 +110,7 @@ fn csinc_word(rd: u8, rn: u8, rm: u8, cond: Cond) -> u32
 {
     let word = Rd::put(CSINC, rd as u32);
     let word = Rn::put(word, rn as u32);
-    let word = SelectCond::put(word, cond.number());
+    let word = SelectCond::put(word, u32::from(cond.number()));
     Rm::put(word, rm as u32)
 }
 
@@ -160,7 +160,7 @@ fn branch_if_word(cond: Cond, words: i32) -> u32
     requires { IsInstr (Instr.BranchIf cond words) }
     ensures { result ≡ word_of (Instr.BranchIf cond words) }
 {
-    let word = BranchCond::put(BRANCH_IF, cond.number());
+    let word = BranchCond::put(BRANCH_IF, u32::from(cond.number()));
     Imm19::put(word, to_bits(words, 1 << 18))
 }
 

@@ -425,7 +425,7 @@ impl BranchRegOp {
 
 impl Cond {
     /// The condition's number in words: 0 to 13.
-    pub fn number(self) -> u32
+    pub fn number(self) -> u8
         ensures same { result ≡ (cond_row self).word }
         ensures fits { result < 14 }
     {

@@ -1,8 +1,9 @@
 pub mod Arguments
-pub mod CarryFlags
 pub mod Conventions
 pub mod Faults
 pub mod Fields
+pub mod Flags
+pub mod Fronts
 pub mod HostNames
 pub mod Immediates
 pub mod Layout

@@ -104,3 +104,7 @@ sign_32 a = let low = a % 2 ^ 32 in if nat_lt low (2 ^ 31) then low else low + (
 
 abbrev pub zero_32 : ℕ → ℕ
 zero_32 a = a % 2 ^ 32
+
+-- the signed view has 32 bits: it is from -2 ^ 31 to 2 ^ 31 - 1
+abbrev pub is_half : ℕ → Bool
+is_half v = nat_lt ((v + 2 ^ 31) % 2 ^ 64) (2 ^ 32)

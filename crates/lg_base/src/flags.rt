@@ -1,17 +1,27 @@
 // The flags of the processors.
 
 ghost use Rattle.std.specs.Prelude.{◌≡◌};
-ghost use Rattle.lg_base.specs.CarryFlags.{carry_of};
+ghost use Rattle.lg_base.specs.Flags.{carry_of};
 
 /// The flags of a processor: RV64 has none, those of AArch64 are always defined, and those of x86-64 may be undefined.
 #[derive(Clone, Copy, Debug, PartialEq, Eq)]
 pub enum Flags {
     /// No flags.
     NoFlags,
-    /// Negative, zero, carry and overflow.
-    Nzcv(bool, bool, bool, bool),
-    /// Carry, overflow, zero and sign, where they are defined.
-    Rflags(Option<bool>, Option<bool>, Option<bool>, Option<bool>),
+    /// The flags of AArch64: N, Z, C and V. `carry` of a difference is set where nothing was borrowed.
+    Nzcv {
+        negative: bool,
+        zero: bool,
+        carry: bool,
+        overflow: bool,
+    },
+    /// The flags of x86-64: SF, ZF, CF and OF, None where the instruction left the flag undefined. `carry` of a difference is the borrow.
+    Rflags {
+        sign: Option<bool>,
+        zero: Option<bool>,
+        carry: Option<bool>,
+        overflow: Option<bool>,
+    },
 }
 
 impl Flags {
@@ -21,8 +31,8 @@ impl Flags {
     {
         match self {
             Flags::NoFlags => None,
-            Flags::Nzcv(_, _, carry, _) => Some(carry),
-            Flags::Rflags(carry, _, _, _) => carry,
+            Flags::Nzcv { carry, .. } => Some(carry),
+            Flags::Rflags { carry, .. } => carry,
         }
     }
 }

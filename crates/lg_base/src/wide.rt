@@ -5,7 +5,7 @@ ghost use Rattle.std.specs.Int.{cast_unsigned, w64};
 ghost use Rattle.lg_base.specs.Words.{extended, high_product, high_product_signed, high_product_mixed, with_sign};
 ghost use Rattle.lg_base.specs.Wide.{as_words, quotient_wide, quotient_wide_signed, wide_magnitude, fits_signed, sign_part_of, zero_part_of, swapped};
 
-use crate::word::{magnitude_of, signed_word};
+use crate::word::{SIGN_BIT, magnitude_of, signed_word};
 
 /// The high word of the unsigned product of 128 bits.
 pub fn mul_high_u(a: u64, b: u64) -> u64
@@ -25,7 +25,7 @@ fn mul_high_words(a: u64, b: u64) -> u64
 fn extend(a: u64) -> u128
     ensures { result ≡ extended a }
 {
-    if a < 0x8000_0000_0000_0000 {
+    if a < SIGN_BIT {
         a as u128
     } else {
         (a as u128).wrapping_sub(0x1_0000_0000_0000_0000)
@@ -63,7 +63,7 @@ fn size_of_wide(high: u64, low: u64) -> u128
     ensures { result ≡ wide_magnitude high low }
 {
     let whole = ((high as u128) << 64) + low as u128;
-    if high < 0x8000_0000_0000_0000 {
+    if high < SIGN_BIT {
         whole
     } else {
         0u128.wrapping_sub(whole)
@@ -75,9 +75,9 @@ fn fits(negative: bool, q: u128) -> bool
     ensures { result ≡ fits_signed negative q }
 {
     if negative {
-        q <= 0x8000_0000_0000_0000
+        q <= SIGN_BIT as u128
     } else {
-        q < 0x8000_0000_0000_0000
+        q < SIGN_BIT as u128
     }
 }
 
@@ -91,13 +91,13 @@ pub fn div_wide_words(high: u64, low: u64, by: u64) -> Option<(u64, u64)>
     }
     let size = size_of_wide(high, low);
     let divisor = magnitude_of(by) as u128;
-    let negative = (high >= 0x8000_0000_0000_0000) != (by >= 0x8000_0000_0000_0000);
+    let negative = (high >= SIGN_BIT) != (by >= SIGN_BIT);
     if !fits(negative, size / divisor) {
         return None;
     }
     Some((
         signed_word(negative, (size / divisor) as u64),
-        signed_word(high >= 0x8000_0000_0000_0000, (size % divisor) as u64),
+        signed_word(high >= SIGN_BIT, (size % divisor) as u64),
     ))
 }
 

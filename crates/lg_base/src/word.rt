@@ -1,15 +1,21 @@
 // Operators on words of 64 bits.
 
-ghost use Rattle.std.specs.Prelude.{◌≡◌, ◌≢◌, ◌<◌};
-ghost use Rattle.lg_base.specs.Words.{quotient_signed, remainder_signed, shifted_right_signed, is_less_signed, sum_overflows, difference_overflows, high_product_mixed, sign_32, differ, is_negative, magnitude, with_sign, extended, add_words};
+ghost use Rattle.std.specs.Prelude.{◌≡◌, ◌≢◌, ◌<◌, ◌≤◌, length, take};
+ghost use Rattle.std.specs.Int.{w32, from_le_bytes};
+ghost use Rattle.lg_base.specs.Words.{quotient_signed, remainder_signed, shifted_right_signed, is_less_signed, sum_overflows, difference_overflows, high_product_mixed, sign_32, differ, is_negative, magnitude, with_sign, is_half, extended, add_words};
 
-const HALF: u64 = 0x8000_0000_0000_0000;
+/// 2^63: the least word that is negative in the signed view.
+pub const SIGN_BIT: u64 = 0x8000_0000_0000_0000;
 
 /// The size of a signed word: at most `2 ^ 63`.
 pub fn magnitude_of(a: u64) -> u64
     ensures { result ≡ magnitude a }
 {
-    if a < HALF { a } else { 0u64.wrapping_sub(a) }
+    if a < SIGN_BIT {
+        a
+    } else {
+        0u64.wrapping_sub(a)
+    }
 }
 
 /// The word of a size and a sign.
@@ -29,7 +35,7 @@ pub fn divide_signed(a: u64, b: u64) -> u64
     ensures { result ≡ quotient_signed a b }
 {
     signed_word(
-        (a >= HALF) != (b >= HALF),
+        (a >= SIGN_BIT) != (b >= SIGN_BIT),
         magnitude_of(a) / magnitude_of(b),
     )
 }
@@ -39,7 +45,7 @@ pub fn remain_signed(a: u64, b: u64) -> u64
     requires { b ≢ 0 }
     ensures { result ≡ remainder_signed a b }
 {
-    signed_word(a >= HALF, magnitude_of(a) % magnitude_of(b))
+    signed_word(a >= SIGN_BIT, magnitude_of(a) % magnitude_of(b))
 }
 
 /// The shift to the right that carries the sign. The count is below 64.
@@ -47,24 +53,28 @@ pub fn shift_right_signed(a: u64, count: u32) -> u64
     requires { count < 64 }
     ensures { result ≡ shifted_right_signed a count }
 {
-    if a < HALF { a >> count } else { !(!a >> count) }
+    if a < SIGN_BIT {
+        a >> count
+    } else {
+        !(!a >> count)
+    }
 }
 
 /// Whether the signed view of a word is below that of another.
 pub fn less_signed(a: u64, b: u64) -> bool
     ensures { result ≡ is_less_signed a b }
 {
-    a.wrapping_add(HALF) < b.wrapping_add(HALF)
+    a.wrapping_add(SIGN_BIT) < b.wrapping_add(SIGN_BIT)
 }
 
 /// Whether the sum of two signed words does not fit a signed word.
 pub fn sum_overflows_signed(a: u64, b: u64) -> bool
     ensures { result ≡ sum_overflows a b }
 {
-    if (a >= HALF) != (b >= HALF) {
+    if (a >= SIGN_BIT) != (b >= SIGN_BIT) {
         false
     } else {
-        (a >= HALF) != (a.wrapping_add(b) >= HALF)
+        (a >= SIGN_BIT) != (a.wrapping_add(b) >= SIGN_BIT)
     }
 }
 
@@ -72,8 +82,8 @@ pub fn sum_overflows_signed(a: u64, b: u64) -> bool
 pub fn difference_overflows_signed(a: u64, b: u64) -> bool
     ensures { result ≡ difference_overflows a b }
 {
-    if (a >= HALF) != (b >= HALF) {
-        (a >= HALF) != (a.wrapping_sub(b) >= HALF)
+    if (a >= SIGN_BIT) != (b >= SIGN_BIT) {
+        (a >= SIGN_BIT) != (a.wrapping_sub(b) >= SIGN_BIT)
     } else {
         false
     }
@@ -89,4 +99,20 @@ pub fn sign_extend_32(a: u64) -> u64
     } else {
         low + 0xFFFF_FFFF_0000_0000
     }
+}
+
+/// Whether the signed view of a word is from -2^31 to 2^31 - 1, as the numbers of 32 bits are.
+pub fn is_half(value: u64) -> bool
+    ensures { result ≡ is_half value }
+{
+    value.wrapping_add(1 << 31) < 1 << 32
+}
+
+/// The word of 32 bits that the first four bytes are, the lowest byte first. There are at least 4.
+// In a function of its own it becomes one load.
+pub fn word_in_front(bytes: &[u8]) -> u32
+    requires { 4 ≤ length bytes.now }
+    ensures { result ≡ from_le_bytes w32 (take 4 bytes.now) }
+{
+    u32::from_le_bytes([bytes[0], bytes[1], bytes[2], bytes[3]])
 }

@@ -6,7 +6,7 @@ ghost use Rattle.lg_buf.specs.FixFields.{fix_len};
 ghost use Rattle.lg_buf.specs.Fixing.{Fits, Patched};
 ghost use Rattle.lg_buf.specs.Buffers.{AreApart, AreDone, EndsWithin, IsReady, place_of, place_or_zero};
 
-use crate::fixes::{Fix, FixKind, Label32};
+use crate::fixes::{CodeLabel, Fix, FixKind};
 use crate::patches;
 use crate::store::Store;
 use lg_base::code::{CodeBytes, Places};
@@ -121,7 +121,7 @@ impl CodeBuf {
     }
 
     /// Binds a label to the place behind the last byte. It is one of the buffer's labels, and it isn't bound.
-    pub fn bind(&mut self, label: Label32)
+    pub fn bind(&mut self, label: CodeLabel)
         requires label { label.0 < length self.old.labels }
         requires unbound { place_of self.old.labels label.0 ≡ None }
         ensures { self.new ≡ record self.old { labels = slice_set self.old.labels label.0 (Some (length self.old.bytes)) } }
@@ -131,7 +131,7 @@ impl CodeBuf {
     }
 
     /// Binds a label to a place of the code, which is at most that behind the last byte. It is one of the buffer's labels, and it isn't bound.
-    pub fn bind_at(&mut self, label: Label32, place: u32)
+    pub fn bind_at(&mut self, label: CodeLabel, place: u32)
         requires label { label.0 < length self.old.labels }
         requires unbound { place_of self.old.labels label.0 ≡ None }
         requires place { place ≤ length self.old.bytes }
@@ -141,7 +141,7 @@ impl CodeBuf {
     }
 
     /// The place of a label, or None where it isn't bound. It is one of the buffer's labels.
-    pub fn bound(&self, label: Label32) -> Option<u32>
+    pub fn bound(&self, label: CodeLabel) -> Option<u32>
         requires { label.0 < length self.now.labels }
         ensures { result ≡ place_of self.now.labels label.0 }
     {
@@ -150,7 +150,7 @@ impl CodeBuf {
 
     /// Makes a fix: at the end its field is to lead to the place of the label, which is one of the buffer's. The fix's
     /// bytes were appended, none of them belongs to another fix, and fewer fixes than `new` was asked for were made.
-    pub fn fix(&mut self, place: u32, kind: FixKind, label: Label32)
+    pub fn fix(&mut self, place: u32, kind: FixKind, label: CodeLabel)
         requires emitted { place + fix_len kind ≤ length self.old.bytes }
         requires apart { All (λ f. AreApart f (record { place = place; kind = kind; label = label })) self.old.fixes }
         requires label { label.0 < length self.old.labels }

@@ -32,9 +32,9 @@ pub enum FixKind {
     RvAuipcJalr,
 }
 
-/// A label of a buffer, by its number.
+/// A label of a buffer, by its number from 0, below the number that `CodeBuf::new` was given.
 #[derive(Clone, Copy, Debug, PartialEq, Eq)]
-pub struct Label32(pub u32);
+pub struct CodeLabel(pub u32);
 
 /// A field that will lead to the place of a label.
 #[derive(Clone, Copy, Debug, PartialEq, Eq)]
@@ -44,7 +44,7 @@ pub struct Fix {
     /// Which field it is.
     pub kind: FixKind,
     /// The label to whose place it will lead.
-    pub label: Label32,
+    pub label: CodeLabel,
 }
 
 impl FixKind {

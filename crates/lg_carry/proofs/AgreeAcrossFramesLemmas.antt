@@ -13,7 +13,7 @@ use Rattle.lg_node.specs.Functions.{frame_of, home}
 use Rattle.lg_meaning.specs.States.{Frame, in_locals, in_any_locals, is_open, State}
 use Rattle.lg_meaning.specs.Steps.{called, on, begun, kept, function_here}
 use Rattle.lg_meaning.specs.Fits.{AreLinked, IsTopOf}
-use Rattle.lg_base.specs.CarryFlags.{carry_of}
+use Rattle.lg_base.specs.Flags.{carry_of}
 use Rattle.lg_carry.specs.FinalNodes.{is_inside}
 use Rattle.lg_carry.specs.Registers.{HasArguments, HoldsCarry, HoldsArguments}
 use Rattle.lg_carry.specs.Frames.{at_call, KeepsCaller, MayKeepCaller, HaveWords, IsArriving, IsRunning, IsLinked, arriving}

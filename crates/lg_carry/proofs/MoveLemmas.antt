@@ -8,7 +8,7 @@ use Rattle.lg_base.specs.Layout.{least_frame}
 use Rattle.lg_base.specs.declared.target.Target.{Target}
 use Rattle.lg_meaning.specs.States.{Frame, State}
 use Rattle.lg_carry.specs.Processors.{Seen}
-use Rattle.lg_base.specs.CarryFlags.{carry_of}
+use Rattle.lg_base.specs.Flags.{carry_of}
 use Rattle.lg_carry.specs.FinalNodes.{Code, is_inside}
 use Rattle.lg_carry.specs.Registers.{HoldsRegisters, HoldsCarry, HoldsArguments, HasArguments}
 use Rattle.lg_carry.specs.Frames.{at_call, IsLinked, MayHoldCaller, IsRunning, HasWords, HaveWords, return_address}

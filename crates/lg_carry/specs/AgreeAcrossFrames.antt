@@ -47,7 +47,8 @@ pub record Calls (target : Target) (c : Code) (live : Frame → ℕ → Bool) (s
   pub bytes : (a : ℕ) → within (lowest s.frame - 8) 8 a ≡ false → u.bytes a ≡ q.bytes a
 
 abbrev pub AgreesAtCall : Type 0
-AgreesAtCall = (target : Target) (c : Code) (live : Frame → ℕ → Bool) (s : State) (args : List ℕ) (to : ℕ) (q u : Seen) (S S' : ℕ → Bool) → StatesAgree target c live s q S
+AgreesAtCall = (target : Target) (c : Code) (live : Frame → ℕ → Bool) (s : State) (args : List ℕ) (to : ℕ) (q u : Seen) (S S' : ℕ → Bool)
+    → StatesAgree target c live s q S
     → Calls target c live s args q u S → is_inside c to ≡ false → Arrives c (entered s args to) u → StatesAgree target c live (entered s args to) u S'
 
 -- ---- behind a `prolog`
@@ -61,7 +62,8 @@ pub record Begins (target : Target) (c : Code) (live : Frame → ℕ → Bool) (
   pub bytes : (a : ℕ) → (a + 144 < s.frame.sp) ⊎ (s.frame.sp ≤ a) → u.bytes a ≡ q.bytes a
 
 abbrev pub AgreesBehindProlog : Type 0
-AgreesBehindProlog = (target : Target) (c : Code) (live : Frame → ℕ → Bool) (s : State) (f : Function) (q u : Seen) (S S' : ℕ → Bool) → StatesAgree target c live s q S
+AgreesBehindProlog = (target : Target) (c : Code) (live : Frame → ℕ → Bool) (s : State) (f : Function) (q u : Seen) (S S' : ℕ → Bool)
+    → StatesAgree target c live s q S
     → Begins target c live s f q u → Arrives c (on (begun s f)) u → Holds target (on (begun s f)) u S' → StatesAgree target c live (on (begun s f)) u S'
 
 -- ---- behind a return
@@ -106,4 +108,5 @@ pub record Starts (target : Target) (c : Code) (s : State) (q : Seen) : Type 0 w
   pub memory : HasMemory s q.bytes
 
 abbrev pub AgreesAtStart : Type 0
-AgreesAtStart = (target : Target) (c : Code) (live : Frame → ℕ → Bool) (s : State) (q : Seen) (S : ℕ → Bool) → IsStart s → Starts target c s q → Arrives c s q → StatesAgree target c live s q S
+AgreesAtStart = (target : Target) (c : Code) (live : Frame → ℕ → Bool) (s : State) (q : Seen) (S : ℕ → Bool) → IsStart s → Starts target c s q
+    → Arrives c s q → StatesAgree target c live s q S

@@ -6,7 +6,7 @@ use Rattle.lg_base.specs.declared.target.Target.{Target}
 use Rattle.lg_cells.specs.Cells.{within}
 use Rattle.lg_meaning.specs.States.{Frame, State, is_open}
 use Rattle.lg_meaning.specs.Fits.{Fits}
-use Rattle.lg_base.specs.CarryFlags.{carry_of}
+use Rattle.lg_base.specs.Flags.{carry_of}
 use Rattle.lg_carry.specs.Processors.{Seen, IsSeen}
 use Rattle.lg_carry.specs.FinalNodes.{Code, is_inside}
 use Rattle.lg_carry.specs.Registers.{HoldsRegisters, HoldsCarry, HoldsResult, HoldsArguments, HasArguments}
@@ -44,7 +44,8 @@ pub record Has (target : Target) (t : State) (u : Seen) : Type 0 where
 
 -- memory may change but for the words of the frames
 abbrev pub AgreesAgain : Type 0
-AgreesAgain = (target : Target) (c : Code) (live : Frame → ℕ → Bool) (s t : State) (q u : Seen) (S S' : ℕ → Bool) → StatesAgree target c live s q S → StaysInFrame target c s t q u
+AgreesAgain = (target : Target) (c : Code) (live : Frame → ℕ → Bool) (s t : State) (q u : Seen) (S S' : ℕ → Bool) → StatesAgree target c live s q S
+    → StaysInFrame target c s t q u
     → ((a : ℕ) → InWords (s.frame ∷ s.callers) a → u.bytes a ≡ q.bytes a) → Holds target t u S' → Has target t u → StatesAgree target c live t u S'
 
 -- what the code of a node may spoil: the spill slots of its frame, and the word below the stack pointer
@@ -60,7 +61,8 @@ pub record ChangesNothing (s t : State) (q u : Seen) : Type 0 where
   pub bytes : (a : ℕ) → is_spoilt s a ≡ false → u.bytes a ≡ q.bytes a
 
 abbrev pub AgreesBehindQuiet : Type 0
-AgreesBehindQuiet = (target : Target) (c : Code) (live : Frame → ℕ → Bool) (s t : State) (q u : Seen) (S S' : ℕ → Bool) → StatesAgree target c live s q S → StaysInFrame target c s t q u
+AgreesBehindQuiet = (target : Target) (c : Code) (live : Frame → ℕ → Bool) (s t : State) (q u : Seen) (S S' : ℕ → Bool)
+    → StatesAgree target c live s q S → StaysInFrame target c s t q u
     → ChangesNothing s t q u → Holds target t u S' → StatesAgree target c live t u S'
 
 -- an argument is pushed: of the processor's memory besides an outgoing word changes
@@ -72,7 +74,8 @@ pub record Pushes (target : Target) (s t : State) (q u : Seen) : Type 0 where
   pub outgoing : HasArguments target u.bytes (lowest t.frame) t.pushed
 
 abbrev pub AgreesBehindPush : Type 0
-AgreesBehindPush = (target : Target) (c : Code) (live : Frame → ℕ → Bool) (s t : State) (q u : Seen) (S S' : ℕ → Bool) → StatesAgree target c live s q S → StaysInFrame target c s t q u
+AgreesBehindPush = (target : Target) (c : Code) (live : Frame → ℕ → Bool) (s t : State) (q u : Seen) (S S' : ℕ → Bool)
+    → StatesAgree target c live s q S → StaysInFrame target c s t q u
     → Pushes target s t q u → Holds target t u S' → StatesAgree target c live t u S'
 
 -- a store or a host function: the processor's memory changes besides where the portable machine may write
@@ -82,12 +85,14 @@ pub record Writes (s t : State) (q u : Seen) : Type 0 where
   pub memory : HasMemory t u.bytes
 
 abbrev pub AgreesBehindStore : Type 0
-AgreesBehindStore = (target : Target) (c : Code) (live : Frame → ℕ → Bool) (s t : State) (q u : Seen) (S S' : ℕ → Bool) → StatesAgree target c live s q S → StaysInFrame target c s t q u
+AgreesBehindStore = (target : Target) (c : Code) (live : Frame → ℕ → Bool) (s t : State) (q u : Seen) (S S' : ℕ → Bool)
+    → StatesAgree target c live s q S → StaysInFrame target c s t q u
     → Writes s t q u → t.pushed ≡ s.pushed → Holds target t u S' → StatesAgree target c live t u S'
 
 -- behind a host function nothing is pushed
 abbrev pub AgreesBehindHost : Type 0
-AgreesBehindHost = (target : Target) (c : Code) (live : Frame → ℕ → Bool) (s t : State) (q u : Seen) (S S' : ℕ → Bool) → StatesAgree target c live s q S → StaysInFrame target c s t q u
+AgreesBehindHost = (target : Target) (c : Code) (live : Frame → ℕ → Bool) (s t : State) (q u : Seen) (S S' : ℕ → Bool)
+    → StatesAgree target c live s q S → StaysInFrame target c s t q u
     → Writes s t q u → t.pushed ≡ [] → Holds target t u S' → StatesAgree target c live t u S'
 
 -- a register is written, and memory changes as behind a quiet node: the register holds the word, the others that are live behind the node are
@@ -97,8 +102,11 @@ pub record WritesRegister (target : Target) (s t : State) (q u : Seen) (S S' : �
   pub answer : t.answer ≡ None
   pub value : u.registers (portable_register target d) ≡ v
   pub kept : (r : ℕ) → r < 6 → S' r ≡ true → r ≢ d → (S r ≡ true) × (u.registers (portable_register target r) ≡ q.registers (portable_register target r))
-  pub arguments : (i : ℕ) → i < length (argument_registers target) → i < length s.pushed → u.registers (slice_index (argument_registers target) i) ≡ q.registers (slice_index (argument_registers target) i)
+  pub arguments : (i : ℕ) → i < length (argument_registers target) → i < length s.pushed
+      → u.registers (slice_index (argument_registers target) i) ≡ q.registers (slice_index (argument_registers target) i)
 
 abbrev pub AgreesBehindWrite : Type 0
-AgreesBehindWrite = (target : Target) (c : Code) (live : Frame → ℕ → Bool) (s t : State) (q u : Seen) (S S' : ℕ → Bool) (d v : ℕ) → StatesAgree target c live s q S → StaysInFrame target c s t q u
-    → ChangesNothing s t q u → WritesRegister target s t q u S S' d v → HoldsCarry target u.registers (carry_of u.flags) t.carry → StatesAgree target c live t u S'
+AgreesBehindWrite = (target : Target) (c : Code) (live : Frame → ℕ → Bool) (s t : State) (q u : Seen) (S S' : ℕ → Bool) (d v : ℕ)
+    → StatesAgree target c live s q S → StaysInFrame target c s t q u
+    → ChangesNothing s t q u → WritesRegister target s t q u S S' d v → HoldsCarry target u.registers (carry_of u.flags) t.carry
+    → StatesAgree target c live t u S'

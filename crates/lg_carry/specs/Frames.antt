@@ -36,7 +36,8 @@ at_call f = record f { size = 0; locals = 0 }
 -- are live at its return
 abbrev pub HaveWords : Target → (ℕ → ℕ) → (Frame → ℕ → Bool) → (ℕ → Option ℕ) → List Frame → Type 0
 HaveWords target place live bytes [] = ⊤
-HaveWords target place live bytes (f ∷ fs) = HasWords target place bytes f fs (live (at_call f)) × HasArguments target bytes f.sp f.args × HaveWords target place live bytes fs
+HaveWords target place live bytes (f ∷ fs) = HasWords target place bytes f fs (live (at_call f)) × HasArguments target bytes f.sp f.args
+    × HaveWords target place live bytes fs
 
 -- ---- the running frame
 -- behind its `prolog`: its words, FP and the stack pointer

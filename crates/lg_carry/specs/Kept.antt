@@ -31,11 +31,13 @@ FrameIsKept = (target : Target) (place : ℕ → ℕ) (m m' : ℕ → Option ℕ
 
 -- memory may change but for the words of the frames
 abbrev pub FramesAreKept : Type 0
-FramesAreKept = (target : Target) (place : ℕ → ℕ) (live : Frame → ℕ → Bool) (m m' : ℕ → Option ℕ) (low : ℕ) (fs : List Frame) → AreStacked low fs → HaveFewArguments fs
+FramesAreKept = (target : Target) (place : ℕ → ℕ) (live : Frame → ℕ → Bool) (m m' : ℕ → Option ℕ) (low : ℕ) (fs : List Frame) → AreStacked low fs
+    → HaveFewArguments fs
     → ((a : ℕ) → InWords fs a → m' a ≡ m a) → HaveWords target place live m fs → HaveWords target place live m' fs
 
 -- registers may change but FP and the stack pointer, and memory but for the words of the frame
 abbrev pub RunningFrameIsKept : Type 0
 RunningFrameIsKept = (target : Target) (place : ℕ → ℕ) (m m' : ℕ → Option ℕ) (w w' : ℕ → ℕ) (f : Frame) (gs : List Frame) (live : ℕ → Bool) → 104 ≤ f.sp
-    → ((a : ℕ) → f.sp ≤ a + 104 → a < f.sp → m' a ≡ m a) → w' (frame_register target) ≡ w (frame_register target) → w' (stack_register target) ≡ w (stack_register target)
+    → ((a : ℕ) → f.sp ≤ a + 104 → a < f.sp → m' a ≡ m a) → w' (frame_register target) ≡ w (frame_register target)
+    → w' (stack_register target) ≡ w (stack_register target)
     → IsSettled target place m w f gs live → IsSettled target place m' w' f gs live

@@ -21,7 +21,6 @@ pub mod Rows
 pub mod SpillChoices
 pub mod Spills
 pub mod Stands
-pub mod Targets
 pub mod TemporariesApart
 pub mod TextNodes
 pub mod TextShape

@@ -29,7 +29,8 @@ pub record Follows (target : Target) (c : Code) (t : State) (q u : Seen) : Type 
   pub seen : IsSeen u
   pub here : u.pc ≡ c.place t.at
   pub portable : (r : ℕ) → r < 6 → u.registers (portable_register target r) ≡ q.registers (portable_register target r)
-  pub arguments : (i : ℕ) → i < length (argument_registers target) → u.registers (slice_index (argument_registers target) i) ≡ q.registers (slice_index (argument_registers target) i)
+  pub arguments : (i : ℕ) → i < length (argument_registers target)
+      → u.registers (slice_index (argument_registers target) i) ≡ q.registers (slice_index (argument_registers target) i)
   pub pointer : u.registers (frame_register target) ≡ q.registers (frame_register target)
   pub stack : u.registers (stack_register target) ≡ q.registers (stack_register target)
   pub link : (x : ℕ) → link_register target ≡ Some x → u.registers x ≡ q.registers x
@@ -37,5 +38,6 @@ pub record Follows (target : Target) (c : Code) (t : State) (q u : Seen) : Type 
   pub mark : u.mark ≡ q.mark
 
 abbrev pub AgreesBehindMove : Type 0
-AgreesBehindMove = (target : Target) (c : Code) (live : Frame → ℕ → Bool) (s t : State) (q u : Seen) (S S' : ℕ → Bool) → StatesAgree target c live s q S → Moves c s t → Follows target c t q u
+AgreesBehindMove = (target : Target) (c : Code) (live : Frame → ℕ → Bool) (s t : State) (q u : Seen) (S S' : ℕ → Bool)
+    → StatesAgree target c live s q S → Moves c s t → Follows target c t q u
     → ((r : ℕ) → r < 6 → S' r ≡ true → S r ≡ true) → StatesAgree target c live t u S'

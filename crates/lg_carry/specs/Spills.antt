@@ -62,9 +62,11 @@ pub record IsRestored {Q I : Type 0} (R : Rows Q I) (r k w : ℕ) (q q' : Q) : T
 -- a save stores the register in its slot, and a restore loads it from there
 pub record AreSpills {Q I : Type 0} (R : Rows Q I) : Type 0 where
   pub apart : (r : ℕ) → R.can_save r ≡ true → r ≢ frame_register R.processor.target
-  pub saves : (q : Q) (r k fp : ℕ) → R.can_save r ≡ true → k < 5 → IsFramePointer fp → R.processor.machine.status q ≡ Running → HasRoom R (R.save r k ∷ []) q → (R.processor.seen q).registers (frame_register R.processor.target) ≡ fp
+  pub saves : (q : Q) (r k fp : ℕ) → R.can_save r ≡ true → k < 5 → IsFramePointer fp → R.processor.machine.status q ≡ Running
+      → HasRoom R (R.save r k ∷ []) q → (R.processor.seen q).registers (frame_register R.processor.target) ≡ fp
       → ((a : ℕ) → in_slots fp a ≡ true → is_some ((R.processor.seen q).bytes a) ≡ true) → IsSaved R r k fp q (R.does (R.save r k) q)
-  pub restores : (q : Q) (r k fp w : ℕ) → R.can_save r ≡ true → k < 5 → IsFramePointer fp → R.processor.machine.status q ≡ Running → HasRoom R (R.restore r k ∷ []) q → (R.processor.seen q).registers (frame_register R.processor.target) ≡ fp
+  pub restores : (q : Q) (r k fp w : ℕ) → R.can_save r ≡ true → k < 5 → IsFramePointer fp → R.processor.machine.status q ≡ Running
+      → HasRoom R (R.restore r k ∷ []) q → (R.processor.seen q).registers (frame_register R.processor.target) ≡ fp
       → HasWord (R.processor.seen q).bytes (spill_word fp k) w → IsRestored R r k w q (R.does (R.restore r k) q)
 
 -- ---- what code does
@@ -102,7 +104,8 @@ pub record Work : Type 0 where
 
 -- code does so from every state that looks so, wherever it lies and whatever stands in the slots
 abbrev pub Does : {Q I : Type 0} → Rows Q I → Work → List I → ℕ → ℕ → (ℕ → Bool) → Type 0
-Does {Q} R w code fp n T = (q : Q) → Looks R fp w.registers w.bytes w.mark w.flags q → HasRoom R code q → Leaves R code fp n w.end_registers w.end_bytes w.end_mark w.end_flags T q
+Does {Q} R w code fp n T = (q : Q) → Looks R fp w.registers w.bytes w.mark w.flags q → HasRoom R code q
+    → Leaves R code fp n w.end_registers w.end_bytes w.end_mark w.end_flags T q
 
 -- ---- saved registers
 -- the code of a node, with each register that is spilled saved before it and restored behind it
@@ -149,6 +152,7 @@ pub record KeepsFrame (w : Work) (T : ℕ → Bool) (frame fp : ℕ) : Type 0 wh
 -- saves, the code of a node, and restores do what the code does, and spoil fewer registers
 abbrev pub SavesRestore : {Q I : Type 0} → Rows Q I → Type 0
 SavesRestore {Q} {I} R =
-    (choices : List Choice) (w : Work) (body : List I) (fp n : ℕ) (T : ℕ → Bool) → IsFramePointer fp → ((r : ℕ) → w.registers r < 2 ^ 64) → AreInOrder R n choices
+    (choices : List Choice) (w : Work) (body : List I) (fp n : ℕ) (T : ℕ → Bool) → IsFramePointer fp → ((r : ℕ) → w.registers r < 2 ^ 64)
+    → AreInOrder R n choices
     → KeepSpilled choices w.end_registers w.registers → KeepsFrame w T (frame_register R.processor.target) fp
     → Does R w body fp (n + spilled choices) T → Does R w (wrapped R choices body) fp n (lost choices T)

@@ -14,7 +14,7 @@ use Rattle.lg_a64.specs.declared.instruction.RegOp.{RegOp}
 use Rattle.lg_a64.specs.declared.instruction.RegOp.TheVariants as row
 use Rattle.lg_a64.specs.declared.instruction.Instr.{Instr}
 use Rattle.lg_a64.specs.declared.instruction.Instr.TheVariants.{Reg, Imm, Wide, MulAdd, Bitfield, Csinc, Reverse, Scaled, Ldrx, Unscaled, Branch, BranchIf, BranchReg, Nop}
-use Rattle.lg_cpu.specs.A64Operators.{reg_value, reg_flags, imm_number, imm_flags, csinc_value, holds}
+use Rattle.lg_cpu.specs.A64Operators.{reg_value, reg_flags, imm_number, imm_flags, csinc_value, condition_holds}
 use Rattle.lg_cpu.specs.A64Step.{read, write, act}
 use Rattle.lg_cpu.specs.States.{CpuState}
 use Rattle.lg_cpu.specs.Steps.{Effect, after, arrived, status_of}
@@ -46,7 +46,7 @@ imm-same : (op : ImmOp) (f : Flags) (a n : ℕ) → nzcv (imm_flags op f a n) �
 imm-same Addi f a n = refl
 imm-same op f a n = refl
 
-holds-same : (c : Cond) (f : Flags) → holds c f ≡ holds c (known (nzcv f))
+holds-same : (c : Cond) (f : Flags) → condition_holds c f ≡ condition_holds c (known (nzcv f))
 holds-same cond.Eq f = refl
 holds-same c f = refl
 

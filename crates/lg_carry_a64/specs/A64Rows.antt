@@ -10,9 +10,9 @@ use Rattle.lg_a64.specs.declared.instruction.Instr.{Instr}
 use Rattle.lg_a64.specs.declared.instruction.Instr.TheVariants.{Unscaled, Branch, BranchIf, BranchReg}
 use Rattle.lg_a64.specs.declared.instruction.UnscaledOp.TheVariants.{Ldur, Stur}
 use Rattle.lg_cpu.specs.Laws.{AreBytes}
-use Rattle.lg_cpu.specs.Steps.{Run, after, on_going, machine}
+use Rattle.lg_cpu.specs.Steps.{Run, stepped, machine}
 use Rattle.lg_cpu.specs.States.{CpuState}
-use Rattle.lg_cpu.specs.A64Operators.{negative_flag, zero_flag, carry_flag, overflow_flag}
+use Rattle.lg_base.specs.Flags.{negative_flag, zero_flag, carry_flag, overflow_flag}
 use Rattle.lg_cpu.specs.A64Step.{act, effect}
 use Rattle.lg_carry.specs.Processors.{Seen, Processor}
 use Rattle.lg_carry.specs.Rows.{Rows, AreRows}
@@ -54,7 +54,7 @@ is_straight i = true
 
 -- what an instruction does to a run that goes on
 abbrev pub a64_does : Instr → Run CpuState → Run CpuState
-a64_does i r = on_going r.progress (after r (act i r.state)) r
+a64_does i = stepped (act i)
 
 -- the offset of a spill slot from FP
 abbrev pub slot_offset : ℕ → ℤ

@@ -1,11 +1,11 @@
 -- Instructions that only compute: each makes registers and flags of registers and flags, and the next one follows.
 use Rattle.std.specs.Prelude.{ℕ, Bool, true, false, List, Option, Some, None}
-use Rattle.lg_base.specs.CarryFlags.{carry_of}
+use Rattle.lg_base.specs.Flags.{carry_of, negative_flag, zero_flag, overflow_flag}
 use Rattle.lg_base.specs.declared.flags.Flags.{Flags}
 use Rattle.lg_base.specs.declared.flags.Flags.TheVariants.{Nzcv}
 use Rattle.lg_a64.specs.declared.instruction.Instr.{Instr}
 use Rattle.lg_a64.specs.declared.instruction.Instr.TheVariants.{Reg, Imm, Wide, MulAdd, Bitfield, Csinc, Reverse, Scaled, Ldrx, Unscaled, Branch, BranchIf, BranchReg}
-use Rattle.lg_cpu.specs.A64Operators.{negative_flag, zero_flag, overflow_flag, reg_value, reg_flags, imm_number, imm_value, imm_flags, wide_value, mul_add_value, bitfield_value, csinc_value, reverse_value, holds}
+use Rattle.lg_cpu.specs.A64Operators.{reg_value, reg_flags, imm_number, imm_value, imm_flags, wide_value, mul_add_value, bitfield_value, csinc_value, reverse_value, condition_holds}
 use Rattle.lg_cpu.specs.A64Step.{read, write, imm_registers}
 use Rattle.lg_sel_values.specs.Computers.{Held}
 use Rattle.lg_sel_values.specs.Computers as computer
@@ -47,7 +47,7 @@ computed_by (MulAdd op rd rn rm ra) w =
     holding (write w.registers rd (mul_add_value op (read w.registers rn) (read w.registers rm) (read w.registers ra))) w.flags
 computed_by (Bitfield op rd rn immr imms) w = holding (write w.registers rd (bitfield_value op (read w.registers rn) immr imms)) w.flags
 computed_by (Csinc rd rn rm cond) w =
-    holding (write w.registers rd (csinc_value (holds cond (known w.flags)) (read w.registers rn) (read w.registers rm))) w.flags
+    holding (write w.registers rd (csinc_value (condition_holds cond (known w.flags)) (read w.registers rn) (read w.registers rm))) w.flags
 computed_by (Reverse op rd rn) w = holding (write w.registers rd (reverse_value op (read w.registers rn))) w.flags
 computed_by i w = w
 

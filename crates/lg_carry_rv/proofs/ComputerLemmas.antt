@@ -1,6 +1,6 @@
 -- RV64IM is a processor with instructions that only compute: what they make of all that is held is what they make of the registers.
 use Rattle.std.proofs.Common.{◌≡◌, ◌≢◌, ℕ, Bool, ◌<◌, true, false, List, [], ◌∷◌, Option, Some, refl, sym, ap, ◌∙◌, arith, length}
-use Rattle.lg_base.specs.CarryFlags.{carry_of}
+use Rattle.lg_base.specs.Flags.{carry_of}
 use Rattle.lg_base.specs.Words.{add_words}
 use Rattle.lg_base.specs.declared.flags.Flags.TheVariants.{NoFlags}
 use Rattle.lg_base.specs.declared.target.Target.TheVariants.{Riscv64}

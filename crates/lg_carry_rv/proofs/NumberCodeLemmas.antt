@@ -3,7 +3,7 @@ use Rattle.std.proofs.Common.{◌≡◌, ◌≢◌, ℕ, zero, suc, ◌+◌, ◌
 use Rattle.std.specs.Prelude.{nat_lt, pos, negsuc, if◌then◌else◌, ◌≤ℤ◌}
 use Rattle.std.specs.List.{All}
 use Rattle.lg_base.specs.Fields.{word_of}
-use Rattle.lg_base.specs.Words.{add_words, sign_32, shifted_left}
+use Rattle.lg_base.specs.Words.{add_words, sign_32, shifted_left, is_half}
 use Rattle.lg_rv.specs.Spelling.{IsInstr}
 use Rattle.lg_rv.specs.declared.instruction.Instr.{Instr}
 use Rattle.lg_rv.specs.declared.instruction.Instr.TheVariants.{Upper, Imm, Shift}
@@ -13,7 +13,7 @@ use Rattle.lg_rv.specs.declared.instruction.ShiftOp.TheVariants.{Slli}
 use Rattle.lg_cpu.specs.HostSteps.{put}
 use Rattle.lg_carry_rv.specs.RvRows.{is_straight}
 use Rattle.lg_carry_rv.specs.Computations.{computed, computes, all_compute}
-use Rattle.lg_carry_rv.specs.Numbers.{is_short, is_half, high_part, low_part, short_code, half_code, long_code, number_code, LoadsNumber, NumbersAreLoaded}
+use Rattle.lg_carry_rv.specs.Numbers.{is_short, high_part, low_part, short_code, half_code, long_code, number_code, LoadsNumber, NumbersAreLoaded}
 use Rattle.lg_carry_rv.proofs.ComputationLemmas.{put-again, and-true, computes-straight, computed-append}
 
 -- ---- words

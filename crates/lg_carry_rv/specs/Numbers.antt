@@ -1,6 +1,7 @@
 -- Code that loads a number into a register.
 use Rattle.std.specs.Prelude.{◌≡◌, ◌≢◌, ℕ, ◌+◌, ◌-◌, ◌/◌, ◌%◌, ◌^◌, ◌<◌, ◌≤◌, nat_lt, Bool, true, if◌then◌else◌, ℤ, pos, negsuc, List, [], ◌∷◌, length}
 use Rattle.std.specs.List.{All}
+use Rattle.lg_base.specs.Words.{is_half}
 use Rattle.lg_rv.specs.Spelling.{IsInstr}
 use Rattle.lg_rv.specs.declared.instruction.Instr.{Instr}
 use Rattle.lg_rv.specs.declared.instruction.Instr.TheVariants.{Upper, Imm, Shift}
@@ -14,10 +15,6 @@ use Rattle.lg_carry_rv.specs.Computations.{all_compute, computed}
 -- the signed view is from -2,048 to 2,047
 abbrev pub is_short : ℕ → Bool
 is_short v = nat_lt ((v + 2048) % 2 ^ 64) 4096
-
--- the signed view is from -2 ^ 31 to 2 ^ 31 - 1
-abbrev pub is_half : ℕ → Bool
-is_half v = nat_lt ((v + 2 ^ 31) % 2 ^ 64) (2 ^ 32)
 
 -- the low 32 bits, as a number for `lui` and one for `addiw`
 abbrev pub high_part : ℕ → ℕ

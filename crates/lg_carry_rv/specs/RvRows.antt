@@ -7,7 +7,7 @@ use Rattle.lg_rv.specs.declared.instruction.Instr.{Instr}
 use Rattle.lg_rv.specs.declared.instruction.Instr.TheVariants.{Jal, Branch, Imm, Store}
 use Rattle.lg_rv.specs.declared.instruction.ImmOp.TheVariants.{Jalr, Ld}
 use Rattle.lg_rv.specs.declared.instruction.StoreOp.TheVariants.{Sd}
-use Rattle.lg_cpu.specs.Steps.{Run, after, on_going, machine}
+use Rattle.lg_cpu.specs.Steps.{Run, stepped, machine}
 use Rattle.lg_cpu.specs.States.{CpuState}
 use Rattle.lg_cpu.specs.RvStep.{act, effect}
 use Rattle.lg_base.specs.declared.flags.Flags.TheVariants.{NoFlags}
@@ -32,7 +32,7 @@ is_straight i = true
 
 -- what an instruction does to a run that goes on
 abbrev pub rv_does : Instr → Run CpuState → Run CpuState
-rv_does i r = on_going r.progress (after r (act i r.state)) r
+rv_does i = stepped (act i)
 
 -- the offset of a spill slot from FP
 abbrev pub slot_offset : ℕ → ℤ

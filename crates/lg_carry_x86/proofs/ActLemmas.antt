@@ -1,7 +1,7 @@
 -- What instructions write, and where they go on.
 use Rattle.std.proofs.Common.{◌≡◌, ℕ, Bool, true, false, [], Option, Some, None, refl}
 use Rattle.std.specs.Prelude.{is_some, IfSome, if◌then◌else◌}
-use Rattle.lg_base.specs.CarryFlags.{carry_of}
+use Rattle.lg_base.specs.Flags.{carry_of}
 use Rattle.lg_base.specs.Fields.{word_of}
 use Rattle.lg_base.specs.Spaces.{mapped, loaded, stored}
 use Rattle.lg_base.specs.Words.{add_words, sub_words}
@@ -23,7 +23,7 @@ use Rattle.lg_x86.specs.declared.instruction.UnaryOp.TheVariants.{Not, Neg, Mul,
 use Rattle.lg_cpu.specs.HostSteps.{put}
 use Rattle.lg_cpu.specs.States.{CpuState}
 use Rattle.lg_cpu.specs.Steps.{Effect}
-use Rattle.lg_cpu.specs.X86Operators.{bit, carry_for, alu_value, alu_flags, alu_of, is_kept_by, condition}
+use Rattle.lg_cpu.specs.X86Operators.{bit, carry_for, alu_value, alu_flags, alu_of, is_kept_by, condition_holds}
 use Rattle.lg_cpu.specs.X86Step.{Scene, scene_of, with_flags, with_register, with_carry, sets_loaded, loads, store_width, stores, sets_quotient, one_register, pops, pushes, sets_byte, made}
 use Rattle.lg_cpu.specs.X86Step.{fault_of, goes_with, goes_where, returns, does}
 use Rattle.lg_carry_x86.specs.X86Rows.{is_straight}
@@ -131,7 +131,7 @@ grows-made (Shift op rm count) s = λ a e. e
 grows-made (Bswap reg) s = λ a e. e
 grows-made (Stack Push reg) s = grows-push (s.registers reg) s
 grows-made (Stack Pop reg) s = grows-pop reg s (loaded s.bytes (s.registers 4) 8)
-grows-made (Set cond rm) s = grows-byte rm s (condition cond s.flags)
+grows-made (Set cond rm) s = grows-byte rm s (condition_holds cond s.flags)
 grows-made (Bare Cqo) s = λ a e. e
 grows-made (Bare Nop) s = λ a e. e
 grows-made (Bare Ret) s = tt
@@ -180,8 +180,8 @@ steady-does (Set cond rm) next q = steady-made (Set cond rm) next q
 steady-does (Bare Cqo) next q = steady-made (Bare Cqo) next q
 steady-does (Bare Nop) next q = steady-made (Bare Nop) next q
 steady-does (Bare Ret) next q = steady-return q (loaded q.bytes (q.registers 4) 8)
-steady-does (JumpIfShort cond distance) next q = steady-where q next (add_words next (word_of distance)) (condition cond q.flags)
-steady-does (JumpIfNear cond distance) next q = steady-where q next (add_words next (word_of distance)) (condition cond q.flags)
+steady-does (JumpIfShort cond distance) next q = steady-where q next (add_words next (word_of distance)) (condition_holds cond q.flags)
+steady-does (JumpIfNear cond distance) next q = steady-where q next (add_words next (word_of distance)) (condition_holds cond q.flags)
 steady-does (JumpShort distance) next q = record { written = refl; mark = refl; grows = λ a e. e }
 steady-does (JumpNear Jmp32 distance) next q = record { written = refl; mark = refl; grows = λ a e. e }
 steady-does (JumpNear Call32 distance) next q = steady-with q (add_words next (word_of distance)) Memory (pushes next (scene_of q)) (grows-push next (scene_of q))

@@ -3,12 +3,12 @@ use Rattle.std.proofs.Common.{◌≡◌, ℕ, ◌-◌, ◌^◌, ◌<◌, Bool, t
 use Rattle.std.specs.Prelude.{nat_lt, pos, negsuc, if◌then◌else◌}
 use Rattle.std.proofs.lemmas.Int.{ints}
 use Rattle.lg_base.specs.Fields.{word_of}
-use Rattle.lg_base.specs.Words.{signed_view}
+use Rattle.lg_base.specs.Words.{signed_view, is_half}
 use Rattle.lg_x86.specs.Spelling.{IsInstr, IsNumber32}
 use Rattle.lg_x86.specs.declared.instruction.Instr.{Instr}
 use Rattle.lg_x86.specs.declared.instruction.Instr.TheVariants.{Movi32, Movs32, Movi64}
 use Rattle.lg_cpu.specs.X86Step.{Scene, with_register, made}
-use Rattle.lg_carry_x86.specs.Numbers.{is_half, number_row, NumbersAreLoaded}
+use Rattle.lg_carry_x86.specs.Numbers.{number_row, NumbersAreLoaded}
 use Rattle.lg_carry_x86.specs.X86Computers.{computes}
 use Rattle.lg_carry_x86.specs.X86Rows.{is_straight}
 

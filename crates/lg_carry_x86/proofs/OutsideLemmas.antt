@@ -2,7 +2,7 @@
 use Rattle.std.proofs.Common.{◌≡◌, ◌≢◌, ℕ, Bool, true, false, Option, Some, None, refl, sym, ap, ◌∙◌, arith, length}
 use Rattle.std.specs.Prelude.{◌==◌, IfSome, if◌then◌else◌}
 use Rattle.std.proofs.lemmas.Bool.Decides.{nat_tests}
-use Rattle.lg_base.specs.CarryFlags.{carry_of}
+use Rattle.lg_base.specs.Flags.{carry_of}
 use Rattle.lg_base.specs.Fields.{word_of}
 use Rattle.lg_base.specs.Spaces.{mapped, loaded, stored}
 use Rattle.lg_base.specs.Words.{add_words, sub_words, mul_words, high_product, high_product_signed}
@@ -26,7 +26,7 @@ use Rattle.lg_x86.specs.declared.instruction.UnaryOp.TheVariants.{Not, Neg, Mul,
 use Rattle.lg_cpu.specs.HostSteps.{put}
 use Rattle.lg_cpu.specs.States.{CpuState}
 use Rattle.lg_cpu.specs.Steps.{Progress, Goes, EndedWith, Faulted, Effect, after, on_going}
-use Rattle.lg_cpu.specs.X86Operators.{no_flags, product_flags, needs_high, needs_high_signed, bit, carry_for, alu_value, alu_flags, alu_of, is_kept_by, condition}
+use Rattle.lg_cpu.specs.X86Operators.{no_flags, product_flags, needs_high, needs_high_signed, bit, carry_for, alu_value, alu_flags, alu_of, is_kept_by, condition_holds}
 use Rattle.lg_cpu.specs.X86Step.{Scene, scene_of, with_flags, with_register, with_carry, sets, sets_loaded, loads, store_width, stores, sets_wide, sets_quotient, one_register, pops, pushes, sets_byte, made}
 use Rattle.lg_cpu.specs.X86Step.{fault_of, goes_with, goes_where, returns, does, act}
 use Rattle.lg_carry.specs.Outside.{is_outside}
@@ -127,7 +127,7 @@ module _ (r : ℕ) (out : is_outside X86_64 r ≡ true) where
   keep-made (Bswap reg) s h = puts s.registers reg _ h.0
   keep-made (Stack Push reg) s h = keep-push (s.registers reg) s
   keep-made (Stack Pop reg) s h = keep-pop reg s (loaded s.bytes (s.registers 4) 8) h.0
-  keep-made (Set cond rm) s h = keep-byte rm s (condition cond s.flags) h.0
+  keep-made (Set cond rm) s h = keep-byte rm s (condition_holds cond s.flags) h.0
   keep-made (Bare Cqo) s h = puts s.registers 2 _ refl
   keep-made (Bare Nop) s h = refl
   keep-made (Bare Ret) s h = tt
@@ -174,8 +174,8 @@ module _ (r : ℕ) (out : is_outside X86_64 r ≡ true) where
   stay-does (Bare Cqo) next q h = stay-made (Bare Cqo) next q h
   stay-does (Bare Nop) next q h = stay-made (Bare Nop) next q h
   stay-does (Bare Ret) next q h = stay-return q (loaded q.bytes (q.registers 4) 8)
-  stay-does (JumpIfShort cond distance) next q h = stay-where q next (add_words next (word_of distance)) (condition cond q.flags)
-  stay-does (JumpIfNear cond distance) next q h = stay-where q next (add_words next (word_of distance)) (condition cond q.flags)
+  stay-does (JumpIfShort cond distance) next q h = stay-where q next (add_words next (word_of distance)) (condition_holds cond q.flags)
+  stay-does (JumpIfNear cond distance) next q h = stay-where q next (add_words next (word_of distance)) (condition_holds cond q.flags)
   stay-does (JumpShort distance) next q h = refl
   stay-does (JumpNear Jmp32 distance) next q h = refl
   stay-does (JumpNear Call32 distance) next q h = stay-with q (add_words next (word_of distance)) Memory (pushes next (scene_of q)) (keep-push next (scene_of q))

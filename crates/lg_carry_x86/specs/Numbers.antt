@@ -1,16 +1,12 @@
 -- Code that loads a number into a register. No flag changes.
 use Rattle.std.specs.Prelude.{◌≡◌, ℕ, ◌+◌, ◌%◌, ◌^◌, ◌<◌, nat_lt, Bool, true, if◌then◌else◌, Some}
-use Rattle.lg_base.specs.Words.{signed_view}
+use Rattle.lg_base.specs.Words.{signed_view, is_half}
 use Rattle.lg_x86.specs.Spelling.{IsInstr}
 use Rattle.lg_x86.specs.declared.instruction.Instr.{Instr}
 use Rattle.lg_x86.specs.declared.instruction.Instr.TheVariants.{Movi32, Movs32, Movi64}
 use Rattle.lg_cpu.specs.X86Step.{Scene, with_register, made}
 use Rattle.lg_carry_x86.specs.X86Computers.{computes}
 use Rattle.lg_carry_x86.specs.X86Rows.{is_straight}
-
--- the signed view is from -2 ^ 31 to 2 ^ 31 - 1
-abbrev pub is_half : ℕ → Bool
-is_half v = nat_lt ((v + 2 ^ 31) % 2 ^ 64) (2 ^ 32)
 
 -- the shortest of three rows
 abbrev pub number_row : ℕ → ℕ → Instr

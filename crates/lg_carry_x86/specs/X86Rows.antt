@@ -10,7 +10,7 @@ use Rattle.lg_x86.specs.declared.instruction.StoreOp.TheVariants.{St64}
 use Rattle.lg_x86.specs.declared.instruction.BareOp.TheVariants.{Ret}
 use Rattle.lg_cpu.specs.Laws.{AreBytes}
 use Rattle.lg_cpu.specs.States.{CpuState}
-use Rattle.lg_cpu.specs.Steps.{Run, after, on_going, machine}
+use Rattle.lg_cpu.specs.Steps.{Run, stepped, machine}
 use Rattle.lg_cpu.specs.X86Step.{act, effect}
 use Rattle.lg_carry.specs.Processors.{Seen, Processor}
 use Rattle.lg_carry.specs.Rows.{Rows, AreRows}
@@ -34,7 +34,7 @@ is_straight i = true
 
 -- what an instruction does to a run that goes on
 abbrev pub x86_does : Instr → Run CpuState → Run CpuState
-x86_does i r = on_going r.progress (after r (act i (length (spelling i)) r.state)) r
+x86_does i = stepped (act i (length (spelling i)))
 
 -- the displacement of a spill slot from FP, rbp
 abbrev pub slot_offset : ℕ → ℤ

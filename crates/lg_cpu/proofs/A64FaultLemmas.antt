@@ -23,7 +23,7 @@ use Rattle.lg_a64.specs.declared.instruction.BranchRegOp.TheVariants.{Br, Blr, R
 use Rattle.lg_cpu.specs.HostSteps.{answer_at}
 use Rattle.lg_cpu.specs.States.{CpuState}
 use Rattle.lg_cpu.specs.A64Step.{read, loads, load_at, store_at, scaled_width, scaled_effect, unscaled_effect, branch_effect, branch_reg_effect, away, act, decoded, fetch, enter_host, effect_at, effect}
-use Rattle.lg_cpu.specs.RvStep.{in_code}
+use Rattle.lg_cpu.specs.Fetches.{in_code}
 use Rattle.lg_cpu.proofs.FaultLemmas.{Quiet, quiet_arrived, quiet_faults, quiet_choice, quiet_returned}
 
 quiet_loads : (q : CpuState) (to width : ℕ) (signed : Bool) (o : Option ℕ) → Quiet q (loads q to width signed o)

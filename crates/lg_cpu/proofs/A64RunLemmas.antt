@@ -10,7 +10,7 @@ use Rattle.lg_a64.specs.Spelling.{word_of, spelling, IsInstr}
 use Rattle.lg_a64.proofs.AgainLemmas.{read_again, word_fits}
 use Rattle.lg_cpu.specs.Steps.{faults}
 use Rattle.lg_cpu.specs.A64Step.{decoded, effect_at}
-use Rattle.lg_cpu.specs.RvStep.{in_code}
+use Rattle.lg_cpu.specs.Fetches.{in_code}
 use Rattle.lg_cpu.specs.Laws.{A64ExecutesWhatStands}
 use Rattle.lg_cpu.proofs.RunLemmas.{no_host, inside}
 

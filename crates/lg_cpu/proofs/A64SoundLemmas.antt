@@ -29,9 +29,9 @@ use Rattle.lg_a64.specs.declared.instruction.BranchRegOp.TheVariants.{Br, Blr, R
 use Rattle.lg_cpu.specs.Steps.{faults}
 use Rattle.lg_cpu.specs.HostSteps.{answer_at, put, behind_call}
 use Rattle.lg_cpu.specs.Loads.{extended_by}
-use Rattle.lg_cpu.specs.RvStep.{in_code}
+use Rattle.lg_cpu.specs.Fetches.{in_code}
 use Rattle.lg_cpu.specs.States.{CpuState, arrives}
-use Rattle.lg_cpu.specs.A64Operators.{reg_value, imm_value, imm_number, holds}
+use Rattle.lg_cpu.specs.A64Operators.{reg_value, imm_value, imm_number, condition_holds}
 use Rattle.lg_cpu.specs.A64Step.{read, write, computes, sets, loads, load_at, store_at, link_to, imm_registers, scaled_width, scaled_effect, unscaled_effect, branch_effect, branch_reg_effect, away, act, decoded, fetch, trash_flags, host_effect, enter_host, effect_at, effect}
 use Rattle.lg_cpu.specs.Laws.{IsSound, AreBytes}
 use Rattle.lg_cpu.proofs.OperatorLemmas.{low_word, choice_word, sign_1_word, sign_2_word, sign_4_word}
@@ -109,13 +109,13 @@ sound_act (Imm op rd rn imm shifted) q ok s =
 sound_act (Wide op rd imm hw) q ok s = sound_sets q rd _ s (a64-wide-word op (read q.registers rd) imm hw (read_word q.registers rd s.words) ok.1)
 sound_act (MulAdd op rd rn rm ra) q ok s = sound_sets q rd _ s (a64-mul-add-word op (read q.registers rn) (read q.registers rm) (read q.registers ra))
 sound_act (Bitfield op rd rn immr imms) q ok s = sound_sets q rd _ s (a64-bitfield-word op (read q.registers rn) immr imms ok.3)
-sound_act (Csinc rd rn rm cond) q ok s = sound_sets q rd _ s (a64-csinc-word (holds cond q.flags) (read q.registers rn) (read q.registers rm) (read_word q.registers rn s.words))
+sound_act (Csinc rd rn rm cond) q ok s = sound_sets q rd _ s (a64-csinc-word (condition_holds cond q.flags) (read q.registers rn) (read q.registers rm) (read_word q.registers rn s.words))
 sound_act (Reverse op rd rn) q ok s = sound_sets q rd _ s (a64-reverse-word op (read q.registers rn))
 sound_act (Scaled op rt rn imm) q ok s = sound_scaled op rt (add_words (q.registers rn) (imm * scaled_width op)) q s
 sound_act (Ldrx rt rn rm) q ok s = sound_load q rt (add_words (q.registers rn) (read q.registers rm)) 8 false s (λ v e. omega (arith, e))
 sound_act (Unscaled op rt rn imm) q ok s = sound_unscaled op rt (add_words (q.registers rn) (word_of imm)) q s
 sound_act (Branch op words) q ok s = sound_branch op (away q.pc (word_of words)) q s (low_word _)
-sound_act (BranchIf cond words) q ok s = sound_goes_on q (if holds cond q.flags then away q.pc (word_of words) else add_words q.pc 4) s (choice_word (holds cond q.flags) (away q.pc (word_of words)) (add_words q.pc 4) (low_word _) (low_word (q.pc + 4)))
+sound_act (BranchIf cond words) q ok s = sound_goes_on q (if condition_holds cond q.flags then away q.pc (word_of words) else add_words q.pc 4) s (choice_word (condition_holds cond q.flags) (away q.pc (word_of words)) (add_words q.pc 4) (low_word _) (low_word (q.pc + 4)))
 sound_act (BranchReg op rn) q ok s = sound_branch_reg op (read q.registers rn) q s (read_word q.registers rn s.words)
 sound_act Nop q ok s = sound_computes q q.registers q.flags s s.words
 

@@ -12,8 +12,9 @@ use Rattle.lg_rv.specs.Reading.{instr_of, front_of}
 use Rattle.lg_rv.specs.Spelling.{word_of, spelling, IsInstr}
 use Rattle.lg_rv.proofs.AgainLemmas.{read_again, word_fits}
 use Rattle.lg_cpu.specs.Steps.{Progress, Goes, EndedWith, Faulted, Effect, Run, after, on_going, stepped, status_of, machine, faults}
-use Rattle.lg_cpu.specs.RvStep.{decoded, in_code, effect_at, effect}
-use Rattle.lg_cpu.specs.Laws.{ExecutesWhatStands}
+use Rattle.lg_cpu.specs.RvStep.{decoded, effect_at, effect}
+use Rattle.lg_cpu.specs.Fetches.{in_code}
+use Rattle.lg_cpu.specs.Laws.{RvExecutesWhatStands}
 
 stays : {S : Type 0} (f : S → Effect S) (r : Run S) (p : Progress) → r.progress ≡ p → status_of p ≢ Running → stepped f r ≡ r
 stays f r Goes e h = absurd (h refl)
@@ -46,7 +47,7 @@ inside code more front pc low some e =
     let below : pc < code_base + length code = omega (arith, low, some, rest, both) in
     grind (arith, low, below)
 
-pub stands-executed : ExecutesWhatStands
+pub stands-executed : RvExecutesWhatStands
 stands-executed code more trash q i ok low aligned e =
     let here = inside code more (spelling i) q.pc low (omega arith) e in
     ap (λ o. effect_at o code trash q) (no_host q.pc low)

@@ -18,7 +18,8 @@ use Rattle.lg_rv.specs.declared.instruction.ImmOp.TheVariants.{Jalr, Lb, Lh, Lw,
 use Rattle.lg_cpu.specs.HostSteps.{answer_at}
 use Rattle.lg_cpu.specs.RvOperators.{is_taken}
 use Rattle.lg_cpu.specs.States.{CpuState}
-use Rattle.lg_cpu.specs.RvStep.{read, sets, loads, load_at, store_at, store_width, jump_to, branch_to, imm_effect, act, decoded, in_code, fetch, enter_host, effect_at, effect}
+use Rattle.lg_cpu.specs.RvStep.{read, sets, loads, load_at, store_at, store_width, jump_to, branch_to, imm_effect, act, decoded, fetch, enter_host, effect_at, effect}
+use Rattle.lg_cpu.specs.Fetches.{in_code}
 use Rattle.lg_cpu.proofs.FaultLemmas.{Quiet, quiet_arrived, quiet_faults, quiet_choice, quiet_returned}
 
 quiet_sets : (q : CpuState) (to value : ℕ) → Quiet q (sets q to value)

@@ -3,7 +3,7 @@ use Rattle.std.proofs.Common.{◌≡◌, ℕ, ◌≤◌, true, List, Option, sym
 use Rattle.std.proofs.KnownBytes.{Appends-nil}
 use Rattle.std.specs.Io.KnownBytes.{Appends}
 use Rattle.lg_base.specs.Layout.{code_base}
-use Rattle.lg_cpu.specs.RvStep.{in_code}
+use Rattle.lg_cpu.specs.Fetches.{in_code}
 use Rattle.lg_cpu.proofs.RunLemmas.{no_host}
 use Rattle.lg_cpu.specs.Steps.{Progress, Goes, EndedWith, Faulted, Effect}
 use Rattle.lg_cpu.specs.Answers.{answer_of}

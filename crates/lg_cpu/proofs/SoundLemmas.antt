@@ -26,7 +26,8 @@ use Rattle.lg_cpu.specs.HostSteps.{answer_at, put, behind_call}
 use Rattle.lg_cpu.specs.RvOperators.{reg_value, is_taken}
 use Rattle.lg_cpu.specs.States.{CpuState}
 use Rattle.lg_cpu.specs.Loads.{extended_by}
-use Rattle.lg_cpu.specs.RvStep.{read, goes, sets, loads, load_at, store_at, store_width, jump_to, branch_to, imm_effect, act, decoded, in_code, fetch, host_effect, enter_host, effect_at, effect}
+use Rattle.lg_cpu.specs.RvStep.{read, goes, sets, loads, load_at, store_at, store_width, jump_to, branch_to, imm_effect, act, decoded, fetch, host_effect, enter_host, effect_at, effect}
+use Rattle.lg_cpu.specs.Fetches.{in_code}
 use Rattle.lg_cpu.specs.Laws.{IsSound, AreBytes}
 use Rattle.lg_cpu.proofs.WordLemmas.{AreWords, loaded_lt, stored_sound, put_words, sound_arrives, sound_choice, drop_bytes, behind_words, sound_host_step}
 use Rattle.lg_cpu.proofs.OperatorLemmas.{low_word, sign_32_word, choice_word, reg_word, shift_word, sign_1_word, sign_2_word, sign_4_word}

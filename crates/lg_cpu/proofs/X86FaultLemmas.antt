@@ -18,8 +18,8 @@ use Rattle.lg_x86.specs.declared.instruction.JumpRegOp.TheVariants.{Jmpr, Callr}
 use Rattle.lg_x86.specs.declared.instruction.BareOp.TheVariants.{Cqo, Ret, Nop}
 use Rattle.lg_cpu.specs.HostSteps.{answer_at}
 use Rattle.lg_cpu.specs.States.{CpuState}
-use Rattle.lg_cpu.specs.RvStep.{in_code}
-use Rattle.lg_cpu.specs.X86Operators.{condition}
+use Rattle.lg_cpu.specs.Fetches.{in_code}
+use Rattle.lg_cpu.specs.X86Operators.{condition_holds}
 use Rattle.lg_cpu.specs.X86Step.{Scene, scene_of, pushes, made, fault_of, goes_with, goes_where, returns, does, decoded, fetch, takes_al, enter_with, enter_host, effect_at, effect}
 use Rattle.lg_cpu.proofs.FaultLemmas.{Quiet, quiet_arrived, quiet_faults, quiet_choice, quiet_returned}
 
@@ -52,8 +52,8 @@ quiet_does (Unary op rm) next q = quiet_made (Unary op rm) next q
 quiet_does (Shift op rm count) next q = quiet_made (Shift op rm count) next q
 quiet_does (Bswap reg) next q = quiet_made (Bswap reg) next q
 quiet_does (Stack op reg) next q = quiet_made (Stack op reg) next q
-quiet_does (JumpIfShort cond distance) next q = quiet_where q next (add_words next (word_of distance)) (condition cond q.flags)
-quiet_does (JumpIfNear cond distance) next q = quiet_where q next (add_words next (word_of distance)) (condition cond q.flags)
+quiet_does (JumpIfShort cond distance) next q = quiet_where q next (add_words next (word_of distance)) (condition_holds cond q.flags)
+quiet_does (JumpIfNear cond distance) next q = quiet_where q next (add_words next (word_of distance)) (condition_holds cond q.flags)
 quiet_does (Set cond rm) next q = quiet_made (Set cond rm) next q
 quiet_does (JumpShort distance) next q = quiet_arrived _ _
 quiet_does (JumpNear Jmp32 distance) next q = quiet_arrived _ _

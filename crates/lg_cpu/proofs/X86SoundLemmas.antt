@@ -3,7 +3,7 @@ use Rattle.std.proofs.Common.{◌≡◌, ℕ, ◌+◌, ◌-◌, ◌*◌, ◌/◌
 use Rattle.std.specs.Prelude.{◌==◌, ◌||◌, nat_le, nat_lt, IfSome, bit_and, if◌then◌else◌}
 use Rattle.std.proofs.Math.Nat.{mod-lt, div-lt_iff_lt-mul}
 use Rattle.std.proofs.lemmas.Nat.{and_le_l, or_lt, xor_lt}
-use Rattle.lg_base.specs.CarryFlags.{carry_of}
+use Rattle.lg_base.specs.Flags.{carry_of}
 use Rattle.lg_base.specs.Fields.{word_of}
 use Rattle.lg_base.specs.Layout.{code_base}
 use Rattle.lg_base.specs.Words.{add_words, sub_words, magnitude, with_sign, is_negative, differ, complement, extended}
@@ -34,10 +34,10 @@ use Rattle.lg_x86.specs.declared.instruction.JumpNearOp.TheVariants.{Jmp32, Call
 use Rattle.lg_x86.specs.declared.instruction.JumpRegOp.TheVariants.{Jmpr, Callr}
 use Rattle.lg_x86.specs.declared.instruction.BareOp.TheVariants.{Cqo, Ret, Nop}
 use Rattle.lg_cpu.specs.HostSteps.{put, behind_call}
-use Rattle.lg_cpu.specs.RvStep.{in_code}
+use Rattle.lg_cpu.specs.Fetches.{in_code}
 use Rattle.lg_cpu.specs.States.{CpuState}
 use Rattle.lg_cpu.specs.Steps.{faults}
-use Rattle.lg_cpu.specs.X86Operators.{no_flags, bit, carry_for, alu_value, alu_flags, is_kept_by, alu_of, sign_word, reg_rm_value, shift_value, condition}
+use Rattle.lg_cpu.specs.X86Operators.{no_flags, bit, carry_for, alu_value, alu_flags, is_kept_by, alu_of, sign_word, reg_rm_value, shift_value, condition_holds}
 use Rattle.lg_cpu.specs.X86Step.{Scene, scene_of, sets, with_flags, with_register, with_carry, load_value, sets_loaded, loads, store_width, stores, sets_wide, sets_quotient, one_register, pops, pushes, sets_byte, made}
 use Rattle.lg_cpu.specs.X86Step.{fault_of, goes_with, goes_where, returns, does, decoded, fetch, popped, takes_al, enter_with, enter_host, effect_at, effect}
 use Rattle.lg_cpu.specs.Laws.{IsSound, AreBytes}
@@ -233,7 +233,7 @@ made-sound (Shift op rm count) s ok h = set s rm _ _ h (shift-word op (s.registe
 made-sound (Bswap reg) s ok h = set s reg _ s.flags h (swapped-word (s.registers reg))
 made-sound (Stack Push reg) s ok h = push (s.registers reg) s h
 made-sound (Stack Pop reg) s ok h = pop reg s (loaded s.bytes (s.registers 4) 8) h (λ v e. let lt : v < 256 ^ 8 = loaded_lt s.bytes (s.registers 4) 8 v h.bytes e in omega (arith, lt))
-made-sound (Set cond rm) s ok h = set-byte rm s (condition cond s.flags) h
+made-sound (Set cond rm) s ok h = set-byte rm s (condition_holds cond s.flags) h
 made-sound (Bare Cqo) s ok h = set s 2 _ s.flags h (sign-word-word (s.registers 0))
 made-sound (Bare Nop) s ok h = record { words = h.words; bytes = h.bytes }
 made-sound (Bare Ret) s ok h = tt
@@ -282,8 +282,8 @@ sound_does (Stack op reg) next q ok n s = sound_made (Stack op reg) next q ok n 
 sound_does (Set cond rm) next q ok n s = sound_made (Set cond rm) next q ok n s
 sound_does (Bare Cqo) next q ok n s = sound_made (Bare Cqo) next q ok n s
 sound_does (Bare Nop) next q ok n s = sound_made (Bare Nop) next q ok n s
-sound_does (JumpIfShort cond distance) next q ok n s = sound_where q next (add_words next (word_of distance)) (condition cond q.flags) s n (low_word (next + word_of distance))
-sound_does (JumpIfNear cond distance) next q ok n s = sound_where q next (add_words next (word_of distance)) (condition cond q.flags) s n (low_word (next + word_of distance))
+sound_does (JumpIfShort cond distance) next q ok n s = sound_where q next (add_words next (word_of distance)) (condition_holds cond q.flags) s n (low_word (next + word_of distance))
+sound_does (JumpIfNear cond distance) next q ok n s = sound_where q next (add_words next (word_of distance)) (condition_holds cond q.flags) s n (low_word (next + word_of distance))
 sound_does (JumpShort distance) next q ok n s = sound_goes_on q (add_words next (word_of distance)) s (low_word (next + word_of distance))
 sound_does (JumpNear Jmp32 distance) next q ok n s = sound_goes_on q (add_words next (word_of distance)) s (low_word (next + word_of distance))
 sound_does (JumpNear Call32 distance) next q ok n s = sound_with q (add_words next (word_of distance)) Memory (pushes next (scene_of q)) s (low_word (next + word_of distance)) (push next (scene_of q) (scene_sound q s))

@@ -3,6 +3,7 @@
 use Rattle.std.specs.Prelude.{ℕ, ◌+◌, ◌-◌, ◌*◌, ◌/◌, ◌%◌, ◌^◌, ◌==◌, ◌&&◌, not, Bool, false, nat_lt, nat_le, bit_and, bit_or, bit_xor, if◌then◌else◌}
 use Rattle.lg_base.specs.Words.{add_words, sub_words, mul_words, complement, high_product, high_product_signed, quotient, quotient_signed, shifted_left, shifted_right, shifted_right_signed, is_negative, differ, word_of_test, carry_out, borrow_out}
 use Rattle.lg_base.specs.Wide.{swapped}
+use Rattle.lg_base.specs.Flags.{negative_flag, zero_flag, carry_flag, overflow_flag}
 use Rattle.lg_a64.specs.declared.instruction.RegOp.{RegOp}
 use Rattle.lg_a64.specs.declared.instruction.RegOp.TheVariants.{Add, Adds, Sub, Subs, Adc, Adcs, Sbc, Sbcs, And, Orr, Eor, Ands, Orn, Smulh, Umulh, Udiv, Sdiv, Lslv, Lsrv, Asrv}
 use Rattle.lg_a64.specs.declared.instruction.ImmOp.{ImmOp}
@@ -21,23 +22,6 @@ use Rattle.lg_base.specs.declared.flags.Flags.{Flags}
 use Rattle.lg_base.specs.declared.flags.Flags.TheVariants.{Nzcv}
 
 -- ---- flags
--- N, Z, C and V; the flags of other processors read as 0
-abbrev pub negative_flag : Flags → Bool
-negative_flag (Nzcv negative zero carry overflow) = negative
-negative_flag f = false
-
-abbrev pub zero_flag : Flags → Bool
-zero_flag (Nzcv negative zero carry overflow) = zero
-zero_flag f = false
-
-abbrev pub carry_flag : Flags → Bool
-carry_flag (Nzcv negative zero carry overflow) = carry
-carry_flag f = false
-
-abbrev pub overflow_flag : Flags → Bool
-overflow_flag (Nzcv negative zero carry overflow) = overflow
-overflow_flag f = false
-
 -- N and Z are those of a result
 abbrev pub result_flags : ℕ → Bool → Bool → Flags
 result_flags result carry overflow = Nzcv (is_negative result) (result == 0) carry overflow
@@ -71,21 +55,21 @@ abbrev pub borrow_word : Flags → ℕ
 borrow_word f = word_of_test (not (carry_flag f))
 
 -- whether a condition holds
-abbrev pub holds : Cond → Flags → Bool
-holds Eq f = zero_flag f
-holds Ne f = not (zero_flag f)
-holds Cs f = carry_flag f
-holds Cc f = not (carry_flag f)
-holds Mi f = negative_flag f
-holds Pl f = not (negative_flag f)
-holds Vs f = overflow_flag f
-holds Vc f = not (overflow_flag f)
-holds Hi f = carry_flag f && not (zero_flag f)
-holds Ls f = not (carry_flag f && not (zero_flag f))
-holds Ge f = not (differ (negative_flag f) (overflow_flag f))
-holds Lt f = differ (negative_flag f) (overflow_flag f)
-holds Gt f = not (zero_flag f) && not (differ (negative_flag f) (overflow_flag f))
-holds Le f = not (not (zero_flag f) && not (differ (negative_flag f) (overflow_flag f)))
+abbrev pub condition_holds : Cond → Flags → Bool
+condition_holds Eq f = zero_flag f
+condition_holds Ne f = not (zero_flag f)
+condition_holds Cs f = carry_flag f
+condition_holds Cc f = not (carry_flag f)
+condition_holds Mi f = negative_flag f
+condition_holds Pl f = not (negative_flag f)
+condition_holds Vs f = overflow_flag f
+condition_holds Vc f = not (overflow_flag f)
+condition_holds Hi f = carry_flag f && not (zero_flag f)
+condition_holds Ls f = not (carry_flag f && not (zero_flag f))
+condition_holds Ge f = not (differ (negative_flag f) (overflow_flag f))
+condition_holds Lt f = differ (negative_flag f) (overflow_flag f)
+condition_holds Gt f = not (zero_flag f) && not (differ (negative_flag f) (overflow_flag f))
+condition_holds Le f = not (not (zero_flag f) && not (differ (negative_flag f) (overflow_flag f)))
 
 -- ---- three registers
 -- by zero the quotient is 0

@@ -31,8 +31,8 @@ use Rattle.lg_cpu.specs.Steps.{Effect, faults}
 use Rattle.lg_cpu.specs.Loads.{extended_by}
 use Rattle.lg_cpu.specs.States.{CpuState, arrives, goes_on}
 use Rattle.lg_cpu.specs.HostSteps.{put, behind_call, answer_at, returned}
-use Rattle.lg_cpu.specs.RvStep.{in_code}
-use Rattle.lg_cpu.specs.A64Operators.{reg_value, reg_flags, imm_number, imm_value, imm_flags, wide_value, mul_add_value, bitfield_value, csinc_value, reverse_value, holds}
+use Rattle.lg_cpu.specs.Fetches.{in_code}
+use Rattle.lg_cpu.specs.A64Operators.{reg_value, reg_flags, imm_number, imm_value, imm_flags, wide_value, mul_add_value, bitfield_value, csinc_value, reverse_value, condition_holds}
 
 -- where 31 is no stack pointer it reads as 0, and is not written
 abbrev pub read : (ℕ → ℕ) → ℕ → ℕ
@@ -138,13 +138,13 @@ act (Imm op rd rn imm shifted) q = imm_effect op rd (q.registers rn) (imm_number
 act (Wide op rd imm hw) q = sets q rd (wide_value op (read q.registers rd) imm hw)
 act (MulAdd op rd rn rm ra) q = sets q rd (mul_add_value op (read q.registers rn) (read q.registers rm) (read q.registers ra))
 act (Bitfield op rd rn immr imms) q = sets q rd (bitfield_value op (read q.registers rn) immr imms)
-act (Csinc rd rn rm cond) q = sets q rd (csinc_value (holds cond q.flags) (read q.registers rn) (read q.registers rm))
+act (Csinc rd rn rm cond) q = sets q rd (csinc_value (condition_holds cond q.flags) (read q.registers rn) (read q.registers rm))
 act (Reverse op rd rn) q = sets q rd (reverse_value op (read q.registers rn))
 act (Scaled op rt rn imm) q = scaled_effect op rt (add_words (q.registers rn) (imm * scaled_width op)) q
 act (Ldrx rt rn rm) q = load_at q rt (add_words (q.registers rn) (read q.registers rm)) 8 false
 act (Unscaled op rt rn imm) q = unscaled_effect op rt (add_words (q.registers rn) (word_of imm)) q
 act (Branch op words) q = branch_effect op (away q.pc (word_of words)) q
-act (BranchIf cond words) q = branch_to q (holds cond q.flags) (away q.pc (word_of words))
+act (BranchIf cond words) q = branch_to q (condition_holds cond q.flags) (away q.pc (word_of words))
 act (BranchReg op rn) q = branch_reg_effect op (read q.registers rn) q
 act Nop q = computes q q.registers q.flags
 

@@ -42,8 +42,8 @@ StepsFollowRuns = (image args out : List ℕ) (old new : Shown) (taken taken' : 
     → IsRunOf image args out old → CpuSays old new taken taken' count count' answer → answer ≢ cpu.WriteFault → GoesOnAsRun image args out new taken taken'
 
 -- ---- where an instruction stands, the step is the instruction's: on RV64IM, AArch64 and x86-64
-abbrev pub ExecutesWhatStands : Type 0
-ExecutesWhatStands = (code more : List ℕ) (trash : ℕ) (q : CpuState) (i : Instr) → IsInstr i → code_base ≤ q.pc → q.pc % 4 ≡ 0 → drop (q.pc - code_base) code ≡ spelling i ++ more
+abbrev pub RvExecutesWhatStands : Type 0
+RvExecutesWhatStands = (code more : List ℕ) (trash : ℕ) (q : CpuState) (i : Instr) → IsInstr i → code_base ≤ q.pc → q.pc % 4 ≡ 0 → drop (q.pc - code_base) code ≡ spelling i ++ more
     → effect code trash q ≡ act i q
 
 abbrev pub A64ExecutesWhatStands : Type 0

@@ -2,6 +2,7 @@ pub mod A64Groups
 pub mod A64Operators
 pub mod A64Step
 pub mod Answers
+pub mod Fetches
 pub mod HostSteps
 pub mod Laws
 pub mod Loads
@@ -13,5 +14,6 @@ pub mod Starts
 pub mod States
 pub mod Steps
 pub mod Targets
+pub mod X86Groups
 pub mod X86Operators
 pub mod X86Step

@@ -22,8 +22,6 @@ use Rattle.lg_cpu.specs.declared.riscv64.Riscv64.{Riscv64}
 use Rattle.lg_cpu.specs.declared.x86_64.X86_64.{X86_64}
 use Rattle.lg_cpu.specs.X86Step.{Scene, scene_of, goes, goes_with}
 use Rattle.lg_base.specs.declared.fault.FaultKind.{FaultKind}
-use Rattle.lg_x86.specs.declared.instruction.Instr.{Instr}
-use Rattle.lg_x86.specs.declared.instruction.Instr.TheVariants.{Load, Store, Stack, JumpIfShort, JumpIfNear, JumpShort, JumpNear, JumpReg, Bare}
 use Rattle.lg_cpu.specs.declared.cpu.Cpu.{Cpu}
 use Rattle.lg_cpu.specs.declared.answer.CpuStep.{CpuStep}
 use Rattle.lg_cpu.specs.declared.answer.CpuStep.TheVariants as cpu
@@ -173,16 +171,3 @@ Leads next s old new answer = Does (goes next s (x86_state old).mark) (x86_inner
 -- or faults where there is none
 abbrev pub Makes : ℕ → FaultKind → Option Scene → X86_64 → X86_64 → CpuStep → Type 0
 Makes next kind made old new answer = Does (goes_with (x86_state old) next kind made) (x86_inner old) (x86_inner new) answer
-
--- the instructions on memory, on the stack, and those that go elsewhere
-abbrev pub is_rest : Instr → Bool
-is_rest (Load op reg base disp) = true
-is_rest (Store op base disp reg) = true
-is_rest (Stack op reg) = true
-is_rest (JumpIfShort cond distance) = true
-is_rest (JumpIfNear cond distance) = true
-is_rest (JumpShort distance) = true
-is_rest (JumpNear op distance) = true
-is_rest (JumpReg op rm) = true
-is_rest (Bare op) = true
-is_rest i = false

@@ -21,6 +21,7 @@ use Rattle.lg_rv.specs.declared.instruction.StoreOp.TheVariants.{Sb, Sh, Sw, Sd}
 use Rattle.lg_rv.specs.declared.instruction.RegOp.TheVariants.{Add, Slt, Sltu, Xor, Or, And, Addw}
 use Rattle.lg_rv.specs.Reading.{front_of}
 use Rattle.lg_base.specs.declared.flags.Flags.TheVariants.{NoFlags}
+use Rattle.lg_cpu.specs.Fetches.{in_code}
 use Rattle.lg_cpu.specs.Loads.{extended_by}
 use Rattle.lg_cpu.specs.States.{CpuState, arrives}
 use Rattle.lg_cpu.specs.Steps.{Effect, faults}
@@ -105,10 +106,6 @@ act (Reg op rd rs1 rs2) q = sets q rd (reg_value op (read q.registers rs1) (read
 abbrev pub decoded : Option (Instr × ℕ) → CpuState → Effect CpuState
 decoded None q = faults q Decode
 decoded (Some (i, len)) q = act i q
-
--- whether an address is one of the code
-abbrev pub in_code : List ℕ → ℕ → Bool
-in_code code pc = nat_le code_base pc && nat_lt pc (code_base + length code)
 
 abbrev pub fetch : List ℕ → CpuState → Effect CpuState
 fetch code q =

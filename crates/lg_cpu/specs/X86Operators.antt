@@ -5,7 +5,7 @@ use Rattle.lg_base.specs.Words.{add_words, sub_words, mul_words, negated, is_neg
 use Rattle.lg_base.specs.Wide.{zero_part_of, sign_part_of}
 use Rattle.lg_base.specs.declared.flags.Flags.{Flags}
 use Rattle.lg_base.specs.declared.flags.Flags.TheVariants.{Rflags}
-use Rattle.lg_base.specs.CarryFlags.{carry_of}
+use Rattle.lg_base.specs.Flags.{carry_of}
 use Rattle.lg_x86.specs.declared.instruction.RmRegOp.{RmRegOp}
 use Rattle.lg_x86.specs.declared.instruction.RmRegOp.TheVariants as alu
 use Rattle.lg_x86.specs.declared.instruction.ImmOp.{ImmOp}
@@ -19,15 +19,15 @@ use Rattle.lg_x86.specs.declared.instruction.Cond.TheVariants as cond
 
 -- OF, ZF and SF, where they are defined; the flags of other processors read as undefined
 abbrev pub overflow_of : Flags → Option Bool
-overflow_of (Rflags carry overflow zero sign) = overflow
+overflow_of (Rflags sign zero carry overflow) = overflow
 overflow_of f = None
 
 abbrev pub zero_of : Flags → Option Bool
-zero_of (Rflags carry overflow zero sign) = zero
+zero_of (Rflags sign zero carry overflow) = zero
 zero_of f = None
 
 abbrev pub sign_of : Flags → Option Bool
-sign_of (Rflags carry overflow zero sign) = sign
+sign_of (Rflags sign zero carry overflow) = sign
 sign_of f = None
 
 -- no flag is defined
@@ -36,7 +36,7 @@ no_flags = Rflags None None None None
 
 -- ZF and SF by a result
 abbrev pub flags_of : Option Bool → Option Bool → ℕ → Flags
-flags_of carry overflow result = Rflags carry overflow (Some (result == 0)) (Some (is_negative result))
+flags_of carry overflow result = Rflags (Some (is_negative result)) (Some (result == 0)) carry overflow
 
 -- a bit as a number
 abbrev pub bit : Bool → ℕ
@@ -110,7 +110,7 @@ alu_of imm.Cmpi = alu.Cmp
 -- ---- products, and parts of words
 -- CF and OF say that the high half is needed
 abbrev pub product_flags : Bool → Flags
-product_flags needed = Rflags (Some needed) (Some needed) None None
+product_flags needed = Rflags None None (Some needed) (Some needed)
 
 -- the word of all ones, or 0
 abbrev pub sign_word : ℕ → ℕ
@@ -177,18 +177,18 @@ abbrev pub either : Bool → Bool → Bool
 either a b = a || b
 
 -- a condition is undefined where a flag that it names is
-abbrev pub condition : Cond → Flags → Option Bool
-condition cond.Overflow f = overflow_of f
-condition cond.NoOverflow f = turned (overflow_of f)
-condition cond.Below f = carry_of f
-condition cond.AboveOrEqual f = turned (carry_of f)
-condition cond.Equal f = zero_of f
-condition cond.NotEqual f = turned (zero_of f)
-condition cond.BelowOrEqual f = both either (carry_of f) (zero_of f)
-condition cond.Above f = turned (both either (carry_of f) (zero_of f))
-condition cond.Sign f = sign_of f
-condition cond.NoSign f = turned (sign_of f)
-condition cond.Less f = both differ (sign_of f) (overflow_of f)
-condition cond.GreaterOrEqual f = turned (both differ (sign_of f) (overflow_of f))
-condition cond.LessOrEqual f = both either (zero_of f) (both differ (sign_of f) (overflow_of f))
-condition cond.Greater f = turned (both either (zero_of f) (both differ (sign_of f) (overflow_of f)))
+abbrev pub condition_holds : Cond → Flags → Option Bool
+condition_holds cond.Overflow f = overflow_of f
+condition_holds cond.NoOverflow f = turned (overflow_of f)
+condition_holds cond.Below f = carry_of f
+condition_holds cond.AboveOrEqual f = turned (carry_of f)
+condition_holds cond.Equal f = zero_of f
+condition_holds cond.NotEqual f = turned (zero_of f)
+condition_holds cond.BelowOrEqual f = both either (carry_of f) (zero_of f)
+condition_holds cond.Above f = turned (both either (carry_of f) (zero_of f))
+condition_holds cond.Sign f = sign_of f
+condition_holds cond.NoSign f = turned (sign_of f)
+condition_holds cond.Less f = both differ (sign_of f) (overflow_of f)
+condition_holds cond.GreaterOrEqual f = turned (both differ (sign_of f) (overflow_of f))
+condition_holds cond.LessOrEqual f = both either (zero_of f) (both differ (sign_of f) (overflow_of f))
+condition_holds cond.Greater f = turned (both either (zero_of f) (both differ (sign_of f) (overflow_of f)))

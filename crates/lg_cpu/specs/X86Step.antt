@@ -7,7 +7,7 @@ use Rattle.lg_base.specs.Spaces.{mapped, loaded, stored}
 use Rattle.lg_base.specs.Parts.{args_base}
 use Rattle.lg_base.specs.Layout.{stop_address, code_base, stack_end, return_word}
 use Rattle.lg_base.specs.HostNames.{host_by_address}
-use Rattle.lg_base.specs.CarryFlags.{carry_of}
+use Rattle.lg_base.specs.Flags.{carry_of}
 use Rattle.lg_base.specs.declared.flags.Flags.{Flags}
 use Rattle.lg_base.specs.declared.target.Target.TheVariants as target
 use Rattle.lg_base.specs.declared.fault.FaultKind.{FaultKind}
@@ -34,8 +34,8 @@ use Rattle.lg_x86.specs.Reading.{front_of}
 use Rattle.lg_cpu.specs.Steps.{Effect, faults}
 use Rattle.lg_cpu.specs.States.{CpuState, arrives, goes_on}
 use Rattle.lg_cpu.specs.HostSteps.{put, behind_call, answer_at, returned}
-use Rattle.lg_cpu.specs.RvStep.{in_code}
-use Rattle.lg_cpu.specs.X86Operators.{no_flags, bit, carry_for, alu_value, alu_flags, is_kept_by, alu_of, product_flags, sign_word, needs_high, needs_high_signed, reg_rm_value, reg_rm_flags, negation_flags, shift_value, shift_flags, condition}
+use Rattle.lg_cpu.specs.Fetches.{in_code}
+use Rattle.lg_cpu.specs.X86Operators.{no_flags, bit, carry_for, alu_value, alu_flags, is_kept_by, alu_of, product_flags, sign_word, needs_high, needs_high_signed, reg_rm_value, reg_rm_flags, negation_flags, shift_value, shift_flags, condition_holds}
 
 -- the registers, the flags, and the bytes of the memory by their addresses: what most instructions work on
 pub record Scene : Type 0 where
@@ -161,7 +161,7 @@ made (Shift op rm count) s = Some (shifted op rm count s)
 made (Bswap reg) s = sets s reg (swapped (s.registers reg) 8) s.flags
 made (Stack Push reg) s = pushes (s.registers reg) s
 made (Stack Pop reg) s = pops reg s (loaded s.bytes (s.registers 4) 8)
-made (Set cond rm) s = sets_byte rm s (condition cond s.flags)
+made (Set cond rm) s = sets_byte rm s (condition_holds cond s.flags)
 made (Bare Cqo) s = sets s 2 (sign_word (s.registers 0)) s.flags
 made (Bare Nop) s = Some s
 made i s = None
@@ -199,8 +199,8 @@ returns q (Some target) = arrives target (put q.registers 4 (add_words (q.regist
 
 -- what an instruction does whose spelling ends at an address
 abbrev pub does : Instr → ℕ → CpuState → Effect CpuState
-does (JumpIfShort cond distance) next q = goes_where q next (add_words next (word_of distance)) (condition cond q.flags)
-does (JumpIfNear cond distance) next q = goes_where q next (add_words next (word_of distance)) (condition cond q.flags)
+does (JumpIfShort cond distance) next q = goes_where q next (add_words next (word_of distance)) (condition_holds cond q.flags)
+does (JumpIfNear cond distance) next q = goes_where q next (add_words next (word_of distance)) (condition_holds cond q.flags)
 does (JumpShort distance) next q = goes_on q (add_words next (word_of distance))
 does (JumpNear Jmp32 distance) next q = goes_on q (add_words next (word_of distance))
 does (JumpNear Call32 distance) next q = goes_with q (add_words next (word_of distance)) Memory (pushes next (scene_of q))

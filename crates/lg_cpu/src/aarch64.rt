@@ -5,14 +5,15 @@ ghost use Rattle.lg_cpu.specs.A64Step.{scaled_width};
 ghost use Rattle.lg_cpu.specs.A64Operators.{reg_value, reg_flags, imm_value, imm_flags};
 
 mod fields;
+mod flags;
 mod host;
 mod operators;
 mod start;
 
 use self::fields::bitfield_value;
+use self::flags::{condition_holds, imm_flags, reg_flags};
 use self::operators::{
-    csinc_value, holds, imm_flags, imm_number, imm_value, mul_add_value, reg_flags, reg_value,
-    reverse_value, wide_value,
+    csinc_value, imm_number, imm_value, mul_add_value, reg_value, reverse_value, wide_value,
 };
 use crate::answer::CpuStep;
 use crate::board::{Board, CODE, STOP};
@@ -52,7 +53,7 @@ impl Aarch64 {
     ghost use Rattle.lg_cpu.specs.A64Step.{reg_effect, imm_effect, scaled_effect, unscaled_effect, branch_effect, branch_reg_effect};
     ghost use Rattle.lg_cpu.specs.A64Step.{away, act, fetch};
     ghost use Rattle.std.specs.Prelude.{true};
-    ghost use Rattle.lg_cpu.specs.RvStep.{in_code};
+    ghost use Rattle.lg_cpu.specs.Fetches.{in_code};
     ghost use Rattle.lg_cpu.specs.States.{goes_on};
     ghost use Rattle.lg_cpu.specs.Machines.{a64_state, a64_inner, Does};
     ghost use Rattle.lg_cpu.specs.A64Groups.{is_rest};
@@ -287,7 +288,11 @@ impl Aarch64 {
             } => self.set(rd, bitfield_value(op, self.read(rn), immr, imms)),
             Instr::Csinc { rd, rn, rm, cond } => self.set(
                 rd,
-                csinc_value(holds(cond, self.flags), self.read(rn), self.read(rm)),
+                csinc_value(
+                    condition_holds(cond, self.flags),
+                    self.read(rn),
+                    self.read(rm),
+                ),
             ),
             Instr::Reverse { op, rd, rn } => self.set(rd, reverse_value(op, self.read(rn))),
             other => self.act_rest(other),
@@ -319,7 +324,7 @@ impl Aarch64 {
             ),
             Instr::Branch { op, words } => self.act_branch(op, self.away(words)),
             Instr::BranchIf { cond, words } => {
-                self.act_branch_if(holds(cond, self.flags), self.away(words))
+                self.act_branch_if(condition_holds(cond, self.flags), self.away(words))
             }
             Instr::BranchReg { op, rn } => self.act_branch_reg(op, self.read(rn)),
             Instr::Nop => self.go(self.pc.wrapping_add(4)),

@@ -1,6 +1,6 @@
 // What holds of every step, for the crates above. The functions do nothing: their contracts are the laws.
 
-ghost use Rattle.lg_cpu.specs.Laws.{StepsAreThose, StartsAreRuns, StepsFollowRuns, ExecutesWhatStands, A64ExecutesWhatStands, X86ExecutesWhatStands};
+ghost use Rattle.lg_cpu.specs.Laws.{StepsAreThose, StartsAreRuns, StepsFollowRuns, RvExecutesWhatStands, A64ExecutesWhatStands, X86ExecutesWhatStands};
 ghost use Rattle.lg_cpu.specs.Laws.{FaultsChangeNothing, StaysSound, RunsAreMachines};
 
 /// A call of `step` makes the step of the definition, unless a write fails.
@@ -20,8 +20,8 @@ pub fn steps_follow_the_run()
 {}
 
 /// Where the program counter is the address of an instruction's spelling in the code, the step is the instruction's: on RV64IM.
-pub fn what_stands_is_executed()
-    ensures { ExecutesWhatStands }
+pub fn what_stands_is_executed_on_riscv64()
+    ensures { RvExecutesWhatStands }
 {}
 
 /// And on AArch64.

@@ -86,7 +86,7 @@ impl Processor {
         }
     }
 
-    /// What a register reads as.
+    /// What a register reads as. Its number is below 32.
     pub fn read(&self, number: u8) -> u64
         requires { number < 32 }
         ensures { result ≡ reads (inner self.now).fixed.target (inner self.now).state.registers number }
@@ -98,7 +98,8 @@ impl Processor {
         }
     }
 
-    /// Sets a register, where the processor has one of the number.
+    /// Sets a register, the number of which is below 32, where the processor has one of the number, and changes nothing else. Register 0 of
+    /// RV64 reads as 0 all the same.
     pub fn set_register(&mut self, number: u8, value: u64)
         requires { number < 32 }
         ensures { inner self.new ≡ (
@@ -124,7 +125,7 @@ impl Processor {
         }
     }
 
-    /// Sets the flags, where the processor has any.
+    /// Sets the flags, where the processor has any, and changes nothing else.
     pub fn set_flags(&mut self, flags: Flags)
         ensures { inner self.new ≡ (
             if has_flags (inner self.old).fixed.target
@@ -138,7 +139,7 @@ impl Processor {
         }
     }
 
-    /// Goes on at an address.
+    /// Goes on at an address, whether the run was over or not. `Ended(0)` at the stop address, else `Went`. Nothing else changes.
     pub fn go(&mut self, pc: u64) -> CpuStep
         ensures answer { result ≡ answer_of (arrived pc) }
         ensures state { inner self.new ≡ with_state (inner self.old) (record (inner self.old).state { pc = pc }) }
@@ -150,7 +151,7 @@ impl Processor {
         }
     }
 
-    /// Replaces the code.
+    /// Replaces the code, and changes nothing else.
     pub fn set_code(&mut self, code: CodeBytes)
         ensures { inner self.new ≡ record (inner self.old) { fixed = record (inner self.old).fixed { code = code.items } } }
     {
@@ -161,7 +162,8 @@ impl Processor {
         }
     }
 
-    /// A number in memory.
+    /// The number in `width` bytes of the memory from an address on, the lowest byte first. None exactly where not all bytes
+    /// lie in one part. `width` is 1, 2, 4 or 8.
     pub fn load(&self, address: u64, width: u32) -> Option<u64>
         requires { (width ≡ 1) ⊎ (width ≡ 2) ⊎ (width ≡ 4) ⊎ (width ≡ 8) }
         ensures { result ≡ loaded (inner self.now).state.bytes address width }
@@ -173,7 +175,8 @@ impl Processor {
         }
     }
 
-    /// Writes a number into memory, where all its bytes lie in one part.
+    /// Writes the low `width` bytes of a number into the memory from an address on, the lowest byte first, and changes
+    /// nothing else. False exactly where not all bytes lie in one part, and then nothing changes. `width` is 1, 2, 4 or 8.
     pub fn store(&mut self, address: u64, width: u32, value: u64) -> bool
         requires { (width ≡ 1) ⊎ (width ≡ 2) ⊎ (width ≡ 4) ⊎ (width ≡ 8) }
         ensures done { result ≡ mapped (inner self.old).state.bytes address width }

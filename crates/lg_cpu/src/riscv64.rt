@@ -40,7 +40,8 @@ fn store_width(op: StoreOp) -> u32
 impl Riscv64 {
     ghost use Rattle.lg_base.specs.Fields.{word_of};
     ghost use Rattle.lg_rv.specs.Spelling.{IsInstr};
-    ghost use Rattle.lg_cpu.specs.RvStep.{read, sets, load_at, store_at, jump_to, branch_to, imm_effect, act, in_code, fetch};
+    ghost use Rattle.lg_cpu.specs.RvStep.{read, sets, load_at, store_at, jump_to, branch_to, imm_effect, act, fetch};
+    ghost use Rattle.lg_cpu.specs.Fetches.{in_code};
     ghost use Rattle.std.specs.Prelude.{true};
     ghost use Rattle.lg_cpu.specs.States.{goes_on};
     ghost use Rattle.lg_cpu.specs.Machines.{rv_state, rv_inner, Does};

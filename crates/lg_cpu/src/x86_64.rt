@@ -10,8 +10,8 @@ mod operators;
 mod start;
 
 use self::flags::{
-    bit_flags, condition, difference_flags, negation_flags, no_flags, product_flags, reg_rm_flags,
-    shift_flags, sum_flags,
+    bit_flags, condition_holds, difference_flags, negation_flags, no_flags, product_flags,
+    reg_rm_flags, shift_flags, sum_flags,
 };
 use self::operators::{
     alu_of, alu_value, high_signed, needs_high, needs_high_signed, reg_rm_value, shift_value,
@@ -70,15 +70,16 @@ impl X86_64 {
     ghost use Rattle.lg_base.specs.declared.fault.FaultKind.{FaultKind};
     ghost use Rattle.lg_x86.specs.Spelling.{IsInstr};
     ghost use Rattle.lg_x86.specs.declared.instruction.Instr.{Instr};
-    ghost use Rattle.lg_cpu.specs.RvStep.{in_code};
+    ghost use Rattle.lg_cpu.specs.Fetches.{in_code};
     ghost use Rattle.lg_cpu.specs.States.{goes_on};
-    ghost use Rattle.lg_cpu.specs.X86Operators.{bit, bit_flags, condition};
+    ghost use Rattle.lg_cpu.specs.X86Operators.{bit, bit_flags, condition_holds};
     ghost use Rattle.lg_x86.specs.declared.instruction.RmRegOp.{RmRegOp};
     ghost use Rattle.lg_cpu.specs.X86Step.{with_register, with_flags, with_wide, combined_with, combined, loads, sets_loaded, stores};
     ghost use Rattle.lg_cpu.specs.X86Step.{shifted, sets_quotient, one_register};
     ghost use Rattle.lg_cpu.specs.X86Step.{pops, pushes, sets_byte, goes_where, returns, does, fetch};
     ghost use Rattle.lg_cpu.specs.Machines as machines;
-    ghost use Rattle.lg_cpu.specs.Machines.{x86_scene, x86_state, x86_inner, with_state, is_rest, Does, Leads, Makes};
+    ghost use Rattle.lg_cpu.specs.Machines.{x86_scene, x86_state, x86_inner, with_state, Does, Leads, Makes};
+    ghost use Rattle.lg_cpu.specs.X86Groups.{is_rest};
 
     // What a register reads as; there are 16.
     pub(crate) fn register(&self, number: u8) -> u64
@@ -385,9 +386,9 @@ impl X86_64 {
     // Sets the low byte of a register where a condition holds, and clears it where it does not.
     fn set_byte(&mut self, next: u64, cond: Cond, rm: u8) -> CpuStep
         requires { rm < 16 }
-        ensures { Makes next FaultKind.Flag (sets_byte rm (x86_scene self.old) (condition cond (x86_scene self.old).flags)) self.old self.new result }
+        ensures { Makes next FaultKind.Flag (sets_byte rm (x86_scene self.old) (condition_holds cond (x86_scene self.old).flags)) self.old self.new result }
     {
-        match condition(cond, self.flags) {
+        match condition_holds(cond, self.flags) {
             Some(holds) => {
                 let value = self.registers[rm as usize] / 256 * 256 + u64::from(holds);
                 self.set(next, rm, value, self.flags)
@@ -398,10 +399,10 @@ impl X86_64 {
 
     // Jumps where a condition holds.
     fn jump_if(&mut self, next: u64, cond: Cond, distance: i32) -> CpuStep
-        ensures { Does (goes_where (x86_state self.old) next (add_words next (word_of distance)) (condition cond (x86_state self.old).flags))
+        ensures { Does (goes_where (x86_state self.old) next (add_words next (word_of distance)) (condition_holds cond (x86_state self.old).flags))
             (x86_inner self.old) (x86_inner self.new) result }
     {
-        match condition(cond, self.flags) {
+        match condition_holds(cond, self.flags) {
             Some(true) => self.go(next.wrapping_add(sign_extended(distance))),
             Some(false) => self.go(next),
             None => CpuStep::Fault(FaultKind::Flag),

@@ -111,8 +111,18 @@ fn set_flags(target: Target, cpu: &mut Cpu, flags: [Option<bool>; 4]) {
     let [a, b, c, d] = flags;
     let yes = Some(true);
     match target {
-        Target::X86_64 => cpu.set_flags(Flags::Rflags(a, b, c, d)),
-        Target::Aarch64 => cpu.set_flags(Flags::Nzcv(a == yes, b == yes, c == yes, d == yes)),
+        Target::X86_64 => cpu.set_flags(Flags::Rflags {
+            carry: a,
+            overflow: b,
+            zero: c,
+            sign: d,
+        }),
+        Target::Aarch64 => cpu.set_flags(Flags::Nzcv {
+            negative: a == yes,
+            zero: b == yes,
+            carry: c == yes,
+            overflow: d == yes,
+        }),
         Target::Riscv64 => {}
     }
 }
@@ -120,8 +130,18 @@ fn set_flags(target: Target, cpu: &mut Cpu, flags: [Option<bool>; 4]) {
 fn flags(cpu: &Cpu) -> [Option<bool>; 4] {
     match cpu.flags() {
         Flags::NoFlags => [None; 4],
-        Flags::Nzcv(a, b, c, d) => [Some(a), Some(b), Some(c), Some(d)],
-        Flags::Rflags(a, b, c, d) => [a, b, c, d],
+        Flags::Nzcv {
+            negative,
+            zero,
+            carry,
+            overflow,
+        } => [Some(negative), Some(zero), Some(carry), Some(overflow)],
+        Flags::Rflags {
+            sign,
+            zero,
+            carry,
+            overflow,
+        } => [carry, overflow, zero, sign],
     }
 }
 

@@ -10,6 +10,7 @@ use crate::format::{Kind, Size, Style};
 use crate::parts::{Part, put_parts};
 use crate::strings::string_end;
 use lg_base::space::Space;
+use lg_base::word::SIGN_BIT;
 use lg_io::digits::{Digits, Radix};
 use lg_io::sink::{Sink, SinkFault};
 
@@ -111,7 +112,7 @@ fn is_negative(size: Size, word: u64) -> bool
         Size::Byte => word % 0x100 >= 0x80,
         Size::Short => word % 0x1_0000 >= 0x8000,
         Size::Int => word % 0x1_0000_0000 >= 0x8000_0000,
-        Size::Long => word >= 0x8000_0000_0000_0000,
+        Size::Long => word >= SIGN_BIT,
     }
 }
 

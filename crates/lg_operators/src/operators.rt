@@ -6,6 +6,7 @@ ghost use Rattle.lg_operators.specs.Operators.{binary_value, partial_value, is_c
 use crate::carry::Carry;
 use lg_base::wide::{mul_high, mul_high_u, sign_part, swap_bytes, zero_part};
 use lg_base::word::{
+    SIGN_BIT,
     difference_overflows_signed, divide_signed, less_signed, remain_signed, shift_right_signed,
     sum_overflows_signed,
 };
@@ -15,7 +16,7 @@ use lg_op::{BinaryOp, BranchSumOp, Condition, StoreType, UnaryOp, ValueType, Wid
 fn divides(a: u64, b: u64) -> bool
     ensures { result ≡ divides a b }
 {
-    !(b == 0 || (a == 0x8000_0000_0000_0000 && b == 0xFFFF_FFFF_FFFF_FFFF))
+    !(b == 0 || (a == SIGN_BIT && b == 0xFFFF_FFFF_FFFF_FFFF))
 }
 
 // The word of a quotient or a remainder, or None where it is undefined; None of the others.

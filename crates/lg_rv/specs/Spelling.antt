@@ -54,7 +54,3 @@ IsInstr (Shift op rd rs1 amount) =
     (rd < 32) × (rs1 < 32) × (amount < 64) × ((shift_row op).fixed.opcode ≡ 0x1b → amount < 32)
 IsInstr (Store op rs1 rs2 imm) = (rs1 < 32) × (rs2 < 32) × (negsuc 2047 ≤ℤ imm) × (imm ≤ℤ pos 2047)
 IsInstr (Reg op rd rs1 rs2) = (rd < 32) × (rs1 < 32) × (rs2 < 32)
-
--- the bytes begin with the spelling of an instruction
-abbrev pub BeginsWith : List ℕ → Instr → Type 0
-BeginsWith bytes i = IsInstr i × (more : List ℕ) × (bytes ≡ spelling i ++ more)

@@ -1,8 +1,8 @@
 // From bytes to instructions.
 
-ghost use Rattle.std.specs.Prelude.{◌≡◌, ◌≤◌, ◌++◌, ℕ, List, length, take, Some, IfSome, IfNone};
-ghost use Rattle.std.specs.Int.{w32, from_le_bytes};
-ghost use Rattle.lg_rv.specs.Spelling.{IsInstr, BeginsWith, spelling};
+ghost use Rattle.std.specs.Prelude.{◌≡◌, ◌≤◌, ◌++◌, ℕ, List, length, Some, IfSome, IfNone};
+ghost use Rattle.lg_base.specs.Fronts.{BeginsWith};
+ghost use Rattle.lg_rv.specs.Spelling.{IsInstr, spelling};
 ghost use Rattle.lg_base.specs.Fields.{part};
 ghost use Rattle.lg_base.specs.WordFronts.{word_front};
 ghost use Rattle.lg_rv.specs.Reading.{front_of, instr_of, upper_of, jal_of, branch_of, imm_of, shift_of, word_shift_of, store_of, reg_of};
@@ -11,17 +11,18 @@ use crate::fields::{Amount, Funct3, Funct6, Funct7, Imm12, Imm20, Opcode, Rd, Rs
 use crate::instruction::{BranchOp, ImmOp, Instr, RegOp, ShiftOp, StoreOp, UpperOp};
 use lg_base::field::Field;
 use lg_base::number::from_bits;
+use lg_base::word::word_in_front;
 
 /// The instruction that the bytes begin with, and its length, 4. `None` where the first 4 bytes are
 /// no word of the table, or there are fewer than 4.
 #[inline(always)]
 pub fn decode(bytes: &[u8]) -> Option<(Instr, u32)>
+    ensures value { result ≡ front_of bytes.now }
     // whatever follows its spelling, an instruction is read as itself
     ensures again { (i : Instr) (more : List ℕ) → IsInstr i → bytes.now ≡ spelling i ++ more → result ≡ Some (i, length (spelling i)) }
     // what is read is spelled by the bytes in front
-    ensures front { IfSome result (λ found. BeginsWith bytes.now found.0 × (found.1 ≡ length (spelling found.0))) }
-    ensures none { IfNone result ((i : Instr) → BeginsWith bytes.now i → ⊥) }
-    ensures value { result ≡ front_of bytes.now }
+    ensures front { IfSome result (λ found. BeginsWith spelling IsInstr bytes.now found.0 × (found.1 ≡ length (spelling found.0))) }
+    ensures none { IfNone result ((i : Instr) → BeginsWith spelling IsInstr bytes.now i → ⊥) }
 {
     decode_front(bytes)
 }
@@ -36,14 +37,6 @@ fn decode_front(bytes: &[u8]) -> Option<(Instr, u32)>
     }
     let instr = decode_word(word_in_front(bytes))?;
     Some((instr, 4))
-}
-
-// The word of the first four bytes. In a function of its own it becomes one load.
-fn word_in_front(bytes: &[u8]) -> u32
-    requires { 4 ≤ length bytes.now }
-    ensures { result ≡ from_le_bytes w32 (take 4 bytes.now) }
-{
-    u32::from_le_bytes([bytes[0], bytes[1], bytes[2], bytes[3]])
 }
 
 #[inline(always)]

@@ -5,11 +5,10 @@ use Rattle.lg_base.specs.declared.flags.Flags.TheVariants.{NoFlags, Nzcv}
 use Rattle.lg_base.specs.declared.target.Target.{Target}
 use Rattle.lg_base.specs.declared.target.Target.TheVariants.{X86_64, Aarch64, Riscv64}
 use Rattle.lg_carry.specs.Processors.{Seen, Processor}
-use Rattle.lg_cpu.specs.A64Operators.{negative_flag, zero_flag, carry_flag, overflow_flag}
+use Rattle.lg_base.specs.Flags.{negative_flag, zero_flag, carry_flag, overflow_flag}
 use Rattle.lg_cpu.specs.States.{CpuState}
 use Rattle.lg_cpu.specs.Steps.{Run}
 use Rattle.lg_cpu.specs.Targets.{machine_of}
-pub use Rattle.lg_carry.specs.Targets.{unit_of}
 
 -- the flags that a target has: RV64 has none, and those of AArch64 are always defined
 abbrev pub flags_on : Target → Flags → Flags
@@ -23,3 +22,8 @@ seen_on target r = record { pc = r.state.pc; registers = r.state.registers; byte
 -- the processor of a target that runs this code, with the word that registers hold which nothing has set
 abbrev pub processor_of : Target → List ℕ → ℕ → Processor (Run CpuState)
 processor_of target code trash = record { target = target; machine = machine_of target code trash; seen = seen_on target }
+
+-- instructions stand at multiples of so many bytes
+abbrev pub alignment_of : Target → ℕ
+alignment_of X86_64 = 1
+alignment_of target = 4

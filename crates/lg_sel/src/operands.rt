@@ -8,7 +8,7 @@ ghost use Rattle.lg_sel_nodes.specs.Operands.{NameBelow, HasWord, HaveWords};
 ghost use Rattle.lg_sel_items.specs.Reaches.{near_size};
 ghost use Rattle.lg_sel.specs.Families.{staged_count};
 
-use lg_buf::{CodeBuf, Label32};
+use lg_buf::{CodeBuf, CodeLabel};
 use lg_op::Operand;
 use lg_sel_items::{NEAR_SIZE, Reach};
 use lg_temp::choice::Staged;
@@ -41,7 +41,7 @@ pub fn first_reach(operands: &[Operand], buf: &CodeBuf) -> Reach
         return Reach::Far;
     }
     match operands {
-        [Operand::Label(label), ..] => match buf.bound(Label32(label.0)) {
+        [Operand::Label(label), ..] => match buf.bound(CodeLabel(label.0)) {
             Some(_) => Reach::Short,
             None => forward_reach(buf.size()),
         },

@@ -22,7 +22,7 @@ use Rattle.lg_meaning.specs.Steps.{Goes, Undefined, need, on_with_carry, store_t
 use Rattle.lg_meaning.specs.Texts.{step}
 use Rattle.lg_temp.specs.Abis.{register_of}
 use Rattle.lg_temp.specs.declared.choice.Choice.{Choice}
-use Rattle.lg_base.specs.CarryFlags.{carry_of}
+use Rattle.lg_base.specs.Flags.{carry_of}
 use Rattle.lg_carry.specs.AgreeInFrame.{Writes}
 use Rattle.lg_carry.specs.Blocks.{done, spellings}
 use Rattle.lg_carry.specs.FinalNodes.{Code}

@@ -36,7 +36,7 @@ use Rattle.lg_temp.specs.Abis.{register_of}
 use Rattle.lg_temp.specs.Choices.{AreFor}
 use Rattle.lg_temp.specs.Chosen.{Around, around, stands_in, staged_in, is_busy}
 use Rattle.lg_base.specs.declared.flags.Flags.{Flags}
-use Rattle.lg_base.specs.CarryFlags.{carry_of}
+use Rattle.lg_base.specs.Flags.{carry_of}
 use Rattle.lg_carry.specs.AgreeInFrame.{StaysInFrame}
 use Rattle.lg_carry.specs.FinalNodes.{Code, is_inside}
 use Rattle.lg_carry.specs.Places.{AreStacked}

@@ -14,7 +14,7 @@ use Rattle.lg_meaning.specs.Steps.{Undefined, need, quiet, on, on_with_carry, wi
 use Rattle.lg_meaning.specs.Texts.{step}
 use Rattle.lg_temp.specs.Abis.{register_of}
 use Rattle.lg_temp.specs.declared.choice.Choice.{Choice}
-use Rattle.lg_base.specs.CarryFlags.{carry_of}
+use Rattle.lg_base.specs.Flags.{carry_of}
 use Rattle.lg_carry.specs.FinalNodes.{Code}
 use Rattle.lg_carry.specs.Registers.{HoldsCarry}
 use Rattle.lg_carry.specs.TextNodes.{IsInText}

@@ -1,7 +1,7 @@
 -- What the code of the operations on two words computes.
 use Rattle.std.proofs.Common.{◌≡◌, ◌≢◌, ℕ, ◌+◌, ◌*◌, ◌%◌, ◌^◌, ◌<◌, Bool, true, false, Some, refl, sym, ap, ◌∙◌, arith, length}
 use Rattle.std.specs.Prelude.{◌==◌, ◌||◌, not, if◌then◌else◌, ⊤}
-use Rattle.lg_base.specs.CarryFlags.{carry_of}
+use Rattle.lg_base.specs.Flags.{carry_of, carry_flag}
 use Rattle.lg_base.specs.Words.{add_words, mul_words, sub_words, quotient, quotient_signed, remainder, remainder_signed, is_less, is_less_signed, word_of_test, shifted_left, shifted_right, shifted_right_signed, carry_out, borrow_out}
 use Rattle.lg_base.specs.declared.target.Target.TheVariants.{Aarch64}
 use Rattle.lg_op.specs.declared.op.BinaryOp.{BinaryOp}
@@ -13,7 +13,7 @@ use Rattle.lg_meaning.specs.Steps.{bit_word}
 use Rattle.lg_a64.specs.declared.instruction.RegOp.TheVariants as row
 use Rattle.lg_a64.specs.declared.instruction.Cond.{Cond}
 use Rattle.lg_cpu.specs.HostSteps.{put}
-use Rattle.lg_cpu.specs.A64Operators.{carry_flag, reg_value, divided, divided_signed, difference_flags, sum_flags, csinc_value, holds, sum_of, difference_of, carry_word, borrow_word}
+use Rattle.lg_cpu.specs.A64Operators.{reg_value, divided, divided_signed, difference_flags, sum_flags, csinc_value, condition_holds, sum_of, difference_of, carry_word, borrow_word}
 use Rattle.lg_cpu.specs.A64Step.{read, write}
 use Rattle.lg_carry.specs.Registers.{HoldsCarry}
 use Rattle.lg_sel_values.specs.Computers.{Held}
@@ -76,8 +76,8 @@ module _ (d a b : ℕ) (dl : d < 31) (al : a < 30) (bl : b < 31) (w : Held) (xs 
   made f z e = write-same w.registers d (f (read w.registers a) (read w.registers b)) dl ∙ (λ i. f (read-is w.registers a (omega (arith, al)) i) (read-is w.registers b bl i)) ∙ e
 
   -- a comparison, and a choice
-  tested : (c : Cond) (t : Bool) → csinc_value (holds c (difference_flags x y 0)) 0 0 ≡ word_of_test t → write w.registers d (csinc_value (holds c (difference_flags (read w.registers a) (read w.registers b) 0)) 0 0) d ≡ word_of_test t
-  tested c t e = made (λ p q. csinc_value (holds c (difference_flags p q 0)) 0 0) (word_of_test t) e
+  tested : (c : Cond) (t : Bool) → csinc_value (condition_holds c (difference_flags x y 0)) 0 0 ≡ word_of_test t → write w.registers d (csinc_value (condition_holds c (difference_flags (read w.registers a) (read w.registers b) 0)) 0 0) d ≡ word_of_test t
+  tested c t e = made (λ p q. csinc_value (condition_holds c (difference_flags p q 0)) 0 0) (word_of_test t) e
 
   -- a quotient in the link, and what is left
   left : (divide : ℕ → ℕ → ℕ) (z : ℕ) → b ≢ 30 → sub_words x (mul_words (divide x y) y) ≡ z

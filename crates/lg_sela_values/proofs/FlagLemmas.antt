@@ -3,7 +3,7 @@ use Rattle.std.proofs.Common.{◌≡◌, ℕ, ◌^◌, ◌<◌, Bool, true, fals
 use Rattle.std.specs.Prelude.{◌==◌, ◌&&◌, not}
 use Rattle.lg_base.specs.Words.{sub_words, differ, is_negative, is_less, is_less_signed, word_of_test, borrow_out}
 use Rattle.lg_a64.specs.declared.instruction.Cond.TheVariants as cond
-use Rattle.lg_cpu.specs.A64Operators.{holds, difference_of, difference_leaves, difference_flags, csinc_value}
+use Rattle.lg_cpu.specs.A64Operators.{condition_holds, difference_of, difference_leaves, difference_flags, csinc_value}
 
 -- of a difference: N is not V where the first is less, C where it is not less without signs, and Z where they are equal
 pub less-is : (x y : ℕ) → x < 2 ^ 64 → y < 2 ^ 64 → differ (is_negative (difference_of x y 0)) (difference_leaves x y (difference_of x y 0)) ≡ is_less_signed x y
@@ -27,34 +27,34 @@ double-not false = refl
 
 -- the conditions behind a comparison
 module _ (x y : ℕ) (h : x < 2 ^ 64) (k : y < 2 ^ 64) where
-  pub holds-lt : holds cond.Lt (difference_flags x y 0) ≡ is_less_signed x y
+  pub holds-lt : condition_holds cond.Lt (difference_flags x y 0) ≡ is_less_signed x y
   holds-lt = less-is x y h k
 
-  pub holds-ge : holds cond.Ge (difference_flags x y 0) ≡ not (is_less_signed x y)
+  pub holds-ge : condition_holds cond.Ge (difference_flags x y 0) ≡ not (is_less_signed x y)
   holds-ge = ap not (less-is x y h k)
 
-  pub holds-gt : holds cond.Gt (difference_flags x y 0) ≡ is_less_signed y x
+  pub holds-gt : condition_holds cond.Gt (difference_flags x y 0) ≡ is_less_signed y x
   holds-gt = (λ i. not (equal-is x y h k i) && not (less-is x y h k i)) ∙ greater-signed x y h k
 
-  pub holds-le : holds cond.Le (difference_flags x y 0) ≡ not (is_less_signed y x)
+  pub holds-le : condition_holds cond.Le (difference_flags x y 0) ≡ not (is_less_signed y x)
   holds-le = ap not holds-gt
 
-  pub holds-cc : holds cond.Cc (difference_flags x y 0) ≡ is_less x y
+  pub holds-cc : condition_holds cond.Cc (difference_flags x y 0) ≡ is_less x y
   holds-cc = double-not (borrow_out x y 0) ∙ borrow-is x y
 
-  pub holds-cs : holds cond.Cs (difference_flags x y 0) ≡ not (is_less x y)
+  pub holds-cs : condition_holds cond.Cs (difference_flags x y 0) ≡ not (is_less x y)
   holds-cs = ap not (borrow-is x y)
 
-  pub holds-hi : holds cond.Hi (difference_flags x y 0) ≡ is_less y x
+  pub holds-hi : condition_holds cond.Hi (difference_flags x y 0) ≡ is_less y x
   holds-hi = (λ i. not (borrow-is x y i) && not (equal-is x y h k i)) ∙ greater-unsigned x y
 
-  pub holds-ls : holds cond.Ls (difference_flags x y 0) ≡ not (is_less y x)
+  pub holds-ls : condition_holds cond.Ls (difference_flags x y 0) ≡ not (is_less y x)
   holds-ls = ap not holds-hi
 
-  pub holds-eq : holds cond.Eq (difference_flags x y 0) ≡ (x == y)
+  pub holds-eq : condition_holds cond.Eq (difference_flags x y 0) ≡ (x == y)
   holds-eq = equal-is x y h k
 
-  pub holds-ne : holds cond.Ne (difference_flags x y 0) ≡ not (x == y)
+  pub holds-ne : condition_holds cond.Ne (difference_flags x y 0) ≡ not (x == y)
   holds-ne = ap not (equal-is x y h k)
 
 -- 0 where a condition holds that fails with the test

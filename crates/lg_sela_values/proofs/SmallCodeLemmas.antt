@@ -9,7 +9,7 @@ use Rattle.lg_operators.specs.declared.carry.Carry.{Carry}
 use Rattle.lg_operators.specs.Operators.{binary_value, is_carried, carry_in}
 use Rattle.lg_meaning.specs.Steps.{bit_word}
 use Rattle.lg_a64.specs.declared.instruction.Cond.{Cond}
-use Rattle.lg_cpu.specs.A64Operators.{difference_flags, difference_of, csinc_value, holds}
+use Rattle.lg_cpu.specs.A64Operators.{difference_flags, difference_of, csinc_value, condition_holds}
 use Rattle.lg_cpu.specs.A64Step.{write}
 use Rattle.lg_sel_values.specs.Computers.{Held}
 use Rattle.lg_sel_values.specs.Values.{HoldsCarried}
@@ -25,8 +25,8 @@ module _ (d a v : ℕ) (dl : d < 31) (w : Held) (xs : w.registers a < 2 ^ 64) (y
   x = w.registers a
 
   -- a comparison, and a choice
-  tested : (c : Cond) (t : Bool) → csinc_value (holds c (difference_flags x v 0)) 0 0 ≡ word_of_test t → write w.registers d (csinc_value (holds c (difference_flags x v 0)) 0 0) d ≡ word_of_test t
-  tested c t e = write-same w.registers d (csinc_value (holds c (difference_flags x v 0)) 0 0) dl ∙ e
+  tested : (c : Cond) (t : Bool) → csinc_value (condition_holds c (difference_flags x v 0)) 0 0 ≡ word_of_test t → write w.registers d (csinc_value (condition_holds c (difference_flags x v 0)) 0 0) d ≡ word_of_test t
+  tested c t e = write-same w.registers d (csinc_value (condition_holds c (difference_flags x v 0)) 0 0) dl ∙ e
 
   pub small-value : (o : BinaryOp) (z : ℕ) → takes_small o ≡ true → is_carried o ≡ false → binary_value o x v ≡ Some z → (computed (small_code o d a v) w).registers d ≡ z
   small-value binary.Add z h p e = put-same w.registers d (add_words x v) ∙ some-same _ z e

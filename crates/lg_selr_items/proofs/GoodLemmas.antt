@@ -3,7 +3,8 @@ use Rattle.std.proofs.Common.{◌≡◌, ℕ, Bool, true, false, List, [], ◌�
 use Rattle.std.specs.Prelude.{if◌then◌else◌, ⊤}
 use Rattle.std.specs.List.{All}
 use Rattle.std.proofs.lemmas.List.Elements.{All-head, All-tail}
-use Rattle.lg_carry_rv.specs.Numbers.{is_short, is_half, short_code, half_code, long_code, number_code}
+use Rattle.lg_base.specs.Words.{is_half}
+use Rattle.lg_carry_rv.specs.Numbers.{is_short, short_code, half_code, long_code, number_code}
 use Rattle.lg_carry_rv.specs.Destinations.{WritesWithin}
 use Rattle.lg_carry_rv.specs.RvRows.{is_straight}
 use Rattle.lg_carry_rv.proofs.NumberCodeLemmas.{number-fits}

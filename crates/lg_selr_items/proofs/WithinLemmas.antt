@@ -4,7 +4,8 @@ use Rattle.std.specs.Prelude.{if◌then◌else◌}
 use Rattle.lg_base.specs.declared.target.Target.TheVariants.{Riscv64}
 use Rattle.lg_carry.specs.Outside.{is_outside}
 use Rattle.lg_carry_rv.specs.Destinations.{WritesWithin}
-use Rattle.lg_carry_rv.specs.Numbers.{is_short, is_half, short_code, half_code, long_code, number_code}
+use Rattle.lg_carry_rv.specs.Numbers.{is_short, short_code, half_code, long_code, number_code}
+use Rattle.lg_base.specs.Words.{is_half}
 use Rattle.lg_op.specs.declared.operand.Reg.{Reg}
 use Rattle.lg_op.specs.declared.operand.Reg.TheVariants.{R0, R1, R2, V0, V1, V2, Fp}
 use Rattle.lg_rv.specs.declared.instruction.Instr.{Instr}

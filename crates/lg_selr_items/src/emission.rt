@@ -7,7 +7,7 @@ ghost use Rattle.lg_selr_items.specs.Items.{rv_holes, IsItem, NamesOneOf, has_wo
 
 use crate::items::Item;
 use crate::rows::{branch, imm, upper};
-use lg_buf::{Fix, FixKind, Label32};
+use lg_buf::{Fix, FixKind, CodeLabel};
 use lg_rv::{ImmOp, Instr, UpperOp, encode};
 use smallvec::SmallVec;
 
@@ -84,7 +84,7 @@ impl lg_sel_items::Item for Item {
         Some(Fix {
             place,
             kind,
-            label: Label32(label),
+            label: CodeLabel(label),
         })
     }
 }

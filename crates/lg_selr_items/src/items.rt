@@ -1,10 +1,12 @@
 // What the code of a node is made of on RV64.
 
 ghost use Rattle.std.specs.Prelude.{◌≡◌, ◌+◌, ◌≤◌, pos, ◌++◌, length};
-ghost use Rattle.lg_carry_rv.specs.Numbers.{is_short, is_half, low_part, high_part, half_code, long_code, number_code};
+ghost use Rattle.lg_carry_rv.specs.Numbers.{is_short, low_part, high_part, half_code, long_code, number_code};
+ghost use Rattle.lg_base.specs.Words.{is_half};
 ghost use Rattle.lg_selr_items.specs.Items.{words_in, ones};
 
 use crate::rows::{imm, shift};
+use lg_base::word::is_half;
 use lg_rv::{BranchOp, ImmOp, Instr, ShiftOp, UpperOp};
 use lg_sel_items::Items;
 use std::default::Default;
@@ -67,13 +69,6 @@ pub fn is_short(value: u64) -> bool
     ensures { result ≡ is_short value }
 {
     value.wrapping_add(2048) < 4096
-}
-
-// Whether the signed view of a number has 32 bits.
-fn is_half(value: u64) -> bool
-    ensures { result ≡ is_half value }
-{
-    value.wrapping_add(1 << 31) < 1 << 32
 }
 
 /// The low 12 bits of a word, with their sign: from -2,048 to 2,047.

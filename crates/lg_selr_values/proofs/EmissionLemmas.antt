@@ -6,7 +6,8 @@ use Rattle.lg_rv.specs.declared.instruction.Instr.TheVariants.{Imm, Shift, Reg}
 use Rattle.lg_rv.specs.declared.instruction.ImmOp.TheVariants.{Andi}
 use Rattle.lg_rv.specs.declared.instruction.ShiftOp.TheVariants.{Slli, Srli}
 use Rattle.lg_rv.specs.declared.instruction.RegOp.TheVariants as row
-use Rattle.lg_carry_rv.specs.Numbers.{is_short, is_half, short_code, half_code, long_code, number_code}
+use Rattle.lg_carry_rv.specs.Numbers.{is_short, short_code, half_code, long_code, number_code}
+use Rattle.lg_base.specs.Words.{is_half}
 use Rattle.lg_base.specs.HostNames.{host_address}
 use Rattle.lg_op.specs.declared.operand.Operand.{Operand}
 use Rattle.lg_op.specs.declared.operand.Operand.TheVariants as operand

@@ -1,8 +1,8 @@
 -- What the items of x86-64 have beside their instructions.
 use Rattle.std.proofs.Common.{◌≡◌, ℕ, ◌+◌, ◌≤◌, Bool, true, false, List, [], ◌∷◌, ◌++◌, refl, arith}
 use Rattle.std.specs.Prelude.{⊤, ◌^◌, cond, nat_lt, if◌then◌else◌}
-use Rattle.lg_base.specs.Words.{signed_view}
-use Rattle.lg_carry_x86.specs.Numbers.{is_half, number_row}
+use Rattle.lg_base.specs.Words.{signed_view, is_half}
+use Rattle.lg_carry_x86.specs.Numbers.{number_row}
 use Rattle.lg_sel.proofs.EmissionLemmas as emission
 use Rattle.lg_sel.proofs.StoreLemmas as stores
 use Rattle.lg_sel.specs.Stores.{x86_stores}

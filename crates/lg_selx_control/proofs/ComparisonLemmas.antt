@@ -3,7 +3,7 @@ use Rattle.std.proofs.Common.{◌≡◌, ◌≢◌, ℕ, ◌-◌, ◌^◌, ◌<�
 use Rattle.std.specs.Prelude.{◌==◌, ◌&&◌, if◌then◌else◌, pos}
 use Rattle.std.specs.Option.{option_and_then}
 use Rattle.lg_base.specs.HostNames.{host_address}
-use Rattle.lg_base.specs.Words.{signed_view}
+use Rattle.lg_base.specs.Words.{signed_view, is_half}
 use Rattle.lg_base.specs.declared.flags.Flags.{Flags}
 use Rattle.lg_base.specs.declared.target.Target.TheVariants.{X86_64}
 use Rattle.lg_op.specs.declared.op.Condition.{Condition}
@@ -25,7 +25,7 @@ use Rattle.lg_cpu.specs.X86Step.{Scene, made, combined}
 use Rattle.lg_temp.specs.Abis.{register_of}
 use Rattle.lg_carry_x86.specs.MakingNodes.{scene}
 use Rattle.lg_carry_x86.specs.Makings.{makes}
-use Rattle.lg_carry_x86.specs.Numbers.{is_half, number_row}
+use Rattle.lg_carry_x86.specs.Numbers.{number_row}
 use Rattle.lg_carry_x86.proofs.NumberCodeLemmas.{view-word, row-loads}
 use Rattle.lg_sel_nodes.specs.Leaps.{second_word}
 use Rattle.lg_selx_values.specs.Scratch.{again}

@@ -4,7 +4,7 @@ use Rattle.std.specs.Prelude.{◌==◌, ◌&&◌, if◌then◌else◌, negsuc, p
 use Rattle.std.proofs.lemmas.Bool.{and_parts}
 use Rattle.std.proofs.lemmas.Int.{ints}
 use Rattle.lg_base.specs.HostNames.{host_address}
-use Rattle.lg_base.specs.Words.{signed_view}
+use Rattle.lg_base.specs.Words.{signed_view, is_half}
 use Rattle.lg_base.specs.declared.host_name.HostName.{HostName}
 use Rattle.lg_base.specs.declared.host_name.HostName.TheVariants as host
 use Rattle.lg_base.specs.declared.target.Target.TheVariants.{X86_64}
@@ -32,7 +32,7 @@ use Rattle.lg_x86.specs.declared.instruction.JumpNearOp.TheVariants.{Jmp32, Call
 use Rattle.lg_x86.specs.declared.instruction.RmRegOp.TheVariants.{Mov}
 use Rattle.lg_temp.specs.Abis.{register_of}
 use Rattle.lg_carry.specs.Carries.{leaps}
-use Rattle.lg_carry_x86.specs.Numbers.{is_half, number_row}
+use Rattle.lg_carry_x86.specs.Numbers.{number_row}
 use Rattle.lg_carry_x86.proofs.NumberCodeLemmas.{half-number, row-loads}
 use Rattle.lg_sel_control.proofs.ControlLemmas.{differ, never, never-sum, host-small}
 use Rattle.lg_selx_items.specs.declared.items.Item.{Item}

@@ -11,7 +11,7 @@ use Rattle.lg_x86.specs.declared.instruction.Instr.{Instr}
 use Rattle.lg_cpu.specs.Laws.{AreBytes}
 use Rattle.lg_cpu.specs.States.{CpuState, goes_on}
 use Rattle.lg_cpu.specs.Steps.{Run, Effect, after, status_of}
-use Rattle.lg_cpu.specs.X86Operators.{condition}
+use Rattle.lg_cpu.specs.X86Operators.{condition_holds}
 use Rattle.lg_cpu.specs.X86Step.{Scene, scene_of, goes_where, does}
 use Rattle.lg_carry.specs.Blocks.{spellings}
 use Rattle.lg_carry_x86.specs.MakingNodes.{scene}
@@ -39,7 +39,7 @@ jump-size Near c at to = refl
 jump-size Far c at to = refl
 
 jump-does : (r : Reach) (c : Cond) (at to next : ℕ) (q : CpuState)
-    → does (jump_if r c at to) next q ≡ goes_where q next (add_words next (word_of (pos to -ℤ pos (at + jump_long r)))) (condition c q.flags)
+    → does (jump_if r c at to) next q ≡ goes_where q next (add_words next (word_of (pos to -ℤ pos (at + jump_long r)))) (condition_holds c q.flags)
 jump-does Short c at to next q = refl
 jump-does Near c at to next q = refl
 jump-does Far c at to next q = refl

@@ -2,7 +2,7 @@
 use Rattle.std.proofs.Common.{ℕ, zero, suc, List, [], ◌∷◌, Option, Some, None, Bool, refl}
 use Rattle.std.specs.Prelude.{true, false, ◌==◌, ◌&&◌, ◌^◌, nat_lt, if◌then◌else◌}
 use Rattle.lg_base.specs.HostNames.{host_address}
-use Rattle.lg_base.specs.Words.{signed_view}
+use Rattle.lg_base.specs.Words.{signed_view, is_half}
 use Rattle.lg_base.specs.declared.target.Target.TheVariants.{X86_64}
 use Rattle.lg_op.specs.declared.op.BranchSumOp.{BranchSumOp}
 use Rattle.lg_op.specs.declared.op.Condition.{Condition}
@@ -21,7 +21,7 @@ use Rattle.lg_x86.specs.declared.instruction.ImmOp.TheVariants.{Cmpi}
 use Rattle.lg_x86.specs.declared.instruction.Instr.TheVariants as instr
 use Rattle.lg_temp.specs.Abis.{register_of}
 use Rattle.lg_carry_x86.specs.Destinations.{WritesWithin}
-use Rattle.lg_carry_x86.specs.Numbers.{is_half, number_row}
+use Rattle.lg_carry_x86.specs.Numbers.{number_row}
 use Rattle.lg_selx_items.specs.Items.{ones, StayWithin}
 use Rattle.lg_selx_items.proofs.WithinLemmas.{In, portable, Within, join, stay-append, stay-ones}
 use Rattle.lg_selx_values.specs.Scratch.{again}

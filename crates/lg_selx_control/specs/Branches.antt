@@ -1,6 +1,6 @@
 -- What a branch compares, and the condition on which it is taken.
 use Rattle.std.specs.Prelude.{ℕ, ◌-◌, ◌==◌, ◌&&◌, Bool, true, false, if◌then◌else◌, ℤ, negsuc, List, [], ◌∷◌, Option, Some, None}
-use Rattle.lg_base.specs.Words.{signed_view}
+use Rattle.lg_base.specs.Words.{signed_view, is_half}
 use Rattle.lg_base.specs.declared.target.Target.TheVariants.{X86_64}
 use Rattle.lg_op.specs.declared.op.Condition.{Condition}
 use Rattle.lg_op.specs.declared.op.Condition.TheVariants as condition
@@ -16,7 +16,7 @@ use Rattle.lg_x86.specs.declared.instruction.LoadOp.TheVariants.{Lea}
 use Rattle.lg_x86.specs.declared.instruction.RmRegOp.{RmRegOp}
 use Rattle.lg_x86.specs.declared.instruction.RmRegOp.TheVariants as row
 use Rattle.lg_temp.specs.Abis.{register_of}
-use Rattle.lg_carry_x86.specs.Numbers.{is_half, number_row}
+use Rattle.lg_carry_x86.specs.Numbers.{number_row}
 use Rattle.lg_sel_nodes.specs.Immediates.{immediate}
 use Rattle.lg_selx_values.specs.Scratch.{again}
 

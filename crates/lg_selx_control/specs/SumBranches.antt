@@ -1,7 +1,7 @@
 -- The branches that add and subtract: the sum or difference sets the flags, and a jump is taken where they tell that the exact result does not fit, or
 -- that it does.
 use Rattle.std.specs.Prelude.{ℕ, if◌then◌else◌, List, [], ◌∷◌, Option, Some, None}
-use Rattle.lg_base.specs.Words.{signed_view}
+use Rattle.lg_base.specs.Words.{signed_view, is_half}
 use Rattle.lg_base.specs.declared.target.Target.TheVariants.{X86_64}
 use Rattle.lg_op.specs.declared.op.BranchSumOp.{BranchSumOp}
 use Rattle.lg_op.specs.declared.op.BranchSumOp.TheVariants as sum
@@ -17,7 +17,7 @@ use Rattle.lg_x86.specs.declared.instruction.Instr.TheVariants as instr
 use Rattle.lg_x86.specs.declared.instruction.RmRegOp.{RmRegOp}
 use Rattle.lg_x86.specs.declared.instruction.RmRegOp.TheVariants.{Add, Sub}
 use Rattle.lg_temp.specs.Abis.{register_of}
-use Rattle.lg_carry_x86.specs.Numbers.{is_half, number_row}
+use Rattle.lg_carry_x86.specs.Numbers.{number_row}
 use Rattle.lg_sel_nodes.specs.Immediates.{immediate}
 use Rattle.lg_selx_values.specs.Scratch.{again}
 

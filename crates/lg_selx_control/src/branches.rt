@@ -7,9 +7,10 @@ ghost use Rattle.lg_selx_items.specs.Items.{words_in, ones};
 ghost use Rattle.lg_selx_items.specs.declared.items.Item.TheVariants.{Jump};
 
 use crate::pointers::{FRAME_POINTER, STACK_POINTER, pointer_again, stack_again};
+use lg_base::word::is_half;
 use lg_op::{Condition, Label, Operand, Reg};
 use lg_sel_items::{Items, Reach};
-use lg_selx_items::{Item, JumpKind, half_number, is_half, put_number, register_of, row};
+use lg_selx_items::{Item, JumpKind, half_number, put_number, register_of, row};
 use lg_x86::{Cond, ImmOp, Instr, RmRegOp};
 
 // What sets the flags: the difference of two words, and for bits their conjunction.

@@ -1,9 +1,9 @@
 -- Items whose instructions are in range, within the conventions and followed by the next.
 use Rattle.std.proofs.Common.{◌≡◌, ℕ, ◌^◌, ◌<◌, Bool, true, false, List, [], ◌∷◌, ◌++◌, refl}
 use Rattle.std.specs.Prelude.{nat_lt, if◌then◌else◌}
-use Rattle.lg_base.specs.Words.{signed_view}
+use Rattle.lg_base.specs.Words.{signed_view, is_half}
 use Rattle.lg_carry_x86.specs.Destinations.{WritesWithin}
-use Rattle.lg_carry_x86.specs.Numbers.{is_half, number_row}
+use Rattle.lg_carry_x86.specs.Numbers.{number_row}
 use Rattle.lg_carry_x86.specs.X86Rows.{is_straight}
 use Rattle.lg_carry_x86.proofs.NumberCodeLemmas.{row-loads}
 use Rattle.lg_x86.specs.declared.instruction.Instr.{Instr}

@@ -6,7 +6,7 @@ ghost use Rattle.lg_selx_items.specs.declared.items.Item.TheVariants.{One};
 ghost use Rattle.lg_selx_items.specs.Items.{x86_holes, IsItem, NamesOneOf, has_word};
 
 use crate::items::{Item, move_size};
-use lg_buf::{Fix, FixKind, Label32};
+use lg_buf::{Fix, FixKind, CodeLabel};
 use lg_x86::{Instr, encode};
 use smallvec::SmallVec;
 
@@ -69,7 +69,7 @@ impl lg_sel_items::Item for Item {
         Some(Fix {
             place: place + before,
             kind,
-            label: Label32(label),
+            label: CodeLabel(label),
         })
     }
 }

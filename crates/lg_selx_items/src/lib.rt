@@ -9,5 +9,5 @@ mod numbers;
 mod rows;
 
 pub use items::{Item, JumpKind};
-pub use numbers::{half_number, is_half, put_number};
+pub use numbers::{half_number, put_number};
 pub use rows::{FRAME_POINTER, STACK_POINTER, lea, mov, register_of, row};

@@ -1,11 +1,12 @@
 // The instruction that loads a number.
 
 ghost use Rattle.std.specs.Prelude.{◌≡◌, ◌+◌, ◌<◌, ◌++◌, [], ◌∷◌, true};
-ghost use Rattle.lg_base.specs.Words.{signed_view};
-ghost use Rattle.lg_carry_x86.specs.Numbers.{is_half, number_row};
+ghost use Rattle.lg_base.specs.Words.{signed_view, is_half};
+ghost use Rattle.lg_carry_x86.specs.Numbers.{number_row};
 ghost use Rattle.lg_selx_items.specs.Items.{words_in, ones};
 
 use crate::items::Item;
+use lg_base::word::is_half;
 use lg_sel_items::Items;
 use lg_x86::Instr;
 
@@ -34,13 +35,6 @@ fn number_row(reg: u8, value: u64) -> Instr
     } else {
         Instr::Movi64 { reg, imm: value }
     }
-}
-
-/// Whether the signed view of a word has 32 bits.
-pub fn is_half(value: u64) -> bool
-    ensures { result ≡ is_half value }
-{
-    value.wrapping_add(1 << 31) < 1 << 32
 }
 
 /// The signed view of a word, which has 32 bits.

@@ -4,7 +4,7 @@ use Rattle.std.specs.Prelude.{◌==◌, ◌||◌, nat_lt, slice_index, if◌then
 use Rattle.std.proofs.lemmas.Int.{ints}
 use Rattle.lg_base.specs.Conventions.{argument_registers}
 use Rattle.lg_base.specs.HostNames.{host_address}
-use Rattle.lg_base.specs.Words.{signed_view}
+use Rattle.lg_base.specs.Words.{signed_view, is_half}
 use Rattle.lg_base.specs.declared.target.Target.TheVariants.{X86_64}
 use Rattle.lg_op.specs.declared.node.Node.{Node}
 use Rattle.lg_op.specs.declared.op.Addressing.{Addressing}
@@ -25,7 +25,7 @@ use Rattle.lg_x86.specs.declared.instruction.RmRegOp.TheVariants.{Mov}
 use Rattle.lg_x86.specs.declared.instruction.StoreOp.TheVariants.{St64}
 use Rattle.lg_meaning.specs.Steps.{operand_at, stored_operand, slot}
 use Rattle.lg_temp.specs.Abis.{register_of}
-use Rattle.lg_carry_x86.specs.Numbers.{is_half, number_row}
+use Rattle.lg_carry_x86.specs.Numbers.{number_row}
 use Rattle.lg_carry_x86.proofs.NumberCodeLemmas.{half-number}
 use Rattle.lg_sel_items.specs.Holes.{Each}
 use Rattle.lg_sel_memory.specs.Accesses.{Address, Base, At, Sum, Index, address_of, IsAddress}

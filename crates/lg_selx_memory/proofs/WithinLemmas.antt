@@ -3,7 +3,7 @@ use Rattle.std.proofs.Common.{◌≡◌, ℕ, ◌<◌, ◌^◌, Bool, true, fals
 use Rattle.std.specs.Prelude.{nat_lt, slice_index, if◌then◌else◌, ◌==◌, ◌||◌}
 use Rattle.lg_base.specs.Conventions.{argument_registers}
 use Rattle.lg_base.specs.HostNames.{host_address}
-use Rattle.lg_base.specs.Words.{signed_view}
+use Rattle.lg_base.specs.Words.{signed_view, is_half}
 use Rattle.lg_base.specs.declared.target.Target.TheVariants.{X86_64}
 use Rattle.lg_op.specs.declared.node.Node.{Node}
 use Rattle.lg_op.specs.declared.op.StoreType.{StoreType}
@@ -16,7 +16,7 @@ use Rattle.lg_x86.specs.declared.instruction.Instr.TheVariants as instr
 use Rattle.lg_meaning.specs.Steps.{operand_at, stored_operand, slot}
 use Rattle.lg_temp.specs.Abis.{register_of}
 use Rattle.lg_carry_x86.specs.Destinations.{WritesWithin}
-use Rattle.lg_carry_x86.specs.Numbers.{is_half, number_row}
+use Rattle.lg_carry_x86.specs.Numbers.{number_row}
 use Rattle.lg_sel_memory.specs.Accesses.{Address, Base, At, Sum, Index, address_of}
 use Rattle.lg_sel_memory.specs.Operands.{named}
 use Rattle.lg_selx_items.specs.Items.{ones, NameLabels, StayWithin}

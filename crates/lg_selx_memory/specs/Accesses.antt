@@ -1,7 +1,7 @@
 -- The code of loads and stores: the address is a number of 32 bits behind a register, or is computed into a spare register first; one row loads or
 -- stores, and the spare register is made again where it held something that is needed. Moves and `lea` alone compute: no flag changes.
 use Rattle.std.specs.Prelude.{ℕ, ◌==◌, ◌||◌, Bool, true, false, if◌then◌else◌, ℤ, pos, List, [], ◌∷◌, ◌++◌}
-use Rattle.lg_base.specs.Words.{signed_view}
+use Rattle.lg_base.specs.Words.{signed_view, is_half}
 use Rattle.lg_base.specs.declared.target.Target.TheVariants.{X86_64}
 use Rattle.lg_op.specs.declared.node.Node.{Node}
 use Rattle.lg_op.specs.declared.op.ValueType.{ValueType}
@@ -22,7 +22,7 @@ use Rattle.lg_sel_memory.specs.Accesses.{Address, Base, At, Sum, Index, address_
 use Rattle.lg_sel_memory.specs.Loads.{LoadCode}
 use Rattle.lg_sel_memory.specs.Operands.{named}
 use Rattle.lg_sel_memory.specs.Stores.{StoreCode}
-use Rattle.lg_carry_x86.specs.Numbers.{is_half, number_row}
+use Rattle.lg_carry_x86.specs.Numbers.{number_row}
 use Rattle.lg_selx_values.specs.Scratch.{again}
 use Rattle.lg_selx_control.specs.Branches.{lowered}
 

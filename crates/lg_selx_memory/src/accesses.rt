@@ -9,10 +9,11 @@ ghost use Rattle.lg_selx_memory.specs.Accesses.{indexes, load_spare, store_spare
 
 use crate::operands::register;
 use crate::pointers::{FRAME_POINTER, STACK_POINTER, pointer_again, stack_again};
+use lg_base::word::is_half;
 use lg_op::{Addressing, Node, Operand, StoreType, ValueType};
 use lg_sel_items::Items;
 use lg_sel_memory::operands::{number, operand};
-use lg_selx_items::{Item, half_number, is_half, put_number};
+use lg_selx_items::{Item, half_number, put_number};
 use lg_x86::{Instr, LoadOp, StoreOp};
 
 // Where an access is: a register and a number behind it, and whether the register is a spare one.

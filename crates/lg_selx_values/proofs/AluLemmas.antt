@@ -16,7 +16,7 @@ use Rattle.lg_temp.specs.declared.choice.Choice.{Choice}
 use Rattle.lg_carry_x86.specs.Makings.{makes}
 use Rattle.lg_carry_x86.specs.MakingNodes.{scene}
 use Rattle.lg_sel_values.specs.Computers.{Held}
-use Rattle.lg_base.specs.CarryFlags.{carry_of}
+use Rattle.lg_base.specs.Flags.{carry_of}
 use Rattle.lg_selx_values.specs.BinaryCode.{ordered, commuting, difference}
 use Rattle.lg_selx_values.specs.Words.{MakesWord}
 use Rattle.lg_selx_values.proofs.RegisterLemmas.{put-same, put-other, put-twice, equal, apart, moved-makes}

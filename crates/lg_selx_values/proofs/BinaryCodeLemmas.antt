@@ -21,7 +21,7 @@ use Rattle.lg_x86.specs.declared.instruction.Cond.{Cond}
 use Rattle.lg_x86.specs.declared.instruction.Cond.TheVariants as cond
 use Rattle.lg_cpu.specs.HostSteps.{put}
 use Rattle.lg_base.specs.declared.flags.Flags.{Flags}
-use Rattle.lg_cpu.specs.X86Operators.{no_flags, bit, difference_flags, overflows_difference, product_flags, needs_high_signed, shift_value, shift_flags, condition, either, sign_word}
+use Rattle.lg_cpu.specs.X86Operators.{no_flags, bit, difference_flags, overflows_difference, product_flags, needs_high_signed, shift_value, shift_flags, condition_holds, either, sign_word}
 use Rattle.lg_cpu.specs.X86Step.{sets_byte, sets_quotient}
 use Rattle.lg_temp.specs.declared.choice.Choice.{Choice}
 use Rattle.lg_carry_x86.specs.Makings.{makes}
@@ -73,7 +73,7 @@ product-word choices d a b q = by (d == b) refl
         ∙ ap (λ g. Some (scene g flags' bytes)) (put-twice w d (w a) (mul_words (w a) (w b))))
 
 -- ---- comparisons
-compared-word : (choices : List Choice) (c : Cond) (d a b : ℕ) (q : Held) (t : Bool) → condition c (difference_flags (q.registers a) (q.registers b) 0 (sub_words (q.registers a) (q.registers b))) ≡ Some t
+compared-word : (choices : List Choice) (c : Cond) (d a b : ℕ) (q : Held) (t : Bool) → condition_holds c (difference_flags (q.registers a) (q.registers b) 0 (sub_words (q.registers a) (q.registers b))) ≡ Some t
     → MakesWord choices (compared c d a b) d (word_of_test t) q
 compared-word choices c d a b q t e =
     let w : ℕ → ℕ = q.registers in
@@ -102,34 +102,34 @@ module _ (a b : ℕ) (h : a < 2 ^ 64) (k : b < 2 ^ 64) where
   at-most : either (borrow_out a b 0) (sub_words a b == 0) ≡ not (is_less b a)
   at-most = (λ i. either (less a b i) (zero i)) ∙ not-greater a b
 
-  pub less-tells : condition cond.Less f ≡ Some (is_less_signed a b)
+  pub less-tells : condition_holds cond.Less f ≡ Some (is_less_signed a b)
   less-tells = ap Some signs
 
-  pub below-tells : condition cond.Below f ≡ Some (is_less a b)
+  pub below-tells : condition_holds cond.Below f ≡ Some (is_less a b)
   below-tells = ap Some (less a b)
 
-  pub less-or-equal-tells : condition cond.LessOrEqual f ≡ Some (not (is_less_signed b a))
+  pub less-or-equal-tells : condition_holds cond.LessOrEqual f ≡ Some (not (is_less_signed b a))
   less-or-equal-tells = ap Some at-most-signed
 
-  pub below-or-equal-tells : condition cond.BelowOrEqual f ≡ Some (not (is_less b a))
+  pub below-or-equal-tells : condition_holds cond.BelowOrEqual f ≡ Some (not (is_less b a))
   below-or-equal-tells = ap Some at-most
 
-  pub greater-or-equal-tells : condition cond.GreaterOrEqual f ≡ Some (not (is_less_signed a b))
+  pub greater-or-equal-tells : condition_holds cond.GreaterOrEqual f ≡ Some (not (is_less_signed a b))
   greater-or-equal-tells = ap (λ x. Some (not x)) signs
 
-  pub above-or-equal-tells : condition cond.AboveOrEqual f ≡ Some (not (is_less a b))
+  pub above-or-equal-tells : condition_holds cond.AboveOrEqual f ≡ Some (not (is_less a b))
   above-or-equal-tells = ap (λ x. Some (not x)) (less a b)
 
-  pub greater-tells : condition cond.Greater f ≡ Some (is_less_signed b a)
+  pub greater-tells : condition_holds cond.Greater f ≡ Some (is_less_signed b a)
   greater-tells = ap (λ x. Some (not x)) at-most-signed ∙ ap Some (turned-twice (is_less_signed b a))
 
-  pub above-tells : condition cond.Above f ≡ Some (is_less b a)
+  pub above-tells : condition_holds cond.Above f ≡ Some (is_less b a)
   above-tells = ap (λ x. Some (not x)) at-most ∙ ap Some (turned-twice (is_less b a))
 
-  pub equal-tells : condition cond.Equal f ≡ Some (a == b)
+  pub equal-tells : condition_holds cond.Equal f ≡ Some (a == b)
   equal-tells = ap Some zero
 
-  pub not-equal-tells : condition cond.NotEqual f ≡ Some (not (a == b))
+  pub not-equal-tells : condition_holds cond.NotEqual f ≡ Some (not (a == b))
   not-equal-tells = ap (λ x. Some (not x)) zero
 
 -- ---- shifts

@@ -3,7 +3,7 @@ use Rattle.std.proofs.Common.{◌≡◌, ℕ, ◌^◌, ◌<◌, true, List, [], 
 use Rattle.std.specs.Prelude.{nat_lt, if◌then◌else◌, slice_index}
 use Rattle.std.proofs.lemmas.Bool.Decides.{nat_tests}
 use Rattle.lg_base.specs.HostNames.{host_address}
-use Rattle.lg_base.specs.Words.{signed_view}
+use Rattle.lg_base.specs.Words.{signed_view, is_half}
 use Rattle.lg_base.specs.declared.host_name.HostName.{HostName}
 use Rattle.lg_base.specs.declared.host_name.HostName.TheVariants.{Printf}
 use Rattle.lg_op.specs.Forms.{admits}
@@ -14,7 +14,7 @@ use Rattle.lg_op.specs.declared.operand.Operand.{Operand}
 use Rattle.lg_op.specs.declared.operand.Operand.TheVariants as operand
 use Rattle.lg_meaning.specs.States.{State, value}
 use Rattle.lg_x86.specs.declared.instruction.Instr.TheVariants.{Movi32, Movs32, Movi64}
-use Rattle.lg_carry_x86.specs.Numbers.{is_half, number_row}
+use Rattle.lg_carry_x86.specs.Numbers.{number_row}
 use Rattle.lg_selx_items.specs.Items.{ones}
 use Rattle.lg_selx_values.specs.ValueItems.{load_items, binary_number_code, binary_items, wide_items}
 use Rattle.lg_sel_nodes.specs.Operands.{IsWord}

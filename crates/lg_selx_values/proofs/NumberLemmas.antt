@@ -2,8 +2,8 @@
 use Rattle.std.proofs.Common.{◌≡◌, ◌≢◌, ℕ, ◌-◌, ◌^◌, ◌<◌, Bool, true, false, [], ◌∷◌, ◌++◌, Some, refl, sym, ap, ◌∙◌, arith}
 use Rattle.std.specs.Prelude.{◌==◌, if◌then◌else◌}
 use Rattle.std.specs.Option.{option_and_then}
-use Rattle.lg_base.specs.CarryFlags.{carry_of}
-use Rattle.lg_base.specs.Words.{add_words, signed_view}
+use Rattle.lg_base.specs.Flags.{carry_of}
+use Rattle.lg_base.specs.Words.{add_words, signed_view, is_half}
 use Rattle.lg_base.specs.declared.flags.Flags.{Flags}
 use Rattle.lg_x86.specs.declared.instruction.ImmOp.{ImmOp}
 use Rattle.lg_x86.specs.declared.instruction.Instr.TheVariants.{RmReg, Imm}
@@ -14,7 +14,7 @@ use Rattle.lg_cpu.specs.X86Step.{combined}
 use Rattle.lg_sel_values.specs.Computers.{Held}
 use Rattle.lg_carry_x86.specs.MakingNodes.{scene}
 use Rattle.lg_carry_x86.specs.Makings.{makes}
-use Rattle.lg_carry_x86.specs.Numbers.{is_half, number_row}
+use Rattle.lg_carry_x86.specs.Numbers.{number_row}
 use Rattle.lg_carry_x86.proofs.NumberCodeLemmas.{view-word, row-loads}
 use Rattle.lg_selx_values.specs.BinaryCode.{with_number}
 use Rattle.lg_selx_values.specs.NumberLaws.{LeavesWord, NumberRowsAreMade}

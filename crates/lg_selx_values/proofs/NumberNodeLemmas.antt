@@ -1,6 +1,6 @@
 -- Nodes that compute values from a register and a word of the text.
 use Rattle.std.proofs.Common.{◌≡◌, ◌≢◌, ℕ, ◌^◌, ◌<◌, ◌≤◌, Bool, true, false, [], Some, refl, sym, ap, ◌∙◌, subst, length, arith}
-use Rattle.lg_base.specs.CarryFlags.{carry_of}
+use Rattle.lg_base.specs.Flags.{carry_of}
 use Rattle.lg_base.specs.declared.target.Target.TheVariants.{X86_64}
 use Rattle.lg_op.specs.declared.op.Op.TheVariants as op
 use Rattle.lg_op.specs.declared.op.BinaryOp.{BinaryOp}
@@ -18,7 +18,7 @@ use Rattle.lg_sel_nodes.specs.Straight.{is_taken}
 use Rattle.lg_sel_values.specs.Computers.{Held}
 use Rattle.lg_sel_values.specs.ValueNodes.{binary_node}
 use Rattle.lg_sel_values.proofs.ResultLemmas.{or-false}
-use Rattle.lg_carry_x86.specs.Numbers.{is_half}
+use Rattle.lg_base.specs.Words.{is_half}
 use Rattle.lg_selx_values.specs.BinaryCode.{number_form_code}
 use Rattle.lg_selx_values.specs.CarriedCode.{carried_number_code}
 use Rattle.lg_selx_values.specs.Needs.{value_needs}

@@ -2,7 +2,7 @@
 use Rattle.std.proofs.Common.{◌≡◌, ◌≢◌, ℕ, ◌+◌, ◌-◌, ◌*◌, ◌/◌, ◌%◌, ◌^◌, ◌<◌, Bool, true, false, List, [], ◌∷◌, ◌++◌, Option, Some, refl, sym, ap, subst, ◌∙◌, arith}
 use Rattle.std.specs.Prelude.{◌==◌, ◌||◌, not, if◌then◌else◌, bit_and, bit_or, bit_xor}
 use Rattle.std.specs.Option.{option_and_then}
-use Rattle.lg_base.specs.Words.{add_words, sub_words, mul_words, negated, signed_view, word_of_test, quotient, remainder, quotient_signed, remainder_signed, shifted_left, shifted_right, shifted_right_signed}
+use Rattle.lg_base.specs.Words.{add_words, sub_words, mul_words, negated, signed_view, word_of_test, quotient, remainder, quotient_signed, remainder_signed, shifted_left, shifted_right, shifted_right_signed, is_half}
 use Rattle.lg_base.specs.Wide.{zero_part_of, quotient_wide, quotient_wide_signed}
 use Rattle.lg_base.specs.declared.flags.Flags.{Flags}
 use Rattle.lg_op.specs.declared.op.BinaryOp.{BinaryOp}
@@ -13,7 +13,7 @@ use Rattle.lg_x86.specs.declared.instruction.Cond.{Cond}
 use Rattle.lg_x86.specs.declared.instruction.Cond.TheVariants as cond
 use Rattle.lg_x86.specs.declared.instruction.ImmOp.{ImmOp}
 use Rattle.lg_x86.specs.declared.instruction.ImmOp.TheVariants as imm
-use Rattle.lg_base.specs.CarryFlags.{carry_of}
+use Rattle.lg_base.specs.Flags.{carry_of}
 use Rattle.lg_x86.specs.declared.instruction.Instr.{Instr}
 use Rattle.lg_x86.specs.declared.instruction.Instr.TheVariants.{RmReg, Imm, RegRm, Unary, Shift, Set, Bare, Movi32}
 use Rattle.lg_x86.specs.declared.instruction.RegRmOp.TheVariants.{Imul, Ext8u}
@@ -22,14 +22,14 @@ use Rattle.lg_x86.specs.declared.instruction.ShiftOp.{ShiftOp}
 use Rattle.lg_x86.specs.declared.instruction.ShiftOp.TheVariants.{Shli, Shri, Sari}
 use Rattle.lg_x86.specs.declared.instruction.UnaryOp.TheVariants.{Neg, Div, Idiv}
 use Rattle.lg_cpu.specs.HostSteps.{put}
-use Rattle.lg_cpu.specs.X86Operators.{no_flags, bit, alu_of, alu_value, carry_for, is_kept_by, difference_flags, product_flags, needs_high_signed, negation_flags, shift_value, shift_flags, condition, sign_word}
+use Rattle.lg_cpu.specs.X86Operators.{no_flags, bit, alu_of, alu_value, carry_for, is_kept_by, difference_flags, product_flags, needs_high_signed, negation_flags, shift_value, shift_flags, condition_holds, sign_word}
 use Rattle.lg_cpu.specs.X86Step.{sets_byte, sets_quotient}
 use Rattle.lg_temp.specs.declared.choice.Choice.{Choice}
 use Rattle.lg_sel_nodes.specs.Straight.{is_taken}
 use Rattle.lg_sel_values.specs.Computers.{Held}
 use Rattle.lg_carry_x86.specs.MakingNodes.{scene}
 use Rattle.lg_carry_x86.specs.Makings.{makes}
-use Rattle.lg_carry_x86.specs.Numbers.{is_half, number_row}
+use Rattle.lg_carry_x86.specs.Numbers.{number_row}
 use Rattle.lg_carry_x86.proofs.NumberCodeLemmas.{view-word, row-loads}
 use Rattle.lg_selx_values.specs.BinaryCode.{with_number, answer, compared_number, shifted_number, divided_number, number_form_code}
 use Rattle.lg_selx_values.specs.NumberWords.{number_spoils, NumbersAreMade}
@@ -114,7 +114,7 @@ module _ (frame d a v : ℕ) (q : Held) (d5 : d ≢ 5) (d4 : d ≢ 4) (small : v
   abbrev seen : Flags
   seen = difference_flags (w a) v 0 (sub_words (w a) v)
 
-  held-answer : (c : Cond) (t : Bool) → condition c seen ≡ Some t → MakesWord [] (Imm imm.Cmpi a (signed_view v) ∷ answer c d) d (word_of_test t) q
+  held-answer : (c : Cond) (t : Bool) → condition_holds c seen ≡ Some t → MakesWord [] (Imm imm.Cmpi a (signed_view v) ∷ answer c d) d (word_of_test t) q
   held-answer c t e =
       let x : ℕ = w d / 256 * 256 + bit t in
       put-word [] (Imm imm.Cmpi a (signed_view v) ∷ answer c d) d (word_of_test t) q seen
@@ -124,7 +124,7 @@ module _ (frame d a v : ℕ) (q : Held) (d5 : d ≢ 5) (d4 : d ≢ 4) (small : v
       ∙ ap (λ g. Some (scene g seen bytes)) (put-twice w d x (zero_part_of x 1))
       ∙ ap (λ y. Some (scene (put w d y) seen bytes)) (answer-word (w d) t))
 
-  loaded-answer : (c : Cond) (t : Bool) → condition c seen ≡ Some t → MakesWord [] (moved d a ++ (number_row 5 v ∷ (RmReg alu.Cmp d 5 ∷ Set c d ∷ RegRm Ext8u d d ∷ again frame))) d (word_of_test t) q
+  loaded-answer : (c : Cond) (t : Bool) → condition_holds c seen ≡ Some t → MakesWord [] (moved d a ++ (number_row 5 v ∷ (RmReg alu.Cmp d 5 ∷ Set c d ∷ RegRm Ext8u d d ∷ again frame))) d (word_of_test t) q
   loaded-answer c t e =
       let x : ℕ = u5 d / 256 * 256 + bit t in
       record {
@@ -140,7 +140,7 @@ module _ (frame d a v : ℕ) (q : Held) (d5 : d ≢ 5) (d4 : d ≢ 4) (small : v
             ∙ ap (λ y. makes (again frame) (scene (put u5 d y) seen bytes)) (answer-word (u5 d) t);
       }
 
-  pub answer-number : (c : Cond) (t : Bool) → condition c seen ≡ Some t → MakesWord [] (compared_number c frame d a v) d (word_of_test t) q
+  pub answer-number : (c : Cond) (t : Bool) → condition_holds c seen ≡ Some t → MakesWord [] (compared_number c frame d a v) d (word_of_test t) q
   answer-number c t e = by (is_half v)
     where
       by : (b : Bool) → MakesWord [] (if b then Imm imm.Cmpi a (signed_view v) ∷ answer c d else moved d a ++ (number_row 5 v ∷ (RmReg alu.Cmp d 5 ∷ Set c d ∷ RegRm Ext8u d d ∷ again frame))) d (word_of_test t) q
@@ -236,7 +236,7 @@ module _ (choices : List Choice) (frame d a v : ℕ) (q : Held) (d5 : d ≢ 5) (
   row-word o op x z kept given same is e =
       subst (λ body. MakesWord choices body d z q) (sym same) (as-word choices (with_number op (alu_of op) frame d a v) d _ z q (number-row-word op frame d a v false q kept given d5 d4 small pointer).word (is ∙ some-same x z e))
 
-  answered : (c : Cond) (t : Bool) (z : ℕ) → condition c (difference_flags m v 0 (sub_words m v)) ≡ Some t → Some (word_of_test t) ≡ Some z → MakesWord choices (compared_number c frame d a v) d z q
+  answered : (c : Cond) (t : Bool) (z : ℕ) → condition_holds c (difference_flags m v 0 (sub_words m v)) ≡ Some t → Some (word_of_test t) ≡ Some z → MakesWord choices (compared_number c frame d a v) d z q
   answered c t z is e = as-word choices (compared_number c frame d a v) d (word_of_test t) z q (answer-number frame d a v q d5 d4 small words pointer c t is) (some-same _ z e)
 
   pub number-word : (o : BinaryOp) (z : ℕ) → is_carried o ≡ false → ((r : ℕ) → is_taken choices r ≡ false → r ≢ d → number_spoils o r ≡ false) → binary_value o m v ≡ Some z → MakesWord choices (number_form_code o frame d a v) d z q

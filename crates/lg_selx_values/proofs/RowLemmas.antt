@@ -1,7 +1,7 @@
 -- What holds of the rows that the code of values is made of holds of all of it; and its instructions are few.
 use Rattle.std.proofs.Common.{◌≡◌, ℕ, ◌+◌, ◌-◌, ◌≤◌, ◌<◌, Bool, true, false, List, [], ◌∷◌, ◌++◌, length, length-append, refl, arith}
 use Rattle.std.specs.Prelude.{◌==◌, ◌%◌, if◌then◌else◌, pos}
-use Rattle.lg_base.specs.Words.{signed_view}
+use Rattle.lg_base.specs.Words.{signed_view, is_half}
 use Rattle.lg_op.specs.declared.op.BinaryOp.{BinaryOp}
 use Rattle.lg_op.specs.declared.op.BinaryOp.TheVariants as binary
 use Rattle.lg_op.specs.declared.op.UnaryOp.TheVariants as unary
@@ -26,7 +26,7 @@ use Rattle.lg_x86.specs.declared.instruction.ShiftOp.{ShiftOp}
 use Rattle.lg_x86.specs.declared.instruction.ShiftOp.TheVariants.{Shli, Shri, Sari}
 use Rattle.lg_x86.specs.declared.instruction.UnaryOp.{UnaryOp}
 use Rattle.lg_x86.specs.declared.instruction.UnaryOp.TheVariants as row
-use Rattle.lg_carry_x86.specs.Numbers.{is_half, number_row}
+use Rattle.lg_carry_x86.specs.Numbers.{number_row}
 use Rattle.lg_sel_items.specs.Holes.{Each}
 use Rattle.lg_sel_items.proofs.ListLemmas.{each-append}
 use Rattle.lg_selx_items.specs.GoodItems.{Fine}

@@ -1,6 +1,6 @@
 -- The code of the operations on two words, from two registers or from a register and a number.
 use Rattle.std.specs.Prelude.{ℕ, ◌%◌, ◌==◌, Bool, true, false, if◌then◌else◌, List, [], ◌∷◌, ◌++◌}
-use Rattle.lg_base.specs.Words.{signed_view}
+use Rattle.lg_base.specs.Words.{signed_view, is_half}
 use Rattle.lg_op.specs.declared.op.BinaryOp.{BinaryOp}
 use Rattle.lg_op.specs.declared.op.BinaryOp.TheVariants as binary
 use Rattle.lg_x86.specs.declared.instruction.Instr.{Instr}
@@ -17,7 +17,7 @@ use Rattle.lg_x86.specs.declared.instruction.ShiftOp.TheVariants.{Shli, Shri, Sa
 use Rattle.lg_x86.specs.declared.instruction.BareOp.TheVariants.{Cqo}
 use Rattle.lg_x86.specs.declared.instruction.Cond.{Cond}
 use Rattle.lg_x86.specs.declared.instruction.Cond.TheVariants as cond
-use Rattle.lg_carry_x86.specs.Numbers.{is_half, number_row}
+use Rattle.lg_carry_x86.specs.Numbers.{number_row}
 use Rattle.lg_selx_values.specs.Scratch.{again, moved}
 
 -- d = a op b where d is not b, or where the order of the words does not matter

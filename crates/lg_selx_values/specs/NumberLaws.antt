@@ -1,6 +1,6 @@
 -- The code of a row with a number gives a register its word and leaves the row's carry, whether an instruction holds the number or not.
 use Rattle.std.specs.Prelude.{◌≡◌, ◌≢◌, ℕ, ◌^◌, ◌<◌, Bool, false, List, [], Option, Some}
-use Rattle.lg_base.specs.CarryFlags.{carry_of}
+use Rattle.lg_base.specs.Flags.{carry_of}
 use Rattle.lg_cpu.specs.X86Operators.{bit, carry_for, alu_value, alu_flags, alu_of, is_kept_by}
 use Rattle.lg_sel_values.specs.Computers.{Held}
 use Rattle.lg_x86.specs.declared.instruction.ImmOp.{ImmOp}

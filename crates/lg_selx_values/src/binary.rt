@@ -7,9 +7,10 @@ ghost use Rattle.lg_selx_values.specs.BinaryCode.{ordered, commuting, difference
 use crate::moves::{
     RAX, RCX, RDX, SCRATCH, again, behind_move, behind_number, ext, imm, moved, one, sign,
 };
+use lg_base::word::is_half;
 use lg_op::BinaryOp;
 use lg_sel_items::Items;
-use lg_selx_items::{Item, is_half, mov, row};
+use lg_selx_items::{Item, mov, row};
 use lg_x86::{Cond, ImmOp, Instr, RegRmOp, RmRegOp, ShiftOp, UnaryOp};
 
 /// Appends the code of `d = a op b`, where `d` is not `b` or the order of the words does not matter: at most 2 instructions, for which there is

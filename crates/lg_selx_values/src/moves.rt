@@ -1,8 +1,8 @@
 // Moves in front of other instructions, and the instructions by their rows.
 
 ghost use Rattle.std.specs.Prelude.{◌≡◌, ◌+◌, ◌<◌, ◌≤◌, ◌++◌, ◌∷◌, ◌-◌, pos, length, true};
-ghost use Rattle.lg_base.specs.Words.{signed_view};
-ghost use Rattle.lg_carry_x86.specs.Numbers.{is_half, number_row};
+ghost use Rattle.lg_base.specs.Words.{signed_view, is_half};
+ghost use Rattle.lg_carry_x86.specs.Numbers.{number_row};
 ghost use Rattle.lg_selx_items.specs.Items.{ones, words_in};
 ghost use Rattle.lg_selx_values.specs.Scratch.{moved};
 

@@ -17,14 +17,15 @@ pub enum ArgPlace {
 }
 
 /// The calling convention of a target: where arguments and results lie, which registers are kept, and which register
-/// stands for each of the portable machine.
+/// stands for each of the portable machine. Registers are numbered as the target does: 0 to 15 on x86-64, 0 to 31 on the others.
 #[derive(Clone, Copy, Debug, PartialEq, Eq)]
 pub struct Abi {
     /// The target.
     pub target: Target,
 }
 
-/// The registers of the first arguments.
+/// The registers of the first arguments by their numbers on the target, in order: 6 on x86-64, 8 on the others. Further arguments lie in
+/// stack words.
 pub fn argument_registers(target: Target) -> &'static [u8]
     ensures { result.now ≡ argument_registers target }
 {
@@ -36,14 +37,15 @@ pub fn argument_registers(target: Target) -> &'static [u8]
 }
 
 impl Abi {
-    /// The convention of a target.
+    /// The calling convention of the target.
     pub fn of(target: Target) -> Abi
         ensures { result.target ≡ target }
     {
         Abi { target }
     }
 
-    /// Where an argument lies. Its number is below 16.
+    /// Where an argument of a call lies: `index` counts them from 0, and is below 16. The first 6 on x86-64, and 8 on the others, lie in
+    /// registers, the next in stack words from 0.
     pub fn argument(&self, index: u32) -> ArgPlace
         requires { index < 16 }
         ensures { result ≡ place_of self.now.target index }
@@ -55,7 +57,7 @@ impl Abi {
         }
     }
 
-    /// The register of a result.
+    /// The number of the register in which a call leaves its result.
     pub fn result(&self) -> u8
         ensures { result ≡ result_register self.now.target }
     {
@@ -65,7 +67,8 @@ impl Abi {
         }
     }
 
-    /// Whether a call keeps a register.
+    /// Whether a call leaves a register as it was: callee-saved registers, and the stack pointer. False for a number that the target does not
+    /// have.
     pub fn kept(&self, reg: u8) -> bool
         ensures { result ≡ is_kept self.now.target reg }
     {
@@ -76,7 +79,7 @@ impl Abi {
         }
     }
 
-    /// The register that stands for one of the portable machine.
+    /// The number of the register that stands for one of the portable machine.
     pub fn portable(&self, reg: Reg) -> u8
         ensures { result ≡ register_of self.now.target reg }
     {

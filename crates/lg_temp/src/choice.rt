@@ -1,6 +1,7 @@
 // What a node's temporaries need, and which registers they take.
 
-ghost use Rattle.std.specs.Prelude.{◌≡◌, ◌<◌, ◌≤◌, ◌+◌, ◌==◌, ◌↔◌, ℕ, [], ◌∷◌, ◌++◌, length, replicate, slice_set, slice_index_or, count_by, true, false, IsTrue};
+ghost use Rattle.std.specs.Prelude.{◌≡◌, ◌<◌, ◌≤◌, ◌+◌, ◌==◌, ◌↔◌, ℕ, [], ◌∷◌, ◌++◌, length, replicate, slice_set};
+ghost use Rattle.std.specs.Prelude.{slice_index_or, count_by, true, false, IsTrue};
 ghost use Rattle.std.specs.List.{All, list_any};
 
 use std::marker::Model;

@@ -26,7 +26,7 @@ fn patches_a_branch(rt: HostRuntime) -> Result<(), Fail> {
 }
 
 // appends `beq x5, x6` to a label
-fn branch_to(buf: &mut CodeBuf, label: Label32) -> bool
+fn branch_to(buf: &mut CodeBuf, label: CodeLabel) -> bool
     requires label { label.0 < length buf.old.labels }
     requires room { 0 < buf.old.room }
     ensures fits { IsTrue result ↔ (length buf.old.bytes + 4 ≤ buf.old.size) }
@@ -48,11 +48,11 @@ fn branch_to(buf: &mut CodeBuf, label: Label32) -> bool
 #[test]
 fn leads_to_labels(rt: HostRuntime) -> Result<(), Fail> {
     let mut buf = CodeBuf::new(rt.alloc(), 12, 3, 2)?;
-    buf.bind(Label32(1));
-    assert!(rt; branch_to(&mut buf, Label32(2)));
+    buf.bind(CodeLabel(1));
+    assert!(rt; branch_to(&mut buf, CodeLabel(2)));
     assert!(rt; buf.emit(&[0x13, 0x00, 0x00, 0x00]));
-    assert!(rt; branch_to(&mut buf, Label32(1)));
-    buf.bind(Label32(2));
+    assert!(rt; branch_to(&mut buf, CodeLabel(1)));
+    buf.bind(CodeLabel(2));
     let done = buf.finish();
     assert_eq!(rt;
         done.bytes.as_slice(),

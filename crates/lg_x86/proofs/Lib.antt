@@ -1,7 +1,13 @@
+pub mod AcceptLemmas
 pub mod AgainLemmas
+pub mod BranchReadLemmas
 pub mod CheckedLemmas
+pub mod DigitReadLemmas
 pub mod FieldLemmas
 pub mod FrontLemmas
+pub mod MoveReadLemmas
 pub mod NumberLemmas
+pub mod PrefixLemmas
 pub mod ReadLemmas
 pub mod SizeLemmas
+pub mod TailLemmas

@@ -332,24 +332,40 @@ read_lea word_sized rex len tail =
     then accepted ((not word_sized && (rex / 8 % 2 == 1)) && is_sum tail) (len + 3) (lea_of rex tail)
     else accepted ((not word_sized && is_wide rex) && is_memory tail) (len + memory_length tail) (lea_of rex tail)
 
+-- an instruction with no operand, or one that makes, loads or stores a register
+unfoldable pub read_other : Bool → ℕ → ℕ → Mark → Bool → ℕ → List ℕ → Option (Instr × ℕ)
+read_other word_sized rex len mark registers opcode tail =
+    if opcode == 0x90 || (opcode == 0x99 || opcode == 0xc3) then accepted (not word_sized && ((rex == 0) || (rex == 0x48))) len (bare_of mark opcode)
+    else (if opcode == 0x8d then read_lea word_sized rex len tail
+    else (if opcode == 0x88 then accepted (is_low rex && is_memory tail) (len + memory_length tail) (store_of word_sized Low rex opcode tail)
+    else (if opcode == 0x63 || opcode == 0x8b then read_reg word_sized rex len mark registers false opcode tail
+    else (if opcode == 0x89 then read_rm word_sized rex len mark registers opcode tail
+    else accepted ((not word_sized && is_wide rex) && has_registers tail) (len + 1) (rm_reg_of rex opcode tail)))))
+
+-- a jump or call; or another instruction
+unfoldable pub read_jump : Bool → ℕ → ℕ → Mark → Bool → ℕ → List ℕ → Option (Instr × ℕ)
+read_jump word_sized rex len mark registers opcode tail =
+    if opcode == 0xff then accepted ((not word_sized && is_plain_one rex) && has_registers tail) (len + 1) (jump_reg_of rex tail)
+    else (if opcode == 0xeb then accepted ((not word_sized && (rex == 0)) && has_bytes 1 tail) (len + 1) (jump_short_of tail)
+    else (if opcode == 0xe8 || opcode == 0xe9 then accepted ((not word_sized && (rex == 0)) && has_bytes 4 tail) (len + 4) (jump_near_of opcode tail)
+    else read_other word_sized rex len mark registers opcode tail))
+
+-- ModRM has a digit, and a register that a number or nothing is beside; or another instruction
+unfoldable pub read_digit : Bool → ℕ → ℕ → Mark → Bool → ℕ → List ℕ → Option (Instr × ℕ)
+read_digit word_sized rex len mark registers opcode tail =
+    if opcode == 0x81 || opcode == 0x83 then read_imm word_sized rex len opcode tail
+    else (if opcode == 0xc1 then accepted ((not word_sized && is_wide_one rex) && (has_registers tail && has_bytes 2 tail)) (len + 2) (shift_of rex tail)
+    else (if opcode == 0xc7 then accepted ((not word_sized && is_wide_one rex) && (has_one tail && has_bytes 5 tail)) (len + 5) (movs_of rex tail)
+    else (if opcode == 0xd3 || opcode == 0xf7 then accepted ((not word_sized && is_wide_one rex) && has_registers tail) (len + 1) (unary_of rex opcode tail)
+    else read_jump word_sized rex len mark registers opcode tail)))
+
+-- an instruction whose opcode has one byte
 unfoldable pub read_short : Bool → ℕ → ℕ → Mark → Bool → ℕ → List ℕ → Option (Instr × ℕ)
 read_short word_sized rex len mark registers opcode tail =
     if opcode / 16 == 7 then accepted ((not word_sized && (rex == 0)) && has_bytes 1 tail) (len + 1) (jump_if_short_of opcode tail)
     else (if opcode / 16 == 5 then accepted (not word_sized && is_plain_one rex) len (stack_of rex opcode)
     else (if opcode / 8 == 23 then read_movi word_sized rex len mark opcode tail
-    else (if opcode == 0x81 || opcode == 0x83 then read_imm word_sized rex len opcode tail
-    else (if opcode == 0xc1 then accepted ((not word_sized && is_wide_one rex) && (has_registers tail && has_bytes 2 tail)) (len + 2) (shift_of rex tail)
-    else (if opcode == 0xc7 then accepted ((not word_sized && is_wide_one rex) && (has_one tail && has_bytes 5 tail)) (len + 5) (movs_of rex tail)
-    else (if opcode == 0xd3 || opcode == 0xf7 then accepted ((not word_sized && is_wide_one rex) && has_registers tail) (len + 1) (unary_of rex opcode tail)
-    else (if opcode == 0xff then accepted ((not word_sized && is_plain_one rex) && has_registers tail) (len + 1) (jump_reg_of rex tail)
-    else (if opcode == 0xeb then accepted ((not word_sized && (rex == 0)) && has_bytes 1 tail) (len + 1) (jump_short_of tail)
-    else (if opcode == 0xe8 || opcode == 0xe9 then accepted ((not word_sized && (rex == 0)) && has_bytes 4 tail) (len + 4) (jump_near_of opcode tail)
-    else (if opcode == 0x90 || (opcode == 0x99 || opcode == 0xc3) then accepted (not word_sized && ((rex == 0) || (rex == 0x48))) len (bare_of mark opcode)
-    else (if opcode == 0x8d then read_lea word_sized rex len tail
-    else (if opcode == 0x88 then accepted (is_low rex && is_memory tail) (len + memory_length tail) (store_of word_sized Low rex opcode tail)
-    else (if opcode == 0x63 || opcode == 0x8b then read_reg word_sized rex len mark registers false opcode tail
-    else (if opcode == 0x89 then read_rm word_sized rex len mark registers opcode tail
-    else accepted ((not word_sized && is_wide rex) && has_registers tail) (len + 1) (rm_reg_of rex opcode tail)))))))))))))))
+    else read_digit word_sized rex len mark registers opcode tail))
 
 unfoldable pub read_escaped : Bool → ℕ → ℕ → Mark → Bool → ℕ → List ℕ → Option (Instr × ℕ)
 read_escaped word_sized rex len mark registers opcode tail =

@@ -143,7 +143,3 @@ IsInstr (JumpShort distance) = IsNumber8 distance
 IsInstr (JumpNear op distance) = IsNumber32 distance
 IsInstr (JumpReg op rm) = rm < 16
 IsInstr (Bare op) = Unit {0}
-
--- the bytes begin with the spelling of an instruction
-abbrev pub BeginsWith : List ℕ → Instr → Type 0
-BeginsWith bytes i = IsInstr i × (more : List ℕ) × (bytes ≡ spelling i ++ more)

@@ -3,10 +3,12 @@
 //! gives it, and `decode` reads it back, whatever follows.
 #![tactic(auto)]
 
+mod accept;
 mod decoder;
 mod encoder;
 mod fields;
 mod instruction;
+mod prefixes;
 mod rows;
 
 pub use decoder::decode;

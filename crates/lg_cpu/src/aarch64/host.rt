@@ -54,7 +54,7 @@ fn register_arguments(registers: &[u64; 32]) -> Arguments
 
 impl Aarch64 {
     ghost use Rattle.std.specs.Prelude.{false};
-    ghost use Rattle.lg_cpu.specs.RvStep.{in_code};
+    ghost use Rattle.lg_cpu.specs.Fetches.{in_code};
     ghost use Rattle.lg_cpu.specs.A64Step.{trash_flags, enter_host};
     ghost use Rattle.lg_cpu.specs.States.{arrives};
     ghost use Rattle.lg_cpu.specs.Machines.{a64_state, a64_inner, effect_in, Does, StepSays};

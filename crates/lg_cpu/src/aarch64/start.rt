@@ -1,10 +1,10 @@
 // The processor at the start of a run.
 
-ghost use Rattle.std.specs.Prelude.{◌≡◌, ◌≤◌, length, slice_index, if◌then◌else◌, nat_lt};
+ghost use Rattle.std.specs.Prelude.{◌≡◌, slice_index};
 ghost use Rattle.lg_cpu.specs.A64Step.{start_registers, trash_flags};
 
 use crate::aarch64::Aarch64;
-use crate::board::{Board, CODE, STOP};
+use crate::board::{Board, CODE, STOP, trash_registers};
 use lg_base::flags::Flags;
 
 // the first address of the argument part, and the address behind the stack
@@ -12,24 +12,16 @@ const ARGS: u64 = 0x2800_0000;
 
 const STACK_END: u64 = 0x4000_0000;
 
-// The trash word in each register.
-fn trash_registers(trash: u64) -> [u64; 32]
-    ensures registers { slice_index result ≡ (λ r. if nat_lt r 32 then trash else 0) }
-    ensures long { length result ≡ 32 }
-{
-    [trash; 32]
-}
-
 // The low four bits of the trash word: N, Z, C and V.
 pub(crate) fn trash_flags(trash: u64) -> Flags
     ensures { result ≡ trash_flags trash }
 {
-    Flags::Nzcv(
-        trash / 8 % 2 == 1,
-        trash / 4 % 2 == 1,
-        trash / 2 % 2 == 1,
-        trash % 2 == 1,
-    )
+    Flags::Nzcv {
+        negative: trash / 8 % 2 == 1,
+        zero: trash / 4 % 2 == 1,
+        carry: trash / 2 % 2 == 1,
+        overflow: trash % 2 == 1,
+    }
 }
 
 // The registers at the start of a run with so many arguments.

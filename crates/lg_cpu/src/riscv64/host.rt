@@ -53,7 +53,8 @@ fn register_arguments(registers: &[u64; 32]) -> Arguments
 
 impl Riscv64 {
     ghost use Rattle.std.specs.Prelude.{false};
-    ghost use Rattle.lg_cpu.specs.RvStep.{goes, enter_host, in_code};
+    ghost use Rattle.lg_cpu.specs.RvStep.{goes, enter_host};
+    ghost use Rattle.lg_cpu.specs.Fetches.{in_code};
     ghost use Rattle.lg_cpu.specs.Machines.{rv_state, rv_inner, effect_in, Does, StepSays};
 
     // The arguments of the convention.

@@ -1,23 +1,15 @@
 // The processor at the start of a run.
 
-ghost use Rattle.std.specs.Prelude.{◌≡◌, ◌≤◌, length, slice_index, if◌then◌else◌, nat_lt};
+ghost use Rattle.std.specs.Prelude.{◌≡◌, slice_index};
 ghost use Rattle.lg_cpu.specs.RvStep.{start_registers};
 
-use crate::board::{Board, CODE, STOP};
+use crate::board::{Board, CODE, STOP, trash_registers};
 use crate::riscv64::Riscv64;
 
 // the first address of the argument part, and the address behind the stack
 const ARGS: u64 = 0x2800_0000;
 
 const STACK_END: u64 = 0x4000_0000;
-
-// The trash word in each register.
-fn trash_registers(trash: u64) -> [u64; 32]
-    ensures registers { slice_index result ≡ (λ r. if nat_lt r 32 then trash else 0) }
-    ensures long { length result ≡ 32 }
-{
-    [trash; 32]
-}
 
 // The registers at the start of a run with so many arguments.
 fn registers_at_start(count: u64, trash: u64) -> [u64; 32]

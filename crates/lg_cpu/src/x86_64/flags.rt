@@ -4,10 +4,11 @@ ghost use Rattle.std.specs.Prelude.{◌≡◌, ◌<◌, ◌≢◌};
 ghost use Rattle.lg_base.specs.Words.{carry_out, borrow_out, differ};
 ghost use Rattle.lg_cpu.specs.X86Operators.{overflow_of, zero_of, sign_of, no_flags, flags_of, bit, overflows_sum, overflows_difference};
 ghost use Rattle.lg_cpu.specs.X86Operators.{sum_flags, difference_flags, bit_flags, product_flags, reg_rm_flags, negation_flags};
-ghost use Rattle.lg_cpu.specs.X86Operators.{last_out, shift_overflow, shift_flags, turned, both, either, condition};
+ghost use Rattle.lg_cpu.specs.X86Operators.{last_out, shift_overflow, shift_flags, turned, both, either, condition_holds};
 
-use crate::x86_64::operators::{HALF, needs_high_signed, shift_value};
+use crate::x86_64::operators::{needs_high_signed, shift_value};
 use lg_base::flags::Flags;
+use lg_base::word::SIGN_BIT;
 use lg_x86::{Cond, RegRmOp, ShiftOp};
 
 // OF, ZF and SF, where they are defined; the flags of other processors read as undefined.
@@ -15,7 +16,7 @@ fn overflow_of(flags: Flags) -> Option<bool>
     ensures { result ≡ overflow_of flags }
 {
     match flags {
-        Flags::Rflags(_, overflow, _, _) => overflow,
+        Flags::Rflags { overflow, .. } => overflow,
         _ => None,
     }
 }
@@ -24,7 +25,7 @@ fn zero_of(flags: Flags) -> Option<bool>
     ensures { result ≡ zero_of flags }
 {
     match flags {
-        Flags::Rflags(_, _, zero, _) => zero,
+        Flags::Rflags { zero, .. } => zero,
         _ => None,
     }
 }
@@ -33,7 +34,7 @@ fn sign_of(flags: Flags) -> Option<bool>
     ensures { result ≡ sign_of flags }
 {
     match flags {
-        Flags::Rflags(_, _, _, sign) => sign,
+        Flags::Rflags { sign, .. } => sign,
         _ => None,
     }
 }
@@ -42,19 +43,24 @@ fn sign_of(flags: Flags) -> Option<bool>
 pub fn no_flags() -> Flags
     ensures { result ≡ no_flags }
 {
-    Flags::Rflags(None, None, None, None)
+    Flags::Rflags {
+        sign: None,
+        zero: None,
+        carry: None,
+        overflow: None,
+    }
 }
 
 // ZF and SF by a result.
 fn flags_of(carry: Option<bool>, overflow: Option<bool>, result_word: u64) -> Flags
     ensures { result ≡ flags_of carry overflow result_word }
 {
-    Flags::Rflags(
+    Flags::Rflags {
+        sign: Some(result_word >= SIGN_BIT),
+        zero: Some(result_word == 0),
         carry,
         overflow,
-        Some(result_word == 0),
-        Some(result_word >= HALF),
-    )
+    }
 }
 
 fn carry_out(a: u64, b: u64, carry: bool) -> bool
@@ -72,18 +78,18 @@ fn borrow_out(a: u64, b: u64, carry: bool) -> bool
 fn overflows_sum(a: u64, b: u64, sum: u64) -> bool
     ensures { result ≡ overflows_sum a b sum }
 {
-    if (a >= HALF) != (b >= HALF) {
+    if (a >= SIGN_BIT) != (b >= SIGN_BIT) {
         false
     } else {
-        (a >= HALF) != (sum >= HALF)
+        (a >= SIGN_BIT) != (sum >= SIGN_BIT)
     }
 }
 
 fn overflows_difference(a: u64, b: u64, difference: u64) -> bool
     ensures { result ≡ overflows_difference a b difference }
 {
-    if (a >= HALF) != (b >= HALF) {
-        (a >= HALF) != (difference >= HALF)
+    if (a >= SIGN_BIT) != (b >= SIGN_BIT) {
+        (a >= SIGN_BIT) != (difference >= SIGN_BIT)
     } else {
         false
     }
@@ -122,7 +128,12 @@ pub fn bit_flags(bits: u64) -> Flags
 pub fn product_flags(needed: bool) -> Flags
     ensures { result ≡ product_flags needed }
 {
-    Flags::Rflags(Some(needed), Some(needed), None, None)
+    Flags::Rflags {
+        sign: None,
+        zero: None,
+        carry: Some(needed),
+        overflow: Some(needed),
+    }
 }
 
 /// The flags behind a row that makes a register of `a` in `reg` and `b` in `rm`; only imul sets them.
@@ -139,7 +150,7 @@ pub fn reg_rm_flags(op: RegRmOp, flags: Flags, a: u64, b: u64) -> Flags
 pub fn negation_flags(a: u64) -> Flags
     ensures { result ≡ negation_flags a }
 {
-    flags_of(Some(a != 0), Some(a == HALF), 0u64.wrapping_sub(a))
+    flags_of(Some(a != 0), Some(a == SIGN_BIT), 0u64.wrapping_sub(a))
 }
 
 // The last bit that is shifted out.
@@ -158,8 +169,8 @@ fn shift_overflow(op: ShiftOp, a: u64) -> bool
     ensures { result ≡ shift_overflow op a }
 {
     match op {
-        ShiftOp::Shli => (shift_value(op, a, 1) >= HALF) != last_out(op, a, 1),
-        ShiftOp::Shri => a >= HALF,
+        ShiftOp::Shli => (shift_value(op, a, 1) >= SIGN_BIT) != last_out(op, a, 1),
+        ShiftOp::Shri => a >= SIGN_BIT,
         ShiftOp::Sari => false,
     }
 }
@@ -212,8 +223,8 @@ fn differ(a: Option<bool>, b: Option<bool>) -> Option<bool>
 }
 
 /// Whether a condition holds, and None where a flag that it names is undefined.
-pub fn condition(cond: Cond, flags: Flags) -> Option<bool>
-    ensures { result ≡ condition cond flags }
+pub fn condition_holds(cond: Cond, flags: Flags) -> Option<bool>
+    ensures { result ≡ condition_holds cond flags }
 {
     match cond {
         Cond::Overflow => overflow_of(flags),

@@ -76,7 +76,7 @@ fn takes_al(name: HostName, a: u64) -> bool
 
 impl X86_64 {
     ghost use Rattle.std.specs.Prelude.{false};
-    ghost use Rattle.lg_cpu.specs.RvStep.{in_code};
+    ghost use Rattle.lg_cpu.specs.Fetches.{in_code};
     ghost use Rattle.lg_cpu.specs.States.{arrives};
     ghost use Rattle.lg_cpu.specs.X86Operators.{no_flags};
     ghost use Rattle.lg_cpu.specs.X86Step.{popped, enter_with, enter_host};

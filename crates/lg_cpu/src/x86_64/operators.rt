@@ -5,11 +5,8 @@ ghost use Rattle.lg_base.specs.Words.{high_product_signed};
 ghost use Rattle.lg_cpu.specs.X86Operators.{bit, alu_value, alu_of, sign_word, needs_high, needs_high_signed, reg_rm_value, shift_value};
 
 use lg_base::wide::{mul_high, mul_high_u, sign_part, zero_part};
-use lg_base::word::shift_right_signed;
+use lg_base::word::{SIGN_BIT, shift_right_signed};
 use lg_x86::{ImmOp, RegRmOp, RmRegOp, ShiftOp};
-
-// the least word that is negative
-pub const HALF: u64 = 0x8000_0000_0000_0000;
 
 /// What a row makes of the words in its register and beside it, and of the carry.
 pub fn alu_value(op: RmRegOp, a: u64, b: u64, carry: bool) -> u64
@@ -49,7 +46,7 @@ pub fn alu_of(op: ImmOp) -> RmRegOp
 pub fn sign_word(a: u64) -> u64
     ensures { result ≡ sign_word a }
 {
-    if a >= HALF { u64::MAX } else { 0 }
+    if a >= SIGN_BIT { u64::MAX } else { 0 }
 }
 
 /// The high word of the signed product of two words (volume 2, IMUL).

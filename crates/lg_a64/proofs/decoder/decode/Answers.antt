@@ -1,7 +1,8 @@
 use Rattle.std.proofs.Common.{ap, ◌∙◌, arith}
 use Rattle.lg_base.specs.WordFronts.{word_front}
 use Rattle.lg_base.proofs.WordFrontLemmas.{word_again, word_spells, none_from}
-use Rattle.lg_a64.specs.Spelling.{IsInstr, BeginsWith, word_of}
+use Rattle.lg_base.specs.Fronts.{BeginsWith}
+use Rattle.lg_a64.specs.Spelling.{IsInstr, spelling, word_of}
 use Rattle.lg_a64.specs.Reading.{instr_of}
 use Rattle.lg_a64.proofs.AgainLemmas.{read_again, word_fits}
 use Rattle.lg_a64.proofs.SpellsLemmas.{read_spells}
@@ -16,5 +17,5 @@ returns-clause-front c =
     rw c.decode_front.ensures (word_spells instr_of word_of IsInstr read_spells c.args.bytes.now (λ i. omega (arith, c.type_inv.bytes i)))
 
 pub returns-clause-none : goal.returns-clause-none
-returns-clause-none c = none_from (BeginsWith c.args.bytes.now) c.decode_front.result
+returns-clause-none c = none_from (BeginsWith spelling IsInstr c.args.bytes.now) c.decode_front.result
     (λ i b. (4, c.decode_front.ensures ∙ (ap (word_front instr_of) b.2 ∙ word_again instr_of word_of IsInstr read_again word_fits i b.1 b.0)))
