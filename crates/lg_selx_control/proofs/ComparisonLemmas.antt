@@ -39,12 +39,12 @@ use Rattle.lg_selx_control.proofs.SpareLemmas.{IsFramed, stack-again, pointer-ag
 pub record Tells (front : List Instr) (c : Cond) (W : ℕ → ℕ) (goes : Bool) (s : Scene) : Type 0 where
   pub flags : Flags
   pub makes_it : makes front s ≡ Some (scene W flags s.bytes)
-  pub tells : x86.condition c flags ≡ Some goes
+  pub tells : x86.condition_holds c flags ≡ Some goes
   pub few : length front ≤ 60
 
 -- ---- the flags
 -- what they tell of two words
-compared : (o : Condition) (f : Flags) (x y : ℕ) → x < 2 ^ 64 → y < 2 ^ 64 → x86.condition (taken o) (alu_flags (comparison o) f x y 0) ≡ Some (holds o x y)
+compared : (o : Condition) (f : Flags) (x y : ℕ) → x < 2 ^ 64 → y < 2 ^ 64 → x86.condition_holds (taken o) (alu_flags (comparison o) f x y 0) ≡ Some (holds o x y)
 compared condition.Lt f x y h k = less-tells x y h k
 compared condition.LtU f x y h k = below-tells x y h k
 compared condition.Le f x y h k = less-or-equal-tells x y h k
@@ -131,8 +131,8 @@ module _ (o : Condition) (frame x y : ℕ) (a : Reg) (s : Scene) (framed : IsFra
   abbrev ra : ℕ
   ra = register_of X86_64 a
 
-  left-tells : (z : ℕ) → z ≡ y → x86.condition (taken o) (alu_flags (comparison o) s.flags (s.registers ra) z 0) ≡ Some (holds o x y)
-  left-tells z e = (λ j. x86.condition (taken o) (alu_flags (comparison o) s.flags (ex j) (e j) 0)) ∙ compared o s.flags x y xs ys
+  left-tells : (z : ℕ) → z ≡ y → x86.condition_holds (taken o) (alu_flags (comparison o) s.flags (s.registers ra) z 0) ≡ Some (holds o x y)
+  left-tells z e = (λ j. x86.condition_holds (taken o) (alu_flags (comparison o) s.flags (ex j) (e j) 0)) ∙ compared o s.flags x y xs ys
 
   with-number : (v : ℕ) → v ≡ y → Tells (number_comparison o frame ra v) (taken o) s.registers (holds o x y) s
   with-number v e = let small : v < 2 ^ 64 = subst (λ z. z < 2 ^ 64) (sym e) ys in record {

@@ -33,7 +33,7 @@ use Rattle.lg_selx_control.proofs.SpareLemmas.{IsFramed, pointer-behind}
 
 -- ---- one row
 -- the flags tell whether the exact result fits
-summed : (o : BranchSumOp) (f : Flags) (x y : ℕ) → x86.condition (sum_taken o) (alu_flags (sum_row o) f x y 0) ≡ Some (branch_sum_goes o x y)
+summed : (o : BranchSumOp) (f : Flags) (x y : ℕ) → x86.condition_holds (sum_taken o) (alu_flags (sum_row o) f x y 0) ≡ Some (branch_sum_goes o x y)
 summed sum.OverflowAdd f x y = refl
 summed sum.OverflowAddU f x y = refl
 summed sum.OverflowSub f x y = refl
@@ -115,8 +115,8 @@ module _ (o : BranchSumOp) (frame x y : ℕ) (a : Reg) (s : Scene) (framed : IsF
   words-are : (z : ℕ) → z ≡ y → put s.registers ra (branch_sum_value o (s.registers ra) z) ≡ made_words
   words-are z e = λ j. put s.registers ra (branch_sum_value o (ex j) (e j))
 
-  left-tells : (z : ℕ) → z ≡ y → x86.condition (sum_taken o) (alu_flags (sum_row o) s.flags (s.registers ra) z 0) ≡ Some (branch_sum_goes o x y)
-  left-tells z e = (λ j. x86.condition (sum_taken o) (alu_flags (sum_row o) s.flags (ex j) (e j) 0)) ∙ summed o s.flags x y
+  left-tells : (z : ℕ) → z ≡ y → x86.condition_holds (sum_taken o) (alu_flags (sum_row o) s.flags (s.registers ra) z 0) ≡ Some (branch_sum_goes o x y)
+  left-tells z e = (λ j. x86.condition_holds (sum_taken o) (alu_flags (sum_row o) s.flags (ex j) (e j) 0)) ∙ summed o s.flags x y
 
   with-number : (v : ℕ) → v ≡ y → Tells (number_sum o frame ra v) (sum_taken o) made_words (branch_sum_goes o x y) s
   with-number v e =
