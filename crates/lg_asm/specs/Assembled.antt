@@ -63,7 +63,8 @@ pub record IsCode (c : Assembled) : Type 0 where
   pub instructions : AreNodesWhole c.target (length c.nodes.nodes) c.places c.bytes
   pub sparing : AreNodesSparing c.target c.nodes c.live c.places c.bytes
   pub shortest : AreNodesShort c.target c.nodes c.places c.bytes
-  pub carried : (trash i : ℕ) → trash < 2 ^ 64 → i < length c.nodes.nodes → Carries (processor_of c.target c.bytes trash) (code_of c.nodes c.shape c.labels c.places) (live_at c.live.before) i
+  pub carried : (trash i : ℕ) → trash < 2 ^ 64 → i < length c.nodes.nodes
+      → Carries (processor_of c.target c.bytes trash) (code_of c.nodes c.shape c.labels c.places) (live_at c.live.before) i
   pub saved : c.spills ≡ spills_in c.target c.nodes.nodes c.live (length c.nodes.nodes)
 
 -- ---- laws
@@ -92,7 +93,8 @@ pub record MayStart (image args : List ℕ) (trash : ℕ) : Type 0 where
 -- the processor at the start of the code of an accepted text stands for the meaning at its start, whatever is live
 abbrev pub StartStands : Type 0
 StartStands =
-    (target : Target) (c : Code) (code image args : List ℕ) (trash : ℕ) (live : Frame → ℕ → Bool) (S : ℕ → Bool) → MayStart image args trash → IsShapeOf c.nodes c.shape
+    (target : Target) (c : Code) (code image args : List ℕ) (trash : ℕ) (live : Frame → ℕ → Bool) (S : ℕ → Bool) → MayStart image args trash
+    → IsShapeOf c.nodes c.shape
     → c.place 0 ≡ code_base → Stands (processor_of target code trash) c live (start_state image args) [] (run_from target image args trash) S
 
 -- ---- refusals

@@ -5,7 +5,8 @@ use Rattle.std.specs.Int.{w32, from_le_bytes}
 
 -- the word whose lowest byte stands at a place
 abbrev pub word_at : List ℕ → ℕ → ℕ
-word_at bytes place = slice_index bytes place + 256 * slice_index bytes (place + 1) + 65536 * slice_index bytes (place + 2) + 16777216 * slice_index bytes (place + 3)
+word_at bytes place = slice_index bytes place + 256 * slice_index bytes (place + 1) + 65536 * slice_index bytes (place + 2)
+    + 16777216 * slice_index bytes (place + 3)
 
 -- what the first word of the bytes reads as, and its length
 unfoldable pub word_front : {I : Type 0} → (ℕ → Option I) → List ℕ → Option (I × ℕ)

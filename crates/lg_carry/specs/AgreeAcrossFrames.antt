@@ -83,7 +83,8 @@ pub record Returns (target : Target) (c : Code) (s : State) (v : Option ℕ) (q 
   pub bytes : (a : ℕ) → u.bytes a ≡ q.bytes a
 
 abbrev pub AgreesBehindReturn : Type 0
-AgreesBehindReturn = (target : Target) (c : Code) (live : Frame → ℕ → Bool) (s : State) (g : Frame) (gs : List Frame) (v : Option ℕ) (q u : Seen) (S : ℕ → Bool) → StatesAgree target c live s q S
+AgreesBehindReturn = (target : Target) (c : Code) (live : Frame → ℕ → Bool) (s : State) (g : Frame) (gs : List Frame) (v : Option ℕ) (q u : Seen)
+    (S : ℕ → Bool) → StatesAgree target c live s q S
     → s.callers ≡ g ∷ gs → Returns target c s v q u → Arrives c (returned s g gs v) u → StatesAgree target c live (returned s g gs v) u (live (at_call s.frame))
 
 -- ---- the start

@@ -30,7 +30,8 @@ meaning_from unit args = mean.run_at (start_state unit.image args) []
 abbrev pub RunsAgree : List ℕ → List ℕ → TextUnit → Target → Type 0
 RunsAgree code addresses unit target =
     (args : List ℕ) (trash n : ℕ) → AreBytes args → length args ≤ most_args → trash < 2 ^ 64
-    → AgreesAt (meaning_of unit addresses) (machine_of target code trash) (length unit.nodes.nodes) (meaning_from unit args) (run_from target unit.image args trash) n
+    → AgreesAt (meaning_of unit addresses) (machine_of target code trash) (length unit.nodes.nodes) (meaning_from unit args)
+        (run_from target unit.image args trash) n
 
 -- these are addresses of the labels, over code of this length, and the runs agree
 pub record Agrees (code addresses : List ℕ) (unit : TextUnit) (target : Target) : Type 0 where

@@ -66,7 +66,8 @@ MayHoldCaller target registers f [] live = ⊤
 MayHoldCaller target registers f (g ∷ gs) live = HoldsCaller target registers f g live
 
 -- at its `prolog`, or before the first one
-pub record IsArriving (target : Target) (place : ℕ → ℕ) (bytes : ℕ → Option ℕ) (registers : ℕ → ℕ) (f : Frame) (gs : List Frame) (live : ℕ → Bool) : Type 0 where
+pub record IsArriving (target : Target) (place : ℕ → ℕ) (bytes : ℕ → Option ℕ) (registers : ℕ → ℕ) (f : Frame)
+    (gs : List Frame) (live : ℕ → Bool) : Type 0 where
   pub stack : registers (stack_register target) ≡ arriving (link_register target) f.sp
   pub link : IsLinked (link_register target) bytes registers f.sp (return_address place f gs)
   pub caller : MayHoldCaller target registers f gs live

@@ -19,7 +19,8 @@ zero_register target = None
 -- those that stand for R0 to V2 and those of arguments, which temporaries take; the stack pointer, FP and that of a result; the link and the carry
 abbrev pub written_registers : Target → List ℕ
 written_registers target =
-    order target ++ (stack_register target ∷ frame_register target ∷ result_register target ∷ (those_of (link_register target) ++ (those_of (carry_register target) ++ those_of (zero_register target))))
+    order target ++ (stack_register target ∷ frame_register target ∷ result_register target
+        ∷ (those_of (link_register target) ++ (those_of (carry_register target) ++ those_of (zero_register target))))
 
 -- a register is outside of the conventions
 abbrev pub is_outside : Target → ℕ → Bool

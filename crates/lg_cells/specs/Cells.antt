@@ -33,4 +33,5 @@ with_bytes cells from bytes count place = if within from count place then Holds 
 
 -- cells that hold the bytes of a data and an argument part from the first one on, and behind them fresh ones for the heap
 abbrev pub first_cells : (ℕ → Cell) → List ℕ → List ℕ → ℕ → Cell
-first_cells cells image args = with_cells (with_bytes (with_bytes cells 0 image (length image)) (length image) args (length args)) (length image + length args) 0x400000 Fresh
+first_cells cells image args =
+    with_cells (with_bytes (with_bytes cells 0 image (length image)) (length image) args (length args)) (length image + length args) 0x400000 Fresh

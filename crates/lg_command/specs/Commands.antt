@@ -26,7 +26,8 @@ pub record Command : Type 0 where
 
 abbrev pub mode_of : Option Text → Mode
 mode_of None = mode.Run
-mode_of (Some t) = if bytes_eq t (codes "list") then mode.List else (if bytes_eq t (codes "mean") then mode.Mean else (if bytes_eq t (codes "gen") then mode.Gen else mode.Run))
+mode_of (Some t) = if bytes_eq t (codes "list") then mode.List
+    else (if bytes_eq t (codes "mean") then mode.Mean else (if bytes_eq t (codes "gen") then mode.Gen else mode.Run))
 
 abbrev pub target_of : Option Text → Target
 target_of None = target.X86_64
@@ -99,7 +100,8 @@ HasFault words = (app : App) → IsApp app → fault_of app words ≢ []
 
 -- a command as it is held
 abbrev pub shown : Held → Command
-shown c = record { mode = c.mode; target = c.target; steps = c.steps; size = c.size; seed = c.seed; stats = c.stats; file = c.file.now; arguments = texts_of c.arguments.items }
+shown c = record { mode = c.mode; target = c.target; steps = c.steps; size = c.size; seed = c.seed; stats = c.stats; file = c.file.now;
+    arguments = texts_of c.arguments.items }
 
 -- its numbers are in their ranges, and its arguments begin with the file
 pub record IsInRange (c : Held) : Type 0 where

@@ -23,8 +23,10 @@ use Rattle.lg_cpu.specs.declared.answer.CpuStep.TheVariants as cpu
 
 -- ---- a step that is answered without a failed write is the step of the definition; code and trash word stay
 abbrev pub StepsAreThose : Type 0
-StepsAreThose = (old new : Shown) (out out' : List ℕ) (count count' : ℕ) (answer : CpuStep) → CpuSays old new (Some out) (Some out') count count' answer → answer ≢ cpu.WriteFault
-    → (run_of new out' ≡ (machine_of old.target old.code old.trash).step (run_of old out)) × (new.target ≡ old.target) × (new.code ≡ old.code) × (new.trash ≡ old.trash)
+StepsAreThose = (old new : Shown) (out out' : List ℕ) (count count' : ℕ) (answer : CpuStep)
+    → CpuSays old new (Some out) (Some out') count count' answer → answer ≢ cpu.WriteFault
+    → (run_of new out' ≡ (machine_of old.target old.code old.trash).step (run_of old out)) × (new.target ≡ old.target) × (new.code ≡ old.code)
+    × (new.trash ≡ old.trash)
 
 -- a processor that was just made is its run before the first step
 abbrev pub StartsAreRuns : Type 0
@@ -43,15 +45,18 @@ StepsFollowRuns = (image args out : List ℕ) (old new : Shown) (taken taken' : 
 
 -- ---- where an instruction stands, the step is the instruction's: on RV64IM, AArch64 and x86-64
 abbrev pub RvExecutesWhatStands : Type 0
-RvExecutesWhatStands = (code more : List ℕ) (trash : ℕ) (q : CpuState) (i : Instr) → IsInstr i → code_base ≤ q.pc → q.pc % 4 ≡ 0 → drop (q.pc - code_base) code ≡ spelling i ++ more
+RvExecutesWhatStands = (code more : List ℕ) (trash : ℕ) (q : CpuState) (i : Instr) → IsInstr i → code_base ≤ q.pc → q.pc % 4 ≡ 0
+    → drop (q.pc - code_base) code ≡ spelling i ++ more
     → effect code trash q ≡ act i q
 
 abbrev pub A64ExecutesWhatStands : Type 0
-A64ExecutesWhatStands = (code more : List ℕ) (trash : ℕ) (q : CpuState) (i : a64_instr.Instr) → a64_spelling.IsInstr i → code_base ≤ q.pc → q.pc % 4 ≡ 0 → drop (q.pc - code_base) code ≡ a64_spelling.spelling i ++ more
+A64ExecutesWhatStands = (code more : List ℕ) (trash : ℕ) (q : CpuState) (i : a64_instr.Instr) → a64_spelling.IsInstr i → code_base ≤ q.pc
+    → q.pc % 4 ≡ 0 → drop (q.pc - code_base) code ≡ a64_spelling.spelling i ++ more
     → a64.effect code trash q ≡ a64.act i q
 
 abbrev pub X86ExecutesWhatStands : Type 0
-X86ExecutesWhatStands = (code more : List ℕ) (trash : ℕ) (q : CpuState) (i : x86_instr.Instr) → x86_spelling.IsInstr i → code_base ≤ q.pc → drop (q.pc - code_base) code ≡ x86_spelling.spelling i ++ more
+X86ExecutesWhatStands = (code more : List ℕ) (trash : ℕ) (q : CpuState) (i : x86_instr.Instr) → x86_spelling.IsInstr i → code_base ≤ q.pc
+    → drop (q.pc - code_base) code ≡ x86_spelling.spelling i ++ more
     → x86.effect code trash q ≡ x86.act i (length (x86_spelling.spelling i)) q
 
 -- ---- a step that faults leaves everything as it was
@@ -64,7 +69,8 @@ abbrev pub IsUnchanged : CpuState → Effect CpuState → Type 0
 IsUnchanged q e = (e.to ≡ q) × (e.written ≡ [])
 
 abbrev pub FaultsChangeNothing : Type 0
-FaultsChangeNothing = (target : Target) (code : List ℕ) (trash : ℕ) (q : CpuState) → OnFault (effect_of target code trash q).progress (IsUnchanged q (effect_of target code trash q))
+FaultsChangeNothing = (target : Target) (code : List ℕ) (trash : ℕ) (q : CpuState)
+    → OnFault (effect_of target code trash q).progress (IsUnchanged q (effect_of target code trash q))
 
 -- ---- words stay words
 -- the program counter and the registers hold words, the memory holds bytes, and the heap mark lies in the heap
@@ -78,7 +84,8 @@ abbrev pub AreBytes : List ℕ → Type 0
 AreBytes code = (k : ℕ) → slice_index code k < 256
 
 abbrev pub StaysSound : Type 0
-StaysSound = (target : Target) (code : List ℕ) (trash : ℕ) (q : CpuState) → AreBytes code → trash < 2 ^ 64 → IsSound q → IsSound (effect_of target code trash q).to
+StaysSound = (target : Target) (code : List ℕ) (trash : ℕ) (q : CpuState) → AreBytes code → trash < 2 ^ 64 → IsSound q
+    → IsSound (effect_of target code trash q).to
 
 -- ---- runs are those of a machine: one that is over stays, and what is written stays written
 abbrev pub RunsAreMachines : Type 0

@@ -81,11 +81,13 @@ Does e old new answer = (answer ≡ answer_of e.progress) × (new.state ≡ e.to
 
 -- a step has this effect, and no write failed; taken and count are those of the sink, before and after
 abbrev pub Comes : Effect CpuState → Inner → Inner → Option (List ℕ) → Option (List ℕ) → ℕ → ℕ → CpuStep → Type 0
-Comes e old new taken taken' count count' answer = (answer ≡ answer_of e.progress) × (new.state ≡ e.to) × (new.fixed ≡ old.fixed) × Appends taken taken' e.written × (count' ≡ count)
+Comes e old new taken taken' count count' answer = (answer ≡ answer_of e.progress) × (new.state ≡ e.to) × (new.fixed ≡ old.fixed)
+    × Appends taken taken' e.written × (count' ≡ count)
 
 -- and where a write fails nothing but the sink changes
 abbrev pub StepSays : Effect CpuState → Inner → Inner → Option (List ℕ) → Option (List ℕ) → ℕ → ℕ → CpuStep → Type 0
-StepSays e old new taken taken' count count' cpu.WriteFault = (new.state ≡ old.state) × (new.fixed ≡ old.fixed) × Rose count count' × AppendsPrefix taken taken' e.written
+StepSays e old new taken taken' count count' cpu.WriteFault = (new.state ≡ old.state) × (new.fixed ≡ old.fixed) × Rose count count'
+    × AppendsPrefix taken taken' e.written
 StepSays e old new taken taken' count count' answer = Comes e old new taken taken' count count' answer
 
 -- ---- the public processor
@@ -117,8 +119,10 @@ after_step e s = record s { state = e.to; answer = answer_of e.progress; steps =
 -- a step of a run that goes on has this effect; where a write fails a part of its output was written, the sink's count of
 -- faults rose, and nothing else changed; else the count stays
 abbrev pub StepShows : Effect CpuState → Shown → Shown → Option (List ℕ) → Option (List ℕ) → ℕ → ℕ → CpuStep → Type 0
-StepShows e old new taken taken' count count' cpu.WriteFault = (new ≡ record old { answer = cpu.WriteFault }) × Rose count count' × AppendsPrefix taken taken' e.written
-StepShows e old new taken taken' count count' answer = (answer ≡ answer_of e.progress) × (new ≡ after_step e old) × Appends taken taken' e.written × (count' ≡ count)
+StepShows e old new taken taken' count count' cpu.WriteFault = (new ≡ record old { answer = cpu.WriteFault }) × Rose count count'
+    × AppendsPrefix taken taken' e.written
+StepShows e old new taken taken' count count' answer = (answer ≡ answer_of e.progress) × (new ≡ after_step e old) × Appends taken taken' e.written
+    × (count' ≡ count)
 
 -- a run that is over answers what it answered, and nothing changes
 abbrev pub SaysAfter : CpuStep → Effect CpuState → Shown → Shown → Option (List ℕ) → Option (List ℕ) → ℕ → ℕ → CpuStep → Type 0
@@ -126,7 +130,8 @@ SaysAfter cpu.Went e old new taken taken' count count' answer = StepShows e old 
 SaysAfter before e old new taken taken' count count' answer = (answer ≡ before) × (new ≡ old) × (taken' ≡ taken) × (count' ≡ count)
 
 abbrev pub CpuSays : Shown → Shown → Option (List ℕ) → Option (List ℕ) → ℕ → ℕ → CpuStep → Type 0
-CpuSays old new taken taken' count count' answer = SaysAfter old.answer (effect_of old.target old.code old.trash old.state) old new taken taken' count count' answer
+CpuSays old new taken taken' count count' answer = SaysAfter old.answer
+    (effect_of old.target old.code old.trash old.state) old new taken taken' count count' answer
 
 -- the run of which this is seen, where these bytes were written
 abbrev pub run_of : Shown → List ℕ → Run CpuState

@@ -124,8 +124,10 @@ shifted op rm n s = with_register s rm (shift_value op (s.registers rm) n) (shif
 abbrev pub one_register : UnaryOp → ℕ → Scene → Option Scene
 one_register Not rm s = sets s rm (complement (s.registers rm)) s.flags
 one_register Neg rm s = sets s rm (negated (s.registers rm)) (negation_flags (s.registers rm))
-one_register Mul rm s = sets_wide s (high_product (s.registers 0) (s.registers rm)) (mul_words (s.registers 0) (s.registers rm)) (product_flags (needs_high (s.registers 0) (s.registers rm)))
-one_register Imul1 rm s = sets_wide s (high_product_signed (s.registers 0) (s.registers rm)) (mul_words (s.registers 0) (s.registers rm)) (product_flags (needs_high_signed (s.registers 0) (s.registers rm)))
+one_register Mul rm s = sets_wide s (high_product (s.registers 0) (s.registers rm)) (mul_words (s.registers 0) (s.registers rm))
+    (product_flags (needs_high (s.registers 0) (s.registers rm)))
+one_register Imul1 rm s = sets_wide s (high_product_signed (s.registers 0) (s.registers rm)) (mul_words (s.registers 0) (s.registers rm))
+    (product_flags (needs_high_signed (s.registers 0) (s.registers rm)))
 one_register Div rm s = sets_quotient s (quotient_wide (s.registers 2) (s.registers 0) (s.registers rm))
 one_register Idiv rm s = sets_quotient s (quotient_wide_signed (s.registers 2) (s.registers 0) (s.registers rm))
 one_register Shl rm s = Some (shifted Shli rm (s.registers 1 % 64) s)

@@ -9,7 +9,8 @@ use Rattle.lg_follow.specs.Loud.{StandsAlike, CarriesLoud}
 -- every node that is dropped in the end only fell through, in the old nodes too
 pub record FallsThrough {P : Type 0} (old : Machine P) (p : P) (at : P → ℕ) (stays : ℕ → Bool) : Type 0 where
   pub leaps : ℕ → Bool
-  pub falls : (k : ℕ) → leaps (at (iter old.step k p)) ≡ false → old.status (iter old.step (suc k) p) ≡ Running → at (iter old.step (suc k) p) ≡ suc (at (iter old.step k p))
+  pub falls : (k : ℕ) → leaps (at (iter old.step k p)) ≡ false → old.status (iter old.step (suc k) p) ≡ Running
+      → at (iter old.step (suc k) p) ≡ suc (at (iter old.step k p))
   pub dropped : (i : ℕ) → stays i ≡ false → leaps i ≡ false
 
 -- nodes dropped twice are dropped

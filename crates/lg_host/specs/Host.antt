@@ -76,7 +76,8 @@ memset m to word count =
 abbrev pub memcpy : Mem → ℕ → ℕ → ℕ → Host
 memcpy m to from count =
     if count == 0 then Gives to unchanged m.mark []
-    else if is_addressed to count && is_addressed from count && not (overlaps to from count) && mapped m.bytes from count && can_write m.room to count then Gives to (copied m.bytes to from count) m.mark []
+    else if is_addressed to count && is_addressed from count && not (overlaps to from count) && mapped m.bytes from count
+        && can_write m.room to count then Gives to (copied m.bytes to from count) m.mark []
     else Undefined
 
 -- how many arguments are named
@@ -106,7 +107,8 @@ table host.Strcmp a b c args variadic m = answered m.mark (compared (run m.bytes
 
 -- what a host function answers, changes and writes
 abbrev pub host_of : HostName → List ℕ → Bool → Mem → Host
-host_of name args variadic m = if nat_lt (length args) (named name) then Undefined else table name (slice_index args 0) (slice_index args 1) (slice_index args 2) args variadic m
+host_of name args variadic m = if nat_lt (length args) (named name) then Undefined
+    else table name (slice_index args 0) (slice_index args 1) (slice_index args 2) args variadic m
 
 -- ---- what a call answers
 -- the second memory is the first
@@ -164,4 +166,5 @@ MemSays h m m' e = ⊥
 -- so many bytes were handed out, where they fit
 abbrev pub Reserves : Mem → ℕ → Mem → Option ℕ → Type 0
 Reserves m size m' answer =
-    MatchOption answer (Same m m' × (fits m.mark size ≡ false)) (λ at. (at ≡ m.mark) × Same (after m unchanged (m.mark + rounded size)) m' × (fits m.mark size ≡ true))
+    MatchOption answer (Same m m' × (fits m.mark size ≡ false)) (λ at. (at ≡ m.mark) × Same (after m unchanged (m.mark + rounded size)) m'
+        × (fits m.mark size ≡ true))

@@ -69,7 +69,8 @@ IsAfter None count args old new None = Unit {0}
 IsAfter None count args old new (Some place) = ⊥
 IsAfter (Some effect) count args old new None = ⊥
 IsAfter (Some effect) count args old new (Some place) =
-    (place.reading ≡ effect.reading) × (drop place.used args ≡ effect.left) × (place.count ≡ (count + length effect.bytes) % 2 ^ 64) × Passes old new effect.bytes
+    (place.reading ≡ effect.reading) × (drop place.used args ≡ effect.left) × (place.count ≡ (count + length effect.bytes) % 2 ^ 64)
+    × Passes old new effect.bytes
 
 -- the effect of one byte of the format, where it is defined
 pub record Steps {E : Type 0} (effect : Option Effect) (count : ℕ) (args : List ℕ) (old new : Output) (result : Result (Option FormatPlace) E) : Type 0 where

@@ -158,4 +158,5 @@ abbrev pub PrintsItsPieces : Type 0
 PrintsItsPieces = (m : Bytes) (ps : List Piece) (args : List ℕ) → ArePieces ps → printed m reading.Plain (all_spelled ps) args ≡ given m ps args
 
 abbrev pub IsSpelledByPieces : Type 0
-IsSpelledByPieces = (m : Bytes) (format args bytes : List ℕ) → printed m reading.Plain format args ≡ Some bytes → (ps : List Piece) × ArePieces ps × (format ≡ all_spelled ps)
+IsSpelledByPieces = (m : Bytes) (format args bytes : List ℕ) → printed m reading.Plain format args ≡ Some bytes
+    → (ps : List Piece) × ArePieces ps × (format ≡ all_spelled ps)

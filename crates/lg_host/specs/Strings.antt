@@ -22,7 +22,8 @@ is_digit b = nat_le 48 b && nat_le b 57
 
 -- an int by its sign and magnitude, as a word; None where it is none
 abbrev pub int_word : Bool → ℕ → Option ℕ
-int_word negative n = if negative then (if nat_le n (2 ^ 31) then Some (if n == 0 then 0 else 2 ^ 64 - n) else None) else (if nat_lt n (2 ^ 31) then Some n else None)
+int_word negative n = if negative then (if nat_le n (2 ^ 31) then Some (if n == 0 then 0 else 2 ^ 64 - n) else None)
+    else (if nat_lt n (2 ^ 31) then Some n else None)
 
 -- the number so far and the digits up to the first other byte, which must be one that can be read
 abbrev pub number_in : Bool → ℕ → List ℕ → Option ℕ

@@ -32,7 +32,8 @@ node_entries t bytes l i = labels_at i l.words l.places ++ (entry_of (slice_get 
 -- so many nodes from node i on; the labels that are bound behind the last node come last
 abbrev pub nodes_from : Target → List ℕ → List ℕ → LabelledNodes → ℕ → ℕ → List ℕ
 nodes_from t bytes places l i zero = rendered (code_base + slice_index places i) (labels_at i l.words l.places)
-nodes_from t bytes places l i (suc k) = rendered (code_base + slice_index places i) (node_entries t (bytes_between bytes places i) l i) ++ nodes_from t bytes places l (i + 1) k
+nodes_from t bytes places l i (suc k) = rendered (code_base + slice_index places i) (node_entries t (bytes_between bytes places i) l i)
+    ++ nodes_from t bytes places l (i + 1) k
 
 abbrev pub listing : Target → List ℕ → List ℕ → LabelledNodes → List ℕ
 listing t bytes places l = first_line t (length bytes) ++ nodes_from t bytes places l 0 (length l.nodes)

@@ -16,7 +16,8 @@ abbrev pub live_at : List RegSet → ℕ → ℕ → Bool
 live_at sets i = numbered (has (slice_index_or sets i (record { 0 = 0 })))
 
 abbrev pub LiveSetsAreLiveness : Type 0
-LiveSetsAreLiveness = (c : Code) (sets : LiveSets) → IsShapeOf c.nodes c.shape → All InForm c.nodes.nodes → AreLive c.nodes c.shape sets → IsLiveness c (live_at sets.before) (live_at sets.behind)
+LiveSetsAreLiveness = (c : Code) (sets : LiveSets) → IsShapeOf c.nodes c.shape → All InForm c.nodes.nodes → AreLive c.nodes c.shape sets
+    → IsLiveness c (live_at sets.before) (live_at sets.behind)
 
 -- with every register live everywhere, too
 abbrev pub AllIsLiveness : Type 0

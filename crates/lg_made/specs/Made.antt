@@ -52,7 +52,8 @@ pieces (suc k) x = ((one_piece x).0 ++ (pieces k (one_piece x).1).0, (pieces k (
 -- ---- functions
 
 abbrev pub start_of : (function first : ℕ) → List ℕ
-start_of k c = row (codes "f" ∷ digits_in Decimal k ∷ codes ":\nprolog\narg $a\ngetarg %v0 $a\nmovi %v1 " ∷ digits_in Decimal c ∷ codes "\nmovi %v2 8\nl" ∷ digits_in Decimal k ∷ codes ":\n" ∷ [])
+start_of k c = row (codes "f" ∷ digits_in Decimal k ∷ codes ":\nprolog\narg $a\ngetarg %v0 $a\nmovi %v1 " ∷ digits_in Decimal c
+    ∷ codes "\nmovi %v2 8\nl" ∷ digits_in Decimal k ∷ codes ":\n" ∷ [])
 
 abbrev pub end_of : (function : ℕ) → List ℕ
 end_of k = row (codes "subi %v2 %v2 1\nbgti l" ∷ digits_in Decimal k ∷ codes " %v2 0\nretr %v0\nepilog\n" ∷ [])

@@ -18,7 +18,8 @@ status_behind (mean.Undefined line) = Bad
 status_behind mean.WriteFault = Running
 
 -- behind an answer the meaning stands at the machine's new state, and the machine has written what the meaning has written
-pub record IsBehind (l : LabelledNodes) (shape : TextShape) (addresses : List ℕ) (start : State) (k : ℕ) (answer : MeanStep) (new : State) (before out : List ℕ) (out' : Option (List ℕ)) : Type 0 where
+pub record IsBehind (l : LabelledNodes) (shape : TextShape) (addresses : List ℕ) (start : State) (k : ℕ) (answer : MeanStep) (new : State)
+    (before out : List ℕ) (out' : Option (List ℕ)) : Type 0 where
   pub bytes : List ℕ
   pub stands : mean_from l shape addresses start (k + 1) ≡ record { status = status_behind answer; state = new; out = out ++ bytes }
   pub written : out' ≡ Some (before ++ (out ++ bytes))
@@ -26,7 +27,8 @@ pub record IsBehind (l : LabelledNodes) (shape : TextShape) (addresses : List �
 -- where a machine stands as the meaning does after k steps, and a step of it meets no fault of its sink, it stands behind that step as the
 -- meaning does after k + 1
 abbrev pub StepsFollow : Type 0
-StepsFollow = (l : LabelledNodes) (shape : TextShape) (addresses : List ℕ) (start : State) (k line : ℕ) (old new : State) (answer : MeanStep) (before out : List ℕ) (out' : Option (List ℕ)) (faults faults' : ℕ)
+StepsFollow = (l : LabelledNodes) (shape : TextShape) (addresses : List ℕ) (start : State) (k line : ℕ) (old new : State) (answer : MeanStep)
+    (before out : List ℕ) (out' : Option (List ℕ)) (faults faults' : ℕ)
     → mean_from l shape addresses start k ≡ run_at old out
     → Steps (step l shape addresses old) line old answer new (Some (before ++ out)) out' faults faults'
     → answer ≢ mean.WriteFault

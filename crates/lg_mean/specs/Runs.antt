@@ -39,8 +39,10 @@ IsUndefinedBehind meaning n = meaning (n + 1) ≡ record (meaning n) { status = 
 
 -- where a run of at most so many steps has come to after n steps, at a state whose node has a line
 abbrev pub ComesTo : (ℕ → Run) → RunEnd → (n most : ℕ) → State → (line : ℕ) → (out out' : Option (List ℕ)) → (faults faults' : ℕ) → Type 0
-ComesTo meaning (runs_end.Ended status) n most s line out out' faults faults' = (n ≤ most) × ((k : ℕ) × (n ≡ k + 1) × GoesOn meaning k s out out' × EndsBehind meaning k status)
-ComesTo meaning (runs_end.Undefined at) n most s line out out' faults faults' = (n < most) × GoesOn meaning n s out out' × IsUndefinedBehind meaning n × (at ≡ line)
+ComesTo meaning (runs_end.Ended status) n most s line out out' faults faults' = (n ≤ most)
+    × ((k : ℕ) × (n ≡ k + 1) × GoesOn meaning k s out out' × EndsBehind meaning k status)
+ComesTo meaning (runs_end.Undefined at) n most s line out out' faults faults' = (n < most) × GoesOn meaning n s out out' × IsUndefinedBehind meaning n
+    × (at ≡ line)
 ComesTo meaning runs_end.StepsOut n most s line out out' faults faults' = (n ≡ most) × GoesOn meaning n s out out'
 ComesTo meaning runs_end.WriteFault n most s line out out' faults faults' = (n < most) × FailsToWrite meaning n s out out' faults faults'
 

@@ -33,12 +33,14 @@ Leaves Undefined old ended new = ⊥
 -- the top frame and its locals are gone, where there was another one
 abbrev pub WentUp : State → List Frame → Bool → State → Type 0
 WentUp old [] went new = (went ≡ false) × (new ≡ old)
-WentUp old (g ∷ gs) went new = (went ≡ true) × (new ≡ record old { frame = g; callers = gs; mem = without old.mem (old.frame.sp - 144 - old.frame.locals) old.frame.locals })
+WentUp old (g ∷ gs) went new = (went ≡ true)
+    × (new ≡ record old { frame = g; callers = gs; mem = without old.mem (old.frame.sp - 144 - old.frame.locals) old.frame.locals })
 
 -- the answer of a step, the new state and what was written
 abbrev pub Steps : Outcome → ℕ → State → MeanStep → State → (out out' : Option (List ℕ)) → (faults faults' : ℕ) → Type 0
 Steps (Goes t bytes) line old answer new out out' faults faults' =
-    ((answer ≡ mean.Went) × (new ≡ t) × Appends out out' bytes) ⊎ ((answer ≡ mean.WriteFault) × (new ≡ old) × AppendsPrefix out out' bytes × Rose faults faults')
+    ((answer ≡ mean.Went) × (new ≡ t) × Appends out out' bytes)
+        ⊎ ((answer ≡ mean.WriteFault) × (new ≡ old) × AppendsPrefix out out' bytes × Rose faults faults')
 Steps (Ends n) line old answer new out out' faults faults' = (answer ≡ mean.Ended n) × (new ≡ old) × Appends out out' []
 Steps Undefined line old answer new out out' faults faults' = (answer ≡ mean.Undefined line) × (new ≡ old) × Appends out out' []
 

@@ -44,7 +44,8 @@ pub record IsFollowed (unit : TextUnit) (args : List ℕ) (most : ℕ) (c : Sink
   pub steps : ℕ
   pub is : end ≡ end_of run_end steps
   pub state : State
-  pub comes : ComesTo (mean unit.nodes shape (plain_addresses unit.nodes) unit.image args) run_end steps most state (line_at unit.nodes state) c.taken c.taken' c.faults c.faults'
+  pub comes : ComesTo (mean unit.nodes shape (plain_addresses unit.nodes) unit.image args) run_end steps most state
+      (line_at unit.nodes state) c.taken c.taken' c.faults c.faults'
   pub kept : KeepsCountBehind run_end c.faults c.faults'
 
 -- a unit has a fault in being read, or is refused by the checks

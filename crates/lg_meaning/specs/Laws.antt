@@ -41,7 +41,8 @@ MeansFit = (l : LabelledNodes) (shape : TextShape) (addresses image args : List 
 -- where a state fits at a node of a function, the running frame has that function's size and locals behind the `prolog`, and neither at it
 abbrev pub FramesAreOfFunctions : Type 0
 FramesAreOfFunctions = (l : LabelledNodes) (shape : TextShape) (s : State) (p : ℕ) → IsShapeOf l shape → Fits l shape s → home l.nodes s.at ≡ Some p
-    → (is_prolog_at (slice_get l.nodes s.at) ≡ false → IsRunning shape.functions s) × (is_prolog_at (slice_get l.nodes s.at) ≡ true → IsBeginning shape.functions s)
+    → (is_prolog_at (slice_get l.nodes s.at) ≡ false → IsRunning shape.functions s)
+    × (is_prolog_at (slice_get l.nodes s.at) ≡ true → IsBeginning shape.functions s)
 
 -- a step takes no byte out of the data, the arguments and the heap, and the heap mark never falls
 abbrev pub StepsGrow : Type 0
@@ -51,7 +52,8 @@ StepsGrow = (l : LabelledNodes) (shape : TextShape) (addresses : List ℕ) (s t 
 -- so memory holds the data part and the argument part throughout, and nothing else in their ranges
 abbrev pub MeansHoldParts : Type 0
 MeansHoldParts = (l : LabelledNodes) (shape : TextShape) (addresses image args : List ℕ) (k : ℕ)
-    → IsShapeOf l shape → All InForm l.nodes → length image ≤ 0x1000000 → length args ≤ most_args → HoldsParts image args (mean l shape addresses image args k).state
+    → IsShapeOf l shape → All InForm l.nodes → length image ≤ 0x1000000 → length args ≤ most_args
+    → HoldsParts image args (mean l shape addresses image args k).state
 
 -- where a state fits, only the locals of the frames are open in the stack
 abbrev pub FitsOpensLocals : Type 0
@@ -65,7 +67,8 @@ AccessesLieInOnePart = (l : LabelledNodes) (shape : TextShape) (s : State) (a w 
 -- ---- runs
 -- a run that is over stays, what was written stays written, and a step that ends a run or is undefined writes nothing
 abbrev pub MeansAreMachines : Type 0
-MeansAreMachines = (l : LabelledNodes) (shape : TextShape) (addresses : List ℕ) → IsMachine (machine l shape addresses) × EndsSilently (machine l shape addresses)
+MeansAreMachines = (l : LabelledNodes) (shape : TextShape) (addresses : List ℕ)
+    → IsMachine (machine l shape addresses) × EndsSilently (machine l shape addresses)
 
 -- where a run that goes on stands after k steps, its next step leads to where it stands after k + 1
 abbrev pub StepsAreMeans : Type 0

@@ -28,10 +28,12 @@ Reaches l shape s t = IsSuccessor l shape s.at t.at ⊎ ((r : ℕ) → t.regs r 
 
 -- a step that goes to a node, from one that is no return
 abbrev pub StepsReachSuccessors : Type 0
-StepsReachSuccessors = (l : LabelledNodes) (shape : TextShape) (addresses : List ℕ) (s t : State) (n : Node) (bytes : List ℕ) → IsShapeOf l shape → InForm n → slice_get l.nodes s.at ≡ Some n
+StepsReachSuccessors = (l : LabelledNodes) (shape : TextShape) (addresses : List ℕ) (s t : State) (n : Node) (bytes : List ℕ) → IsShapeOf l shape
+    → InForm n → slice_get l.nodes s.at ≡ Some n
     → is_return n.op ≡ false → step l shape addresses s ≡ Goes t bytes → t.at < length l.nodes → Reaches l shape s t
 
 -- a label that is taken and bound at a node of a function behind its `prolog` is a successor of each `jmpr` of that function
 abbrev pub TakenLabelsAreSuccessors : Type 0
-TakenLabelsAreSuccessors = (l : LabelledNodes) (shape : TextShape) (i k label function : ℕ) (n : Node) → slice_get l.nodes i ≡ Some n → n.op ≡ op.Control control.Jmp last_operand.Register → home l.nodes i ≡ Some function
+TakenLabelsAreSuccessors = (l : LabelledNodes) (shape : TextShape) (i k label function : ℕ) (n : Node) → slice_get l.nodes i ≡ Some n
+    → n.op ≡ op.Control control.Jmp last_operand.Register → home l.nodes i ≡ Some function
     → IsTaken shape label → slice_get l.places label ≡ Some (Some (place.Node k)) → home l.nodes k ≡ Some function → function < k → IsSuccessor l shape i k

@@ -66,14 +66,19 @@ pub record IsWellShaped (l : LabelledNodes) : Type 0 where
   -- no other node begins one
   pub prologs : (i : ℕ) → home l.nodes i ≡ Some i → is_prolog_at (slice_get l.nodes i) ≡ true
   -- targets of jumps, branches and calls
-  pub jumps : (i : ℕ) (n : Node) (x : Label) (xs : List Operand) → slice_get l.nodes i ≡ Some n → has_target n.op ≡ true → n.operands ≡ operand.Label x ∷ xs → JumpsTo l (home l.nodes i) (place_of l.places x)
-  pub calls : (i : ℕ) (n : Node) (x : Label) (xs : List Operand) → slice_get l.nodes i ≡ Some n → has_callee n.op ≡ true → n.operands ≡ operand.Label x ∷ xs → IsEntry l (place_of l.places x)
+  pub jumps : (i : ℕ) (n : Node) (x : Label) (xs : List Operand) → slice_get l.nodes i ≡ Some n → has_target n.op ≡ true
+      → n.operands ≡ operand.Label x ∷ xs → JumpsTo l (home l.nodes i) (place_of l.places x)
+  pub calls : (i : ℕ) (n : Node) (x : Label) (xs : List Operand) → slice_get l.nodes i ≡ Some n → has_callee n.op ≡ true
+      → n.operands ≡ operand.Label x ∷ xs → IsEntry l (place_of l.places x)
   -- a call is prepared within a function, and its arguments are at most 16
-  pub prepared : (i : ℕ) (call : Preparation) → i ≤ length l.nodes → prepared_before l.nodes i ≡ Some call → (is_some (home l.nodes i) ≡ true) × (call.pushed ≤ 16)
+  pub prepared : (i : ℕ) (call : Preparation) → i ≤ length l.nodes → prepared_before l.nodes i ≡ Some call
+      → (is_some (home l.nodes i) ≡ true) × (call.pushed ≤ 16)
   -- nothing is prepared at a branch, a jump, a call without arguments, a return, a `prepare` or a label
-  pub unprepared : (i : ℕ) (n : Node) → slice_get l.nodes i ≡ Some n → (breaks_preparation n.op || is_labelled l.places i) ≡ true → prepared_before l.nodes i ≡ None
+  pub unprepared : (i : ℕ) (n : Node) → slice_get l.nodes i ≡ Some n → (breaks_preparation n.op || is_labelled l.places i) ≡ true
+      → prepared_before l.nodes i ≡ None
   -- a call is being prepared where one is passed an argument or made, and there is room for the argument
-  pub pushes : (i : ℕ) (n : Node) → slice_get l.nodes i ≡ Some n → needs_preparation n.op ≡ true → (call : Preparation) × (prepared_before l.nodes i ≡ Some call) × (is_pusharg n.op ≡ true → call.pushed < 16)
+  pub pushes : (i : ℕ) (n : Node) → slice_get l.nodes i ≡ Some n → needs_preparation n.op ≡ true
+      → (call : Preparation) × (prepared_before l.nodes i ≡ Some call) × (is_pusharg n.op ≡ true → call.pushed < 16)
   -- a function has at most 16 arguments and 65,536 bytes of locals
   pub args : (i : ℕ) → i ≤ length l.nodes → args_before l.nodes i ≤ 16
   pub locals : (i : ℕ) → i ≤ length l.nodes → locals_before l.nodes i ≤ 65536
@@ -100,11 +105,13 @@ pub record HasFunctions (l : LabelledNodes) : Type 0 where
 
 -- the successors of a node of a function are nodes of the same function, behind its `prolog`
 abbrev pub SuccessorsStay : Type 0
-SuccessorsStay = (l : LabelledNodes) (s : TextShape) → IsShapeOf l s → (i k p : ℕ) → home l.nodes i ≡ Some p → IsSuccessor l s i k → (home l.nodes k ≡ Some p) × (p < k)
+SuccessorsStay = (l : LabelledNodes) (s : TextShape) → IsShapeOf l s → (i k p : ℕ) → home l.nodes i ≡ Some p → IsSuccessor l s i k
+    → (home l.nodes k ≡ Some p) × (p < k)
 
 -- those of a node outside of every function are such nodes too, or begin a function
 abbrev pub SuccessorsEnter : Type 0
-SuccessorsEnter = (l : LabelledNodes) (s : TextShape) → IsShapeOf l s → (i k : ℕ) → home l.nodes i ≡ None → IsSuccessor l s i k → (home l.nodes k ≡ None) ⊎ (home l.nodes k ≡ Some k)
+SuccessorsEnter = (l : LabelledNodes) (s : TextShape) → IsShapeOf l s → (i k : ℕ) → home l.nodes i ≡ None → IsSuccessor l s i k
+    → (home l.nodes k ≡ None) ⊎ (home l.nodes k ≡ Some k)
 
 -- a label that is taken in a text is bound in a function behind its `prolog`
 pub record IsBoundInside (l : LabelledNodes) (label : ℕ) : Type 0 where

@@ -21,7 +21,8 @@ BeginsWith whole given = (more : List ℕ) × (whole ≡ given ++ more)
 
 -- what is given stays: the lines between two directives, and all of a text, give further bytes behind it
 abbrev pub GivenBytesStay : Type 0
-GivenBytesStay = ((table : List Macro) (k : ℕ) (pieces : List Piece) (given : List ℕ) (sum : ℕ) → IfOk (flushed table k pieces given sum) (λ next. BeginsWith next.0 given))
+GivenBytesStay = ((table : List Macro) (k : ℕ) (pieces : List Piece) (given : List ℕ) (sum : ℕ)
+    → IfOk (flushed table k pieces given sum) (λ next. BeginsWith next.0 given))
     × ((k : ℕ) (text : List Piece) (s : Expander) (at : ℕ) → IfOk (lines_in k text s at) (λ whole. BeginsWith whole s.given))
 
 -- ---- the pieces of a text
@@ -75,7 +76,8 @@ unfoldable pub IsOnItsLines : ℕ → List Piece → Expander → ℕ → Type 0
 IsOnItsLines zero text s at = AreFlushedOnLines s
 IsOnItsLines (suc k) text s at =
     (nat_le (length text) at ≡ true → AreFlushedOnLines s)
-    × (nat_le (length text) at ≡ false → IfSome (mark_in true (drop at text)) (λ n. AreFlushedOnLines s) × IfOk (one_line text s at) (λ next. IsOnItsLines k text next.1 next.0))
+    × (nat_le (length text) at ≡ false → IfSome (mark_in true (drop at text)) (λ n. AreFlushedOnLines s)
+        × IfOk (one_line text s at) (λ next. IsOnItsLines k text next.1 next.0))
 
 -- a token outside what is replaced keeps its line, and what a name gives is on the line of that name
 abbrev pub TokensKeepTheirLines : Type 0

@@ -59,7 +59,8 @@ pub record Causes (words : List (List ℕ)) (texts : TextsChange) (out err : Sin
   -- Usage comes only for words that are no command
   pub usage : done.answer ≡ Usage → AreNoCommand words
   -- and where a fault is found in the words, only it, want of memory, or a write fault of a line
-  pub no_command : HasFault words → (done.code ≡ None) × ((done.answer ≡ Usage) ⊎ ((done.answer ≡ OutOfMemory) ⊎ ((done.answer ≡ WriteFault) × Rose err.faults err.faults')))
+  pub no_command : HasFault words → (done.code ≡ None)
+      × ((done.answer ≡ Usage) ⊎ ((done.answer ≡ OutOfMemory) ⊎ ((done.answer ≡ WriteFault) × Rose err.faults err.faults')))
   pub refused : (refusal : Refusal) → done.answer ≡ Refused refusal → (c : Command) × IsCommand words c × IsRefusedCall c texts.held refusal
   -- a fault of the outside is told only where a count rose, and each that rose is told
   pub read_fault : done.answer ≡ ReadFault → Rose texts.faults texts.faults' × ((c : Command) × IsCommand words c × ReadsFile c.mode)

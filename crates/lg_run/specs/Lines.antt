@@ -16,7 +16,8 @@ refusal_line file line number name = row (codes "lightning: " ∷ file ∷ codes
 abbrev pub line_of : List ℕ → ℕ → Answer → List ℕ
 line_of file steps (Ended status) = []
 line_of file steps Listed = []
-line_of file steps (Undefined line) = row (codes "lightning: undefined at line " ∷ digits_in Decimal line ∷ codes " after " ∷ digits_in Decimal steps ∷ codes "\n" ∷ [])
+line_of file steps (Undefined line) = row (codes "lightning: undefined at line " ∷ digits_in Decimal line ∷ codes " after " ∷ digits_in Decimal steps
+    ∷ codes "\n" ∷ [])
 line_of file steps (Refused refusal) =
     refusal_line file (digits_in Decimal refusal.line) (digits_in Decimal (number_of_kind refusal.kind)) (name_of_kind refusal.kind)
 line_of file steps Usage = row (codes "lightning: usage: lightning [--mode M] [--target T] [--steps N] [--code N] [--seed N] [--stats] [FILE [ARG]...]\n" ∷ [])
@@ -24,13 +25,15 @@ line_of file steps ReadFault = row (codes "lightning: read fault\n" ∷ [])
 line_of file steps WriteFault = row (codes "lightning: write fault\n" ∷ [])
 line_of file steps StepsOut = row (codes "lightning: steps out after " ∷ digits_in Decimal steps ∷ codes "\n" ∷ [])
 line_of file steps (Fault kind pc) =
-    row (codes "lightning: fault " ∷ name_of_fault kind ∷ codes " at 0x" ∷ digits_in Hexadecimal pc ∷ codes " after " ∷ digits_in Decimal steps ∷ codes "\n" ∷ [])
+    row (codes "lightning: fault " ∷ name_of_fault kind ∷ codes " at 0x" ∷ digits_in Hexadecimal pc ∷ codes " after " ∷ digits_in Decimal steps
+        ∷ codes "\n" ∷ [])
 line_of file steps OutOfMemory = row (codes "lightning: out of memory\n" ∷ [])
 
 -- the statistics: bytes of code, final nodes, registers that are saved for temporaries, and steps of the run
 abbrev pub stats_line : (bytes nodes spills steps : ℕ) → List ℕ
 stats_line bytes nodes spills steps =
-    row (codes "bytes " ∷ digits_in Decimal bytes ∷ codes " nodes " ∷ digits_in Decimal nodes ∷ codes " spills " ∷ digits_in Decimal spills ∷ codes " steps " ∷ digits_in Decimal steps ∷ codes "\n" ∷ [])
+    row (codes "bytes " ∷ digits_in Decimal bytes ∷ codes " nodes " ∷ digits_in Decimal nodes ∷ codes " spills " ∷ digits_in Decimal spills
+        ∷ codes " steps " ∷ digits_in Decimal steps ∷ codes "\n" ∷ [])
 
 abbrev pub is_write_fault : Answer → Bool
 is_write_fault (Ended status) = false

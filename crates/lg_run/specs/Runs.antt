@@ -37,7 +37,8 @@ MeanSays nodes meaning most steps out (Ended status) =
     (steps ≤ most) × ((meaning steps).status ≡ runs.Ended status) × ((n : ℕ) → n < steps → HasMeant meaning n) × Took out (meaning steps).out
 MeanSays nodes meaning most steps out StepsOut = (steps ≡ most) × HasMeant meaning steps × Took out (meaning steps).out
 MeanSays nodes meaning most steps out (Undefined line) =
-    (steps < most) × HasMeant meaning steps × ((meaning (steps + 1)).status ≡ Bad) × (line ≡ line_at nodes (meaning steps).state) × Took out (meaning (steps + 1)).out
+    (steps < most) × HasMeant meaning steps × ((meaning (steps + 1)).status ≡ Bad) × (line ≡ line_at nodes (meaning steps).state)
+    × Took out (meaning (steps + 1)).out
 MeanSays nodes meaning most steps out WriteFault =
     (steps < most) × HasMeant meaning steps × TookBetween out (meaning steps).out (meaning (steps + 1)).out
 MeanSays nodes meaning most steps out answer = ⊥

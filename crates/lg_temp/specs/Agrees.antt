@@ -19,4 +19,5 @@ pub record PastIt {P Q : Type 0} (portable : Machine P) (processor : Machine Q) 
 abbrev pub AgreesAt : {P Q : Type 0} → Machine P → Machine Q → ℕ → P → Q → ℕ → Type 0
 AgreesAt portable processor nodes p q n =
     (k : ℕ) × (n / 64 ≤ k) × (k ≤ (n + 1) * (nodes + 1))
-    × (SameAt portable processor (iter portable.step k p) (iter processor.step n q) ⊎ PastIt portable processor (iter portable.step k p) (iter processor.step n q))
+    × (SameAt portable processor (iter portable.step k p) (iter processor.step n q)
+        ⊎ PastIt portable processor (iter portable.step k p) (iter processor.step n q))

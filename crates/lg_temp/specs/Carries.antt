@@ -16,8 +16,10 @@ pub record Standing {P Q : Type 0} (portable : Machine P) (processor : Machine Q
 pub record Lands {P Q : Type 0} (portable : Machine P) (processor : Machine Q) (stands : P → Q → ℕ → Type 0) (p : P) (q : Q) (rank : ℕ) : Type 0 where
   pub steps : ℕ
   pub few : steps ≤ 64
-  pub way : (i : ℕ) → i < steps → (processor.out (iter processor.step i q) ≡ portable.out p) ⊎ (processor.out (iter processor.step i q) ≡ portable.out (portable.step p))
-  pub there : ((s : ℕ) × (portable.status (portable.step p) ≡ Ended s) × (processor.status (iter processor.step steps q) ≡ Ended s) × (processor.out (iter processor.step steps q) ≡ portable.out (portable.step p)))
+  pub way : (i : ℕ) → i < steps → (processor.out (iter processor.step i q) ≡ portable.out p)
+      ⊎ (processor.out (iter processor.step i q) ≡ portable.out (portable.step p))
+  pub there : ((s : ℕ) × (portable.status (portable.step p) ≡ Ended s) × (processor.status (iter processor.step steps q) ≡ Ended s)
+      × (processor.out (iter processor.step steps q) ≡ portable.out (portable.step p)))
       ⊎ ((next : ℕ) × stands (portable.step p) (iter processor.step steps q) next × ((steps ≡ 0 → next < rank)))
 
 -- the portable step is undefined, or it is carried

@@ -47,7 +47,8 @@ is_float_word [] = false
 is_float_word (b ∷ rest) = begins_float_part (b ∷ rest) || is_float_word rest
 
 abbrev pub directives : List Directive
-directives = directive.Data ∷ directive.Code ∷ directive.Char ∷ directive.Short ∷ directive.Int ∷ directive.Long ∷ directive.Size ∷ directive.Align ∷ directive.Float ∷ directive.Double ∷ []
+directives = directive.Data ∷ directive.Code ∷ directive.Char ∷ directive.Short ∷ directive.Int ∷ directive.Long ∷ directive.Size ∷ directive.Align
+    ∷ directive.Float ∷ directive.Double ∷ []
 
 abbrev pub directive_word : Directive → List ℕ
 directive_word directive.Data = codes ".data"

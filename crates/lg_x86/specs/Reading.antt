@@ -38,7 +38,8 @@ same_mark _ _ = false
 
 -- whether a row has these prefixes and this opcode
 abbrev pub is_prefix_row : Bool → Mark → Bool → ℕ → PrefixRow → Bool
-is_prefix_row word_sized mark escaped opcode row = same_bool word_sized row.word_sized && (same_mark mark row.mark && (same_bool escaped row.escaped && (opcode == row.opcode)))
+is_prefix_row word_sized mark escaped opcode row = same_bool word_sized row.word_sized
+    && (same_mark mark row.mark && (same_bool escaped row.escaped && (opcode == row.opcode)))
 
 -- the first row of a shape with these
 unfoldable pub rm_reg_by_opcode : ℕ → Option RmRegOp
@@ -108,7 +109,8 @@ abbrev pub word_in : List ℕ → ℕ
 word_in bytes = from_le_bytes w32 (slice_index bytes 0 ∷ slice_index bytes 1 ∷ slice_index bytes 2 ∷ slice_index bytes 3 ∷ [])
 
 abbrev pub wide_in : List ℕ → ℕ
-wide_in bytes = from_le_bytes w64 (slice_index bytes 0 ∷ slice_index bytes 1 ∷ slice_index bytes 2 ∷ slice_index bytes 3 ∷ slice_index bytes 4 ∷ slice_index bytes 5 ∷ slice_index bytes 6 ∷ slice_index bytes 7 ∷ [])
+wide_in bytes = from_le_bytes w64 (slice_index bytes 0 ∷ slice_index bytes 1 ∷ slice_index bytes 2 ∷ slice_index bytes 3 ∷ slice_index bytes 4
+    ∷ slice_index bytes 5 ∷ slice_index bytes 6 ∷ slice_index bytes 7 ∷ [])
 
 abbrev pub short_in : List ℕ → ℤ
 short_in bytes = signed 128 (slice_index bytes 0)
@@ -140,7 +142,8 @@ unfoldable pub load_of : Mark → Bool → ℕ → ℕ → List ℕ → Option I
 load_of mark escaped rex opcode tail = option_map (λ op. Load op (reg_in rex tail) (rm_in rex tail) (disp_in tail)) (load_by_prefixes false mark escaped opcode)
 
 unfoldable pub store_of : Bool → Mark → ℕ → ℕ → List ℕ → Option Instr
-store_of word_sized mark rex opcode tail = option_map (λ op. Store op (rm_in rex tail) (disp_in tail) (reg_in rex tail)) (store_by_prefixes word_sized mark false opcode)
+store_of word_sized mark rex opcode tail = option_map (λ op. Store op (rm_in rex tail) (disp_in tail) (reg_in rex tail))
+    (store_by_prefixes word_sized mark false opcode)
 
 unfoldable pub lea_of : ℕ → List ℕ → Option Instr
 lea_of rex tail =
@@ -298,7 +301,8 @@ is_displaced mode bytes = if mode == 1 then has_bytes 1 bytes else ((mode == 2) 
 
 -- ModRM begins an operand in memory, of which SIB names no index; and how long it is
 abbrev pub is_memory : List ℕ → Bool
-is_memory tail = (if slice_index tail 0 % 8 == 4 then slice_index tail 1 == 0x24 else true) && is_displaced (slice_index tail 0 / 64) (drop (disp_place tail) tail)
+is_memory tail = (if slice_index tail 0 % 8 == 4 then slice_index tail 1 == 0x24 else true)
+    && is_displaced (slice_index tail 0 / 64) (drop (disp_place tail) tail)
 
 abbrev pub memory_length : List ℕ → ℕ
 memory_length tail = disp_place tail + (if slice_index tail 0 / 64 == 1 then 1 else 4)
@@ -314,7 +318,8 @@ read_movi word_sized rex len mark opcode tail = accepted ((not word_sized && is_
 unfoldable pub read_imm : Bool → ℕ → ℕ → ℕ → List ℕ → Option (Instr × ℕ)
 read_imm word_sized rex len opcode tail =
     if opcode == 0x83 then accepted ((not word_sized && is_wide_one rex) && (has_registers tail && has_bytes 2 tail)) (len + 2) (imm_of rex opcode tail)
-    else accepted ((not word_sized && is_wide_one rex) && (has_registers tail && (has_bytes 5 tail && not (is_short (long_in (drop 1 tail)))))) (len + 5) (imm_of rex opcode tail)
+    else accepted ((not word_sized && is_wide_one rex) && (has_registers tail && (has_bytes 5 tail && not (is_short (long_in (drop 1 tail))))))
+        (len + 5) (imm_of rex opcode tail)
 
 unfoldable pub read_reg : Bool → ℕ → ℕ → Mark → Bool → Bool → ℕ → List ℕ → Option (Instr × ℕ)
 read_reg word_sized rex len mark registers escaped opcode tail =

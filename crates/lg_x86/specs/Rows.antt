@@ -243,4 +243,5 @@ cond_row LessOrEqual = row (codes "le") 14
 cond_row Greater = row (codes "g") 15
 
 abbrev pub conds : List Cond
-conds = Overflow ∷ NoOverflow ∷ Below ∷ AboveOrEqual ∷ Equal ∷ NotEqual ∷ BelowOrEqual ∷ Above ∷ Sign ∷ NoSign ∷ Less ∷ GreaterOrEqual ∷ LessOrEqual ∷ Greater ∷ []
+conds = Overflow ∷ NoOverflow ∷ Below ∷ AboveOrEqual ∷ Equal ∷ NotEqual ∷ BelowOrEqual ∷ Above ∷ Sign ∷ NoSign ∷ Less ∷ GreaterOrEqual ∷ LessOrEqual
+    ∷ Greater ∷ []

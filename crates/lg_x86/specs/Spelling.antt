@@ -95,9 +95,12 @@ imm_opcode imm = if is_short imm then 0x83 else 0x81
 abbrev pub spelling : Instr → List ℕ
 spelling (RmReg op rm reg) = rex Wide (extension reg 0 rm) ++ ((rm_reg_row op).number ∷ modrm 3 reg rm ∷ [])
 spelling (Imm op rm imm) = rex Wide (extension 0 0 rm) ++ (imm_opcode imm ∷ modrm 3 (imm_row op).number rm ∷ []) ++ number_bytes imm
-spelling (RegRm op reg rm) = rex (reg_rm_row op).mark (extension reg 0 rm) ++ opcode_bytes (reg_rm_row op).escaped (reg_rm_row op).opcode ++ (modrm 3 reg rm ∷ [])
-spelling (Load op reg base disp) = rex (load_row op).mark (extension reg 0 base) ++ opcode_bytes (load_row op).escaped (load_row op).opcode ++ memory reg base disp
-spelling (Store op base disp reg) = size_prefix (store_row op).word_sized ++ rex (store_row op).mark (extension reg 0 base) ++ ((store_row op).opcode ∷ []) ++ memory reg base disp
+spelling (RegRm op reg rm) = rex (reg_rm_row op).mark (extension reg 0 rm) ++ opcode_bytes (reg_rm_row op).escaped (reg_rm_row op).opcode
+    ++ (modrm 3 reg rm ∷ [])
+spelling (Load op reg base disp) = rex (load_row op).mark (extension reg 0 base) ++ opcode_bytes (load_row op).escaped (load_row op).opcode
+    ++ memory reg base disp
+spelling (Store op base disp reg) = size_prefix (store_row op).word_sized ++ rex (store_row op).mark (extension reg 0 base)
+    ++ ((store_row op).opcode ∷ []) ++ memory reg base disp
 spelling (Lea2 reg base index) = rex Wide (extension reg index base) ++ (lea2_row.number ∷ modrm 1 reg 4 ∷ sib index base ∷ 0 ∷ [])
 spelling (Movi32 reg imm) = rex Plain (extension 0 0 reg) ++ ((movi32_row.number + reg % 8) ∷ []) ++ to_le_bytes w32 imm
 spelling (Movs32 rm imm) = rex Wide (extension 0 0 rm) ++ (movs32_row.number ∷ modrm 3 0 rm ∷ []) ++ long_bytes imm
