@@ -27,7 +27,7 @@ swapped value bytes =
     else if bytes == 2 then byte_of value 0 * 256 + byte_of value 1
     else if bytes == 4 then ((byte_of value 0 * 256 + byte_of value 1) * 256 + byte_of value 2) * 256 + byte_of value 3
     else ((((((byte_of value 0 * 256 + byte_of value 1) * 256 + byte_of value 2) * 256 + byte_of value 3) * 256 + byte_of value 4) * 256
-        + byte_of value 5) * 256 + byte_of value 6) * 256 + byte_of value 7
+    + byte_of value 5) * 256 + byte_of value 6) * 256 + byte_of value 7
 
 -- quotient and remainder of an unsigned double word by a word, where the quotient is a word
 abbrev pub quotient_wide : ℕ → ℕ → ℕ → Option (ℕ × ℕ)

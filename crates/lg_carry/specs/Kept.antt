@@ -17,7 +17,7 @@ RegistersAreKept = (target : Target) (w w' : ℕ → ℕ) (regs : ℕ → Option
 abbrev pub ArgumentsAreKept : Type 0
 ArgumentsAreKept = (target : Target) (w w' : ℕ → ℕ) (args : List ℕ)
     → ((i : ℕ) → i < length (argument_registers target) → i < length args
-        → w' (slice_index (argument_registers target) i) ≡ w (slice_index (argument_registers target) i))
+    → w' (slice_index (argument_registers target) i) ≡ w (slice_index (argument_registers target) i))
     → HoldsArguments target w args → HoldsArguments target w' args
 
 -- memory may change but for 80 bytes from the stack pointer on

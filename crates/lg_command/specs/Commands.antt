@@ -100,8 +100,16 @@ HasFault words = (app : App) → IsApp app → fault_of app words ≢ []
 
 -- a command as it is held
 abbrev pub shown : Held → Command
-shown c = record { mode = c.mode; target = c.target; steps = c.steps; size = c.size; seed = c.seed; stats = c.stats; file = c.file.now;
-    arguments = texts_of c.arguments.items }
+shown c = record {
+  mode = c.mode;
+  target = c.target;
+  steps = c.steps;
+  size = c.size;
+  seed = c.seed;
+  stats = c.stats;
+  file = c.file.now;
+  arguments = texts_of c.arguments.items;
+}
 
 -- its numbers are in their ranges, and its arguments begin with the file
 pub record IsInRange (c : Held) : Type 0 where

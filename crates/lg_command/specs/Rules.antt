@@ -20,24 +20,44 @@ abbrev pub target_words : List Text
 target_words = codes "x86_64" ∷ codes "aarch64" ∷ codes "riscv64" ∷ []
 
 abbrev pub mode_rule : Lent → Rule
-mode_rule words = record (new_rule (codes "mode")) { long = Some (codes "mode"); action = Some Set; defaults = codes "run" ∷ [];
-    parser = Some (vp.Names words) }
+mode_rule words = record (new_rule (codes "mode")) {
+  long = Some (codes "mode");
+  action = Some Set;
+  defaults = codes "run" ∷ [];
+  parser = Some (vp.Names words);
+}
 
 abbrev pub target_rule : Lent → Rule
-target_rule words = record (new_rule (codes "target")) { long = Some (codes "target"); action = Some Set; defaults = codes "x86_64" ∷ [];
-    parser = Some (vp.Names words) }
+target_rule words = record (new_rule (codes "target")) {
+  long = Some (codes "target");
+  action = Some Set;
+  defaults = codes "x86_64" ∷ [];
+  parser = Some (vp.Names words);
+}
 
 abbrev pub steps_rule : Rule
-steps_rule = record (new_rule (codes "steps")) { long = Some (codes "steps"); action = Some Set; defaults = codes "1000000000" ∷ [];
-    parser = Some (vp.Unsigned 1 1000000000000) }
+steps_rule = record (new_rule (codes "steps")) {
+  long = Some (codes "steps");
+  action = Some Set;
+  defaults = codes "1000000000" ∷ [];
+  parser = Some (vp.Unsigned 1 1000000000000);
+}
 
 abbrev pub code_rule : Rule
-code_rule = record (new_rule (codes "code")) { long = Some (codes "code"); action = Some Set; defaults = codes "1048576" ∷ [];
-    parser = Some (vp.Unsigned 256 67108864) }
+code_rule = record (new_rule (codes "code")) {
+  long = Some (codes "code");
+  action = Some Set;
+  defaults = codes "1048576" ∷ [];
+  parser = Some (vp.Unsigned 256 67108864);
+}
 
 abbrev pub seed_rule : Rule
-seed_rule = record (new_rule (codes "seed")) { long = Some (codes "seed"); action = Some Set; defaults = codes "1" ∷ [];
-    parser = Some (vp.Unsigned 0 18446744073709551615) }
+seed_rule = record (new_rule (codes "seed")) {
+  long = Some (codes "seed");
+  action = Some Set;
+  defaults = codes "1" ∷ [];
+  parser = Some (vp.Unsigned 0 18446744073709551615);
+}
 
 abbrev pub stats_rule : Rule
 stats_rule = record (new_rule (codes "stats")) { long = Some (codes "stats"); action = Some SetTrue }

@@ -77,7 +77,7 @@ abbrev pub memcpy : Mem → ℕ → ℕ → ℕ → Host
 memcpy m to from count =
     if count == 0 then Gives to unchanged m.mark []
     else if is_addressed to count && is_addressed from count && not (overlaps to from count) && mapped m.bytes from count
-        && can_write m.room to count then Gives to (copied m.bytes to from count) m.mark []
+    && can_write m.room to count then Gives to (copied m.bytes to from count) m.mark []
     else Undefined
 
 -- how many arguments are named
@@ -167,4 +167,4 @@ MemSays h m m' e = ⊥
 abbrev pub Reserves : Mem → ℕ → Mem → Option ℕ → Type 0
 Reserves m size m' answer =
     MatchOption answer (Same m m' × (fits m.mark size ≡ false)) (λ at. (at ≡ m.mark) × Same (after m unchanged (m.mark + rounded size)) m'
-        × (fits m.mark size ≡ true))
+    × (fits m.mark size ≡ true))

@@ -45,8 +45,21 @@ state_of m = record {
 }
 
 abbrev pub view_of : Inside → MachineState
-view_of m = record { at = m.at; registers = m.registers; carry = m.carry; answer = m.answer; staged = m.staged; count = m.count;
-    variadic = m.variadic; top = m.top; below = m.below.items; memory = m.memory; heap = m.heap; data_size = m.data_size; args_size = m.args_size }
+view_of m = record {
+  at = m.at;
+  registers = m.registers;
+  carry = m.carry;
+  answer = m.answer;
+  staged = m.staged;
+  count = m.count;
+  variadic = m.variadic;
+  top = m.top;
+  below = m.below.items;
+  memory = m.memory;
+  heap = m.heap;
+  data_size = m.data_size;
+  args_size = m.args_size;
+}
 
 -- frames stand one below the other, the top one first; the first one was called with the stack's end
 abbrev pub AreStacked : Frame → List Frame → Type 0

@@ -40,7 +40,7 @@ WentUp old (g ∷ gs) went new = (went ≡ true)
 abbrev pub Steps : Outcome → ℕ → State → MeanStep → State → (out out' : Option (List ℕ)) → (faults faults' : ℕ) → Type 0
 Steps (Goes t bytes) line old answer new out out' faults faults' =
     ((answer ≡ mean.Went) × (new ≡ t) × Appends out out' bytes)
-        ⊎ ((answer ≡ mean.WriteFault) × (new ≡ old) × AppendsPrefix out out' bytes × Rose faults faults')
+    ⊎ ((answer ≡ mean.WriteFault) × (new ≡ old) × AppendsPrefix out out' bytes × Rose faults faults')
 Steps (Ends n) line old answer new out out' faults faults' = (answer ≡ mean.Ended n) × (new ≡ old) × Appends out out' []
 Steps Undefined line old answer new out out' faults faults' = (answer ≡ mean.Undefined line) × (new ≡ old) × Appends out out' []
 

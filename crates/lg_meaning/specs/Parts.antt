@@ -35,4 +35,4 @@ pub record IsAmongLocals (frames : List Frame) (a w : ℕ) : Type 0 where
 abbrev pub LiesInOnePart : State → ℕ → ℕ → Type 0
 LiesInOnePart s a w =
     IsAmong data_base s.data_size a w ⊎ (IsAmong args_base s.args_size a w
-        ⊎ (IsAmong heap_base (s.mark - heap_base) a w ⊎ IsAmongLocals (s.frame ∷ s.callers) a w))
+    ⊎ (IsAmong heap_base (s.mark - heap_base) a w ⊎ IsAmongLocals (s.frame ∷ s.callers) a w))

@@ -114,7 +114,7 @@ wide_step A n o s =
 abbrev pub unary_step : List ℕ → Node → UnaryOp → State → Outcome
 unary_step A n o s =
     need (value A s (operand_at n 1)) (λ a. quiet (if keeps_carry o then on_with_carry (with_reg s (operand_at n 0) (unary_value o a))
-        else on (with_reg s (operand_at n 0) (unary_value o a))))
+    else on (with_reg s (operand_at n 0) (unary_value o a))))
 
 abbrev pub movi_step : List ℕ → Node → State → Outcome
 movi_step A n s = need (value A s (operand_at n 1)) (λ a. quiet (on_with_carry (with_reg s (operand_at n 0) a)))
@@ -139,7 +139,7 @@ branch_step t n c s =
 abbrev pub branch_sum_step : Text → Node → BranchSumOp → State → Outcome
 branch_sum_step t n o s =
     need (value t.addresses s (operand_at n 1)) (λ a. need (value t.addresses s (operand_at n 2))
-        (λ b. branch (branch_sum_goes o a b) t.places (with_reg s (operand_at n 1) (branch_sum_value o a b)) (operand_at n 0)))
+    (λ b. branch (branch_sum_goes o a b) t.places (with_reg s (operand_at n 1) (branch_sum_value o a b)) (operand_at n 0)))
 
 -- the later of two nodes
 abbrev pub later : Option ℕ → Option ℕ → Option ℕ
@@ -250,7 +250,7 @@ called s args = record { sp = s.frame.sp - s.frame.size; back = s.at + 1; args =
 abbrev pub enter : State → List ℕ → Function → Outcome
 enter s args f =
     when (nat_le (0x3FF00010 + frame_of f) (s.frame.sp - s.frame.size))
-        (quiet (started (record s { frame = called s args; callers = s.frame ∷ s.callers }) f.entry))
+    (quiet (started (record s { frame = called s args; callers = s.frame ∷ s.callers }) f.entry))
 
 -- a function begins: its locals are there, and unwritten
 abbrev pub begun : State → Function → State
@@ -343,7 +343,7 @@ va_start_step A n s = operate s (operand_at n 0) (value A s (operand_at n 1))
 abbrev pub va_arg_step : List ℕ → Node → State → Outcome
 va_arg_step A n s =
     need (value A s (operand_at n 1)) (λ i. need (slice_get s.frame.args i)
-        (λ v. quiet (on (with_reg (with_reg s (operand_at n 0) v) (operand_at n 1) (i + 1)))))
+    (λ v. quiet (on (with_reg (with_reg s (operand_at n 0) v) (operand_at n 1) (i + 1)))))
 
 abbrev pub va_end_step : List ℕ → Node → State → Outcome
 va_end_step A n s = need (value A s (operand_at n 0)) (λ i. quiet (on s))

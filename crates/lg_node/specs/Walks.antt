@@ -7,8 +7,14 @@ use Rattle.lg_node.specs.Preparations.{prepared_behind, prepared_before, pushed_
 use Rattle.lg_node.specs.Checks.{is_arg, is_begun, args_before, locals_before}
 
 abbrev pub walk_at : List Node → ℕ → Walk
-walk_at nodes i = record { function = open_before nodes i; begun = is_begun nodes i; args = args_before nodes i; locals = locals_before nodes i;
-    call = prepared_before nodes i; varies = varies_before nodes i }
+walk_at nodes i = record {
+  function = open_before nodes i;
+  begun = is_begun nodes i;
+  args = args_before nodes i;
+  locals = locals_before nodes i;
+  call = prepared_before nodes i;
+  varies = varies_before nodes i;
+}
 
 -- what is known behind a node: counts are kept while a function is open
 abbrev pub behind_in : Option ℕ → Walk → Node → Walk

@@ -6,9 +6,8 @@ ghost use Rattle.lg_operators.specs.Operators.{binary_value, partial_value, is_c
 use crate::carry::Carry;
 use lg_base::wide::{mul_high, mul_high_u, sign_part, swap_bytes, zero_part};
 use lg_base::word::{
-    SIGN_BIT,
-    difference_overflows_signed, divide_signed, less_signed, remain_signed, shift_right_signed,
-    sum_overflows_signed,
+    SIGN_BIT, difference_overflows_signed, divide_signed, less_signed, remain_signed,
+    shift_right_signed, sum_overflows_signed,
 };
 use lg_op::{BinaryOp, BranchSumOp, Condition, StoreType, UnaryOp, ValueType, WideOp};
 

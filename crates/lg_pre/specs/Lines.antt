@@ -77,7 +77,7 @@ IsOnItsLines zero text s at = AreFlushedOnLines s
 IsOnItsLines (suc k) text s at =
     (nat_le (length text) at ≡ true → AreFlushedOnLines s)
     × (nat_le (length text) at ≡ false → IfSome (mark_in true (drop at text)) (λ n. AreFlushedOnLines s)
-        × IfOk (one_line text s at) (λ next. IsOnItsLines k text next.1 next.0))
+    × IfOk (one_line text s at) (λ next. IsOnItsLines k text next.1 next.0))
 
 -- a token outside what is replaced keeps its line, and what a name gives is on the line of that name
 abbrev pub TokensKeepTheirLines : Type 0

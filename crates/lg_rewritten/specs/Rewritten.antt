@@ -23,7 +23,7 @@ is_loud l r = leaps_at (slice_get l.nodes r.state.at)
 abbrev pub MeaningIsFollowed : LabelledNodes → TextShape → LabelledNodes → TextShape → List ℕ → List ℕ → List ℕ → Type 0
 MeaningIsFollowed l shape new new_shape addresses image args =
     IsFollowed (machine l shape addresses) (machine new new_shape addresses) (run_at (start_state image args) [])
-        (run_at (start_state image args) []) at (is_loud new)
+    (run_at (start_state image args) []) at (is_loud new)
 
 -- code that carries each rewritten node agrees with the meaning of the text, with the text's number of nodes in the bound
 abbrev pub RewrittenCodeAgrees : {Q : Type 0} → Processor Q → Type 0

@@ -26,14 +26,14 @@ line_of file steps WriteFault = row (codes "lightning: write fault\n" ∷ [])
 line_of file steps StepsOut = row (codes "lightning: steps out after " ∷ digits_in Decimal steps ∷ codes "\n" ∷ [])
 line_of file steps (Fault kind pc) =
     row (codes "lightning: fault " ∷ name_of_fault kind ∷ codes " at 0x" ∷ digits_in Hexadecimal pc ∷ codes " after " ∷ digits_in Decimal steps
-        ∷ codes "\n" ∷ [])
+    ∷ codes "\n" ∷ [])
 line_of file steps OutOfMemory = row (codes "lightning: out of memory\n" ∷ [])
 
 -- the statistics: bytes of code, final nodes, registers that are saved for temporaries, and steps of the run
 abbrev pub stats_line : (bytes nodes spills steps : ℕ) → List ℕ
 stats_line bytes nodes spills steps =
     row (codes "bytes " ∷ digits_in Decimal bytes ∷ codes " nodes " ∷ digits_in Decimal nodes ∷ codes " spills " ∷ digits_in Decimal spills
-        ∷ codes " steps " ∷ digits_in Decimal steps ∷ codes "\n" ∷ [])
+    ∷ codes " steps " ∷ digits_in Decimal steps ∷ codes "\n" ∷ [])
 
 abbrev pub is_write_fault : Answer → Bool
 is_write_fault (Ended status) = false

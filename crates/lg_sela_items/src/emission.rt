@@ -8,7 +8,7 @@ ghost use Rattle.lg_sela_items.specs.Items.{a64_holes, IsItem, NamesOneOf, has_w
 use crate::items::Item;
 use crate::rows::wide;
 use lg_a64::{Instr, WideOp, encode};
-use lg_buf::{Fix, FixKind, CodeLabel};
+use lg_buf::{CodeLabel, Fix, FixKind};
 use smallvec::SmallVec;
 
 // The bytes of one node.

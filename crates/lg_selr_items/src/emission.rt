@@ -7,7 +7,7 @@ ghost use Rattle.lg_selr_items.specs.Items.{rv_holes, IsItem, NamesOneOf, has_wo
 
 use crate::items::Item;
 use crate::rows::{branch, imm, upper};
-use lg_buf::{Fix, FixKind, CodeLabel};
+use lg_buf::{CodeLabel, Fix, FixKind};
 use lg_rv::{ImmOp, Instr, UpperOp, encode};
 use smallvec::SmallVec;
 

@@ -6,7 +6,7 @@ ghost use Rattle.lg_selx_items.specs.declared.items.Item.TheVariants.{One};
 ghost use Rattle.lg_selx_items.specs.Items.{x86_holes, IsItem, NamesOneOf, has_word};
 
 use crate::items::{Item, move_size};
-use lg_buf::{Fix, FixKind, CodeLabel};
+use lg_buf::{CodeLabel, Fix, FixKind};
 use lg_x86::{Instr, encode};
 use smallvec::SmallVec;
 

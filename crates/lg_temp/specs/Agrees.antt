@@ -20,4 +20,4 @@ abbrev pub AgreesAt : {P Q : Type 0} → Machine P → Machine Q → ℕ → P �
 AgreesAt portable processor nodes p q n =
     (k : ℕ) × (n / 64 ≤ k) × (k ≤ (n + 1) * (nodes + 1))
     × (SameAt portable processor (iter portable.step k p) (iter processor.step n q)
-        ⊎ PastIt portable processor (iter portable.step k p) (iter processor.step n q))
+    ⊎ PastIt portable processor (iter portable.step k p) (iter processor.step n q))

@@ -319,7 +319,7 @@ unfoldable pub read_imm : Bool → ℕ → ℕ → ℕ → List ℕ → Option (
 read_imm word_sized rex len opcode tail =
     if opcode == 0x83 then accepted ((not word_sized && is_wide_one rex) && (has_registers tail && has_bytes 2 tail)) (len + 2) (imm_of rex opcode tail)
     else accepted ((not word_sized && is_wide_one rex) && (has_registers tail && (has_bytes 5 tail && not (is_short (long_in (drop 1 tail))))))
-        (len + 5) (imm_of rex opcode tail)
+    (len + 5) (imm_of rex opcode tail)
 
 unfoldable pub read_reg : Bool → ℕ → ℕ → Mark → Bool → Bool → ℕ → List ℕ → Option (Instr × ℕ)
 read_reg word_sized rex len mark registers escaped opcode tail =
