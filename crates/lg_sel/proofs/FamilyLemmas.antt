@@ -1,5 +1,5 @@
 -- What holds of the items of each family holds of those of each node.
-use Rattle.std.proofs.Common.{◌≡◌, ℕ, Bool, true, List, refl}
+use Rattle.std.proofs.Common.{◌≡◌, ℕ, Bool, true, false, List, refl}
 use Rattle.lg_op.specs.declared.node.Node.{Node}
 use Rattle.lg_op.specs.declared.op.Addressing.{Addressing}
 use Rattle.lg_op.specs.declared.op.ControlOp.TheVariants as control
@@ -10,8 +10,10 @@ use Rattle.lg_op.specs.declared.op.PlainOp.TheVariants as plain
 use Rattle.lg_op.specs.declared.op.StoreType.{StoreType}
 use Rattle.lg_op.specs.declared.op.ValueType.{ValueType}
 use Rattle.lg_op.specs.declared.operand.Operand.{Operand}
-use Rattle.lg_sel.specs.Families.{Families, is_value, staged_count, items_of, node_items}
+use Rattle.lg_sel.specs.Families.{Families, staged_count, items_of, node_items}
+use Rattle.lg_carry.specs.Carries.{leaps}
 use Rattle.lg_sel_control.specs.Control.{is_control}
+use Rattle.lg_sel_values.specs.ValueNodes.{is_value}
 use Rattle.lg_temp.specs.declared.choice.Choice.{Choice}
 
 abbrev pub node_of : Op → List Operand → ℕ → Node
@@ -24,7 +26,6 @@ pub record HoldsOfFamilies {L : Type 0} (F : Families L) (P : Node → List L �
   pub stores : (n : Node) (t : StoreType) (at : Addressing) → n.op ≡ op.Store t at → P n (F.store frame t at n choices)
   pub arguments : (n : Node) (t : ValueType) → n.op ≡ op.Getarg t → P n (F.argument frame t n)
   pub next_arguments : (n : Node) → n.op ≡ op.Plain plain.VaArg → P n (F.next_argument n)
-  pub results : (n : Node) (t : ValueType) → n.op ≡ op.Retval t → P n (F.result frame t n choices)
   pub pushes : (n : Node) (last : LastOperand) → n.op ≡ op.Control control.Pusharg last → P n (F.push frame (staged_count staged) n)
   pub controls : (n : Node) → is_control n.op ≡ true → P n (F.control n.op n.operands frame place)
 
@@ -41,7 +42,7 @@ module _ {L : Type 0} (F : Families L) (P : Node → List L → Type 0) (frame :
   by (op.Load t at) xs line = h.loads (node_of (op.Load t at) xs line) t at refl
   by (op.Store t at) xs line = h.stores (node_of (op.Store t at) xs line) t at refl
   by (op.Getarg t) xs line = h.arguments (node_of (op.Getarg t) xs line) t refl
-  by (op.Retval t) xs line = h.results (node_of (op.Retval t) xs line) t refl
+  by (op.Retval t) xs line = h.values (node_of (op.Retval t) xs line) refl
   by (op.Control control.Pusharg last) xs line = h.pushes (node_of (op.Control control.Pusharg last) xs line) last refl
   by (op.Control control.Jmp last) xs line = h.controls (node_of (op.Control control.Jmp last) xs line) refl
   by (op.Control control.Call last) xs line = h.controls (node_of (op.Control control.Call last) xs line) refl
@@ -60,3 +61,13 @@ module _ {L : Type 0} (F : Families L) (P : Node → List L → Type 0) (frame :
 
   pub of-node : (n : Node) → P n (node_items F n frame choices staged place)
   of-node n = by n.op n.operands n.line
+
+-- the nodes that compute values go on behind them
+pub value-stays : (o : Op) → is_value o ≡ true → leaps o ≡ false
+value-stays (op.Binary o last) is = refl
+value-stays (op.Wide o last) is = refl
+value-stays (op.Unary o) is = refl
+value-stays (op.Plain plain.Movi) is = refl
+value-stays (op.Plain plain.VaStart) is = refl
+value-stays (op.Retval t) is = refl
+value-stays o is = cc

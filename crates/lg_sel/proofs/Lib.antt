@@ -9,4 +9,5 @@ pub mod NodeFitLemmas
 pub mod OperandLemmas
 pub mod PlaceLemmas
 pub mod ReachLemmas
+pub mod SelectionLemmas
 pub mod StoreLemmas

@@ -31,7 +31,6 @@ module _ {L I : Type 0} (target : Target) (H : Holes L I) (is_store : I → Bool
     pub stores : (is : ℕ → Bool) (frame : ℕ) (t : StoreType) (at : Addressing) (n : Node) (choices : List Choice) → Emits is 1 (spills choices + own_stores target (op.Store t at)) (F.store frame t at n choices)
     pub arguments : (is : ℕ → Bool) (frame : ℕ) (t : ValueType) (n : Node) → Emits is 1 0 (F.argument frame t n)
     pub next_arguments : (is : ℕ → Bool) (n : Node) → Emits is 1 0 (F.next_argument n)
-    pub results : (is : ℕ → Bool) (frame : ℕ) (t : ValueType) (n : Node) (choices : List Choice) → AllPass is n.operands → Emits is 1 (spills choices) (F.result frame t n choices)
     pub pushes : (is : ℕ → Bool) (frame j : ℕ) (n : Node) → AllPass is n.operands → Emits is 1 1 (F.push frame j n)
     pub controls : (is : ℕ → Bool) (o : Op) (xs : List Operand) (frame at : ℕ) → is_free o ≡ false → AllPass is xs → Emits is 1 0 (F.control o xs frame at)
     pub prologs : (is : ℕ → Bool) (o : Op) (xs : List Operand) (frame at : ℕ) → is_free o ≡ true → Emits is 1 16 (F.control o xs frame at)
@@ -67,7 +66,6 @@ module _ {L I : Type 0} (target : Target) (H : Holes L I) (is_store : I → Bool
       stores = λ n t at e is h. subst (λ q. Emits is 1 (allowed target choices q) (F.store frame t at n choices)) (sym e) (f.stores is frame t at n choices);
       arguments = λ n t e is h. own is n (op.Getarg t) (F.argument frame t n) e refl (f.arguments is frame t n);
       next_arguments = λ n e is h. own is n (op.Plain plain.VaArg) (F.next_argument n) e refl (f.next_arguments is n);
-      results = λ n t e is h. saves is n (op.Retval t) (F.result frame t n choices) e (omega arith) (f.results is frame t n choices h);
       pushes = λ n last e is h. own is n (op.Control control.Pusharg last) (F.push frame (staged_count staged) n) e refl (f.pushes is frame (staged_count staged) n h);
       controls = λ n k is h. controls-emit is n h;
     }

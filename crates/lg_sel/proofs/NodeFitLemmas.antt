@@ -12,6 +12,7 @@ use Rattle.lg_op.specs.declared.op.Op.{Op}
 use Rattle.lg_op.specs.declared.op.Op.TheVariants as op
 use Rattle.lg_op.specs.declared.op.StoreType.{StoreType}
 use Rattle.lg_op.specs.declared.op.ValueType.{ValueType}
+use Rattle.lg_op.specs.declared.operand.Label.{Label}
 use Rattle.lg_op.specs.declared.operand.Operand.{Operand}
 use Rattle.lg_op.specs.declared.operand.Operand.TheVariants as operand
 use Rattle.lg_op.specs.declared.operand.Reg.{Reg}
@@ -20,9 +21,10 @@ use Rattle.lg_sel.proofs.FamilyLemmas.{HoldsOfFamilies, of-node}
 use Rattle.lg_sel.proofs.OperandLemmas.{word-at, has-words, control-ends}
 use Rattle.lg_sel_nodes.specs.Operands.{NamesBelow, NameBelow, HasWord, HaveWords}
 use Rattle.lg_sel.specs.Asked.{IsAsked}
-use Rattle.lg_sel.specs.Families.{Families, is_value, staged_count, node_items}
+use Rattle.lg_sel.specs.Families.{Families, staged_count, node_items}
 use Rattle.lg_sel.specs.Selected.{IsFrame, is_pusharg}
 use Rattle.lg_sel_control.specs.Control.{is_control, ends_in_label}
+use Rattle.lg_sel_values.specs.ValueNodes.{is_value}
 use Rattle.lg_sel_items.specs.Holes.{Each}
 use Rattle.lg_sel_memory.specs.Operands.{HasWords}
 use Rattle.lg_temp.proofs.ChoiceLemmas.{choices-are-for}
@@ -35,6 +37,14 @@ pub named-at : (labels : ℕ) (xs : List Operand) (k : ℕ) → NameBelow labels
 named-at labels [] k named = tt
 named-at labels (x ∷ xs) zero named = named.0
 named-at labels (x ∷ xs) (suc k) named = named-at labels xs k named.1
+
+-- the label that is passed is one of the buffer's
+pub passed : (labels : ℕ) (x : Operand) → NamesBelow labels x → (l : Label) → x ≡ operand.Label l → l.0 < labels
+passed labels (operand.Label m) named l e = let same : m.0 ≡ l.0 = cc in omega (arith, named, same)
+passed labels (operand.Number v) named l e = cc
+passed labels (operand.Reg r) named l e = cc
+passed labels (operand.Host name) named l e = cc
+passed labels (operand.Slot k) named l e = cc
 
 -- so many arguments are staged at a `pushargr` or `pushargi`
 pub few-staged : {target : Target} {needs : Op → List Need} (n : Node) (live : Reg → Bool) (staged : List Bool) (choices : List Choice) (labels : ℕ) (last : LastOperand) → IsAsked target needs n live staged choices labels
@@ -62,7 +72,6 @@ module _ {L : Type 0} (target : Target) (needs : Op → List Need) (F : Families
       pub stores : (frame : ℕ) (n : Node) (t : StoreType) (at : Addressing) (live : Reg → Bool) (set : List Bool) (choices : List Choice) → IsFrame frame → n.op ≡ op.Store t at → AreMade n live set choices → HasWords n → Fit (F.store frame t at n choices)
       pub arguments : (frame : ℕ) (n : Node) (t : ValueType) → IsFrame frame → Fit (F.argument frame t n)
       pub next_arguments : (n : Node) → Fit (F.next_argument n)
-      pub results : (frame : ℕ) (n : Node) (t : ValueType) (live : Reg → Bool) (set : List Bool) (choices : List Choice) → IsFrame frame → n.op ≡ op.Retval t → InForm n → AreMade n live set choices → NameBelow labels n.operands → HaveWords n.operands → Fit (F.result frame t n choices)
       pub pushes : (frame : ℕ) (n : Node) (j : ℕ) → IsFrame frame → j < 16 → NamesBelow labels (operand_at n 0) → HasWord (operand_at n 0) → Fit (F.push frame j n)
       pub controls : (n : Node) (frame place : ℕ) → IsFrame frame → is_control n.op ≡ true → InForm n → NameBelow labels n.operands → HaveWords n.operands → ends_in_label n.operands ≡ false → Fit (F.control n.op n.operands frame place)
 
@@ -77,7 +86,6 @@ module _ {L : Type 0} (target : Target) (needs : Op → List Need) (F : Families
         stores = λ n t at e k. f.stores frame n t at live k.chosen.set choices sized e (are-made n live staged choices labels k) (has-words n k.words);
         arguments = λ n t e k. f.arguments frame n t sized;
         next_arguments = λ n e k. f.next_arguments n;
-        results = λ n t e k. f.results frame n t live k.chosen.set choices sized e k.formed (are-made n live staged choices labels k) k.named k.words;
         pushes = λ n last e k. f.pushes frame n (staged_count staged) sized (few-staged n live staged choices labels last k e) (named-at labels n.operands 0 k.named) (word-at n.operands 0 k.words);
         controls = λ n is k. f.controls n frame place sized is k.formed k.named k.words (control-ends n is k.formed.forms k.takes);
       }
@@ -93,7 +101,6 @@ module _ {L : Type 0} (target : Target) (needs : Op → List Need) (F : Families
       pub stores : (frame : ℕ) (t : StoreType) (at : Addressing) (n : Node) (live : Reg → Bool) (set : List Bool) (choices : List Choice) → n.op ≡ op.Store t at → AreMade n live set choices → Each stays (F.store frame t at n choices)
       pub arguments : (frame : ℕ) (t : ValueType) (n : Node) → Each stays (F.argument frame t n)
       pub next_arguments : (n : Node) → Each stays (F.next_argument n)
-      pub results : (frame : ℕ) (t : ValueType) (n : Node) (live : Reg → Bool) (set : List Bool) (choices : List Choice) → AreMade n live set choices → Each stays (F.result frame t n choices)
       pub pushes : (frame j : ℕ) (n : Node) → Each stays (F.push frame j n)
       pub controls : (n : Node) (frame place : ℕ) → Each stays (F.control n.op n.operands frame place)
 
@@ -108,7 +115,6 @@ module _ {L : Type 0} (target : Target) (needs : Op → List Need) (F : Families
         stores = λ n t at e are. f.stores frame t at n live set choices e are;
         arguments = λ n t e are. f.arguments frame t n;
         next_arguments = λ n e are. f.next_arguments n;
-        results = λ n t e are. f.results frame t n live set choices are;
         pushes = λ n last e are. f.pushes frame (staged_count staged) n;
         controls = λ n is are. f.controls n frame place;
       }

@@ -6,7 +6,7 @@ use Rattle.lg_base.specs.declared.target.Target.{Target}
 use Rattle.lg_op.specs.declared.op.Op.{Op}
 use Rattle.lg_op.specs.declared.op.Op.TheVariants as op
 use Rattle.lg_op.specs.declared.op.PlainOp.TheVariants as plain
-use Rattle.lg_sel.specs.Families.{is_value}
+use Rattle.lg_sel_values.specs.ValueNodes.{is_value}
 use Rattle.lg_sel.specs.Stores.{own_stores, is_free}
 use Rattle.lg_temp.specs.Chosen.{spills}
 use Rattle.lg_temp.specs.declared.choice.Choice.{Choice}
@@ -49,6 +49,7 @@ allowed-values target choices (op.Wide o last) is = omega arith
 allowed-values target choices (op.Unary o) is = omega arith
 allowed-values target choices (op.Plain plain.Movi) is = omega arith
 allowed-values target choices (op.Plain plain.VaStart) is = omega arith
+allowed-values target choices (op.Retval t) is = omega arith
 allowed-values target choices o is = cc
 
 pub allowed-own : (target : Target) (choices : List Choice) (o : Op) → is_free o ≡ false → own_stores target o ≤ allowed target choices o

@@ -1,5 +1,5 @@
 -- The items of each node, by the families of nodes.
-use Rattle.std.specs.Prelude.{ℕ, Bool, true, false, List, count_by}
+use Rattle.std.specs.Prelude.{ℕ, Bool, List, count_by}
 use Rattle.lg_op.specs.declared.node.Node.{Node}
 use Rattle.lg_op.specs.declared.op.Addressing.{Addressing}
 use Rattle.lg_op.specs.declared.op.ControlOp.TheVariants as control
@@ -11,8 +11,8 @@ use Rattle.lg_op.specs.declared.op.ValueType.{ValueType}
 use Rattle.lg_op.specs.declared.operand.Operand.{Operand}
 use Rattle.lg_temp.specs.declared.choice.Choice.{Choice}
 
--- those of nodes that compute values with these choices, that load and store with them, read an argument, read the next variable argument, read a result, and
--- pass argument j; and those of the nodes that branch, jump, call or return, of `prolog`, `.align` and those without code, with their operands and the place;
+-- those of nodes that compute values with these choices, that load and store with them, read an argument, read the next variable argument, and pass
+-- argument j; and those of the nodes that branch, jump, call or return, of `prolog`, `.align` and those without code, with their operands and the place;
 -- each in a function with a frame of so many bytes
 pub record Families (L : Type 0) : Type 0 where
   pub values : ℕ → Node → List Choice → List L
@@ -20,18 +20,8 @@ pub record Families (L : Type 0) : Type 0 where
   pub store : ℕ → StoreType → Addressing → Node → List Choice → List L
   pub argument : ℕ → ValueType → Node → List L
   pub next_argument : Node → List L
-  pub result : ℕ → ValueType → Node → List Choice → List L
   pub push : ℕ → ℕ → Node → List L
   pub control : Op → List Operand → ℕ → ℕ → List L
-
--- the operations whose nodes compute values
-abbrev pub is_value : Op → Bool
-is_value (op.Binary o last) = true
-is_value (op.Wide o last) = true
-is_value (op.Unary o) = true
-is_value (op.Plain plain.Movi) = true
-is_value (op.Plain plain.VaStart) = true
-is_value o = false
 
 -- how many arguments are staged
 abbrev pub staged_count : List Bool → ℕ
@@ -48,7 +38,7 @@ items_of F (op.Plain plain.VaArg) n frame choices staged place = F.next_argument
 items_of F (op.Load t at) n frame choices staged place = F.load frame t at n choices
 items_of F (op.Store t at) n frame choices staged place = F.store frame t at n choices
 items_of F (op.Getarg t) n frame choices staged place = F.argument frame t n
-items_of F (op.Retval t) n frame choices staged place = F.result frame t n choices
+items_of F (op.Retval t) n frame choices staged place = F.values frame n choices
 items_of F (op.Control control.Pusharg last) n frame choices staged place = F.push frame (staged_count staged) n
 items_of F o n frame choices staged place = F.control n.op n.operands frame place
 

@@ -1,4 +1,5 @@
 pub mod EmittedLemmas
+pub mod FewLemmas
 pub mod GoodItemLemmas
 pub mod HoleLemmas
 pub mod ListLemmas

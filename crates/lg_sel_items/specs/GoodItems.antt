@@ -38,3 +38,9 @@ pub record AreEmitted {L I : Type 0} (H : Holes L I) (is_item : L → Type 0) (n
   pub labels : Each (names_one_of count) xs
   pub one_fix : (place : ℕ) → length (fixes_of H place xs) ≤ 1
   pub some : leaping ≡ true → 0 < words_in H xs
+
+-- appendable items, of which there are at most so many instructions, with at most one fix
+pub record AreFew {L I : Type 0} (H : Holes L I) (straight : I → Bool) (is_item stays : L → Type 0) (most : ℕ) (items : List L) : Type 0 where
+  pub appendable : AreAppendable H straight is_item stays items
+  pub short : words_in H items ≤ most
+  pub one_fix : (place : ℕ) → length (fixes_of H place items) ≤ 1

@@ -4,3 +4,4 @@ pub mod ResultLemmas
 pub mod OneResultLemmas
 pub mod TwoResultLemmas
 pub mod OneWordLemmas
+pub mod ValueNodeLemmas

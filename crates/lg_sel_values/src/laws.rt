@@ -3,6 +3,7 @@
 ghost use Rattle.lg_sel_values.specs.Computers.{Computer, IsComputer, ComputingNodesCompute};
 ghost use Rattle.lg_sel_values.specs.Values.{BinaryNodesCompute, CarriedNodesCompute, WideNodesCompute, UnaryNodesCompute, MoviNodesCompute, VaStartNodesCompute};
 ghost use Rattle.lg_sel_values.specs.Values.{RetvalNodesCompute};
+ghost use Rattle.lg_sel_values.specs.ValueNodes.{TypesExtend};
 
 /// A processor with instructions that only compute.
 pub trait Computing {
@@ -57,4 +58,9 @@ pub fn va_start_nodes_compute<T: Computing>()
 /// So is one that takes the result of a call.
 pub fn retval_nodes_compute<T: Computing>()
     ensures { RetvalNodesCompute T.computer }
+{}
+
+/// What a type makes of a word, its operation does.
+pub fn types_extend()
+    ensures { TypesExtend }
 {}

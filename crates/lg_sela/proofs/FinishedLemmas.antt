@@ -2,16 +2,14 @@
 use Rattle.std.proofs.Common.{◌≡◌, ℕ, ◌%◌, ◌^◌, ◌<◌, ◌≤◌, List, length, arith}
 use Rattle.std.specs.Prelude.{slice_index}
 use Rattle.std.proofs.lemmas.Bool.Decides.{nat_tests}
-use Rattle.lg_base.specs.declared.target.Target.TheVariants.{Aarch64}
 use Rattle.lg_buf.specs.Buffers.{Buffer}
 use Rattle.lg_carry.specs.FinalNodes.{Code}
 use Rattle.lg_carry_a64.specs.Destinations.{WritesWithin}
 use Rattle.lg_carry_a64.specs.A64Rows.{a64_rows}
-use Rattle.lg_a64.specs.Spelling.{IsInstr, spelling}
+use Rattle.lg_a64.specs.Spelling.{IsInstr}
 use Rattle.lg_sel.specs.Finished as finished
-use Rattle.lg_sel.specs.Promises.{AreInstructionsWhenFinished}
 use Rattle.lg_sel.specs.Selected.{IsFinished}
-use Rattle.lg_sel.proofs.FinishedLemmas.{items-are-of-node, items-are-whole}
+use Rattle.lg_sel.proofs.FinishedLemmas.{items-are-of-node}
 use Rattle.lg_sela_items.specs.declared.items.Item.{Item}
 use Rattle.lg_sela_items.specs.Items.{a64_holes, IsItem, words_in, AreItems, StayWithin}
 use Rattle.lg_sela_items.specs.OfNodes.{AreOfNode}
@@ -32,7 +30,3 @@ are-of-node old new code trash c i items word a ok within few whole f = record {
   of_node = items-are-of-node a64_holes (a64_rows code trash) IsInstr WritesWithin IsItem are-holes old new c i items a ok (settled-within (slice_index c.addresses) (c.place i) items within) few
       (let h = f.here in let w : c.place i % 4 ≡ 0 = omega (arith, h, whole) in grind (arith, nat_tests, w)) f;
 }
-
--- and their bytes are whole instructions
-pub are-whole : (old new : Buffer) (items : List Item) → AreAppended old new items → AreItems items → AreInstructionsWhenFinished Aarch64 old new
-are-whole old new items a ok code c i f = items-are-whole a64_holes spelling IsInstr IsItem are-holes old new code c i items a ok f

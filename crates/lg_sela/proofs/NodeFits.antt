@@ -1,18 +1,17 @@
 -- The items of each node can be appended to a buffer, and write no register that is outside of the conventions.
-use Rattle.std.proofs.Common.{◌≡◌, ℕ, ◌<◌, ◌≤◌, Bool, List, [], length, arith, true, sym, subst, ◌+◌}
+use Rattle.std.proofs.Common.{◌≡◌, ℕ, ◌≤◌, Bool, List, [], length, arith, true, sym, subst, ◌+◌}
 use Rattle.lg_base.specs.declared.target.Target.TheVariants.{Aarch64}
 use Rattle.lg_op.specs.declared.node.Node.{Node}
-use Rattle.lg_op.specs.declared.operand.Label.{Label}
 use Rattle.lg_op.specs.declared.operand.Operand.{Operand}
-use Rattle.lg_op.specs.declared.operand.Operand.TheVariants as operand
 use Rattle.lg_op.specs.declared.operand.Reg.{Reg}
 use Rattle.lg_meaning.specs.Steps.{operand_at}
 use Rattle.lg_op.specs.Nodes.{InForm}
 use Rattle.lg_sel.proofs.LabelLemmas.{names, all-self}
 use Rattle.lg_sel.proofs.NodeEmissionLemmas as emission
 use Rattle.lg_sel.proofs.NodeFitLemmas as fit
+use Rattle.lg_sel.proofs.NodeFitLemmas.{passed}
 use Rattle.lg_sel.proofs.StoreLemmas.{allowed}
-use Rattle.lg_sel_nodes.specs.Operands.{HaveWords, NamesBelow, NameBelow}
+use Rattle.lg_sel_nodes.specs.Operands.{HaveWords, NameBelow}
 use Rattle.lg_sel.specs.Selected.{AreFirst, IsFrame, TakesLabelsWell, is_pusharg}
 use Rattle.lg_sel.specs.Stores.{a64_stores}
 use Rattle.lg_sel_items.specs.declared.reach.Reach.{Reach}
@@ -51,7 +50,6 @@ families-emit reach = record {
   stores = λ is frame t at n choices. more reach is 1 1 1 (spills choices + 1) (ones (store_code t at n)) (omega arith) (omega arith) (stores-emit reach is t at n);
   arguments = λ is frame t n. arguments-emit reach is t n;
   next_arguments = λ is n. next-arguments-emit reach is n;
-  results = λ is frame t n choices h. values-emit reach is n choices h;
   pushes = λ is frame j n h. pushes-emit reach is j n h;
   controls = controls-emit reach;
   prologs = prologs-emit reach;
@@ -69,14 +67,6 @@ values : (reach : Reach) (labels : ℕ) (n : Node) (live : Reg → Bool) (set : 
 values reach labels n live set choices are named =
     record { instrs = (value-items-fit n live set choices are).fit; names = value-items-name labels n choices named }
 
--- the label that is passed is one of the buffer's
-passed : (labels : ℕ) (x : Operand) → NamesBelow labels x → (l : Label) → x ≡ operand.Label l → l.0 < labels
-passed labels (operand.Label m) named l e = let same : m.0 ≡ l.0 = cc in omega (arith, named, same)
-passed labels (operand.Number v) named l e = cc
-passed labels (operand.Reg r) named l e = cc
-passed labels (operand.Host name) named l e = cc
-passed labels (operand.Slot k) named l e = cc
-
 families-fit : (reach : Reach) (labels : ℕ) → fit.FamiliesFit Aarch64 needs (a64_families reach) IsItem NamesOneOf labels
 families-fit reach labels = record {
   values = λ frame n live set choices sized is are named words. values reach labels n live set choices are named;
@@ -84,7 +74,6 @@ families-fit reach labels = record {
   stores = λ frame n t at live set choices sized e are words. record { instrs = (memory-items-fit.stores t at n).appendable.fit; names = memory-items-name.stores labels t at n };
   next_arguments = λ n. record { instrs = (memory-items-fit.next_arguments n).appendable.fit; names = memory-items-name.next_arguments labels n };
   arguments = λ frame n t sized. record { instrs = (memory-items-fit.arguments t n).appendable.fit; names = memory-items-name.arguments labels t n };
-  results = λ frame n t live set choices sized e formed are named words. values reach labels n live set choices are named;
   pushes = λ frame n j sized few named word.
       record { instrs = (memory-items-fit.pushes j n few).appendable.fit; names = memory-items-name.pushes labels j n (passed labels (operand_at n 0) named) };
   controls = λ n frame place sized is formed named words ends.
@@ -111,7 +100,6 @@ families-stay reach = record {
   stores = λ frame t at n live set choices e are. memory-items-stay.stores t at n;
   arguments = λ frame t n. memory-items-stay.arguments t n;
   next_arguments = λ n. memory-items-stay.next_arguments n;
-  results = λ frame t n live set choices are. value-items-stay n live set choices are;
   pushes = λ frame j n. memory-items-stay.pushes j n;
   controls = λ n frame place. control-items-stay reach n frame place;
 }

@@ -23,9 +23,10 @@ use Rattle.lg_carry_a64.specs.Places.{IsInCode}
 use Rattle.lg_carry_a64.specs.A64Rows.{a64_processor}
 use Rattle.lg_a64.specs.declared.instruction.Instr.{Instr}
 use Rattle.lg_sel.proofs.CountLemmas.{count-is}
-use Rattle.lg_sel.proofs.FamilyLemmas.{HoldsOfFamilies, of-node}
+use Rattle.lg_sel.proofs.FamilyLemmas.{HoldsOfFamilies, of-node, value-stays}
 use Rattle.lg_sel.proofs.OperandLemmas.{has-words, leads_nowhere, unlabelled, no-labels, control-ends, loads-lead, stores-lead, operands-are}
-use Rattle.lg_sel.specs.Families.{is_value, staged_count}
+use Rattle.lg_sel.specs.Families.{staged_count}
+use Rattle.lg_sel_values.specs.ValueNodes.{is_value}
 use Rattle.lg_sel_memory.specs.Operands.{is_label}
 use Rattle.lg_sel_items.specs.declared.reach.Reach.{Reach}
 use Rattle.lg_sela.specs.Items.{a64_families, node_items}
@@ -52,7 +53,7 @@ use Rattle.lg_sela_memory.specs.PushCode.{push_code}
 use Rattle.lg_sela_memory.specs.VariableArgumentCode.{next_argument_code}
 use Rattle.lg_sela_memory.proofs.FitLemmas.{memory-items-fit}
 use Rattle.lg_sela_memory.proofs.MemoryNodeLemmas.{memory-is-carried}
-use Rattle.lg_sela_values.specs.ValueItems.{computes_value, value_needs, value_items}
+use Rattle.lg_sela_values.specs.ValueItems.{value_needs, value_items}
 use Rattle.lg_sela_values.proofs.ValueFitLemmas.{value-items-fit}
 use Rattle.lg_sela_values.proofs.ValueNodeLemmas.{value-nodes-carry}
 use Rattle.lg_temp.specs.declared.choice.Choice.{Choice}
@@ -81,28 +82,11 @@ pub record IsKnown (c : Code) (i : ℕ) (n : Node) (frame : ℕ) (live : Reg →
   pub asked : IsAsked n live staged choices labels
   pub address : c.place i ≡ code_base + place
 
--- the nodes that compute values are those of the family, and go on behind them
-value-computes : (o : Op) → is_value o ≡ true → computes_value o ≡ true
-value-computes (op.Binary o last) is = refl
-value-computes (op.Wide o last) is = refl
-value-computes (op.Unary o) is = refl
-value-computes (op.Plain plain.Movi) is = refl
-value-computes (op.Plain plain.VaStart) is = refl
-value-computes o is = cc
-
-value-stays : (o : Op) → is_value o ≡ true → leaps o ≡ false
-value-stays (op.Binary o last) is = refl
-value-stays (op.Wide o last) is = refl
-value-stays (op.Unary o) is = refl
-value-stays (op.Plain plain.Movi) is = refl
-value-stays (op.Plain plain.VaStart) is = refl
-value-stays o is = cc
-
 module _ (reach : Reach) (code : List ℕ) (trash : ℕ) (c : Code) (i frame : ℕ) (live : Reg → Bool) (staged : List Bool) (choices : List Choice) (labels place : ℕ) where
   abbrev Carries : Node → List Item → Type 0
   Carries n items = IsKnown c i n frame live staged choices labels place → AreOfNode code trash c i items → CarriesNode (a64_processor code trash) c i n (numbered live)
 
-  values : (n : Node) → computes_value n.op ≡ true → leaps n.op ≡ false → Carries n (value_items n choices)
+  values : (n : Node) → is_value n.op ≡ true → leaps n.op ≡ false → Carries n (value_items n choices)
   values n computes stays k a =
       let set = k.asked.chosen.set in
       let are : AreFor (around Aarch64 n live set) (value_needs n.op) [] (value_needs n.op) choices = choices-are-for (around Aarch64 n live set) (value_needs n.op) choices k.asked.chosen.chosen in
@@ -163,12 +147,11 @@ module _ (reach : Reach) (code : List ℕ) (trash : ℕ) (c : Code) (i frame : �
 
   families : HoldsOfFamilies (a64_families reach) Carries frame choices staged place
   families = record {
-    values = λ n is. values n (value-computes n.op is) (value-stays n.op is);
+    values = λ n is. values n is (value-stays n.op is);
     loads = loads;
     stores = stores;
     arguments = arguments;
     next_arguments = next-arguments;
-    results = λ n t e. values n (ap computes_value e) (ap leaps e);
     pushes = pushes;
     controls = controls;
   }

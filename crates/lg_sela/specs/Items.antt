@@ -22,7 +22,6 @@ a64_families reach = record {
   store = λ frame t at n choices. ones (store_code t at n);
   argument = λ frame t n. ones (argument_code t n);
   next_argument = λ n. ones (next_argument_code n);
-  result = λ frame t n choices. value_items n choices;
   push = λ frame j n. push_code j n;
   control = control_items reach;
 }

@@ -39,11 +39,11 @@ pub(crate) fn put_items(
         | Op::Unary(_)
         | Op::Plain(PlainOp::Movi | PlainOp::VaStart)
         | Op::Retval(_) => value_items(node, choices, items),
-        Op::Load(t, at) => put_load(t, at, node, items),
-        Op::Store(t, at) => put_store(t, at, node, items),
-        Op::Getarg(t) => put_getarg(t, node, items),
+        Op::Load(t, at) => put_load(node, t, at, items),
+        Op::Store(t, at) => put_store(node, t, at, items),
+        Op::Getarg(t) => put_getarg(node, t, items),
         Op::Plain(PlainOp::VaArg) => put_next_argument(node, items),
-        Op::Control(ControlOp::Pusharg, _) => put_argument(staged_count(staged), node, items),
+        Op::Control(ControlOp::Pusharg, _) => put_argument(node, staged_count(staged), items),
         _ => put_control(node, frame, place, reach, items),
     }
 }

@@ -38,9 +38,10 @@ use Rattle.lg_carry_a64.proofs.NumberCodeLemmas.{numbers-are-loaded}
 use Rattle.lg_carry_a64.proofs.RegisterLemmas.{register-small}
 use Rattle.lg_sel_control.proofs.ControlLemmas.{differ, never, never-sum, host-small}
 use Rattle.lg_sela_items.specs.declared.items.Item.{Item}
-use Rattle.lg_sela_items.specs.declared.items.Item.TheVariants.{Branch}
-use Rattle.lg_sela_items.specs.Items.{bytes_in, fixes_of, AreItems, ones}
-use Rattle.lg_sela_items.proofs.ItemLemmas.{words_append, items-append, names-append, fixes-append, words-ones, items-ones, names-ones, fixes-ones, ones-append}
+use Rattle.lg_sela_items.specs.declared.items.Item.TheVariants.{One, Branch}
+use Rattle.lg_sela_items.specs.Items.{a64_holes, IsItem, NamesOneOf, AreItems, ones}
+use Rattle.lg_sela_items.proofs.ItemLemmas.{items-append, items-ones, fixes-ones, ones-append}
+use Rattle.lg_sel_items.proofs.EmittedLemmas.{nothing-emitted, ones-emitted, ones-in-front}
 use Rattle.lg_sel_items.specs.declared.reach.Reach.{Reach}
 use Rattle.lg_sel_items.specs.declared.reach.Reach.TheVariants.{Short, Near, Far}
 use Rattle.lg_sela_control.specs.Alignments.{padding, idle, align_code}
@@ -59,23 +60,12 @@ use Rattle.lg_sela_control.proofs.ControlLemmas.{second-is}
 -- ---- instructions alone have no fix and name no label
 -- what is said of a list of instructions that fit
 plain-emitted : (labels : ℕ) (leaping : Bool) (is : List Instr) → AreItems (ones is) → (leaping ≡ true → 0 < length is) → AreEmitted labels leaping (ones is)
-plain-emitted labels leaping is fit some = record {
-  items = fit;
-  labels = names-ones labels is;
-  one_fix = λ place. let e = ap length (fixes-ones place is) in omega (arith, e);
-  some = λ e. let z = some e in omega (arith, z, words-ones is);
-}
+plain-emitted labels = ones-emitted a64_holes IsItem NamesOneOf labels One (λ i. refl) (λ place i. refl) (λ i. tt)
 
 -- instructions in front of items
 in-front : (labels : ℕ) (leaping : Bool) (is : List Instr) (xs : List Item) → AreItems (ones is) → AreEmitted labels leaping xs
     → AreEmitted labels leaping (ones is ++ xs)
-in-front labels leaping is xs fit h = record {
-  items = items-append (ones is) xs fit h.items;
-  labels = names-append labels (ones is) xs (names-ones labels is) h.labels;
-  one_fix = λ place. let e = ap length (fixes-append place (ones is) xs ∙ ap (λ z. z ++ fixes_of (place + bytes_in (ones is)) xs) (fixes-ones place is)) in
-      omega (arith, e, h.one_fix (place + bytes_in (ones is)));
-  some = λ e. let z = h.some e in omega (arith, z, words_append (ones is) xs);
-}
+in-front labels = ones-in-front a64_holes IsItem NamesOneOf labels One (λ i. refl) (λ place i. refl) (λ i. tt)
 
 branch-emitted : (r : Reach) (labels : ℕ) (leaping : Bool) (sets : Instr) (c : Cond) (l : Label) → IsInstr sets → l.0 < labels
     → AreEmitted labels leaping (branch_if_items r sets c l)
@@ -250,7 +240,7 @@ module _ (r : Reach) (labels frame at : ℕ) where
   align xs h = absurd (differ h)
 
   nothing : AreEmitted labels false []
-  nothing = record { items = tt; labels = tt; one_fix = λ place. omega arith; some = λ e. absurd (differ e) }
+  nothing = nothing-emitted a64_holes IsItem NamesOneOf labels
 
   by-op : (o : Op) (xs : List Operand) → is_control o ≡ true → admit (forms_of o) xs ≡ true → AreGiven labels xs → ends_in_label xs ≡ false
       → AreEmitted labels (leaps o) (items-of o xs)

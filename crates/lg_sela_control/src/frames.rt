@@ -140,23 +140,23 @@ fn put_idle(count: u32, items: &mut Items<Item>)
     }
 }
 
-// How many of them lead from an address to a multiple of an alignment.
-fn padding(at: u32, alignment: u32) -> u32
+// How many of them lead from a place to a multiple of an alignment.
+fn padding(place: u32, alignment: u32) -> u32
     requires { is_alignment alignment ≡ true }
-    ensures value { result ≡ padding at alignment }
+    ensures value { result ≡ padding place alignment }
     ensures few { result ≤ 16 }
 {
-    (alignment - at % alignment) % alignment / 4
+    (alignment - place % alignment) % alignment / 4
 }
 
 // Appends the items of `.align` to none.
-fn put_align(at: u32, operands: &[Operand], items: &mut Items<Item>)
+fn put_align(place: u32, operands: &[Operand], items: &mut Items<Item>)
     requires empty { items.old ≡ [] }
     requires formed { admit (form.Alignment ∷ []) operands.now ≡ true }
-    ensures { items.new ≡ align_items at operands.now }
+    ensures { items.new ≡ align_items place operands.now }
 {
     match operands {
-        [Operand::Number(alignment)] => put_idle(padding(at, *alignment as u32), items),
+        [Operand::Number(alignment)] => put_idle(padding(place, *alignment as u32), items),
         _ => {}
     }
 }
@@ -166,17 +166,17 @@ pub(crate) fn put_plain(
     op: PlainOp,
     operands: &[Operand],
     frame: u32,
-    at: u32,
+    place: u32,
     items: &mut Items<Item>,
 )
     requires empty { items.old ≡ [] }
     requires formed { admit (plain_forms op) operands.now ≡ true }
-    ensures { items.new ≡ plain_items op operands.now frame at }
+    ensures { items.new ≡ plain_items op operands.now frame place }
 {
     match op {
         PlainOp::Prolog => put_prolog(frame, items),
         PlainOp::Epilog | PlainOp::Ret => put_return(items),
-        PlainOp::Align => put_align(at, operands, items),
+        PlainOp::Align => put_align(place, operands, items),
         _ => {}
     }
 }

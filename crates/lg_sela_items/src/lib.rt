@@ -5,7 +5,9 @@
 mod emission;
 mod items;
 pub mod laws;
+mod numbers;
 mod rows;
 
-pub use items::{Item, put_number};
+pub use items::Item;
+pub use numbers::put_number;
 pub use rows::{FRAME_POINTER, LINK, ZERO, bitfield, imm, mul_add, register_of, row, wide};

@@ -1,5 +1,5 @@
 -- The items of loads, stores and arguments: their numbers are in the ranges of their instructions, there are few, and each is followed by the next.
-use Rattle.std.proofs.Common.{◌≡◌, ℕ, zero, suc, ◌+◌, ◌-◌, ◌/◌, ◌<◌, ◌≤◌, Bool, true, false, List, [], ◌∷◌, ◌++◌, length, refl, ap, arith, length-append}
+use Rattle.std.proofs.Common.{◌≡◌, ℕ, zero, suc, ◌+◌, ◌-◌, ◌/◌, ◌<◌, ◌≤◌, Bool, true, false, List, [], ◌∷◌, ◌++◌, length, refl, arith, length-append}
 use Rattle.std.specs.Prelude.{nat_lt, pos, negsuc, ◌≤ℤ◌, slice_index, if◌then◌else◌}
 use Rattle.lg_base.specs.Conventions.{argument_registers}
 use Rattle.lg_base.specs.HostNames.{host_address}
@@ -24,14 +24,15 @@ use Rattle.lg_carry_a64.specs.A64Rows.{link}
 use Rattle.lg_carry_a64.specs.Numbers.{number_code}
 use Rattle.lg_carry_a64.proofs.NumberCodeLemmas.{number-few}
 use Rattle.lg_carry_a64.proofs.RegisterLemmas.{register-small}
-use Rattle.lg_sel_items.specs.Holes.{Each}
+use Rattle.lg_carry_a64.specs.A64Rows.{is_straight}
+use Rattle.lg_sel_items.proofs.FewLemmas.{AreBounded, bounded-append, bounded-more, bounded-ones, bounded-few}
+use Rattle.lg_sela_items.specs.declared.items.Item.TheVariants.{One}
 use Rattle.lg_sel_memory.specs.Accesses.{Address, Base, At, Sum, Index, address_of}
 use Rattle.lg_sel_memory.specs.Operands.{named}
 use Rattle.lg_sela_items.specs.declared.items.Item.{Item}
 use Rattle.lg_sela_items.specs.GoodItems.{Fine, IsGood, AreGood, IsGoodItem}
-use Rattle.lg_sela_items.specs.Items.{words_in, bytes_in, fixes_of, ones}
-use Rattle.lg_sela_items.proofs.GoodLemmas.{good-append, link-fine, number-good, ones-good, items-good, good-items-are-appendable}
-use Rattle.lg_sela_items.proofs.ItemLemmas.{words_append, fixes-append, words-ones, fixes-ones}
+use Rattle.lg_sela_items.specs.Items.{a64_holes, IsItem, StaysWithin, ones}
+use Rattle.lg_sela_items.proofs.GoodLemmas.{good-append, link-fine, number-good, ones-good, good-items-are-appendable}
 use Rattle.lg_sela_items.proofs.WithinLemmas.{portable}
 use Rattle.lg_sela_memory.specs.Accesses.{register, load_row, store_row, Place, at_register, at_link, is_scaled, indexed, place_of, load_code, store_code}
 use Rattle.lg_sela_memory.specs.ArgumentCode.{home_distance, stack_count, argument_load, argument_code}
@@ -164,30 +165,17 @@ next-argument-fits d s h k =
 
 -- ---- items
 -- good ones, of which there are at most so many instructions and so many fixes
-record AreFit (most fixes : ℕ) (xs : List Item) : Type 0 where
-  good : Each IsGoodItem xs
-  short : words_in xs ≤ most
-  fixed : (p : ℕ) → length (fixes_of p xs) ≤ fixes
+abbrev AreFit : ℕ → ℕ → List Item → Type 0
+AreFit most fixes xs = AreBounded a64_holes IsGoodItem most fixes xs
 
 code-fit : (most : ℕ) (is : List Instr) → IsFitCode most is → AreFit most 0 (ones is)
-code-fit most is h = record {
-  good = ones-good is h.good;
-  short = let w = words-ones is in let f = h.few in omega (arith, w, f);
-  fixed = λ p. let e = ap length (fixes-ones p is) in omega (arith, e);
-}
+code-fit most is h = bounded-ones a64_holes IsGoodItem One (λ i. refl) (λ p i. refl) most is (ones-good is h.good) h.few
 
 joined : (m n f g : ℕ) (xs ys : List Item) → AreFit m f xs → AreFit n g ys → AreFit (m + n) (f + g) (xs ++ ys)
-joined m n f g xs ys a b = record {
-  good = items-good xs ys a.good b.good;
-  short = let w = words_append xs ys in let s = a.short in let t = b.short in omega (arith, w, s, t);
-  fixed = λ p.
-      let e = ap length (fixes-append p xs ys) in
-      let l = length-append (fixes_of p xs) (fixes_of (p + bytes_in xs) ys) in
-      let s = a.fixed p in let t = b.fixed (p + bytes_in xs) in omega (arith, e, l, s, t);
-}
+joined = bounded-append a64_holes IsGoodItem
 
 fewer : (m n f g : ℕ) (xs : List Item) → m ≤ n → f ≤ g → AreFit m f xs → AreFit n g xs
-fewer m n f g xs l k a = record { good = a.good; short = let s = a.short in omega (arith, l, s); fixed = λ p. let s = a.fixed p in omega (arith, k, s) }
+fewer = bounded-more a64_holes IsGoodItem
 
 into-fit : (rd : ℕ) (x : Operand) → Fine rd → AreFit 4 1 (into rd x)
 into-fit rd (operand.Reg r) h =
@@ -236,7 +224,7 @@ push-fit j n few = by (nat_lt j 8)
 
 -- ---- what is asked of items
 are-items : (most fixes : ℕ) (xs : List Item) → fixes ≤ 1 → AreFit most fixes xs → AreMemoryItems most xs
-are-items most fixes xs one a = record { appendable = good-items-are-appendable xs a.good; short = a.short; one_fix = λ p. let f = a.fixed p in omega (arith, one, f) }
+are-items = bounded-few a64_holes IsGoodItem is_straight IsItem StaysWithin good-items-are-appendable
 
 pub memory-items-fit : MemoryItemsFit
 memory-items-fit = record {

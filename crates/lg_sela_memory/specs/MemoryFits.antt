@@ -1,5 +1,5 @@
 -- What is asked of the items of loads, stores and arguments that are emitted.
-use Rattle.std.specs.Prelude.{◌≡◌, ℕ, ◌<◌, ◌≤◌, List, length}
+use Rattle.std.specs.Prelude.{◌≡◌, ℕ, ◌<◌, List}
 use Rattle.lg_op.specs.declared.node.Node.{Node}
 use Rattle.lg_op.specs.declared.op.Addressing.{Addressing}
 use Rattle.lg_op.specs.declared.op.StoreType.{StoreType}
@@ -8,8 +8,9 @@ use Rattle.lg_op.specs.declared.operand.Label.{Label}
 use Rattle.lg_op.specs.declared.operand.Operand.TheVariants as operand
 use Rattle.lg_meaning.specs.Steps.{operand_at}
 use Rattle.lg_sela_items.specs.declared.items.Item.{Item}
-use Rattle.lg_sela_items.specs.GoodItems.{AreAppendable}
-use Rattle.lg_sela_items.specs.Items.{words_in, fixes_of, ones, NameLabels, StayWithin}
+use Rattle.lg_carry_a64.specs.A64Rows.{is_straight}
+use Rattle.lg_sel_items.specs.GoodItems as good_items
+use Rattle.lg_sela_items.specs.Items.{ones, NameLabels, StayWithin, a64_holes, IsItem, StaysWithin}
 use Rattle.lg_sela_memory.specs.Accesses.{load_code, store_code}
 use Rattle.lg_sela_memory.specs.ArgumentCode.{argument_code}
 use Rattle.lg_sela_memory.specs.PushCode.{push_code}
@@ -24,10 +25,8 @@ pub record MemoryItemsStay : Type 0 where
   pub pushes : (j : ℕ) (n : Node) → StayWithin (push_code j n)
 
 -- the items are in the ranges of their instructions, of which there are at most so many, with at most one fix, and each is followed by the next
-pub record AreMemoryItems (most : ℕ) (items : List Item) : Type 0 where
-  pub appendable : AreAppendable items
-  pub short : words_in items ≤ most
-  pub one_fix : (p : ℕ) → length (fixes_of p items) ≤ 1
+abbrev pub AreMemoryItems : ℕ → List Item → Type 0
+AreMemoryItems most items = good_items.AreFew a64_holes is_straight IsItem StaysWithin most items
 
 pub record MemoryItemsFit : Type 0 where
   pub loads : (t : ValueType) (at : Addressing) (n : Node) → AreMemoryItems 6 (ones (load_code t at n))

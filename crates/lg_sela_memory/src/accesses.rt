@@ -130,7 +130,7 @@ fn store(t: StoreType, from: u8, base: Base) -> Instr
 }
 
 /// Appends the code of a load to no items: 1 to 6 instructions. The operands are those of the load's row in the instruction table.
-pub fn put_load(t: ValueType, at: Addressing, node: &Node, items: &mut Items<Item>)
+pub fn put_load(node: &Node, t: ValueType, at: Addressing, items: &mut Items<Item>)
     requires { items.old ≡ [] }
     ensures { items.new ≡ ones (load_code t at node.now) }
 {
@@ -140,7 +140,7 @@ pub fn put_load(t: ValueType, at: Addressing, node: &Node, items: &mut Items<Ite
 }
 
 /// Appends the code of a store to no items: 1 to 6 instructions. The operands are those of the store's row in the instruction table.
-pub fn put_store(t: StoreType, at: Addressing, node: &Node, items: &mut Items<Item>)
+pub fn put_store(node: &Node, t: StoreType, at: Addressing, items: &mut Items<Item>)
     requires { items.old ≡ [] }
     ensures { items.new ≡ ones (store_code t at node.now) }
 {

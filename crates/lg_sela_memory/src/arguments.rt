@@ -68,7 +68,7 @@ fn put_onto_stack(index: u32, operand: Operand, items: &mut Items<Item>)
 
 /// Appends the code of a node that passes an argument to no items: 1 to 5 instructions. The argument's number counts from 0, and is
 /// below 16.
-pub fn put_argument(index: u32, node: &Node, items: &mut Items<Item>)
+pub fn put_argument(node: &Node, index: u32, items: &mut Items<Item>)
     requires few { index < 16 }
     requires empty { items.old ≡ [] }
     ensures { items.new ≡ push_code index node.now }
@@ -112,7 +112,7 @@ fn put_argument_load(t: ValueType, rd: u8, index: u32, items: &mut Items<Item>)
 
 /// Appends the code of a node that reads an argument of its function to no items: one or two instructions, or none where no function has
 /// so many arguments.
-pub fn put_getarg(t: ValueType, node: &Node, items: &mut Items<Item>)
+pub fn put_getarg(node: &Node, t: ValueType, items: &mut Items<Item>)
     requires { items.old ≡ [] }
     ensures { items.new ≡ ones (argument_code t node.now) }
 {

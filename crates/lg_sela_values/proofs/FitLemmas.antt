@@ -31,7 +31,8 @@ use Rattle.lg_sela_items.specs.GoodItems.{Fine, AreGood, IsGoodItem}
 use Rattle.lg_sela_items.proofs.WithinLemmas.{portable}
 use Rattle.lg_sela_items.proofs.GoodLemmas.{good-append, link-fine, number-good, ones-good, items-good}
 use Rattle.lg_sela_values.specs.BinaryCode.{register_code, second_register, loaded_code, is_small, takes_small, small_code, takes_negative, negative_code, negative_form_code, small_form_code, number_form_code}
-use Rattle.lg_sela_values.specs.UnaryCode.{unary_code, extension, retval_code}
+use Rattle.lg_sel_values.specs.ValueNodes.{extension}
+use Rattle.lg_sela_values.specs.UnaryCode.{unary_code, retval_code}
 use Rattle.lg_sela_values.specs.WideCode.{product_by_link, quotient_by_link, wide_code, wide_by_link}
 use Rattle.lg_sela_values.specs.ValueItems.{load_items, binary_items, wide_items, register_for, register_in, operand_in, body_items}
 

@@ -1,21 +1,20 @@
 -- Nodes of one word, of a register or of the text.
-use Rattle.std.proofs.Common.{◌≡◌, ◌≢◌, ℕ, true, [], ◌∷◌, List, Some, refl, ap, ◌∙◌, arith}
+use Rattle.std.proofs.Common.{◌≡◌, ◌≢◌, ℕ, true, [], ◌∷◌, List, Some, ap, ◌∙◌, arith}
 use Rattle.lg_base.specs.Flags.{carry_of}
 use Rattle.lg_base.specs.declared.target.Target.TheVariants.{Aarch64}
 use Rattle.lg_op.specs.declared.op.UnaryOp.{UnaryOp}
 use Rattle.lg_op.specs.declared.op.UnaryOp.TheVariants as unary
 use Rattle.lg_op.specs.declared.op.ValueType.{ValueType}
-use Rattle.lg_op.specs.declared.op.ValueType.TheVariants as value_type
 use Rattle.lg_op.specs.declared.operand.Reg.{Reg}
 use Rattle.lg_op.specs.declared.operand.Reg.TheVariants.{Fp}
 use Rattle.lg_op.specs.declared.operand.Operand.{Operand}
-use Rattle.lg_operators.specs.Operators.{unary_value, keeps_carry, extended_by_type}
+use Rattle.lg_operators.specs.Operators.{unary_value, keeps_carry}
 use Rattle.lg_meaning.specs.States.{State, value}
 use Rattle.lg_a64.specs.declared.instruction.Instr.{Instr}
 use Rattle.lg_temp.specs.Abis.{register_of}
 use Rattle.lg_carry.specs.FinalNodes.{Code}
 use Rattle.lg_carry.specs.TextNodes.{IsInText}
-use Rattle.lg_sel_values.specs.ValueNodes.{unary_node, movi_node, va_start_node, retval_node}
+use Rattle.lg_sel_values.specs.ValueNodes.{unary_node, movi_node, va_start_node, retval_node, extension}
 use Rattle.lg_sel_values.specs.Values.{KeepsCarry}
 use Rattle.lg_sel_values.proofs.OneWordLemmas.{unary-nodes-compute, movi-nodes-compute, va-start-nodes-compute, retval-nodes-compute}
 use Rattle.lg_carry_a64.specs.A64Computers.{a64_scratch, a64_computer, IsComputed}
@@ -23,7 +22,8 @@ use Rattle.lg_carry_a64.specs.Computations.{computed}
 use Rattle.lg_carry_a64.proofs.ComputerLemmas.{into, carry-stays, known-carry}
 use Rattle.lg_carry_a64.proofs.HeldLemmas.{put-same, put-other}
 use Rattle.lg_carry_a64.proofs.RegisterLemmas.{register-small}
-use Rattle.lg_sela_values.specs.UnaryCode.{unary_code, extension, retval_code}
+use Rattle.lg_sel_values.proofs.ValueNodeLemmas.{extends}
+use Rattle.lg_sela_values.specs.UnaryCode.{unary_code, retval_code}
 use Rattle.lg_sela_values.proofs.LoadCodeLemmas.{LoadsWord}
 use Rattle.lg_sela_values.proofs.UnaryCodeLemmas.{unary-computed, unary-keeps, unary-computes, unary-some}
 
@@ -71,15 +71,6 @@ va-start-computes c i d k line named t load l code trash =
     (λ w. ap (λ u. u.registers (register_of Aarch64 d)) (l.value w) ∙ put-same w.registers (register_of Aarch64 d) k)
 
 -- ---- the result of a call
-extends : (t : ValueType) (x : ℕ) → unary_value (extension t) x ≡ extended_by_type t x
-extends value_type.Char x = refl
-extends value_type.UnsignedChar x = refl
-extends value_type.Short x = refl
-extends value_type.UnsignedShort x = refl
-extends value_type.Int x = refl
-extends value_type.UnsignedInt x = refl
-extends value_type.Long x = refl
-
 pub retval-computes : (c : Code) (i : ℕ) (t : ValueType) (d : Reg) (line : ℕ) → d ≢ Fp → IsInText c i (retval_node t d line) → IsComputed c i (retval_node t d line) [] (retval_code t (register_of Aarch64 d))
 retval-computes c i t d line named x code trash =
     let rd = register_of Aarch64 d in

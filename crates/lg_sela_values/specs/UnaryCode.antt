@@ -3,9 +3,9 @@ use Rattle.std.specs.Prelude.{ℕ, List, [], ◌∷◌}
 use Rattle.lg_op.specs.declared.op.UnaryOp.{UnaryOp}
 use Rattle.lg_op.specs.declared.op.UnaryOp.TheVariants as unary
 use Rattle.lg_op.specs.declared.op.ValueType.{ValueType}
-use Rattle.lg_op.specs.declared.op.ValueType.TheVariants as value
 use Rattle.lg_base.specs.Conventions.{result_register}
 use Rattle.lg_base.specs.declared.target.Target.TheVariants.{Aarch64}
+use Rattle.lg_sel_values.specs.ValueNodes.{extension}
 use Rattle.lg_a64.specs.declared.instruction.Instr.{Instr}
 use Rattle.lg_a64.specs.declared.instruction.Instr.TheVariants.{Reg, Bitfield, Reverse}
 use Rattle.lg_a64.specs.declared.instruction.BitfieldOp.TheVariants.{Sbfm, Ubfm}
@@ -27,16 +27,6 @@ unary_code unary.ExtrUi d a = Bitfield Ubfm d a 0 31 ∷ []
 unary_code unary.HtonrUs d a = Reverse Rev16 d a ∷ Bitfield Ubfm d d 0 15 ∷ []
 unary_code unary.HtonrUi d a = Reverse Rev32 d a ∷ Bitfield Ubfm d d 0 31 ∷ []
 unary_code unary.HtonrUl d a = Reverse Rev d a ∷ []
-
--- the operation that extends a word as a type does
-abbrev pub extension : ValueType → UnaryOp
-extension value.Char = unary.ExtrC
-extension value.UnsignedChar = unary.ExtrUc
-extension value.Short = unary.ExtrS
-extension value.UnsignedShort = unary.ExtrUs
-extension value.Int = unary.ExtrI
-extension value.UnsignedInt = unary.ExtrUi
-extension value.Long = unary.Mov
 
 -- d = the result of a call, extended by its type
 abbrev pub retval_code : ValueType → ℕ → List Instr

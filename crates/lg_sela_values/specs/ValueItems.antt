@@ -1,5 +1,5 @@
 -- The items of the nodes that compute values.
-use Rattle.std.specs.Prelude.{ℕ, Bool, true, false, List, [], ◌∷◌, ◌++◌, slice_index_or, ◌<◌, ⊤}
+use Rattle.std.specs.Prelude.{ℕ, List, [], ◌∷◌, ◌++◌, slice_index_or, ◌<◌, ⊤}
 use Rattle.lg_base.specs.HostNames.{host_address}
 use Rattle.lg_base.specs.declared.target.Target.TheVariants.{Aarch64}
 use Rattle.lg_op.specs.declared.op.Op.{Op}
@@ -28,16 +28,6 @@ use Rattle.lg_sela_items.specs.Items.{ones}
 use Rattle.lg_sela_values.specs.BinaryCode.{register_code, second_register, number_form_code}
 use Rattle.lg_sela_values.specs.UnaryCode.{unary_code, retval_code}
 use Rattle.lg_sela_values.specs.WideCode.{wide_code, wide_by_link}
-
--- the operations whose nodes compute values
-abbrev pub computes_value : Op → Bool
-computes_value (op.Binary o last) = true
-computes_value (op.Wide o last) = true
-computes_value (op.Unary o) = true
-computes_value (op.Plain plain.Movi) = true
-computes_value (op.Plain plain.VaStart) = true
-computes_value (op.Retval t) = true
-computes_value o = false
 
 -- a remainder by an immediate needs a temporary
 abbrev pub value_needs : Op → List Need

@@ -12,7 +12,8 @@ use Rattle.lg_carry.specs.NodeCode.{numbered, CarriesNode}
 use Rattle.lg_carry_a64.specs.A64Rows.{a64_processor}
 use Rattle.lg_carry_a64.specs.Places.{IsInCode}
 use Rattle.lg_sela_items.specs.Items.{settled}
-use Rattle.lg_sela_values.specs.ValueItems.{computes_value, value_needs, value_items}
+use Rattle.lg_sel_values.specs.ValueNodes.{is_value}
+use Rattle.lg_sela_values.specs.ValueItems.{value_needs, value_items}
 use Rattle.lg_carry.specs.TextNodes.{IsInText}
 use Rattle.lg_sel_nodes.specs.Operands.{AreWords}
 
@@ -20,7 +21,7 @@ use Rattle.lg_sel_nodes.specs.Operands.{AreWords}
 abbrev pub ValueNodesCarry : Type 0
 ValueNodesCarry =
     (code : List ℕ) (trash : ℕ) (c : Code) (i : ℕ) (n : Node) (live : Reg → Bool) (staged : List Bool) (choices : List Choice)
-    → computes_value n.op ≡ true → AreWords c.addresses n.operands
+    → is_value n.op ≡ true → AreWords c.addresses n.operands
     → AreFor (around Aarch64 n live staged) (value_needs n.op) [] (value_needs n.op) choices
     → ((j : ℕ) → j < pushed c.nodes.nodes i → slice_index_or staged j false ≡ true)
     → IsInText c i n → IsInCode code trash c i (settled (slice_index c.addresses) (c.place i) (value_items n choices))

@@ -2,11 +2,12 @@
 
 ghost use Rattle.std.specs.Prelude.{◌≡◌, ◌+◌, ◌≤◌, ◌++◌};
 ghost use Rattle.lg_sela_items.specs.Items.{ones, words_in};
-ghost use Rattle.lg_sela_values.specs.UnaryCode.{unary_code, extension, retval_code};
+ghost use Rattle.lg_sela_values.specs.UnaryCode.{unary_code, retval_code};
 
 use lg_a64::{BitfieldOp, Instr, RegOp, ReverseOp};
 use lg_op::{UnaryOp, ValueType};
 use lg_sel_items::Items;
+use lg_sel_values::extension;
 use lg_sela_items::{Item, ZERO, bitfield, row};
 
 // `d` gets the bytes of `a` in another order.
@@ -45,21 +46,6 @@ pub fn unary_code(op: UnaryOp, d: u8, a: u8, items: &mut Items<Item>)
 
 // The register of the result of a call, x0.
 const RESULT: u8 = 0;
-
-// The operation that extends a word as a type does.
-fn extension(value: ValueType) -> UnaryOp
-    ensures { result ≡ extension value }
-{
-    match value {
-        ValueType::Char => UnaryOp::ExtrC,
-        ValueType::UnsignedChar => UnaryOp::ExtrUc,
-        ValueType::Short => UnaryOp::ExtrS,
-        ValueType::UnsignedShort => UnaryOp::ExtrUs,
-        ValueType::Int => UnaryOp::ExtrI,
-        ValueType::UnsignedInt => UnaryOp::ExtrUi,
-        ValueType::Long => UnaryOp::Mov,
-    }
-}
 
 /// Appends the code that puts the result of a call into `d`, extended by its type: at most 2 instructions, for which there is room.
 pub fn retval_code(value: ValueType, d: u8, items: &mut Items<Item>)

@@ -15,7 +15,6 @@ use Rattle.lg_op.specs.declared.op.LastOperand.TheVariants as last_operand
 use Rattle.lg_op.specs.declared.op.Op.{Op}
 use Rattle.lg_op.specs.declared.op.Op.TheVariants as op
 use Rattle.lg_op.specs.declared.op.PlainOp.TheVariants as plain_op
-use Rattle.lg_op.specs.declared.op.ValueType.{ValueType}
 use Rattle.lg_op.specs.declared.operand.Label.{Label}
 use Rattle.lg_op.specs.declared.operand.Operand.{Operand}
 use Rattle.lg_op.specs.declared.operand.Operand.TheVariants as operand
@@ -31,7 +30,6 @@ use Rattle.lg_sel_nodes.specs.Immediates.{immediate}
 use Rattle.lg_sel_items.specs.declared.reach.Reach.{Reach}
 use Rattle.lg_sel_items.specs.declared.reach.Reach.TheVariants.{Short, Near, Far}
 use Rattle.lg_selr.proofs.Emissions.{NoneStores, Emits, none, append, more, instructions, plain, number, address, jump, front, behind}
-use Rattle.lg_selr.proofs.ValueEmissions.{unary-none}
 use Rattle.lg_selr_control.specs.Alignments.{padding, idle, align_code}
 use Rattle.lg_selr_control.specs.Branches.{turned, failing, left_of, right_of, bits_code}
 use Rattle.lg_selr_control.specs.ControlItems.{second_register, word_items, second_items, jump_unless_items, branch_items, sum_items, label_items, jump_items, call_items, result_items, ret_items, register_leap_items, leap_items, align_items, control_items}
@@ -39,7 +37,6 @@ use Rattle.lg_selr_control.specs.HostCalls.{host_code}
 use Rattle.lg_selr_control.specs.Prologs.{stored_registers, stores_below, prolog_code}
 use Rattle.lg_selr_control.specs.RegisterLeaps.{register_leap_code}
 use Rattle.lg_selr_control.specs.Returns.{return_code}
-use Rattle.lg_selr_control.specs.Retvals.{extension, retval_code, retval_items}
 use Rattle.lg_selr_control.specs.SumBranches.{sum_code, staying}
 use Rattle.lg_selr_items.specs.Items.{ones}
 use Rattle.lg_selr_items.specs.declared.items.Item.{Item}
@@ -172,7 +169,3 @@ module _ (reach : Reach) (is : ℕ → Bool) where
   pub prologs-emit : (o : Op) (xs : List Operand) (frame at : ℕ) → is_free o ≡ true → Emits reach is 1 16 (control_items reach o xs frame at)
   prologs-emit (op.Plain plain_op.Prolog) xs frame at free = instructions reach is 1 16 (prolog_code frame) (prolog-few frame)
   prologs-emit o xs frame at free = cc
-
-  pub retvals-emit : (t : ValueType) (xs : List Operand) → Emits reach is 1 0 (retval_items t xs)
-  retvals-emit t (operand.Reg d ∷ []) = plain reach is 1 (retval_code t d) (unary-none (extension t) (register_of Riscv64 d) 10)
-  retvals-emit t xs = none reach is 1 0

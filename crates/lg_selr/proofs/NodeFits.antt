@@ -1,41 +1,36 @@
 -- The items of each node can be appended to a buffer, and write no register that is outside of the conventions.
-use Rattle.std.proofs.Common.{◌≡◌, ℕ, ◌≤◌, Bool, List, length, arith, true, sym, subst, false, [], refl, ap}
+use Rattle.std.proofs.Common.{◌≡◌, ℕ, ◌≤◌, Bool, List, length, true, sym, subst, false, [], refl, ap}
 use Rattle.lg_base.specs.declared.target.Target.TheVariants.{Riscv64}
 use Rattle.lg_op.specs.declared.node.Node.{Node}
 use Rattle.lg_op.specs.declared.op.Op.{Op}
 use Rattle.lg_op.specs.declared.op.Op.TheVariants as op
 use Rattle.lg_op.specs.declared.operand.Reg.{Reg}
-use Rattle.lg_rv.specs.declared.instruction.Instr.{Instr}
 use Rattle.lg_op.specs.Nodes.{InForm}
+use Rattle.lg_meaning.specs.Steps.{operand_at}
 use Rattle.lg_op.specs.declared.operand.Operand.{Operand}
 use Rattle.lg_sel.proofs.LabelLemmas.{names, all-self}
 use Rattle.lg_sel.proofs.NodeEmissionLemmas as emission
 use Rattle.lg_sel.proofs.NodeFitLemmas as fit
+use Rattle.lg_sel.proofs.NodeFitLemmas.{passed}
 use Rattle.lg_sel.proofs.StoreLemmas.{allowed}
 use Rattle.lg_sel_nodes.specs.Operands.{HaveWords, NameBelow}
 use Rattle.lg_sel.specs.Selected.{AreFirst, IsFrame, TakesLabelsWell, is_pusharg}
-use Rattle.lg_sel.specs.Families.{is_value}
+use Rattle.lg_sel_values.specs.ValueNodes.{is_value}
 use Rattle.lg_sel.specs.Stores.{rv_stores}
 use Rattle.lg_sel_items.specs.declared.reach.Reach.{Reach}
-use Rattle.lg_selr.proofs.ControlEmissions.{controls-emit, prologs-emit, retvals-emit}
-use Rattle.lg_selr.proofs.Emissions.{Names, Emits, more}
+use Rattle.lg_selr.proofs.ControlEmissions.{controls-emit, prologs-emit}
+use Rattle.lg_selr.proofs.Emissions.{Names, Emits}
 use Rattle.lg_selr.proofs.MemoryEmissions.{loads-emit, stores-emit, arguments-emit, next-arguments-emit, pushes-emit}
 use Rattle.lg_sel_nodes.proofs.GivenLemmas.{are-given}
-use Rattle.lg_selr.proofs.PushFits.{push-good}
 use Rattle.lg_selr.proofs.ValueEmissions.{values-emit}
 use Rattle.lg_selr.specs.Items.{rv_families, node_items}
 use Rattle.lg_selr.specs.Selected.{needs, AreChosen, IsAsked}
 use Rattle.lg_selr_control.proofs.FitLemmas.{control-items-fit}
-use Rattle.lg_selr_control.proofs.RetvalLemmas.{retval-items-fit}
-use Rattle.lg_selr_control.proofs.WithinLemmas.{control-items-stay, retval-items-stay}
-use Rattle.lg_selr_items.proofs.ItemLemmas.{items-ones, names-ones}
-use Rattle.lg_selr_items.specs.Items.{rv_holes, IsItem, NamesOneOf, StaysWithin, StayWithin, fixes_of, AreItems, NameLabels, ones}
+use Rattle.lg_selr_control.proofs.WithinLemmas.{control-items-stay}
+use Rattle.lg_selr_items.specs.Items.{rv_holes, IsItem, NamesOneOf, StaysWithin, StayWithin, fixes_of, AreItems, NameLabels}
 use Rattle.lg_selr_items.specs.declared.items.Item.{Item}
-use Rattle.lg_selr_memory.proofs.FitLemmas.{IsFitCode, argument-fits, next-argument-fits}
-use Rattle.lg_selr_memory.proofs.AccessFitLemmas.{load-items-fit, store-items-fit, load-items-name, store-items-name}
-use Rattle.lg_selr_memory.proofs.WithinLemmas.{memory-items-stay}
-use Rattle.lg_selr_memory.specs.ArgumentCode.{argument_code}
-use Rattle.lg_selr_memory.specs.VariableArgumentCode.{next_argument_code}
+use Rattle.lg_selr_memory.proofs.FitLemmas.{memory-items-fit}
+use Rattle.lg_selr_memory.proofs.WithinLemmas.{memory-items-name, memory-items-stay}
 use Rattle.lg_selr_values.proofs.ValueFitLemmas.{value-items-fit, value-items-name, value-items-stay}
 use Rattle.lg_selr_values.specs.ValueItems.{value_needs, HaveSlots}
 use Rattle.lg_temp.proofs.ChoiceLemmas.{choices-are-for}
@@ -54,7 +49,7 @@ same-needs (op.Load t at) h = cc
 same-needs (op.Store t at) h = cc
 same-needs o h = refl
 
-value-is-none : (o : Op) → is_value o ≡ true → is_access o ≡ false
+pub value-is-none : (o : Op) → is_value o ≡ true → is_access o ≡ false
 value-is-none (op.Load t at) h = cc
 value-is-none (op.Store t at) h = cc
 value-is-none o h = refl
@@ -79,8 +74,8 @@ choices-fit n live staged choices k = by n.op refl
     values h = let f = value-items-fit n live k.set choices (made-values n live k.set choices h are) in (f.few, f.slots)
 
     by : (o : Op) → n.op ≡ o → (length choices ≤ 1) × HaveSlots choices
-    by (op.Load t at) e = let f = load-items-fit t at n live k.set choices (made-access n (op.Load t at) live k.set choices e are) in (f.few, f.slots)
-    by (op.Store t at) e = let f = store-items-fit t at n live k.set choices (made-access n (op.Store t at) live k.set choices e are) in (f.few, f.slots)
+    by (op.Load t at) e = let f = memory-items-fit.loads t at n live k.set choices (made-access n (op.Load t at) live k.set choices e are) in (f.few, f.slots)
+    by (op.Store t at) e = let f = memory-items-fit.stores t at n live k.set choices (made-access n (op.Store t at) live k.set choices e are) in (f.few, f.slots)
     by o e = values (ap is_access e)
 
 -- ---- labels, fixes and stores
@@ -91,7 +86,6 @@ families-emit reach = record {
   stores = λ is frame t at n choices. stores-emit reach is t at n choices;
   arguments = λ is frame t n. arguments-emit reach is t n;
   next_arguments = λ is n. next-arguments-emit reach is n;
-  results = λ is frame t n choices h. more reach is 1 1 0 _ _ (omega arith) (omega arith) (retvals-emit reach is t n.operands);
   pushes = λ is frame j n h. pushes-emit reach is j n h;
   controls = controls-emit reach;
   prologs = prologs-emit reach;
@@ -104,18 +98,15 @@ node-emits reach frame choices staged place n = emission.node-emits Riscv64 rv_h
 abbrev Fit : Reach → ℕ → List Item → Type 0
 Fit reach labels xs = fit.Fit Riscv64 needs (rv_families reach) IsItem NamesOneOf labels xs
 
-plain : (reach : Reach) (labels most : ℕ) (is : List Instr) → IsFitCode most is → Fit reach labels (ones is)
-plain reach labels most is code = record { instrs = items-ones is code.fit; names = names-ones labels is }
-
 families-fit : (reach : Reach) (labels : ℕ) → fit.FamiliesFit Riscv64 needs (rv_families reach) IsItem NamesOneOf labels
 families-fit reach labels = record {
   values = λ frame n live set choices sized is are named words. record { instrs = (value-items-fit n live set choices (made-values n live set choices (value-is-none n.op is) are)).fit; names = value-items-name labels n choices named };
-  loads = λ frame n t at live set choices sized e are words. record { instrs = (load-items-fit t at n live set choices (made-access n (op.Load t at) live set choices e are)).fit; names = load-items-name labels t at n choices };
-  stores = λ frame n t at live set choices sized e are words. record { instrs = (store-items-fit t at n live set choices (made-access n (op.Store t at) live set choices e are)).fit; names = store-items-name labels t at n choices };
-  arguments = λ frame n t sized. plain reach labels 1 (argument_code t n) (argument-fits t n);
-  next_arguments = λ n. plain reach labels 8 (next_argument_code n) (next-argument-fits n);
-  results = λ frame n t live set choices sized e formed are named words. let emitted = retval-items-fit n t labels e formed in record { instrs = emitted.items; names = emitted.labels };
-  pushes = λ frame n j sized few named word. let good = push-good labels j n few named word in record { instrs = good.fit.instrs; names = good.fit.names };
+  loads = λ frame n t at live set choices sized e are words. record { instrs = (memory-items-fit.loads t at n live set choices (made-access n (op.Load t at) live set choices e are)).appendable.fit; names = memory-items-name.loads labels t at n choices };
+  stores = λ frame n t at live set choices sized e are words. record { instrs = (memory-items-fit.stores t at n live set choices (made-access n (op.Store t at) live set choices e are)).appendable.fit; names = memory-items-name.stores labels t at n choices };
+  arguments = λ frame n t sized. record { instrs = (memory-items-fit.arguments t n).appendable.fit; names = memory-items-name.arguments labels t n };
+  next_arguments = λ n. record { instrs = (memory-items-fit.next_arguments n).appendable.fit; names = memory-items-name.next_arguments labels n };
+  pushes = λ frame n j sized few named word.
+      record { instrs = (memory-items-fit.pushes j n few).appendable.fit; names = memory-items-name.pushes labels j n (passed labels (operand_at n 0) named) };
   controls = λ n frame place sized is formed named words ends.
       let emitted = control-items-fit reach n labels frame place is formed (are-given labels n.operands named words) ends in
       record { instrs = emitted.items; names = emitted.labels };
@@ -140,7 +131,6 @@ families-stay reach = record {
   stores = λ frame t at n live set choices e are. memory-items-stay.stores t at n live set choices (made-access n (op.Store t at) live set choices e are);
   arguments = λ frame t n. memory-items-stay.arguments t n;
   next_arguments = λ n. memory-items-stay.next_arguments n;
-  results = λ frame t n live set choices are. retval-items-stay t n.operands;
   pushes = λ frame j n. memory-items-stay.pushes j n;
   controls = λ n frame place. control-items-stay reach n frame place;
 }

@@ -4,7 +4,7 @@ use Rattle.std.specs.Prelude.{slice_get, slice_index}
 use Rattle.std.specs.List.{list_any}
 use Rattle.lg_base.specs.Layout.{code_base}
 use Rattle.lg_base.specs.declared.target.Target.TheVariants.{Riscv64}
-use Rattle.lg_op.specs.Forms.{forms_of, admit}
+use Rattle.lg_op.specs.Forms.{forms_of}
 use Rattle.lg_op.specs.declared.node.Node.{Node}
 use Rattle.lg_op.specs.declared.op.Op.{Op}
 use Rattle.lg_op.specs.declared.op.Op.TheVariants as op
@@ -14,7 +14,6 @@ use Rattle.lg_op.specs.declared.op.LastOperand.{LastOperand}
 use Rattle.lg_op.specs.declared.op.Addressing.{Addressing}
 use Rattle.lg_op.specs.declared.op.StoreType.{StoreType}
 use Rattle.lg_op.specs.declared.op.ValueType.{ValueType}
-use Rattle.lg_op.specs.declared.operand.Operand.{Operand}
 use Rattle.lg_op.specs.declared.operand.Reg.{Reg}
 use Rattle.lg_carry.specs.Carries.{leaps, leaps_at}
 use Rattle.lg_carry.specs.Blocks.{IsBlock}
@@ -23,32 +22,27 @@ use Rattle.lg_carry.specs.Spills.{wrapped}
 use Rattle.lg_carry.specs.NodeCode.{numbered, CarriesNode}
 use Rattle.lg_node.specs.Preparations.{pushed}
 use Rattle.lg_carry_rv.specs.Places.{IsInCode}
-use Rattle.lg_carry.specs.Passages.{IsNodeCode}
 use Rattle.lg_carry_rv.specs.RvRows.{rv_processor, rv_rows, is_straight}
-use Rattle.lg_rv.specs.Spelling.{IsInstr}
 use Rattle.lg_rv.specs.declared.instruction.Instr.{Instr}
 use Rattle.lg_sel.proofs.CountLemmas.{count-is}
-use Rattle.lg_sel.proofs.FamilyLemmas.{node_of, HoldsOfFamilies, of-node}
-use Rattle.lg_sel.proofs.OperandLemmas.{word-at, has-words, leads_nowhere, unlabelled, no-labels, control-ends, loads-lead, stores-lead, operands-are, IsOneRegister, written-one}
-use Rattle.lg_sel.specs.Families.{is_value, staged_count}
+use Rattle.lg_sel.proofs.FamilyLemmas.{HoldsOfFamilies, of-node, value-stays}
+use Rattle.lg_sel.proofs.OperandLemmas.{has-words, leads_nowhere, unlabelled, no-labels, control-ends, loads-lead, stores-lead, operands-are}
+use Rattle.lg_sel.specs.Families.{staged_count}
+use Rattle.lg_sel_values.specs.ValueNodes.{is_value}
 use Rattle.lg_sel_memory.specs.Operands.{is_label}
 use Rattle.lg_sel_items.specs.declared.reach.Reach.{Reach}
 use Rattle.lg_selr.specs.Items.{rv_families, node_items}
 use Rattle.lg_sel.specs.Selected.{is_pusharg, may_take_label, IsNodeOf}
 use Rattle.lg_selr.specs.Selected.{needs, IsAsked}
-use Rattle.lg_selr.proofs.NodeFits.{is_access, made-values, made-access}
-use Rattle.lg_selr.proofs.FitLemmas.{straight-block, straight-ones}
-use Rattle.lg_sel.proofs.NodeFitLemmas.{named-at, few-staged}
+use Rattle.lg_selr.proofs.NodeFits.{made-values, made-access, value-is-none}
+use Rattle.lg_sel.proofs.NodeFitLemmas.{few-staged}
 use Rattle.lg_sel_nodes.proofs.GivenLemmas.{are-given, are-words}
 use Rattle.lg_selr.proofs.PlaceLemmas.{control-items-at}
-use Rattle.lg_selr.proofs.PushFits.{push-good}
 use Rattle.lg_selr_control.specs.ControlFits.{AreEmitted}
 use Rattle.lg_selr_control.specs.ControlItems.{control_items, is_control}
 use Rattle.lg_selr_control.specs.ControlLaws.{ends_in_label}
-use Rattle.lg_selr_control.specs.Retvals.{retval_node, retval_code, retval_items}
 use Rattle.lg_selr_control.specs.Standing.{StandsInCode}
 use Rattle.lg_selr_control.proofs.ControlLemmas.{control-nodes-carry}
-use Rattle.lg_selr_control.proofs.RetvalLemmas.{retvals-carry}
 use Rattle.lg_selr_control.proofs.FitLemmas.{control-items-fit}
 use Rattle.lg_selr_items.specs.declared.items.Item.{Item}
 use Rattle.lg_selr_items.specs.Items.{words_in, settled, ones}
@@ -59,10 +53,10 @@ use Rattle.lg_selr_memory.specs.Accesses.{load_code, store_code, load_items, sto
 use Rattle.lg_selr_memory.specs.ArgumentCode.{argument_code}
 use Rattle.lg_selr_memory.specs.PushCode.{push_code}
 use Rattle.lg_selr_memory.specs.VariableArgumentCode.{next_argument_code}
-use Rattle.lg_selr_memory.proofs.FitLemmas.{IsFitCode, argument-fits, next-argument-fits}
-use Rattle.lg_selr_memory.proofs.AccessFitLemmas.{load-items-fit, store-items-fit}
+use Rattle.lg_selr_items.specs.GoodItems.{AreAppendable}
+use Rattle.lg_selr_memory.proofs.FitLemmas.{memory-items-fit}
 use Rattle.lg_selr_memory.proofs.MemoryNodeLemmas.{memory-is-carried}
-use Rattle.lg_selr_values.specs.ValueItems.{computes_value, first_taken, saved_items, value_items}
+use Rattle.lg_selr_values.specs.ValueItems.{first_taken, saved_items, value_items}
 use Rattle.lg_selr_values.proofs.SettledLemmas.{settles-ones, settles-saved}
 use Rattle.lg_selr_values.proofs.ValueFitLemmas.{value-items-fit}
 use Rattle.lg_selr_values.proofs.ValueNodeLemmas.{value-nodes-carry}
@@ -80,11 +74,11 @@ falls : (c : Code) (i : ℕ) (n : Node) (items : List Item) → IsInText c i n �
 falls c i n items t stays leaping = true-false (sym leaping ∙ (ap leaps_at t.here ∙ stays))
 
 -- its instructions, none of which names a label, are a block of it
-plain-code : (code : List ℕ) (trash : ℕ) (c : Code) (i : ℕ) (n : Node) (most : ℕ) (is : List Instr) → IsInText c i n → leaps n.op ≡ false → IsFitCode most is → AreOfNode code trash c i (ones is) → IsInCode code trash c i is
-plain-code code trash c i n most is t stays fit a =
+plain-code : (code : List ℕ) (trash : ℕ) (c : Code) (i : ℕ) (n : Node) (is : List Instr) → IsInText c i n → leaps n.op ≡ false → AreAppendable (ones is) → AreOfNode code trash c i (ones is) → IsInCode code trash c i is
+plain-code code trash c i n is t stays fit a =
     let to : ℕ → ℕ = slice_index c.addresses in
     subst (IsInCode code trash c i) (settled-ones to (c.place i) is)
-    (items-are-in-code code trash c i (ones is) a (falls c i n (ones is) t stays) (straight-block to (c.place i) (ones is) (straight-ones is fit.straight)))
+    (items-are-in-code code trash c i (ones is) a (falls c i n (ones is) t stays) (fit.block to (c.place i)))
 
 -- what is known of a node, of which the code begins at a place of the buffer
 pub record IsKnown (c : Code) (i : ℕ) (n : Node) (frame : ℕ) (live : Reg → Bool) (staged : List Bool) (choices : List Choice) (labels place : ℕ) : Type 0 where
@@ -92,36 +86,14 @@ pub record IsKnown (c : Code) (i : ℕ) (n : Node) (frame : ℕ) (live : Reg →
   pub asked : IsAsked n live staged choices labels
   pub address : c.place i ≡ code_base + place
 
--- the nodes that compute values are those of the family, and go on behind them
-value-computes : (o : Op) → is_value o ≡ true → computes_value o ≡ true
-value-computes (op.Binary o last) is = refl
-value-computes (op.Wide o last) is = refl
-value-computes (op.Unary o) is = refl
-value-computes (op.Plain plain.Movi) is = refl
-value-computes (op.Plain plain.VaStart) is = refl
-value-computes o is = cc
-
-computed-is-none : (o : Op) → computes_value o ≡ true → is_access o ≡ false
-computed-is-none (op.Load t at) is = cc
-computed-is-none (op.Store t at) is = cc
-computed-is-none o is = refl
-
-value-stays : (o : Op) → is_value o ≡ true → leaps o ≡ false
-value-stays (op.Binary o last) is = refl
-value-stays (op.Wide o last) is = refl
-value-stays (op.Unary o) is = refl
-value-stays (op.Plain plain.Movi) is = refl
-value-stays (op.Plain plain.VaStart) is = refl
-value-stays o is = cc
-
 module _ (reach : Reach) (code : List ℕ) (trash : ℕ) (c : Code) (i frame : ℕ) (live : Reg → Bool) (staged : List Bool) (choices : List Choice) (labels place : ℕ) where
   abbrev Carries : Node → List Item → Type 0
   Carries n items = IsKnown c i n frame live staged choices labels place → AreOfNode code trash c i items → CarriesNode (rv_processor code trash) c i n (numbered live)
 
-  values : (n : Node) → computes_value n.op ≡ true → leaps n.op ≡ false → Carries n (value_items n choices)
+  values : (n : Node) → is_value n.op ≡ true → leaps n.op ≡ false → Carries n (value_items n choices)
   values n computes stays k a =
       let set = k.asked.chosen.set in
-      let are = made-values n live set choices (computed-is-none n.op computes) (choices-are-for (around Riscv64 n live set) (needs n.op) choices k.asked.chosen.chosen) in
+      let are = made-values n live set choices (value-is-none n.op computes) (choices-are-for (around Riscv64 n live set) (needs n.op) choices k.asked.chosen.chosen) in
       let fit = value-items-fit n live set choices are in
       value-nodes-carry code trash c i n live set choices computes (are-words c.addresses k.node.low n.operands k.asked.words) are (λ j below. k.asked.chosen.holds j (k.node.pushed_are j below)) k.node.text
       (items-are-in-code code trash c i (value_items n choices) a (falls c i n (value_items n choices) k.node.text stays) (fit.block (slice_index c.addresses) (c.place i)))
@@ -147,7 +119,7 @@ module _ (reach : Reach) (code : List ℕ) (trash : ℕ) (c : Code) (i frame : �
       let are = made-access n (op.Load t at) live set choices e (choices-are-for (around Riscv64 n live set) (needs n.op) choices k.asked.chosen.chosen) in
       (memory-is-carried code trash a.small a.bytes a.word).loads t at c i n frame live set choices e (none-labels n (op.Load t at) e refl (loads-lead at) k) (has-words n k.asked.words) are
       (λ j below. k.asked.chosen.holds j (k.node.pushed_are j below)) k.node.text k.node.frame_is
-      (access-code n (load_code t at n (first_taken choices)) (ap leaps e) k (load-items-fit t at n live set choices are).block a).block
+      (access-code n (load_code t at n (first_taken choices)) (ap leaps e) k (memory-items-fit.loads t at n live set choices are).appendable.block a).block
 
   stores : (n : Node) (t : StoreType) (at : Addressing) → n.op ≡ op.Store t at → Carries n (store_items t at n choices)
   stores n t at e k a =
@@ -155,24 +127,24 @@ module _ (reach : Reach) (code : List ℕ) (trash : ℕ) (c : Code) (i frame : �
       let are = made-access n (op.Store t at) live set choices e (choices-are-for (around Riscv64 n live set) (needs n.op) choices k.asked.chosen.chosen) in
       (memory-is-carried code trash a.small a.bytes a.word).stores t at c i n frame live set choices e (none-labels n (op.Store t at) e refl (stores-lead at) k) (has-words n k.asked.words) are
       (λ j below. k.asked.chosen.holds j (k.node.pushed_are j below)) k.node.text k.node.frame_is
-      (access-code n (store_code t at n (first_taken choices)) (ap leaps e) k (store-items-fit t at n live set choices are).block a).block
+      (access-code n (store_code t at n (first_taken choices)) (ap leaps e) k (memory-items-fit.stores t at n live set choices are).appendable.block a).block
 
   arguments : (n : Node) (t : ValueType) → n.op ≡ op.Getarg t → Carries n (ones (argument_code t n))
   arguments n t e k a =
       (memory-is-carried code trash a.small a.bytes a.word).arguments c i n t frame (numbered live) e k.node.text k.node.frame_is
-      (plain-code code trash c i n 1 (argument_code t n) k.node.text (ap leaps e) (argument-fits t n) a).block
+      (plain-code code trash c i n (argument_code t n) k.node.text (ap leaps e) (memory-items-fit.arguments t n).appendable a).block
 
   next-arguments : (n : Node) → n.op ≡ op.Plain plain.VaArg → Carries n (ones (next_argument_code n))
   next-arguments n e k a =
       (memory-is-carried code trash a.small a.bytes a.word).next_arguments c i n frame (numbered live) e k.node.text k.node.frame_is
-      (plain-code code trash c i n 8 (next_argument_code n) k.node.text (ap leaps e) (next-argument-fits n) a).block
+      (plain-code code trash c i n (next_argument_code n) k.node.text (ap leaps e) (memory-items-fit.next_arguments n).appendable a).block
 
   pushes : (n : Node) (last : LastOperand) → n.op ≡ op.Control control.Pusharg last → Carries n (push_code (staged_count staged) n)
   pushes n last e k a =
       let j = staged_count staged in
       let to : ℕ → ℕ = slice_index c.addresses in
-      let good = push-good labels j n (few-staged n live staged choices labels last k.asked e) (named-at labels n.operands 0 k.asked.named) (word-at n.operands 0 k.asked.words) in
-      let stands = items-are-in-code code trash c i (push_code j n) a (falls c i n (push_code j n) k.node.text (ap leaps e)) (straight-block to (c.place i) (push_code j n) good.straight) in
+      let fit = memory-items-fit.pushes j n (few-staged n live staged choices labels last k.asked e) in
+      let stands = items-are-in-code code trash c i (push_code j n) a (falls c i n (push_code j n) k.node.text (ap leaps e)) (fit.appendable.block to (c.place i)) in
       (memory-is-carried code trash a.small a.bytes a.word).pushes c i n last frame (numbered live) e (has-words n k.asked.words) k.node.names k.node.text k.node.frame_is
       (subst (λ m. IsInCode code trash c i (settled to (c.place i) (push_code m n))) (count-is (pushed c.nodes.nodes i) staged (k.node.exact (ap is_pusharg e))) stands).block
 
@@ -192,32 +164,13 @@ module _ (reach : Reach) (code : List ℕ) (trash : ℕ) (c : Code) (i frame : �
       control-nodes-carry reach code trash c i n frame (numbered live) is k.node.places (are-words c.addresses k.node.low n.operands k.asked.words) ends k.node.frame_is k.node.text
       (subst (λ l. StandsInCode code trash c i (settled to (c.place i) l)) same stands)
 
-  retval-of : (t : ValueType) (xs : List Operand) (line : ℕ) → IsOneRegister xs → Carries (node_of (op.Retval t) xs line) (retval_items t xs)
-  retval-of t xs line one =
-      subst (λ ys. Carries (node_of (op.Retval t) ys line) (retval_items t ys)) (sym one.is)
-      (λ k a.
-      let n = retval_node t one.register line in
-      let is : List Instr = retval_code t one.register in
-      retvals-carry code trash c i t one.register line (numbered live) k.node.text record {
-        small = a.small;
-        bytes = a.bytes;
-        word = a.word;
-        node = subst (IsNodeCode (rv_rows code trash) IsInstr c i) (settled-ones (slice_index c.addresses) (c.place i) is) (items-are-node-code code trash c i (ones is) a (falls c i n (ones is) k.node.text refl));
-      })
-
-  retvals : (n : Node) (t : ValueType) → n.op ≡ op.Retval t → Carries n (retval_items t n.operands)
-  retvals n t e k a =
-      subst (λ o. Carries (node_of o n.operands n.line) (retval_items t n.operands)) (sym e)
-      (retval-of t n.operands n.line (written-one n.operands (subst (λ o. admit (forms_of o) n.operands ≡ true) e (operands-are c i n k.node.text)))) k a
-
   families : HoldsOfFamilies (rv_families reach) Carries frame choices staged place
   families = record {
-    values = λ n is. values n (value-computes n.op is) (value-stays n.op is);
+    values = λ n is. values n is (value-stays n.op is);
     loads = loads;
     stores = stores;
     arguments = arguments;
     next_arguments = next-arguments;
-    results = retvals;
     pushes = pushes;
     controls = controls;
   }

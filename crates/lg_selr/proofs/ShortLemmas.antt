@@ -31,6 +31,7 @@ use Rattle.lg_rv.specs.Spelling.{IsInstr, spelling}
 use Rattle.lg_rv.specs.declared.instruction.BranchOp.{BranchOp}
 use Rattle.lg_rv.specs.declared.instruction.Instr.{Instr}
 use Rattle.lg_rv.specs.declared.instruction.Instr.TheVariants as instr
+use Rattle.lg_sel.proofs.SelectionLemmas as selection
 use Rattle.lg_sel.proofs.FinishedLemmas.{items-lead}
 use Rattle.lg_sel.specs.Finished.{AreAppended}
 use Rattle.lg_sel.specs.Selected.{IsFinished, part_of}
@@ -228,13 +229,8 @@ module _ (old new : Buffer) (code : List ℕ) (c : Code) (i goal frame : ℕ) (f
 
   -- ---- every node
   -- what is known of the operands of a node with this reach
-  pub record IsKnown (r : Reach) (o : Op) (xs : List Operand) : Type 0 where
-    pub admitted : admit (forms_of o) xs ≡ true
-    pub appended : AreAppended rv_holes old new (control_items r o xs frame place)
-    pub fit : AreItems (control_items r o xs frame place)
-    pub labels : (l : Label) → slice_get xs 0 ≡ Some (operand.Label l) → (place_of old.labels l.0 ≡ Some goal) × (to l.0 ≡ code_base + goal)
-    pub checked : Each (IsChecked r old) (fixes_of place (control_items r o xs frame place))
-    pub least : IsLeast (λ s. Each (Leads old) (fixes_of place (control_items s o xs frame place))) r
+  abbrev IsKnown : Reach → Op → List Operand → Type 0
+  IsKnown r o xs = selection.IsKnown rv_holes IsItem old new to goal (λ s. control_items s o xs frame place) r o xs
 
   branch : (r : Reach) (o : Condition) (last : LastOperand) (xs : List Operand) → IsKnown r (op.Branch o last) xs → IsLed
   branch r o last (operand.Label l ∷ operand.Reg a ∷ x ∷ []) k =

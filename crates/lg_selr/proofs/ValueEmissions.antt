@@ -32,7 +32,8 @@ use Rattle.lg_selr_items.specs.declared.items.Item.{Item}
 use Rattle.lg_selr_items.specs.declared.items.Item.TheVariants.{One}
 use Rattle.lg_selr_values.specs.BinaryCode.{register_code, loaded_code, is_addend, addend_code, sum_code, number_form_code}
 use Rattle.lg_selr_values.specs.CarriedCode.{carried_code}
-use Rattle.lg_selr_values.specs.UnaryCode.{more_bytes_code, unary_code}
+use Rattle.lg_sel_values.specs.ValueNodes.{extension}
+use Rattle.lg_selr_values.specs.UnaryCode.{more_bytes_code, unary_code, retval_code}
 use Rattle.lg_selr_values.specs.ValueItems.{load_items, binary_items, second_items, carried_items, wide_items, operation_items, operand_in, register_in, body_items, first_taken, saved_items, value_items}
 use Rattle.lg_selr_values.specs.WideCode.{wide_code}
 use Rattle.lg_temp.specs.Abis.{register_of}
@@ -128,6 +129,7 @@ module _ (reach : Reach) (is : ℕ → Bool) where
   body (op.Plain plain_op.Movi) xs u h = load (register_in xs 0) (operand_in xs 1) (passes-at is xs 1 h)
   body (op.Plain plain_op.VaStart) xs u h = load (register_in xs 0) (operand_in xs 1) (passes-at is xs 1 h)
   body (op.Plain o) xs u h = none reach is 1 0
+  body (op.Retval t) xs u h = plain reach is 1 (retval_code t (register_in xs 0)) (unary-none (extension t) (register_in xs 0) 10)
   body o xs u h = none reach is 1 0
 
   -- a register that is saved is stored

@@ -9,7 +9,7 @@ ghost use Rattle.lg_selr_values.specs.ValueItems.{HaveSlots};
 use lg_op::{ControlOp, Node, Op, PlainOp};
 use lg_sel::operands::staged_count;
 use lg_sel_items::{Items, Reach};
-use lg_selr_control::{put_control, put_retval};
+use lg_selr_control::put_control;
 use lg_selr_items::Item;
 use lg_selr_memory::{put_argument, put_getarg, put_load, put_next_argument, put_store};
 use lg_selr_values::value_items;
@@ -37,13 +37,13 @@ pub(crate) fn put_items(
         Op::Binary(_, _)
         | Op::Wide(_, _)
         | Op::Unary(_)
-        | Op::Plain(PlainOp::Movi | PlainOp::VaStart) => value_items(node, choices, items),
-        Op::Load(t, at) => put_load(t, at, node, choices, items),
-        Op::Store(t, at) => put_store(t, at, node, choices, items),
-        Op::Getarg(t) => put_getarg(t, node, items),
+        | Op::Plain(PlainOp::Movi | PlainOp::VaStart)
+        | Op::Retval(_) => value_items(node, choices, items),
+        Op::Load(t, at) => put_load(node, choices, t, at, items),
+        Op::Store(t, at) => put_store(node, choices, t, at, items),
+        Op::Getarg(t) => put_getarg(node, t, items),
         Op::Plain(PlainOp::VaArg) => put_next_argument(node, items),
-        Op::Retval(t) => put_retval(t, node.operands.as_slice(), items),
-        Op::Control(ControlOp::Pusharg, _) => put_argument(staged_count(staged), node, items),
+        Op::Control(ControlOp::Pusharg, _) => put_argument(node, staged_count(staged), items),
         _ => put_control(node, frame, place, reach, items),
     }
 }

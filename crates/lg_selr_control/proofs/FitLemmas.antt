@@ -34,8 +34,9 @@ use Rattle.lg_carry_rv.proofs.NumberCodeLemmas.{low-small, numbers-are-loaded}
 use Rattle.lg_carry_rv.proofs.RegisterLemmas.{register-small}
 use Rattle.lg_selr_items.specs.declared.items.Item.{Item}
 use Rattle.lg_selr_items.specs.declared.items.Item.TheVariants.{One}
-use Rattle.lg_selr_items.specs.Items.{bytes_in, fixes_of, IsItem, AreItems, ones}
-use Rattle.lg_selr_items.proofs.ItemLemmas.{words_append, items-append, names-append, fixes-append, words-ones, items-ones, names-ones, fixes-ones, ones-append}
+use Rattle.lg_selr_items.specs.Items.{rv_holes, IsItem, NamesOneOf, AreItems, ones}
+use Rattle.lg_selr_items.proofs.ItemLemmas.{items-append, items-ones, fixes-ones, ones-append}
+use Rattle.lg_sel_items.proofs.EmittedLemmas.{nothing-emitted, ones-emitted, ones-in-front}
 use Rattle.lg_sel_items.specs.declared.reach.Reach.{Reach}
 use Rattle.lg_sel_items.specs.declared.reach.Reach.TheVariants.{Short, Near, Far}
 use Rattle.lg_selr_control.specs.Alignments.{padding, idle, align_code}
@@ -56,21 +57,12 @@ use Rattle.lg_sel_control.proofs.ControlLemmas.{differ, never, never-sum, host-s
 -- ---- instructions alone have no fix and name no label
 -- what is said of a list of instructions that fit
 pub plain-emitted : (labels : ℕ) (leaping : Bool) (is : List Instr) → AreItems (ones is) → (leaping ≡ true → 0 < length is) → AreEmitted labels leaping (ones is)
-plain-emitted labels leaping is fit some = record {
-  items = fit;
-  labels = names-ones labels is;
-  one_fix = λ place. let e = ap length (fixes-ones place is) in omega (arith, e);
-  some = λ e. let z = some e in omega (arith, z, words-ones is);
-}
+plain-emitted labels = ones-emitted rv_holes IsItem NamesOneOf labels One (λ i. refl) (λ place i. refl) (λ i. tt)
 
 -- instructions in front of items
-pub in-front : (labels : ℕ) (leaping : Bool) (is : List Instr) (xs : List Item) → AreItems (ones is) → AreEmitted labels leaping xs → AreEmitted labels leaping (ones is ++ xs)
-in-front labels leaping is xs fit h = record {
-  items = items-append (ones is) xs fit h.items;
-  labels = names-append labels (ones is) xs (names-ones labels is) h.labels;
-  one_fix = λ place. let e = ap length (fixes-append place (ones is) xs ∙ ap (λ z. z ++ fixes_of (place + bytes_in (ones is)) xs) (fixes-ones place is)) in omega (arith, e, h.one_fix (place + bytes_in (ones is)));
-  some = λ e. let z = h.some e in omega (arith, z, words_append (ones is) xs);
-}
+pub in-front : (labels : ℕ) (leaping : Bool) (is : List Instr) (xs : List Item) → AreItems (ones is) → AreEmitted labels leaping xs
+    → AreEmitted labels leaping (ones is ++ xs)
+in-front labels = ones-in-front rv_holes IsItem NamesOneOf labels One (λ i. refl) (λ place i. refl) (λ i. tt)
 
 unless-emitted : (r : Reach) (labels : ℕ) (leaping : Bool) (o : BranchOp) (a b : ℕ) (l : Label) → a < 32 → b < 32 → l.0 < labels → AreEmitted labels leaping (jump_unless_items r o a b l)
 unless-emitted Short labels leaping o a b l ha hb lt = record { items = ((ha, hb), tt); labels = (lt, tt); one_fix = λ place. omega arith; some = λ e. omega arith }
@@ -275,7 +267,7 @@ module _ (r : Reach) (labels frame at : ℕ) where
   align xs h = absurd (differ h)
 
   nothing : AreEmitted labels false []
-  nothing = record { items = tt; labels = tt; one_fix = λ place. omega arith; some = λ e. absurd (differ e) }
+  nothing = nothing-emitted rv_holes IsItem NamesOneOf labels
 
   pub by-op : (o : Op) (xs : List Operand) → is_control o ≡ true → admit (forms_of o) xs ≡ true → AreGiven labels xs → ends_in_label xs ≡ false → AreEmitted labels (leaps o) (items-of o xs)
   by-op (op.Branch o last) xs c h v e = branch o last xs h v

@@ -1,5 +1,5 @@
--- No item of a node that branches, jumps, calls or returns, of `prolog`, `.align` or `retval` writes a register that is outside of the conventions.
-use Rattle.std.proofs.Common.{ℕ, zero, suc, Bool, true, false, List, [], ◌∷◌, refl, arith}
+-- No item of a node that branches, jumps, calls or returns, of `prolog` or `.align` writes a register that is outside of the conventions.
+use Rattle.std.proofs.Common.{ℕ, zero, suc, Bool, true, false, List, [], ◌∷◌, refl}
 use Rattle.std.specs.Prelude.{◌-◌, negsuc, nat_le, if◌then◌else◌}
 use Rattle.lg_base.specs.HostNames.{host_address}
 use Rattle.lg_base.specs.declared.target.Target.TheVariants.{Riscv64}
@@ -16,7 +16,6 @@ use Rattle.lg_op.specs.declared.op.Op.{Op}
 use Rattle.lg_op.specs.declared.op.Op.TheVariants as op
 use Rattle.lg_op.specs.declared.op.PlainOp.{PlainOp}
 use Rattle.lg_op.specs.declared.op.PlainOp.TheVariants as plain
-use Rattle.lg_op.specs.declared.op.ValueType.{ValueType}
 use Rattle.lg_op.specs.declared.operand.Label.{Label}
 use Rattle.lg_op.specs.declared.operand.Operand.{Operand}
 use Rattle.lg_op.specs.declared.operand.Operand.TheVariants as operand
@@ -32,7 +31,6 @@ use Rattle.lg_selr_control.specs.ControlItems as controls
 use Rattle.lg_sel_nodes.specs.Immediates.{immediate}
 use Rattle.lg_selr_control.specs.Prologs.{stored_registers, stores_below, fall_code, prolog_code}
 use Rattle.lg_selr_control.specs.Returns.{return_code}
-use Rattle.lg_selr_control.specs.Retvals.{extension, retval_code, retval_items}
 use Rattle.lg_selr_control.specs.SumBranches as sums
 use Rattle.lg_selr_items.specs.Items.{ones, StayWithin}
 use Rattle.lg_temp.specs.Abis.{register_of}
@@ -40,10 +38,6 @@ use Rattle.lg_sel_items.specs.declared.reach.Reach.{Reach}
 use Rattle.lg_sel_items.specs.declared.reach.Reach.TheVariants.{Short, Near, Far}
 use Rattle.lg_selr_items.proofs.WithinLemmas.{In, portable, Within, join, stay-append, stay-ones, number}
 use Rattle.lg_selr_control.specs.ControlFits.{ControlItemsStay}
-use Rattle.lg_selr_control.specs.Retvals.{RetvalItemsStay}
-use Rattle.lg_carry_rv.proofs.RegisterLemmas.{register-small}
-use Rattle.lg_selr_items.proofs.GoodLemmas.{within-of}
-use Rattle.lg_selr_values.proofs.FitLemmas.{unary-good}
 
 -- ---- branches, jumps, calls and returns
 word : (t : ℕ) (x : Operand) → In t → StayWithin (word_items t (immediate x))
@@ -171,12 +165,5 @@ module _ (r : Reach) where
   answered (op.Plain o) xs frame at = plainly o xs frame at
   answered o xs frame at = tt
 
-retval : (t : ValueType) (xs : List Operand) → StayWithin (retval_items t xs)
-retval t (operand.Reg d ∷ []) = stay-ones (retval_code t d) (within-of (retval_code t d) (unary-good (extension t) (register_of Riscv64 d) 10 (register-small d, portable d) (omega arith)))
-retval t xs = tt
-
 pub control-items-stay : ControlItemsStay
 control-items-stay r n frame at = answered r n.op n.operands frame at
-
-pub retval-items-stay : RetvalItemsStay
-retval-items-stay t xs = retval t xs

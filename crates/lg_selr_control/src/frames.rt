@@ -14,7 +14,16 @@ ghost use Rattle.lg_op.specs.Forms.{admit, plain_forms};
 use lg_op::{Operand, PlainOp};
 use lg_rv::{ImmOp, Instr, RegOp, StoreOp, UpperOp};
 use lg_sel_items::Items;
-use lg_selr_items::{Item, high_part, imm, low_part, row};
+use lg_selr_items::{
+    FRAME_POINTER, Item, LINK, STACK_POINTER, ZERO, high_part, imm, low_part, row,
+};
+
+// The registers of V0, V1 and V2.
+const V0: u8 = 9;
+
+const V1: u8 = 18;
+
+const V2: u8 = 19;
 
 // A word of the frame is stored by the stack pointer.
 fn store(reg: u8, imm: i32) -> Instr
@@ -22,7 +31,7 @@ fn store(reg: u8, imm: i32) -> Instr
 {
     Instr::Store {
         op: StoreOp::Sd,
-        rs1: 2,
+        rs1: STACK_POINTER,
         rs2: reg,
         imm,
     }
@@ -33,11 +42,11 @@ fn stores() -> [Instr; 13]
     ensures { result ≡ stores_below stored_registers 0 }
 {
     [
-        store(1, -8),
-        store(8, -16),
-        store(9, -24),
-        store(18, -32),
-        store(19, -40),
+        store(LINK, -8),
+        store(FRAME_POINTER, -16),
+        store(V0, -24),
+        store(V1, -32),
+        store(V2, -40),
         store(10, -48),
         store(11, -56),
         store(12, -64),
@@ -55,7 +64,7 @@ fn short_fall(size: u32) -> Instr
     requires short { size ≤ 2048 }
     ensures { result ≡ Instr.Imm (ImmOp.Addi) 2 2 (negsuc (size - 1)) }
 {
-    imm(ImmOp::Addi, 2, 2, -(size as i32))
+    imm(ImmOp::Addi, STACK_POINTER, STACK_POINTER, -(size as i32))
 }
 
 // By more bytes.
@@ -66,11 +75,15 @@ fn long_fall(size: u32) -> [Instr; 3]
     let size = u64::from(size);
     let lui = Instr::Upper {
         op: UpperOp::Lui,
-        rd: 1,
+        rd: LINK,
         imm: high_part(size),
     };
-    let low = imm(ImmOp::Addiw, 1, 1, low_part(size));
-    [lui, low, row(RegOp::Sub, 2, 2, 1)]
+    let low = imm(ImmOp::Addiw, LINK, LINK, low_part(size));
+    [
+        lui,
+        low,
+        row(RegOp::Sub, STACK_POINTER, STACK_POINTER, LINK),
+    ]
 }
 
 // Appends the fall of the stack pointer.
@@ -96,7 +109,7 @@ fn put_prolog(size: u32, items: &mut Items<Item>)
     ensures { items.new ≡ ones (prolog_code size) }
 {
     items.all(&stores());
-    items.one(imm(ImmOp::Addi, 8, 2, -16));
+    items.one(imm(ImmOp::Addi, FRAME_POINTER, STACK_POINTER, -16));
     put_fall(size, items);
 }
 
@@ -105,13 +118,13 @@ fn return_code() -> [Instr; 7]
     ensures { result ≡ return_code }
 {
     [
-        imm(ImmOp::Ld, 9, 8, -8),
-        imm(ImmOp::Ld, 18, 8, -16),
-        imm(ImmOp::Ld, 19, 8, -24),
-        imm(ImmOp::Ld, 1, 8, 8),
-        imm(ImmOp::Addi, 2, 8, 16),
-        imm(ImmOp::Ld, 8, 8, 0),
-        imm(ImmOp::Jalr, 0, 1, 0),
+        imm(ImmOp::Ld, V0, FRAME_POINTER, -8),
+        imm(ImmOp::Ld, V1, FRAME_POINTER, -16),
+        imm(ImmOp::Ld, V2, FRAME_POINTER, -24),
+        imm(ImmOp::Ld, LINK, FRAME_POINTER, 8),
+        imm(ImmOp::Addi, STACK_POINTER, FRAME_POINTER, 16),
+        imm(ImmOp::Ld, FRAME_POINTER, FRAME_POINTER, 0),
+        imm(ImmOp::Jalr, ZERO, LINK, 0),
     ]
 }
 
@@ -130,28 +143,28 @@ fn put_idle(count: u32, items: &mut Items<Item>)
     ensures { items.new ≡ items.old ++ ones (idle count) }
 {
     if count > 0 {
-        items.one(imm(ImmOp::Addi, 0, 0, 0));
+        items.one(imm(ImmOp::Addi, ZERO, ZERO, 0));
         put_idle(count - 1, items);
     }
 }
 
-// How many of them lead from an address to a multiple of an alignment.
-fn padding(at: u32, alignment: u32) -> u32
+// How many of them lead from a place to a multiple of an alignment.
+fn padding(place: u32, alignment: u32) -> u32
     requires { is_alignment alignment ≡ true }
-    ensures value { result ≡ padding at alignment }
+    ensures value { result ≡ padding place alignment }
     ensures few { result ≤ 16 }
 {
-    (alignment - at % alignment) % alignment / 4
+    (alignment - place % alignment) % alignment / 4
 }
 
 // Appends the items of `.align` to none.
-fn put_align(at: u32, operands: &[Operand], items: &mut Items<Item>)
+fn put_align(place: u32, operands: &[Operand], items: &mut Items<Item>)
     requires empty { items.old ≡ [] }
     requires formed { admit (form.Alignment ∷ []) operands.now ≡ true }
-    ensures { items.new ≡ align_items at operands.now }
+    ensures { items.new ≡ align_items place operands.now }
 {
     match operands {
-        [Operand::Number(alignment)] => put_idle(padding(at, *alignment as u32), items),
+        [Operand::Number(alignment)] => put_idle(padding(place, *alignment as u32), items),
         _ => {}
     }
 }
@@ -161,19 +174,19 @@ pub(crate) fn put_plain(
     op: PlainOp,
     operands: &[Operand],
     frame: u32,
-    at: u32,
+    place: u32,
     items: &mut Items<Item>,
 )
     requires empty { items.old ≡ [] }
     requires formed { admit (plain_forms op) operands.now ≡ true }
     requires some { 0 < frame }
     requires small { frame < 0x4000_0000 }
-    ensures { items.new ≡ plain_items op operands.now frame at }
+    ensures { items.new ≡ plain_items op operands.now frame place }
 {
     match op {
         PlainOp::Prolog => put_prolog(frame, items),
         PlainOp::Epilog | PlainOp::Ret => put_return(items),
-        PlainOp::Align => put_align(at, operands, items),
+        PlainOp::Align => put_align(place, operands, items),
         _ => {}
     }
 }

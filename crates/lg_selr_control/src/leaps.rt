@@ -11,7 +11,7 @@ use lg_base::host_name::HostName;
 use lg_op::{ControlOp, Label, LastOperand, Operand};
 use lg_rv::{ImmOp, Instr, UpperOp};
 use lg_sel_items::{Items, Reach};
-use lg_selr_items::{Item, high_part, imm, low_part, register_of};
+use lg_selr_items::{CARRY, Item, LINK, ZERO, high_part, imm, low_part, register_of};
 
 // The call of a host function: the address of its entry goes into the link, and the jump there links.
 fn host_code(name: HostName) -> [Instr; 2]
@@ -20,10 +20,10 @@ fn host_code(name: HostName) -> [Instr; 2]
     let entry = name.address();
     let lui = Instr::Upper {
         op: UpperOp::Lui,
-        rd: 1,
+        rd: LINK,
         imm: high_part(entry),
     };
-    [lui, imm(ImmOp::Jalr, 1, 1, low_part(entry))]
+    [lui, imm(ImmOp::Jalr, LINK, LINK, low_part(entry))]
 }
 
 // Appends a jump to a label to none, which puts the address behind it into rd, by way of base where it is far.
@@ -44,7 +44,7 @@ fn put_jump(reach: Reach, operands: &[Operand], items: &mut Items<Item>)
     ensures { items.new ≡ jump_items reach operands.now }
 {
     match operands {
-        [Operand::Label(label)] => put_label(reach, 0, 31, *label, items),
+        [Operand::Label(label)] => put_label(reach, ZERO, CARRY, *label, items),
         _ => {}
     }
 }
@@ -55,7 +55,7 @@ fn put_call(reach: Reach, operands: &[Operand], items: &mut Items<Item>)
     ensures { items.new ≡ call_items reach operands.now }
 {
     match operands {
-        [Operand::Label(label)] => put_label(reach, 1, 1, *label, items),
+        [Operand::Label(label)] => put_label(reach, LINK, LINK, *label, items),
         [Operand::Host(name)] => items.all(&host_code(*name)),
         _ => {}
     }
@@ -115,12 +115,12 @@ pub(crate) fn put_leap(
 {
     match (op, last) {
         (ControlOp::Jmp, LastOperand::Immediate) => put_jump(reach, operands, items),
-        (ControlOp::Jmp, LastOperand::Register) => put_register_leap(0, operands, items),
+        (ControlOp::Jmp, LastOperand::Register) => put_register_leap(ZERO, operands, items),
         (ControlOp::Call | ControlOp::Finish, LastOperand::Immediate) => {
             put_call(reach, operands, items)
         }
         (ControlOp::Call | ControlOp::Finish, LastOperand::Register) => {
-            put_register_leap(1, operands, items)
+            put_register_leap(LINK, operands, items)
         }
         (ControlOp::Ret, _) => put_ret(operands, items),
         _ => {}

@@ -10,18 +10,18 @@ use crate::operands::{put_second, second_register};
 use lg_op::{BranchSumOp, Operand};
 use lg_rv::{BranchOp, ImmOp, Instr, RegOp};
 use lg_sel_items::{Items, Reach};
-use lg_selr_items::{Item, imm, register_of, row};
+use lg_selr_items::{CARRY, Item, LINK, ZERO, imm, register_of, row};
 
 // Adds, and x31 tells whether the signed sum does not fit.
 fn signed_sum(a: u8, b: u8) -> [Instr; 5]
     ensures { result ≡ signed_sum_code a b }
 {
     [
-        imm(ImmOp::Slti, 31, b, 0),
-        row(RegOp::Add, 1, a, b),
-        row(RegOp::Slt, a, 1, a),
-        row(RegOp::Xor, 31, 31, a),
-        imm(ImmOp::Addi, a, 1, 0),
+        imm(ImmOp::Slti, CARRY, b, 0),
+        row(RegOp::Add, LINK, a, b),
+        row(RegOp::Slt, a, LINK, a),
+        row(RegOp::Xor, CARRY, CARRY, a),
+        imm(ImmOp::Addi, a, LINK, 0),
     ]
 }
 
@@ -30,11 +30,11 @@ fn signed_difference(a: u8, b: u8) -> [Instr; 5]
     ensures { result ≡ signed_difference_code a b }
 {
     [
-        row(RegOp::Slt, 31, a, b),
-        row(RegOp::Sub, 1, a, b),
-        imm(ImmOp::Slti, a, 1, 0),
-        row(RegOp::Xor, 31, 31, a),
-        imm(ImmOp::Addi, a, 1, 0),
+        row(RegOp::Slt, CARRY, a, b),
+        row(RegOp::Sub, LINK, a, b),
+        imm(ImmOp::Slti, a, LINK, 0),
+        row(RegOp::Xor, CARRY, CARRY, a),
+        imm(ImmOp::Addi, a, LINK, 0),
     ]
 }
 
@@ -43,9 +43,9 @@ fn unsigned_sum(a: u8, b: u8) -> [Instr; 3]
     ensures { result ≡ unsigned_sum_code a b }
 {
     [
-        row(RegOp::Add, 1, a, b),
-        row(RegOp::Sltu, 31, 1, a),
-        imm(ImmOp::Addi, a, 1, 0),
+        row(RegOp::Add, LINK, a, b),
+        row(RegOp::Sltu, CARRY, LINK, a),
+        imm(ImmOp::Addi, a, LINK, 0),
     ]
 }
 
@@ -53,7 +53,7 @@ fn unsigned_sum(a: u8, b: u8) -> [Instr; 3]
 fn unsigned_difference(a: u8, b: u8) -> [Instr; 2]
     ensures { result ≡ unsigned_difference_code a b }
 {
-    [row(RegOp::Sltu, 31, a, b), row(RegOp::Sub, a, a, b)]
+    [row(RegOp::Sltu, CARRY, a, b), row(RegOp::Sub, a, a, b)]
 }
 
 // Appends the sum or the difference of a branch.
@@ -101,7 +101,7 @@ pub(crate) fn put_sum_branch(
             let b = second_register(*second);
             put_second(*second, items);
             put_sum(op, a, b, items);
-            put_jump_unless(reach, staying(op), 31, 0, *label, items);
+            put_jump_unless(reach, staying(op), CARRY, ZERO, *label, items);
         }
         _ => {}
     }

@@ -5,7 +5,11 @@
 mod emission;
 mod items;
 pub mod laws;
+mod numbers;
 mod rows;
 
-pub use items::{Item, high_part, is_short, low_part, put_number};
-pub use rows::{branch, imm, register_of, row, shift, upper};
+pub use items::Item;
+pub use numbers::{high_part, is_short, low_part, put_number};
+pub use rows::{
+    CARRY, FRAME_POINTER, LINK, STACK_POINTER, ZERO, branch, imm, register_of, row, shift, upper,
+};

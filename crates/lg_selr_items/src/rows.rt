@@ -9,6 +9,21 @@ use lg_op::Reg;
 use lg_rv::{BranchOp, ImmOp, Instr, RegOp, ShiftOp, UpperOp};
 use lg_temp::abi::Abi;
 
+/// x0, which reads as 0 and is not written.
+pub const ZERO: u8 = 0;
+
+/// The link, x1, which holds nothing that is needed behind a `prolog`.
+pub const LINK: u8 = 1;
+
+/// The stack pointer, x2.
+pub const STACK_POINTER: u8 = 2;
+
+/// FP, x8.
+pub const FRAME_POINTER: u8 = 8;
+
+/// The carry, x31: 0 or 1 where it is needed, and else any word.
+pub const CARRY: u8 = 31;
+
 /// `rd` gets what the row makes of two registers.
 pub fn row(op: RegOp, rd: u8, rs1: u8, rs2: u8) -> Instr
     ensures { result ≡ Instr.Reg op rd rs1 rs2 }

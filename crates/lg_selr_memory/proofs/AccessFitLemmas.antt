@@ -1,9 +1,8 @@
 -- The items of loads and stores: their numbers are in range, the next one follows each, and they write no register outside of the conventions.
-use Rattle.std.proofs.Common.{◌≡◌, ℕ, zero, suc, ◌+◌, ◌-◌, ◌<◌, ◌≤◌, ◌⊎◌, inl, inr, Bool, true, false, List, [], ◌∷◌, ◌++◌, length, refl, arith}
+use Rattle.std.proofs.Common.{◌≡◌, ℕ, zero, suc, ◌+◌, ◌-◌, ◌<◌, ◌≤◌, ◌⊎◌, inl, inr, Bool, true, false, List, [], ◌∷◌, ◌++◌, refl, arith}
 use Rattle.std.specs.Prelude.{ℤ, pos, negsuc, ◌≤ℤ◌, ◌==◌, if◌then◌else◌}
 use Rattle.std.proofs.lemmas.Int.{ints}
 use Rattle.lg_base.specs.declared.target.Target.TheVariants.{Riscv64}
-use Rattle.lg_carry.specs.Blocks.{IsBlock}
 use Rattle.lg_carry_rv.specs.Numbers.{is_short, low_part, number_code}
 use Rattle.lg_carry_rv.specs.RvRows.{is_straight}
 use Rattle.lg_carry_rv.proofs.NumberCodeLemmas.{low-small}
@@ -25,13 +24,13 @@ use Rattle.lg_rv.specs.declared.instruction.StoreOp.TheVariants as row
 use Rattle.lg_sel_memory.specs.Accesses.{Address, Base, At, Sum, Index, address_of}
 use Rattle.lg_sel_memory.specs.Operands.{named}
 use Rattle.lg_selr_items.specs.GoodItems.{Fine, AreGood}
-use Rattle.lg_selr_items.specs.Items.{settled, AreItems, NameLabels, StayWithin, ones}
-use Rattle.lg_selr_items.specs.declared.items.Item.{Item}
+use Rattle.lg_selr_items.specs.Items.{NameLabels, ones}
 use Rattle.lg_selr_items.proofs.GoodLemmas.{good-append, link-fine, number-good, ones-good, good-items-are-appendable}
 use Rattle.lg_selr_items.proofs.ItemLemmas.{names-ones}
 use Rattle.lg_selr_items.proofs.WithinLemmas.{portable}
 use Rattle.lg_selr_memory.specs.Accesses.{link, Place, at_link, indexed, place_of, high_row, lower_bytes, higher_bytes, load_at, store_at, access_needs, load_code, store_code, load_items, store_items}
-use Rattle.lg_selr_values.specs.ValueItems.{HaveSlots, saved_items, first_taken}
+use Rattle.lg_selr_memory.specs.MemoryFits.{AreAccessItems}
+use Rattle.lg_selr_values.specs.ValueItems.{saved_items, first_taken}
 use Rattle.lg_selr_values.proofs.ValueFitLemmas.{saved-names, temporary-good}
 use Rattle.lg_temp.specs.Abis.{register_of}
 use Rattle.lg_temp.specs.Choices.{AreFor}
@@ -146,13 +145,6 @@ store-good t at n u g =
     good-append p.code (store_at t (register_of Riscv64 b) u p.base p.offset) k.code (store-at-good t (register_of Riscv64 b) u p (register-small b) g k)
 
 -- ---- the items, with choices for the needs of the access
-pub record AreFitItems (choices : List Choice) (items : List Item) : Type 0 where
-  pub few : length choices ≤ 1
-  pub slots : HaveSlots choices
-  pub fit : AreItems items
-  pub within : StayWithin items
-  pub block : (to : ℕ → ℕ) (at : ℕ) → IsBlock is_straight (settled to at items)
-
 needs-are : (bytes : ℕ) → (access_needs bytes ≡ []) ⊎ (access_needs bytes ≡ Any ∷ [])
 needs-are bytes = by (bytes == 1)
   where
@@ -161,18 +153,17 @@ needs-are bytes = by (bytes == 1)
     by false = inr refl
 
 items-fit : (n : Node) (bytes : ℕ) (code : ℕ → List Instr) → ((u : ℕ) → Fine u → AreGood (code u)) → (live : Reg → Bool) (staged : List Bool) (choices : List Choice)
-    → AreFor (around Riscv64 n live staged) (access_needs bytes) [] (access_needs bytes) choices → AreFitItems choices (saved_items choices (ones (code (first_taken choices))))
+    → AreFor (around Riscv64 n live staged) (access_needs bytes) [] (access_needs bytes) choices → AreAccessItems choices (saved_items choices (ones (code (first_taken choices))))
 items-fit n bytes code good live staged choices are =
     let m = temporary-good (around Riscv64 n live staged) refl (λ u. ones (code u)) (λ u g. ones-good (code u) (good u g)) (access_needs bytes) choices (needs-are bytes) are in
-    let a = good-items-are-appendable (saved_items choices (ones (code (first_taken choices)))) m.good in
-    record { few = m.few; slots = m.slots; fit = a.fit; within = a.within; block = a.block }
+    record { few = m.few; slots = m.slots; appendable = good-items-are-appendable (saved_items choices (ones (code (first_taken choices)))) m.good }
 
 pub load-items-fit : (t : ValueType) (at : Addressing) (n : Node) (live : Reg → Bool) (staged : List Bool) (choices : List Choice) → AreFor (around Riscv64 n live staged) (access_needs (width t)) [] (access_needs (width t)) choices
-    → AreFitItems choices (load_items t at n choices)
+    → AreAccessItems choices (load_items t at n choices)
 load-items-fit t at n live staged choices are = items-fit n (width t) (load_code t at n) (load-good t at n) live staged choices are
 
 pub store-items-fit : (t : StoreType) (at : Addressing) (n : Node) (live : Reg → Bool) (staged : List Bool) (choices : List Choice) → AreFor (around Riscv64 n live staged) (access_needs (store_width t)) [] (access_needs (store_width t)) choices
-    → AreFitItems choices (store_items t at n choices)
+    → AreAccessItems choices (store_items t at n choices)
 store-items-fit t at n live staged choices are = items-fit n (store_width t) (store_code t at n) (store-good t at n) live staged choices are
 
 -- they name no label

@@ -1,55 +1,27 @@
--- No item of a load, a store or an argument writes a register that is outside of the conventions.
-use Rattle.std.proofs.Common.{ℕ, zero, suc, Bool, true, false, [], ◌∷◌, ◌++◌, refl}
+-- The items of loads, stores and arguments write no register that is outside of the conventions, and name no label but that of an operand.
+use Rattle.std.proofs.Common.{◌≡◌, ◌<◌, ℕ, Bool, true, false, [], ◌∷◌, ◌++◌, refl}
 use Rattle.std.specs.Prelude.{nat_lt, slice_index, if◌then◌else◌}
 use Rattle.lg_base.specs.Conventions.{argument_registers}
 use Rattle.lg_base.specs.HostNames.{host_address}
 use Rattle.lg_base.specs.declared.target.Target.TheVariants.{Riscv64}
 use Rattle.lg_carry_rv.specs.Numbers.{number_code}
-use Rattle.lg_meaning.specs.Steps.{operand_at, slot}
+use Rattle.lg_meaning.specs.Steps.{operand_at}
 use Rattle.lg_op.specs.declared.node.Node.{Node}
-use Rattle.lg_op.specs.declared.op.ValueType.{ValueType}
+use Rattle.lg_op.specs.declared.operand.Label.{Label}
 use Rattle.lg_op.specs.declared.operand.Operand.{Operand}
 use Rattle.lg_op.specs.declared.operand.Operand.TheVariants as operand
-use Rattle.lg_rv.specs.declared.instruction.Instr.TheVariants as instr
-use Rattle.lg_selr_items.specs.Items.{StayWithin}
-use Rattle.lg_selr_memory.specs.Accesses.{link, place_of, indexed, at_link, load_code, store_code}
-use Rattle.lg_sel_memory.specs.Operands.{named}
-use Rattle.lg_selr_memory.specs.Accesses as accesses
-use Rattle.lg_selr_memory.specs.ArgumentCode.{argument_offset, argument_code}
+use Rattle.lg_selr_items.specs.Items.{NameLabels, StayWithin}
+use Rattle.lg_selr_items.proofs.ItemLemmas.{names-append, names-ones}
+use Rattle.lg_selr_memory.specs.Accesses.{link}
+use Rattle.lg_selr_memory.specs.ArgumentCode.{argument_code}
 use Rattle.lg_selr_memory.specs.PushCode.{into, stack_push, onto_stack, push_code}
 use Rattle.lg_selr_memory.specs.VariableArgumentCode.{next_argument_code}
-use Rattle.lg_selr_items.proofs.WithinLemmas.{In, portable, Within, stay-append, stay-ones, number}
-use Rattle.lg_selr_memory.specs.MemoryFits.{MemoryItemsStay}
-use Rattle.lg_selr_memory.proofs.AccessFitLemmas.{load-items-fit, store-items-fit}
+use Rattle.lg_selr_items.proofs.WithinLemmas.{In, stay-append, stay-ones, number}
+use Rattle.lg_selr_memory.specs.MemoryFits.{MemoryItemsName, MemoryItemsStay}
+use Rattle.lg_selr_memory.proofs.AccessFitLemmas.{load-items-fit, store-items-fit, load-items-name, store-items-name}
+use Rattle.lg_selr_memory.proofs.FitLemmas.{argument-fine, memory-items-fit}
 
-accessed : (x : Operand) → In (accesses.register x)
-accessed x = portable (named x)
-
-argument : (j : ℕ) → In (slice_index (argument_registers Riscv64) j)
-argument zero = refl
-argument (suc zero) = refl
-argument (suc (suc zero)) = refl
-argument (suc (suc (suc zero))) = refl
-argument (suc (suc (suc (suc zero)))) = refl
-argument (suc (suc (suc (suc (suc zero))))) = refl
-argument (suc (suc (suc (suc (suc (suc zero)))))) = refl
-argument (suc (suc (suc (suc (suc (suc (suc zero))))))) = refl
-argument (suc (suc (suc (suc (suc (suc (suc (suc j)))))))) = refl
-
--- ---- arguments
-arguments : (t : ValueType) (n : Node) → Within (argument_code t n)
-arguments t n = by (nat_lt (slot (operand_at n 1)) 16)
-  where
-    by : (b : Bool) → Within (if b then instr.Imm (accesses.load_row t) (accesses.register (operand_at n 0)) 8 (argument_offset (slot (operand_at n 1))) ∷ [] else [])
-    by true = (accessed (operand_at n 0), tt)
-    by false = tt
-
-next-arguments : (n : Node) → Within (next_argument_code n)
-next-arguments n =
-    let d = accessed (operand_at n 0) in
-    let s = accessed (operand_at n 1) in
-    (refl, (refl, (refl, (d, (d, (d, (d, (s, tt))))))))
-
+-- ---- registers
 puts : (rd : ℕ) (x : Operand) → In rd → StayWithin (into rd x)
 puts rd (operand.Reg r) h = (h, tt)
 puts rd (operand.Number v) h = stay-ones (number_code rd v) (number rd v h)
@@ -71,14 +43,49 @@ pushes : (j : ℕ) (n : Node) → StayWithin (push_code j n)
 pushes j n = by (nat_lt j 8)
   where
     by : (b : Bool) → StayWithin (if b then into (slice_index (argument_registers Riscv64) j) (operand_at n 0) else onto_stack j (operand_at n 0))
-    by true = puts (slice_index (argument_registers Riscv64) j) (operand_at n 0) (argument j)
+    by true = puts (slice_index (argument_registers Riscv64) j) (operand_at n 0) (argument-fine j).1
     by false = stacked j (operand_at n 0)
 
 pub memory-items-stay : MemoryItemsStay
 memory-items-stay = record {
-  loads = λ t at n live staged choices are. (load-items-fit t at n live staged choices are).within;
-  stores = λ t at n live staged choices are. (store-items-fit t at n live staged choices are).within;
-  arguments = λ t n. stay-ones (argument_code t n) (arguments t n);
-  next_arguments = λ n. stay-ones (next_argument_code n) (next-arguments n);
+  loads = λ t at n live staged choices are. (load-items-fit t at n live staged choices are).appendable.within;
+  stores = λ t at n live staged choices are. (store-items-fit t at n live staged choices are).appendable.within;
+  arguments = λ t n. (memory-items-fit.arguments t n).appendable.within;
+  next_arguments = λ n. (memory-items-fit.next_arguments n).appendable.within;
   pushes = pushes;
+}
+
+-- ---- labels
+module _ (labels : ℕ) where
+  names : (rd : ℕ) (x : Operand) → ((l : Label) → x ≡ operand.Label l → l.0 < labels) → NameLabels labels (into rd x)
+  names rd (operand.Reg r) h = (tt, tt)
+  names rd (operand.Number v) h = names-ones labels (number_code rd v)
+  names rd (operand.Host name) h = names-ones labels (number_code rd (host_address name))
+  names rd (operand.Label l) h = (h l refl, tt)
+  names rd (operand.Slot k) h = tt
+
+  linked : (j : ℕ) (x : Operand) → ((l : Label) → x ≡ operand.Label l → l.0 < labels) → NameLabels labels (into link x ++ stack_push j link ∷ [])
+  linked j x h = names-append labels (into link x) (stack_push j link ∷ []) (names link x h) (tt, tt)
+
+  onto : (j : ℕ) (x : Operand) → ((l : Label) → x ≡ operand.Label l → l.0 < labels) → NameLabels labels (onto_stack j x)
+  onto j (operand.Reg r) h = (tt, tt)
+  onto j (operand.Number v) h = linked j (operand.Number v) h
+  onto j (operand.Host name) h = linked j (operand.Host name) h
+  onto j (operand.Label l) h = linked j (operand.Label l) h
+  onto j (operand.Slot k) h = linked j (operand.Slot k) h
+
+  passes : (j : ℕ) (n : Node) → ((l : Label) → operand_at n 0 ≡ operand.Label l → l.0 < labels) → NameLabels labels (push_code j n)
+  passes j n h = by (nat_lt j 8)
+    where
+      by : (b : Bool) → NameLabels labels (if b then into (slice_index (argument_registers Riscv64) j) (operand_at n 0) else onto_stack j (operand_at n 0))
+      by true = names (slice_index (argument_registers Riscv64) j) (operand_at n 0) h
+      by false = onto j (operand_at n 0) h
+
+pub memory-items-name : MemoryItemsName
+memory-items-name = record {
+  loads = load-items-name;
+  stores = store-items-name;
+  arguments = λ labels t n. names-ones labels (argument_code t n);
+  next_arguments = λ labels n. names-ones labels (next_argument_code n);
+  pushes = passes;
 }

@@ -12,12 +12,9 @@ use lg_operators::operators::{store_width, width};
 use lg_rv::{ImmOp, Instr, RegOp, ShiftOp, StoreOp};
 use lg_sel_items::Items;
 use lg_sel_memory::operands::{number, operand};
-use lg_selr_items::{Item, imm, is_short, low_part, put_number, row, shift};
+use lg_selr_items::{Item, LINK, imm, is_short, low_part, put_number, row, shift};
 use lg_selr_values::{restore, save};
 use lg_temp::choice::{Choice, Choices};
-
-// The link holds nothing that is needed behind a `prolog`.
-const LINK: u8 = 1;
 
 // Where an access is: a register, and an offset from it of 12 bits.
 #[derive(Clone, Copy)]
@@ -211,10 +208,10 @@ fn store_code(t: StoreType, at: Addressing, node: &Node, u: u8, items: &mut Item
 /// Appends the code of a load to no items: 1 to 34 instructions. The operands are those of the load's row in the instruction table. There is
 /// a choice at most, and one where the load reads several bytes.
 pub fn put_load(
-    t: ValueType,
-    at: Addressing,
     node: &Node,
     choices: &Choices,
+    t: ValueType,
+    at: Addressing,
     items: &mut Items<Item>,
 )
     requires few { length choices.now ≤ 1 }
@@ -236,10 +233,10 @@ pub fn put_load(
 /// Appends the code of a store to no items: 1 to 27 instructions. The operands are those of the store's row in the instruction table. There is
 /// a choice at most, and one where the store writes several bytes.
 pub fn put_store(
-    t: StoreType,
-    at: Addressing,
     node: &Node,
     choices: &Choices,
+    t: StoreType,
+    at: Addressing,
     items: &mut Items<Item>,
 )
     requires few { length choices.now ≤ 1 }

@@ -15,13 +15,9 @@ use lg_op::{Node, Operand, ValueType};
 use lg_rv::{ImmOp, Instr, RegOp, ShiftOp, StoreOp};
 use lg_sel_items::Items;
 use lg_sel_memory::operands::{operand, slot};
-use lg_selr_items::{Item, imm, put_number, register_of, row, shift};
-
-// The link holds nothing that is needed behind a `prolog`.
-const LINK: u8 = 1;
-
-// The register of FP.
-const FP: u8 = 8;
+use lg_selr_items::{
+    FRAME_POINTER, Item, LINK, STACK_POINTER, imm, put_number, register_of, row, shift,
+};
 
 // The word of an operand into a register.
 fn put_into(rd: u8, operand: Operand, items: &mut Items<Item>)
@@ -47,7 +43,7 @@ fn stack_push(index: u32, register: u8) -> Instr
 {
     Instr::Store {
         op: StoreOp::Sd,
-        rs1: 2,
+        rs1: STACK_POINTER,
         rs2: register,
         imm: 8 * index.saturating_sub(8) as i32,
     }
@@ -69,7 +65,7 @@ fn put_onto_stack(index: u32, operand: Operand, items: &mut Items<Item>)
 
 /// Appends the code of a node that passes an argument to no items: 1 to 9 instructions. The argument's number counts from 0, and is
 /// below 16.
-pub fn put_argument(index: u32, node: &Node, items: &mut Items<Item>)
+pub fn put_argument(node: &Node, index: u32, items: &mut Items<Item>)
     requires few { index < 16 }
     requires empty { items.old ≡ [] }
     ensures { items.new ≡ push_code index node.now }
@@ -96,14 +92,14 @@ fn argument_offset(index: u32) -> i32
 
 /// Appends the code of a node that reads an argument of its function to no items: one instruction, or none where no function has so
 /// many arguments.
-pub fn put_getarg(t: ValueType, node: &Node, items: &mut Items<Item>)
+pub fn put_getarg(node: &Node, t: ValueType, items: &mut Items<Item>)
     requires { items.old ≡ [] }
     ensures { items.new ≡ ones (argument_code t node.now) }
 {
     let index = slot(operand(node, 1));
     if index < 16 {
         let rd = register(operand(node, 0));
-        items.one(imm(load_row(t), rd, FP, argument_offset(index)));
+        items.one(imm(load_row(t), rd, FRAME_POINTER, argument_offset(index)));
     }
 }
 
@@ -121,7 +117,7 @@ pub fn put_next_argument(node: &Node, items: &mut Items<Item>)
         imm(ImmOp::Addi, LINK, LINK, -8),
         imm(ImmOp::Addi, rd, list, -1),
         row(RegOp::Mul, rd, rd, LINK),
-        row(RegOp::Add, rd, rd, FP),
+        row(RegOp::Add, rd, rd, FRAME_POINTER),
         imm(ImmOp::Ld, rd, rd, -40),
         imm(ImmOp::Addi, list, list, 1),
     ]);

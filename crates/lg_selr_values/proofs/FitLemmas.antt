@@ -24,7 +24,8 @@ use Rattle.lg_carry_rv.proofs.NumberCodeLemmas.{low-small}
 use Rattle.lg_carry_rv.proofs.RegisterLemmas.{register-small}
 use Rattle.lg_selr_values.specs.BinaryCode.{register_code, is_addend, loaded_code, addend_code, sum_code, number_form_code}
 use Rattle.lg_selr_values.specs.CarriedCode.{carried_code}
-use Rattle.lg_selr_values.specs.UnaryCode.{more_bytes_code, swapped_code, unary_code}
+use Rattle.lg_sel_values.specs.ValueNodes.{extension}
+use Rattle.lg_selr_values.specs.UnaryCode.{more_bytes_code, swapped_code, unary_code, retval_code}
 use Rattle.lg_selr_values.specs.WideCode.{wide_code}
 use Rattle.lg_selr_values.specs.ValueItems.{load_items, binary_items, second_items, carried_items, wide_items, operation_items, register_for, register_in, operand_in, body_items}
 use Rattle.lg_carry_rv.specs.Numbers.{low_part, number_code}
@@ -206,4 +207,5 @@ body-good (op.Unary o) xs u h = ones-good (unary_code o (register_in xs 0) (regi
 body-good (op.Plain plain.Movi) xs u h = load-good (register_in xs 0) (operand_in xs 1) (fine-at xs 0)
 body-good (op.Plain plain.VaStart) xs u h = load-good (register_in xs 0) (operand_in xs 1) (fine-at xs 0)
 body-good (op.Plain o) xs u h = tt
+body-good (op.Retval t) xs u h = ones-good (retval_code t (register_in xs 0)) (unary-good (extension t) (register_in xs 0) 10 (fine-at xs 0) (omega arith))
 body-good o xs u h = tt

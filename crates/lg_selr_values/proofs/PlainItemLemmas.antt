@@ -9,6 +9,7 @@ use Rattle.lg_op.specs.declared.op.BinaryOp.{BinaryOp}
 use Rattle.lg_op.specs.declared.op.BinaryOp.TheVariants as binary
 use Rattle.lg_op.specs.declared.op.WideOp.{WideOp}
 use Rattle.lg_op.specs.declared.op.UnaryOp.{UnaryOp}
+use Rattle.lg_op.specs.declared.op.ValueType.{ValueType}
 use Rattle.lg_op.specs.declared.op.LastOperand.{LastOperand}
 use Rattle.lg_op.specs.declared.op.LastOperand.TheVariants as last_operand
 use Rattle.lg_op.specs.declared.operand.Reg.{Reg}
@@ -22,14 +23,14 @@ use Rattle.lg_carry_rv.specs.Numbers.{number_code}
 use Rattle.lg_carry_rv.proofs.RegisterLemmas.{register-small, register-nonzero}
 use Rattle.lg_selr_items.specs.Items.{ones}
 use Rattle.lg_selr_values.specs.BinaryCode.{register_code, number_form_code}
-use Rattle.lg_selr_values.specs.UnaryCode.{unary_code}
+use Rattle.lg_selr_values.specs.UnaryCode.{unary_code, retval_code}
 use Rattle.lg_selr_values.specs.WideCode.{wide_code}
-use Rattle.lg_sel_values.specs.ValueNodes.{binary_node, wide_node, unary_node, movi_node, va_start_node}
+use Rattle.lg_sel_values.specs.ValueNodes.{binary_node, wide_node, unary_node, movi_node, va_start_node, retval_node}
 use Rattle.lg_selr_values.specs.ValueItems.{value_needs, load_items, binary_items, carried_items, wide_items}
 use Rattle.lg_selr_values.proofs.ImmediateLemmas.{is-load}
 use Rattle.lg_selr_values.proofs.BinaryNodeLemmas.{registers-compute, number-computed, loaded-computed}
 use Rattle.lg_selr_values.proofs.LoadCodeLemmas.{loads-number}
-use Rattle.lg_selr_values.proofs.UnaryNodeLemmas.{unary-node-computes, movi-computes, va-start-computes}
+use Rattle.lg_selr_values.proofs.UnaryNodeLemmas.{unary-node-computes, movi-computes, va-start-computes, retval-computes}
 use Rattle.lg_selr_values.proofs.WideNodeLemmas.{wide-registers, wide-loaded}
 use Rattle.lg_selr_values.proofs.SettledLemmas.{Settles, settles-ones, settles-append, IsCarried, carried-plain}
 
@@ -52,6 +53,12 @@ va-start-carried d k line named = carried-plain (va_start_node d k line) refl re
       settles = settles-ones (slice_index c.addresses) (number_code rd k);
       computes = va-start-computes c i d k line named t (number_code rd k) (loads-number rd k (register-nonzero d) (register-small d) words.1.0);
     })
+
+-- the result of a call
+pub retval-carried : (t : ValueType) (d : Reg) (line : ℕ) → d ≢ Fp → IsCarried (retval_node t d line)
+retval-carried t d line named = carried-plain (retval_node t d line) refl refl refl
+    (λ c i x words. let code = retval_code t (register_of Riscv64 d) in
+    record { body = code; settles = settles-ones (slice_index c.addresses) code; computes = retval-computes c i t d line named x })
 
 -- ---- two words
 no-needs : (o : BinaryOp) (last : LastOperand) → is_carried o ≡ false → value_needs (op.Binary o last) ≡ []

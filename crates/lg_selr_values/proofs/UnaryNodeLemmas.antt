@@ -3,6 +3,7 @@ use Rattle.std.proofs.Common.{◌≡◌, ◌≢◌, ℕ, true, [], ◌∷◌, Li
 use Rattle.lg_base.specs.declared.target.Target.TheVariants.{Riscv64}
 use Rattle.lg_op.specs.declared.op.UnaryOp.{UnaryOp}
 use Rattle.lg_op.specs.declared.op.UnaryOp.TheVariants as unary
+use Rattle.lg_op.specs.declared.op.ValueType.{ValueType}
 use Rattle.lg_op.specs.declared.operand.Reg.{Reg}
 use Rattle.lg_op.specs.declared.operand.Reg.TheVariants.{Fp}
 use Rattle.lg_op.specs.declared.operand.Operand.{Operand}
@@ -17,13 +18,14 @@ use Rattle.lg_carry_rv.specs.RvComputers.{rv_scratch, held_by, rv_computer, IsCo
 use Rattle.lg_carry_rv.proofs.ComputerLemmas.{held-at, into, carry-kept}
 use Rattle.lg_carry_rv.proofs.ComputationLemmas.{put-same, put-other}
 use Rattle.lg_carry_rv.proofs.RegisterLemmas.{register-apart, register-nonzero, read-of}
-use Rattle.lg_selr_values.specs.UnaryCode.{unary_code}
+use Rattle.lg_selr_values.specs.UnaryCode.{unary_code, retval_code}
 use Rattle.lg_sel_values.specs.Computers.{Held}
 use Rattle.lg_sel_values.specs.Computers as computer
 use Rattle.lg_sel_values.specs.Values.{ComputesInto}
-use Rattle.lg_sel_values.specs.ValueNodes.{unary_node, movi_node, va_start_node}
+use Rattle.lg_sel_values.specs.ValueNodes.{unary_node, movi_node, va_start_node, retval_node, extension}
+use Rattle.lg_sel_values.proofs.ValueNodeLemmas.{extends}
 use Rattle.lg_selr_values.proofs.UnaryCodeLemmas.{unary-computed, unary-keeps, unary-computes, unary-some}
-use Rattle.lg_sel_values.proofs.OneWordLemmas.{unary-nodes-compute, movi-nodes-compute, va-start-nodes-compute}
+use Rattle.lg_sel_values.proofs.OneWordLemmas.{unary-nodes-compute, movi-nodes-compute, va-start-nodes-compute, retval-nodes-compute}
 use Rattle.lg_selr_values.proofs.LoadCodeLemmas.{LoadsWord}
 
 -- ---- of a register; `movr` keeps the carry, and its code does
@@ -69,3 +71,17 @@ pub va-start-computes : (c : Code) (i : ℕ) (d : Reg) (k line : ℕ) → d ≢ 
     → (load : List Instr) → LoadsWord load (register_of Riscv64 d) k → IsComputed c i (va_start_node d k line) [] load
 va-start-computes c i d k line named t load l code trash =
     va-start-nodes-compute (rv_computer code trash) rv_scratch c i d k line [] load named t (loads-into code trash d k load l) (holds load (register_of Riscv64 d) k l)
+
+-- ---- the result of a call
+pub retval-computes : (c : Code) (i : ℕ) (t : ValueType) (d : Reg) (line : ℕ) → d ≢ Fp → IsInText c i (retval_node t d line)
+    → IsComputed c i (retval_node t d line) [] (retval_code t (register_of Riscv64 d))
+retval-computes c i t d line named x code trash =
+    let rd = register_of Riscv64 d in
+    let body = retval_code t rd in
+    retval-nodes-compute (rv_computer code trash) rv_scratch c i t d line [] body named x
+    (into code trash (d ∷ []) [] body record {
+      some = unary-some (extension t) rd 10;
+      computes = unary-computes (extension t) rd 10;
+      keeps = λ w r apart taken link carry. unary-keeps rd (register-nonzero d) (register-apart d).0 (register-apart d).1 (extension t) 10 w r apart.0 link carry;
+    })
+    (λ w words. held-at body w rd _ (unary-computed rd (register-nonzero d) (register-apart d).0 (register-apart d).1 (extension t) 10 w.registers words ∙ extends t (w.registers 10)))

@@ -1,6 +1,6 @@
 -- The items of a node that are emitted.
 use Rattle.std.proofs.Common.{◌≡◌, ℕ, zero, suc, ◌<◌, ◌⊎◌, inl, inr, Bool, true, false, List, [], ◌∷◌, ◌++◌, refl, sym, subst, arith, length, ◌≤◌}
-use Rattle.std.specs.Prelude.{◌==◌, ◌||◌, ⊤, if◌then◌else◌, negsuc, pos, ◌≤ℤ◌}
+use Rattle.std.specs.Prelude.{◌==◌, ◌||◌, ⊤, negsuc, pos, ◌≤ℤ◌, if◌then◌else◌}
 use Rattle.std.specs.List.{list_any}
 use Rattle.lg_base.specs.HostNames.{host_address}
 use Rattle.lg_base.specs.declared.target.Target.TheVariants.{Riscv64}
@@ -29,7 +29,7 @@ use Rattle.lg_selr_items.specs.Items.{words_in, ones, NameLabels}
 use Rattle.lg_selr_items.proofs.ItemLemmas.{names-append, names-ones}
 use Rattle.lg_selr_values.specs.BinaryCode.{register_code, number_form_code}
 use Rattle.lg_selr_values.specs.CarriedCode.{carried_code}
-use Rattle.lg_selr_values.specs.UnaryCode.{unary_code}
+use Rattle.lg_selr_values.specs.UnaryCode.{unary_code, retval_code}
 use Rattle.lg_selr_values.specs.WideCode.{wide_code}
 use Rattle.lg_selr_values.specs.ValueItems.{value_needs, first_taken, load_items, binary_items, second_items, carried_items, wide_items, operation_items, operand_in, register_in, body_items, saved_items, value_items, HaveSlots}
 use Rattle.lg_sel_nodes.specs.Operands.{NamesBelow, NameBelow}
@@ -185,6 +185,7 @@ body-names labels (op.Unary o) xs u h = names-ones labels (unary_code o (registe
 body-names labels (op.Plain plain.Movi) xs u h = load-names labels (register_in xs 0) (operand_in xs 1) (operand-below labels xs 1 h)
 body-names labels (op.Plain plain.VaStart) xs u h = load-names labels (register_in xs 0) (operand_in xs 1) (operand-below labels xs 1 h)
 body-names labels (op.Plain o) xs u h = tt
+body-names labels (op.Retval t) xs u h = names-ones labels (retval_code t (register_in xs 0))
 body-names labels o xs u h = tt
 
 pub saved-names : (labels : ℕ) (choices : List Choice) (body : List Item) → NameLabels labels body → NameLabels labels (saved_items choices body)

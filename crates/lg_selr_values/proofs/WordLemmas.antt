@@ -28,7 +28,8 @@ use Rattle.lg_selr_items.specs.Items.{words_in, ones}
 use Rattle.lg_selr_items.proofs.ItemLemmas.{words_append, words-ones}
 use Rattle.lg_selr_values.specs.BinaryCode.{register_code, is_addend, loaded_code, addend_code, sum_code, number_form_code}
 use Rattle.lg_selr_values.specs.CarriedCode.{carried_code}
-use Rattle.lg_selr_values.specs.UnaryCode.{unary_code}
+use Rattle.lg_sel_values.specs.ValueNodes.{extension}
+use Rattle.lg_selr_values.specs.UnaryCode.{unary_code, retval_code}
 use Rattle.lg_selr_values.specs.WideCode.{wide_code}
 use Rattle.lg_selr_values.specs.ValueItems.{load_items, binary_items, second_items, carried_items, wide_items, operation_items, register_in, operand_in, body_items, saved_items}
 use Rattle.lg_selr_values.proofs.EmissionLemmas.{number_few, load_words, second_words}
@@ -113,6 +114,7 @@ body_few (op.Unary o) xs u = ones-few (unary_code o (register_in xs 0) (register
 body_few (op.Plain plain.Movi) xs u = let h = load-few (register_in xs 0) (operand_in xs 1) in omega (arith, h)
 body_few (op.Plain plain.VaStart) xs u = let h = load-few (register_in xs 0) (operand_in xs 1) in omega (arith, h)
 body_few (op.Plain o) xs u = omega arith
+body_few (op.Retval t) xs u = ones-few (retval_code t (register_in xs 0)) 30 (unary-few (extension t) (register_in xs 0) 10)
 body_few o xs u = omega arith
 
 -- a save and a restore for each choice at most

@@ -1,7 +1,11 @@
--- The code of the operations on one register.
+-- The code of the operations on one register, and of `retval`.
 use Rattle.std.specs.Prelude.{ℕ, zero, suc, pos, negsuc, List, [], ◌∷◌}
+use Rattle.lg_base.specs.Conventions.{result_register}
+use Rattle.lg_base.specs.declared.target.Target.TheVariants.{Riscv64}
 use Rattle.lg_op.specs.declared.op.UnaryOp.{UnaryOp}
 use Rattle.lg_op.specs.declared.op.UnaryOp.TheVariants as unary
+use Rattle.lg_op.specs.declared.op.ValueType.{ValueType}
+use Rattle.lg_sel_values.specs.ValueNodes.{extension}
 use Rattle.lg_rv.specs.declared.instruction.Instr.{Instr}
 use Rattle.lg_rv.specs.declared.instruction.Instr.TheVariants.{Imm, Shift, Reg}
 use Rattle.lg_rv.specs.declared.instruction.ImmOp.TheVariants.{Addi, Xori, Andi, Addiw}
@@ -31,3 +35,7 @@ unary_code unary.ExtrUi d a = Shift Slli d a 32 ∷ Shift Srli d d 32 ∷ []
 unary_code unary.HtonrUs d a = swapped_code d a 1
 unary_code unary.HtonrUi d a = swapped_code d a 3
 unary_code unary.HtonrUl d a = swapped_code d a 7
+
+-- d = the result of a call, extended by its type
+abbrev pub retval_code : ValueType → ℕ → List Instr
+retval_code t d = unary_code (extension t) d (result_register Riscv64)

@@ -1,5 +1,5 @@
 -- The items of the nodes that compute values.
-use Rattle.std.specs.Prelude.{ℕ, Bool, true, false, if◌then◌else◌, pos, List, [], ◌∷◌, ◌++◌, slice_index_or, ◌<◌, ⊤}
+use Rattle.std.specs.Prelude.{ℕ, pos, List, [], ◌∷◌, ◌++◌, slice_index_or, ◌<◌, ⊤, if◌then◌else◌}
 use Rattle.lg_base.specs.HostNames.{host_address}
 use Rattle.lg_base.specs.declared.target.Target.TheVariants.{Riscv64}
 use Rattle.lg_op.specs.declared.op.Op.{Op}
@@ -28,17 +28,8 @@ use Rattle.lg_selr_items.specs.declared.items.Item.TheVariants.{One, Address}
 use Rattle.lg_selr_items.specs.Items.{ones}
 use Rattle.lg_selr_values.specs.BinaryCode.{register_code, number_form_code}
 use Rattle.lg_selr_values.specs.CarriedCode.{carried_code}
-use Rattle.lg_selr_values.specs.UnaryCode.{unary_code}
+use Rattle.lg_selr_values.specs.UnaryCode.{unary_code, retval_code}
 use Rattle.lg_selr_values.specs.WideCode.{wide_code}
-
--- the operations whose nodes compute values
-abbrev pub computes_value : Op → Bool
-computes_value (op.Binary o last) = true
-computes_value (op.Wide o last) = true
-computes_value (op.Unary o) = true
-computes_value (op.Plain plain.Movi) = true
-computes_value (op.Plain plain.VaStart) = true
-computes_value o = false
 
 -- `addx` and `subx` need a temporary
 abbrev pub value_needs : Op → List Need
@@ -99,6 +90,7 @@ body_items (op.Wide o last) xs u = wide_items o (register_in xs 0) (register_in 
 body_items (op.Unary o) xs u = ones (unary_code o (register_in xs 0) (register_in xs 1))
 body_items (op.Plain plain.Movi) xs u = load_items (register_in xs 0) (operand_in xs 1)
 body_items (op.Plain plain.VaStart) xs u = load_items (register_in xs 0) (operand_in xs 1)
+body_items (op.Retval t) xs u = ones (retval_code t (register_in xs 0))
 body_items o xs u = []
 
 -- with each register that is saved

@@ -7,7 +7,7 @@ ghost use Rattle.lg_selr_values.specs.BinaryCode.{register_code, is_addend, load
 use lg_op::BinaryOp;
 use lg_rv::{ImmOp, RegOp, ShiftOp};
 use lg_sel_items::Items;
-use lg_selr_items::{Item, imm, low_part, put_number, row, shift};
+use lg_selr_items::{Item, LINK, ZERO, imm, low_part, put_number, row, shift};
 
 /// Appends the code of `d = a op b`, at most 2 instructions, for which there is room. Of an operation that sets the carry nothing is appended.
 pub fn register_code(op: BinaryOp, d: u8, a: u8, b: u8, items: &mut Items<Item>)
@@ -38,7 +38,7 @@ pub fn register_code(op: BinaryOp, d: u8, a: u8, b: u8, items: &mut Items<Item>)
         BinaryOp::Ge => items.all(&[row(RegOp::Slt, d, a, b), imm(ImmOp::Xori, d, d, 1)]),
         BinaryOp::GeU => items.all(&[row(RegOp::Sltu, d, a, b), imm(ImmOp::Xori, d, d, 1)]),
         BinaryOp::Eq => items.all(&[row(RegOp::Sub, d, a, b), imm(ImmOp::Sltiu, d, d, 1)]),
-        BinaryOp::Ne => items.all(&[row(RegOp::Sub, d, a, b), row(RegOp::Sltu, d, 0, d)]),
+        BinaryOp::Ne => items.all(&[row(RegOp::Sub, d, a, b), row(RegOp::Sltu, d, ZERO, d)]),
         BinaryOp::Addc | BinaryOp::Subc | BinaryOp::Addx | BinaryOp::Subx => {}
     }
 }
@@ -56,8 +56,8 @@ fn loaded_code(op: BinaryOp, d: u8, a: u8, value: u64, items: &mut Items<Item>)
     requires { words_in items.old + 10 ≤ 64 }
     ensures { items.new ≡ items.old ++ ones (loaded_code op d a value) }
 {
-    put_number(1, value, items);
-    register_code(op, d, a, 1, items);
+    put_number(LINK, value, items);
+    register_code(op, d, a, LINK, items);
 }
 
 // Appends the code of a sum or difference with a number that an instruction holds. There is room for 2 instructions.
@@ -69,7 +69,7 @@ fn addend_code(op: BinaryOp, d: u8, a: u8, value: u64, items: &mut Items<Item>)
         BinaryOp::Add => items.one(imm(ImmOp::Addi, d, a, low_part(value))),
         BinaryOp::Sub => items.one(imm(ImmOp::Addi, d, a, low_part(value.wrapping_neg()))),
         BinaryOp::Rsb => items.all(&[
-            row(RegOp::Sub, d, 0, a),
+            row(RegOp::Sub, d, ZERO, a),
             imm(ImmOp::Addi, d, d, low_part(value)),
         ]),
         _ => {}

@@ -2,6 +2,7 @@
 #![tactic(auto)]
 
 mod binary;
+mod carried;
 pub mod laws;
 mod unary;
 mod values;

@@ -1,13 +1,14 @@
-// The operations on one word.
+// The operations on one word, and `retval`.
 
 ghost use Rattle.std.specs.Prelude.{◌≡◌, ◌+◌, ◌*◌, ◌≤◌, ◌++◌};
 ghost use Rattle.lg_selr_items.specs.Items.{ones, words_in};
-ghost use Rattle.lg_selr_values.specs.UnaryCode.{more_bytes_code, swapped_code, unary_code};
+ghost use Rattle.lg_selr_values.specs.UnaryCode.{more_bytes_code, swapped_code, unary_code, retval_code};
 
-use lg_op::UnaryOp;
+use lg_op::{UnaryOp, ValueType};
 use lg_rv::{ImmOp, RegOp, ShiftOp};
 use lg_sel_items::Items;
-use lg_selr_items::{Item, imm, row, shift};
+use lg_sel_values::extension;
+use lg_selr_items::{CARRY, Item, LINK, ZERO, imm, row, shift};
 
 // Appends the code that puts so many further bytes of the link behind those of `d`: 4 instructions for each, for which there is room.
 fn more_bytes_code(d: u8, n: u32, items: &mut Items<Item>)
@@ -16,10 +17,10 @@ fn more_bytes_code(d: u8, n: u32, items: &mut Items<Item>)
 {
     if n > 0 {
         items.all(&[
-            shift(ShiftOp::Srli, 1, 1, 8),
-            imm(ImmOp::Andi, 31, 1, 255),
+            shift(ShiftOp::Srli, LINK, LINK, 8),
+            imm(ImmOp::Andi, CARRY, LINK, 255),
             shift(ShiftOp::Slli, d, d, 8),
-            row(RegOp::Or, d, d, 31),
+            row(RegOp::Or, d, d, CARRY),
         ]);
         more_bytes_code(d, n - 1, items);
     }
@@ -32,7 +33,7 @@ fn swapped_code(d: u8, a: u8, n: u32, items: &mut Items<Item>)
     requires { words_in items.old + 2 + 4 * n ≤ 64 }
     ensures { items.new ≡ items.old ++ ones (swapped_code d a n) }
 {
-    items.all(&[imm(ImmOp::Addi, 1, a, 0), imm(ImmOp::Andi, d, 1, 255)]);
+    items.all(&[imm(ImmOp::Addi, LINK, a, 0), imm(ImmOp::Andi, d, LINK, 255)]);
     more_bytes_code(d, n, items);
 }
 
@@ -42,7 +43,7 @@ pub fn unary_code(op: UnaryOp, d: u8, a: u8, items: &mut Items<Item>)
     ensures { items.new ≡ items.old ++ ones (unary_code op d a) }
 {
     match op {
-        UnaryOp::Neg => items.one(row(RegOp::Sub, d, 0, a)),
+        UnaryOp::Neg => items.one(row(RegOp::Sub, d, ZERO, a)),
         UnaryOp::Com => items.one(imm(ImmOp::Xori, d, a, -1)),
         UnaryOp::Mov => items.one(imm(ImmOp::Addi, d, a, 0)),
         UnaryOp::ExtrC => items.all(&[
@@ -67,4 +68,15 @@ pub fn unary_code(op: UnaryOp, d: u8, a: u8, items: &mut Items<Item>)
         UnaryOp::HtonrUi => swapped_code(d, a, 3, items),
         UnaryOp::HtonrUl => swapped_code(d, a, 7, items),
     }
+}
+
+// The register of the result of a call, x10.
+const RESULT: u8 = 10;
+
+/// Appends the code that puts the result of a call into `d`, extended by its type: 1 or 2 instructions. There is room for 30.
+pub fn retval_code(value: ValueType, d: u8, items: &mut Items<Item>)
+    requires { words_in items.old + 30 ≤ 64 }
+    ensures { items.new ≡ items.old ++ ones (retval_code value d) }
+{
+    unary_code(extension(value), d, RESULT, items);
 }

@@ -7,12 +7,13 @@ ghost use Rattle.lg_selr_items.specs.Items.{words_in};
 ghost use Rattle.lg_selr_values.specs.ValueItems.{load_items, binary_items, second_items, carried_items, wide_items, operation_items, register_for, body_items, value_items, HaveSlots};
 
 use crate::binary::{number_form_code, register_code};
-use crate::unary::unary_code;
-use crate::wide::{carried_code, wide_code};
+use crate::carried::carried_code;
+use crate::unary::{retval_code, unary_code};
+use crate::wide::wide_code;
 use lg_op::{BinaryOp, Label, Node, Op, Operand, PlainOp, Reg, WideOp};
 use lg_rv::{ImmOp, Instr, StoreOp};
 use lg_sel_items::Items;
-use lg_selr_items::{Item, imm, put_number, register_of};
+use lg_selr_items::{CARRY, FRAME_POINTER, Item, LINK, imm, put_number, register_of};
 use lg_temp::choice::{Choice, Choices};
 
 // The register of an operand that is one, and else 0.
@@ -72,8 +73,8 @@ fn binary_items(op: BinaryOp, d: u8, a: u8, x: Operand, items: &mut Items<Item>)
         Operand::Reg(b) => register_code(op, d, a, register_of(b), items),
         Operand::Number(value) => number_form_code(op, d, a, value, items),
         Operand::Host(_) | Operand::Label(_) | Operand::Slot(_) => {
-            load_items(1, x, items);
-            register_code(op, d, a, 1, items);
+            load_items(LINK, x, items);
+            register_code(op, d, a, LINK, items);
         }
     }
 }
@@ -85,9 +86,9 @@ fn second_items(x: Operand, items: &mut Items<Item>)
     ensures { items.new ≡ items.old ++ second_items x }
 {
     match x {
-        Operand::Reg(b) => items.one(imm(ImmOp::Addi, 1, register_of(b), 0)),
+        Operand::Reg(b) => items.one(imm(ImmOp::Addi, LINK, register_of(b), 0)),
         Operand::Number(_) | Operand::Host(_) | Operand::Label(_) | Operand::Slot(_) => load_items(
-            1, x, items,
+            LINK, x, items,
         ),
     }
 }
@@ -110,8 +111,8 @@ fn wide_items(op: WideOp, d: u8, e: u8, a: u8, x: Operand, items: &mut Items<Ite
     match x {
         Operand::Reg(b) => wide_code(op, d, e, a, register_of(b), items),
         Operand::Number(_) | Operand::Host(_) | Operand::Label(_) | Operand::Slot(_) => {
-            load_items(31, x, items);
-            wide_code(op, d, e, a, 31, items);
+            load_items(CARRY, x, items);
+            wide_code(op, d, e, a, CARRY, items);
         }
     }
 }
@@ -148,6 +149,7 @@ fn body_items(op: Op, operands: &[Operand], u: u8, items: &mut Items<Item>)
         ),
         Op::Unary(o) => unary_code(o, register_for(x), register_for(y), items),
         Op::Plain(PlainOp::Movi | PlainOp::VaStart) => load_items(register_for(x), y, items),
+        Op::Retval(value) => retval_code(value, register_for(x), items),
         _ => {}
     }
 }
@@ -167,7 +169,7 @@ pub fn save(reg: u8, slot: u32) -> Instr
 {
     Instr::Store {
         op: StoreOp::Sd,
-        rs1: 8,
+        rs1: FRAME_POINTER,
         rs2: reg,
         imm: slot_offset(slot),
     }
@@ -178,7 +180,7 @@ pub fn restore(reg: u8, slot: u32) -> Instr
     requires { slot < 5 }
     ensures { result ≡ Instr.Imm (ImmOp.Ld) reg 8 (slot_offset slot) }
 {
-    imm(ImmOp::Ld, reg, 8, slot_offset(slot))
+    imm(ImmOp::Ld, reg, FRAME_POINTER, slot_offset(slot))
 }
 
 // Appends the code of a node with a temporary, which is saved and restored or not: at most 32 instructions, for which there is room.

@@ -1,16 +1,14 @@
 -- From a finished buffer to the code of the node.
 use Rattle.std.proofs.Common.{ℕ, ◌^◌, ◌<◌, ◌≤◌, List, refl}
 use Rattle.std.specs.Prelude.{slice_index}
-use Rattle.lg_base.specs.declared.target.Target.TheVariants.{X86_64}
 use Rattle.lg_buf.specs.Buffers.{Buffer}
 use Rattle.lg_carry.specs.FinalNodes.{Code}
 use Rattle.lg_carry_x86.specs.Destinations.{WritesWithin}
 use Rattle.lg_carry_x86.specs.X86Rows.{x86_rows}
-use Rattle.lg_x86.specs.Spelling.{IsInstr, spelling}
+use Rattle.lg_x86.specs.Spelling.{IsInstr}
 use Rattle.lg_sel.specs.Finished as finished
-use Rattle.lg_sel.specs.Promises.{AreInstructionsWhenFinished}
 use Rattle.lg_sel.specs.Selected.{IsFinished}
-use Rattle.lg_sel.proofs.FinishedLemmas.{items-are-of-node, items-are-whole}
+use Rattle.lg_sel.proofs.FinishedLemmas.{items-are-of-node}
 use Rattle.lg_selx_items.specs.declared.items.Item.{Item}
 use Rattle.lg_selx_items.specs.Items.{x86_holes, IsItem, words_in, AreItems, StayWithin}
 use Rattle.lg_selx_items.specs.OfNodes.{AreOfNode}
@@ -31,7 +29,3 @@ are-of-node old new code trash c i items word a ok within few f = record {
   of_node = items-are-of-node x86_holes (x86_rows code trash) IsInstr WritesWithin IsItem are-holes old new c i items a ok (settled-within (slice_index c.addresses) (c.place i) items within) few
       refl f;
 }
-
--- and their bytes are whole instructions
-pub are-whole : (old new : Buffer) (items : List Item) → AreAppended old new items → AreItems items → AreInstructionsWhenFinished X86_64 old new
-are-whole old new items a ok code c i f = items-are-whole x86_holes spelling IsInstr IsItem are-holes old new code c i items a ok f

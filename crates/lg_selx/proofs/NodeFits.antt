@@ -2,18 +2,17 @@
 use Rattle.std.proofs.Common.{◌≡◌, ℕ, ◌<◌, ◌≤◌, Bool, List, [], length, arith, true, sym, subst, ◌+◌}
 use Rattle.lg_base.specs.declared.target.Target.TheVariants.{X86_64}
 use Rattle.lg_op.specs.declared.node.Node.{Node}
-use Rattle.lg_op.specs.declared.operand.Label.{Label}
 use Rattle.lg_op.specs.declared.operand.Operand.{Operand}
-use Rattle.lg_op.specs.declared.operand.Operand.TheVariants as operand
 use Rattle.lg_op.specs.declared.operand.Reg.{Reg}
 use Rattle.lg_meaning.specs.Steps.{operand_at}
 use Rattle.lg_op.specs.Nodes.{InForm}
 use Rattle.lg_sel.proofs.LabelLemmas.{names, all-self}
 use Rattle.lg_sel.proofs.NodeEmissionLemmas as emission
 use Rattle.lg_sel.proofs.NodeFitLemmas as fit
+use Rattle.lg_sel.proofs.NodeFitLemmas.{passed}
 use Rattle.lg_sel.proofs.StoreLemmas.{allowed}
 use Rattle.lg_sel.proofs.OperandLemmas.{word-is}
-use Rattle.lg_sel_nodes.specs.Operands.{HaveWords, NamesBelow, NameBelow}
+use Rattle.lg_sel_nodes.specs.Operands.{HaveWords, NameBelow}
 use Rattle.lg_sel.specs.Selected.{AreFirst, IsFrame, TakesLabelsWell, is_pusharg}
 use Rattle.lg_sel.specs.Stores.{x86_stores}
 use Rattle.lg_sel_items.specs.declared.reach.Reach.{Reach}
@@ -54,7 +53,6 @@ families-emit reach = record {
   stores = λ is frame t at n choices. more reach is 1 1 1 (spills choices + 1) (ones (store_code frame t at n)) (omega arith) (omega arith) (stores-emit reach is frame t at n);
   arguments = λ is frame t n. arguments-emit reach is frame t n;
   next_arguments = λ is n. next-arguments-emit reach is n;
-  results = λ is frame t n choices h. values-emit reach is frame n choices h;
   pushes = λ is frame j n h. pushes-emit reach is frame j n h;
   controls = controls-emit reach;
   prologs = prologs-emit reach;
@@ -79,14 +77,6 @@ values reach labels frame n live set choices sized are named words = record {
 frame-small : (frame : ℕ) → IsFrame frame → frame < 0x40000000
 frame-small frame sized = let h = sized.high in omega (arith, h)
 
--- the label that is passed is one of the buffer's
-passed : (labels : ℕ) (x : Operand) → NamesBelow labels x → (l : Label) → x ≡ operand.Label l → l.0 < labels
-passed labels (operand.Label m) named l e = let same : m.0 ≡ l.0 = cc in omega (arith, named, same)
-passed labels (operand.Number v) named l e = cc
-passed labels (operand.Reg r) named l e = cc
-passed labels (operand.Host name) named l e = cc
-passed labels (operand.Slot k) named l e = cc
-
 families-fit : (reach : Reach) (labels : ℕ) → fit.FamiliesFit X86_64 needs (x86_families reach) IsItem NamesOneOf labels
 families-fit reach labels = record {
   values = λ frame n live set choices sized is are named words. values reach labels frame n live set choices sized are named words;
@@ -94,7 +84,6 @@ families-fit reach labels = record {
   stores = λ frame n t at live set choices sized e are words. record { instrs = (memory-items-fit.stores frame t at n (frame-small frame sized) words).appendable.fit; names = memory-items-name.stores labels frame t at n };
   arguments = λ frame n t sized. record { instrs = (memory-items-fit.arguments frame t n (frame-small frame sized)).appendable.fit; names = memory-items-name.arguments labels frame t n };
   next_arguments = λ n. record { instrs = (memory-items-fit.next_arguments n).appendable.fit; names = memory-items-name.next_arguments labels n };
-  results = λ frame n t live set choices sized e formed are named words. values reach labels frame n live set choices sized are named words;
   pushes = λ frame n j sized few named word. record {
     instrs = (memory-items-fit.pushes frame j n (frame-small frame sized) few (λ v e. word-is (operand_at n 0) v e word)).appendable.fit;
     names = memory-items-name.pushes labels frame j n (passed labels (operand_at n 0) named);
@@ -124,7 +113,6 @@ families-stay reach = record {
   stores = λ frame t at n live set choices e are. memory-items-stay.stores frame t at n;
   arguments = λ frame t n. memory-items-stay.arguments frame t n;
   next_arguments = λ n. memory-items-stay.next_arguments n;
-  results = λ frame t n live set choices are. value-items-stay frame n live set choices are;
   pushes = λ frame j n. memory-items-stay.pushes frame j n;
   controls = λ n frame place. control-items-stay reach n frame place;
 }

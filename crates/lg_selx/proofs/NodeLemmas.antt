@@ -24,9 +24,10 @@ use Rattle.lg_carry_x86.specs.Places.{IsInCode}
 use Rattle.lg_carry_x86.specs.X86Rows.{x86_processor}
 use Rattle.lg_x86.specs.declared.instruction.Instr.{Instr}
 use Rattle.lg_sel.proofs.CountLemmas.{count-is}
-use Rattle.lg_sel.proofs.FamilyLemmas.{HoldsOfFamilies, of-node}
+use Rattle.lg_sel.proofs.FamilyLemmas.{HoldsOfFamilies, of-node, value-stays}
 use Rattle.lg_sel.proofs.OperandLemmas.{has-words, leads_nowhere, unlabelled, no-labels, control-ends, loads-lead, stores-lead, operands-are}
-use Rattle.lg_sel.specs.Families.{is_value, staged_count}
+use Rattle.lg_sel.specs.Families.{staged_count}
+use Rattle.lg_sel_values.specs.ValueNodes.{is_value}
 use Rattle.lg_sel_memory.specs.Operands.{is_label}
 use Rattle.lg_sel_items.specs.declared.reach.Reach.{Reach}
 use Rattle.lg_selx.specs.Items.{x86_families, node_items}
@@ -55,7 +56,7 @@ use Rattle.lg_selx_memory.specs.VariableArgumentCode.{next_argument_code}
 use Rattle.lg_selx_memory.proofs.FitLemmas.{memory-items-fit}
 use Rattle.lg_selx_memory.proofs.MemoryNodeLemmas.{memory-is-carried}
 use Rattle.lg_selx_values.specs.Needs.{value_needs}
-use Rattle.lg_selx_values.specs.ValueItems.{computes_value, value_items}
+use Rattle.lg_selx_values.specs.ValueItems.{value_items}
 use Rattle.lg_selx_values.specs.ValueLaws.{AreUnlabelled, takes_label}
 use Rattle.lg_selx_values.proofs.ValueFitLemmas.{value-items-fit}
 use Rattle.lg_selx_values.proofs.ValueNodeLemmas.{value-nodes-carry}
@@ -85,23 +86,6 @@ pub record IsKnown (c : Code) (i : ℕ) (n : Node) (frame : ℕ) (live : Reg →
   pub asked : IsAsked n live staged choices labels
   pub address : c.place i ≡ code_base + place
 
--- the nodes that compute values are those of the family, and go on behind them
-value-computes : (o : Op) → is_value o ≡ true → computes_value o ≡ true
-value-computes (op.Binary o last) is = refl
-value-computes (op.Wide o last) is = refl
-value-computes (op.Unary o) is = refl
-value-computes (op.Plain plain.Movi) is = refl
-value-computes (op.Plain plain.VaStart) is = refl
-value-computes o is = cc
-
-value-stays : (o : Op) → is_value o ≡ true → leaps o ≡ false
-value-stays (op.Binary o last) is = refl
-value-stays (op.Wide o last) is = refl
-value-stays (op.Unary o) is = refl
-value-stays (op.Plain plain.Movi) is = refl
-value-stays (op.Plain plain.VaStart) is = refl
-value-stays o is = cc
-
 -- where one takes no label, no operand may be one
 value-may : (o : Op) → is_value o ≡ true → takes_label o ≡ false → may_take_label o ≡ false
 value-may (op.Binary o last) is t = refl
@@ -109,6 +93,7 @@ value-may (op.Wide o last) is t = refl
 value-may (op.Unary o) is t = refl
 value-may (op.Plain plain.Movi) is t = true-false t
 value-may (op.Plain plain.VaStart) is t = refl
+value-may (op.Retval t) is no = refl
 value-may o is t = cc
 
 value-leads : (o : Op) → is_value o ≡ true → takes_label o ≡ false → leads_nowhere (forms_of o) ≡ true
@@ -119,6 +104,7 @@ value-leads (op.Wide o last_operand.Immediate) is t = refl
 value-leads (op.Unary o) is t = refl
 value-leads (op.Plain plain.Movi) is t = true-false t
 value-leads (op.Plain plain.VaStart) is t = refl
+value-leads (op.Retval t) is no = refl
 value-leads o is t = cc
 
 module _ (reach : Reach) (code : List ℕ) (trash : ℕ) (c : Code) (i frame : ℕ) (sized : IsFrame frame) (live : Reg → Bool) (staged : List Bool) (choices : List Choice) (labels place : ℕ) where
@@ -137,7 +123,7 @@ module _ (reach : Reach) (code : List ℕ) (trash : ℕ) (c : Code) (i frame : �
   no-value-labels : (n : Node) → may_take_label n.op ≡ false → leads_nowhere (forms_of n.op) ≡ true → IsKnown c i n frame live staged choices labels place → AreUnlabelled n.operands
   no-value-labels n may leads k = are-unlabelled n.operands (none-labels n n.op refl may leads k)
 
-  values : (n : Node) → computes_value n.op ≡ true → leaps n.op ≡ false → (takes_label n.op ≡ false → may_take_label n.op ≡ false) → (takes_label n.op ≡ false → leads_nowhere (forms_of n.op) ≡ true) → Carries n (value_items frame n choices)
+  values : (n : Node) → is_value n.op ≡ true → leaps n.op ≡ false → (takes_label n.op ≡ false → may_take_label n.op ≡ false) → (takes_label n.op ≡ false → leads_nowhere (forms_of n.op) ≡ true) → Carries n (value_items frame n choices)
   values n computes stays may leads k a =
       let set = k.asked.chosen.set in
       let are : AreFor (around X86_64 n live set) (value_needs n.op) [] (value_needs n.op) choices = choices-are-for (around X86_64 n live set) (value_needs n.op) choices k.asked.chosen.chosen in
@@ -194,12 +180,11 @@ module _ (reach : Reach) (code : List ℕ) (trash : ℕ) (c : Code) (i frame : �
 
   families : HoldsOfFamilies (x86_families reach) Carries frame choices staged place
   families = record {
-    values = λ n is. values n (value-computes n.op is) (value-stays n.op is) (value-may n.op is) (value-leads n.op is);
+    values = λ n is. values n is (value-stays n.op is) (value-may n.op is) (value-leads n.op is);
     loads = loads;
     stores = stores;
     arguments = arguments;
     next_arguments = next-arguments;
-    results = λ n t e. values n (ap computes_value e) (ap leaps e) (λ no. ap may_take_label e) (λ no. ap (λ o. leads_nowhere (forms_of o)) e);
     pushes = pushes;
     controls = controls;
   }

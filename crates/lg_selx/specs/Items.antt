@@ -22,7 +22,6 @@ x86_families reach = record {
   store = λ frame t at n choices. ones (store_code frame t at n);
   argument = λ frame t n. ones (argument_code frame t n);
   next_argument = λ n. ones (next_argument_code n);
-  result = λ frame t n choices. value_items frame n choices;
   push = push_code;
   control = control_items reach;
 }

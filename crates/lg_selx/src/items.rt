@@ -39,12 +39,12 @@ pub(crate) fn put_items(
         | Op::Unary(_)
         | Op::Plain(PlainOp::Movi | PlainOp::VaStart)
         | Op::Retval(_) => value_items(node, frame, choices, items),
-        Op::Load(t, at) => put_load(frame, t, at, node, items),
-        Op::Store(t, at) => put_store(frame, t, at, node, items),
-        Op::Getarg(t) => put_getarg(t, node, items),
+        Op::Load(t, at) => put_load(node, frame, t, at, items),
+        Op::Store(t, at) => put_store(node, frame, t, at, items),
+        Op::Getarg(t) => put_getarg(node, t, items),
         Op::Plain(PlainOp::VaArg) => put_next_argument(node, items),
         Op::Control(ControlOp::Pusharg, _) => {
-            put_argument(frame, staged_count(staged), node, items)
+            put_argument(node, frame, staged_count(staged), items)
         }
         _ => put_control(node, frame, place, reach, items),
     }

@@ -81,11 +81,11 @@ module _ (r : Reach) (to : ℕ → ℕ) (frame at : ℕ) where
   calls (operand.Host name ∷ []) = settled-ones to at (host_code name)
   calls xs = refl
 
-  register-jumps : (xs : List Operand) → settled to at (register_jump_items xs) ≡ target_control.register_of (x86_control r).register_jump frame xs
+  register-jumps : (xs : List Operand) → settled to at (register_jump_items xs) ≡ target_control.register_leap_of (x86_control r).register_jump frame xs
   register-jumps (operand.Reg a ∷ []) = refl
   register-jumps xs = refl
 
-  register-calls : (xs : List Operand) → settled to at (register_call_items xs) ≡ target_control.register_of (x86_control r).register_call frame xs
+  register-calls : (xs : List Operand) → settled to at (register_call_items xs) ≡ target_control.register_leap_of (x86_control r).register_call frame xs
   register-calls (operand.Reg a ∷ []) = settled-ones to at (register_call_code frame a)
   register-calls xs = refl
 

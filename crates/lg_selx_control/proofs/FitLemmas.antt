@@ -36,12 +36,13 @@ use Rattle.lg_carry_x86.specs.Numbers.{number_row}
 use Rattle.lg_carry_x86.proofs.NumberCodeLemmas.{half-number, row-loads}
 use Rattle.lg_sel_control.proofs.ControlLemmas.{differ, never, never-sum, host-small}
 use Rattle.lg_selx_items.specs.declared.items.Item.{Item}
-use Rattle.lg_selx_items.specs.declared.items.Item.TheVariants.{Jump}
+use Rattle.lg_selx_items.specs.declared.items.Item.TheVariants.{One, Jump}
 use Rattle.lg_selx_items.specs.declared.items.JumpKind.TheVariants.{Near}
-use Rattle.lg_selx_items.specs.Items.{blanks, fixes_of, AreItems, ones}
-use Rattle.lg_selx_items.proofs.ItemLemmas.{words_append, items-append, names-append, fixes-append, words-ones, names-ones, fixes-ones, ones-append}
+use Rattle.lg_selx_items.specs.Items.{x86_holes, IsItem, NamesOneOf, AreItems, ones}
+use Rattle.lg_selx_items.proofs.ItemLemmas.{items-append, fixes-ones, ones-append}
 use Rattle.lg_selx_values.specs.Scratch.{again}
 use Rattle.lg_selx_values.proofs.RegisterLemmas.{register-portable}
+use Rattle.lg_sel_items.proofs.EmittedLemmas.{nothing-emitted, ones-emitted, ones-in-front}
 use Rattle.lg_sel_items.specs.declared.reach.Reach.{Reach}
 use Rattle.lg_selx_control.specs.Alignments.{padding, idle, align_code}
 use Rattle.lg_selx_control.specs.Branches.{comparison, is_difference, lowered, wide_comparison, number_comparison, before_branch, taken}
@@ -58,23 +59,12 @@ use Rattle.lg_selx_control.specs.SumBranches.{sum_row, sum_number, number_sum, b
 -- ---- instructions alone have no fix and name no label
 -- what is said of a list of instructions that fit
 plain-emitted : (labels : ℕ) (leaping : Bool) (is : List Instr) → AreItems (ones is) → (leaping ≡ true → 0 < length is) → AreEmitted labels leaping (ones is)
-plain-emitted labels leaping is fit some = record {
-  items = fit;
-  labels = names-ones labels is;
-  one_fix = λ place. let e = ap length (fixes-ones place is) in omega (arith, e);
-  some = λ e. let z = some e in omega (arith, z, words-ones is);
-}
+plain-emitted labels = ones-emitted x86_holes IsItem NamesOneOf labels One (λ i. refl) (λ place i. refl) (λ i. tt)
 
 -- instructions in front of items
 in-front : (labels : ℕ) (leaping : Bool) (is : List Instr) (xs : List Item) → AreItems (ones is) → AreEmitted labels leaping xs
     → AreEmitted labels leaping (ones is ++ xs)
-in-front labels leaping is xs fit h = record {
-  items = items-append (ones is) xs fit h.items;
-  labels = names-append labels (ones is) xs (names-ones labels is) h.labels;
-  one_fix = λ place. let p = place + length (blanks (ones is)) in
-      let e = ap length (fixes-append place (ones is) xs ∙ ap (λ z. z ++ fixes_of p xs) (fixes-ones place is)) in omega (arith, e, h.one_fix p);
-  some = λ e. let z = h.some e in omega (arith, z, words_append (ones is) xs);
-}
+in-front labels = ones-in-front x86_holes IsItem NamesOneOf labels One (λ i. refl) (λ place i. refl) (λ i. tt)
 
 branch-emitted : (r : Reach) (labels : ℕ) (front : List Instr) (c : Cond) (l : Label) → AreItems (ones front) → l.0 < labels
     → AreEmitted labels true (branch_if_items r front c l)
@@ -263,7 +253,7 @@ module _ (r : Reach) (labels frame at : ℕ) (framed : frame < 0x40000000) where
   align xs h = absurd (differ h)
 
   nothing : AreEmitted labels false []
-  nothing = record { items = tt; labels = tt; one_fix = λ place. omega arith; some = λ e. absurd (differ e) }
+  nothing = nothing-emitted x86_holes IsItem NamesOneOf labels
 
   by-op : (o : Op) (xs : List Operand) → is_control o ≡ true → admit (forms_of o) xs ≡ true → AreGiven labels xs → ends_in_label xs ≡ false
       → AreEmitted labels (leaps o) (items-of o xs)

@@ -110,7 +110,7 @@ plain_items plain.Ret xs frame at = ones return_code
 plain_items plain.Align xs frame at = align_items at xs
 plain_items o xs frame at = []
 
--- ---- of a node in a function with a frame of so many bytes, whose code begins at an address and has a reach
+-- ---- of a node in a function with a frame of so many bytes, whose code begins at an address, or a place of the buffer, and has a reach
 abbrev pub control_items : Reach → Op → List Operand → ℕ → ℕ → List Item
 control_items r (op.Branch o last) xs frame at = branch_items r frame o xs
 control_items r (op.BranchSum o last) xs frame at = sum_items r frame o xs

@@ -1,16 +1,11 @@
 -- Where the code of a node stands.
-use Rattle.std.specs.Prelude.{ℕ, ◌^◌, ◌<◌, ◌≤◌, List, length}
-use Rattle.lg_base.specs.Layout.{most_code}
+use Rattle.std.specs.Prelude.{ℕ, List}
 use Rattle.lg_x86.specs.Spelling.{IsInstr}
 use Rattle.lg_x86.specs.declared.instruction.Instr.{Instr}
-use Rattle.lg_cpu.specs.Laws.{AreBytes}
 use Rattle.lg_carry.specs.FinalNodes.{Code}
-use Rattle.lg_carry.specs.Passages.{IsNodeCode}
 use Rattle.lg_carry_x86.specs.X86Rows.{x86_rows}
+use Rattle.lg_sel_control.specs.Standing as standing
 
 -- the code that the processor runs, in which these instructions are those of node i
-pub record StandsInCode (code : List ℕ) (trash : ℕ) (c : Code) (i : ℕ) (is : List Instr) : Type 0 where
-  pub small : length code ≤ most_code
-  pub bytes : AreBytes code
-  pub word : trash < 2 ^ 64
-  pub node : IsNodeCode (x86_rows code trash) IsInstr c i is
+abbrev pub StandsInCode : List ℕ → ℕ → Code → ℕ → List Instr → Type 0
+StandsInCode code trash c i is = standing.StandsInCode (x86_rows code trash) IsInstr trash c i is

@@ -6,11 +6,13 @@ ghost use Rattle.lg_selx_control.specs.ControlItems.{jump_kind, branch_items};
 ghost use Rattle.lg_selx_items.specs.Items.{words_in, ones};
 ghost use Rattle.lg_selx_items.specs.declared.items.Item.TheVariants.{Jump};
 
-use crate::pointers::{FRAME_POINTER, STACK_POINTER, pointer_again, stack_again};
+use crate::pointers::{pointer_again, stack_again};
 use lg_base::word::is_half;
 use lg_op::{Condition, Label, Operand, Reg};
 use lg_sel_items::{Items, Reach};
-use lg_selx_items::{Item, JumpKind, half_number, put_number, register_of, row};
+use lg_selx_items::{
+    FRAME_POINTER, Item, JumpKind, STACK_POINTER, half_number, put_number, register_of, row,
+};
 use lg_x86::{Cond, ImmOp, Instr, RmRegOp};
 
 // What sets the flags: the difference of two words, and for bits their conjunction.

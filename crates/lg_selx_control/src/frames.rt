@@ -9,10 +9,10 @@ ghost use Rattle.lg_selx_control.specs.Prologs.{prolog_code};
 ghost use Rattle.lg_selx_control.specs.Returns.{return_code};
 ghost use Rattle.lg_selx_items.specs.Items.{words_in, ones};
 
-use crate::pointers::{FRAME_POINTER, STACK_POINTER, lea, stack_again};
+use crate::pointers::stack_again;
 use lg_op::{Operand, PlainOp};
 use lg_sel_items::Items;
-use lg_selx_items::Item;
+use lg_selx_items::{FRAME_POINTER, Item, STACK_POINTER, lea};
 use lg_x86::{BareOp, Instr, LoadOp, StoreOp};
 
 // The registers of V0, V1 and V2: rbx, r13 and r14.
@@ -103,23 +103,23 @@ fn put_idle(count: u32, items: &mut Items<Item>)
     }
 }
 
-// How many of them lead from an address to a multiple of an alignment.
-fn padding(at: u32, alignment: u32) -> u32
+// How many of them lead from a place to a multiple of an alignment.
+fn padding(place: u32, alignment: u32) -> u32
     requires { is_alignment alignment ≡ true }
-    ensures value { result ≡ padding at alignment }
+    ensures value { result ≡ padding place alignment }
     ensures few { result ≤ 63 }
 {
-    (alignment - at % alignment) % alignment
+    (alignment - place % alignment) % alignment
 }
 
 // Appends the items of `.align` to none.
-fn put_align(at: u32, operands: &[Operand], items: &mut Items<Item>)
+fn put_align(place: u32, operands: &[Operand], items: &mut Items<Item>)
     requires empty { items.old ≡ [] }
     requires formed { admit (form.Alignment ∷ []) operands.now ≡ true }
-    ensures { items.new ≡ align_items at operands.now }
+    ensures { items.new ≡ align_items place operands.now }
 {
     match operands {
-        [Operand::Number(alignment)] => put_idle(padding(at, *alignment as u32), items),
+        [Operand::Number(alignment)] => put_idle(padding(place, *alignment as u32), items),
         _ => {}
     }
 }
@@ -129,19 +129,19 @@ pub(crate) fn put_plain(
     op: PlainOp,
     operands: &[Operand],
     frame: u32,
-    at: u32,
+    place: u32,
     items: &mut Items<Item>,
 )
     requires empty { items.old ≡ [] }
     requires formed { admit (plain_forms op) operands.now ≡ true }
     requires some { 272 ≤ frame }
     requires small { frame < 0x4000_0000 }
-    ensures { items.new ≡ plain_items op operands.now frame at }
+    ensures { items.new ≡ plain_items op operands.now frame place }
 {
     match op {
         PlainOp::Prolog => items.all(&prolog_code(frame)),
         PlainOp::Epilog | PlainOp::Ret => put_return(items),
-        PlainOp::Align => put_align(at, operands, items),
+        PlainOp::Align => put_align(place, operands, items),
         _ => {}
     }
 }

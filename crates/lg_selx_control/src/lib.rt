@@ -11,3 +11,4 @@ mod pointers;
 mod sums;
 
 pub use control::put_control;
+pub use pointers::{pointer_again, stack_again};

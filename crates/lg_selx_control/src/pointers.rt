@@ -4,28 +4,11 @@ ghost use Rattle.std.specs.Prelude.{◌≡◌, ◌≤◌, ◌<◌, ◌-◌, pos}
 ghost use Rattle.lg_x86.specs.declared.instruction.LoadOp.TheVariants.{Lea};
 ghost use Rattle.lg_selx_control.specs.Branches.{lower};
 
-use lg_x86::{Instr, LoadOp};
+use lg_selx_items::{FRAME_POINTER, STACK_POINTER, lea};
+use lg_x86::Instr;
 
-/// The stack pointer, rsp.
-pub(crate) const STACK_POINTER: u8 = 4;
-
-/// FP, rbp.
-pub(crate) const FRAME_POINTER: u8 = 5;
-
-// A register gets an address.
-pub(crate) fn lea(reg: u8, base: u8, disp: i32) -> Instr
-    ensures { result ≡ Instr.Load Lea reg base disp }
-{
-    Instr::Load {
-        op: LoadOp::Lea,
-        reg,
-        base,
-        disp,
-    }
-}
-
-// FP again, from the stack pointer.
-pub(crate) fn pointer_again(frame: u32) -> Instr
+/// FP again, from the stack pointer. `frame` is the size of the frame in bytes.
+pub fn pointer_again(frame: u32) -> Instr
     requires some { 272 ≤ frame }
     requires small { frame < 0x4000_0000 }
     ensures { result ≡ Instr.Load Lea 5 4 (pos (frame - 16)) }
@@ -33,8 +16,8 @@ pub(crate) fn pointer_again(frame: u32) -> Instr
     lea(FRAME_POINTER, STACK_POINTER, (frame - 16) as i32)
 }
 
-// The stack pointer again, from FP.
-pub(crate) fn stack_again(frame: u32) -> Instr
+/// The stack pointer again, from FP. `frame` is the size of the frame in bytes.
+pub fn stack_again(frame: u32) -> Instr
     requires some { 272 ≤ frame }
     requires small { frame < 0x4000_0000 }
     ensures { result ≡ Instr.Load Lea 4 5 (lower frame) }

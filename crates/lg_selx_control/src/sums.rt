@@ -6,11 +6,11 @@ ghost use Rattle.lg_selx_control.specs.ControlItems.{sum_items};
 ghost use Rattle.lg_selx_items.specs.Items.{words_in, ones};
 
 use crate::branches::put_jump_if;
-use crate::pointers::{FRAME_POINTER, pointer_again};
+use crate::pointers::pointer_again;
 use lg_base::word::is_half;
 use lg_op::{BranchSumOp, Operand, Reg};
 use lg_sel_items::{Items, Reach};
-use lg_selx_items::{Item, half_number, put_number, register_of, row};
+use lg_selx_items::{FRAME_POINTER, Item, half_number, put_number, register_of, row};
 use lg_x86::{Cond, ImmOp, Instr, RmRegOp};
 
 // The sum or the difference of a branch with a register, into its first operand.

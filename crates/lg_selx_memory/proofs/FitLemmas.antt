@@ -1,5 +1,5 @@
 -- The items of loads, stores and arguments: their numbers are in the ranges of their instructions, there are few, and each is followed by the next.
-use Rattle.std.proofs.Common.{◌≡◌, ◌≢◌, ℕ, zero, suc, ◌+◌, ◌-◌, ◌*◌, ◌^◌, ◌<◌, ◌≤◌, Bool, true, false, List, [], ◌∷◌, ◌++◌, length, refl, ap, arith, length-append}
+use Rattle.std.proofs.Common.{◌≡◌, ◌≢◌, ℕ, zero, suc, ◌+◌, ◌-◌, ◌*◌, ◌^◌, ◌<◌, ◌≤◌, Bool, true, false, List, [], ◌∷◌, ◌++◌, length, refl, arith, length-append}
 use Rattle.std.specs.Prelude.{◌==◌, ◌||◌, nat_lt, slice_index, if◌then◌else◌, ℤ, pos, negsuc}
 use Rattle.std.proofs.lemmas.Int.{ints}
 use Rattle.lg_base.specs.Conventions.{argument_registers}
@@ -27,15 +27,16 @@ use Rattle.lg_meaning.specs.Steps.{operand_at, stored_operand, slot}
 use Rattle.lg_temp.specs.Abis.{register_of}
 use Rattle.lg_carry_x86.specs.Numbers.{number_row}
 use Rattle.lg_carry_x86.proofs.NumberCodeLemmas.{half-number}
-use Rattle.lg_sel_items.specs.Holes.{Each}
 use Rattle.lg_sel_memory.specs.Accesses.{Address, Base, At, Sum, Index, address_of, IsAddress}
 use Rattle.lg_sel_memory.specs.Operands.{named, number}
 use Rattle.lg_sel_memory.proofs.ReadLemmas.{host-small}
+use Rattle.lg_carry_x86.specs.X86Rows.{is_straight}
+use Rattle.lg_sel_items.proofs.FewLemmas.{AreBounded, bounded-append, bounded-more, bounded-ones, bounded-few}
+use Rattle.lg_selx_items.specs.declared.items.Item.TheVariants.{One}
 use Rattle.lg_selx_items.specs.declared.items.Item.{Item}
 use Rattle.lg_selx_items.specs.GoodItems.{Fine, IsGood, AreGood, IsGoodItem}
-use Rattle.lg_selx_items.specs.Items.{blanks, words_in, fixes_of, ones}
-use Rattle.lg_selx_items.proofs.GoodLemmas.{good-append, number-good, ones-good, items-good, good-items-are-appendable}
-use Rattle.lg_selx_items.proofs.ItemLemmas.{words_append, fixes-append, words-ones, fixes-ones}
+use Rattle.lg_selx_items.specs.Items.{ones, x86_holes, IsItem, StaysWithin}
+use Rattle.lg_selx_items.proofs.GoodLemmas.{good-append, number-good, ones-good, good-items-are-appendable}
 use Rattle.lg_selx_items.proofs.WithinLemmas.{portable}
 use Rattle.lg_selx_values.specs.Scratch.{again}
 use Rattle.lg_selx_values.proofs.RegisterLemmas.{register-portable}
@@ -222,30 +223,17 @@ next-fits rd rs d s =
 
 -- ---- items
 -- good ones, of which there are at most so many instructions and so many fixes
-record AreFit (most fixes : ℕ) (xs : List Item) : Type 0 where
-  good : Each IsGoodItem xs
-  short : words_in xs ≤ most
-  fixed : (p : ℕ) → length (fixes_of p xs) ≤ fixes
+abbrev AreFit : ℕ → ℕ → List Item → Type 0
+AreFit most fixes xs = AreBounded x86_holes IsGoodItem most fixes xs
 
 code-fit : (most : ℕ) (is : List Instr) → IsFitCode most is → AreFit most 0 (ones is)
-code-fit most is h = record {
-  good = ones-good is h.good;
-  short = let w = words-ones is in let f = h.few in omega (arith, w, f);
-  fixed = λ p. let e = ap length (fixes-ones p is) in omega (arith, e);
-}
+code-fit most is h = bounded-ones x86_holes IsGoodItem One (λ i. refl) (λ p i. refl) most is (ones-good is h.good) h.few
 
 joined : (m n f g : ℕ) (xs ys : List Item) → AreFit m f xs → AreFit n g ys → AreFit (m + n) (f + g) (xs ++ ys)
-joined m n f g xs ys a b = record {
-  good = items-good xs ys a.good b.good;
-  short = let w = words_append xs ys in let s = a.short in let t = b.short in omega (arith, w, s, t);
-  fixed = λ p.
-      let e = ap length (fixes-append p xs ys) in
-      let l = length-append (fixes_of p xs) (fixes_of (p + length (blanks xs)) ys) in
-      let s = a.fixed p in let t = b.fixed (p + length (blanks xs)) in omega (arith, e, l, s, t);
-}
+joined = bounded-append x86_holes IsGoodItem
 
 fewer : (m n f g : ℕ) (xs : List Item) → m ≤ n → f ≤ g → AreFit m f xs → AreFit n g xs
-fewer m n f g xs l k a = record { good = a.good; short = let s = a.short in omega (arith, l, s); fixed = λ p. let s = a.fixed p in omega (arith, k, s) }
+fewer = bounded-more x86_holes IsGoodItem
 
 number-fit : (rd v : ℕ) → Fine rd → v < 2 ^ 64 → AreFit 1 1 (ones (number_row rd v ∷ []))
 number-fit rd v h small =
@@ -303,7 +291,7 @@ push-fit frame j n lt few words = by (nat_lt j 6)
 
 -- ---- what is asked of items
 are-items : (most fixes : ℕ) (xs : List Item) → fixes ≤ 1 → AreFit most fixes xs → AreMemoryItems most xs
-are-items most fixes xs one a = record { appendable = good-items-are-appendable xs a.good; short = a.short; one_fix = λ p. let f = a.fixed p in omega (arith, one, f) }
+are-items = bounded-few x86_holes IsGoodItem is_straight IsItem StaysWithin good-items-are-appendable
 
 pub memory-items-fit : MemoryItemsFit
 memory-items-fit = record {

@@ -1,5 +1,5 @@
 -- What is asked of the items of loads, stores and arguments that are emitted.
-use Rattle.std.specs.Prelude.{◌≡◌, ℕ, ◌^◌, ◌<◌, ◌≤◌, List, length}
+use Rattle.std.specs.Prelude.{◌≡◌, ℕ, ◌^◌, ◌<◌, List}
 use Rattle.lg_op.specs.declared.node.Node.{Node}
 use Rattle.lg_op.specs.declared.op.Addressing.{Addressing}
 use Rattle.lg_op.specs.declared.op.StoreType.{StoreType}
@@ -9,8 +9,9 @@ use Rattle.lg_op.specs.declared.operand.Operand.TheVariants as operand
 use Rattle.lg_meaning.specs.Steps.{operand_at}
 use Rattle.lg_sel_memory.specs.Operands.{HasWords}
 use Rattle.lg_selx_items.specs.declared.items.Item.{Item}
-use Rattle.lg_selx_items.specs.GoodItems.{AreAppendable}
-use Rattle.lg_selx_items.specs.Items.{words_in, fixes_of, ones, NameLabels, StayWithin}
+use Rattle.lg_carry_x86.specs.X86Rows.{is_straight}
+use Rattle.lg_sel_items.specs.GoodItems as good_items
+use Rattle.lg_selx_items.specs.Items.{ones, NameLabels, StayWithin, x86_holes, IsItem, StaysWithin}
 use Rattle.lg_selx_memory.specs.Accesses.{load_code, store_code}
 use Rattle.lg_selx_memory.specs.ArgumentCode.{argument_code}
 use Rattle.lg_selx_memory.specs.PushCode.{push_code}
@@ -25,10 +26,8 @@ pub record MemoryItemsStay : Type 0 where
   pub pushes : (frame j : ℕ) (n : Node) → StayWithin (push_code frame j n)
 
 -- the items are in the ranges of their instructions, of which there are at most so many, with at most one fix, and each is followed by the next
-pub record AreMemoryItems (most : ℕ) (items : List Item) : Type 0 where
-  pub appendable : AreAppendable items
-  pub short : words_in items ≤ most
-  pub one_fix : (p : ℕ) → length (fixes_of p items) ≤ 1
+abbrev pub AreMemoryItems : ℕ → List Item → Type 0
+AreMemoryItems most items = good_items.AreFew x86_holes is_straight IsItem StaysWithin most items
 
 -- in a frame whose size is a number of 31 bits, where the numbers of the operands are words
 pub record MemoryItemsFit : Type 0 where

@@ -8,12 +8,12 @@ ghost use Rattle.lg_selx_memory.specs.Accesses.{load_row, store_row, at_register
 ghost use Rattle.lg_selx_memory.specs.Accesses.{indexes, load_spare, store_spare, load_code, store_code};
 
 use crate::operands::register;
-use crate::pointers::{FRAME_POINTER, STACK_POINTER, pointer_again, stack_again};
 use lg_base::word::is_half;
 use lg_op::{Addressing, Node, Operand, StoreType, ValueType};
 use lg_sel_items::Items;
 use lg_sel_memory::operands::{number, operand};
-use lg_selx_items::{Item, half_number, put_number};
+use lg_selx_control::{pointer_again, stack_again};
+use lg_selx_items::{FRAME_POINTER, Item, STACK_POINTER, half_number, put_number};
 use lg_x86::{Instr, LoadOp, StoreOp};
 
 // Where an access is: a register and a number behind it, and whether the register is a spare one.
@@ -210,7 +210,7 @@ fn store(t: StoreType, reg: u8, base: Base) -> Instr
 /// Appends the code of a load to no items: 1 to 4 instructions. The operands are those of the load's row in the instruction table, and `frame`
 /// is the size of the frame of the node's function in bytes, from 272 to 0x3FFF_FFFF.
 #[tactic(auto, using(lg_selx_items::proofs::ItemLemmas::words_append))]
-pub fn put_load(frame: u32, t: ValueType, at: Addressing, node: &Node, items: &mut Items<Item>)
+pub fn put_load(node: &Node, frame: u32, t: ValueType, at: Addressing, items: &mut Items<Item>)
     requires empty { items.old ≡ [] }
     requires some { 272 ≤ frame }
     requires small { frame < 0x4000_0000 }
@@ -238,7 +238,7 @@ fn stored(at: Addressing, node: &Node) -> Operand
 /// Appends the code of a store to no items: 1 to 4 instructions. The operands are those of the store's row in the instruction table, and `frame`
 /// is the size of the frame of the node's function in bytes, from 272 to 0x3FFF_FFFF.
 #[tactic(auto, using(lg_selx_items::proofs::ItemLemmas::words_append))]
-pub fn put_store(frame: u32, t: StoreType, at: Addressing, node: &Node, items: &mut Items<Item>)
+pub fn put_store(node: &Node, frame: u32, t: StoreType, at: Addressing, items: &mut Items<Item>)
     requires empty { items.old ≡ [] }
     requires some { 272 ≤ frame }
     requires small { frame < 0x4000_0000 }

@@ -11,11 +11,11 @@ ghost use Rattle.lg_selx_memory.specs.VariableArgumentCode.{next_code, next_argu
 
 use crate::accesses::load_row;
 use crate::operands::register;
-use crate::pointers::{FRAME_POINTER, STACK_POINTER, lea, pointer_again};
 use lg_op::{Node, Operand, ValueType};
 use lg_sel_items::Items;
 use lg_sel_memory::operands::{operand, slot};
-use lg_selx_items::{Item, mov, put_number, register_of, row};
+use lg_selx_control::pointer_again;
+use lg_selx_items::{FRAME_POINTER, Item, STACK_POINTER, lea, mov, put_number, register_of, row};
 use lg_x86::{ImmOp, Instr, LoadOp, RegRmOp, RmRegOp, ShiftOp, StoreOp};
 
 // The word of an operand into a register: at most one instruction.
@@ -85,7 +85,7 @@ fn argument_register(index: u32) -> u8
 
 /// Appends the code of a node that passes an argument to no items: 1 to 3 instructions. The argument's number counts from 0, and is
 /// below 16; `frame` is the size of the frame of the node's function in bytes, from 272 to 0x3FFF_FFFF.
-pub fn put_argument(frame: u32, index: u32, node: &Node, items: &mut Items<Item>)
+pub fn put_argument(node: &Node, frame: u32, index: u32, items: &mut Items<Item>)
     requires few { index < 16 }
     requires empty { items.old ≡ [] }
     requires some { 272 ≤ frame }
@@ -126,7 +126,7 @@ fn argument_load(t: ValueType, reg: u8, index: u32) -> Instr
 
 /// Appends the code of a node that reads an argument of its function to no items: one instruction, or none where no function has so many
 /// arguments. It is the same in every frame.
-pub fn put_getarg(t: ValueType, node: &Node, items: &mut Items<Item>)
+pub fn put_getarg(node: &Node, t: ValueType, items: &mut Items<Item>)
     requires { items.old ≡ [] }
     ensures { items.new ≡ ones (argument_code 0 t node.now) }
 {

@@ -5,7 +5,6 @@ mod accesses;
 mod arguments;
 pub mod laws;
 mod operands;
-mod pointers;
 
 pub use accesses::{put_load, put_store};
 pub use arguments::{put_argument, put_getarg, put_next_argument};

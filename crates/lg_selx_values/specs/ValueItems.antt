@@ -1,5 +1,5 @@
 -- The items of the nodes that compute values.
-use Rattle.std.specs.Prelude.{ℕ, Bool, true, false, if◌then◌else◌, List, [], ◌∷◌, ◌++◌, slice_index_or, ◌<◌, ⊤}
+use Rattle.std.specs.Prelude.{ℕ, List, [], ◌∷◌, ◌++◌, slice_index_or, ◌<◌, ⊤, if◌then◌else◌}
 use Rattle.lg_base.specs.HostNames.{host_address}
 use Rattle.lg_base.specs.declared.target.Target.TheVariants.{X86_64}
 use Rattle.lg_op.specs.declared.op.Op.{Op}
@@ -27,16 +27,6 @@ use Rattle.lg_selx_values.specs.BinaryCode.{register_code, number_form_code}
 use Rattle.lg_selx_values.specs.CarriedCode.{carried_register_code, carried_number_code}
 use Rattle.lg_selx_values.specs.UnaryCode.{unary_code, retval_code}
 use Rattle.lg_selx_values.specs.WideCode.{wide_code, wide_number_code}
-
--- the operations whose nodes compute values
-abbrev pub computes_value : Op → Bool
-computes_value (op.Binary o last) = true
-computes_value (op.Wide o last) = true
-computes_value (op.Unary o) = true
-computes_value (op.Plain plain.Movi) = true
-computes_value (op.Plain plain.VaStart) = true
-computes_value (op.Retval t) = true
-computes_value o = false
 
 -- the word of an immediate, into register t; the address of a label is put into a move of 32 bits. Moves keep the carry
 abbrev pub load_items : ℕ → Operand → List Item

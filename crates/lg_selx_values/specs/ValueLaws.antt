@@ -19,7 +19,8 @@ use Rattle.lg_carry_x86.specs.Places.{IsInCode}
 use Rattle.lg_carry_x86.specs.X86Rows.{x86_processor}
 use Rattle.lg_selx_items.specs.Items.{settled}
 use Rattle.lg_selx_values.specs.Needs.{value_needs}
-use Rattle.lg_selx_values.specs.ValueItems.{computes_value, value_items}
+use Rattle.lg_sel_values.specs.ValueNodes.{is_value}
+use Rattle.lg_selx_values.specs.ValueItems.{value_items}
 use Rattle.lg_sel_nodes.specs.Operands.{AreWords}
 
 -- no operand is a label
@@ -40,7 +41,7 @@ takes_label o = false
 abbrev pub ValueNodesCarry : Type 0
 ValueNodesCarry =
     (code : List ℕ) (trash : ℕ) (c : Code) (i frame : ℕ) (n : Node) (live : Reg → Bool) (staged : List Bool) (choices : List Choice)
-    → computes_value n.op ≡ true → AreWords c.addresses n.operands → (takes_label n.op ≡ false → AreUnlabelled n.operands)
+    → is_value n.op ≡ true → AreWords c.addresses n.operands → (takes_label n.op ≡ false → AreUnlabelled n.operands)
     → AreFor (around X86_64 n live staged) (value_needs n.op) [] (value_needs n.op) choices
     → ((j : ℕ) → j < pushed c.nodes.nodes i → slice_index_or staged j false ≡ true)
     → IsInText c i n → IsFrameOf c i frame

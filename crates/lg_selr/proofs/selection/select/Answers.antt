@@ -1,8 +1,10 @@
 use Rattle.std.proofs.Common.{◌≤◌, length, subst, arith, rules}
 use Rattle.lg_live.specs.RegSets.{has}
 use Rattle.lg_sel.proofs.AppendedLemmas.{short-appended, one-fixed}
-use Rattle.lg_selr.proofs.CarriedLemmas.{selected-carries, selected-whole, selected-spares, selected-shortest, aligned-behind, at-most-256, appended-whole, appended-begins, appended-lead}
+use Rattle.lg_sel.proofs.SelectionLemmas.{selected-whole, selected-spares, selected-shortest, appended-begins}
+use Rattle.lg_selr.proofs.CarriedLemmas.{rv-selection, selected-carries, aligned-behind, at-most-256, appended-whole, appended-lead}
 use Rattle.lg_selr.proofs.NodeFits.{asked-of, made-fits}
+use Rattle.lg_selr.proofs.ShortLemmas.{node-short}
 use Rattle.lg_selr.proofs.selection.select.Goals as goal
 use Rattle.lg_selr_items.specs.Items.{words_in, blanks, fixes_of}
 
@@ -51,22 +53,23 @@ pub returns-clause-instructions : goal.returns-clause-instructions
 returns-clause-instructions c = λ went.
     let k = asked-of c.args.node.now (has c.args.live_after) c.args.staged.arguments c.args.choices.now (length c.args.buf.now.labels) c.as_slice.result.now
     c.requires.formed c.requires.choices c.requires.staged c.requires.labels c.requires.immediates c.as_slice.ensures.value c.see_numbers.ensures in
-    selected-whole c.shortest_items-reach.result.0 c.args.node.now c.args.frame (has c.args.live_after) c.args.staged.arguments c.args.choices.now c.args.buf.now c.append.new.buf c.shortest_items-reach.result.1 c.requires.frame k c.shortest_items-reach.ensures.items
+    selected-whole rv-selection c.shortest_items-reach.result.0 c.args.node.now c.args.frame (has c.args.live_after) c.args.staged.arguments c.args.choices.now c.args.buf.now c.append.new.buf c.shortest_items-reach.result.1 c.requires.frame k c.shortest_items-reach.ensures.items
     record { bytes = c.append.ensures.bytes went; fixes = c.append.ensures.fixes went }
 
 pub returns-clause-sparing : goal.returns-clause-sparing
 returns-clause-sparing c = λ went.
     let k = asked-of c.args.node.now (has c.args.live_after) c.args.staged.arguments c.args.choices.now (length c.args.buf.now.labels) c.as_slice.result.now
     c.requires.formed c.requires.choices c.requires.staged c.requires.labels c.requires.immediates c.as_slice.ensures.value c.see_numbers.ensures in
-    selected-spares c.shortest_items-reach.result.0 c.args.node.now c.args.frame (has c.args.live_after) c.args.staged.arguments c.args.choices.now c.args.buf.now c.append.new.buf c.shortest_items-reach.result.1 c.requires.frame k c.shortest_items-reach.ensures.items
+    selected-spares rv-selection c.shortest_items-reach.result.0 c.args.node.now c.args.frame (has c.args.live_after) c.args.staged.arguments c.args.choices.now c.args.buf.now c.append.new.buf c.shortest_items-reach.result.1 c.requires.frame k c.shortest_items-reach.ensures.items
     record { bytes = c.append.ensures.bytes went; fixes = c.append.ensures.fixes went }
 
 pub returns-clause-shortest : goal.returns-clause-shortest
 returns-clause-shortest c = λ went.
     let k = asked-of c.args.node.now (has c.args.live_after) c.args.staged.arguments c.args.choices.now (length c.args.buf.now.labels) c.as_slice.result.now
     c.requires.formed c.requires.choices c.requires.staged c.requires.labels c.requires.immediates c.as_slice.ensures.value c.see_numbers.ensures in
-    selected-shortest c.shortest_items-reach.result.0 c.args.node.now c.args.frame (has c.args.live_after) c.args.staged.arguments c.args.choices.now c.args.buf.now c.append.new.buf c.shortest_items-reach.result.1 c.requires.frame k c.shortest_items-reach.ensures.items
-    record { bytes = c.append.ensures.bytes went; fixes = c.append.ensures.fixes went } c.shortest_items-reach.ensures.checked c.shortest_items-reach.ensures.least
+    selected-shortest rv-selection c.shortest_items-reach.result.0 c.args.node.now c.args.frame (has c.args.live_after) c.args.staged.arguments c.args.choices.now c.args.buf.now c.append.new.buf c.shortest_items-reach.result.1 c.requires.frame k c.shortest_items-reach.ensures.items
+    record { bytes = c.append.ensures.bytes went; fixes = c.append.ensures.fixes went } (λ code d i goal f. node-short c.args.buf.now c.append.new.buf code d i goal c.args.frame f)
+    c.shortest_items-reach.ensures.checked c.shortest_items-reach.ensures.least
 
 pub returns-clause-aligned : goal.returns-clause-aligned
 returns-clause-aligned c =
@@ -78,7 +81,7 @@ returns-clause-whole c = appended-whole c.append.result c.args.buf.now c.append.
 
 pub returns-clause-begins : goal.returns-clause-begins
 returns-clause-begins c =
-    appended-begins c.shortest_items-reach.result.0 c.append.result c.args.node.now c.args.frame c.args.choices.now c.args.staged.arguments c.args.buf.now c.append.new.buf c.shortest_items-reach.result.1 c.shortest_items-reach.ensures.items
+    appended-begins rv-selection c.shortest_items-reach.result.0 c.append.result c.args.node.now c.args.frame c.args.choices.now c.args.staged.arguments c.args.buf.now c.append.new.buf c.shortest_items-reach.result.1 c.shortest_items-reach.ensures.items
     c.append.ensures.refused c.append.ensures.bytes
 
 pub returns-clause-lead : goal.returns-clause-lead

@@ -2,7 +2,7 @@ use Rattle.std.proofs.Common.{[], ◌∷◌, ap, arith}
 use Rattle.lg_sela_items.specs.declared.items.Item.TheVariants.{One}
 use Rattle.lg_sela_items.specs.Items.{words_in}
 use Rattle.lg_sela_items.proofs.ItemLemmas.{words_append}
-use Rattle.lg_sela_items.proofs.items.put_negative.Goals as goal
+use Rattle.lg_sela_items.proofs.numbers.put_negative.Goals as goal
 
 pub one-requires-then-part : goal.one-requires-then-part
 one-requires-then-part c =

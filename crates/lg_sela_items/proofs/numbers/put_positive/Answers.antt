@@ -3,7 +3,7 @@ use Rattle.lg_sela_items.specs.declared.items.Item.TheVariants.{One}
 use Rattle.lg_sela_items.specs.Items.{words_in}
 use Rattle.lg_sela_items.proofs.ItemLemmas.{words_append}
 use Rattle.lg_sela_items.proofs.NumberItemLemmas.{quarter_words}
-use Rattle.lg_sela_items.proofs.items.put_positive.Goals as goal
+use Rattle.lg_sela_items.proofs.numbers.put_positive.Goals as goal
 
 pub put_quarter-requires : goal.put_quarter-requires
 put_quarter-requires c =

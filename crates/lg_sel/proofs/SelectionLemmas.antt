@@ -1,0 +1,134 @@
+-- What `select` owes for the items of a node that it appends, where those of each family are as they have to be.
+use Rattle.std.proofs.Common.{◌≡◌, ℕ, ◌+◌, ◌-◌, ◌<◌, ◌≤◌, Bool, true, false, List, [], ◌∷◌, ◌++◌, length, Some, ap, ◌∙◌, subst, arith}
+use Rattle.std.specs.Prelude.{IsTrue, count_by, slice_get, slice_index}
+use Rattle.lg_base.specs.Layout.{code_base, most_code}
+use Rattle.lg_base.specs.declared.target.Target.{Target}
+use Rattle.lg_buf.specs.Buffers.{Buffer, place_of}
+use Rattle.lg_carry.specs.FinalNodes.{Code}
+use Rattle.lg_node.specs.Functions.{is_prolog}
+use Rattle.lg_op.specs.Forms.{forms_of, admit}
+use Rattle.lg_op.specs.declared.node.Node.{Node}
+use Rattle.lg_op.specs.declared.op.ControlOp.TheVariants as control
+use Rattle.lg_op.specs.declared.op.LastOperand.TheVariants as last_operand
+use Rattle.lg_op.specs.declared.op.Op.{Op}
+use Rattle.lg_op.specs.declared.op.Op.TheVariants as op
+use Rattle.lg_op.specs.declared.operand.Label.{Label}
+use Rattle.lg_op.specs.declared.operand.Operand.{Operand}
+use Rattle.lg_op.specs.declared.operand.Operand.TheVariants as operand
+use Rattle.lg_op.specs.declared.operand.Reg.{Reg}
+use Rattle.lg_sel.proofs.AppendedLemmas.{begins-appended}
+use Rattle.lg_sel.proofs.EmissionLemmas.{Emits, stores-counted}
+use Rattle.lg_sel.proofs.FamilyLemmas.{node_of}
+use Rattle.lg_sel.proofs.FinishedLemmas.{items-are-sparing, items-are-whole}
+use Rattle.lg_sel.proofs.LabelLemmas.{names}
+use Rattle.lg_sel.proofs.ReachLemmas.{same-label}
+use Rattle.lg_sel.proofs.StoreLemmas.{allowed, allowed-all}
+use Rattle.lg_sel.specs.Asked.{IsAsked}
+use Rattle.lg_sel.specs.Families.{Families, node_items}
+use Rattle.lg_sel.specs.Finished.{AreAppended}
+use Rattle.lg_sel.specs.Promises.{IsShortWhenFinished}
+use Rattle.lg_sel.specs.Selected.{IsFrame, IsFinished, AreWhole, part_of}
+use Rattle.lg_sel.specs.Shorts.{IsShort}
+use Rattle.lg_sel.specs.Stores.{StoresAtMost, own_stores, is_free}
+use Rattle.lg_sel_items.specs.Holes.{Holes, Each, AreHoles, blanks, settled, fixes_of}
+use Rattle.lg_sel_items.specs.Reaches.{Leads, IsChecked, IsLeast}
+use Rattle.lg_sel_items.specs.declared.reach.Reach.{Reach}
+use Rattle.lg_temp.specs.Chosen.{spills}
+use Rattle.lg_temp.specs.declared.choice.Choice.{Choice}
+use Rattle.lg_temp.specs.declared.choice.Need.{Need}
+
+-- the items of the node of an operation, which have this reach, were appended; they are in range, lead to the labels that are bound, and none of a shorter
+-- reach do
+pub record IsKnown {L I : Type 0} (H : Holes L I) (is_item : L → Type 0) (old new : Buffer) (to : ℕ → ℕ) (goal : ℕ) (items : Reach → List L) (r : Reach) (o : Op)
+    (xs : List Operand) : Type 0 where
+  pub admitted : admit (forms_of o) xs ≡ true
+  pub appended : AreAppended H old new (items r)
+  pub fit : Each is_item (items r)
+  pub labels : (l : Label) → slice_get xs 0 ≡ Some (operand.Label l) → (place_of old.labels l.0 ≡ Some goal) × (to l.0 ≡ code_base + goal)
+  pub checked : Each (IsChecked r old) (fixes_of H (length old.bytes) (items r))
+  pub least : IsLeast (λ s. Each (Leads old) (fixes_of H (length old.bytes) (items s))) r
+
+-- of each node the items name the labels of its operands, store no more than they may, and are in range; those of a `prolog` have bytes
+pub record IsSelection {L I : Type 0} (target : Target) (needs : Op → List Need) (H : Holes L I) (spelling : I → List ℕ) (fits : I → Type 0) (is_item : L → Type 0)
+    (is_store : I → Bool) (passes : Reach → (ℕ → Bool) → L → Type 0) (F : Reach → Families L) : Type 0 where
+  pub holes : AreHoles H spelling fits is_item
+  pub emits : (reach : Reach) (frame : ℕ) (choices : List Choice) (staged : List Bool) (place : ℕ) (n : Node)
+      → Emits H is_store (passes reach (names n.operands)) 1 (allowed target choices n.op) (node_items (F reach) n frame choices staged place)
+  pub fit : (reach : Reach) (frame : ℕ) (live : Reg → Bool) (staged : List Bool) (choices : List Choice) (labels place : ℕ) (n : Node) → IsFrame frame
+      → IsAsked target needs n live staged choices labels → Each is_item (node_items (F reach) n frame choices staged place)
+  pub begins : (reach : Reach) (o : Op) (xs : List Operand) (line frame : ℕ) (choices : List Choice) (staged : List Bool) (place : ℕ) → is_prolog o ≡ true
+      → 0 < length (blanks H (node_items (F reach) (node_of o xs line) frame choices staged place))
+
+module _ {L I : Type 0} {target : Target} {needs : Op → List Need} {H : Holes L I} {spelling : I → List ℕ} {fits : I → Type 0} {is_item : L → Type 0}
+    {is_store : I → Bool} {passes : Reach → (ℕ → Bool) → L → Type 0} {F : Reach → Families L}
+    (ok : IsSelection target needs H spelling fits is_item is_store passes F) where
+  -- the items are those of the node
+  module _ (reach : Reach) (node : Node) (frame : ℕ) (live : Reg → Bool) (staged : List Bool) (choices : List Choice) (old new : Buffer) (items : List L)
+      (sized : IsFrame frame) (asked : IsAsked target needs node live staged choices (length old.labels))
+      (e : items ≡ node_items (F reach) node frame choices staged (length old.bytes)) (appended : AreAppended H old new items) where
+    abbrev mine : List L
+    mine = node_items (F reach) node frame choices staged (length old.bytes)
+
+    fit : Each is_item mine
+    fit = ok.fit reach frame live staged choices (length old.labels) (length old.bytes) node sized asked
+
+    own : AreAppended H old new mine
+    own = subst (AreAppended H old new) e appended
+
+    -- their bytes are whole instructions
+    pub selected-whole : (code : List ℕ) (c : Code) (i : ℕ) → IsFinished old new code c i
+        → AreWhole spelling fits (part_of code (length old.bytes) (length new.bytes - length old.bytes))
+    selected-whole code c i f = items-are-whole H spelling fits is_item ok.holes old new code c i mine own fit f
+
+    -- which store seldom
+    pub selected-spares : (code : List ℕ) (c : Code) (i : ℕ) → is_free node.op ≡ false → IsFinished old new code c i
+        → StoresAtMost spelling fits is_store (spills choices + own_stores target node.op) (part_of code (length old.bytes) (length new.bytes - length old.bytes))
+    selected-spares code c i other f =
+        let emits = ok.emits reach frame choices staged (length old.bytes) node in
+        let few = stores-counted H is_store (passes reach (names node.operands)) 1 (allowed target choices node.op) mine emits (slice_index c.addresses) (c.place i) in
+        items-are-sparing H spelling fits is_item ok.holes is_store old new code c i mine (spills choices + own_stores target node.op) own fit
+        (allowed-all target choices node.op (count_by is_store (settled H (slice_index c.addresses) (c.place i) mine)) other few) f
+
+    -- and where those of nodes that lead to labels have the shortest form, they have
+    module _ (short : (code : List ℕ) (c : Code) (i goal : ℕ) → IsFinished old new code c i → (r : Reach) (o : Op) (xs : List Operand) (l : Label)
+        → slice_get xs 0 ≡ Some (operand.Label l)
+        → IsKnown H is_item old new (slice_index c.addresses) goal (λ s. (F s).control o xs frame (length old.bytes)) r o xs
+        → IsShort target o goal (length old.bytes) (part_of code (length old.bytes) (length new.bytes - length old.bytes))) where
+      shortest-of : (code : List ℕ) (c : Code) (i goal : ℕ) → IsFinished old new code c i → (l : Label) (o : Op) (xs : List Operand) (line : ℕ)
+          → slice_get xs 0 ≡ Some (operand.Label l)
+          → IsKnown H is_item old new (slice_index c.addresses) goal (λ s. node_items (F s) (node_of o xs line) frame choices staged (length old.bytes)) reach o xs
+          → IsShort target o goal (length old.bytes) (part_of code (length old.bytes) (length new.bytes - length old.bytes))
+      shortest-of code c i goal f l (op.Branch o last) xs line first k = short code c i goal f reach (op.Branch o last) xs l first k
+      shortest-of code c i goal f l (op.BranchSum o last) xs line first k = short code c i goal f reach (op.BranchSum o last) xs l first k
+      shortest-of code c i goal f l (op.Control control.Jmp last_operand.Immediate) xs line first k =
+          short code c i goal f reach (op.Control control.Jmp last_operand.Immediate) xs l first k
+      shortest-of code c i goal f l (op.Control control.Call last_operand.Immediate) xs line first k =
+          short code c i goal f reach (op.Control control.Call last_operand.Immediate) xs l first k
+      shortest-of code c i goal f l (op.Control control.Finish last_operand.Immediate) xs line first k =
+          short code c i goal f reach (op.Control control.Finish last_operand.Immediate) xs l first k
+      shortest-of code c i goal f l o xs line first k = tt
+
+      pub selected-shortest : Each (IsChecked reach old) (fixes_of H (length old.bytes) items)
+          → ((l : Label) (goal : ℕ) → slice_get node.operands 0 ≡ Some (operand.Label l) → place_of old.labels l.0 ≡ Some goal → length old.bytes ≤ most_code
+          → IsLeast (λ r. Each (Leads old) (fixes_of H (length old.bytes) (node_items (F r) node frame choices staged (length old.bytes)))) reach)
+          → IsShortWhenFinished target node old new
+      selected-shortest checked least code c i goal l f low first bound address =
+          let formed = asked.formed in
+          shortest-of code c i goal f l node.op node.operands node.line first record {
+            admitted = formed.forms;
+            appended = own;
+            fit = fit;
+            labels = λ m is. let same : m ≡ l = same-label node.operands m l is first in
+                (ap (λ (k : Label). place_of old.labels k.0) same ∙ bound, ap (λ (k : Label). slice_index c.addresses k.0) same ∙ address);
+            checked = subst (λ xs. Each (IsChecked reach old) (fixes_of H (length old.bytes) xs)) e checked;
+            least = least l goal first bound low;
+          }
+
+  -- a `prolog` has bytes
+  pub appended-begins : (reach : Reach) (b : Bool) (n : Node) (frame : ℕ) (choices : List Choice) (staged : List Bool) (old new : Buffer) (items : List L)
+      → items ≡ node_items (F reach) n frame choices staged (length old.bytes) → (b ≡ false → new ≡ old) → (IsTrue b → new.bytes ≡ old.bytes ++ blanks H items)
+      → IsTrue b → is_prolog n.op ≡ true → length old.bytes < length new.bytes
+  appended-begins reach b n frame choices staged old new items e refused went is prolog =
+      let some = ok.begins reach n.op n.operands n.line frame choices staged (length old.bytes) prolog in
+      let same = ap (λ (xs : List L). length (blanks H xs)) e in
+      begins-appended b old new (blanks H items) refused went (omega (arith, some, same)) is
