@@ -1,11 +1,12 @@
 // What the words of a text name: registers, directives, operations, and floating point.
 
-ghost use Rattle.std.specs.Prelude.{◌≡◌, ◌≤◌, length, drop};
+ghost use Rattle.std.specs.Prelude.{◌≡◌, drop};
 ghost use Rattle.std.specs.Char.{is_ascii_digit};
 ghost use Rattle.std.specs.List.{list_all};
 ghost use Rattle.lg_tst.specs.Streams.{without_last};
 ghost use Rattle.lg_tst.specs.Words.{register_word, register_of, are_digits, is_float_register, begins_float_part, is_float_word, directive_word, directive_of, op_of};
 
+use lg_lex::bytes::behind;
 use lg_op::{Op, Reg};
 
 /// The directives of a text, and those of floating point.
