@@ -93,7 +93,7 @@ value-may (op.Wide o last) is t = refl
 value-may (op.Unary o) is t = refl
 value-may (op.Plain plain.Movi) is t = true-false t
 value-may (op.Plain plain.VaStart) is t = refl
-value-may (op.Retval t) is no = refl
+value-may (op.Retval t) is u = refl
 value-may o is t = cc
 
 value-leads : (o : Op) → is_value o ≡ true → takes_label o ≡ false → leads_nowhere (forms_of o) ≡ true
@@ -104,7 +104,7 @@ value-leads (op.Wide o last_operand.Immediate) is t = refl
 value-leads (op.Unary o) is t = refl
 value-leads (op.Plain plain.Movi) is t = true-false t
 value-leads (op.Plain plain.VaStart) is t = refl
-value-leads (op.Retval t) is no = refl
+value-leads (op.Retval t) is u = refl
 value-leads o is t = cc
 
 module _ (reach : Reach) (code : List ℕ) (trash : ℕ) (c : Code) (i frame : ℕ) (sized : IsFrame frame) (live : Reg → Bool) (staged : List Bool) (choices : List Choice) (labels place : ℕ) where

@@ -13,7 +13,7 @@ use Rattle.lg_buf.specs.declared.fixes.FixKind.TheVariants.{X86Rel8, X86Rel32}
 use Rattle.lg_carry.specs.Blocks.{spellings}
 use Rattle.lg_carry.specs.FinalNodes.{Code}
 use Rattle.lg_carry_x86.specs.Numbers.{number_row}
-use Rattle.lg_op.specs.Forms.{forms_of, admit, admits, last_form}
+use Rattle.lg_op.specs.Forms.{admits, last_form}
 use Rattle.lg_op.specs.declared.form.Form.TheVariants as form
 use Rattle.lg_op.specs.declared.op.BranchSumOp.{BranchSumOp}
 use Rattle.lg_op.specs.declared.op.Condition.{Condition}
@@ -38,7 +38,7 @@ use Rattle.lg_sel.specs.Selected.{IsFinished, part_of}
 use Rattle.lg_sel.specs.Shorts.{x86_is_relative, LeadsBy, IsShortJumpIf, IsShort}
 use Rattle.lg_sel_control.proofs.ControlLemmas.{differ, never, never-sum}
 use Rattle.lg_sel_items.specs.Holes.{Each}
-use Rattle.lg_sel_items.specs.Reaches.{Leads, LeadsTo, IsChecked, IsLeast}
+use Rattle.lg_sel_items.specs.Reaches.{Leads, LeadsTo, IsLeast}
 use Rattle.lg_sel_items.specs.declared.reach.Reach.{Reach}
 use Rattle.lg_sel_items.specs.declared.reach.Reach.TheVariants.{Short, Near, Far}
 use Rattle.lg_selx_control.proofs.ControlLemmas.{blanks-ones, branch-settled}

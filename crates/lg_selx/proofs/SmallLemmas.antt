@@ -213,7 +213,6 @@ module _ (reach : Reach) (frame : ℕ) (sized : IsFrame frame) (live : Reg → B
     stores = λ n t at e k. few-small _ 4 (memory-items-fit.stores frame t at n near (has-words n k.words)).short (omega arith);
     arguments = λ n t e k. few-small _ 1 (memory-items-fit.arguments frame t n near).short (omega arith);
     next_arguments = λ n e k. few-small (ones (next_argument_code n)) 8 (memory-items-fit.next_arguments n).short (omega arith);
-    results = λ n t e. values-small n;
     pushes = λ n last e k. few-small _ 3 (memory-items-fit.pushes frame (staged_count staged) n near (few-staged n live staged choices labels last k e) (has-words n k.words 0)).short (omega arith);
     controls = λ n is k. control-small reach n.op n.operands frame place k.formed.forms;
   }
