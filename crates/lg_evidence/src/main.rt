@@ -1,7 +1,7 @@
 // Compares the tables and the models of the processors with evidence from outside, the files of
 // `data`: what assemblers make of each instruction, bytes that are no instruction, runs of a few steps, and
 // whole programs. Prints a line for each file, and first, for each of up to twenty lines that differ, the
-// line and what was found in its place.
+// line and what was found in its place. Each line of the files whose names begin with `wrong` is to differ.
 #![tactic(auto)]
 
 mod aarch64;
@@ -24,6 +24,13 @@ use std::io;
 use steps::check_steps;
 use x86_64::X86;
 
+// The targets, with their files of runs of a few steps.
+const STEPS: [(Target, &str); 3] = [
+    (Target::Aarch64, "step_aarch64.tsv"),
+    (Target::Riscv64, "step_riscv64.tsv"),
+    (Target::X86_64, "step_x86_64.tsv"),
+];
+
 fn main(rt: HostRuntime) -> io::Result<()> {
     check_spelled::<Aarch64>(&rt, "encode_aarch64.tsv")?;
     check_refused::<Aarch64>(&rt, "decode_none_aarch64.tsv")?;
@@ -31,9 +38,11 @@ fn main(rt: HostRuntime) -> io::Result<()> {
     check_refused::<Riscv64>(&rt, "decode_none_riscv64.tsv")?;
     check_spelled::<X86>(&rt, "encode_x86_64.tsv")?;
     check_refused::<X86>(&rt, "decode_none_x86_64.tsv")?;
-    for target in [Target::Aarch64, Target::Riscv64, Target::X86_64] {
-        check_steps(&rt, target)?;
+    for (target, steps) in STEPS {
+        check_steps(&rt, steps, target)?;
         check_programs(&rt, target)?;
     }
-    Ok(())
+    check_spelled::<Riscv64>(&rt, "wrong_encode_riscv64.tsv")?;
+    check_refused::<Riscv64>(&rt, "wrong_decode_none_riscv64.tsv")?;
+    check_steps(&rt, "wrong_step_riscv64.tsv", Target::Riscv64)
 }

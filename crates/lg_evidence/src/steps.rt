@@ -22,17 +22,12 @@ const MOST_FRONT: u64 = 4_096;
 // the address of the word that a run of x86-64 begins with on its stack
 const RETURN: u64 = 0x3fff_fff8;
 
-fn file_of(target: Target) -> &'static str {
-    match target {
-        Target::X86_64 => "step_x86_64.tsv",
-        Target::Aarch64 => "step_aarch64.tsv",
-        Target::Riscv64 => "step_riscv64.tsv",
-    }
-}
-
-/// Checks a target's file of runs of few steps, all on one processor, which is set up anew for each.
-pub fn check_steps(rt: &(impl Files + Print + AllocGlobal), target: Target) -> io::Result<()> {
-    let file = file_of(target);
+/// Checks a file of runs of few steps of a target, all on one processor, which is set up anew for each.
+pub fn check_steps(
+    rt: &(impl Files + Print + AllocGlobal),
+    file: &str,
+    target: Target,
+) -> io::Result<()> {
     let text = fs::read_to_string(rt, file)?;
     let alloc = rt.alloc();
     let args = vec![in alloc; 0u8; ARGS_LEN]?;
@@ -287,47 +282,4 @@ fn differing(alloc: Global, cpu: &Cpu, stands: Stands) -> Result<Outcome, AllocE
         }
     }
     Ok(Outcome::Differs(text))
-}
-
-#[cfg(test)]
-mod tests {
-    use super::*;
-    use std::test::Fail;
-
-    #[test]
-    fn compares_runs(rt: HostRuntime) -> Result<(), Fail> {
-        let alloc = rt.alloc();
-        let mut out = sink(alloc)?;
-        let Some(mut cpu) = processor(alloc, Target::Riscv64, &[], &[0; 8])? else {
-            assert!(rt; false, "no processor");
-            return Ok(());
-        };
-        for (line, agrees) in [
-            ("1\taddi\t93021000\t-\tWent pc=10000004 x5=1\tgas", true),
-            ("1\taddi\t93021000\t-\tWent pc=10000004 x5=2\tgas", false),
-            ("1\taddi\t93021000\t-\tWent pc=10000008 x5=1\tgas", false),
-            ("1\taddi\t93021000\t-\tWent pc=10000004\tgas", false),
-            (
-                "2\taddi\t93021000\t-\tFetch steps=1 pc=10000004 x5=1\tgas",
-                true,
-            ),
-            (
-                "2\taddi\t93021000\t-\tFetch steps=2 pc=10000004 x5=1\tgas",
-                false,
-            ),
-            (
-                "1\tsd\t23305500\tx5=7 x10=20000000\tWent pc=10000004 m8@20000000=7\tgas",
-                true,
-            ),
-            (
-                "1\tsd\t23305500\tx5=7 x10=20000000\tWent pc=10000004 m8@20000000=8\tgas",
-                false,
-            ),
-            ("1\tsd\t23305500\tx5=7 x10=20000000", false),
-        ] {
-            let outcome = case_outcome(alloc, Target::Riscv64, &mut cpu, &mut out, line)?;
-            assert_eq!(rt; matches!(outcome, Outcome::Agrees), agrees, "at {line}");
-        }
-        Ok(())
-    }
 }

@@ -34,29 +34,3 @@ pub fn has_form(form: &[u8], bytes: &[u8]) -> bool {
     }
     rest.is_empty()
 }
-
-#[cfg(test)]
-mod tests {
-    use super::has_form;
-    use std::process::Abort;
-    use std::test::Fail;
-
-    #[test]
-    fn tells_forms(rt: HostRuntime) -> Result<(), Fail> {
-        let cases: [(&[u8], &[u8], bool); 9] = [
-            (b"spills # steps +\n", b"spills 0 steps 27\n", true),
-            (b"spills #\n", b"spills 10\n", true),
-            (b"spills +\n", b"spills 10\n", true),
-            (b"spills +\n", b"spills 0\n", false),
-            (b"spills #\n", b"spills \n", false),
-            (b"spills #\n", b"spills 1", false),
-            (b"spills #", b"spills 1\n", false),
-            (b"", b"", true),
-            (b"", b"1", false),
-        ];
-        for (form, bytes, holds) in cases {
-            assert_eq!(rt; has_form(form, bytes), holds);
-        }
-        Ok(())
-    }
-}

@@ -1,7 +1,8 @@
 // Makes the calls of `cases.tsv` in the folder `data` through the program's top call. Each line is a call, with tabs between: its name, the status
 // that it ends with, how many bytes the standard output takes, and the words behind the program's name. NAME.out is what it writes to the standard
 // output and NAME.err what it writes to the standard error, where `#` stands for any number and `+` for any but 0. Prints for each call whether it
-// does so. Then prints for each target of `targets.txt` whether the address that `label-address.tst` writes is that of its label in the listing.
+// does so. Then prints for each target of `targets.txt` whether the address that `label-address.tst` writes is that of its label in the listing, and
+// for each line of `forms.tsv`, a form and bytes, whether the bytes have the form.
 #![tactic(auto)]
 
 mod address;
@@ -10,6 +11,7 @@ mod form;
 
 use address::is_listed;
 use call::{Outcome, compare};
+use form::has_form;
 use std::{fs, io, str};
 
 // The line of a call.
@@ -34,6 +36,13 @@ fn make_call(rt: &HostRuntime, line: &str) -> io::Result<()> {
     print_outcome(rt, name, outcome)
 }
 
+// Whether the bytes of a line have its form.
+fn print_form(rt: &impl Print, line: &str) -> io::Result<()> {
+    let (form, bytes) = line.split_once('\t').unwrap_or((line, ""));
+    let has = has_form(form.as_bytes(), bytes.as_bytes());
+    println!(rt; "'{form}' of '{bytes}': {has}")
+}
+
 fn main(rt: HostRuntime) -> io::Result<()> {
     let calls = fs::read_to_string(&rt, "cases.tsv")?;
     for line in calls.as_str().lines() {
@@ -43,6 +52,10 @@ fn main(rt: HostRuntime) -> io::Result<()> {
     for target in targets.as_str().lines() {
         let listed = is_listed(&rt, target)?;
         println!(rt; "label-address of {target} is listed: {listed}")?;
+    }
+    let forms = fs::read_to_string(&rt, "forms.tsv")?;
+    for line in forms.as_str().lines() {
+        print_form(&rt, line)?;
     }
     Ok(())
 }
