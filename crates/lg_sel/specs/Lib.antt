@@ -1,4 +1,5 @@
 pub mod Asked
+pub mod Emittable
 pub mod Families
 pub mod Finished
 pub mod Needs

@@ -3,3 +3,6 @@
 
 pub mod laws;
 pub mod operands;
+mod shortest;
+
+pub use shortest::{ItemList, shortest_items};

@@ -1,11 +1,16 @@
 // The items of a node.
 
 ghost use Rattle.std.specs.Prelude.{◌≡◌, ◌<◌, ◌≤◌, [], true, length};
+ghost use Rattle.lg_live.specs.RegSets.{has};
 ghost use Rattle.lg_op.specs.Nodes.{InForm};
 ghost use Rattle.lg_sela.specs.Items.{node_items};
 ghost use Rattle.lg_sel.specs.Selected.{IsFrame, AreFirst, is_pusharg};
+ghost use Rattle.lg_sela.specs.Selected.{AreChosen};
+ghost use Rattle.lg_sela_items.specs.Items.{words_in};
 ghost use Rattle.lg_sela_values.specs.ValueItems.{HaveSlots};
 
+use lg_buf::CodeBuf;
+use lg_live::reg_set::RegSet;
 use lg_op::{ControlOp, Node, Op, PlainOp};
 use lg_sel::operands::staged_count;
 use lg_sel_items::{Items, Reach};
@@ -16,7 +21,7 @@ use lg_sela_values::value_items;
 use lg_temp::choice::{Choices, Staged};
 
 // Appends the items of a node with a reach to none. Its code begins at a place of the buffer.
-pub(crate) fn put_items(
+fn put_items(
     reach: Reach,
     node: &Node,
     frame: u32,
@@ -46,4 +51,28 @@ pub(crate) fn put_items(
         Op::Control(ControlOp::Pusharg, _) => put_argument(node, staged_count(staged), items),
         _ => put_control(node, frame, place, reach, items),
     }
+}
+
+/// The items of a node with a reach. Its code begins where the buffer ends.
+pub(crate) fn items_by(
+    reach: Reach,
+    node: &Node,
+    frame: u32,
+    choices: &Choices,
+    live_after: RegSet,
+    staged: &Staged,
+    buf: &CodeBuf,
+) -> Items<Item>
+    requires formed { InForm node.now }
+    requires frame { IsFrame frame }
+    requires choices { AreChosen node.now (has live_after) staged.now.arguments choices.now }
+    requires staged { is_pusharg node.now.op ≡ true → AreFirst staged.now.arguments }
+    ensures items { result ≡ node_items reach node.now frame choices.now staged.now.arguments (length buf.now.bytes) }
+    ensures few { words_in result ≤ 64 }
+{
+    let mut items = Items::new(buf.allocator());
+    put_items(reach, node, frame, choices, staged, buf.here(), &mut items);
+    // They are few.
+    let _list = items.as_slice();
+    items
 }

@@ -2,7 +2,6 @@
 #![tactic(auto)]
 
 mod items;
-mod reaches;
 mod selection;
 mod temporaries;
 

@@ -11,11 +11,12 @@ ghost use Rattle.lg_sel.specs.Promises.{IsCarriedWhenFinished, IsShortWhenFinish
 ghost use Rattle.lg_sela.specs.Selected.{AreChosen};
 ghost use Rattle.lg_base.specs.declared.target.Target.{Target};
 
-use crate::reaches::shortest_items;
+use crate::items::items_by;
 use lg_buf::CodeBuf;
 use lg_live::reg_set::RegSet;
 use lg_op::Node;
 use lg_sel::operands::see_numbers;
+use lg_sel::shortest_items;
 use lg_sel_items::append;
 use lg_temp::choice::{Choices, Staged};
 
@@ -66,7 +67,10 @@ pub fn select(
     ensures sparing { IsTrue result → IsSparingWhenFinished Target.Aarch64 node.now choices.now buf.old buf.new }
     ensures carries { IsTrue result → IsCarriedWhenFinished Target.Aarch64 node.now frame (has live_after) staged.arguments buf.old buf.new }
 {
-    see_numbers(node.operands.as_slice());
-    let (_reach, items) = shortest_items(node, frame, choices, live_after, &staged, buf);
+    let operands = node.operands.as_slice();
+    see_numbers(operands);
+    let (_reach, items) = shortest_items(operands, buf, |reach| {
+        items_by(reach, node, frame, choices, live_after, &staged, buf)
+    });
     append(&items, buf)
 }

@@ -1,6 +1,6 @@
 use Rattle.lg_live.specs.RegSets.{has}
-use Rattle.lg_selr.proofs.NodeFits.{choices-fit}
-use Rattle.lg_selr.proofs.reaches.items_by.Goals as goal
+use Rattle.lg_sela.proofs.NodeFits.{choices-fit}
+use Rattle.lg_sela.proofs.items.items_by.Goals as goal
 
 pub put_items-requires-clause-few : goal.put_items-requires-clause-few
 put_items-requires-clause-few c = (choices-fit c.args.node.now (has c.args.live_after) c.args.staged.now.arguments c.args.choices.now c.requires.choices).0
