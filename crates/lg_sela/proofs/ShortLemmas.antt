@@ -15,7 +15,7 @@ use Rattle.lg_carry.specs.FinalNodes.{Code}
 use Rattle.lg_carry_a64.specs.A64Rows.{link}
 use Rattle.lg_carry_a64.specs.Numbers.{quarter_code, positive_code, negative_code, number_code}
 use Rattle.lg_carry_a64.proofs.ComputerLemmas.{spellings-long}
-use Rattle.lg_op.specs.Forms.{forms_of, admit, admits, last_form}
+use Rattle.lg_op.specs.Forms.{admits, last_form}
 use Rattle.lg_op.specs.declared.form.Form.TheVariants as form
 use Rattle.lg_op.specs.declared.op.BranchSumOp.{BranchSumOp}
 use Rattle.lg_op.specs.declared.op.BranchSumOp.TheVariants as sum
@@ -42,7 +42,7 @@ use Rattle.lg_sel.specs.Shorts.{a64_is_relative, LeadsBy, IsShortBranchIf, IsSho
 use Rattle.lg_sel_control.proofs.ControlLemmas.{differ, never, never-sum}
 use Rattle.lg_sel_items.specs.Holes.{Each}
 use Rattle.lg_sel_items.proofs.ListLemmas.{each-append}
-use Rattle.lg_sel_items.specs.Reaches.{Leads, LeadsTo, IsChecked, IsLeast}
+use Rattle.lg_sel_items.specs.Reaches.{Leads, LeadsTo, IsLeast}
 use Rattle.lg_sel_items.specs.declared.reach.Reach.{Reach}
 use Rattle.lg_sel_items.specs.declared.reach.Reach.TheVariants.{Short, Near, Far}
 use Rattle.lg_sela_control.proofs.ControlLemmas.{second-is, branch-settled}

@@ -13,7 +13,7 @@ use Rattle.lg_carry.specs.FinalNodes.{Code}
 use Rattle.lg_carry_rv.specs.Numbers.{is_short, short_code, half_code, long_code, number_code}
 use Rattle.lg_base.specs.Words.{is_half}
 use Rattle.lg_base.specs.HostNames.{host_address}
-use Rattle.lg_op.specs.Forms.{forms_of, admit, admits, last_form}
+use Rattle.lg_op.specs.Forms.{admits, last_form}
 use Rattle.lg_op.specs.declared.form.Form.TheVariants as form
 use Rattle.lg_op.specs.declared.op.BranchSumOp.{BranchSumOp}
 use Rattle.lg_op.specs.declared.op.BranchSumOp.TheVariants as sum
