@@ -1,5 +1,5 @@
 -- What `select` owes for the items of a node that it appends, where those of each family are as they have to be.
-use Rattle.std.proofs.Common.{◌≡◌, ℕ, ◌+◌, ◌-◌, ◌<◌, ◌≤◌, Bool, true, false, List, [], ◌∷◌, ◌++◌, length, Some, ap, ◌∙◌, subst, arith}
+use Rattle.std.proofs.Common.{◌≡◌, ℕ, ◌+◌, ◌-◌, ◌<◌, ◌≤◌, Bool, true, false, List, ◌++◌, length, Some, ap, ◌∙◌, subst, arith}
 use Rattle.std.specs.Prelude.{IsTrue, count_by, slice_get, slice_index}
 use Rattle.lg_base.specs.Layout.{code_base, most_code}
 use Rattle.lg_base.specs.declared.target.Target.{Target}
