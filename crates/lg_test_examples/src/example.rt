@@ -47,6 +47,18 @@ fn words_of(
     Ok(words)
 }
 
+// Makes the top call on these words, and gives the status that it ends with. What it promises is for proofs, and of no use here.
+fn call(
+    rt: &(impl Files + Input + AllocGlobal),
+    words: &Vec<String>,
+    out: &mut MemorySink,
+    err: &mut MemorySink,
+) -> u8 {
+    let mut texts = StdTexts::new(rt);
+    let done = lightning(rt.alloc(), words, &mut texts, out, err);
+    status(&done.answer)
+}
+
 // What the top call comes to on these words.
 fn outcome_of(
     rt: &(impl Files + Input + AllocGlobal),
@@ -54,15 +66,13 @@ fn outcome_of(
     wanted: &[u8],
     wanted_status: u8,
 ) -> Outcome {
-    let mut texts = StdTexts::new(rt);
     let Ok(mut out) = MemorySink::new(rt.alloc(), ROOM, &[]) else {
         return Outcome::HasNoMemory;
     };
     let Ok(mut err) = MemorySink::new(rt.alloc(), ROOM, &[]) else {
         return Outcome::HasNoMemory;
     };
-    let done = lightning(rt.alloc(), words, &mut texts, &mut out, &mut err);
-    let ended = status(&done.answer);
+    let ended = call(rt, words, &mut out, &mut err);
     if !err.bytes().is_empty() {
         Outcome::HasLine
     } else if out.bytes() != wanted {
