@@ -9,7 +9,6 @@ use lg_host::heap_mark::HeapMark;
 use lg_host::host_end::HostEnd;
 use lg_io::memory_sink::MemorySink;
 use std::alloc::Global;
-use std::process::Abort;
 use std::test::Fail;
 
 const DATA: u64 = 0x2000_0000;
@@ -92,27 +91,37 @@ const PRINTED: &[(&[u8], &[u64], &[u8])] = &[
     (b"a%cb", &[0x100], b"a\0b"),
 ];
 
-#[test]
-fn prints_what_c_prints(rt: HostRuntime) -> Result<(), Fail> {
-    let mut memory = Memory::new(rt.alloc(), 8192, 8)?;
-    for (format, arguments, text) in PRINTED {
-        let (end, out) = print(rt.alloc(), &mut memory, format, arguments, &[])?;
-        assert_eq!(rt; out.bytes(), *text, "{}", format.len());
-        assert_eq!(rt; end, HostEnd::Value(text.len() as u64));
-    }
-    Ok(())
+// Whether a format comes to an end and prints a text.
+fn is_printed(
+    alloc: Global,
+    memory: &mut Memory,
+    format: &[u8],
+    arguments: &[u64],
+    wanted: (HostEnd, &[u8]),
+) -> Result<bool, OutOfMemory> {
+    let (end, out) = print(alloc, memory, format, arguments, &[])?;
+    Ok((end, out.bytes()) == wanted)
 }
 
-#[test]
-fn pads_to_the_greatest_width(rt: HostRuntime) -> Result<(), Fail> {
-    let mut memory = Memory::new(rt.alloc(), 8192, 8)?;
-    let (end, out) = print(rt.alloc(), &mut memory, b"%4095d%-9s|", &[1, TEXT], &[])?;
-    assert_eq!(rt; end, HostEnd::Value(4105));
-    assert_eq!(rt;
-        (out.bytes().len(), out.bytes().last()),
-        (4105, Some(&b'|'))
-    );
-    Ok(())
+// The first format that does not print what it should.
+fn first_other_print(
+    alloc: Global,
+    memory: &mut Memory,
+) -> Result<Option<&'static [u8]>, OutOfMemory> {
+    for (format, arguments, text) in PRINTED {
+        let wanted = (HostEnd::Value(text.len() as u64), *text);
+        if !is_printed(alloc, memory, format, arguments, wanted)? {
+            return Ok(Some(format));
+        }
+    }
+    Ok(None)
+}
+
+// Whether widths go up to 4,095.
+fn is_padded(alloc: Global, memory: &mut Memory) -> Result<bool, OutOfMemory> {
+    let (end, out) = print(alloc, memory, b"%4095d%-9s|", &[1, TEXT], &[])?;
+    let (size, last) = (out.bytes().len(), out.bytes().last());
+    Ok(end == HostEnd::Value(4105) && size == 4105 && last == Some(&b'|'))
 }
 
 // Formats that are undefined with the arguments 1 and 0.
@@ -144,15 +153,14 @@ const OTHER_FORMATS: &[&[u8]] = &[
     b"%d %s",
 ];
 
-#[test]
-fn refuses_other_formats(rt: HostRuntime) -> Result<(), Fail> {
-    let mut memory = Memory::new(rt.alloc(), 8192, 8)?;
+// The first of the other formats that is defined, or prints something.
+fn first_defined(alloc: Global, memory: &mut Memory) -> Result<Option<&'static [u8]>, OutOfMemory> {
     for format in OTHER_FORMATS {
-        let (end, out) = print(rt.alloc(), &mut memory, format, &[1, 0], &[])?;
-        assert_eq!(rt; end, HostEnd::Undefined, "{}", format.len());
-        assert_eq!(rt; out.bytes().len(), 0);
+        if !is_printed(alloc, memory, format, &[1, 0], (HostEnd::Undefined, b""))? {
+            return Ok(Some(format));
+        }
     }
-    Ok(())
+    Ok(None)
 }
 
 const LONG_FORMAT: &[u8] =
@@ -163,23 +171,76 @@ const LONG_ARGUMENTS: &[u64] = &[7, TEXT, 0x1234_5678];
 // The write that fails, and how many bytes of the long format come before it; the fifth never comes.
 const FAILING: &[(u64, usize)] = &[(1, 0), (2, 64), (3, 128), (4, 192), (5, 236)];
 
+// Whether the long format ends at the write that fails, with so many of the bytes of the whole.
+fn is_cut(
+    alloc: Global,
+    memory: &mut Memory,
+    whole: &[u8],
+    number: u64,
+    written: usize,
+) -> Result<bool, OutOfMemory> {
+    let (end, out) = print(alloc, memory, LONG_FORMAT, LONG_ARGUMENTS, &[number])?;
+    let is_fault = end == HostEnd::WriteFault;
+    Ok(is_fault == (number < 5) && out.bytes().len() == written && whole.starts_with(out.bytes()))
+}
+
+// The first write at which the long format ends otherwise.
+fn first_other_cut(
+    alloc: Global,
+    memory: &mut Memory,
+    whole: &[u8],
+) -> Result<Option<u64>, OutOfMemory> {
+    for (number, written) in FAILING {
+        if !is_cut(alloc, memory, whole, *number, *written)? {
+            return Ok(Some(*number));
+        }
+    }
+    Ok(None)
+}
+
+// Whether the long format ends with its 236 bytes where no write fails, and else at the write that does.
+fn are_cut(alloc: Global, memory: &mut Memory) -> Result<bool, OutOfMemory> {
+    let (end, whole) = print(alloc, memory, LONG_FORMAT, LONG_ARGUMENTS, &[])?;
+    let other = first_other_cut(alloc, memory, whole.bytes())?;
+    Ok(end == HostEnd::Value(236) && other == None)
+}
+
+// The formats that are tried.
+#[derive(Clone, Copy)]
+enum Formats {
+    Printed,
+    Padded,
+    Other,
+    Cut,
+}
+
+// Whether the formats print and end as they should, over a memory of their own.
+fn are_right(alloc: Global, formats: Formats) -> Result<bool, OutOfMemory> {
+    let mut memory = Memory::new(alloc, 8192, 8)?;
+    match formats {
+        Formats::Printed => Ok(first_other_print(alloc, &mut memory)? == None),
+        Formats::Padded => is_padded(alloc, &mut memory),
+        Formats::Other => Ok(first_defined(alloc, &mut memory)? == None),
+        Formats::Cut => are_cut(alloc, &mut memory),
+    }
+}
+
+#[test]
+fn prints_what_c_prints(rt: HostRuntime) -> Result<(), Fail> {
+    assert!(rt; are_right(rt.alloc(), Formats::Printed)?);
+    assert!(rt; are_right(rt.alloc(), Formats::Padded)?);
+    Ok(())
+}
+
+#[test]
+fn refuses_other_formats(rt: HostRuntime) -> Result<(), Fail> {
+    assert!(rt; are_right(rt.alloc(), Formats::Other)?);
+    Ok(())
+}
+
 #[test]
 fn stops_at_a_write_that_fails(rt: HostRuntime) -> Result<(), Fail> {
-    let mut memory = Memory::new(rt.alloc(), 8192, 8)?;
-    let (end, whole) = print(rt.alloc(), &mut memory, LONG_FORMAT, LONG_ARGUMENTS, &[])?;
-    assert_eq!(rt; end, HostEnd::Value(236));
-    for (number, written) in FAILING {
-        let (end, out) = print(
-            rt.alloc(),
-            &mut memory,
-            LONG_FORMAT,
-            LONG_ARGUMENTS,
-            &[*number],
-        )?;
-        assert_eq!(rt; end == HostEnd::WriteFault, *number < 5, "{number}");
-        assert_eq!(rt; out.bytes().len(), *written);
-        assert!(rt; whole.bytes().starts_with(out.bytes()));
-    }
+    assert!(rt; are_right(rt.alloc(), Formats::Cut)?);
     Ok(())
 }
 
@@ -189,19 +250,37 @@ type Case = (&'static [u8], HostName, &'static [u64], HostEnd);
 // The address behind the data part, whose last bytes are `12x`.
 const END: u64 = DATA + 4096;
 
-// Calls each function over a memory that holds its text, with a new heap.
-fn answers_are<R: AllocGlobal + Abort>(rt: &R, cases: &[Case]) -> Result<(), Fail> {
-    let mut memory = Memory::new(rt.alloc(), 4096, 8)?;
-    for (text, name, words, wanted) in cases {
-        place(&mut memory, DATA, &[0; 40]);
-        place(&mut memory, DATA, text);
-        place(&mut memory, END - 3, b"12x");
-        let mut out = MemorySink::new(rt.alloc(), 64, &[])?;
-        let mut heap = HeapMark::new();
-        let end = call(*name, words, false, &mut memory, &mut heap, &mut out);
-        assert_eq!(rt; end, *wanted, "{name:?} {}", text.len());
+// Whether a function answers so over a memory that holds its text, with a new heap.
+fn is_answered(alloc: Global, memory: &mut Memory, case: &Case) -> Result<bool, OutOfMemory> {
+    let (text, name, words, wanted) = case;
+    place(memory, DATA, &[0; 40]);
+    place(memory, DATA, text);
+    place(memory, END - 3, b"12x");
+    let mut out = MemorySink::new(alloc, 64, &[])?;
+    let end = call(*name, words, false, memory, &mut HeapMark::new(), &mut out);
+    Ok(end == *wanted)
+}
+
+// The number of the first case with another answer.
+fn first_other_answer(
+    alloc: Global,
+    memory: &mut Memory,
+    cases: &[Case],
+) -> Result<Option<u32>, OutOfMemory> {
+    let mut number = 0u32;
+    for case in cases {
+        if !is_answered(alloc, memory, case)? {
+            return Ok(Some(number));
+        }
+        number = number.wrapping_add(1);
     }
-    Ok(())
+    Ok(None)
+}
+
+// The same over a memory of its own.
+fn first_other(alloc: Global, cases: &[Case]) -> Result<Option<u32>, OutOfMemory> {
+    let mut memory = Memory::new(alloc, 4096, 8)?;
+    first_other_answer(alloc, &mut memory, cases)
 }
 
 const NUMBERS: &[Case] = &[
@@ -309,31 +388,35 @@ const SIZES_AND_ENDS: &[Case] = &[
     (b"", HostName::Abort, &[], HostEnd::Exit(134)),
 ];
 
+// Whether the cases of each table are answered so.
+fn are_all_answered(alloc: Global) -> Result<bool, OutOfMemory> {
+    for cases in [NUMBERS, STRINGS, RANGES, SIZES_AND_ENDS] {
+        if first_other(alloc, cases)? != None {
+            return Ok(false);
+        }
+    }
+    Ok(true)
+}
+
 #[test]
 fn answers_as_the_table_says(rt: HostRuntime) -> Result<(), Fail> {
-    answers_are(&rt, NUMBERS)?;
-    answers_are(&rt, STRINGS)?;
-    answers_are(&rt, RANGES)?;
-    answers_are(&rt, SIZES_AND_ENDS)
+    assert!(rt; are_all_answered(rt.alloc())?);
+    Ok(())
 }
 
 // A function with its arguments, what it answers, and the heap mark behind it.
 type Turn = (HostName, &'static [u64], u64, u64);
 
-// Calls the functions one after another, over one memory and one heap.
-fn answers_in_turn<R: AllocGlobal + Abort>(
-    rt: &R,
-    memory: &mut Memory,
-    out: &mut MemorySink,
-    turns: &[Turn],
-) -> Result<(), Fail> {
+// Whether the functions, called one after another over one memory and one heap, answer so.
+fn are_answered(memory: &mut Memory, out: &mut MemorySink, turns: &[Turn]) -> bool {
     let mut heap = HeapMark::new();
     for (name, words, want, mark) in turns {
         let end = call(*name, words, false, memory, &mut heap, out);
-        assert_eq!(rt; end, HostEnd::Value(*want), "{name:?}");
-        assert_eq!(rt; heap.mark(), *mark);
+        if end != HostEnd::Value(*want) || heap.mark() != *mark {
+            return false;
+        }
     }
-    Ok(())
+    true
 }
 
 const ZEROES: &[Turn] = &[
@@ -341,16 +424,31 @@ const ZEROES: &[Turn] = &[
     (HostName::Calloc, &[0, 9], HEAP + 0x20, HEAP + 0x30),
 ];
 
-// What `calloc` hands out is zero, and the bytes behind that it rounds up to stay.
+// Words of the heap behind these calls: what `calloc` hands out is zero, and the bytes behind that it rounds up to stay.
+const ZEROED: &[(u64, u64)] = &[(0x10, 0), (0x14, 0xffff_ffff), (0x20, 0xffff_ffff)];
+
+fn is_zeroed(memory: &mut Memory, out: &mut MemorySink) -> bool {
+    place(memory, HEAP, &[0xff; 64]);
+    if !are_answered(memory, out, ZEROES) {
+        return false;
+    }
+    for (at, want) in ZEROED {
+        if memory.load(HEAP.wrapping_add(*at), 4) != Some(*want) {
+            return false;
+        }
+    }
+    true
+}
+
+fn is_heap_zeroed(alloc: Global) -> Result<bool, OutOfMemory> {
+    let mut memory = Memory::new(alloc, 16, 8)?;
+    let mut out = MemorySink::new(alloc, 8, &[])?;
+    Ok(is_zeroed(&mut memory, &mut out))
+}
+
 #[test]
 fn zeroes_what_was_asked_for(rt: HostRuntime) -> Result<(), Fail> {
-    let mut memory = Memory::new(rt.alloc(), 16, 8)?;
-    let mut out = MemorySink::new(rt.alloc(), 8, &[])?;
-    place(&mut memory, HEAP, &[0xff; 64]);
-    answers_in_turn(&rt, &mut memory, &mut out, ZEROES)?;
-    for (at, want) in [(0x10, 0), (0x14, 0xffff_ffff), (0x20, 0xffff_ffff)] {
-        assert_eq!(rt; memory.load(HEAP + at, 4), Some(want));
-    }
+    assert!(rt; is_heap_zeroed(rt.alloc())?);
     Ok(())
 }
 
@@ -377,11 +475,16 @@ const HANDED_OUT: &[Turn] = &[
     (HostName::Putchar, &[HEAP + 0x42], 0x42, HEAP + 0x50),
 ];
 
+// Whether the heap is handed out so, and what is put there is written.
+fn is_heap_handed_out(alloc: Global) -> Result<bool, OutOfMemory> {
+    let mut memory = Memory::new(alloc, 16, 8)?;
+    let mut out = MemorySink::new(alloc, 64, &[])?;
+    let is_answered = are_answered(&mut memory, &mut out, HANDED_OUT);
+    Ok(is_answered && out.bytes() == b"AA\nB".as_slice())
+}
+
 #[test]
 fn hands_out_the_heap(rt: HostRuntime) -> Result<(), Fail> {
-    let mut memory = Memory::new(rt.alloc(), 16, 8)?;
-    let mut out = MemorySink::new(rt.alloc(), 64, &[])?;
-    answers_in_turn(&rt, &mut memory, &mut out, HANDED_OUT)?;
-    assert_eq!(rt; out.bytes(), b"AA\nB".as_slice());
+    assert!(rt; is_heap_handed_out(rt.alloc())?);
     Ok(())
 }

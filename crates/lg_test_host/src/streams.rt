@@ -1,35 +1,79 @@
 // Calls with ample memory, faults in mid-stream, and the edge to real files.
 
+use lg_base::refusal::OutOfMemory;
 use lg_io::digits::{Digits, Radix};
 use lg_io::memory_sink::MemorySink;
 use lg_io::memory_texts::MemoryTexts;
 use lg_io::sink::{Sink, SinkFault, write_all, write_parts};
 use lg_io::standard::{StdSink, StdTexts};
 use lg_io::texts::{TextFault, Texts};
-use std::io::Write;
+use std::alloc::Global;
+use std::io::{Input, Write};
+use std::rt::Files;
 use std::test::Fail;
 use std::{fs, io};
 
+const WRITTEN: &str = "lg_io_written.txt";
+
+// What is asked of texts, with the answer: a text is selected, or so many bytes are read, behind which the slice is as told, if that is not empty.
+type Turn<'a> = (&'a str, Result<usize, TextFault>, &'a [u8]);
+
+// Makes the turns one after the other, with a slice to read into, and tells whether each is answered so. A turn without a name reads.
+fn turns_are<T: Texts>(texts: &mut T, into: &mut [u8], turns: &[Turn<'_>]) -> bool {
+    for (name, wanted, bytes) in turns {
+        let answer = match *name {
+            "" => texts.read(into),
+            name => selected(texts, name),
+        };
+        if answer != *wanted || !(bytes.is_empty() || *into == **bytes) {
+            return false;
+        }
+    }
+    true
+}
+
+// Selects a text; 0 where it is selected.
+fn selected<T: Texts>(texts: &mut T, name: &str) -> Result<usize, TextFault> {
+    texts.select(name)?;
+    Ok(0)
+}
+
+// Before a text is selected, and at a text that is not there, which counts as a fault.
+const WITHOUT_TEXT: &[Turn<'static>] = &[
+    ("", Ok(0), b""),
+    ("lg_io_absent.txt", Err(TextFault::Failed), b""),
+];
+
+const WRITTEN_IS_READ: &[Turn<'static>] = &[
+    (WRITTEN, Ok(0), b""),
+    ("", Ok(4), b"one "),
+    ("", Ok(3), b"two "),
+    ("", Ok(0), b""),
+    ("-", Ok(0), b""),
+];
+
+// Writes the file, in three parts of which one is empty.
+fn is_written(rt: &impl Files) -> io::Result<bool> {
+    let mut sink = StdSink::new(fs::create(rt, WRITTEN)?);
+    let is_done = write_parts(&mut sink, &[b"one ", b"", b"two"]).is_ok();
+    Ok(is_done && sink.faults() == 0)
+}
+
+// Whether the file is read back.
+fn is_read_back(rt: &(impl Files + Input)) -> bool {
+    let mut texts = StdTexts::new(rt);
+    let mut into = [0u8; 4];
+    turns_are(&mut texts, &mut into, WITHOUT_TEXT)
+        && texts.faults() == 1
+        && turns_are(&mut texts, &mut into, WRITTEN_IS_READ)
+        && texts.faults() == 1
+}
+
 #[test]
 fn writes_a_file_and_reads_it_back(rt: HostRuntime) -> Result<(), Fail> {
-    let mut sink = StdSink::new(fs::create(&rt, "lg_io_written.txt")?);
-    write_parts(&mut sink, &[b"one ", b"", b"two"])?;
-    assert_eq!(rt; sink.faults(), 0);
-    drop(sink);
-    let mut texts = StdTexts::new(&rt);
-    let mut into = [0u8; 4];
-    assert_eq!(rt; texts.read(&mut into), Ok(0));
-    assert_eq!(rt; texts.select("lg_io_absent.txt"), Err(TextFault::Failed));
-    assert_eq!(rt; texts.faults(), 1);
-    texts.select("lg_io_written.txt")?;
-    assert_eq!(rt; texts.read(&mut into), Ok(4));
-    assert_eq!(rt; into.as_slice(), b"one ".as_slice());
-    assert_eq!(rt; texts.read(&mut into), Ok(3));
-    assert_eq!(rt; into.as_slice(), b"two ".as_slice());
-    assert_eq!(rt; texts.read(&mut into), Ok(0));
-    texts.select("-")?;
-    assert_eq!(rt; texts.faults(), 1);
-    fs::remove_file(&rt, "lg_io_written.txt")?;
+    assert!(rt; is_written(&rt)?);
+    assert!(rt; is_read_back(&rt));
+    fs::remove_file(&rt, WRITTEN)?;
     Ok(())
 }
 
@@ -54,59 +98,93 @@ impl Write for Tired {
     }
 }
 
+// Whether each write that fails is counted.
+fn are_faults_counted(sink: &mut StdSink<Tired>) -> bool {
+    write_all(sink, b"abc") == Err(SinkFault::Failed)
+        && sink.faults() == 1
+        && sink.write(b"c") == Err(SinkFault::Failed)
+        && sink.faults() == 2
+}
+
 #[test]
 fn counts_the_faults_of_a_writer(rt: HostRuntime) {
     let mut sink = StdSink::new(Tired { calls: 0 });
-    assert_eq!(rt; write_all(&mut sink, b"abc"), Err(SinkFault::Failed));
-    assert_eq!(rt; sink.faults(), 1);
-    assert_eq!(rt; sink.write(b"c"), Err(SinkFault::Failed));
-    assert_eq!(rt; sink.faults(), 2);
+    assert!(rt; are_faults_counted(&mut sink));
+}
+
+// Texts of which the first with the name `a` is read, and calls that fail: the fourth and the sixth.
+const MEMORY_IS_READ: &[Turn<'static>] = &[
+    ("b", Err(TextFault::Failed), b""),
+    ("a", Ok(0), b""),
+    ("", Ok(3), b"fir"),
+    ("", Err(TextFault::Failed), b""),
+    ("", Ok(2), b"str"),
+    ("a", Err(TextFault::Failed), b""),
+    ("", Ok(0), b""),
+];
+
+fn add_texts(texts: &mut MemoryTexts) -> Result<(), OutOfMemory> {
+    texts.add("a", b"first")?;
+    texts.add("a", b"second")
+}
+
+fn are_texts_read(alloc: Global) -> Result<bool, OutOfMemory> {
+    let mut texts = MemoryTexts::new(alloc, &[4, 6])?;
+    match add_texts(&mut texts) {
+        Ok(()) => {
+            let are_read = turns_are(&mut texts, &mut [0u8; 3], MEMORY_IS_READ);
+            Ok(are_read && texts.faults() == 3)
+        }
+        Err(OutOfMemory) => Err(OutOfMemory),
+    }
 }
 
 #[test]
 fn reads_texts_of_memory(rt: HostRuntime) -> Result<(), Fail> {
-    let mut texts = MemoryTexts::new(rt.alloc(), &[4, 6])?;
-    texts.add("a", b"first")?;
-    texts.add("a", b"second")?;
-    let mut into = [0u8; 3];
-    assert_eq!(rt; texts.select("b"), Err(TextFault::Failed));
-    assert_eq!(rt; texts.select("a"), Ok(()));
-    assert_eq!(rt; texts.read(&mut into), Ok(3));
-    assert_eq!(rt; into.as_slice(), b"fir".as_slice());
-    assert_eq!(rt; texts.read(&mut into), Err(TextFault::Failed));
-    assert_eq!(rt; texts.read(&mut into), Ok(2));
-    assert_eq!(rt; into.as_slice(), b"str".as_slice());
-    assert_eq!(rt; texts.select("a"), Err(TextFault::Failed));
-    assert_eq!(rt; texts.read(&mut into), Ok(0));
-    assert_eq!(rt; texts.faults(), 3);
+    assert!(rt; are_texts_read(rt.alloc())?);
     Ok(())
+}
+
+// Whether a sink with room for 5 bytes, whose second write fails, takes what it can.
+fn is_filled(sink: &mut MemorySink) -> bool {
+    sink.write(b"ab") == Ok(2)
+        && sink.write(b"cd") == Err(SinkFault::Failed)
+        && write_parts(sink, &[b"c", b"def"]) == Err(SinkFault::Failed)
+        && sink.bytes() == b"abcde".as_slice()
+        && sink.faults() == 2
+}
+
+fn is_sink_filled(alloc: Global) -> Result<bool, OutOfMemory> {
+    let mut sink = MemorySink::new(alloc, 5, &[2])?;
+    Ok(is_filled(&mut sink))
 }
 
 #[test]
 fn fills_a_sink_of_memory(rt: HostRuntime) -> Result<(), Fail> {
-    let mut sink = MemorySink::new(rt.alloc(), 5, &[2])?;
-    assert_eq!(rt; sink.write(b"ab"), Ok(2));
-    assert_eq!(rt; sink.write(b"cd"), Err(SinkFault::Failed));
-    assert_eq!(rt;
-        write_parts(&mut sink, &[b"c", b"def"]),
-        Err(SinkFault::Failed)
-    );
-    assert_eq!(rt; sink.bytes(), b"abcde".as_slice());
-    assert_eq!(rt; sink.faults(), 2);
+    assert!(rt; is_sink_filled(rt.alloc())?);
     Ok(())
+}
+
+// Numbers with their digits.
+const DIGITS: &[(u64, Radix, &[u8])] = &[
+    (0, Radix::Decimal, b"0"),
+    (u64::MAX, Radix::Decimal, b"18446744073709551615"),
+    (u64::MAX, Radix::Octal, b"1777777777777777777777"),
+    (0xab_cdef, Radix::Hexadecimal, b"abcdef"),
+    (0x19, Radix::UpperHexadecimal, b"19"),
+    (0xfa, Radix::UpperHexadecimal, b"FA"),
+];
+
+fn are_digits(table: &[(u64, Radix, &[u8])]) -> bool {
+    for (number, radix, digits) in table {
+        if Digits::of(*number, *radix).as_slice() != *digits {
+            return false;
+        }
+    }
+    true
 }
 
 #[test]
 fn writes_digits(rt: HostRuntime) {
-    let most = u64::MAX;
-    for (number, radix, digits) in [
-        (0, Radix::Decimal, b"0".as_slice()),
-        (most, Radix::Decimal, b"18446744073709551615".as_slice()),
-        (most, Radix::Octal, b"1777777777777777777777".as_slice()),
-        (0xab_cdef, Radix::Hexadecimal, b"abcdef".as_slice()),
-        (0x19, Radix::UpperHexadecimal, b"19".as_slice()),
-        (0xfa, Radix::UpperHexadecimal, b"FA".as_slice()),
-    ] {
-        assert_eq!(rt; Digits::of(number, radix).as_slice(), digits);
-    }
+    assert!(rt; are_digits(DIGITS));
 }
