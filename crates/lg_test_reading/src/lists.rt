@@ -2,42 +2,62 @@
 
 use lg_base::code::{CodeBytes, Origin, Places};
 use lg_base::image::{ArgImage, DataImage};
+use lg_base::refusal::OutOfMemory;
 use lg_node::LabelAddresses;
+use std::alloc::Global;
 use std::test::Fail;
+
+fn is_code_held(alloc: Global) -> Result<bool, OutOfMemory> {
+    let bytes = CodeBytes::of(alloc, &[1, 2, 3])?;
+    Ok(bytes.as_slice() == [1, 2, 3].as_slice())
+}
+
+fn is_grown_code_held(alloc: Global) -> Result<bool, OutOfMemory> {
+    let mut grown = CodeBytes::with_room(alloc, 2)?;
+    let was_empty = grown.is_empty();
+    grown.push(7);
+    grown.push(8);
+    Ok(was_empty && grown.len() == 2 && grown.get(1) == 8)
+}
+
+fn are_images_held(alloc: Global) -> Result<bool, OutOfMemory> {
+    let data = DataImage::of(alloc, b"data")?;
+    let args = ArgImage::of(alloc, b"args")?;
+    let are_same = data.as_slice() == b"data".as_slice() && args.as_slice() == b"args".as_slice();
+    Ok(are_same && data.get(1) == b'a' && args.get(0) == b'a')
+}
 
 #[test]
 fn holds_bytes(rt: HostRuntime) -> Result<(), Fail> {
-    let bytes = CodeBytes::of(rt.alloc(), &[1, 2, 3])?;
-    assert_eq!(rt; bytes.as_slice(), [1, 2, 3].as_slice());
-    let mut grown = CodeBytes::with_room(rt.alloc(), 2)?;
-    assert_eq!(rt; grown.is_empty(), true);
-    grown.push(7);
-    grown.push(8);
-    assert_eq!(rt; grown.len(), 2);
-    assert_eq!(rt; grown.get(1), 8);
-    let data = DataImage::of(rt.alloc(), b"data")?;
-    assert_eq!(rt; data.as_slice(), b"data".as_slice());
-    assert_eq!(rt; data.get(1), b'a');
-    let args = ArgImage::of(rt.alloc(), b"args")?;
-    assert_eq!(rt; args.as_slice(), b"args".as_slice());
-    assert_eq!(rt; args.get(0), b'a');
+    assert!(rt; is_code_held(rt.alloc())?);
+    assert!(rt; is_grown_code_held(rt.alloc())?);
+    assert!(rt; are_images_held(rt.alloc())?);
     Ok(())
+}
+
+fn are_places_held(alloc: Global) -> Result<bool, OutOfMemory> {
+    let places = Places::of(alloc, &[4, 8])?;
+    let mut grown = Places::with_room(alloc, 1)?;
+    grown.push(12);
+    Ok(places.as_slice() == [4, 8].as_slice() && grown.get(0) == 12)
+}
+
+fn is_origin_held(alloc: Global) -> Result<bool, OutOfMemory> {
+    let origin = Origin::of(alloc, &[0, 2])?;
+    let mut grown = Origin::with_room(alloc, 1)?;
+    grown.push(5);
+    Ok(origin.as_slice() == [0, 2].as_slice() && grown.get(0) == 5)
+}
+
+fn are_addresses_held(alloc: Global) -> Result<bool, OutOfMemory> {
+    let addresses = LabelAddresses::of(alloc, &[0x1000_0000])?;
+    Ok(addresses.get(0) == 0x1000_0000 && addresses.len() == 1)
 }
 
 #[test]
 fn holds_places_and_addresses(rt: HostRuntime) -> Result<(), Fail> {
-    let places = Places::of(rt.alloc(), &[4, 8])?;
-    assert_eq!(rt; places.as_slice(), [4, 8].as_slice());
-    let mut grown = Places::with_room(rt.alloc(), 1)?;
-    grown.push(12);
-    assert_eq!(rt; grown.get(0), 12);
-    let origin = Origin::of(rt.alloc(), &[0, 2])?;
-    assert_eq!(rt; origin.as_slice(), [0, 2].as_slice());
-    let mut grown = Origin::with_room(rt.alloc(), 1)?;
-    grown.push(5);
-    assert_eq!(rt; grown.get(0), 5);
-    let addresses = LabelAddresses::of(rt.alloc(), &[0x1000_0000])?;
-    assert_eq!(rt; addresses.get(0), 0x1000_0000);
-    assert_eq!(rt; addresses.len(), 1);
+    assert!(rt; are_places_held(rt.alloc())?);
+    assert!(rt; is_origin_held(rt.alloc())?);
+    assert!(rt; are_addresses_held(rt.alloc())?);
     Ok(())
 }

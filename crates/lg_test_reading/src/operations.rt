@@ -4,8 +4,8 @@ use lg_base::host_name::HostName;
 use lg_op::*;
 
 // Every name of the instruction table.
-const NAMES: &[u8] =
-    b"addr addi subr subi rsbr rsbi mulr muli andr andi orr ori xorr xori lshr lshi rshr rshi rshr_u \
+const NAMES: &str =
+    "addr addi subr subi rsbr rsbi mulr muli andr andi orr ori xorr xori lshr lshi rshr rshi rshr_u \
         rshi_u divr divi divr_u divi_u remr remi remr_u remi_u addcr addci subcr subci addxr addxi subxr \
         subxi ltr lti ltr_u lti_u ler lei ler_u lei_u ger gei ger_u gei_u gtr gti gtr_u gti_u eqr eqi ner \
         nei qmulr qmuli qmulr_u qmuli_u qdivr qdivi qdivr_u qdivi_u bltr blti bltr_u blti_u bler blei \
@@ -19,18 +19,29 @@ const NAMES: &[u8] =
         str_i sti_i stxr_i stxi_i str sti stxr stxi retval_c retval_uc retval_s retval_us retval_i \
         retval_ui retval getarg_c getarg_uc getarg_s getarg_us getarg_i getarg_ui getarg";
 
+// Whether a word names an operation, whose name is the word.
+fn is_name(word: &[u8]) -> bool {
+    match Op::by_name(word) {
+        Some(op) => op.name().as_slice() == word,
+        None => false,
+    }
+}
+
+// How many of the words of a text are names.
+fn names_in(text: &str) -> (u32, u32) {
+    let (mut names, mut words) = (0u32, 0u32);
+    for word in text.split(' ') {
+        if is_name(word.as_bytes()) {
+            names = names.wrapping_add(1);
+        }
+        words = words.wrapping_add(1);
+    }
+    (names, words)
+}
+
 #[test]
 fn reads_and_writes_every_name(rt: HostRuntime) {
-    let mut count = 0u32;
-    for word in NAMES.split(|byte| *byte == b' ') {
-        let op = Op::by_name(word);
-        assert!(rt;
-            op.is_some_and(|op| op.name().as_slice() == word),
-            "{word:?}"
-        );
-        count = count.wrapping_add(1);
-    }
-    assert_eq!(rt; count, 196);
+    assert_eq!(rt; names_in(NAMES), (196, 196));
 }
 
 // Words, and the operations that they name.
@@ -80,11 +91,24 @@ const OPERATIONS: &[(&[u8], Op)] = &[
     (b"getarg_ui", Op::Getarg(ValueType::UnsignedInt)),
 ];
 
+// Whether a word names this operation, or none.
+fn is_named(word: &[u8], op: Option<Op>) -> bool {
+    Op::by_name(word) == op
+}
+
+// The first word of the table that names another operation.
+fn first_other(table: &[(&'static [u8], Op)]) -> Option<&'static [u8]> {
+    for (word, op) in table {
+        if !is_named(word, Some(*op)) {
+            return Some(word);
+        }
+    }
+    None
+}
+
 #[test]
 fn reads_names_as_operations(rt: HostRuntime) {
-    for (word, op) in OPERATIONS {
-        assert_eq!(rt; Op::by_name(word), Some(*op), "{word:?}");
-    }
+    assert_eq!(rt; first_other(OPERATIONS), None);
 }
 
 // Words that name no operation.
@@ -94,11 +118,19 @@ const OTHER_WORDS: &[&[u8]] = &[
     b"getargr", b"jmp",
 ];
 
+// The first of some words that names an operation.
+fn first_name(words: &[&'static [u8]]) -> Option<&'static [u8]> {
+    for word in words {
+        if !is_named(word, None) {
+            return Some(word);
+        }
+    }
+    None
+}
+
 #[test]
 fn knows_no_other_word(rt: HostRuntime) {
-    for word in OTHER_WORDS {
-        assert_eq!(rt; Op::by_name(word), None, "{word:?}");
-    }
+    assert_eq!(rt; first_name(OTHER_WORDS), None);
 }
 
 // Whether an operation's node with these operands is in form.
@@ -161,13 +193,6 @@ const TAKEN: &[(&[u8], &[Operand])] = &[
     (b"ret", &[]),
 ];
 
-#[test]
-fn takes_operands_of_its_forms(rt: HostRuntime) {
-    for (word, operands) in TAKEN {
-        assert!(rt; takes(word, operands), "{word:?}");
-    }
-}
-
 // Operations with operands that they do not take.
 const NOT_TAKEN: &[(&[u8], &[Operand])] = &[
     (b"addr", &[R0, R0]),
@@ -191,9 +216,18 @@ const NOT_TAKEN: &[(&[u8], &[Operand])] = &[
     (b"getarg", &[R0, SEVEN]),
 ];
 
-#[test]
-fn takes_no_other_operands(rt: HostRuntime) {
-    for (word, operands) in NOT_TAKEN {
-        assert!(rt; !takes(word, operands), "{word:?}");
+// The first row of a table of which this is not so: that each operation takes its operands, or that none does.
+fn first_where_not(table: &[(&'static [u8], &[Operand])], taken: bool) -> Option<&'static [u8]> {
+    for (word, operands) in table {
+        if takes(word, operands) != taken {
+            return Some(word);
+        }
     }
+    None
+}
+
+#[test]
+fn takes_operands_of_its_forms_and_no_others(rt: HostRuntime) {
+    assert_eq!(rt; first_where_not(TAKEN, true), None);
+    assert_eq!(rt; first_where_not(NOT_TAKEN, false), None);
 }

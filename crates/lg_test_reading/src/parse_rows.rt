@@ -1,8 +1,8 @@
 // What is made of texts: nodes with their operands, places of labels and bytes of data; and the largest texts.
 
-use crate::rows::{parts, told};
+use crate::rows::{parts, push_other, told};
 use lg_base::refusal::Stop;
-use lg_node::{Form, Label, NodeList, Op, Unit};
+use lg_node::{Form, Label, Node, NodeList, Op, Unit};
 use lg_tst::parse;
 use std::alloc::{AllocError, Global};
 use std::test::Fail;
@@ -32,109 +32,133 @@ fn read(alloc: Global, text: &[u8]) -> Result<Unit, Stop> {
     parse(alloc, text)
 }
 
-// The line and the last operand of each node, in lines.
-fn last_operands(alloc: Global, nodes: &NodeList) -> Result<String, AllocError> {
-    let mut list = String::new(alloc);
+// Appends the line and the last operand of each node, in lines.
+fn push_operands(list: &mut String, nodes: &NodeList) -> Result<(), AllocError> {
     for index in 0..nodes.len() {
         let node = nodes.node(index);
         let line = node.line;
         match node.operands.as_slice().last() {
-            Some(operand) => list.push_str(&format!(in alloc; "{line} {operand:?}\n")?)?,
-            None => list.push_str(&format!(in alloc; "{line} none\n")?)?,
+            Some(operand) => write!(list, "{line} {operand:?}\n")?,
+            None => write!(list, "{line} none\n")?,
         }
     }
-    Ok(list)
+    Ok(())
 }
 
-// The place of each label, in lines.
-fn places(alloc: Global, nodes: &NodeList) -> Result<String, AllocError> {
-    let mut list = String::new(alloc);
+// Appends the place of each label, in lines.
+fn push_places(list: &mut String, nodes: &NodeList) -> Result<(), AllocError> {
     for label in 0..nodes.labels() {
         match nodes.place(Label(label)) {
-            Some(place) => list.push_str(&format!(in alloc; "{place:?}\n")?)?,
-            None => list.push_str("none\n")?,
+            Some(place) => write!(list, "{place:?}\n")?,
+            None => write!(list, "none\n")?,
         }
     }
-    Ok(list)
-}
-
-#[test]
-fn binds_labels_to_nodes_and_bytes(rt: HostRuntime) -> Result<(), Fail> {
-    let unit = read(
-        rt.alloc(),
-        b"prolog f: jmpi g .data 16 .c 1 x: .align 8 y: .c 1 z: .code ret g:",
-    )?;
-    assert_eq!(rt;
-        places(rt.alloc(), &unit.nodes)?.as_str(),
-        "Node(1)\nNode(3)\nImage(1)\nImage(8)\nImage(9)\n"
-    );
-    assert_eq!(rt;
-        last_operands(rt.alloc(), &unit.nodes)?.as_str(),
-        "1 none\n1 Label(Label(1))\n1 none\n"
-    );
     Ok(())
 }
 
-#[test]
-fn reads_a_text(rt: HostRuntime) -> Result<(), Fail> {
-    let unit = read(
-        rt.alloc(),
-        b".data 4 word: .s -2 .code main: prolog\nallocai 9 $x movi %r0 $x jmpi main",
-    )?;
-    assert_eq!(rt; unit.image.as_slice(), b"\xfe\xff\0\0".as_slice());
-    assert_eq!(rt;
-        places(rt.alloc(), &unit.nodes)?.as_str(),
-        "Image(0)\nNode(0)\n"
-    );
+// A text, and what is told of it: the places of labels, the lines and last operands of nodes, or the bytes of data.
+struct Reading {
+    text: &'static [u8],
+    places: Option<&'static str>,
+    operands: Option<&'static str>,
+    image: Option<&'static [u8]>,
+}
+
+const READINGS: &[Reading] = &[
+    // labels are bound to nodes and bytes
+    Reading {
+        text: b"prolog f: jmpi g .data 16 .c 1 x: .align 8 y: .c 1 z: .code ret g:",
+        places: Some("Node(1)\nNode(3)\nImage(1)\nImage(8)\nImage(9)\n"),
+        operands: Some("1 none\n1 Label(Label(1))\n1 none\n"),
+        image: None,
+    },
     // the local stands at -144
-    assert_eq!(rt;
-        last_operands(rt.alloc(), &unit.nodes)?.as_str(),
-        "1 none\n2 Slot(0)\n2 Number(18446744073709551472)\n2 Label(Label(1))\n"
-    );
-    Ok(())
+    Reading {
+        text: b".data 4 word: .s -2 .code main: prolog\nallocai 9 $x movi %r0 $x jmpi main",
+        places: Some("Image(0)\nNode(0)\n"),
+        operands: Some("1 none\n2 Slot(0)\n2 Number(18446744073709551472)\n2 Label(Label(1))\n"),
+        image: Some(b"\xfe\xff\0\0"),
+    },
+    // bytes of data
+    Reading {
+        text: b".data 24 .c -1 256 \"a\\n\" 'b' .s 0x1234 .i -2 .align 4 .l $(1 << 40 | 3) .size 1",
+        places: None,
+        operands: None,
+        image: Some(b"\xff\0a\n\0b\x34\x12\xfe\xff\xff\xff\x03\0\0\0\0\x01\0\0\0\0\0\0"),
+    },
+    // arguments and locals: the locals stand at -136, -152 and, in the second function, -136
+    Reading {
+        text: b"prolog arg $a allocai 8 $b arg $c allocai 9 $d\nmovi %r0 $b movi %r0 $d getarg %r0 $c prolog allocai 1 $d movi %r0 $d",
+        places: None,
+        operands: Some(
+            "1 none\n1 Slot(0)\n1 Slot(0)\n1 Slot(1)\n1 Slot(1)\n\
+            2 Number(18446744073709551480)\n2 Number(18446744073709551464)\n2 Slot(1)\n\
+            2 none\n2 Slot(0)\n2 Number(18446744073709551480)\n",
+        ),
+        image: None,
+    },
+    // the number of the first variable argument counts the `arg`s since the `prolog`
+    Reading {
+        text: b"prolog va_start %r0 arg $a arg $b ellipsis va_start %r0\nva_arg %r1 %r0 va_end %r0 prolog va_start %v0",
+        places: None,
+        operands: Some(
+            "1 none\n1 Number(0)\n1 Slot(0)\n1 Slot(1)\n1 none\n1 Number(2)\n\
+            2 Reg(R0)\n2 Reg(R0)\n2 none\n2 Number(0)\n",
+        ),
+        image: None,
+    },
+];
+
+fn are_places(alloc: Global, nodes: &NodeList, wanted: &str) -> Result<bool, AllocError> {
+    let mut list = String::new(alloc);
+    push_places(&mut list, nodes)?;
+    Ok(list.as_str() == wanted)
+}
+
+fn are_operands(alloc: Global, nodes: &NodeList, wanted: &str) -> Result<bool, AllocError> {
+    let mut list = String::new(alloc);
+    push_operands(&mut list, nodes)?;
+    Ok(list.as_str() == wanted)
+}
+
+// Whether a unit is what is told of it.
+fn is_told(alloc: Global, unit: &Unit, reading: &Reading) -> Result<bool, AllocError> {
+    if let Some(places) = reading.places {
+        if !are_places(alloc, &unit.nodes, places)? {
+            return Ok(false);
+        }
+    }
+    if let Some(operands) = reading.operands {
+        if !are_operands(alloc, &unit.nodes, operands)? {
+            return Ok(false);
+        }
+    }
+    match reading.image {
+        Some(image) => Ok(unit.image.as_slice() == image),
+        None => Ok(true),
+    }
+}
+
+fn is_read(alloc: Global, reading: &Reading) -> Result<bool, AllocError> {
+    match read(alloc, reading.text) {
+        Ok(unit) => is_told(alloc, &unit, reading),
+        Err(_) => Ok(false),
+    }
+}
+
+// The first text of the table that is read otherwise.
+fn first_other(alloc: Global) -> Result<Option<&'static [u8]>, AllocError> {
+    for reading in READINGS {
+        if !is_read(alloc, reading)? {
+            return Ok(Some(reading.text));
+        }
+    }
+    Ok(None)
 }
 
 #[test]
-fn makes_bytes_of_data(rt: HostRuntime) -> Result<(), Fail> {
-    let unit = read(
-        rt.alloc(),
-        b".data 24 .c -1 256 \"a\\n\" 'b' .s 0x1234 .i -2 .align 4 .l $(1 << 40 | 3) .size 1",
-    )?;
-    assert_eq!(rt;
-        unit.image.as_slice(),
-        b"\xff\0a\n\0b\x34\x12\xfe\xff\xff\xff\x03\0\0\0\0\x01\0\0\0\0\0\0".as_slice()
-    );
-    Ok(())
-}
-
-#[test]
-fn numbers_arguments_and_locals(rt: HostRuntime) -> Result<(), Fail> {
-    let unit = read(
-        rt.alloc(),
-        b"prolog arg $a allocai 8 $b arg $c allocai 9 $d\nmovi %r0 $b movi %r0 $d getarg %r0 $c prolog allocai 1 $d movi %r0 $d",
-    )?;
-    // the locals stand at -136, -152 and, in the second function, -136
-    assert_eq!(rt;
-        last_operands(rt.alloc(), &unit.nodes)?.as_str(),
-        "1 none\n1 Slot(0)\n1 Slot(0)\n1 Slot(1)\n1 Slot(1)\n\
-        2 Number(18446744073709551480)\n2 Number(18446744073709551464)\n2 Slot(1)\n\
-        2 none\n2 Slot(0)\n2 Number(18446744073709551480)\n"
-    );
-    Ok(())
-}
-
-#[test]
-fn numbers_the_first_variable_argument(rt: HostRuntime) -> Result<(), Fail> {
-    let unit = read(
-        rt.alloc(),
-        b"prolog va_start %r0 arg $a arg $b ellipsis va_start %r0\nva_arg %r1 %r0 va_end %r0 prolog va_start %v0",
-    )?;
-    // the number counts the `arg`s since the `prolog`
-    assert_eq!(rt;
-        last_operands(rt.alloc(), &unit.nodes)?.as_str(),
-        "1 none\n1 Number(0)\n1 Slot(0)\n1 Slot(1)\n1 none\n1 Number(2)\n\
-        2 Reg(R0)\n2 Reg(R0)\n2 none\n2 Number(0)\n"
-    );
+fn reads_units(rt: HostRuntime) -> Result<(), Fail> {
+    assert_eq!(rt; first_other(rt.alloc())?, None);
     Ok(())
 }
 
@@ -154,29 +178,53 @@ fn sample(form: Form, place: usize) -> &'static [u8] {
     }
 }
 
-#[test]
-fn reads_every_instruction(rt: HostRuntime) -> Result<(), Fail> {
-    let mut text = Vec::new(rt.alloc());
-    for name in NAMES.split(' ') {
-        text.extend_from_slice(name.as_bytes())?;
-        if let Some(op) = Op::by_name(name.as_bytes()) {
-            for (place, form) in op.forms().iter().enumerate() {
-                text.extend_from_slice(sample(*form, place))?;
-            }
+// Appends an instruction with operands of its forms, in a line.
+fn push_instruction(text: &mut Vec<u8>, name: &[u8]) -> Result<(), AllocError> {
+    text.extend_from_slice(name)?;
+    if let Some(op) = Op::by_name(name) {
+        for (place, form) in op.forms().iter().enumerate() {
+            text.extend_from_slice(sample(*form, place))?;
         }
-        text.push(b'\n')?;
     }
-    let unit = read(rt.alloc(), &text)?;
+    text.push(b'\n')?;
+    Ok(())
+}
+
+fn push_instructions(text: &mut Vec<u8>) -> Result<(), AllocError> {
+    for name in NAMES.split(' ') {
+        push_instruction(text, name.as_bytes())?;
+    }
+    Ok(())
+}
+
+// Whether the nodes are those of the names, each in a line of its own.
+fn are_instructions(nodes: &NodeList) -> bool {
     let mut index = 0u32;
     for name in NAMES.split(' ') {
-        if index < unit.nodes.len() {
-            let node = unit.nodes.node(index);
-            assert!(rt; Op::by_name(name.as_bytes()) == Some(node.op), "{name:?}");
-            assert_eq!(rt; node.line, index.wrapping_add(1));
+        if index >= nodes.len() || !is_instruction(nodes.node(index), name.as_bytes(), index) {
+            return false;
         }
         index = index.wrapping_add(1);
     }
-    assert_eq!(rt; (index, unit.nodes.len()), (206, 206));
+    (index, nodes.len()) == (206, 206)
+}
+
+fn is_instruction(node: Node, name: &[u8], index: u32) -> bool {
+    Op::by_name(name) == Some(node.op) && node.line == index.wrapping_add(1)
+}
+
+fn is_every_instruction_read(alloc: Global) -> Result<bool, AllocError> {
+    let mut text = Vec::new(alloc);
+    push_instructions(&mut text)?;
+    match read(alloc, &text) {
+        Ok(unit) => Ok(are_instructions(&unit.nodes)),
+        Err(_) => Ok(false),
+    }
+}
+
+#[test]
+fn reads_every_instruction(rt: HostRuntime) -> Result<(), Fail> {
+    assert!(rt; is_every_instruction_read(rt.alloc())?);
     Ok(())
 }
 
@@ -191,39 +239,64 @@ fn full(alloc: Global, behind: &str) -> Result<Vec<u8>, AllocError> {
     Ok(text)
 }
 
-// What stands behind 1,048,576 nodes, and the refusal of the whole text.
-const BEHIND_THE_LAST_NODE: &str = "TooManyNodes 1048576\x1f ret\x1e\
+// What stands behind 1,048,576 nodes, and what comes of the whole text.
+const BEHIND_THE_LAST_NODE: &str = "1048576 nodes\x1f x: .data 1 .align 1 note\x1e\
+        TooManyNodes 1048576\x1f ret\x1e\
         TooManyNodes 1048576\x1f movi\x1e\
         TooManyNodes 1048576\x1f .align 3\x1e\
         UnknownName 1048576\x1f nop\x1e\
         FloatRefused 1048576\x1f x_f";
 
-#[test]
-fn takes_1048576_nodes_and_no_more(rt: HostRuntime) -> Result<(), Fail> {
-    let unit = read(rt.alloc(), &full(rt.alloc(), " x: .data 1 .align 1 note")?)?;
-    assert_eq!(rt; unit.nodes.len(), 1_048_576);
+// How many nodes a text has that is full, with these bytes behind it, or the kind and the line of its refusal.
+fn told_of_full(alloc: Global, behind: &str) -> Result<String, AllocError> {
+    let text = full(alloc, behind)?;
+    match read(alloc, &text) {
+        Ok(unit) => format!(in alloc; "{} nodes", unit.nodes.len()),
+        Err(stop) => told(alloc, Err(stop)),
+    }
+}
+
+// The rows of which something else comes.
+fn others_behind(alloc: Global) -> Result<String, AllocError> {
+    let mut others = String::new(alloc);
     for row in BEHIND_THE_LAST_NODE.split('\x1e') {
         let (wanted, behind) = parts(row);
-        let outcome = match read(rt.alloc(), &full(rt.alloc(), behind)?) {
-            Ok(_) => Ok(()),
-            Err(stop) => Err(stop),
-        };
-        assert_eq!(rt; told(rt.alloc(), outcome)?.as_str(), wanted);
+        let found = told_of_full(alloc, behind)?;
+        if found.as_str() != wanted {
+            push_other(&mut others, row, found.as_str())?;
+        }
     }
+    Ok(others)
+}
+
+#[test]
+fn takes_1048576_nodes_and_no_more(rt: HostRuntime) -> Result<(), Fail> {
+    assert_eq!(rt; others_behind(rt.alloc())?.as_str(), "");
     Ok(())
+}
+
+// A text of 16,777,216 bytes of data, and a label behind them.
+fn full_data(alloc: Global) -> Result<Vec<u8>, AllocError> {
+    let mut text = Vec::new(alloc);
+    text.extend_from_slice(b".data 16777216 .c \"")?;
+    text.resize(16_777_170, b'a')?;
+    text.extend_from_slice(b"\" .size 64 x:")?;
+    Ok(text)
+}
+
+fn is_full_data_read(alloc: Global) -> Result<bool, AllocError> {
+    let text = full_data(alloc)?;
+    match read(alloc, &text) {
+        Ok(unit) => {
+            let are_placed = are_places(alloc, &unit.nodes, "Image(16777216)\n")?;
+            Ok(are_placed && unit.image.len() == 16_777_216)
+        }
+        Err(_) => Ok(false),
+    }
 }
 
 #[test]
 fn takes_16_mib_of_data(rt: HostRuntime) -> Result<(), Fail> {
-    let mut text = Vec::new(rt.alloc());
-    text.extend_from_slice(b".data 16777216 .c \"")?;
-    text.resize(16_777_170, b'a')?;
-    text.extend_from_slice(b"\" .size 64 x:")?;
-    let unit = read(rt.alloc(), &text)?;
-    assert_eq!(rt; unit.image.len(), 16_777_216);
-    assert_eq!(rt;
-        places(rt.alloc(), &unit.nodes)?.as_str(),
-        "Image(16777216)\n"
-    );
+    assert!(rt; is_full_data_read(rt.alloc())?);
     Ok(())
 }

@@ -16,3 +16,11 @@ pub(crate) fn told(alloc: Global, outcome: Result<(), Stop>) -> Result<String, A
         Err(Stop::OutOfMemory) => Err(AllocError),
     }
 }
+
+/// Appends a line with a row and what was found in place of what it wants.
+pub(crate) fn push_other(others: &mut String, row: &str, found: &str) -> Result<(), AllocError> {
+    others.push_str(found)?;
+    others.push_str(" of ")?;
+    others.push_str(row)?;
+    others.push_str("\n")
+}

@@ -1,9 +1,9 @@
 // Tokens, values and refusals of texts that were worked out by hand from the grammar.
 
+use crate::rows::parts;
 use lg_base::refusal::{Refusal, RefusalKind};
 use lg_lex::*;
 use std::alloc::{AllocError, Global};
-use std::process::Abort;
 use std::test::Fail;
 
 // In the tables a row is what comes of its text, then 1F and the text; between rows stands 1E. Of a text comes the kind and the line of its
@@ -215,81 +215,121 @@ const GLUED: &str = "Register 1 0 3 0\n\
         Number 2 45 46 1\n\
         Word 2 46 48 0\n";
 
-// What comes of a text of at most a hundred tokens.
-fn told(alloc: Global, text: &[u8]) -> Result<String, AllocError> {
+// A lexer, where the text is not too long. What it is promised to give is for proofs, and of no use here.
+fn lexer_of(text: &[u8]) -> Option<Lexer<'_>> {
     if text.len() > 16_777_216 {
-        return String::from_str(alloc, "too long");
+        None
+    } else {
+        Some(Lexer::new(text))
     }
-    let mut lexer = Lexer::new(text);
+}
+
+fn next(lexer: &mut Lexer<'_>) -> Result<Option<Token>, Refusal> {
+    lexer.next()
+}
+
+// What comes of a text of at most a hundred tokens.
+#[derive(Clone, Copy)]
+enum Outcome {
+    Nothing,
+    One(i64),
+    Tokens(u32),
+    Fault(Refusal),
+    TooMany,
+}
+
+fn outcome_of(text: &[u8]) -> Outcome {
+    let Some(mut lexer) = lexer_of(text) else {
+        return Outcome::TooMany;
+    };
     let mut value = 0;
     for count in 0..100u32 {
-        match lexer.next() {
+        match next(&mut lexer) {
             Ok(Some(token)) => value = token.value.cast_signed(),
-            Ok(None) if count == 0 => return String::from_str(alloc, "nothing"),
-            Ok(None) if count == 1 => return format!(in alloc; "{value}"),
-            Ok(None) => return format!(in alloc; "{count} tokens"),
-            Err(Refusal { kind, line }) => return format!(in alloc; "{} {line}", kind.name()),
+            Ok(None) if count == 0 => return Outcome::Nothing,
+            Ok(None) if count == 1 => return Outcome::One(value),
+            Ok(None) => return Outcome::Tokens(count),
+            Err(refusal) => return Outcome::Fault(refusal),
         }
     }
-    String::from_str(alloc, "too many tokens")
+    Outcome::TooMany
 }
 
-// What a row wants, and its text.
-fn parts(row: &str) -> (&str, &str) {
-    row.split_once('\x1f').unwrap_or((row, ""))
+fn told(alloc: Global, text: &[u8]) -> Result<String, AllocError> {
+    match outcome_of(text) {
+        Outcome::Nothing => String::from_str(alloc, "nothing"),
+        Outcome::One(value) => format!(in alloc; "{value}"),
+        Outcome::Tokens(count) => format!(in alloc; "{count} tokens"),
+        Outcome::Fault(Refusal { kind, line }) => format!(in alloc; "{} {line}", kind.name()),
+        Outcome::TooMany => String::from_str(alloc, "too many tokens"),
+    }
 }
 
-fn check(rt: &(impl AllocGlobal + Abort), table: &str) -> Result<(), Fail> {
+// Whether this comes of a text.
+fn is_told(alloc: Global, text: &[u8], wanted: &str) -> Result<bool, AllocError> {
+    let found = told(alloc, text)?;
+    Ok(found.as_str() == wanted)
+}
+
+// The first row of a table of which something else comes.
+fn first_other(alloc: Global, table: &'static str) -> Result<Option<&'static str>, AllocError> {
     for row in table.split('\x1e') {
         let (wanted, text) = parts(row);
-        let found = told(rt.alloc(), text.as_bytes())?;
-        assert_eq!(rt; found.as_str(), wanted, "{row:?}");
+        if !is_told(alloc, text.as_bytes(), wanted)? {
+            return Ok(Some(row));
+        }
     }
-    Ok(())
+    Ok(None)
+}
+
+fn are_high_bytes_told(alloc: Global) -> Result<bool, AllocError> {
+    for (wanted, text) in HIGH_BYTES {
+        if !is_told(alloc, text, wanted)? {
+            return Ok(false);
+        }
+    }
+    Ok(true)
 }
 
 #[test]
 fn reads_texts(rt: HostRuntime) -> Result<(), Fail> {
-    check(&rt, MALFORMED)?;
-    check(&rt, NOTHING)?;
-    check(&rt, NUMBERS)?;
-    check(&rt, EXPRESSIONS)?;
-    check(&rt, NO_EXPRESSIONS)?;
-    for (wanted, text) in HIGH_BYTES {
-        assert_eq!(rt; told(rt.alloc(), text)?.as_str(), wanted, "{text:?}");
+    for table in [MALFORMED, NOTHING, NUMBERS, EXPRESSIONS, NO_EXPRESSIONS] {
+        assert_eq!(rt; first_other(rt.alloc(), table)?, None);
+    }
+    assert!(rt; are_high_bytes_told(rt.alloc())?);
+    Ok(())
+}
+
+// Appends a token with its kind, line, places and value, in a line.
+fn push_token(list: &mut String, token: Token) -> Result<(), AllocError> {
+    let Token {
+        kind,
+        line,
+        start,
+        end,
+        value,
+    } = token;
+    write!(list, "{kind:?} {line} {start} {end} {value}\n")
+}
+
+// Appends the tokens of a text, each in a line, and then its fault.
+fn push_tokens(list: &mut String, text: &[u8]) -> Result<(), AllocError> {
+    let Some(mut lexer) = lexer_of(text) else {
+        return Ok(());
+    };
+    for _ in 0..100u32 {
+        match next(&mut lexer) {
+            Ok(Some(token)) => push_token(list, token)?,
+            Ok(None) => return Ok(()),
+            Err(Refusal { kind, line }) => return write!(list, "{} {line}\n", kind.name()),
+        }
     }
     Ok(())
 }
 
-// The tokens of a text, each in a line with its kind, line, places and value, and then its fault.
 fn listed(alloc: Global, text: &[u8]) -> Result<String, AllocError> {
     let mut list = String::new(alloc);
-    if text.len() > 16_777_216 {
-        return Ok(list);
-    }
-    let mut lexer = Lexer::new(text);
-    for _ in 0..100u32 {
-        match lexer.next() {
-            Ok(
-                Some(
-                    Token {
-                        kind,
-                        line,
-                        start,
-                        end,
-                        value,
-                    },
-                ),
-            ) => {
-                list.push_str(&format!(in alloc; "{kind:?} {line} {start} {end} {value}\n")?)?;
-            }
-            Ok(None) => return Ok(list),
-            Err(Refusal { kind, line }) => {
-                list.push_str(&format!(in alloc; "{} {line}\n", kind.name())?)?;
-                return Ok(list);
-            }
-        }
-    }
+    push_tokens(&mut list, text)?;
     Ok(list)
 }
 
@@ -300,72 +340,94 @@ fn splits_glued_tokens(rt: HostRuntime) -> Result<(), Fail> {
     Ok(())
 }
 
+// The tokens of a text of one byte.
+fn tokens_of_byte(alloc: Global, byte: u8) -> Result<String, AllocError> {
+    match byte {
+        b' ' | 0x09..=0x0d => Ok(String::new(alloc)),
+        b'A'..=b'Z' | b'a'..=b'z' | b'_' => String::from_str(alloc, "Word 1 0 1 0\n"),
+        b'0'..=b'9' => format!(in alloc; "Number 1 0 1 {}\n", byte - b'0'),
+        _ => String::from_str(alloc, "BadToken 1\n"),
+    }
+}
+
+fn is_byte_read(alloc: Global, byte: u8) -> Result<bool, AllocError> {
+    let wanted = tokens_of_byte(alloc, byte)?;
+    let found = listed(alloc, &[byte])?;
+    Ok(found == wanted)
+}
+
+// The first byte that is read otherwise.
+fn first_other_byte(alloc: Global) -> Result<Option<u8>, AllocError> {
+    for byte in 0..=255u8 {
+        if !is_byte_read(alloc, byte)? {
+            return Ok(Some(byte));
+        }
+    }
+    Ok(None)
+}
+
 #[test]
 fn reads_single_bytes(rt: HostRuntime) -> Result<(), Fail> {
-    for b in 0..=255u8 {
-        let wanted = match b {
-            b' ' | 0x09..=0x0d => String::new(rt.alloc()),
-            b'A'..=b'Z' | b'a'..=b'z' | b'_' => String::from_str(rt.alloc(), "Word 1 0 1 0\n")?,
-            b'0'..=b'9' => format!(in rt.alloc(); "Number 1 0 1 {}\n", b - b'0')?,
-            _ => String::from_str(rt.alloc(), "BadToken 1\n")?,
-        };
-        assert_eq!(rt; listed(rt.alloc(), &[b])?, wanted);
-    }
+    assert_eq!(rt; first_other_byte(rt.alloc())?, None);
     Ok(())
+}
+
+// Whether a lexer gives a token, and then the same refusal again and again.
+fn refuses_again(text: &[u8], refusal: Refusal) -> bool {
+    let Some(mut lexer) = lexer_of(text) else {
+        return false;
+    };
+    let is_token = matches!(next(&mut lexer), Ok(Some(_)));
+    for _ in 0..3 {
+        if next(&mut lexer) != Err(refusal) {
+            return false;
+        }
+    }
+    is_token
 }
 
 #[test]
 fn answers_the_same_refusal_again(rt: HostRuntime) {
-    let mut lexer = Lexer::new(b"a\n $(1 / 0) b");
-    assert!(rt; matches!(lexer.next(), Ok(Some(_))));
     let refusal = Refusal {
         kind: RefusalKind::BadExpr,
         line: 2,
     };
-    for _ in 0..3 {
-        assert_eq!(rt; lexer.next(), Err(refusal));
-    }
+    assert!(rt; refuses_again(b"a\n $(1 / 0) b", refusal));
 }
 
-// The bytes of a string token.
-fn bytes_of(alloc: Global, token: &[u8]) -> Result<Vec<u8>, AllocError> {
-    let mut bytes = Vec::new(alloc);
+// Whether a string token has these bytes, and none behind the last, however often it is asked.
+fn has_bytes(token: &[u8], wanted: &[u8]) -> bool {
     let mut place = 0;
-    for _ in token {
-        match string_bytes(token, &mut place) {
-            Some(byte) => bytes.push(byte)?,
-            None => return Ok(bytes),
+    for byte in wanted {
+        if string_bytes(token, &mut place) != Some(*byte) {
+            return false;
         }
     }
-    Ok(bytes)
+    string_bytes(token, &mut place) == None && string_bytes(token, &mut place) == None
+}
+
+// The first row that is no string token with the bytes that it wants, or no token alone.
+fn first_other_string(alloc: Global) -> Result<Option<&'static str>, AllocError> {
+    for row in STRINGS.split('\x1e') {
+        let (wanted, token) = parts(row);
+        let is_alone = is_told(alloc, token.as_bytes(), "0")?;
+        if !is_alone || !has_bytes(token.as_bytes(), wanted.as_bytes()) {
+            return Ok(Some(row));
+        }
+    }
+    Ok(None)
 }
 
 #[test]
 fn gives_the_bytes_of_strings(rt: HostRuntime) -> Result<(), Fail> {
-    for row in STRINGS.split('\x1e') {
-        let (wanted, token) = parts(row);
-        let bytes = bytes_of(rt.alloc(), token.as_bytes())?;
-        assert_eq!(rt; bytes.as_slice(), wanted.as_bytes(), "{row:?}");
-        assert_eq!(rt;
-            told(rt.alloc(), token.as_bytes())?.as_str(),
-            "0",
-            "{row:?}"
-        );
-    }
-    let bytes = bytes_of(rt.alloc(), b"\"\xff\\xff\"")?;
-    assert_eq!(rt; bytes.as_slice(), b"\xff\xff".as_slice());
+    assert_eq!(rt; first_other_string(rt.alloc())?, None);
+    assert!(rt; has_bytes(b"\"\xff\\xff\"", b"\xff\xff"));
     Ok(())
 }
 
 #[test]
 fn gives_no_byte_behind_the_last(rt: HostRuntime) {
-    let token = b"\"/* \\1\\12\\1234 \xff\0\"";
-    let mut place = 0;
-    for wanted in b"/* \x01\n\x534 \xff\0" {
-        assert_eq!(rt; string_bytes(token, &mut place), Some(*wanted));
-    }
-    assert_eq!(rt; string_bytes(token, &mut place), None);
-    assert_eq!(rt; string_bytes(token, &mut place), None);
+    assert!(rt; has_bytes(b"\"/* \\1\\12\\1234 \xff\0\"", b"/* \x01\n\x534 \xff\0"));
 }
 
 // Appends a piece so many times.
@@ -376,48 +438,123 @@ fn repeat(text: &mut Vec<u8>, piece: &[u8], times: u32) -> Result<(), AllocError
     Ok(())
 }
 
-// What comes of an expression: a piece so many times, 1, and what closes each piece.
-fn nested(alloc: Global, piece: &[u8], times: u32, close: &[u8]) -> Result<String, AllocError> {
-    let mut text = Vec::from_slice(alloc, b"$(")?;
-    repeat(&mut text, piece, times)?;
-    text.push(b'1')?;
-    repeat(&mut text, close, times)?;
-    text.push(b')')?;
-    told(alloc, &text)
+// An expression of pieces, 1, and what closes each piece: `(1)` from `(`, once, and `)`.
+#[derive(Clone, Copy)]
+struct Nested {
+    piece: &'static [u8],
+    times: u32,
+    close: &'static [u8],
 }
 
-fn check_levels(
-    rt: &(impl AllocGlobal + Abort),
-    piece: &[u8],
-    most: u32,
-    close: &[u8],
-) -> Result<(), Fail> {
-    assert_eq!(rt; nested(rt.alloc(), piece, most, close)?.as_str(), "1");
-    let more = nested(rt.alloc(), piece, most.wrapping_add(1), close)?;
-    assert_eq!(rt; more.as_str(), "BadExpr 1");
+fn push_nested(text: &mut Vec<u8>, nested: Nested) -> Result<(), AllocError> {
+    text.extend_from_slice(b"$(")?;
+    repeat(text, nested.piece, nested.times)?;
+    text.push(b'1')?;
+    repeat(text, nested.close, nested.times)?;
+    text.push(b')')?;
     Ok(())
+}
+
+// Whether this comes of an expression.
+fn is_nested(alloc: Global, nested: Nested, wanted: &str) -> Result<bool, AllocError> {
+    let mut text = Vec::new(alloc);
+    push_nested(&mut text, nested)?;
+    is_told(alloc, &text, wanted)
+}
+
+// The most times that a piece may stand in itself, and what closes it.
+const LEVELS: &[Nested] = &[
+    Nested {
+        piece: b"(",
+        times: 64,
+        close: b")",
+    },
+    Nested {
+        piece: b"-",
+        times: 64,
+        close: b"",
+    },
+    Nested {
+        piece: b"~(",
+        times: 32,
+        close: b")",
+    },
+    Nested {
+        piece: b"1?1:",
+        times: 64,
+        close: b"",
+    },
+];
+
+// Whether each level is taken, and none more.
+fn are_levels_counted(alloc: Global) -> Result<bool, AllocError> {
+    for nested in LEVELS {
+        let more = Nested {
+            times: nested.times.wrapping_add(1),
+            ..*nested
+        };
+        if !is_nested(alloc, *nested, "1")? || !is_nested(alloc, more, "BadExpr 1")? {
+            return Ok(false);
+        }
+    }
+    Ok(true)
 }
 
 #[test]
 fn counts_levels(rt: HostRuntime) -> Result<(), Fail> {
-    check_levels(&rt, b"(", 64, b")")?;
-    check_levels(&rt, b"-", 64, b"")?;
-    check_levels(&rt, b"~(", 32, b")")?;
-    check_levels(&rt, b"1?1:", 64, b"")
+    assert!(rt; are_levels_counted(rt.alloc())?);
+    Ok(())
+}
+
+// Long expressions, with what comes of them.
+const LONG: &[(Nested, &str)] = &[
+    (
+        Nested {
+            piece: b"1+",
+            times: 100_000,
+            close: b"",
+        },
+        "100001",
+    ),
+    (
+        Nested {
+            piece: b"1?1:",
+            times: 100_000,
+            close: b"",
+        },
+        "BadExpr 1",
+    ),
+    (
+        Nested {
+            piece: b" /**/",
+            times: 1_000_000,
+            close: b"",
+        },
+        "1",
+    ),
+];
+
+fn are_long_read(alloc: Global) -> Result<bool, AllocError> {
+    for (nested, wanted) in LONG {
+        if !is_nested(alloc, *nested, wanted)? {
+            return Ok(false);
+        }
+    }
+    Ok(true)
+}
+
+// What comes of an expression that opens as many parentheses as a text has room for.
+fn told_of_open(alloc: Global) -> Result<String, AllocError> {
+    let mut open = vec![in alloc; b'('; 16_777_216]?;
+    if let Some(first) = open.first_mut() {
+        *first = b'$';
+    }
+    told(alloc, &open)
 }
 
 #[test]
 fn reads_long_expressions(rt: HostRuntime) -> Result<(), Fail> {
-    let mut open = vec![in rt.alloc(); b'('; 16_777_216]?;
-    if let Some(first) = open.first_mut() {
-        *first = b'$';
-    }
-    assert_eq!(rt; told(rt.alloc(), &open)?.as_str(), "BadExpr 1");
-    assert_eq!(rt; nested(rt.alloc(), b"1+", 100_000, b"")?.as_str(), "100001");
-    assert_eq!(rt;
-        nested(rt.alloc(), b"1?1:", 100_000, b"")?.as_str(),
-        "BadExpr 1"
-    );
-    assert_eq!(rt; nested(rt.alloc(), b" /**/", 1_000_000, b"")?.as_str(), "1");
+    assert_eq!(rt; told_of_open(rt.alloc())?.as_str(), "BadExpr 1");
+    assert!(rt; are_long_read(rt.alloc())?);
     Ok(())
 }

@@ -1,10 +1,10 @@
 // Products and quotients of double words, and parts of words, against values computed with integers of any size.
 
+use crate::rows::push_other;
 use lg_base::wide::{
     div_wide, div_wide_u, mul_high, mul_high_mixed, mul_high_u, sign_part, swap_bytes, zero_part,
 };
 use std::alloc::{AllocError, Global};
-use std::process::Abort;
 use std::test::Fail;
 
 // The tables have a row a line, of words in hexadecimal digits. The factors and dividends are 0, 1, -1, -2, the least and greatest signed
@@ -413,85 +413,88 @@ fn words(alloc: Global, row: &str) -> Result<Vec<u64>, AllocError> {
     Ok(words)
 }
 
-fn multiply(rt: &impl Abort, row: &[u64]) {
+fn is_product(row: &[u64]) -> bool {
     match row {
         [a, b, unsigned, signed, mixed] => {
-            assert_eq!(rt; mul_high_u(*a, *b), *unsigned);
-            let product = mul_high(a.cast_signed(), b.cast_signed());
-            assert_eq!(rt; product.cast_unsigned(), *signed);
-            assert_eq!(rt; mul_high_mixed(*a, *b), *mixed);
+            mul_high_u(*a, *b) == *unsigned
+                && mul_high(a.cast_signed(), b.cast_signed()).cast_unsigned() == *signed
+                && mul_high_mixed(*a, *b) == *mixed
         }
-        _ => panic!(rt; "no product"),
+        _ => false,
     }
 }
 
-fn divide(rt: &impl Abort, row: &[u64]) {
+fn is_quotient(row: &[u64]) -> bool {
     match row {
         [high, low, by, quotient, remainder] => {
-            assert_eq!(rt; div_wide_u(*high, *low, *by), Some((*quotient, *remainder)));
+            div_wide_u(*high, *low, *by) == Some((*quotient, *remainder))
         }
-        [high, low, by] => assert_eq!(rt; div_wide_u(*high, *low, *by), None),
-        _ => panic!(rt; "no quotient"),
+        [high, low, by] => div_wide_u(*high, *low, *by) == None,
+        _ => false,
     }
 }
 
-fn divide_signed(rt: &impl Abort, row: &[u64]) {
+fn is_signed_quotient(row: &[u64]) -> bool {
     match row {
         [high, low, by, quotient, remainder] => {
             let wanted = Some((quotient.cast_signed(), remainder.cast_signed()));
-            assert_eq!(rt;
-                div_wide(high.cast_signed(), *low, by.cast_signed()),
-                wanted
-            );
+            div_wide(high.cast_signed(), *low, by.cast_signed()) == wanted
         }
-        [high, low, by] => {
-            assert_eq!(rt; div_wide(high.cast_signed(), *low, by.cast_signed()), None);
-        }
-        _ => panic!(rt; "no quotient"),
+        [high, low, by] => div_wide(high.cast_signed(), *low, by.cast_signed()) == None,
+        _ => false,
     }
 }
 
-fn take_parts(rt: &impl Abort, row: &[u64]) {
+fn are_parts(row: &[u64]) -> bool {
     match row {
-        [word, bytes, zero, sign, swapped] => {
-            assert!(rt; *bytes == 1 || *bytes == 2 || *bytes == 4 || *bytes == 8);
+        [word, bytes @ (1 | 2 | 4 | 8), zero, sign, swapped] => {
             let bytes = *bytes as u32;
-            assert_eq!(rt; zero_part(*word, bytes), *zero);
-            assert_eq!(rt; sign_part(*word, bytes), *sign);
-            assert_eq!(rt; swap_bytes(*word, bytes), *swapped);
+            zero_part(*word, bytes) == *zero
+                && sign_part(*word, bytes) == *sign
+                && swap_bytes(*word, bytes) == *swapped
         }
-        _ => panic!(rt; "no parts"),
+        _ => false,
     }
 }
 
-#[test]
-fn multiplies(rt: HostRuntime) -> Result<(), Fail> {
-    for row in PRODUCTS.lines() {
-        multiply(&rt, &words(rt.alloc(), row)?);
+// What the rows of a table are.
+#[derive(Clone, Copy)]
+enum Rows {
+    Products,
+    Quotients,
+    SignedQuotients,
+    Parts,
+}
+
+fn is_right(rows: Rows, row: &[u64]) -> bool {
+    match rows {
+        Rows::Products => is_product(row),
+        Rows::Quotients => is_quotient(row),
+        Rows::SignedQuotients => is_signed_quotient(row),
+        Rows::Parts => are_parts(row),
     }
-    Ok(())
+}
+
+// The rows of a table of which something else comes.
+fn others(alloc: Global, rows: Rows, table: &str) -> Result<String, AllocError> {
+    let mut others = String::new(alloc);
+    for row in table.lines() {
+        if !is_right(rows, &words(alloc, row)?) {
+            push_other(&mut others, row, "something else")?;
+        }
+    }
+    Ok(others)
 }
 
 #[test]
-fn divides(rt: HostRuntime) -> Result<(), Fail> {
-    for row in QUOTIENTS.lines() {
-        divide(&rt, &words(rt.alloc(), row)?);
-    }
-    Ok(())
-}
-
-#[test]
-fn divides_with_signs(rt: HostRuntime) -> Result<(), Fail> {
-    for row in SIGNED_QUOTIENTS.lines() {
-        divide_signed(&rt, &words(rt.alloc(), row)?);
-    }
-    Ok(())
-}
-
-#[test]
-fn takes_parts(rt: HostRuntime) -> Result<(), Fail> {
-    for row in PARTS.lines() {
-        take_parts(&rt, &words(rt.alloc(), row)?);
+fn computes_wide_words(rt: HostRuntime) -> Result<(), Fail> {
+    for (rows, table) in [
+        (Rows::Products, PRODUCTS),
+        (Rows::Quotients, QUOTIENTS),
+        (Rows::SignedQuotients, SIGNED_QUOTIENTS),
+        (Rows::Parts, PARTS),
+    ] {
+        assert_eq!(rt; others(rt.alloc(), rows, table)?.as_str(), "");
     }
     Ok(())
 }
