@@ -1,10 +1,10 @@
 // Functions that begin and return, and places at a multiple.
 
-ghost use Rattle.std.specs.Prelude.{◌≡◌, ◌+◌, ◌*◌, ◌<◌, ◌≤◌, true, negsuc, [], ◌∷◌, ◌++◌};
+ghost use Rattle.std.specs.Prelude.{◌≡◌, ◌+◌, ◌*◌, ◌<◌, ◌≤◌, true, [], ◌∷◌, ◌++◌};
 ghost use Rattle.lg_carry_a64.specs.A64Rows.{stack_pointer, frame_pointer};
 ghost use Rattle.lg_op.specs.Forms.{is_alignment};
 ghost use Rattle.lg_op.specs.declared.form.Form.TheVariants as form;
-ghost use Rattle.lg_sela_control.specs.Alignments.{padding, idle, align_code};
+ghost use Rattle.lg_sela_control.specs.Alignments.{padding, idle};
 ghost use Rattle.lg_sela_control.specs.ControlItems.{align_items, plain_items};
 ghost use Rattle.lg_sela_control.specs.Prologs.{stored_registers, stores_below, fall_code, prolog_code};
 ghost use Rattle.lg_sela_control.specs.Returns.{return_code};

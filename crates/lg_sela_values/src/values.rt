@@ -9,7 +9,7 @@ use crate::binary::{number_form_code, register_code, second_register};
 use crate::unary::{retval_code, unary_code};
 use crate::wide::{wide_by_link, wide_code};
 use lg_a64::{Instr, UnscaledOp};
-use lg_op::{BinaryOp, Label, Node, Op, Operand, PlainOp, Reg, ValueType, WideOp};
+use lg_op::{BinaryOp, Label, Node, Op, Operand, PlainOp, Reg, WideOp};
 use lg_sel_items::Items;
 use lg_sela_items::{FRAME_POINTER, Item, LINK, put_number, register_of};
 use lg_temp::choice::{Choice, Choices};

@@ -4,7 +4,7 @@ ghost use Rattle.std.specs.Prelude.{◌≡◌, ◌+◌, ◌-◌, ◌<◌, ◌≤
 ghost use Rattle.lg_carry_rv.specs.Numbers.{high_part, low_part};
 ghost use Rattle.lg_op.specs.Forms.{is_alignment};
 ghost use Rattle.lg_op.specs.declared.form.Form.TheVariants as form;
-ghost use Rattle.lg_selr_control.specs.Alignments.{padding, idle, align_code};
+ghost use Rattle.lg_selr_control.specs.Alignments.{padding, idle};
 ghost use Rattle.lg_selr_control.specs.ControlItems.{align_items, plain_items};
 ghost use Rattle.lg_selr_control.specs.Prologs.{stored_registers, stores_below, fall_code, prolog_code};
 ghost use Rattle.lg_selr_control.specs.Returns.{return_code};

@@ -1,9 +1,9 @@
 // Loads and stores.
 
-ghost use Rattle.std.specs.Prelude.{◌≡◌, ◌+◌, ◌*◌, ◌≤◌, [], ◌∷◌, ◌++◌, length};
+ghost use Rattle.std.specs.Prelude.{◌≡◌, ◌+◌, ◌*◌, ◌≤◌, [], ◌++◌, length};
 ghost use Rattle.lg_selr_items.specs.Items.{ones, words_in};
 ghost use Rattle.lg_sel_memory.specs.Accesses.{address_of};
-ghost use Rattle.lg_selr_memory.specs.Accesses.{load_row, high_row, link, at_register, at_link, indexed, place_of, lower_bytes, higher_bytes, load_at, store_at, load_code, store_code, load_items, store_items};
+ghost use Rattle.lg_selr_memory.specs.Accesses.{load_row, high_row, at_register, indexed, place_of, lower_bytes, higher_bytes, load_at, store_at, load_code, store_code, load_items, store_items};
 ghost use Rattle.lg_selr_values.specs.ValueItems.{HaveSlots};
 
 use crate::operands::register;

@@ -1,6 +1,6 @@
 // The code of a node into a buffer.
 
-ghost use Rattle.std.specs.Prelude.{◌≡◌, ◌+◌, ◌%◌, ◌<◌, ◌≤◌, ◌++◌, true, false, drop, length, IsTrue};
+ghost use Rattle.std.specs.Prelude.{◌≡◌, ◌+◌, ◌<◌, ◌≤◌, ◌++◌, true, false, drop, length, IsTrue};
 ghost use Rattle.std.specs.List.{All};
 ghost use Rattle.lg_node.specs.Functions.{is_prolog};
 ghost use Rattle.lg_sel_nodes.specs.Operands.{NameBelow};

@@ -1,6 +1,6 @@
 // The nodes that compute values.
 
-ghost use Rattle.std.specs.Prelude.{◌≡◌, ◌+◌, ◌*◌, ◌<◌, ◌≤◌, [], ◌∷◌, ◌++◌, length, slice_index_or};
+ghost use Rattle.std.specs.Prelude.{◌≡◌, ◌+◌, ◌*◌, ◌<◌, ◌≤◌, [], ◌++◌, length, slice_index_or};
 ghost use Rattle.lg_carry_x86.specs.X86Rows.{slot_offset};
 ghost use Rattle.lg_operators.specs.Operators.{is_carried};
 ghost use Rattle.lg_selx_items.specs.Items.{ones, words_in};
@@ -11,7 +11,7 @@ use crate::carried::{carried_number_code, carried_register_code};
 use crate::moves::SCRATCH;
 use crate::unary::{retval_code, unary_code};
 use crate::wide::{wide_code, wide_number_code};
-use lg_op::{BinaryOp, Label, Node, Op, Operand, PlainOp, Reg, ValueType, WideOp};
+use lg_op::{BinaryOp, Label, Node, Op, Operand, PlainOp, Reg, WideOp};
 use lg_sel_items::Items;
 use lg_selx_items::{Item, put_number, register_of};
 use lg_temp::choice::{Choice, Choices};
