@@ -20,11 +20,13 @@ AreOfNode code trash c i items = node_items.AreInCode rv_holes (rv_rows code tra
 -- they are the code of the node, of which a branch, jump, call or return has some
 abbrev pub ItemsAreNodeCode : Type 0
 ItemsAreNodeCode =
-    (code : List ℕ) (trash : ℕ) (c : Code) (i : ℕ) (items : List Item) → AreOfNode code trash c i items → (leaps_at (slice_get c.nodes.nodes i) ≡ true → 0 < words_in items)
+    (code : List ℕ) (trash : ℕ) (c : Code) (i : ℕ) (items : List Item) → AreOfNode code trash c i items
+    → (leaps_at (slice_get c.nodes.nodes i) ≡ true → 0 < words_in items)
     → IsNodeCode (rv_rows code trash) IsInstr c i (settled (slice_index c.addresses) (c.place i) items)
 
 -- and where they follow one another, a block of it
 abbrev pub ItemsAreInCode : Type 0
 ItemsAreInCode =
-    (code : List ℕ) (trash : ℕ) (c : Code) (i : ℕ) (items : List Item) → AreOfNode code trash c i items → (leaps_at (slice_get c.nodes.nodes i) ≡ true → 0 < words_in items)
+    (code : List ℕ) (trash : ℕ) (c : Code) (i : ℕ) (items : List Item) → AreOfNode code trash c i items
+    → (leaps_at (slice_get c.nodes.nodes i) ≡ true → 0 < words_in items)
     → IsBlock is_straight (settled (slice_index c.addresses) (c.place i) items) → IsInCode code trash c i (settled (slice_index c.addresses) (c.place i) items)
