@@ -12,8 +12,7 @@ use lg_operators::operators::{store_width, width};
 use lg_rv::{ImmOp, Instr, RegOp, ShiftOp, StoreOp};
 use lg_sel_items::Items;
 use lg_sel_memory::operands::{number, operand};
-use lg_selr_items::{Item, LINK, imm, is_short, low_part, put_number, row, shift};
-use lg_selr_values::{restore, save};
+use lg_selr_items::{Item, LINK, imm, is_short, low_part, put_number, restore, row, save, shift};
 use lg_temp::choice::{Choice, Choices};
 
 // Where an access is: a register, and an offset from it of 12 bits.
