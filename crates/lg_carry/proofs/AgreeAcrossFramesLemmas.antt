@@ -16,7 +16,7 @@ use Rattle.lg_meaning.specs.Fits.{AreLinked, IsTopOf}
 use Rattle.lg_base.specs.Flags.{carry_of}
 use Rattle.lg_carry.specs.FinalNodes.{is_inside}
 use Rattle.lg_carry.specs.Registers.{HasArguments, HoldsCarry, HoldsArguments}
-use Rattle.lg_carry.specs.Frames.{at_call, KeepsCaller, MayKeepCaller, HaveWords, IsArriving, IsRunning, IsLinked, arriving}
+use Rattle.lg_carry.specs.Frames.{at_call, KeepsCaller, MayKeepCaller, HaveFrameWords, IsArriving, IsRunning, IsLinked, arriving}
 use Rattle.lg_carry.specs.Places.{AreStacked, InWords}
 use Rattle.lg_carry.specs.Stands.{lowest, HasParts}
 use Rattle.lg_carry.specs.AgreeAcrossFrames.{AgreesAtCall, AgreesBehindProlog, AgreesBehindReturn, AgreesAtStart}
@@ -180,7 +180,7 @@ return-agrees target c live s g gs v q u S st e k arrives =
     let before = settled target (is_inside c s.at) c.place q.bytes q.registers s.frame s.callers (live (at_call s.frame)) k.before st.frame in
     let linked : AreLinked c.nodes c.shape s.frame (g ∷ gs) = subst (λ l. AreLinked c.nodes c.shape s.frame l) e st.fits.linked in
     let caller : KeepsCaller q.bytes s.frame g (live (at_call s.frame)) = subst (λ l. MayKeepCaller q.bytes s.frame l (live (at_call s.frame))) e before.words.caller in
-    let have : HaveWords target c.place live q.bytes (g ∷ gs) = subst (λ l. HaveWords target c.place live q.bytes l) e st.callers in
+    let have : HaveFrameWords target c.place live q.bytes (g ∷ gs) = subst (λ l. HaveFrameWords target c.place live q.bytes l) e st.callers in
     let few = few-arguments c.nodes c.shape s.frame (g ∷ gs) arrives.few linked in
     let tower = stacked c.nodes c.shape s.frame (g ∷ gs) linked in
     let running-tower = stacked-running c.nodes c.shape s st.fits k.before st.low in
@@ -242,7 +242,7 @@ start-agrees target c live s q S is k arrives = record {
     caller = tt;
     arguments = k.arguments;
   });
-  callers = subst (λ gs. HaveWords target c.place live q.bytes gs) (sym is.alone) tt;
+  callers = subst (λ gs. HaveFrameWords target c.place live q.bytes gs) (sym is.alone) tt;
   memory = k.memory;
   mark = arrives.mark;
 }

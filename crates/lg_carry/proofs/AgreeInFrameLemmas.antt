@@ -8,7 +8,7 @@ use Rattle.lg_base.specs.declared.target.Target.{Target}
 use Rattle.lg_meaning.specs.States.{Frame, State, is_open}
 use Rattle.lg_carry.specs.FinalNodes.{is_inside, Code}
 use Rattle.lg_carry.specs.Registers.{HasArguments, HoldsArguments}
-use Rattle.lg_carry.specs.Frames.{at_call, IsSettled, IsRunning, HaveWords}
+use Rattle.lg_carry.specs.Frames.{at_call, IsSettled, IsRunning, HaveFrameWords}
 use Rattle.lg_carry.specs.Places.{AreStacked, InWords}
 use Rattle.lg_carry.specs.Spills.{in_slots}
 use Rattle.lg_carry.specs.Stands.{lowest, HasParts, HasMemory, StatesAgree}
@@ -51,7 +51,7 @@ agrees-again target c live s t q u S S' st stays words holds has =
       outgoing = has.outgoing;
       incoming = subst (λ f. HasArguments target u.bytes f.sp f.args) (sym stays.frame) incoming;
       frame = subst (λ f. IsRunning (is_inside c t.at) target c.place u.bytes u.registers f t.callers (live (at_call f))) (sym stays.frame) (subst (λ gs. IsRunning (is_inside c t.at) target c.place u.bytes u.registers s.frame gs (live (at_call s.frame))) (sym stays.callers) (running target (is_inside c t.at) c.place u.bytes u.registers s.frame s.callers (live (at_call s.frame)) stays.behind frame));
-      callers = subst (λ gs. HaveWords target c.place live u.bytes gs) (sym stays.callers) callers;
+      callers = subst (λ gs. HaveFrameWords target c.place live u.bytes gs) (sym stays.callers) callers;
       memory = has.memory;
       mark = stays.mark;
     }

@@ -11,7 +11,7 @@ use Rattle.lg_carry.specs.Processors.{Seen}
 use Rattle.lg_base.specs.Flags.{carry_of}
 use Rattle.lg_carry.specs.FinalNodes.{Code, is_inside}
 use Rattle.lg_carry.specs.Registers.{HoldsRegisters, HoldsCarry, HoldsArguments, HasArguments}
-use Rattle.lg_carry.specs.Frames.{at_call, IsLinked, MayHoldCaller, IsRunning, HasWords, HaveWords, return_address}
+use Rattle.lg_carry.specs.Frames.{at_call, IsLinked, MayHoldCaller, IsRunning, HasFrameWords, HaveFrameWords, return_address}
 use Rattle.lg_carry.specs.Stands.{lowest}
 use Rattle.lg_carry.specs.Moves.{Follows, AgreesBehindMove}
 
@@ -28,7 +28,7 @@ holding target w w' f (g ∷ gs) live same pointer h = record { pointer = pointe
 
 module _ (target : Target) (c : Code) (t : State) (q u : Seen) (k : Follows target c t q u) where
   runs-on : (b : Bool) (f : Frame) (gs : List Frame) (live : ℕ → Bool) → IsRunning b target c.place q.bytes q.registers f gs live → IsRunning b target c.place u.bytes u.registers f gs live
-  runs-on true f gs live h = record { words = subst (λ m. HasWords target c.place m f gs live) (sym k.bytes) h.words; pointer = k.pointer ∙ h.pointer; stack = k.stack ∙ h.stack }
+  runs-on true f gs live h = record { words = subst (λ m. HasFrameWords target c.place m f gs live) (sym k.bytes) h.words; pointer = k.pointer ∙ h.pointer; stack = k.stack ∙ h.stack }
   runs-on false f gs live h = record {
     stack = k.stack ∙ h.stack;
     link = linked (link_register target) u.bytes q.registers u.registers f.sp (return_address c.place f gs) k.link (subst (λ m. IsLinked (link_register target) m q.registers f.sp (return_address c.place f gs)) (sym k.bytes) h.link);
@@ -61,7 +61,7 @@ move-agrees target c live s t q u S S' st m k less =
       incoming = subst (λ f. HasArguments target u.bytes f.sp f.args) (sym m.frame) (subst (λ b. HasArguments target b s.frame.sp s.frame.args) (sym k.bytes) st.incoming);
       frame = subst (λ b. IsRunning b target c.place u.bytes u.registers t.frame t.callers (live (at_call t.frame))) (sym m.side)
           (subst (λ f. IsRunning (is_inside c s.at) target c.place u.bytes u.registers f t.callers (live (at_call f))) (sym m.frame) (subst (λ gs. IsRunning (is_inside c s.at) target c.place u.bytes u.registers s.frame gs (live (at_call s.frame))) (sym m.callers) frame));
-      callers = subst (λ gs. HaveWords target c.place live u.bytes gs) (sym m.callers) (subst (λ b. HaveWords target c.place live b s.callers) (sym k.bytes) st.callers);
+      callers = subst (λ gs. HaveFrameWords target c.place live u.bytes gs) (sym m.callers) (subst (λ b. HaveFrameWords target c.place live b s.callers) (sym k.bytes) st.callers);
       memory = record { is = λ a b e. ap (λ g. g a) k.bytes ∙ st.memory.is a b (ap (λ g. g a) (sym m.mem) ∙ e) };
       mark = k.mark ∙ st.mark ∙ sym m.mark;
     }

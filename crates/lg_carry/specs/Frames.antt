@@ -23,7 +23,7 @@ MayKeepCaller bytes f [] live = ⊤
 MayKeepCaller bytes f (g ∷ gs) live = KeepsCaller bytes f g live
 
 -- the return address, what the caller needs, and the homes of the register arguments
-pub record HasWords (target : Target) (place : ℕ → ℕ) (bytes : ℕ → Option ℕ) (f : Frame) (gs : List Frame) (live : ℕ → Bool) : Type 0 where
+pub record HasFrameWords (target : Target) (place : ℕ → ℕ) (bytes : ℕ → Option ℕ) (f : Frame) (gs : List Frame) (live : ℕ → Bool) : Type 0 where
   pub back : HasWord bytes (return_word f.sp) (return_address place f gs)
   pub caller : MayKeepCaller bytes f gs live
   pub homes : (i w : ℕ) → i < length (argument_registers target) → slice_get f.args i ≡ Some w → HasWord bytes (home_word (frame_pointer f.sp) i) w
@@ -34,15 +34,15 @@ at_call f = record f { size = 0; locals = 0 }
 
 -- the frames of the callers, the last one first, each with its stack arguments; live tells for a frame, as its call made it, which registers
 -- are live at its return
-abbrev pub HaveWords : Target → (ℕ → ℕ) → (Frame → ℕ → Bool) → (ℕ → Option ℕ) → List Frame → Type 0
-HaveWords target place live bytes [] = ⊤
-HaveWords target place live bytes (f ∷ fs) = HasWords target place bytes f fs (live (at_call f)) × HasArguments target bytes f.sp f.args
-    × HaveWords target place live bytes fs
+abbrev pub HaveFrameWords : Target → (ℕ → ℕ) → (Frame → ℕ → Bool) → (ℕ → Option ℕ) → List Frame → Type 0
+HaveFrameWords target place live bytes [] = ⊤
+HaveFrameWords target place live bytes (f ∷ fs) = HasFrameWords target place bytes f fs (live (at_call f)) × HasArguments target bytes f.sp f.args
+    × HaveFrameWords target place live bytes fs
 
 -- ---- the running frame
 -- behind its `prolog`: its words, FP and the stack pointer
 pub record IsSettled (target : Target) (place : ℕ → ℕ) (bytes : ℕ → Option ℕ) (registers : ℕ → ℕ) (f : Frame) (gs : List Frame) (live : ℕ → Bool) : Type 0 where
-  pub words : HasWords target place bytes f gs live
+  pub words : HasFrameWords target place bytes f gs live
   pub pointer : registers (frame_register target) ≡ frame_pointer f.sp
   pub stack : registers (stack_register target) ≡ f.sp - f.size
 

@@ -4,7 +4,7 @@ use Rattle.lg_base.specs.Conventions.{argument_registers, portable_register, fra
 use Rattle.lg_base.specs.declared.target.Target.{Target}
 use Rattle.lg_meaning.specs.States.{Frame}
 use Rattle.lg_carry.specs.Registers.{HoldsRegisters, HoldsArguments, HasArguments}
-use Rattle.lg_carry.specs.Frames.{HasWords, HaveWords, IsSettled}
+use Rattle.lg_carry.specs.Frames.{HasFrameWords, HaveFrameWords, IsSettled}
 use Rattle.lg_carry.specs.Places.{AreStacked, InWords, HaveFewArguments}
 
 -- registers outside of the smaller set may change
@@ -28,13 +28,13 @@ StackArgumentsAreKept = (target : Target) (m m' : ℕ → Option ℕ) (stack : �
 -- memory may change but for the 104 bytes below the stack pointer at the call
 abbrev pub FrameIsKept : Type 0
 FrameIsKept = (target : Target) (place : ℕ → ℕ) (m m' : ℕ → Option ℕ) (f : Frame) (gs : List Frame) (live : ℕ → Bool) → 104 ≤ f.sp
-    → ((a : ℕ) → f.sp ≤ a + 104 → a < f.sp → m' a ≡ m a) → HasWords target place m f gs live → HasWords target place m' f gs live
+    → ((a : ℕ) → f.sp ≤ a + 104 → a < f.sp → m' a ≡ m a) → HasFrameWords target place m f gs live → HasFrameWords target place m' f gs live
 
 -- memory may change but for the words of the frames
 abbrev pub FramesAreKept : Type 0
 FramesAreKept = (target : Target) (place : ℕ → ℕ) (live : Frame → ℕ → Bool) (m m' : ℕ → Option ℕ) (low : ℕ) (fs : List Frame) → AreStacked low fs
     → HaveFewArguments fs
-    → ((a : ℕ) → InWords fs a → m' a ≡ m a) → HaveWords target place live m fs → HaveWords target place live m' fs
+    → ((a : ℕ) → InWords fs a → m' a ≡ m a) → HaveFrameWords target place live m fs → HaveFrameWords target place live m' fs
 
 -- registers may change but FP and the stack pointer, and memory but for the words of the frame
 abbrev pub RunningFrameIsKept : Type 0

@@ -11,7 +11,7 @@ use Rattle.lg_base.specs.Flags.{carry_of}
 use Rattle.lg_carry.specs.Processors.{Seen, IsSeen, Processor}
 use Rattle.lg_carry.specs.FinalNodes.{Code, is_inside}
 use Rattle.lg_carry.specs.Registers.{HoldsRegisters, HoldsCarry, HoldsResult, HoldsArguments, HasArguments}
-use Rattle.lg_carry.specs.Frames.{at_call, HaveWords, IsRunning}
+use Rattle.lg_carry.specs.Frames.{at_call, HaveFrameWords, IsRunning}
 
 -- the lowest address of a frame
 abbrev pub lowest : Frame → ℕ
@@ -43,7 +43,7 @@ pub record StatesAgree (target : Target) (c : Code) (live : Frame → ℕ → Bo
   pub outgoing : HasArguments target q.bytes (lowest s.frame) s.pushed
   pub incoming : HasArguments target q.bytes s.frame.sp s.frame.args
   pub frame : IsRunning (is_inside c s.at) target c.place q.bytes q.registers s.frame s.callers (live (at_call s.frame))
-  pub callers : HaveWords target c.place live q.bytes s.callers
+  pub callers : HaveFrameWords target c.place live q.bytes s.callers
   pub memory : HasMemory s q.bytes
   pub mark : q.mark ≡ s.mark
 

@@ -1,5 +1,5 @@
 -- Code that loads a number into a register. No flag changes.
-use Rattle.std.specs.Prelude.{◌≡◌, ℕ, ◌+◌, ◌%◌, ◌^◌, ◌<◌, nat_lt, Bool, true, if◌then◌else◌, Some}
+use Rattle.std.specs.Prelude.{◌≡◌, ℕ, ◌^◌, ◌<◌, nat_lt, true, if◌then◌else◌, Some}
 use Rattle.lg_base.specs.Words.{signed_view, is_half}
 use Rattle.lg_x86.specs.Spelling.{IsInstr}
 use Rattle.lg_x86.specs.declared.instruction.Instr.{Instr}

@@ -84,11 +84,12 @@ pub record IsCommand (words : List Text) (command : Command) : Type 0 where
   pub read : AreRows words rows
   pub is : command ≡ command_of rows
 
--- clap does not take the words
+-- clap does not take the words: it finds a fault in them, so that they are not the words of a command of the same app
 pub record AreNoCommand (words : List Text) : Type 0 where
   pub app : App
   pub is : IsApp app
   pub refused : takes app words ≡ false
+  pub faulty : fault_of app words ≢ []
 
 -- clap takes the words
 abbrev pub Takes : List Text → Type 0

@@ -1,11 +1,10 @@
 -- One more of many steps.
-use Rattle.std.proofs.Common.{◌≡◌, ◌≢◌, ℕ, ◌+◌, ◌<◌, List, [], ◌++◌, Option, sym, ap, ap₂, ◌∙◌, subst, refl, add-one}
-use Rattle.lg_base.specs.Runs.{iter}
-use Rattle.lg_cpu.specs.Answers.{answer_of, progress_of, counted}
+use Rattle.std.proofs.Common.{◌≡◌, ◌≢◌, ℕ, ◌+◌, ◌<◌, List, [], ◌++◌, Option, sym, ap, ap₂, ◌∙◌, refl}
+use Rattle.lg_cpu.specs.Answers.{progress_of, counted}
 use Rattle.lg_cpu.specs.Machines.{Inner, Comes, Shown, StepSays, StepShows, after_step, effect_in, run_of, shown_of}
 use Rattle.lg_cpu.specs.Series.{EndsWith, IsAt, effect_at, going_on, run_from}
 use Rattle.lg_cpu.specs.States.{CpuState}
-use Rattle.lg_cpu.specs.Steps.{Effect, Progress, Goes, EndedWith, Faulted, after, on_going, stepped}
+use Rattle.lg_cpu.specs.Steps.{Effect, after, on_going, stepped}
 use Rattle.lg_cpu.specs.Targets.{effect_of}
 use Rattle.lg_cpu.specs.declared.answer.CpuStep.{CpuStep}
 use Rattle.lg_cpu.specs.declared.answer.CpuStep.TheVariants as cpu

@@ -1,5 +1,5 @@
 -- What the code of the processors answers and leaves.
-use Rattle.std.specs.Prelude.{◌≡◌, ℕ, ◌+◌, Bool, true, false, List, [], Option, slice_index}
+use Rattle.std.specs.Prelude.{◌≡◌, ℕ, ◌+◌, List, [], Option, slice_index}
 use Rattle.std.specs.Io.KnownBytes.{Appends}
 use Rattle.lg_base.specs.Parts.{byte_at}
 use Rattle.lg_base.specs.declared.target.Target.{Target}

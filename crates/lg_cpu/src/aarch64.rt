@@ -1,6 +1,6 @@
 // The AArch64 processor.
 
-ghost use Rattle.std.specs.Prelude.{◌≡◌, ◌<◌, ◌≤◌, ◌⊎◌, slice_index, if◌then◌else◌};
+ghost use Rattle.std.specs.Prelude.{◌≡◌, ◌<◌, ◌≤◌, ◌⊎◌, slice_index};
 ghost use Rattle.lg_cpu.specs.A64Step.{scaled_width};
 ghost use Rattle.lg_cpu.specs.A64Operators.{reg_value, reg_flags, imm_value, imm_flags};
 
@@ -47,7 +47,6 @@ fn scaled_width(op: ScaledOp) -> u64
 
 impl Aarch64 {
     ghost use Rattle.lg_base.specs.Fields.{word_of};
-    ghost use Rattle.lg_base.specs.Words.{add_words};
     ghost use Rattle.lg_a64.specs.Spelling.{IsInstr};
     ghost use Rattle.lg_cpu.specs.A64Step.{read, write, sets, sets_both, load_at, store_at, link_to, branch_to};
     ghost use Rattle.lg_cpu.specs.A64Step.{reg_effect, imm_effect, scaled_effect, unscaled_effect, branch_effect, branch_reg_effect};

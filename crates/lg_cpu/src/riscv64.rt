@@ -1,6 +1,6 @@
 // The RV64IM processor.
 
-ghost use Rattle.std.specs.Prelude.{◌≡◌, ◌<◌, ◌≤◌, ◌⊎◌, slice_index};
+ghost use Rattle.std.specs.Prelude.{◌≡◌, ◌<◌, ◌⊎◌, slice_index};
 ghost use Rattle.lg_cpu.specs.RvStep.{store_width};
 
 mod host;
@@ -38,7 +38,6 @@ fn store_width(op: StoreOp) -> u32
 }
 
 impl Riscv64 {
-    ghost use Rattle.lg_base.specs.Fields.{word_of};
     ghost use Rattle.lg_rv.specs.Spelling.{IsInstr};
     ghost use Rattle.lg_cpu.specs.RvStep.{read, sets, load_at, store_at, jump_to, branch_to, imm_effect, act, fetch};
     ghost use Rattle.lg_cpu.specs.Fetches.{in_code};

@@ -1,6 +1,6 @@
 // The x86-64 processor.
 
-ghost use Rattle.std.specs.Prelude.{◌≡◌, ◌<◌, ◌≤◌, ◌⊎◌, ◌+◌, length, nat_lt, slice_index};
+ghost use Rattle.std.specs.Prelude.{◌≡◌, ◌<◌, ◌⊎◌, ◌+◌, nat_lt, slice_index};
 ghost use Rattle.lg_cpu.specs.Loads.{extended_by};
 ghost use Rattle.lg_cpu.specs.X86Step.{store_width, load_width, load_value};
 

@@ -1,1 +1,3 @@
 mod NodeLemmas
+mod ReadLemmas
+mod SpelledLemmas

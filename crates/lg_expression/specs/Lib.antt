@@ -1,2 +1,4 @@
+pub mod Grammar
+pub mod Reading
 pub mod Steps
 pub mod Units

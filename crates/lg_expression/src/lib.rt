@@ -3,6 +3,7 @@
 #![tactic(auto)]
 
 mod expression;
+pub mod laws;
 mod reading;
 mod step;
 mod unit;

@@ -8,41 +8,41 @@ use Rattle.lg_io.specs.Wrote.{AppendsPrefix, Wrote}
 use Rattle.lg_io.proofs.WroteLemmas.{AppendsPrefix-after}
 use Rattle.lg_host.specs.Host.{int_answer}
 use Rattle.lg_host.specs.Runs.{Bytes}
-use Rattle.lg_host.specs.Output.{Output, Passes, bytes_from, part_bytes, parts_bytes}
+use Rattle.lg_host.specs.Output.{Output, PassesOn, bytes_from, part_bytes, parts_bytes}
 use Rattle.lg_host.specs.declared.parts.Part.{Part}
 
 -- ---- passing on
-pub Passes-nil : (a : Output) → Passes a a []
-Passes-nil a = ([], Appends-nil a.taken, append-nil a.waiting)
+pub PassesOn-nil : (a : Output) → PassesOn a a []
+PassesOn-nil a = ([], Appends-nil a.taken, append-nil a.waiting)
 
 -- bytes that only wait
-pub Passes-stored : (a b : Output) (bytes : List ℕ) → b.taken ≡ a.taken → b.waiting ≡ a.waiting ++ bytes → Passes a b bytes
-Passes-stored a b bytes e f = ([], subst (λ (o : Option (List ℕ)). Appends a.taken o []) (sym e) (Appends-nil a.taken), sym f)
+pub PassesOn-stored : (a b : Output) (bytes : List ℕ) → b.taken ≡ a.taken → b.waiting ≡ a.waiting ++ bytes → PassesOn a b bytes
+PassesOn-stored a b bytes e f = ([], subst (λ (o : Option (List ℕ)). Appends a.taken o []) (sym e) (Appends-nil a.taken), sym f)
 
-pub Passes-trans : (a b c : Output) (xs ys : List ℕ) → Passes a b xs → Passes b c ys → Passes a c (xs ++ ys)
-Passes-trans a b c xs ys p q = (
+pub PassesOn-trans : (a b c : Output) (xs ys : List ℕ) → PassesOn a b xs → PassesOn b c ys → PassesOn a c (xs ++ ys)
+PassesOn-trans a b c xs ys p q = (
   p.0 ++ q.0,
   Appends-trans a.taken b.taken c.taken p.0 q.0 p.1 q.1,
   sym (append_assoc a.waiting xs ys) ∙ ap (λ x. x ++ ys) p.2 ∙ append_assoc p.0 b.waiting ys ∙ ap (λ x. p.0 ++ x) q.2 ∙ sym (append_assoc p.0 q.0 c.waiting),
 )
 
 -- all of xs was passed on, and then a part of ys went to the sink
-pub Passes-prefix : (a b c : Output) (xs ys zs all : List ℕ) → all ≡ xs ++ (ys ++ zs) → Passes a b xs → AppendsPrefix b.taken c.taken (b.waiting ++ ys) → AppendsPrefix a.taken c.taken (a.waiting ++ all)
-Passes-prefix a b c xs ys zs all e p h =
+pub PassesOn-prefix : (a b c : Output) (xs ys zs all : List ℕ) → all ≡ xs ++ (ys ++ zs) → PassesOn a b xs → AppendsPrefix b.taken c.taken (b.waiting ++ ys) → AppendsPrefix a.taken c.taken (a.waiting ++ all)
+PassesOn-prefix a b c xs ys zs all e p h =
     AppendsPrefix-after a.taken b.taken c.taken p.0 (b.waiting ++ ys) zs (a.waiting ++ all)
     (ap (λ x. a.waiting ++ x) e ∙ sym (append_assoc a.waiting xs (ys ++ zs)) ∙ ap (λ x. x ++ (ys ++ zs)) p.2 ∙ append_assoc p.0 b.waiting (ys ++ zs) ∙ ap (λ x. p.0 ++ x) (sym (append_assoc b.waiting ys zs)))
     p.1 h
 
 -- ---- bytes that begin and end with none that waits
-pub Passes-flushed : (a b : Output) (new : Option (List ℕ)) (bytes : List ℕ) → a.waiting ≡ [] → Passes a b bytes → Appends b.taken new b.waiting → Appends a.taken new bytes
-Passes-flushed a b new bytes e p h = subst (Appends a.taken new) (sym p.2 ∙ ap (λ x. x ++ bytes) e) (Appends-trans a.taken b.taken new p.0 b.waiting p.1 h)
+pub PassesOn-flushed : (a b : Output) (new : Option (List ℕ)) (bytes : List ℕ) → a.waiting ≡ [] → PassesOn a b bytes → Appends b.taken new b.waiting → Appends a.taken new bytes
+PassesOn-flushed a b new bytes e p h = subst (Appends a.taken new) (sym p.2 ∙ ap (λ x. x ++ bytes) e) (Appends-trans a.taken b.taken new p.0 b.waiting p.1 h)
 
-pub Passes-cut : (a b : Output) (new : Option (List ℕ)) (bytes : List ℕ) → a.waiting ≡ [] → Passes a b bytes → AppendsPrefix b.taken new b.waiting → AppendsPrefix a.taken new bytes
-Passes-cut a b new bytes e p h = AppendsPrefix-after a.taken b.taken new p.0 b.waiting [] bytes (sym (sym p.2 ∙ ap (λ x. x ++ bytes) e) ∙ ap (λ x. p.0 ++ x) (sym (append-nil b.waiting))) p.1 h
+pub PassesOn-cut : (a b : Output) (new : Option (List ℕ)) (bytes : List ℕ) → a.waiting ≡ [] → PassesOn a b bytes → AppendsPrefix b.taken new b.waiting → AppendsPrefix a.taken new bytes
+PassesOn-cut a b new bytes e p h = AppendsPrefix-after a.taken b.taken new p.0 b.waiting [] bytes (sym (sym p.2 ∙ ap (λ x. x ++ bytes) e) ∙ ap (λ x. p.0 ++ x) (sym (append-nil b.waiting))) p.1 h
 
-pub Wrote-flushed : {T E : Type 0} (a b : Output) (new : Option (List ℕ)) (now : ℕ) (result : Result T E) (bytes : List ℕ) → a.waiting ≡ [] → Passes a b bytes → b.faults ≡ a.faults → Wrote b.taken new b.faults now result b.waiting → Wrote a.taken new a.faults now result bytes
-Wrote-flushed a b new now (Ok x) bytes e p le h = record { ok = Passes-flushed a b new bytes e p h.ok; err = tt; cause = record { later = omega (arith, le, h.cause.later); kept = h.cause.kept ∙ le; failed = tt } }
-Wrote-flushed a b new now (Err x) bytes e p le h = record { ok = tt; err = Passes-cut a b new bytes e p h.err; cause = record { later = omega (arith, le, h.cause.later); kept = tt; failed = omega (arith, le, h.cause.failed) } }
+pub Wrote-flushed : {T E : Type 0} (a b : Output) (new : Option (List ℕ)) (now : ℕ) (result : Result T E) (bytes : List ℕ) → a.waiting ≡ [] → PassesOn a b bytes → b.faults ≡ a.faults → Wrote b.taken new b.faults now result b.waiting → Wrote a.taken new a.faults now result bytes
+Wrote-flushed a b new now (Ok x) bytes e p le h = record { ok = PassesOn-flushed a b new bytes e p h.ok; err = tt; cause = record { later = omega (arith, le, h.cause.later); kept = h.cause.kept ∙ le; failed = tt } }
+Wrote-flushed a b new now (Err x) bytes e p le h = record { ok = tt; err = PassesOn-cut a b new bytes e p h.err; cause = record { later = omega (arith, le, h.cause.later); kept = tt; failed = omega (arith, le, h.cause.failed) } }
 
 -- ---- pieces
 pub parts_bytes-append : (m : Bytes) (ps qs : List Part) → parts_bytes m (ps ++ qs) ≡ parts_bytes m ps ++ parts_bytes m qs

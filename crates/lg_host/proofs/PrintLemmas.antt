@@ -12,9 +12,9 @@ use Rattle.lg_host.specs.Runs.{Bytes, run}
 use Rattle.lg_host.specs.Strings.{string_in}
 use Rattle.lg_host.specs.Formats.{is_plain}
 use Rattle.lg_host.specs.Printed.{Effect, step_of, followed_by, printed, printed_at}
-use Rattle.lg_host.specs.Output.{Output, Passes, IsAfter, IsTold, Told, Prints}
+use Rattle.lg_host.specs.Output.{Output, PassesOn, IsAfter, IsTold, Told, Prints}
 use Rattle.lg_host.proofs.RunLemmas.{run-end, run-some, run-none}
-use Rattle.lg_host.proofs.OutputLemmas.{Passes-trans, Passes-prefix, Passes-flushed, Passes-cut}
+use Rattle.lg_host.proofs.OutputLemmas.{PassesOn-trans, PassesOn-prefix, PassesOn-flushed, PassesOn-cut}
 use Rattle.lg_host.specs.declared.format.Reading.{Reading}
 use Rattle.lg_host.specs.declared.format_place.FormatPlace.{FormatPlace}
 
@@ -67,7 +67,7 @@ onto-onto xs ys (Some z) = ap Some (sym (append_assoc xs ys z))
 pub Told-none : (o : Option (List ℕ)) (old new : Output) → o ≡ None → new.faults ≡ old.faults → Told {E = SinkFault} o old new (Ok None)
 Told-none o old new e le = subst (λ (p : Option (List ℕ)). Told {E = SinkFault} p old new (Ok None)) (sym e) record { ok = refl; err = tt; cause = record { later = omega (arith, le); kept = le; failed = tt } }
 
-pub Told-end : (o : Option (List ℕ)) (old new : Output) (count : ℕ) (done : List ℕ) → o ≡ onto done (Some []) → Passes old new done → count ≡ length done % 2 ^ 64 → new.faults ≡ old.faults → Told {E = SinkFault} o old new (Ok (Some count))
+pub Told-end : (o : Option (List ℕ)) (old new : Output) (count : ℕ) (done : List ℕ) → o ≡ onto done (Some []) → PassesOn old new done → count ≡ length done % 2 ^ 64 → new.faults ≡ old.faults → Told {E = SinkFault} o old new (Ok (Some count))
 Told-end o old new count done e told is le =
     let f : o ≡ Some done = e ∙ ap Some (append-nil done) in
     subst (λ (p : Option (List ℕ)). Told {E = SinkFault} p old new (Ok (Some count))) (sym f) record { ok = (ap Some is, told); err = tt; cause = record { later = omega (arith, le); kept = le; failed = tt } }
@@ -76,21 +76,21 @@ pub after-none : (eff : Option Effect) (count : ℕ) (args : List ℕ) (old new 
 after-none None count args old new h = refl
 after-none (Some e) count args old new h = absurd h
 
-prefix-by : (old mid new : Output) (done : List ℕ) (eff : Option Effect) (rest : Effect → Option (List ℕ)) → Passes old mid done → IfSome eff (λ e. AppendsPrefix mid.taken new.taken (mid.waiting ++ e.bytes)) → IfSome (onto done (followed_by eff rest)) (λ all. AppendsPrefix old.taken new.taken (old.waiting ++ all))
+prefix-by : (old mid new : Output) (done : List ℕ) (eff : Option Effect) (rest : Effect → Option (List ℕ)) → PassesOn old mid done → IfSome eff (λ e. AppendsPrefix mid.taken new.taken (mid.waiting ++ e.bytes)) → IfSome (onto done (followed_by eff rest)) (λ all. AppendsPrefix old.taken new.taken (old.waiting ++ all))
 prefix-by old mid new done None rest told h = tt
 prefix-by old mid new done (Some e) rest told h = by (rest e)
   where
     by : (o : Option (List ℕ)) → IfSome (onto done (onto e.bytes o)) (λ all. AppendsPrefix old.taken new.taken (old.waiting ++ all))
     by None = tt
-    by (Some bs) = Passes-prefix old mid new done e.bytes bs (done ++ (e.bytes ++ bs)) refl told h
+    by (Some bs) = PassesOn-prefix old mid new done e.bytes bs (done ++ (e.bytes ++ bs)) refl told h
 
-pub Told-err : (o : Option (List ℕ)) (old mid new : Output) (fault : SinkFault) (done : List ℕ) (eff : Option Effect) (rest : Effect → Option (List ℕ)) → o ≡ onto done (followed_by eff rest) → Passes old mid done → IfSome eff (λ e. AppendsPrefix mid.taken new.taken (mid.waiting ++ e.bytes)) → mid.faults ≡ old.faults → mid.faults ≤ new.faults → Rose mid.faults new.faults → Told {E = SinkFault} o old new (Err fault)
+pub Told-err : (o : Option (List ℕ)) (old mid new : Output) (fault : SinkFault) (done : List ℕ) (eff : Option Effect) (rest : Effect → Option (List ℕ)) → o ≡ onto done (followed_by eff rest) → PassesOn old mid done → IfSome eff (λ e. AppendsPrefix mid.taken new.taken (mid.waiting ++ e.bytes)) → mid.faults ≡ old.faults → mid.faults ≤ new.faults → Rose mid.faults new.faults → Told {E = SinkFault} o old new (Err fault)
 Told-err o old mid new fault done eff rest e told h le later rose =
     subst (λ (p : Option (List ℕ)). Told {E = SinkFault} p old new (Err fault)) (sym e) record { ok = tt; err = prefix-by old mid new done eff rest told h; cause = record { later = omega arith; kept = tt; failed = omega (arith, rose) } }
 
 pub record More (m : Bytes) (eff : Option Effect) (w : FormatPlace) (args : List ℕ) (count a : ℕ) (mid new : Output) : Type 0 where
   pub bytes : List ℕ
-  pub told : Passes mid new bytes
+  pub told : PassesOn mid new bytes
   pub count_is : w.count ≡ (count + length bytes) % 2 ^ 64
   pub is : followed_by eff (λ e. printed_at m e.reading a e.left) ≡ onto bytes (printed_at m w.reading a (drop w.used args))
 
@@ -109,7 +109,7 @@ count-more c n x e = grind arith
 -- ---- the bytes so far and what is left
 pub record SoFar (all : Option (List ℕ)) (m : Bytes) (w : FormatPlace) (args : List ℕ) (a : ℕ) (old new : Output) : Type 0 where
   pub done : List ℕ
-  pub told : Passes old new done
+  pub told : PassesOn old new done
   pub count_is : w.count ≡ length done % 2 ^ 64
   pub is : all ≡ onto done (printed_at m w.reading a (drop w.used args))
 
@@ -118,7 +118,7 @@ SoFar-more all m w v b a args old mid new lt is ne s h =
     let k = more m (step_of m w.reading b (drop w.used args)) v args w.count (a + 1) mid new h in
     record {
       done = s.done ++ k.bytes;
-      told = Passes-trans old mid new s.done k.bytes s.told k.told;
+      told = PassesOn-trans old mid new s.done k.bytes s.told k.told;
       count_is = k.count_is ∙ count-more w.count (length s.done) (length k.bytes) s.count_is ∙ ap (λ n. n % 2 ^ 64) (sym (length-append s.done k.bytes));
       is = s.is ∙ ap (onto s.done) (printed-step m w.reading a b (drop w.used args) lt is ne ∙ k.is) ∙ onto-onto s.done k.bytes (printed_at m v.reading (a + 1) (drop v.used args));
     }
@@ -126,8 +126,8 @@ SoFar-more all m w v b a args old mid new lt is ne s h =
 -- ---- bytes of which none waits before or after
 pub Prints-flushed : (bytes : Option (List ℕ)) (a b : Output) (new : Option (List ℕ)) (now count : ℕ) (result : Result (Option ℕ) SinkFault) → a.waiting ≡ [] → IsTold bytes a b (Some count) → b.faults ≡ a.faults → IfOk result (λ answer. (answer ≡ Some count) × Appends b.taken new b.waiting) → OnErr result (AppendsPrefix b.taken new b.waiting) → HasCause b.faults now result → Prints {E = SinkFault} bytes a.taken new a.faults now result
 Prints-flushed None a b new now count result e told le ok err cause = let no : ⊥ = cc in absurd no
-Prints-flushed (Some bs) a b new now count (Ok answer) e told le ok err cause = record { ok = (ok.0 ∙ told.0, Passes-flushed a b new bs e told.1 ok.1); err = tt; cause = record { later = omega (arith, le, cause.later); kept = cause.kept ∙ le; failed = tt } }
-Prints-flushed (Some bs) a b new now count (Err fault) e told le ok err cause = record { ok = tt; err = Passes-cut a b new bs e told.1 err; cause = record { later = omega (arith, le, cause.later); kept = tt; failed = omega (arith, le, cause.failed) } }
+Prints-flushed (Some bs) a b new now count (Ok answer) e told le ok err cause = record { ok = (ok.0 ∙ told.0, PassesOn-flushed a b new bs e told.1 ok.1); err = tt; cause = record { later = omega (arith, le, cause.later); kept = cause.kept ∙ le; failed = tt } }
+Prints-flushed (Some bs) a b new now count (Err fault) e told le ok err cause = record { ok = tt; err = PassesOn-cut a b new bs e told.1 err; cause = record { later = omega (arith, le, cause.later); kept = tt; failed = omega (arith, le, cause.failed) } }
 
 pub Prints-none : (bytes : Option (List ℕ)) (a b : Output) → IsTold bytes a b None → b.faults ≡ a.faults → Prints {E = SinkFault} bytes a.taken b.taken a.faults b.faults (Ok None)
 Prints-none None a b told le = record { ok = told; err = tt; cause = record { later = omega (arith, le); kept = le; failed = tt } }

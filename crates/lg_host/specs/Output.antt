@@ -33,12 +33,12 @@ abbrev pub output : Option (List ℕ) → List ℕ → ℕ → Output
 output taken waiting faults = record { taken = taken; waiting = waiting; faults = faults }
 
 -- the bytes went behind those that wait, of which the first ones went to the sink
-abbrev pub Passes : Output → Output → List ℕ → Type 0
-Passes old new bytes = (sent : List ℕ) × Appends old.taken new.taken sent × (old.waiting ++ bytes ≡ sent ++ new.waiting)
+abbrev pub PassesOn : Output → Output → List ℕ → Type 0
+PassesOn old new bytes = (sent : List ℕ) × Appends old.taken new.taken sent × (old.waiting ++ bytes ≡ sent ++ new.waiting)
 
 -- at Ok the bytes were passed on; at Err some of those that waited and of these went to the sink, from the first one on
 pub record Passed {T E : Type 0} (old new : Output) (result : Result T E) (bytes : List ℕ) : Type 0 where
-  pub ok : OnOk result (Passes old new bytes)
+  pub ok : OnOk result (PassesOn old new bytes)
   pub err : OnErr result (AppendsPrefix old.taken new.taken (old.waiting ++ bytes))
   pub cause : HasCause old.faults new.faults result
 
@@ -46,7 +46,7 @@ pub record Passed {T E : Type 0} (old new : Output) (result : Result T E) (bytes
 -- the answer is None where they are, and else their number modulo 2^64
 abbrev pub IsTold : Option (List ℕ) → Output → Output → Option ℕ → Type 0
 IsTold None old new answer = answer ≡ None
-IsTold (Some bytes) old new answer = (answer ≡ Some (length bytes % 2 ^ 64)) × Passes old new bytes
+IsTold (Some bytes) old new answer = (answer ≡ Some (length bytes % 2 ^ 64)) × PassesOn old new bytes
 
 pub record Told {E : Type 0} (bytes : Option (List ℕ)) (old new : Output) (result : Result (Option ℕ) E) : Type 0 where
   pub ok : IfOk result (IsTold bytes old new)
@@ -70,7 +70,7 @@ IsAfter None count args old new (Some place) = ⊥
 IsAfter (Some effect) count args old new None = ⊥
 IsAfter (Some effect) count args old new (Some place) =
     (place.reading ≡ effect.reading) × (drop place.used args ≡ effect.left) × (place.count ≡ (count + length effect.bytes) % 2 ^ 64)
-    × Passes old new effect.bytes
+    × PassesOn old new effect.bytes
 
 -- the effect of one byte of the format, where it is defined
 pub record Steps {E : Type 0} (effect : Option Effect) (count : ℕ) (args : List ℕ) (old new : Output) (result : Result (Option FormatPlace) E) : Type 0 where

@@ -17,13 +17,13 @@ use Rattle.lg_mean.specs.declared.run.RunEnd.TheVariants as runs_end
 use Rattle.lg_mean.specs.Says.{Steps}
 use Rattle.lg_mean.specs.Portables.{counts, over_of}
 use Rattle.lg_mean.specs.Programs.{LabelTable}
-use Rattle.lg_mean.specs.Runs.{GoesOn, FailsToWrite, EndsBehind, IsUndefinedBehind, ComesTo}
+use Rattle.lg_mean.specs.Runs.{HasGoneOn, FailsToWrite, EndsBehind, IsUndefinedBehind, ComesTo}
 
 -- what an answer of a step says of a run that went on after k steps
 abbrev pub Then : (ℕ → Run) → ℕ → (line : State → ℕ) → MeanStep → State → (out out' : Option (List ℕ)) → (faults faults' : ℕ) → Type 0
-Then runs k line mean.Went s out out' faults faults' = GoesOn runs (k + 1) s out out'
-Then runs k line (mean.Ended status) s out out' faults faults' = GoesOn runs k s out out' × EndsBehind runs k status
-Then runs k line (mean.Undefined at) s out out' faults faults' = GoesOn runs k s out out' × IsUndefinedBehind runs k × (at ≡ line s)
+Then runs k line mean.Went s out out' faults faults' = HasGoneOn runs (k + 1) s out out'
+Then runs k line (mean.Ended status) s out out' faults faults' = HasGoneOn runs k s out out' × EndsBehind runs k status
+Then runs k line (mean.Undefined at) s out out' faults faults' = HasGoneOn runs k s out out' × IsUndefinedBehind runs k × (at ≡ line s)
 Then runs k line mean.WriteFault s out out' faults faults' = FailsToWrite runs k s out out' faults faults'
 
 -- after no step the meaning stands at its start
@@ -32,11 +32,11 @@ unfolding iter
 starts l shape addresses start = refl
 
 -- a run that has come to its start has written nothing
-pub goes_at_once : (runs : ℕ → Run) (s : State) (out : Option (List ℕ)) → runs 0 ≡ run_at s [] → GoesOn runs 0 s out out
+pub goes_at_once : (runs : ℕ → Run) (s : State) (out : Option (List ℕ)) → runs 0 ≡ run_at s [] → HasGoneOn runs 0 s out out
 goes_at_once runs s out e = record { bytes = []; stands = e; written = Appends-nil out }
 
 module _ (runs : ℕ → Run) (k : ℕ) (line : State → ℕ) (old : State) (bytes : List ℕ) (stands : runs k ≡ run_at old bytes) (out mid out' : Option (List ℕ)) (written : Appends out mid bytes) where
-  stays_there : Appends mid out' [] → GoesOn runs k old out out'
+  stays_there : Appends mid out' [] → HasGoneOn runs k old out out'
   stays_there h = record { bytes = bytes; stands = stands; written = subst (Appends out out') (append-nil bytes) (Appends-trans out mid out' bytes [] written h) }
 
   by_outcome : (o : Outcome) → runs (k + 1) ≡ behind (run_at old bytes) o → (answer : MeanStep) (new : State) (faults faults' : ℕ) → Steps o (line old) old answer new mid out' faults faults' → Then runs k line answer new out out' faults faults'
@@ -49,7 +49,7 @@ module _ (runs : ℕ → Run) (k : ℕ) (line : State → ℕ) (old : State) (by
 -- where a run goes on after k steps, the next step of a machine that has not answered its last says
 pub then_says : StepsAreMeans → (l : LabelledNodes) (shape : TextShape) (labels labels' : LabelTable) (start : State) (k : ℕ) (line : State → ℕ) (old new : State) (over : Option MeanStep) (answer answer' : MeanStep)
     (out mid out' : Option (List ℕ)) (faults faults' : ℕ) → over ≡ None → labels' ≡ labels → answer ≡ answer'
-    → GoesOn (mean_from l shape labels.addresses start) k old out mid
+    → HasGoneOn (mean_from l shape labels.addresses start) k old out mid
     → IfNone over (Steps (step l shape labels'.addresses old) (line old) old answer new mid out' faults faults')
     → Then (mean_from l shape labels.addresses start) k line answer' new out out' faults faults'
 then_says law l shape labels labels' start k line old new over answer answer' out mid out' faults faults' running same is g h =

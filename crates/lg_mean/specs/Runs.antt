@@ -11,7 +11,7 @@ use Rattle.lg_mean.specs.declared.run.RunEnd.{RunEnd}
 use Rattle.lg_mean.specs.declared.run.RunEnd.TheVariants as runs_end
 
 -- after n steps the meaning goes on at a state, and out grew by exactly the bytes that it has written
-pub record GoesOn (meaning : ℕ → Run) (n : ℕ) (s : State) (out out' : Option (List ℕ)) : Type 0 where
+pub record HasGoneOn (meaning : ℕ → Run) (n : ℕ) (s : State) (out out' : Option (List ℕ)) : Type 0 where
   pub bytes : List ℕ
   pub stands : meaning n ≡ run_at s bytes
   pub written : Appends out out' bytes
@@ -40,10 +40,10 @@ IsUndefinedBehind meaning n = meaning (n + 1) ≡ record (meaning n) { status = 
 -- where a run of at most so many steps has come to after n steps, at a state whose node has a line
 abbrev pub ComesTo : (ℕ → Run) → RunEnd → (n most : ℕ) → State → (line : ℕ) → (out out' : Option (List ℕ)) → (faults faults' : ℕ) → Type 0
 ComesTo meaning (runs_end.Ended status) n most s line out out' faults faults' = (n ≤ most)
-    × ((k : ℕ) × (n ≡ k + 1) × GoesOn meaning k s out out' × EndsBehind meaning k status)
-ComesTo meaning (runs_end.Undefined at) n most s line out out' faults faults' = (n < most) × GoesOn meaning n s out out' × IsUndefinedBehind meaning n
+    × ((k : ℕ) × (n ≡ k + 1) × HasGoneOn meaning k s out out' × EndsBehind meaning k status)
+ComesTo meaning (runs_end.Undefined at) n most s line out out' faults faults' = (n < most) × HasGoneOn meaning n s out out' × IsUndefinedBehind meaning n
     × (at ≡ line)
-ComesTo meaning runs_end.StepsOut n most s line out out' faults faults' = (n ≡ most) × GoesOn meaning n s out out'
+ComesTo meaning runs_end.StepsOut n most s line out out' faults faults' = (n ≡ most) × HasGoneOn meaning n s out out'
 ComesTo meaning runs_end.WriteFault n most s line out out' faults faults' = (n < most) × FailsToWrite meaning n s out out' faults faults'
 
 -- the sink's count of faults stays, but where a write failed

@@ -25,10 +25,10 @@ Does (Ends n) old went new = ⊥
 Does Undefined old went new = (went ≡ false) × (new ≡ old)
 
 -- the answer and the new state of a return
-abbrev pub Leaves : Outcome → State → Option ℕ → State → Type 0
-Leaves (Goes t bytes) old ended new = (ended ≡ None) × (new ≡ t) × (bytes ≡ [])
-Leaves (Ends n) old ended new = (ended ≡ Some n) × (new ≡ old)
-Leaves Undefined old ended new = ⊥
+abbrev pub Returns : Outcome → State → Option ℕ → State → Type 0
+Returns (Goes t bytes) old ended new = (ended ≡ None) × (new ≡ t) × (bytes ≡ [])
+Returns (Ends n) old ended new = (ended ≡ Some n) × (new ≡ old)
+Returns Undefined old ended new = ⊥
 
 -- the top frame and its locals are gone, where there was another one
 abbrev pub WentUp : State → List Frame → Bool → State → Type 0

@@ -8,7 +8,7 @@ ghost use Rattle.lg_meaning.specs.States.{is_open};
 ghost use Rattle.lg_meaning.specs.Steps.{prepare_step, ellipsis_step, push_step, started, kept, resumed, called, enter, begun, prolog_step, back_to, leave, ret_step, quiet, on, function_here};
 ghost use Rattle.lg_mean.specs.Machines.{state_of, regs_of, frame_in};
 ghost use Rattle.lg_meaning.specs.Texts.{text};
-ghost use Rattle.lg_mean.specs.Says.{AreKnown, Does, Leaves, WentUp, HasBegun, CanBegin};
+ghost use Rattle.lg_mean.specs.Says.{AreKnown, Does, Returns, WentUp, HasBegun, CanBegin};
 
 use crate::frame::KeptFrame;
 use crate::machine::{Machine, operand};
@@ -173,7 +173,7 @@ impl Machine {
     // Returns to the caller, or ends the run with a status.
     pub(crate) fn leave(&mut self, answer: Option<u64>) -> Option<u8>
         requires { 272 + self.old.top.locals ≤ self.old.top.size }
-        ensures { Leaves (leave (state_of self.old) answer) (state_of self.old) result (state_of self.new) }
+        ensures { Returns (leave (state_of self.old) answer) (state_of self.old) result (state_of self.new) }
     {
         let back = self.top.back;
         let saved = self.top.saved;

@@ -1,5 +1,8 @@
 // How the portable meaning of a text ends.
 
+ghost use Rattle.std.specs.Prelude.{◌≡◌, IfOk, string_bytes};
+ghost use Rattle.lg_mean_text.specs.Lines.{line_of};
+
 use lg_base::refusal::Refusal;
 use std::alloc::{AllocError, Global};
 
@@ -36,7 +39,9 @@ pub enum MeaningEnd {
 
 impl MeaningEnd {
     /// A line that says it, as `Ended 0 after 12`, `Undefined 7 after 7`, `StepsOut after 1000` or `Refused 20 NoCode 1`.
-    pub fn line(&self, alloc: Global) -> Result<String, AllocError> {
+    pub fn line(&self, alloc: Global) -> Result<String, AllocError>
+        ensures { IfOk result (λ line. string_bytes line ≡ line_of self.now) }
+    {
         match self {
             MeaningEnd::Ended { status, steps } => {
                 format!(in alloc; "Ended {status} after {steps}")

@@ -1,6 +1,6 @@
 // Where jumps lead: a table with the node to which the jumps from each node lead in the end.
 
-ghost use Rattle.std.specs.Prelude.{◌≡◌, ◌<◌, ◌≤◌, ◌+◌, ◌^◌, ℕ, length, slice_index, IfOk};
+ghost use Rattle.std.specs.Prelude.{◌≡◌, ◌<◌, ◌+◌, ℕ, length, IfOk};
 ghost use Rattle.lg_node.specs.Nodes.{LabelledNodes};
 ghost use Rattle.lg_opt.specs.Hops.{AreHops, AreLeads, AreWithin, JumpsWithin, hop, is_jump};
 ghost use Rattle.lg_opt.specs.Targets.{target_node};

@@ -1,9 +1,9 @@
 // Which moves do nothing.
 
-ghost use Rattle.std.specs.Prelude.{◌≡◌, ◌<◌, if◌then◌else◌, not, None, Some, Option, false, length, slice_get, slice_index_or, IfOk};
+ghost use Rattle.std.specs.Prelude.{◌≡◌, ◌<◌, if◌then◌else◌, not, None, Some, Option, false, length, IfOk};
 ghost use Rattle.lg_op.specs.declared.operand.Reg.{Reg};
 ghost use Rattle.lg_carry.specs.Carries.{leaps};
-ghost use Rattle.lg_opt.specs.Moves.{behind_at, is_idle, move_of, stays};
+ghost use Rattle.lg_opt.specs.Moves.{behind_at, is_idle, move_of};
 ghost use Rattle.lg_opt.specs.SourceTables.{source_of, AreStays};
 ghost use Rattle.lg_opt.specs.Targets.{AreLabelsAt};
 

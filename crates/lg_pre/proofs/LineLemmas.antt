@@ -2,7 +2,7 @@
 use Rattle.std.proofs.Common.{◌≡◌, ℕ, zero, suc, ◌+◌, ◌-◌, ◌<◌, ◌≤◌, nat_le, min, true, false, List, [], ◌∷◌, length, drop, refl, sym, ap, ◌∙◌, arith, Ok, Err}
 use Rattle.std.proofs.lemmas.Bool.Decides.{nat_tests}
 use Rattle.std.proofs.lemmas.List.{take_all}
-use Rattle.std.proofs.Common.{Option, Some, codes}
+use Rattle.std.proofs.Common.{Option, None, Some, codes}
 use Rattle.lg_pre.specs.Cutting.{cut}
 use Rattle.lg_pre.specs.Defines.{written}
 use Rattle.lg_pre.specs.Macros.{with_macro}
@@ -59,3 +59,6 @@ between_whole pieces n e = let zero_less : n - 0 ≡ n = omega arith in rw zero_
 
 pub table_made : (pieces : List Piece) (found : Option Macro) (entry : Macro) (table new : List Macro) → pieces ≡ cut 0 (codes "__WORDSIZE 64") → found ≡ written pieces → found ≡ Some entry → table ≡ [] → new ≡ with_macro table entry → new ≡ start_table
 table_made pieces found entry table new e1 e2 e3 e4 e5 = rw (e5, e4) (ap table_by (sym e3 ∙ e2 ∙ ap (λ (ps : List Piece). written ps) e1))
+
+pub table_empty : (pieces : List Piece) (found : Option Macro) (table : List Macro) → pieces ≡ cut 0 (codes "__WORDSIZE 64") → found ≡ written pieces → found ≡ None → table ≡ [] → table ≡ start_table
+table_empty pieces found table e1 e2 e3 e4 = rw e4 (ap table_by (sym e3 ∙ e2 ∙ ap (λ (ps : List Piece). written ps) e1))

@@ -1,6 +1,6 @@
 -- What `select` owes for the items of a node that it appends, where those of each family are as they have to be.
-use Rattle.std.proofs.Common.{◌≡◌, ℕ, ◌+◌, ◌-◌, ◌<◌, ◌≤◌, Bool, true, false, List, ◌++◌, length, Some, ap, ◌∙◌, subst, arith}
-use Rattle.std.specs.Prelude.{IsTrue, count_by, slice_get, slice_index}
+use Rattle.std.proofs.Common.{◌≡◌, ℕ, ◌+◌, ◌-◌, ◌<◌, ◌≤◌, Bool, true, false, List, ◌++◌, length, None, Some, ap, ◌∙◌, subst, arith}
+use Rattle.std.specs.Prelude.{IsTrue, count_by, nat_le, slice_get, slice_index}
 use Rattle.lg_base.specs.Layout.{code_base, most_code}
 use Rattle.lg_base.specs.declared.target.Target.{Target}
 use Rattle.lg_buf.specs.Buffers.{Buffer, place_of}
@@ -26,12 +26,12 @@ use Rattle.lg_sel.proofs.StoreLemmas.{allowed, allowed-all}
 use Rattle.lg_sel.specs.Asked.{IsAsked}
 use Rattle.lg_sel.specs.Families.{Families, node_items}
 use Rattle.lg_sel.specs.Finished.{AreAppended}
-use Rattle.lg_sel.specs.Promises.{IsShortWhenFinished}
+use Rattle.lg_sel.specs.Promises.{IsShortWhenFinished, IsAheadWhenFinished}
 use Rattle.lg_sel.specs.Selected.{IsFrame, IsFinished, AreWhole, part_of}
-use Rattle.lg_sel.specs.Shorts.{IsShort}
+use Rattle.lg_sel.specs.Shorts.{IsShort, IsAhead}
 use Rattle.lg_sel.specs.Stores.{StoresAtMost, own_stores, is_free}
 use Rattle.lg_sel_items.specs.Holes.{Holes, Each, AreHoles, blanks, settled, fixes_of}
-use Rattle.lg_sel_items.specs.Reaches.{Leads, IsChecked, IsLeast}
+use Rattle.lg_sel_items.specs.Reaches.{near_size, Leads, IsChecked, IsLeast, IsLeastAhead}
 use Rattle.lg_sel_items.specs.declared.reach.Reach.{Reach}
 use Rattle.lg_temp.specs.Chosen.{spills}
 use Rattle.lg_temp.specs.declared.choice.Choice.{Choice}
@@ -47,6 +47,15 @@ pub record IsKnown {L I : Type 0} (H : Holes L I) (is_item : L → Type 0) (old 
   pub labels : (l : Label) → slice_get xs 0 ≡ Some (operand.Label l) → (place_of old.labels l.0 ≡ Some goal) × (to l.0 ≡ code_base + goal)
   pub checked : Each (IsChecked r old) (fixes_of H (length old.bytes) (items r))
   pub least : IsLeast (λ s. Each (Leads old) (fixes_of H (length old.bytes) (items s))) r
+
+-- and so were they, with the reach with which code leads ahead to a label that is not bound yet
+pub record IsKnownAhead {L I : Type 0} (H : Holes L I) (is_item : L → Type 0) (old new : Buffer) (items : Reach → List L) (r : Reach) (o : Op)
+    (xs : List Operand) : Type 0 where
+  pub admitted : admit (forms_of o) xs ≡ true
+  pub appended : AreAppended H old new (items r)
+  pub fit : Each is_item (items r)
+  pub labels : (l : Label) → slice_get xs 0 ≡ Some (operand.Label l) → place_of old.labels l.0 ≡ None
+  pub least : IsLeastAhead (nat_le old.size near_size) (λ s. Each (Leads old) (fixes_of H (length old.bytes) (items s))) r
 
 -- of each node the items name the labels of its operands, store no more than they may, and are in range; those of a `prolog` have bytes
 pub record IsSelection {L I : Type 0} (target : Target) (needs : Op → List Need) (H : Holes L I) (spelling : I → List ℕ) (fits : I → Type 0) (is_item : L → Type 0)
@@ -122,6 +131,38 @@ module _ {L I : Type 0} {target : Target} {needs : Op → List Need} {H : Holes 
                 (ap (λ (k : Label). place_of old.labels k.0) same ∙ bound, ap (λ (k : Label). slice_index c.addresses k.0) same ∙ address);
             checked = subst (λ xs. Each (IsChecked reach old) (fixes_of H (length old.bytes) xs)) e checked;
             least = least l goal first bound low;
+          }
+
+    -- and where those of nodes that lead ahead have the form that the buffer's size asks for, they have
+    module _ (ahead : (code : List ℕ) (c : Code) (i : ℕ) → IsFinished old new code c i → (r : Reach) (o : Op) (xs : List Operand) (l : Label)
+        → slice_get xs 0 ≡ Some (operand.Label l) → IsKnownAhead H is_item old new (λ s. (F s).control o xs frame (length old.bytes)) r o xs
+        → IsAhead target (nat_le old.size near_size) o (length old.bytes) (part_of code (length old.bytes) (length new.bytes - length old.bytes))) where
+      ahead-of : (code : List ℕ) (c : Code) (i : ℕ) → IsFinished old new code c i → (l : Label) (o : Op) (xs : List Operand) (line : ℕ)
+          → slice_get xs 0 ≡ Some (operand.Label l)
+          → IsKnownAhead H is_item old new (λ s. node_items (F s) (node_of o xs line) frame choices staged (length old.bytes)) reach o xs
+          → IsAhead target (nat_le old.size near_size) o (length old.bytes) (part_of code (length old.bytes) (length new.bytes - length old.bytes))
+      ahead-of code c i f l (op.Branch o last) xs line first k = ahead code c i f reach (op.Branch o last) xs l first k
+      ahead-of code c i f l (op.BranchSum o last) xs line first k = ahead code c i f reach (op.BranchSum o last) xs l first k
+      ahead-of code c i f l (op.Control control.Jmp last_operand.Immediate) xs line first k =
+          ahead code c i f reach (op.Control control.Jmp last_operand.Immediate) xs l first k
+      ahead-of code c i f l (op.Control control.Call last_operand.Immediate) xs line first k =
+          ahead code c i f reach (op.Control control.Call last_operand.Immediate) xs l first k
+      ahead-of code c i f l (op.Control control.Finish last_operand.Immediate) xs line first k =
+          ahead code c i f reach (op.Control control.Finish last_operand.Immediate) xs l first k
+      ahead-of code c i f l o xs line first k = tt
+
+      pub selected-ahead : ((l : Label) → slice_get node.operands 0 ≡ Some (operand.Label l) → place_of old.labels l.0 ≡ None → length old.bytes ≤ most_code
+          → IsLeastAhead (nat_le old.size near_size)
+          (λ r. Each (Leads old) (fixes_of H (length old.bytes) (node_items (F r) node frame choices staged (length old.bytes)))) reach)
+          → IsAheadWhenFinished target node old new
+      selected-ahead least code c i l f low first free =
+          let formed = asked.formed in
+          ahead-of code c i f l node.op node.operands node.line first record {
+            admitted = formed.forms;
+            appended = own;
+            fit = fit;
+            labels = λ m is. let same : m ≡ l = same-label node.operands m l is first in ap (λ (k : Label). place_of old.labels k.0) same ∙ free;
+            least = least l first free low;
           }
 
   -- a `prolog` has bytes

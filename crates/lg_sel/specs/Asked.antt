@@ -12,7 +12,8 @@ use Rattle.lg_temp.specs.declared.choice.Need.{Need}
 
 -- the choices are those for the node's needs, a `pushargr` or `pushargi` finds the first arguments staged, and the node names labels of the buffer, of
 -- which there are so many, and those in the place of an immediate only where they may stand
-pub record IsAsked (target : Target) (needs : Op → List Need) (n : Node) (live : Reg → Bool) (staged : List Bool) (choices : List Choice) (labels : ℕ) : Type 0 where
+pub record IsAsked (target : Target) (needs : Op → List Need) (n : Node) (live : Reg → Bool) (staged : List Bool) (choices : List Choice)
+    (labels : ℕ) : Type 0 where
   pub formed : InForm n
   pub chosen : AreChosen target (needs n.op) n live staged choices
   pub first : is_pusharg n.op ≡ true → AreFirst staged

@@ -37,13 +37,13 @@ pub record IsFrame (frame : ℕ) : Type 0 where
   pub whole : frame % 16 ≡ 0
 
 -- a set of arguments holds another
-abbrev pub Holds : List Bool → List Bool → Type 0
-Holds set staged = (j : ℕ) → slice_index_or staged j false ≡ true → slice_index_or set j false ≡ true
+abbrev pub HoldsStaged : List Bool → List Bool → Type 0
+HoldsStaged set staged = (j : ℕ) → slice_index_or staged j false ≡ true → slice_index_or set j false ≡ true
 
 -- the choices are those for the needs of the node, a set of live registers, and a set of arguments that holds those that are staged
 pub record AreChosen (target : Target) (needs : List Need) (node : Node) (live : Reg → Bool) (staged : List Bool) (choices : List Choice) : Type 0 where
   pub set : List Bool
-  pub holds : Holds set staged
+  pub holds : HoldsStaged set staged
   pub chosen : choices_of (around target node live set) needs ≡ Some choices
 
 -- `pushargr` and `pushargi`

@@ -1,7 +1,8 @@
--- The shortest forms of code that leads back to a label, on each target.
+-- The forms of code that leads to a label, on each target: back to one that is bound the shortest, and ahead the one that the buffer's size asks for.
 use Rattle.std.specs.Prelude.{◌≡◌, ℕ, ◌+◌, Bool, true, false, pos, ◌+ℤ◌, ◌-ℤ◌, ◌*ℤ◌, ℤ, List, [], ◌∷◌, ◌++◌, length, ⊤}
 use Rattle.std.specs.List.{All}
 use Rattle.lg_a64.specs.Spelling as a64
+use Rattle.lg_a64.specs.declared.instruction.BranchOp.TheVariants.{B}
 use Rattle.lg_a64.specs.declared.instruction.Cond.{Cond as A64Cond}
 use Rattle.lg_a64.specs.declared.instruction.Instr.{Instr as A64Instr}
 use Rattle.lg_a64.specs.declared.instruction.Instr.TheVariants as a64_instr
@@ -18,6 +19,7 @@ use Rattle.lg_rv.specs.Spelling as rv
 use Rattle.lg_rv.specs.declared.instruction.BranchOp.{BranchOp}
 use Rattle.lg_rv.specs.declared.instruction.Instr.{Instr as RvInstr}
 use Rattle.lg_rv.specs.declared.instruction.Instr.TheVariants as rv_instr
+use Rattle.lg_rv.specs.declared.instruction.ImmOp.TheVariants.{Jalr}
 use Rattle.lg_rv.specs.declared.instruction.UpperOp.TheVariants.{Auipc}
 use Rattle.lg_sel_items.specs.Holes.{Each}
 use Rattle.lg_x86.specs.Spelling as x86
@@ -47,7 +49,8 @@ rv_is_relative i = false
 -- ---- the code of a node that leads to a label
 -- bytes that begin at a place are the spellings of instructions. The first ones do not count from their own place; the others, of which the first does,
 -- have a form, at the place where they begin
-pub record LeadsBy {I : Type 0} (spelling : I → List ℕ) (fits : I → Type 0) (is_relative : I → Bool) (has_form : ℕ → List I → Type 0) (place : ℕ) (bytes : List ℕ) : Type 0 where
+pub record LeadsBy {I : Type 0} (spelling : I → List ℕ) (fits : I → Type 0) (is_relative : I → Bool) (has_form : ℕ → List I → Type 0) (place : ℕ)
+    (bytes : List ℕ) : Type 0 where
   pub front : List I
   pub leap : I
   pub rest : List I
@@ -57,7 +60,7 @@ pub record LeadsBy {I : Type 0} (spelling : I → List ℕ) (fits : I → Type 0
   pub leads : is_relative leap ≡ true
   pub form : has_form (place + length (spellings spelling front)) (leap ∷ rest)
 
--- ---- the forms, of what leads from a place to a goal
+-- ---- the forms back, of what leads from a place to a goal
 -- x86-64: a jump on a condition of two bytes, wherever its byte reaches
 abbrev pub IsShortJumpIf : ℕ → ℕ → List X86Instr → Type 0
 IsShortJumpIf goal from is = Fits X86Rel8 (from + 1) goal → (cond : X86Cond) × (is ≡ x86_instr.JumpIfShort cond (pos goal -ℤ pos (from + 2)) ∷ [])
@@ -96,3 +99,49 @@ IsShort target (op.Control control.Jmp last_operand.Immediate) goal place bytes 
 IsShort target (op.Control control.Call last_operand.Immediate) goal place bytes = IsShortJump target goal place bytes
 IsShort target (op.Control control.Finish last_operand.Immediate) goal place bytes = IsShortJump target goal place bytes
 IsShort target o goal place bytes = ⊤
+
+-- ---- the forms ahead, to a label that is not bound yet, in a buffer in which the near form leads to every place, or in a larger one. Where they lead
+-- is not said: they begin at any place, with any distance
+-- x86-64: a jump on a condition of six bytes
+abbrev pub IsJumpIfAhead : ℕ → List X86Instr → Type 0
+IsJumpIfAhead from is = (cond : X86Cond) × (distance : ℤ) × (is ≡ x86_instr.JumpIfNear cond distance ∷ [])
+
+-- AArch64: a branch on a condition, or one over a branch
+abbrev pub IsBranchIfAhead : Bool → ℕ → List A64Instr → Type 0
+IsBranchIfAhead true from is = (cond : A64Cond) × (words : ℤ) × (is ≡ a64_instr.BranchIf cond words ∷ [])
+IsBranchIfAhead false from is =
+    (cond : A64Cond) × (words : ℤ) × (is ≡ a64_instr.BranchIf cond (pos 2) ∷ a64_instr.Branch B words ∷ [])
+
+-- RV64: a branch over a `jal`, or over `auipc` and `jalr`
+abbrev pub IsRvBranchAhead : Bool → ℕ → List RvInstr → Type 0
+IsRvBranchAhead true from is =
+    (o : BranchOp) × (rs1 : ℕ) × (rs2 : ℕ) × (distance : ℤ) × (is ≡ rv_instr.Branch o rs1 rs2 (pos 8) ∷ rv_instr.Jal 0 distance ∷ [])
+IsRvBranchAhead false from is =
+    (o : BranchOp) × (rs1 : ℕ) × (rs2 : ℕ) × (base : ℕ) × (high : ℕ) × (low : ℤ)
+    × (is ≡ rv_instr.Branch o rs1 rs2 (pos 12) ∷ rv_instr.Upper Auipc base high ∷ rv_instr.Imm Jalr 0 base low ∷ [])
+
+-- and a `jal`, or `auipc` and `jalr`
+abbrev pub IsRvJumpAhead : Bool → ℕ → List RvInstr → Type 0
+IsRvJumpAhead true from is = (rd : ℕ) × (distance : ℤ) × (is ≡ rv_instr.Jal rd distance ∷ [])
+IsRvJumpAhead false from is =
+    (rd : ℕ) × (base : ℕ) × (high : ℕ) × (low : ℤ) × (is ≡ rv_instr.Upper Auipc base high ∷ rv_instr.Imm Jalr rd base low ∷ [])
+
+-- ---- by target, of bytes that begin at a place
+abbrev pub IsBranchAhead : Target → Bool → ℕ → List ℕ → Type 0
+IsBranchAhead X86_64 is_near place bytes = LeadsBy x86.spelling x86.IsInstr x86_is_relative IsJumpIfAhead place bytes
+IsBranchAhead Aarch64 is_near place bytes = LeadsBy a64.spelling a64.IsInstr a64_is_relative (IsBranchIfAhead is_near) place bytes
+IsBranchAhead Riscv64 is_near place bytes = LeadsBy rv.spelling rv.IsInstr rv_is_relative (IsRvBranchAhead is_near) place bytes
+
+-- a jump or call has one form on the other targets
+abbrev pub IsJumpAhead : Target → Bool → ℕ → List ℕ → Type 0
+IsJumpAhead Riscv64 is_near place bytes = LeadsBy rv.spelling rv.IsInstr rv_is_relative (IsRvJumpAhead is_near) place bytes
+IsJumpAhead target is_near place bytes = ⊤
+
+-- of a node with this operation, whose first operand is the label
+abbrev pub IsAhead : Target → Bool → Op → ℕ → List ℕ → Type 0
+IsAhead target is_near (op.Branch o last) place bytes = IsBranchAhead target is_near place bytes
+IsAhead target is_near (op.BranchSum o last) place bytes = IsBranchAhead target is_near place bytes
+IsAhead target is_near (op.Control control.Jmp last_operand.Immediate) place bytes = IsJumpAhead target is_near place bytes
+IsAhead target is_near (op.Control control.Call last_operand.Immediate) place bytes = IsJumpAhead target is_near place bytes
+IsAhead target is_near (op.Control control.Finish last_operand.Immediate) place bytes = IsJumpAhead target is_near place bytes
+IsAhead target is_near o place bytes = ⊤

@@ -1,13 +1,13 @@
 // The items of a node with the shortest reach.
 
-ghost use Rattle.std.specs.Prelude.{◌≡◌, ℕ, ◌≤◌, List, Some, length, slice_get};
+ghost use Rattle.std.specs.Prelude.{◌≡◌, ℕ, ◌≤◌, nat_le, List, None, Some, length, slice_get};
 ghost use Rattle.lg_base.specs.Layout.{most_code};
 ghost use Rattle.lg_buf.specs.Buffers.{place_of};
 ghost use Rattle.lg_op.specs.declared.operand.Label.{Label};
 ghost use Rattle.lg_op.specs.declared.operand.Operand.{Operand};
 ghost use Rattle.lg_sel.specs.Emittable.{AreEmittable};
 ghost use Rattle.lg_sel_items.specs.Holes.{fixes_of, Each};
-ghost use Rattle.lg_sel_items.specs.Reaches.{Leads, IsChecked, IsLeast};
+ghost use Rattle.lg_sel_items.specs.Reaches.{near_size, Leads, IsChecked, IsLeast, IsLeastAhead};
 ghost use Rattle.lg_sel_nodes.specs.Operands.{NameBelow};
 
 use crate::operands::first_reach;
@@ -34,7 +34,8 @@ impl<L: Item> ItemList<L> for Items<L> {
 }
 
 /// The items that a closure makes with the shortest reach with which they lead to the labels that are bound, and may wait for the others, and that
-/// reach. Only the longest is taken without a trial.
+/// reach. Ahead, to a label that is not bound yet, the near reach is the shortest, or in a buffer that is too large for it the far one. Only the longest
+/// is taken without a trial.
 ///
 /// The operands name labels of the buffer, and what the closure makes of each reach can be appended to it.
 pub fn shortest_items<L: Item, C: ItemList<L>, F: Fn(Reach) -> C>(
@@ -52,6 +53,9 @@ pub fn shortest_items<L: Item, C: ItemList<L>, F: Fn(Reach) -> C>(
     ensures least { (family : Reach → List L) → ((r : Reach) (xs : _) → F.post items_by r xs → C.items xs ≡ family r)
         → (l : Label) (goal : ℕ) → slice_get operands.now 0 ≡ Some (Operand.Label l) → place_of buf.now.labels l.0 ≡ Some goal
         → length buf.now.bytes ≤ most_code → IsLeast (λ r. Each (Leads buf.now) (fixes_of L.holes (length buf.now.bytes) (family r))) result.0 }
+    ensures ahead { (family : Reach → List L) → ((r : Reach) (xs : _) → F.post items_by r xs → C.items xs ≡ family r)
+        → (l : Label) → slice_get operands.now 0 ≡ Some (Operand.Label l) → place_of buf.now.labels l.0 ≡ None → length buf.now.bytes ≤ most_code
+        → IsLeastAhead (nat_le buf.now.size near_size) (λ r. Each (Leads buf.now) (fixes_of L.holes (length buf.now.bytes) (family r))) result.0 }
 {
     let first = first_reach(operands, buf);
     if let Reach::Short = first {

@@ -1,8 +1,8 @@
 -- Items that can be appended: none, instructions alone, and instructions in front of others.
-use Rattle.std.proofs.Common.{◌≡◌, ℕ, ◌+◌, ◌<◌, Bool, true, false, List, [], ◌∷◌, ◌++◌, length, refl, ap, ◌∙◌, arith}
+use Rattle.std.proofs.Common.{◌≡◌, ℕ, ◌+◌, ◌<◌, Bool, true, false, List, [], ◌++◌, length, ap, ◌∙◌, arith}
 use Rattle.lg_sel_items.proofs.ListLemmas.{each-append, any-ones, words_append, words-ones, fixes-append, fixes-ones}
 use Rattle.lg_sel_items.specs.GoodItems.{AreEmitted}
-use Rattle.lg_sel_items.specs.Holes.{Holes, Each, words_in, blanks, fixes_of, ones}
+use Rattle.lg_sel_items.specs.Holes.{Holes, Each, blanks, fixes_of, ones}
 
 module _ {L I : Type 0} (H : Holes L I) (is_item : L → Type 0) (names_one_of : ℕ → L → Type 0) (labels : ℕ) where
   pub nothing-emitted : AreEmitted H is_item names_one_of labels false []

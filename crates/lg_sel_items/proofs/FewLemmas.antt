@@ -1,5 +1,5 @@
 -- Good items, of which there are few: instructions alone, and two lists in a row.
-use Rattle.std.proofs.Common.{◌≡◌, ℕ, ◌+◌, ◌≤◌, Bool, List, [], ◌∷◌, ◌++◌, length, ap, ◌∙◌, arith, length-append}
+use Rattle.std.proofs.Common.{◌≡◌, ℕ, ◌+◌, ◌≤◌, Bool, List, [], ◌++◌, length, ap, ◌∙◌, arith, length-append}
 use Rattle.lg_sel_items.proofs.ListLemmas.{each-append, words_append, words-ones, fixes-append, fixes-ones}
 use Rattle.lg_sel_items.specs.GoodItems.{GoodItemsAreAppendable, AreFew}
 use Rattle.lg_sel_items.specs.Holes.{Holes, Each, words_in, blanks, fixes_of, ones}

@@ -42,3 +42,9 @@ abbrev pub IsLeast : (Reach → Type 0) → Reach → Type 0
 IsLeast does Short = ⊤
 IsLeast does Near = does Short → ⊥
 IsLeast does Far = (does Short → ⊥) × (does Near → ⊥)
+
+-- nor where the label is not bound yet, of the reaches from the near one on, or of the far one alone in a buffer that is too large for the near one
+abbrev pub IsLeastAhead : Bool → (Reach → Type 0) → Reach → Type 0
+IsLeastAhead is_near does Short = ⊥
+IsLeastAhead is_near does Near = is_near ≡ true
+IsLeastAhead is_near does Far = is_near ≡ true → does Near → ⊥

@@ -1,6 +1,6 @@
 // What an item is.
 
-ghost use Rattle.std.specs.Prelude.{◌≡◌, ℕ, ◌+◌, ◌<◌, ◌≤◌, ◌^◌, List, ◌++◌, length, IfSome};
+ghost use Rattle.std.specs.Prelude.{◌≡◌, ℕ, ◌+◌, ◌<◌, ◌≤◌, ◌^◌, ◌++◌, length, IfSome};
 ghost use Rattle.lg_sel_items.specs.Holes.{Holes, words_of, blank_of, fix_at, listed, IsWithin};
 
 use lg_buf::Fix;

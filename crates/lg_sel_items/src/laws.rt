@@ -1,6 +1,5 @@
 // What holds of the items of every target. The functions do nothing: their contracts are the laws.
 
-ghost use Rattle.std.specs.Prelude.{ℕ, List};
 ghost use Rattle.lg_carry.specs.Rows.{Rows};
 ghost use Rattle.lg_sel_items.specs.GoodItems.{GoodItemsSettle, GoodItemsAreBlocks};
 ghost use Rattle.lg_sel_items.specs.Holes.{Holes, AreHoles, ItemsAreSettled};

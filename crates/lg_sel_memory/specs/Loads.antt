@@ -41,8 +41,9 @@ IsReadable q fp a w v = (bytes : ℕ → Option ℕ) → ((j : ℕ) → in_slots
 abbrev pub Reads : {Q I : Type 0} → Rows Q I → (ℕ → Bool) → List Choice → ValueType → Reg → Q → ℕ → List I → Type 0
 Reads {Q} R scratch choices t d q v code =
     Does R
-    (from_to (R.processor.seen q) (with_register (R.processor.seen q).registers (register_of R.processor.target d) (extended_by_type t v)) (R.processor.seen q).bytes
-    (R.processor.seen q).flags)
+    (from_to (R.processor.seen q)
+    (with_register (R.processor.seen q).registers (register_of R.processor.target d) (extended_by_type t v))
+    (R.processor.seen q).bytes (R.processor.seen q).flags)
     code ((R.processor.seen q).registers (frame_register R.processor.target)) (spilled choices) (spoils scratch choices)
 
 -- code does so with a load's address, whatever it is a multiple of; its bytes end by 2^64
@@ -73,8 +74,8 @@ LoadsCarry R fits code =
 -- and so is it by code with temporaries, saved or not, which are chosen for its needs; the staged arguments are at least those that are pushed at the node
 abbrev pub LoadsWithTemporariesCarry : {Q I : Type 0} → Rows Q I → (ℕ → Bool) → (I → Type 0) → Type 0
 LoadsWithTemporariesCarry {Q} {I} R scratch fits =
-    (c : Code) (i : ℕ) (n : Node) (t : ValueType) (at : Addressing) (frame : ℕ) (live : Reg → Bool) (staged : List Bool) (needs : List Need) (choices : List Choice)
-    (body : List I) → n.op ≡ op.Load t at → names_label n ≡ false → HasWords n → NeedWell R needs → length needs ≤ 3
+    (c : Code) (i : ℕ) (n : Node) (t : ValueType) (at : Addressing) (frame : ℕ) (live : Reg → Bool) (staged : List Bool) (needs : List Need)
+    (choices : List Choice) (body : List I) → n.op ≡ op.Load t at → names_label n ≡ false → HasWords n → NeedWell R needs → length needs ≤ 3
     → AreFor (around R.processor.target n live staged) needs [] needs choices → ((j : ℕ) → j < pushed c.nodes.nodes i → slice_index_or staged j false ≡ true)
     → IsInText c i n → IsFrameOf c i frame → IsNodeBlock R fits c i (wrapped R choices body) → 0 < length (spellings R.spelling body)
     → LoadDoes R scratch choices frame t (named (operand_at n 0)) (address_of at (operand_at n 1) (operand_at n 2)) body

@@ -74,8 +74,8 @@ StoresCarry R fits code =
 -- and so is it by code with temporaries, saved or not, which are chosen for its needs; the staged arguments are at least those that are pushed at the node
 abbrev pub StoresWithTemporariesCarry : {Q I : Type 0} → Rows Q I → (ℕ → Bool) → (I → Type 0) → Type 0
 StoresWithTemporariesCarry {Q} {I} R scratch fits =
-    (c : Code) (i : ℕ) (n : Node) (t : StoreType) (at : Addressing) (frame : ℕ) (live : Reg → Bool) (staged : List Bool) (needs : List Need) (choices : List Choice)
-    (body : List I) → n.op ≡ op.Store t at → names_label n ≡ false → HasWords n → NeedWell R needs → length needs ≤ 3
+    (c : Code) (i : ℕ) (n : Node) (t : StoreType) (at : Addressing) (frame : ℕ) (live : Reg → Bool) (staged : List Bool) (needs : List Need)
+    (choices : List Choice) (body : List I) → n.op ≡ op.Store t at → names_label n ≡ false → HasWords n → NeedWell R needs → length needs ≤ 3
     → AreFor (around R.processor.target n live staged) needs [] needs choices → ((j : ℕ) → j < pushed c.nodes.nodes i → slice_index_or staged j false ≡ true)
     → IsInText c i n → IsFrameOf c i frame → IsNodeBlock R fits c i (wrapped R choices body) → 0 < length (spellings R.spelling body)
     → StoreDoes R scratch choices frame t (address_of at (operand_at n 0) (operand_at n 1)) (named (operand_at n (stored_operand at))) body

@@ -117,5 +117,6 @@ RetvalNodesCompute {Q} {I} M =
     (scratch : ℕ → Bool) (c : Code) (i : ℕ) (t : ValueType) (d : Reg) (line : ℕ) (choices : List Choice) (body : List I)
     → d ≢ Fp → IsInText c i (retval_node t d line) → ComputesInto M scratch (d ∷ []) choices body
     → ((w : Held) → ((r : ℕ) → w.registers r < 2 ^ 64)
-    → (computed M.computed_by body w).registers (register_of M.rows.processor.target d) ≡ extended_by_type t (w.registers (result_register M.rows.processor.target)))
+    → (computed M.computed_by body w).registers (register_of M.rows.processor.target d)
+    ≡ extended_by_type t (w.registers (result_register M.rows.processor.target)))
     → ComputingNode M scratch c i (retval_node t d line) choices body

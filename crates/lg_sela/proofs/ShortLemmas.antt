@@ -1,6 +1,6 @@
--- Code that leads back to a label has the shortest form that reaches it.
-use Rattle.std.proofs.Common.{◌≡◌, ℕ, ◌+◌, ◌-◌, ◌*◌, ◌/◌, ◌%◌, ◌^◌, Bool, true, false, List, [], ◌∷◌, ◌++◌, length, Some, refl, sym, ap, ◌∙◌, subst, arith, append_assoc}
-use Rattle.std.specs.Prelude.{◌==◌, pos, ◌+ℤ◌, ◌*ℤ◌, nat_lt, if◌then◌else◌, slice_get, slice_index}
+-- Code that leads back to a label has the shortest form that reaches it, and code that leads ahead the one that the buffer's size asks for.
+use Rattle.std.proofs.Common.{◌≡◌, ℕ, ◌+◌, ◌-◌, ◌*◌, ◌/◌, ◌%◌, ◌^◌, Bool, true, false, List, [], ◌∷◌, ◌++◌, length, None, Some, refl, sym, ap, ◌∙◌, subst, arith, append_assoc}
+use Rattle.std.specs.Prelude.{◌==◌, pos, ◌+ℤ◌, ◌*ℤ◌, nat_le, nat_lt, if◌then◌else◌, slice_get, slice_index}
 use Rattle.std.proofs.lemmas.Int.{ints}
 use Rattle.lg_base.specs.HostNames.{host_address}
 use Rattle.lg_base.specs.Layout.{code_base}
@@ -15,7 +15,7 @@ use Rattle.lg_carry.specs.FinalNodes.{Code}
 use Rattle.lg_carry_a64.specs.A64Rows.{link}
 use Rattle.lg_carry_a64.specs.Numbers.{quarter_code, positive_code, negative_code, number_code}
 use Rattle.lg_carry_a64.proofs.ComputerLemmas.{spellings-long}
-use Rattle.lg_op.specs.Forms.{admits, last_form}
+use Rattle.lg_op.specs.Forms.{admit, admits, forms_of, last_form}
 use Rattle.lg_op.specs.declared.form.Form.TheVariants as form
 use Rattle.lg_op.specs.declared.op.BranchSumOp.{BranchSumOp}
 use Rattle.lg_op.specs.declared.op.BranchSumOp.TheVariants as sum
@@ -38,16 +38,16 @@ use Rattle.lg_sel.proofs.SelectionLemmas as selection
 use Rattle.lg_sel.proofs.FinishedLemmas.{items-lead}
 use Rattle.lg_sel.specs.Finished.{AreAppended}
 use Rattle.lg_sel.specs.Selected.{IsFinished, part_of}
-use Rattle.lg_sel.specs.Shorts.{a64_is_relative, LeadsBy, IsShortBranchIf, IsShort}
+use Rattle.lg_sel.specs.Shorts.{a64_is_relative, LeadsBy, IsShortBranchIf, IsShort, IsBranchIfAhead, IsAhead}
 use Rattle.lg_sel_control.proofs.ControlLemmas.{differ, never, never-sum}
 use Rattle.lg_sel_items.specs.Holes.{Each}
 use Rattle.lg_sel_items.proofs.ListLemmas.{each-append}
-use Rattle.lg_sel_items.specs.Reaches.{Leads, LeadsTo, IsLeast}
+use Rattle.lg_sel_items.specs.Reaches.{near_size, may_wait, Leads, LeadsTo, IsLeast, IsLeastAhead}
 use Rattle.lg_sel_items.specs.declared.reach.Reach.{Reach}
 use Rattle.lg_sel_items.specs.declared.reach.Reach.TheVariants.{Short, Near, Far}
 use Rattle.lg_sela_control.proofs.ControlLemmas.{second-is, branch-settled}
-use Rattle.lg_sela_control.specs.Branches.{comparison, taken}
-use Rattle.lg_sela_control.specs.ControlItems.{second_register, second_items, leads_items, branch_if_items, control_items}
+use Rattle.lg_sela_control.specs.Branches.{comparison, taken, turned}
+use Rattle.lg_sela_control.specs.ControlItems.{second_register, leads_items, branch_if_items, branch_items, sum_items, control_items}
 use Rattle.lg_sela_control.specs.SumBranches.{sum_instruction, sum_taken}
 use Rattle.lg_sela_control.specs.TwoWays.{second_code, leads_if}
 use Rattle.lg_sela_items.proofs.ItemLemmas.{words-ones, ones-append, fixes-append, fixes-ones}
@@ -129,8 +129,49 @@ branch-fixes r p xs sets holds l =
     ap (fixes_of p) joined ∙ fixes-append p (ones front) last ∙ ap (λ z. z ++ fixes_of (p + bytes_in (ones front)) last) (fixes-ones p front)
     ∙ ap (λ q. fixes_of q last) place ∙ lead-fixes r (p + 4 * length front) holds l
 
+-- ---- the branches
+-- items of each reach that lead to a label, the first operand: instructions that do not count from their own place, of which the last sets the flags, and
+-- what branches on a condition behind them
+record IsBranchTo (xs : List Operand) (items : Reach → List Item) : Type 0 where
+  first : List Instr
+  sets : Instr
+  apart : Each Apart (first ++ (sets ∷ []))
+  holds : Cond
+  label : Label
+  names : slice_get xs 0 ≡ Some (operand.Label label)
+  are : (r : Reach) → items r ≡ ones first ++ branch_if_items r sets holds label
+
+branch-leads : (o : Condition) (last : LastOperand) (xs : List Operand) → admit (forms_of (op.Branch o last)) xs ≡ true → IsBranchTo xs (λ r. branch_items r o xs)
+branch-leads o last (operand.Label l ∷ operand.Reg a ∷ x ∷ []) admitted =
+    let sets : Instr = comparison o (register_of Aarch64 a) (second_register x) in record {
+      first = second_code x;
+      sets = sets;
+      apart = each-append Apart (second_code x) (sets ∷ []) (second-apart x) (comparison-apart o (register_of Aarch64 a) (second_register x));
+      holds = taken o;
+      label = l;
+      names = refl;
+      are = λ r. ap (λ ys. ys ++ branch_if_items r sets (taken o) l) (second-is x);
+    }
+branch-leads o last (operand.Label l ∷ operand.Reg a ∷ x ∷ y ∷ ys) admitted = absurd (never (admits (last_form last) x) admitted)
+branch-leads o last xs admitted = absurd (differ admitted)
+
+sum-leads : (o : BranchSumOp) (last : LastOperand) (xs : List Operand) → admit (forms_of (op.BranchSum o last)) xs ≡ true → IsBranchTo xs (λ r. sum_items r o xs)
+sum-leads o last (operand.Label l ∷ operand.Reg a ∷ x ∷ []) admitted =
+    let sets : Instr = sum_instruction o (register_of Aarch64 a) (second_register x) in record {
+      first = second_code x;
+      sets = sets;
+      apart = each-append Apart (second_code x) (sets ∷ []) (second-apart x) (sum-apart o (register_of Aarch64 a) (second_register x));
+      holds = sum_taken o;
+      label = l;
+      names = refl;
+      are = λ r. ap (λ ys. ys ++ branch_if_items r sets (sum_taken o) l) (second-is x);
+    }
+sum-leads o last (operand.Label l ∷ operand.Reg a ∷ x ∷ y ∷ ys) admitted = absurd (never-sum (admits form.Update (operand.Reg a)) (admits (last_form last) x) admitted)
+sum-leads o last (operand.Label l ∷ operand.Reg a ∷ []) admitted = absurd (never (admits form.Update (operand.Reg a)) admitted)
+sum-leads o last xs admitted = absurd (differ admitted)
+
 -- ---- the node in its buffer
-module _ (old new : Buffer) (code : List ℕ) (c : Code) (i goal frame : ℕ) (f : IsFinished old new code c i) where
+module _ (old new : Buffer) (code : List ℕ) (c : Code) (i : ℕ) (f : IsFinished old new code c i) where
   abbrev place : ℕ
   place = length old.bytes
 
@@ -140,78 +181,105 @@ module _ (old new : Buffer) (code : List ℕ) (c : Code) (i goal frame : ℕ) (f
   abbrev part : List ℕ
   part = part_of code place (length new.bytes - place)
 
-  does-of : (l : Label) (g : Fix) (gs : List Fix) → place_of old.labels l.0 ≡ Some goal → gs ≡ g ∷ [] → g.label ≡ record { 0 = l.0 } → Fits g.kind g.place goal → Each (Leads old) gs
-  does-of l g gs bound is same fits =
-      subst (Each (Leads old)) (sym is) (subst (LeadsTo old.size g) (sym (ap (λ m. place_of old.labels m.0) same ∙ bound)) fits, tt)
+  -- items that lead to a label become what has a form
+  abbrev IsLed : (ℕ → List Instr → Type 0) → Type 0
+  IsLed has_form = LeadsBy spelling IsInstr a64_is_relative has_form place part
 
-  abbrev IsLed : Type 0
-  IsLed = LeadsBy spelling IsInstr a64_is_relative (IsShortBranchIf goal) place part
+  module _ (xs : List Operand) (items : Reach → List Item) (k : IsBranchTo xs items) where
+    abbrev front : List Instr
+    front = k.first ++ (k.sets ∷ [])
 
-  led : (r : Reach) (xs : List Instr) (sets : Instr) (holds : Cond) (l : Label) (items : List Item) (leap : Instr) (rest : List Instr) → items ≡ ones xs ++ branch_if_items r sets holds l
-      → AreAppended a64_holes old new items → AreItems items → Each Apart (xs ++ (sets ∷ []))
-      → leads_if r holds (code_base + place + 4 * length (xs ++ (sets ∷ []))) (to l.0) ≡ leap ∷ rest → a64_is_relative leap ≡ true
-      → IsShortBranchIf goal (place + 4 * length (xs ++ (sets ∷ []))) (leap ∷ rest) → IsLed
-  led r xs sets holds l items leap rest is appended fit apart same leads short =
-      let front = xs ++ (sets ∷ []) in
-      let long = spellings-long front in
-      let starts : place + length (spellings spelling front) ≡ place + 4 * length front = omega (arith, long) in
-      items-lead a64_holes spelling IsInstr IsItem are-holes a64_is_relative (IsShortBranchIf goal) old new code c i items appended fit f front leap rest
-      (ap (settled to (code_base + place)) is ∙ branch-settled r to (code_base + place) xs sets holds l ∙ ap (λ z. front ++ z) same) apart leads
-      (subst (λ p. IsShortBranchIf goal p (leap ∷ rest)) (sym starts) short)
+    abbrev from : ℕ
+    from = place + 4 * length front
 
-  -- words away are four times as many bytes
-  away : (from : ℕ) → (goal % 4 ≡ from % 4) → pos from +ℤ (words_between (code_base + from) (code_base + goal) *ℤ pos 4) ≡ pos goal
-  away from even = omega (arith, ints, even)
+    branch-fix : (r : Reach) → fixes_of place (items r) ≡ lead-fix r from k.label ∷ []
+    branch-fix r = ap (fixes_of place) (k.are r) ∙ branch-fixes r place k.first k.sets k.holds k.label
 
-  branch-short : (r : Reach) (xs : List Instr) (sets : Instr) (holds : Cond) (l : Label) (items : List Item) → items ≡ ones xs ++ branch_if_items r sets holds l
-      → AreAppended a64_holes old new items → AreItems items → Each Apart (xs ++ (sets ∷ [])) → place_of old.labels l.0 ≡ Some goal → to l.0 ≡ code_base + goal
-      → IsLeast (λ s. Each (Leads old) (fixes_of place (ones xs ++ branch_if_items s sets holds l))) r → IsLed
-  branch-short Short xs sets holds l items is appended fit apart bound address least =
-      let from : ℕ = place + 4 * length (xs ++ (sets ∷ [])) in
-      let at : code_base + place + 4 * length (xs ++ (sets ∷ [])) ≡ code_base + from = omega arith in
-      led Short xs sets holds l items (instr.BranchIf holds (words_between (code_base + from) (code_base + goal))) [] is appended fit apart
-      (λ j. instr.BranchIf holds (words_between (at j) (address j)) ∷ []) refl (λ near. (holds, words_between (code_base + from) (code_base + goal), refl, away from near.1))
-  branch-short Near xs sets holds l items is appended fit apart bound address least =
-      let from : ℕ = place + 4 * length (xs ++ (sets ∷ [])) in
-      let at : code_base + place + 4 * length (xs ++ (sets ∷ [])) ≡ code_base + from = omega arith in
-      led Near xs sets holds l items (instr.BranchIf holds (words_between (code_base + from) (code_base + goal))) [] is appended fit apart
-      (λ j. instr.BranchIf holds (words_between (at j) (address j)) ∷ []) refl (λ near. (holds, words_between (code_base + from) (code_base + goal), refl, away from near.1))
-  branch-short Far xs sets holds l items is appended fit apart bound address least =
-      led Far xs sets holds l items _ _ is appended fit apart refl refl
-      (λ near. absurd (least.0 (does-of l (lead-fix Short (place + 4 * length (xs ++ (sets ∷ []))) l) _ bound (branch-fixes Short place xs sets holds l) refl near)))
+    branch-led : (has_form : ℕ → List Instr → Type 0) (r : Reach) → AreAppended a64_holes old new (items r) → AreItems (items r) → (leap : Instr) (rest : List Instr)
+        → leads_if r k.holds (code_base + place + 4 * length front) (to k.label.0) ≡ leap ∷ rest → a64_is_relative leap ≡ true → has_form from (leap ∷ rest) → IsLed has_form
+    branch-led has_form r appended fit leap rest same leads form =
+        let long = spellings-long front in
+        let starts : place + length (spellings spelling front) ≡ from = omega (arith, long) in
+        let become : settled to (code_base + place) (items r) ≡ front ++ leads_if r k.holds (code_base + place + 4 * length front) (to k.label.0) =
+        ap (settled to (code_base + place)) (k.are r) ∙ branch-settled r to (code_base + place) k.first k.sets k.holds k.label in
+        items-lead a64_holes spelling IsInstr IsItem are-holes a64_is_relative has_form old new code c i (items r) appended fit f front leap rest
+        (become ∙ ap (λ z. front ++ z) same) k.apart leads (subst (λ p. has_form p (leap ∷ rest)) (sym starts) form)
 
-  -- ---- every node
-  -- what is known of the operands of a node with this reach
-  abbrev IsKnown : Reach → Op → List Operand → Type 0
-  IsKnown r o xs = selection.IsKnown a64_holes IsItem old new to goal (λ s. control_items s o xs frame place) r o xs
+  -- ---- back to a label that is bound
+  module _ (goal frame : ℕ) where
+    does-of : (l : Label) (g : Fix) (gs : List Fix) → place_of old.labels l.0 ≡ Some goal → gs ≡ g ∷ [] → g.label ≡ record { 0 = l.0 } → Fits g.kind g.place goal → Each (Leads old) gs
+    does-of l g gs bound is same fits =
+        subst (Each (Leads old)) (sym is) (subst (LeadsTo old.size g) (sym (ap (λ m. place_of old.labels m.0) same ∙ bound)) fits, tt)
 
-  branch : (r : Reach) (o : Condition) (last : LastOperand) (xs : List Operand) → IsKnown r (op.Branch o last) xs → IsLed
-  branch r o last (operand.Label l ∷ operand.Reg a ∷ x ∷ []) k =
-      let sets : Instr = comparison o (register_of Aarch64 a) (second_register x) in
-      let L = k.labels l refl in
-      let e : second_items x ≡ ones (second_code x) = second-is x in
-      branch-short r (second_code x) sets (taken o) l _ (ap (λ ys. ys ++ branch_if_items r sets (taken o) l) e) k.appended k.fit
-      (each-append Apart (second_code x) (sets ∷ []) (second-apart x) (comparison-apart o (register_of Aarch64 a) (second_register x))) L.0 L.1
-      (subst (λ (ys : List Item). IsLeast (λ s. Each (Leads old) (fixes_of place (ys ++ branch_if_items s sets (taken o) l))) r) e k.least)
-  branch r o last (operand.Label l ∷ operand.Reg a ∷ x ∷ y ∷ ys) k = absurd (never (admits (last_form last) x) k.admitted)
-  branch r o last xs k = absurd (differ k.admitted)
+    -- words away are four times as many bytes
+    away : (start : ℕ) → (goal % 4 ≡ start % 4) → pos start +ℤ (words_between (code_base + start) (code_base + goal) *ℤ pos 4) ≡ pos goal
+    away start even = omega (arith, ints, even)
 
-  sum-branch : (r : Reach) (o : BranchSumOp) (last : LastOperand) (xs : List Operand) → IsKnown r (op.BranchSum o last) xs → IsLed
-  sum-branch r o last (operand.Label l ∷ operand.Reg a ∷ x ∷ []) k =
-      let sets : Instr = sum_instruction o (register_of Aarch64 a) (second_register x) in
-      let L = k.labels l refl in
-      let e : second_items x ≡ ones (second_code x) = second-is x in
-      branch-short r (second_code x) sets (sum_taken o) l _ (ap (λ ys. ys ++ branch_if_items r sets (sum_taken o) l) e) k.appended k.fit
-      (each-append Apart (second_code x) (sets ∷ []) (second-apart x) (sum-apart o (register_of Aarch64 a) (second_register x))) L.0 L.1
-      (subst (λ (ys : List Item). IsLeast (λ s. Each (Leads old) (fixes_of place (ys ++ branch_if_items s sets (sum_taken o) l))) r) e k.least)
-  sum-branch r o last (operand.Label l ∷ operand.Reg a ∷ x ∷ y ∷ ys) k = absurd (never-sum (admits form.Update (operand.Reg a)) (admits (last_form last) x) k.admitted)
-  sum-branch r o last (operand.Label l ∷ operand.Reg a ∷ []) k = absurd (never (admits form.Update (operand.Reg a)) k.admitted)
-  sum-branch r o last xs k = absurd (differ k.admitted)
+    branch-short : (r : Reach) (xs : List Operand) (items : Reach → List Item) (k : IsBranchTo xs items) → AreAppended a64_holes old new (items r) → AreItems (items r)
+        → place_of old.labels k.label.0 ≡ Some goal → to k.label.0 ≡ code_base + goal → IsLeast (λ s. Each (Leads old) (fixes_of place (items s))) r
+        → IsLed (IsShortBranchIf goal)
+    branch-short Short xs items k appended fit bound address least =
+        let start : ℕ = from xs items k in
+        let at : code_base + place + 4 * length (k.first ++ (k.sets ∷ [])) ≡ code_base + start = omega arith in
+        branch-led xs items k (IsShortBranchIf goal) Short appended fit (instr.BranchIf k.holds (words_between (code_base + start) (code_base + goal))) []
+        (λ j. instr.BranchIf k.holds (words_between (at j) (address j)) ∷ []) refl
+        (λ near. (k.holds, words_between (code_base + start) (code_base + goal), refl, away start near.1))
+    branch-short Near xs items k appended fit bound address least =
+        let start : ℕ = from xs items k in
+        let at : code_base + place + 4 * length (k.first ++ (k.sets ∷ [])) ≡ code_base + start = omega arith in
+        branch-led xs items k (IsShortBranchIf goal) Near appended fit (instr.BranchIf k.holds (words_between (code_base + start) (code_base + goal))) []
+        (λ j. instr.BranchIf k.holds (words_between (at j) (address j)) ∷ []) refl
+        (λ near. (k.holds, words_between (code_base + start) (code_base + goal), refl, away start near.1))
+    branch-short Far xs items k appended fit bound address least =
+        branch-led xs items k (IsShortBranchIf goal) Far appended fit _ _ refl refl
+        (λ near. absurd (least.0 (does-of k.label (lead-fix Short (from xs items k) k.label) _ bound (branch-fix xs items k Short) refl near)))
 
-  pub node-short : (r : Reach) (o : Op) (xs : List Operand) (l : Label) → slice_get xs 0 ≡ Some (operand.Label l) → IsKnown r o xs → IsShort Aarch64 o goal place part
-  node-short r (op.Branch o last) xs l first k = branch r o last xs k
-  node-short r (op.BranchSum o last) xs l first k = sum-branch r o last xs k
-  node-short r (op.Control control.Jmp last_operand.Immediate) xs l first k = tt
-  node-short r (op.Control control.Call last_operand.Immediate) xs l first k = tt
-  node-short r (op.Control control.Finish last_operand.Immediate) xs l first k = tt
-  node-short r o xs l first k = tt
+    -- what is known of the operands of a node with this reach
+    abbrev IsKnown : Reach → Op → List Operand → Type 0
+    IsKnown r o xs = selection.IsKnown a64_holes IsItem old new to goal (λ s. control_items s o xs frame place) r o xs
+
+    short : (r : Reach) (o : Op) (xs : List Operand) → IsKnown r o xs → (b : IsBranchTo xs (λ s. control_items s o xs frame place)) → IsLed (IsShortBranchIf goal)
+    short r o xs k b = let L = k.labels b.label b.names in branch-short r xs (λ s. control_items s o xs frame place) b k.appended k.fit L.0 L.1 k.least
+
+    pub node-short : (r : Reach) (o : Op) (xs : List Operand) (l : Label) → slice_get xs 0 ≡ Some (operand.Label l) → IsKnown r o xs → IsShort Aarch64 o goal place part
+    node-short r (op.Branch o last) xs l first k = short r (op.Branch o last) xs k (branch-leads o last xs k.admitted)
+    node-short r (op.BranchSum o last) xs l first k = short r (op.BranchSum o last) xs k (sum-leads o last xs k.admitted)
+    node-short r (op.Control control.Jmp last_operand.Immediate) xs l first k = tt
+    node-short r (op.Control control.Call last_operand.Immediate) xs l first k = tt
+    node-short r (op.Control control.Finish last_operand.Immediate) xs l first k = tt
+    node-short r o xs l first k = tt
+
+  -- ---- ahead to one that is not
+  -- a fix waits for the label where it may
+  waits : (l : Label) → place_of old.labels l.0 ≡ None → (g : Fix) (gs : List Fix) → gs ≡ g ∷ [] → g.label ≡ record { 0 = l.0 } → may_wait g.kind old.size ≡ true → Each (Leads old) gs
+  waits l free g gs is same may = subst (Each (Leads old)) (sym is) (subst (LeadsTo old.size g) (sym (ap (λ m. place_of old.labels m.0) same ∙ free)) may, tt)
+
+  branch-ahead : (r : Reach) (is_near : Bool) → nat_le old.size near_size ≡ is_near → (xs : List Operand) (items : Reach → List Item) (k : IsBranchTo xs items)
+      → AreAppended a64_holes old new (items r) → AreItems (items r) → place_of old.labels k.label.0 ≡ None
+      → IsLeastAhead is_near (λ s. Each (Leads old) (fixes_of place (items s))) r → IsLed (IsBranchIfAhead is_near)
+  branch-ahead Short is_near e xs items k appended fit free least = absurd least
+  branch-ahead Near true e xs items k appended fit free least =
+      branch-led xs items k (IsBranchIfAhead true) Near appended fit _ _ refl refl (k.holds, _, refl)
+  branch-ahead Near false e xs items k appended fit free least = absurd (differ least)
+  branch-ahead Far true e xs items k appended fit free least =
+      absurd (least refl (waits k.label free (lead-fix Near (from xs items k) k.label) _ (branch-fix xs items k Near) refl e))
+  branch-ahead Far false e xs items k appended fit free least =
+      branch-led xs items k (IsBranchIfAhead false) Far appended fit _ _ refl refl (turned k.holds, _, refl)
+
+  module _ (frame : ℕ) where
+    abbrev IsKnownAhead : Reach → Op → List Operand → Type 0
+    IsKnownAhead r o xs = selection.IsKnownAhead a64_holes IsItem old new (λ s. control_items s o xs frame place) r o xs
+
+    abbrev is_near : Bool
+    is_near = nat_le old.size near_size
+
+    ahead : (r : Reach) (o : Op) (xs : List Operand) → IsKnownAhead r o xs → (b : IsBranchTo xs (λ s. control_items s o xs frame place)) → IsLed (IsBranchIfAhead is_near)
+    ahead r o xs k b = branch-ahead r is_near refl xs (λ s. control_items s o xs frame place) b k.appended k.fit (k.labels b.label b.names) k.least
+
+    pub node-ahead : (r : Reach) (o : Op) (xs : List Operand) (l : Label) → slice_get xs 0 ≡ Some (operand.Label l) → IsKnownAhead r o xs → IsAhead Aarch64 is_near o place part
+    node-ahead r (op.Branch o last) xs l first k = ahead r (op.Branch o last) xs k (branch-leads o last xs k.admitted)
+    node-ahead r (op.BranchSum o last) xs l first k = ahead r (op.BranchSum o last) xs k (sum-leads o last xs k.admitted)
+    node-ahead r (op.Control control.Jmp last_operand.Immediate) xs l first k = tt
+    node-ahead r (op.Control control.Call last_operand.Immediate) xs l first k = tt
+    node-ahead r (op.Control control.Finish last_operand.Immediate) xs l first k = tt
+    node-ahead r o xs l first k = tt

@@ -7,7 +7,7 @@ ghost use Rattle.lg_sel_nodes.specs.Operands.{NameBelow};
 ghost use Rattle.lg_op.specs.Nodes.{InForm};
 ghost use Rattle.lg_live.specs.RegSets.{has};
 ghost use Rattle.lg_sel.specs.Selected.{IsFrame, AreFirst, is_pusharg, TakesLabelsWell, IsAligned, IsFixOf};
-ghost use Rattle.lg_sel.specs.Promises.{IsCarriedWhenFinished, IsShortWhenFinished, AreInstructionsWhenFinished, IsSparingWhenFinished};
+ghost use Rattle.lg_sel.specs.Promises.{IsCarriedWhenFinished, IsShortWhenFinished, IsAheadWhenFinished, AreInstructionsWhenFinished, IsSparingWhenFinished};
 ghost use Rattle.lg_sela.specs.Selected.{AreChosen};
 ghost use Rattle.lg_base.specs.declared.target.Target.{Target};
 
@@ -30,8 +30,8 @@ use lg_temp::choice::{Choices, Staged};
 ///
 /// Behind an `.align` the place is a multiple of its number, and a `prolog` has bytes. Each new fix lies behind what the buffer held, names a label
 /// of the node, and reaches the place of a label that is bound, and else every place, or every one within 1 MiB where the buffer's size is no more. The
-/// code that leads back to a label that is bound has the shortest form that reaches it. Once the fixes of the buffer are patched, the code is whole
-/// instructions, and carries
+/// code that leads back to a label that is bound has the shortest form that reaches it, and code that leads ahead to one that is not the near form,
+/// or in a larger buffer the far one. Once the fixes of the buffer are patched, the code is whole instructions, and carries
 /// the node where the registers of `live_after` are live behind it: no step of it but one of a host function changes a register that is outside of
 /// the conventions. It has one store for each choice that saves a register, and one more at stores, `pushargr` and `pushargi`; that of a `prolog` may
 /// have more.
@@ -63,6 +63,7 @@ pub fn select(
     ensures begins { IsTrue result → is_prolog node.now.op ≡ true → length buf.old.bytes < length buf.new.bytes }
     ensures lead { IsTrue result → All (IsFixOf 4 buf.old node.now) (drop (length buf.old.fixes) buf.new.fixes) }
     ensures shortest { IsTrue result → IsShortWhenFinished Target.Aarch64 node.now buf.old buf.new }
+    ensures ahead { IsTrue result → IsAheadWhenFinished Target.Aarch64 node.now buf.old buf.new }
     ensures instructions { IsTrue result → AreInstructionsWhenFinished Target.Aarch64 buf.old buf.new }
     ensures sparing { IsTrue result → IsSparingWhenFinished Target.Aarch64 node.now choices.now buf.old buf.new }
     ensures carries { IsTrue result → IsCarriedWhenFinished Target.Aarch64 node.now frame (has live_after) staged.arguments buf.old buf.new }

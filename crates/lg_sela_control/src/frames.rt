@@ -1,10 +1,8 @@
 // Functions that begin and return, and places at a multiple.
 
-ghost use Rattle.std.specs.Prelude.{◌≡◌, ◌+◌, ◌*◌, ◌<◌, ◌≤◌, true, negsuc, [], ◌∷◌, ◌++◌};
+ghost use Rattle.std.specs.Prelude.{◌≡◌, ◌+◌, ◌*◌, ◌<◌, ◌≤◌, true, [], ◌∷◌, ◌++◌};
 ghost use Rattle.lg_carry_a64.specs.A64Rows.{stack_pointer, frame_pointer};
-ghost use Rattle.lg_op.specs.Forms.{is_alignment};
 ghost use Rattle.lg_op.specs.declared.form.Form.TheVariants as form;
-ghost use Rattle.lg_sela_control.specs.Alignments.{padding, idle, align_code};
 ghost use Rattle.lg_sela_control.specs.ControlItems.{align_items, plain_items};
 ghost use Rattle.lg_sela_control.specs.Prologs.{stored_registers, stores_below, fall_code, prolog_code};
 ghost use Rattle.lg_sela_control.specs.Returns.{return_code};
@@ -13,6 +11,7 @@ ghost use Rattle.lg_op.specs.Forms.{admit, plain_forms};
 
 use lg_a64::{BranchRegOp, ImmOp, Instr, UnscaledOp};
 use lg_op::{Operand, PlainOp};
+use lg_sel_control::{gap, put_idle};
 use lg_sel_items::Items;
 use lg_sela_items::{FRAME_POINTER, Item, LINK, ZERO, imm};
 
@@ -128,27 +127,6 @@ pub(crate) fn put_return(items: &mut Items<Item>)
     items.all(&return_code());
 }
 
-// Appends so many instructions that do nothing.
-#[tactic(auto, using(lg_sela_items::proofs::ItemLemmas::words_append))]
-fn put_idle(count: u32, items: &mut Items<Item>)
-    requires { words_in items.old + count ≤ 64 }
-    ensures { items.new ≡ items.old ++ ones (idle count) }
-{
-    if count > 0 {
-        items.one(Instr::Nop);
-        put_idle(count - 1, items);
-    }
-}
-
-// How many of them lead from a place to a multiple of an alignment.
-fn padding(place: u32, alignment: u32) -> u32
-    requires { is_alignment alignment ≡ true }
-    ensures value { result ≡ padding place alignment }
-    ensures few { result ≤ 16 }
-{
-    (alignment - place % alignment) % alignment / 4
-}
-
 // Appends the items of `.align` to none.
 fn put_align(place: u32, operands: &[Operand], items: &mut Items<Item>)
     requires empty { items.old ≡ [] }
@@ -156,7 +134,11 @@ fn put_align(place: u32, operands: &[Operand], items: &mut Items<Item>)
     ensures { items.new ≡ align_items place operands.now }
 {
     match operands {
-        [Operand::Number(alignment)] => put_idle(padding(place, *alignment as u32), items),
+        [Operand::Number(alignment)] => put_idle(
+            Instr::Nop,
+            gap(place, *alignment as u32) / 4,
+            items,
+        ),
         _ => {}
     }
 }

@@ -1,6 +1,5 @@
 -- Code of which some items are those of a node.
-use Rattle.std.specs.Prelude.{◌≡◌, ℕ, ◌^◌, ◌<◌, ◌≤◌, true, List, length, slice_get, slice_index}
-use Rattle.lg_base.specs.Layout.{most_code}
+use Rattle.std.specs.Prelude.{◌≡◌, ℕ, ◌<◌, true, List, slice_get, slice_index}
 use Rattle.lg_carry.specs.Blocks.{IsBlock}
 use Rattle.lg_carry.specs.Carries.{leaps_at}
 use Rattle.lg_carry.specs.FinalNodes.{Code}
@@ -9,7 +8,6 @@ use Rattle.lg_carry_a64.specs.Destinations.{WritesWithin}
 use Rattle.lg_carry_a64.specs.Places.{IsInCode}
 use Rattle.lg_carry_a64.specs.A64Rows.{a64_rows, is_straight}
 use Rattle.lg_a64.specs.Spelling.{IsInstr}
-use Rattle.lg_cpu.specs.Laws.{AreBytes}
 use Rattle.lg_sel_items.specs.NodeItems as node_items
 use Rattle.lg_sela_items.specs.declared.items.Item.{Item}
 use Rattle.lg_sela_items.specs.Items.{a64_holes, IsItem, words_in, settled}

@@ -10,4 +10,6 @@ mod rows;
 
 pub use items::Item;
 pub use numbers::put_number;
-pub use rows::{FRAME_POINTER, LINK, ZERO, bitfield, imm, mul_add, register_of, row, wide};
+pub use rows::{
+    FRAME_POINTER, LINK, ZERO, bitfield, imm, mul_add, register_of, restore, row, save, wide,
+};

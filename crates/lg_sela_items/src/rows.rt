@@ -1,10 +1,11 @@
-// Instructions by their rows, and the registers that stand for portable ones. Registers are 0 to 31.
+// Instructions by their rows, those that save and restore a register, and the registers that stand for portable ones. Registers are 0 to 31.
 
-ghost use Rattle.std.specs.Prelude.{◌≡◌, false};
+ghost use Rattle.std.specs.Prelude.{◌≡◌, ◌<◌, false};
 ghost use Rattle.lg_base.specs.declared.target.Target.TheVariants.{Aarch64};
+ghost use Rattle.lg_carry_a64.specs.A64Rows.{frame_pointer, slot_offset};
 ghost use Rattle.lg_temp.specs.Abis.{register_of};
 
-use lg_a64::{BitfieldOp, ImmOp, Instr, MulAddOp, RegOp, WideOp};
+use lg_a64::{BitfieldOp, ImmOp, Instr, MulAddOp, RegOp, UnscaledOp, WideOp};
 use lg_base::target::Target;
 use lg_op::Reg;
 use lg_temp::abi::Abi;
@@ -62,6 +63,40 @@ pub fn bitfield(op: BitfieldOp, rd: u8, rn: u8, immr: u8, imms: u8) -> Instr
         rn,
         immr,
         imms,
+    }
+}
+
+// Where a spill slot of a frame, 0 to 4, lies from FP, in bytes.
+fn slot_offset(slot: u32) -> i32
+    requires { slot < 5 }
+    ensures { result ≡ slot_offset slot }
+{
+    -96 - 8 * (slot as i32)
+}
+
+/// The instruction that saves a register in a spill slot of its frame, 0 to 4.
+pub fn save(reg: u8, slot: u32) -> Instr
+    requires { slot < 5 }
+    ensures { result ≡ Instr.Unscaled (UnscaledOp.Stur) reg frame_pointer (slot_offset slot) }
+{
+    Instr::Unscaled {
+        op: UnscaledOp::Stur,
+        rt: reg,
+        rn: FRAME_POINTER,
+        imm: slot_offset(slot),
+    }
+}
+
+/// The instruction that restores a register from a spill slot of its frame, 0 to 4.
+pub fn restore(reg: u8, slot: u32) -> Instr
+    requires { slot < 5 }
+    ensures { result ≡ Instr.Unscaled (UnscaledOp.Ldur) reg frame_pointer (slot_offset slot) }
+{
+    Instr::Unscaled {
+        op: UnscaledOp::Ldur,
+        rt: reg,
+        rn: FRAME_POINTER,
+        imm: slot_offset(slot),
     }
 }
 

@@ -1,9 +1,9 @@
 // Loads and stores.
 
-ghost use Rattle.std.specs.Prelude.{◌≡◌, ◌+◌, ◌<◌, ◌≤◌, [], ◌∷◌, ◌++◌};
+ghost use Rattle.std.specs.Prelude.{◌≡◌, ◌<◌, ◌≤◌, []};
 ghost use Rattle.lg_sela_items.specs.Items.{ones, words_in};
 ghost use Rattle.lg_sel_memory.specs.Accesses.{address_of};
-ghost use Rattle.lg_sela_memory.specs.Accesses.{load_row, store_row, at_register, at_link, indexed, place_of, load_code, store_code};
+ghost use Rattle.lg_sela_memory.specs.Accesses.{load_row, store_row, at_register, indexed, place_of, load_code, store_code};
 
 use crate::operands::register;
 use lg_a64::{Instr, RegOp, ScaledOp};

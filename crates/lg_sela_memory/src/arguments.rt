@@ -1,6 +1,6 @@
 // The arguments of calls and of functions.
 
-ghost use Rattle.std.specs.Prelude.{◌≡◌, ◌+◌, ◌<◌, ◌≤◌, [], ◌∷◌, ◌++◌};
+ghost use Rattle.std.specs.Prelude.{◌≡◌, ◌+◌, ◌<◌, ◌≤◌, []};
 ghost use Rattle.lg_sela_items.specs.declared.items.Item.TheVariants as item;
 ghost use Rattle.lg_sela_items.specs.Items.{ones, words_in};
 ghost use Rattle.lg_sela_memory.specs.ArgumentCode.{home_distance, stack_count, argument_load, argument_code};

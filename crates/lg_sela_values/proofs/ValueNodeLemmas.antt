@@ -1,7 +1,6 @@
 -- The nodes that compute values are carried by their items.
 use Rattle.std.proofs.Common.{◌≡◌, ◌≢◌, ℕ, ◌⊎◌, inl, inr, Bool, true, false, refl, sym, subst}
 use Rattle.lg_op.specs.Forms.{last_form, admits}
-use Rattle.lg_op.specs.declared.form.Form.TheVariants.{Immediate}
 use Rattle.lg_op.specs.declared.op.BinaryOp.{BinaryOp}
 use Rattle.lg_op.specs.declared.op.WideOp.{WideOp}
 use Rattle.lg_op.specs.declared.op.LastOperand.{LastOperand}

@@ -1,17 +1,15 @@
 // The nodes that compute values.
 
 ghost use Rattle.std.specs.Prelude.{◌≡◌, ◌+◌, ◌<◌, ◌≤◌, [], ◌∷◌, ◌++◌, length, slice_index_or};
-ghost use Rattle.lg_carry_a64.specs.A64Rows.{frame_pointer, slot_offset};
 ghost use Rattle.lg_sela_items.specs.Items.{words_in};
 ghost use Rattle.lg_sela_values.specs.ValueItems.{load_items, binary_items, wide_items, register_for, body_items, value_items, HaveSlots};
 
 use crate::binary::{number_form_code, register_code, second_register};
 use crate::unary::{retval_code, unary_code};
 use crate::wide::{wide_by_link, wide_code};
-use lg_a64::{Instr, UnscaledOp};
-use lg_op::{BinaryOp, Label, Node, Op, Operand, PlainOp, Reg, ValueType, WideOp};
+use lg_op::{BinaryOp, Label, Node, Op, Operand, PlainOp, Reg, WideOp};
 use lg_sel_items::Items;
-use lg_sela_items::{FRAME_POINTER, Item, LINK, put_number, register_of};
+use lg_sela_items::{Item, LINK, put_number, register_of, restore, save};
 use lg_temp::choice::{Choice, Choices};
 
 // The register of an operand that is one, and else 0.
@@ -105,40 +103,6 @@ fn body_items(op: Op, operands: &[Operand], u: u8, items: &mut Items<Item>)
         Op::Plain(PlainOp::Movi | PlainOp::VaStart) => load_items(register_for(x), y, items),
         Op::Retval(value) => retval_code(value, register_for(x), items),
         _ => {}
-    }
-}
-
-// Where a spill slot lies from FP.
-fn slot_offset(slot: u32) -> i32
-    requires { slot < 5 }
-    ensures { result ≡ slot_offset slot }
-{
-    -96 - 8 * (slot as i32)
-}
-
-// Saves a register in a slot.
-fn save(reg: u8, slot: u32) -> Instr
-    requires { slot < 5 }
-    ensures { result ≡ Instr.Unscaled (UnscaledOp.Stur) reg frame_pointer (slot_offset slot) }
-{
-    Instr::Unscaled {
-        op: UnscaledOp::Stur,
-        rt: reg,
-        rn: FRAME_POINTER,
-        imm: slot_offset(slot),
-    }
-}
-
-// Restores a register from a slot.
-fn restore(reg: u8, slot: u32) -> Instr
-    requires { slot < 5 }
-    ensures { result ≡ Instr.Unscaled (UnscaledOp.Ldur) reg frame_pointer (slot_offset slot) }
-{
-    Instr::Unscaled {
-        op: UnscaledOp::Ldur,
-        rt: reg,
-        rn: FRAME_POINTER,
-        imm: slot_offset(slot),
     }
 }
 

@@ -2,9 +2,7 @@
 
 ghost use Rattle.std.specs.Prelude.{◌≡◌, ◌+◌, ◌-◌, ◌<◌, ◌≤◌, true, negsuc, [], ◌∷◌, ◌++◌};
 ghost use Rattle.lg_carry_rv.specs.Numbers.{high_part, low_part};
-ghost use Rattle.lg_op.specs.Forms.{is_alignment};
 ghost use Rattle.lg_op.specs.declared.form.Form.TheVariants as form;
-ghost use Rattle.lg_selr_control.specs.Alignments.{padding, idle, align_code};
 ghost use Rattle.lg_selr_control.specs.ControlItems.{align_items, plain_items};
 ghost use Rattle.lg_selr_control.specs.Prologs.{stored_registers, stores_below, fall_code, prolog_code};
 ghost use Rattle.lg_selr_control.specs.Returns.{return_code};
@@ -13,6 +11,7 @@ ghost use Rattle.lg_op.specs.Forms.{admit, plain_forms};
 
 use lg_op::{Operand, PlainOp};
 use lg_rv::{ImmOp, Instr, RegOp, StoreOp, UpperOp};
+use lg_sel_control::{gap, put_idle};
 use lg_sel_items::Items;
 use lg_selr_items::{
     FRAME_POINTER, Item, LINK, STACK_POINTER, ZERO, high_part, imm, low_part, row,
@@ -136,27 +135,6 @@ pub(crate) fn put_return(items: &mut Items<Item>)
     items.all(&return_code());
 }
 
-// Appends so many instructions that do nothing.
-#[tactic(auto, using(lg_selr_items::proofs::ItemLemmas::words_append))]
-fn put_idle(count: u32, items: &mut Items<Item>)
-    requires { words_in items.old + count ≤ 64 }
-    ensures { items.new ≡ items.old ++ ones (idle count) }
-{
-    if count > 0 {
-        items.one(imm(ImmOp::Addi, ZERO, ZERO, 0));
-        put_idle(count - 1, items);
-    }
-}
-
-// How many of them lead from a place to a multiple of an alignment.
-fn padding(place: u32, alignment: u32) -> u32
-    requires { is_alignment alignment ≡ true }
-    ensures value { result ≡ padding place alignment }
-    ensures few { result ≤ 16 }
-{
-    (alignment - place % alignment) % alignment / 4
-}
-
 // Appends the items of `.align` to none.
 fn put_align(place: u32, operands: &[Operand], items: &mut Items<Item>)
     requires empty { items.old ≡ [] }
@@ -164,7 +142,11 @@ fn put_align(place: u32, operands: &[Operand], items: &mut Items<Item>)
     ensures { items.new ≡ align_items place operands.now }
 {
     match operands {
-        [Operand::Number(alignment)] => put_idle(padding(place, *alignment as u32), items),
+        [Operand::Number(alignment)] => put_idle(
+            imm(ImmOp::Addi, ZERO, ZERO, 0),
+            gap(place, *alignment as u32) / 4,
+            items,
+        ),
         _ => {}
     }
 }

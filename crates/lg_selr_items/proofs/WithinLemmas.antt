@@ -1,5 +1,5 @@
 -- Instructions and items that write no register that is outside of the conventions.
-use Rattle.std.proofs.Common.{◌≡◌, ℕ, Bool, true, false, List, [], ◌∷◌, ◌++◌, refl}
+use Rattle.std.proofs.Common.{◌≡◌, ℕ, Bool, true, false, List, ◌++◌, refl}
 use Rattle.std.specs.Prelude.{if◌then◌else◌}
 use Rattle.lg_base.specs.declared.target.Target.TheVariants.{Riscv64}
 use Rattle.lg_carry.specs.Outside.{is_outside}

@@ -1,5 +1,5 @@
 -- The items of RV64: as they are emitted, with 0 in the fields of labels, and as they are once the labels have places.
-use Rattle.std.specs.Prelude.{◌≡◌, ℕ, ◌+◌, ◌*◌, ◌<◌, false, pos, ◌-ℤ◌, List, [], ◌∷◌, ◌++◌, ⊤}
+use Rattle.std.specs.Prelude.{◌≡◌, ℕ, ◌*◌, ◌<◌, false, pos, ◌-ℤ◌, List, [], ◌∷◌, ⊤}
 use Rattle.std.proofs.Common.{lit<}
 use Rattle.lg_rv.specs.declared.instruction.Instr.{Instr}
 use Rattle.lg_rv.specs.declared.instruction.Instr.TheVariants as instr

@@ -11,5 +11,6 @@ mod rows;
 pub use items::Item;
 pub use numbers::{high_part, is_short, low_part, put_number};
 pub use rows::{
-    CARRY, FRAME_POINTER, LINK, STACK_POINTER, ZERO, branch, imm, register_of, row, shift, upper,
+    CARRY, FRAME_POINTER, LINK, STACK_POINTER, ZERO, branch, imm, register_of, restore, row, save,
+    shift, upper,
 };

@@ -1,12 +1,13 @@
-// Instructions by their rows, and the registers that stand for portable ones. Registers are 0 to 31.
+// Instructions by their rows, those that save and restore a register, and the registers that stand for portable ones. Registers are 0 to 31.
 
-ghost use Rattle.std.specs.Prelude.{◌≡◌};
+ghost use Rattle.std.specs.Prelude.{◌≡◌, ◌<◌};
 ghost use Rattle.lg_base.specs.declared.target.Target.TheVariants.{Riscv64};
+ghost use Rattle.lg_carry_rv.specs.RvRows.{slot_offset};
 ghost use Rattle.lg_temp.specs.Abis.{register_of};
 
 use lg_base::target::Target;
 use lg_op::Reg;
-use lg_rv::{BranchOp, ImmOp, Instr, RegOp, ShiftOp, UpperOp};
+use lg_rv::{BranchOp, ImmOp, Instr, RegOp, ShiftOp, StoreOp, UpperOp};
 use lg_temp::abi::Abi;
 
 /// x0, which reads as 0 and is not written.
@@ -67,6 +68,35 @@ pub fn branch(op: BranchOp, rs1: u8, rs2: u8, offset: i32) -> Instr
         rs2,
         offset,
     }
+}
+
+// Where a spill slot of a frame, 0 to 4, lies from FP, in bytes.
+fn slot_offset(slot: u32) -> i32
+    requires { slot < 5 }
+    ensures { result ≡ slot_offset slot }
+{
+    -96 - 8 * (slot as i32)
+}
+
+/// The instruction that saves a register in a spill slot of its frame, 0 to 4.
+pub fn save(reg: u8, slot: u32) -> Instr
+    requires { slot < 5 }
+    ensures { result ≡ Instr.Store (StoreOp.Sd) 8 reg (slot_offset slot) }
+{
+    Instr::Store {
+        op: StoreOp::Sd,
+        rs1: FRAME_POINTER,
+        rs2: reg,
+        imm: slot_offset(slot),
+    }
+}
+
+/// The instruction that restores a register from a spill slot of its frame, 0 to 4.
+pub fn restore(reg: u8, slot: u32) -> Instr
+    requires { slot < 5 }
+    ensures { result ≡ Instr.Imm (ImmOp.Ld) reg 8 (slot_offset slot) }
+{
+    imm(ImmOp::Ld, reg, FRAME_POINTER, slot_offset(slot))
 }
 
 /// The register that stands for a portable one, by the calling convention of RISC-V.

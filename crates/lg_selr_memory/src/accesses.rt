@@ -1,9 +1,9 @@
 // Loads and stores.
 
-ghost use Rattle.std.specs.Prelude.{◌≡◌, ◌+◌, ◌*◌, ◌≤◌, [], ◌∷◌, ◌++◌, length};
+ghost use Rattle.std.specs.Prelude.{◌≡◌, ◌+◌, ◌*◌, ◌≤◌, [], ◌++◌, length};
 ghost use Rattle.lg_selr_items.specs.Items.{ones, words_in};
 ghost use Rattle.lg_sel_memory.specs.Accesses.{address_of};
-ghost use Rattle.lg_selr_memory.specs.Accesses.{load_row, high_row, link, at_register, at_link, indexed, place_of, lower_bytes, higher_bytes, load_at, store_at, load_code, store_code, load_items, store_items};
+ghost use Rattle.lg_selr_memory.specs.Accesses.{load_row, high_row, at_register, indexed, place_of, lower_bytes, higher_bytes, load_at, store_at, load_code, store_code, load_items, store_items};
 ghost use Rattle.lg_selr_values.specs.ValueItems.{HaveSlots};
 
 use crate::operands::register;
@@ -12,8 +12,7 @@ use lg_operators::operators::{store_width, width};
 use lg_rv::{ImmOp, Instr, RegOp, ShiftOp, StoreOp};
 use lg_sel_items::Items;
 use lg_sel_memory::operands::{number, operand};
-use lg_selr_items::{Item, LINK, imm, is_short, low_part, put_number, row, shift};
-use lg_selr_values::{restore, save};
+use lg_selr_items::{Item, LINK, imm, is_short, low_part, put_number, restore, row, save, shift};
 use lg_temp::choice::{Choice, Choices};
 
 // Where an access is: a register, and an offset from it of 12 bits.

@@ -21,7 +21,8 @@ pub record AreValueItems (n : Node) (choices : List Choice) : Type 0 where
   pub block : (to : ℕ → ℕ) (at : ℕ) → IsBlock is_straight (settled to at (value_items n choices))
 
 abbrev pub ValueItemsFit : Type 0
-ValueItemsFit = (n : Node) (live : Reg → Bool) (staged : List Bool) (choices : List Choice) → AreFor (around Riscv64 n live staged) (value_needs n.op) [] (value_needs n.op) choices → AreValueItems n choices
+ValueItemsFit = (n : Node) (live : Reg → Bool) (staged : List Bool) (choices : List Choice)
+    → AreFor (around Riscv64 n live staged) (value_needs n.op) [] (value_needs n.op) choices → AreValueItems n choices
 
 -- then so are those of the items
 abbrev pub ValueItemsName : Type 0
@@ -29,4 +30,5 @@ ValueItemsName = (labels : ℕ) (n : Node) (choices : List Choice) → NameBelow
 
 -- the items write no register that is outside of the conventions
 abbrev pub ValueItemsStay : Type 0
-ValueItemsStay = (n : Node) (live : Reg → Bool) (staged : List Bool) (choices : List Choice) → AreFor (around Riscv64 n live staged) (value_needs n.op) [] (value_needs n.op) choices → StayWithin (value_items n choices)
+ValueItemsStay = (n : Node) (live : Reg → Bool) (staged : List Bool) (choices : List Choice)
+    → AreFor (around Riscv64 n live staged) (value_needs n.op) [] (value_needs n.op) choices → StayWithin (value_items n choices)

@@ -20,6 +20,9 @@ use Rattle.lg_sel_nodes.specs.Operands.{AreWords}
 -- for all choices for the node's needs, whatever is live and staged
 abbrev pub ValueNodesCarry : Type 0
 ValueNodesCarry =
-    (code : List ℕ) (trash : ℕ) (c : Code) (i : ℕ) (n : Node) (live : Reg → Bool) (staged : List Bool) (choices : List Choice) → is_value n.op ≡ true → AreWords c.addresses n.operands
-    → AreFor (around Riscv64 n live staged) (value_needs n.op) [] (value_needs n.op) choices → ((j : ℕ) → j < pushed c.nodes.nodes i → slice_index_or staged j false ≡ true)
-    → IsInText c i n → IsInCode code trash c i (settled (slice_index c.addresses) (c.place i) (value_items n choices)) → CarriesNode (rv_processor code trash) c i n (numbered live)
+    (code : List ℕ) (trash : ℕ) (c : Code) (i : ℕ) (n : Node) (live : Reg → Bool) (staged : List Bool) (choices : List Choice)
+    → is_value n.op ≡ true → AreWords c.addresses n.operands
+    → AreFor (around Riscv64 n live staged) (value_needs n.op) [] (value_needs n.op) choices
+    → ((j : ℕ) → j < pushed c.nodes.nodes i → slice_index_or staged j false ≡ true)
+    → IsInText c i n → IsInCode code trash c i (settled (slice_index c.addresses) (c.place i) (value_items n choices))
+    → CarriesNode (rv_processor code trash) c i n (numbered live)

@@ -8,4 +8,4 @@ mod unary;
 mod values;
 mod wide;
 
-pub use values::{restore, save, value_items};
+pub use values::value_items;

@@ -2,7 +2,6 @@
 
 ghost use Rattle.std.specs.Prelude.{◌≡◌, ◌+◌, ◌<◌, ◌≤◌, [], ◌∷◌, ◌++◌, length, slice_index_or};
 ghost use Rattle.lg_operators.specs.Operators.{is_carried};
-ghost use Rattle.lg_carry_rv.specs.RvRows.{slot_offset};
 ghost use Rattle.lg_selr_items.specs.Items.{words_in};
 ghost use Rattle.lg_selr_values.specs.ValueItems.{load_items, binary_items, second_items, carried_items, wide_items, operation_items, register_for, body_items, value_items, HaveSlots};
 
@@ -11,9 +10,9 @@ use crate::carried::carried_code;
 use crate::unary::{retval_code, unary_code};
 use crate::wide::wide_code;
 use lg_op::{BinaryOp, Label, Node, Op, Operand, PlainOp, Reg, WideOp};
-use lg_rv::{ImmOp, Instr, StoreOp};
+use lg_rv::ImmOp;
 use lg_sel_items::Items;
-use lg_selr_items::{CARRY, FRAME_POINTER, Item, LINK, imm, put_number, register_of};
+use lg_selr_items::{CARRY, Item, LINK, imm, put_number, register_of, restore, save};
 use lg_temp::choice::{Choice, Choices};
 
 // The register of an operand that is one, and else 0.
@@ -152,35 +151,6 @@ fn body_items(op: Op, operands: &[Operand], u: u8, items: &mut Items<Item>)
         Op::Retval(value) => retval_code(value, register_for(x), items),
         _ => {}
     }
-}
-
-// Where a spill slot lies from FP.
-fn slot_offset(slot: u32) -> i32
-    requires { slot < 5 }
-    ensures { result ≡ slot_offset slot }
-{
-    -96 - 8 * (slot as i32)
-}
-
-/// The instruction that saves a register in a spill slot of its frame, 0 to 4.
-pub fn save(reg: u8, slot: u32) -> Instr
-    requires { slot < 5 }
-    ensures { result ≡ Instr.Store (StoreOp.Sd) 8 reg (slot_offset slot) }
-{
-    Instr::Store {
-        op: StoreOp::Sd,
-        rs1: FRAME_POINTER,
-        rs2: reg,
-        imm: slot_offset(slot),
-    }
-}
-
-/// The instruction that restores a register from a spill slot of its frame, 0 to 4.
-pub fn restore(reg: u8, slot: u32) -> Instr
-    requires { slot < 5 }
-    ensures { result ≡ Instr.Imm (ImmOp.Ld) reg 8 (slot_offset slot) }
-{
-    imm(ImmOp::Ld, reg, FRAME_POINTER, slot_offset(slot))
 }
 
 // Appends the code of a node with a temporary, which is saved and restored or not: at most 32 instructions, for which there is room.

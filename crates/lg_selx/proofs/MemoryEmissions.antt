@@ -22,7 +22,7 @@ use Rattle.lg_selx.proofs.Emissions.{NoneStores, keep-none, number-keeps, Emits,
 use Rattle.lg_selx_control.specs.Branches.{lowered}
 use Rattle.lg_selx_items.specs.Items.{ones}
 use Rattle.lg_selx_memory.specs.Accesses as accesses
-use Rattle.lg_selx_memory.specs.Accesses.{register, load_row, store_row, Place, at_register, at_spare, indexed, place_of, remade, load_spare, store_spare, loading, storing, load_into, store_from, load_code, store_code}
+use Rattle.lg_selx_memory.specs.Accesses.{register, load_row, store_row, Place, at_register, at_spare, indexed, place_of, remade, load_spare, store_spare, loading, storing, load_code, store_code}
 use Rattle.lg_selx_memory.specs.ArgumentCode.{argument_load, argument_code}
 use Rattle.lg_selx_memory.specs.PushCode.{into, stack_push, onto_stack, push_code}
 use Rattle.lg_selx_memory.specs.VariableArgumentCode.{next_argument_code}

@@ -1,6 +1,6 @@
--- Code that leads back to a label has the shortest form that reaches it.
+-- Code that leads back to a label has the shortest form that reaches it, and code that leads ahead the near one.
 use Rattle.std.proofs.Common.{◌≡◌, ℕ, ◌+◌, ◌-◌, Bool, true, false, List, [], ◌∷◌, ◌++◌, length, Option, Some, None, refl, sym, ap, ◌∙◌, subst, arith}
-use Rattle.std.specs.Prelude.{◌==◌, ◌&&◌, ◌^◌, pos, ◌-ℤ◌, nat_lt, if◌then◌else◌, slice_get, slice_index}
+use Rattle.std.specs.Prelude.{◌==◌, ◌&&◌, ◌^◌, pos, ◌-ℤ◌, nat_le, nat_lt, if◌then◌else◌, slice_get, slice_index}
 use Rattle.std.proofs.lemmas.Int.{ints}
 use Rattle.lg_base.specs.HostNames.{host_address}
 use Rattle.lg_base.specs.Layout.{code_base}
@@ -13,7 +13,7 @@ use Rattle.lg_buf.specs.declared.fixes.FixKind.TheVariants.{X86Rel8, X86Rel32}
 use Rattle.lg_carry.specs.Blocks.{spellings}
 use Rattle.lg_carry.specs.FinalNodes.{Code}
 use Rattle.lg_carry_x86.specs.Numbers.{number_row}
-use Rattle.lg_op.specs.Forms.{admits, last_form}
+use Rattle.lg_op.specs.Forms.{admit, admits, forms_of, last_form}
 use Rattle.lg_op.specs.declared.form.Form.TheVariants as form
 use Rattle.lg_op.specs.declared.op.BranchSumOp.{BranchSumOp}
 use Rattle.lg_op.specs.declared.op.Condition.{Condition}
@@ -35,20 +35,20 @@ use Rattle.lg_sel.proofs.SelectionLemmas as selection
 use Rattle.lg_sel.proofs.FinishedLemmas.{items-lead}
 use Rattle.lg_sel.specs.Finished.{AreAppended}
 use Rattle.lg_sel.specs.Selected.{IsFinished, part_of}
-use Rattle.lg_sel.specs.Shorts.{x86_is_relative, LeadsBy, IsShortJumpIf, IsShort}
+use Rattle.lg_sel.specs.Shorts.{x86_is_relative, LeadsBy, IsShortJumpIf, IsShort, IsJumpIfAhead, IsAhead}
 use Rattle.lg_sel_control.proofs.ControlLemmas.{differ, never, never-sum}
 use Rattle.lg_sel_items.specs.Holes.{Each}
-use Rattle.lg_sel_items.specs.Reaches.{Leads, LeadsTo, IsLeast}
+use Rattle.lg_sel_items.specs.Reaches.{near_size, Leads, LeadsTo, IsLeast, IsLeastAhead}
 use Rattle.lg_sel_items.specs.declared.reach.Reach.{Reach}
 use Rattle.lg_sel_items.specs.declared.reach.Reach.TheVariants.{Short, Near, Far}
 use Rattle.lg_selx_control.proofs.ControlLemmas.{blanks-ones, branch-settled}
 use Rattle.lg_selx_control.specs.Branches.{comparison, is_difference, lowered, wide_comparison, word_comparison, before_branch, taken}
-use Rattle.lg_selx_control.specs.ControlItems.{jump_kind, branch_if_items, control_items}
+use Rattle.lg_selx_control.specs.ControlItems.{jump_kind, branch_if_items, branch_items, sum_items, control_items}
 use Rattle.lg_selx_control.specs.SumBranches.{sum_row, sum_number, number_sum, before_sum_branch, sum_taken}
 use Rattle.lg_selx_control.specs.TwoWays.{jump_if}
 use Rattle.lg_selx_items.proofs.ItemLemmas.{fixes-append, fixes-ones}
 use Rattle.lg_selx_items.proofs.PatchLemmas.{are-holes}
-use Rattle.lg_selx_items.specs.Items.{x86_holes, IsItem, AreItems, fixes_of, blanks, ones}
+use Rattle.lg_selx_items.specs.Items.{x86_holes, IsItem, AreItems, settled, fixes_of, blanks, ones}
 use Rattle.lg_selx_items.specs.declared.items.Item.{Item}
 use Rattle.lg_selx_items.specs.declared.items.Item.TheVariants.{Jump}
 use Rattle.lg_selx_values.specs.Scratch.{again}
@@ -119,8 +119,32 @@ branch-fixes r p front holds l =
     fixes-append p (ones front) last ∙ ap (λ z. z ++ fixes_of (p + length (blanks (ones front))) last) (fixes-ones p front)
     ∙ ap (λ b. fixes_of (p + length b) last) (blanks-ones front) ∙ jump-fixes r (p + length (spellings spelling front)) holds l
 
+-- ---- the branches
+-- items of each reach that lead to a label, the first operand: instructions that do not count from their own place, and a jump on a condition behind them
+record IsBranchTo (xs : List Operand) (items : Reach → List Item) : Type 0 where
+  front : List Instr
+  apart : Each Apart front
+  holds : Cond
+  label : Label
+  names : slice_get xs 0 ≡ Some (operand.Label label)
+  are : (r : Reach) → items r ≡ branch_if_items r front holds label
+
+module _ (frame : ℕ) where
+  branch-leads : (o : Condition) (last : LastOperand) (xs : List Operand) → admit (forms_of (op.Branch o last)) xs ≡ true → IsBranchTo xs (λ r. branch_items r frame o xs)
+  branch-leads o last (operand.Label l ∷ operand.Reg a ∷ x ∷ []) admitted =
+      record { front = before_branch frame o a x; apart = before-apart frame o a x; holds = taken o; label = l; names = refl; are = λ r. refl }
+  branch-leads o last (operand.Label l ∷ operand.Reg a ∷ x ∷ y ∷ ys) admitted = absurd (never (admits (last_form last) x) admitted)
+  branch-leads o last xs admitted = absurd (differ admitted)
+
+  sum-leads : (o : BranchSumOp) (last : LastOperand) (xs : List Operand) → admit (forms_of (op.BranchSum o last)) xs ≡ true → IsBranchTo xs (λ r. sum_items r frame o xs)
+  sum-leads o last (operand.Label l ∷ operand.Reg a ∷ x ∷ []) admitted =
+      record { front = before_sum_branch frame o a x; apart = before-sum-apart frame o a x; holds = sum_taken o; label = l; names = refl; are = λ r. refl }
+  sum-leads o last (operand.Label l ∷ operand.Reg a ∷ x ∷ y ∷ ys) admitted = absurd (never-sum (admits form.Update (operand.Reg a)) (admits (last_form last) x) admitted)
+  sum-leads o last (operand.Label l ∷ operand.Reg a ∷ []) admitted = absurd (never (admits form.Update (operand.Reg a)) admitted)
+  sum-leads o last xs admitted = absurd (differ admitted)
+
 -- ---- the node in its buffer
-module _ (old new : Buffer) (code : List ℕ) (c : Code) (i goal frame : ℕ) (f : IsFinished old new code c i) where
+module _ (old new : Buffer) (code : List ℕ) (c : Code) (i : ℕ) (f : IsFinished old new code c i) where
   abbrev place : ℕ
   place = length old.bytes
 
@@ -130,56 +154,79 @@ module _ (old new : Buffer) (code : List ℕ) (c : Code) (i goal frame : ℕ) (f
   abbrev part : List ℕ
   part = part_of code place (length new.bytes - place)
 
-  does-of : (l : Label) (g : Fix) (gs : List Fix) → place_of old.labels l.0 ≡ Some goal → gs ≡ g ∷ [] → g.label ≡ record { 0 = l.0 } → Fits g.kind g.place goal → Each (Leads old) gs
-  does-of l g gs bound is same fits =
-      subst (Each (Leads old)) (sym is) (subst (LeadsTo old.size g) (sym (ap (λ m. place_of old.labels m.0) same ∙ bound)) fits, tt)
+  -- items that lead to a label become what has a form
+  abbrev IsLed : (ℕ → List Instr → Type 0) → Type 0
+  IsLed has_form = LeadsBy spelling IsInstr x86_is_relative has_form place part
 
-  abbrev IsLed : Type 0
-  IsLed = LeadsBy spelling IsInstr x86_is_relative (IsShortJumpIf goal) place part
+  module _ (xs : List Operand) (items : Reach → List Item) (k : IsBranchTo xs items) where
+    abbrev from : ℕ
+    from = place + length (spellings spelling k.front)
 
-  led : (r : Reach) (front : List Instr) (holds : Cond) (l : Label) (leap : Instr) → AreAppended x86_holes old new (branch_if_items r front holds l)
-      → AreItems (branch_if_items r front holds l) → Each Apart front → jump_if r holds (code_base + place + length (spellings spelling front)) (to l.0) ≡ leap
-      → x86_is_relative leap ≡ true → IsShortJumpIf goal (place + length (spellings spelling front)) (leap ∷ []) → IsLed
-  led r front holds l leap appended fit apart same leads short =
-      items-lead x86_holes spelling IsInstr IsItem are-holes x86_is_relative (IsShortJumpIf goal) old new code c i (branch_if_items r front holds l) appended fit f front leap []
-      (branch-settled r to (code_base + place) front holds l ∙ ap (λ z. front ++ z ∷ []) same) apart leads short
+    branch-fix : (r : Reach) → fixes_of place (items r) ≡ jump-fix r from k.label ∷ []
+    branch-fix r = ap (fixes_of place) (k.are r) ∙ branch-fixes r place k.front k.holds k.label
 
-  branch-short : (r : Reach) (front : List Instr) (holds : Cond) (l : Label) → AreAppended x86_holes old new (branch_if_items r front holds l)
-      → AreItems (branch_if_items r front holds l) → Each Apart front → place_of old.labels l.0 ≡ Some goal → to l.0 ≡ code_base + goal
-      → IsLeast (λ s. Each (Leads old) (fixes_of place (branch_if_items s front holds l))) r → IsLed
-  branch-short Short front holds l appended fit apart bound address least =
-      let from : ℕ = place + length (spellings spelling front) in
-      let away : pos (to l.0) -ℤ pos (code_base + place + length (spellings spelling front) + 2) ≡ pos goal -ℤ pos (from + 2) = omega (arith, ints, address) in
-      led Short front holds l (instr.JumpIfShort holds (pos goal -ℤ pos (from + 2))) appended fit apart (ap (instr.JumpIfShort holds) away) refl (λ near. (holds, refl))
-  branch-short Near front holds l appended fit apart bound address least =
-      led Near front holds l _ appended fit apart refl refl
-      (λ near. absurd (least (does-of l (jump-fix Short (place + length (spellings spelling front)) l) _ bound (branch-fixes Short place front holds l) refl near)))
-  branch-short Far front holds l appended fit apart bound address least =
-      led Far front holds l _ appended fit apart refl refl
-      (λ near. absurd (least.0 (does-of l (jump-fix Short (place + length (spellings spelling front)) l) _ bound (branch-fixes Short place front holds l) refl near)))
+    branch-led : (has_form : ℕ → List Instr → Type 0) (r : Reach) → AreAppended x86_holes old new (items r) → AreItems (items r) → (leap : Instr)
+        → jump_if r k.holds (code_base + place + length (spellings spelling k.front)) (to k.label.0) ≡ leap → x86_is_relative leap ≡ true → has_form from (leap ∷ []) → IsLed has_form
+    branch-led has_form r appended fit leap same leads form =
+        items-lead x86_holes spelling IsInstr IsItem are-holes x86_is_relative has_form old new code c i (items r) appended fit f k.front leap []
+        (ap (settled to (code_base + place)) (k.are r) ∙ branch-settled r to (code_base + place) k.front k.holds k.label ∙ ap (λ z. k.front ++ z ∷ []) same) k.apart leads form
 
-  -- ---- every node
-  -- what is known of the operands of a node with this reach
-  abbrev IsKnown : Reach → Op → List Operand → Type 0
-  IsKnown r o xs = selection.IsKnown x86_holes IsItem old new to goal (λ s. control_items s o xs frame place) r o xs
+  -- ---- back to a label that is bound
+  module _ (goal frame : ℕ) where
+    does-of : (l : Label) (g : Fix) (gs : List Fix) → place_of old.labels l.0 ≡ Some goal → gs ≡ g ∷ [] → g.label ≡ record { 0 = l.0 } → Fits g.kind g.place goal → Each (Leads old) gs
+    does-of l g gs bound is same fits =
+        subst (Each (Leads old)) (sym is) (subst (LeadsTo old.size g) (sym (ap (λ m. place_of old.labels m.0) same ∙ bound)) fits, tt)
 
-  branch : (r : Reach) (o : Condition) (last : LastOperand) (xs : List Operand) → IsKnown r (op.Branch o last) xs → IsLed
-  branch r o last (operand.Label l ∷ operand.Reg a ∷ x ∷ []) k =
-      let L = k.labels l refl in branch-short r (before_branch frame o a x) (taken o) l k.appended k.fit (before-apart frame o a x) L.0 L.1 k.least
-  branch r o last (operand.Label l ∷ operand.Reg a ∷ x ∷ y ∷ ys) k = absurd (never (admits (last_form last) x) k.admitted)
-  branch r o last xs k = absurd (differ k.admitted)
+    branch-short : (r : Reach) (xs : List Operand) (items : Reach → List Item) (k : IsBranchTo xs items) → AreAppended x86_holes old new (items r) → AreItems (items r)
+        → place_of old.labels k.label.0 ≡ Some goal → to k.label.0 ≡ code_base + goal → IsLeast (λ s. Each (Leads old) (fixes_of place (items s))) r → IsLed (IsShortJumpIf goal)
+    branch-short Short xs items k appended fit bound address least =
+        let start : ℕ = from xs items k in
+        let away : pos (to k.label.0) -ℤ pos (code_base + place + length (spellings spelling k.front) + 2) ≡ pos goal -ℤ pos (start + 2) = omega (arith, ints, address) in
+        branch-led xs items k (IsShortJumpIf goal) Short appended fit (instr.JumpIfShort k.holds (pos goal -ℤ pos (start + 2))) (ap (instr.JumpIfShort k.holds) away) refl
+        (λ near. (k.holds, refl))
+    branch-short Near xs items k appended fit bound address least =
+        branch-led xs items k (IsShortJumpIf goal) Near appended fit _ refl refl
+        (λ near. absurd (least (does-of k.label (jump-fix Short (from xs items k) k.label) _ bound (branch-fix xs items k Short) refl near)))
+    branch-short Far xs items k appended fit bound address least =
+        branch-led xs items k (IsShortJumpIf goal) Far appended fit _ refl refl
+        (λ near. absurd (least.0 (does-of k.label (jump-fix Short (from xs items k) k.label) _ bound (branch-fix xs items k Short) refl near)))
 
-  sum-branch : (r : Reach) (o : BranchSumOp) (last : LastOperand) (xs : List Operand) → IsKnown r (op.BranchSum o last) xs → IsLed
-  sum-branch r o last (operand.Label l ∷ operand.Reg a ∷ x ∷ []) k =
-      let L = k.labels l refl in branch-short r (before_sum_branch frame o a x) (sum_taken o) l k.appended k.fit (before-sum-apart frame o a x) L.0 L.1 k.least
-  sum-branch r o last (operand.Label l ∷ operand.Reg a ∷ x ∷ y ∷ ys) k = absurd (never-sum (admits form.Update (operand.Reg a)) (admits (last_form last) x) k.admitted)
-  sum-branch r o last (operand.Label l ∷ operand.Reg a ∷ []) k = absurd (never (admits form.Update (operand.Reg a)) k.admitted)
-  sum-branch r o last xs k = absurd (differ k.admitted)
+    -- what is known of the operands of a node with this reach
+    abbrev IsKnown : Reach → Op → List Operand → Type 0
+    IsKnown r o xs = selection.IsKnown x86_holes IsItem old new to goal (λ s. control_items s o xs frame place) r o xs
 
-  pub node-short : (r : Reach) (o : Op) (xs : List Operand) (l : Label) → slice_get xs 0 ≡ Some (operand.Label l) → IsKnown r o xs → IsShort X86_64 o goal place part
-  node-short r (op.Branch o last) xs l first k = branch r o last xs k
-  node-short r (op.BranchSum o last) xs l first k = sum-branch r o last xs k
-  node-short r (op.Control control.Jmp last_operand.Immediate) xs l first k = tt
-  node-short r (op.Control control.Call last_operand.Immediate) xs l first k = tt
-  node-short r (op.Control control.Finish last_operand.Immediate) xs l first k = tt
-  node-short r o xs l first k = tt
+    short : (r : Reach) (o : Op) (xs : List Operand) → IsKnown r o xs → (b : IsBranchTo xs (λ s. control_items s o xs frame place)) → IsLed (IsShortJumpIf goal)
+    short r o xs k b = let L = k.labels b.label b.names in branch-short r xs (λ s. control_items s o xs frame place) b k.appended k.fit L.0 L.1 k.least
+
+    pub node-short : (r : Reach) (o : Op) (xs : List Operand) (l : Label) → slice_get xs 0 ≡ Some (operand.Label l) → IsKnown r o xs → IsShort X86_64 o goal place part
+    node-short r (op.Branch o last) xs l first k = short r (op.Branch o last) xs k (branch-leads frame o last xs k.admitted)
+    node-short r (op.BranchSum o last) xs l first k = short r (op.BranchSum o last) xs k (sum-leads frame o last xs k.admitted)
+    node-short r (op.Control control.Jmp last_operand.Immediate) xs l first k = tt
+    node-short r (op.Control control.Call last_operand.Immediate) xs l first k = tt
+    node-short r (op.Control control.Finish last_operand.Immediate) xs l first k = tt
+    node-short r o xs l first k = tt
+
+  -- ---- ahead to one that is not
+  branch-ahead : (r : Reach) (is_near : Bool) (xs : List Operand) (items : Reach → List Item) (k : IsBranchTo xs items) → AreAppended x86_holes old new (items r)
+      → AreItems (items r) → IsLeastAhead is_near (λ s. Each (Leads old) (fixes_of place (items s))) r → IsLed IsJumpIfAhead
+  branch-ahead Short is_near xs items k appended fit least = absurd least
+  branch-ahead Near is_near xs items k appended fit least = branch-led xs items k IsJumpIfAhead Near appended fit _ refl refl (k.holds, _, refl)
+  branch-ahead Far is_near xs items k appended fit least = branch-led xs items k IsJumpIfAhead Far appended fit _ refl refl (k.holds, _, refl)
+
+  module _ (frame : ℕ) where
+    abbrev IsKnownAhead : Reach → Op → List Operand → Type 0
+    IsKnownAhead r o xs = selection.IsKnownAhead x86_holes IsItem old new (λ s. control_items s o xs frame place) r o xs
+
+    abbrev is_near : Bool
+    is_near = nat_le old.size near_size
+
+    ahead : (r : Reach) (o : Op) (xs : List Operand) → IsKnownAhead r o xs → IsBranchTo xs (λ s. control_items s o xs frame place) → IsLed IsJumpIfAhead
+    ahead r o xs k b = branch-ahead r is_near xs (λ s. control_items s o xs frame place) b k.appended k.fit k.least
+
+    pub node-ahead : (r : Reach) (o : Op) (xs : List Operand) (l : Label) → slice_get xs 0 ≡ Some (operand.Label l) → IsKnownAhead r o xs → IsAhead X86_64 is_near o place part
+    node-ahead r (op.Branch o last) xs l first k = ahead r (op.Branch o last) xs k (branch-leads frame o last xs k.admitted)
+    node-ahead r (op.BranchSum o last) xs l first k = ahead r (op.BranchSum o last) xs k (sum-leads frame o last xs k.admitted)
+    node-ahead r (op.Control control.Jmp last_operand.Immediate) xs l first k = tt
+    node-ahead r (op.Control control.Call last_operand.Immediate) xs l first k = tt
+    node-ahead r (op.Control control.Finish last_operand.Immediate) xs l first k = tt
+    node-ahead r o xs l first k = tt

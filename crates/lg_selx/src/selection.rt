@@ -1,13 +1,13 @@
 // The code of a node into a buffer.
 
-ghost use Rattle.std.specs.Prelude.{◌≡◌, ◌+◌, ◌%◌, ◌<◌, ◌≤◌, ◌++◌, true, false, drop, length, IsTrue};
+ghost use Rattle.std.specs.Prelude.{◌≡◌, ◌+◌, ◌<◌, ◌≤◌, ◌++◌, true, false, drop, length, IsTrue};
 ghost use Rattle.std.specs.List.{All};
 ghost use Rattle.lg_node.specs.Functions.{is_prolog};
 ghost use Rattle.lg_sel_nodes.specs.Operands.{NameBelow};
 ghost use Rattle.lg_op.specs.Nodes.{InForm};
 ghost use Rattle.lg_live.specs.RegSets.{has};
 ghost use Rattle.lg_sel.specs.Selected.{IsFrame, AreFirst, is_pusharg, TakesLabelsWell, IsAligned, IsFixOf};
-ghost use Rattle.lg_sel.specs.Promises.{IsCarriedWhenFinished, IsShortWhenFinished, AreInstructionsWhenFinished, IsSparingWhenFinished};
+ghost use Rattle.lg_sel.specs.Promises.{IsCarriedWhenFinished, IsShortWhenFinished, IsAheadWhenFinished, AreInstructionsWhenFinished, IsSparingWhenFinished};
 ghost use Rattle.lg_selx.specs.Selected.{AreChosen};
 ghost use Rattle.lg_base.specs.declared.target.Target.{Target};
 
@@ -29,8 +29,8 @@ use lg_temp::choice::{Choices, Staged};
 ///
 /// Behind an `.align` the place is a multiple of its number, and a `prolog` has bytes. Each new fix lies behind what the buffer held, names a label
 /// of the node, and reaches the place of a label that is bound, and else every place, or every one within 1 MiB where the buffer's size is no more. The
-/// code that leads back to a label that is bound has the shortest form that reaches it. Once the fixes of the buffer are patched, the code is whole
-/// instructions, and carries
+/// code that leads back to a label that is bound has the shortest form that reaches it, and code that leads ahead to one that is not the near form.
+/// Once the fixes of the buffer are patched, the code is whole instructions, and carries
 /// the node where the registers of `live_after` are live behind it: no step of it but one of a host function changes a register that is outside of
 /// the conventions. It has one store for each choice that saves a register, and one more at stores, `pushargr` and `pushargi`; that of a `prolog` may
 /// have more.
@@ -60,6 +60,7 @@ pub fn select(
     ensures begins { IsTrue result → is_prolog node.now.op ≡ true → length buf.old.bytes < length buf.new.bytes }
     ensures lead { IsTrue result → All (IsFixOf 1 buf.old node.now) (drop (length buf.old.fixes) buf.new.fixes) }
     ensures shortest { IsTrue result → IsShortWhenFinished Target.X86_64 node.now buf.old buf.new }
+    ensures ahead { IsTrue result → IsAheadWhenFinished Target.X86_64 node.now buf.old buf.new }
     ensures instructions { IsTrue result → AreInstructionsWhenFinished Target.X86_64 buf.old buf.new }
     ensures sparing { IsTrue result → IsSparingWhenFinished Target.X86_64 node.now choices.now buf.old buf.new }
     ensures carries { IsTrue result → IsCarriedWhenFinished Target.X86_64 node.now frame (has live_after) staged.arguments buf.old buf.new }

@@ -20,7 +20,6 @@ ends_in_label xs = target_control.ends_in_label xs
 abbrev pub ControlNodesCarry : Type 0
 ControlNodesCarry =
     (r : Reach) (code : List ℕ) (trash : ℕ) (c : Code) (i : ℕ) (n : Node) (frame : ℕ) (S : ℕ → Bool) → is_control n.op ≡ true → HasPlaces 1 c
-    → AreWords c.addresses n.operands
-    → ends_in_label n.operands ≡ false → IsFrameOf c i frame → IsInText c i n
+    → AreWords c.addresses n.operands → ends_in_label n.operands ≡ false → IsFrameOf c i frame → IsInText c i n
     → StandsInCode code trash c i (settled (slice_index c.addresses) (c.place i) (control_items r n.op n.operands frame (c.place i)))
     → CarriesNode (x86_processor code trash) c i n S

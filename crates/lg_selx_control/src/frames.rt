@@ -1,9 +1,8 @@
 // Functions that begin and return, and places at a multiple.
 
 ghost use Rattle.std.specs.Prelude.{◌≡◌, ◌+◌, ◌<◌, ◌≤◌, true, [], ◌∷◌, ◌++◌};
-ghost use Rattle.lg_op.specs.Forms.{is_alignment, admit, plain_forms};
+ghost use Rattle.lg_op.specs.Forms.{admit, plain_forms};
 ghost use Rattle.lg_op.specs.declared.form.Form.TheVariants as form;
-ghost use Rattle.lg_selx_control.specs.Alignments.{padding, idle};
 ghost use Rattle.lg_selx_control.specs.ControlItems.{align_items, plain_items};
 ghost use Rattle.lg_selx_control.specs.Prologs.{prolog_code};
 ghost use Rattle.lg_selx_control.specs.Returns.{return_code};
@@ -11,6 +10,7 @@ ghost use Rattle.lg_selx_items.specs.Items.{words_in, ones};
 
 use crate::pointers::stack_again;
 use lg_op::{Operand, PlainOp};
+use lg_sel_control::{gap, put_idle};
 use lg_sel_items::Items;
 use lg_selx_items::{FRAME_POINTER, Item, STACK_POINTER, lea};
 use lg_x86::{BareOp, Instr, LoadOp, StoreOp};
@@ -91,27 +91,6 @@ pub(crate) fn put_return(items: &mut Items<Item>)
     items.all(&return_code());
 }
 
-// Appends so many instructions that do nothing.
-#[tactic(auto, using(lg_selx_items::proofs::ItemLemmas::words_append))]
-fn put_idle(count: u32, items: &mut Items<Item>)
-    requires { words_in items.old + count ≤ 64 }
-    ensures { items.new ≡ items.old ++ ones (idle count) }
-{
-    if count > 0 {
-        items.one(Instr::Bare { op: BareOp::Nop });
-        put_idle(count - 1, items);
-    }
-}
-
-// How many of them lead from a place to a multiple of an alignment.
-fn padding(place: u32, alignment: u32) -> u32
-    requires { is_alignment alignment ≡ true }
-    ensures value { result ≡ padding place alignment }
-    ensures few { result ≤ 63 }
-{
-    (alignment - place % alignment) % alignment
-}
-
 // Appends the items of `.align` to none.
 fn put_align(place: u32, operands: &[Operand], items: &mut Items<Item>)
     requires empty { items.old ≡ [] }
@@ -119,7 +98,11 @@ fn put_align(place: u32, operands: &[Operand], items: &mut Items<Item>)
     ensures { items.new ≡ align_items place operands.now }
 {
     match operands {
-        [Operand::Number(alignment)] => put_idle(padding(place, *alignment as u32), items),
+        [Operand::Number(alignment)] => put_idle(
+            Instr::Bare { op: BareOp::Nop },
+            gap(place, *alignment as u32),
+            items,
+        ),
         _ => {}
     }
 }

@@ -1,5 +1,5 @@
 -- Items whose instructions are in range, within the conventions and followed by the next.
-use Rattle.std.proofs.Common.{◌≡◌, ℕ, ◌^◌, ◌<◌, Bool, true, false, List, [], ◌∷◌, ◌++◌, refl}
+use Rattle.std.proofs.Common.{◌≡◌, ℕ, ◌^◌, ◌<◌, Bool, true, false, List, ◌++◌, refl}
 use Rattle.std.specs.Prelude.{nat_lt, if◌then◌else◌}
 use Rattle.lg_base.specs.Words.{signed_view, is_half}
 use Rattle.lg_carry_x86.specs.Destinations.{WritesWithin}

@@ -1,5 +1,5 @@
 -- The items of a node as a block of instructions.
-use Rattle.std.proofs.Common.{◌≡◌, ℕ, ◌+◌, ◌<◌, true, ℤ, List, [], ◌∷◌, length, refl}
+use Rattle.std.proofs.Common.{◌≡◌, ℕ, ◌+◌, ◌<◌, true, ℤ, List, length, refl}
 use Rattle.std.specs.Prelude.{slice_get, slice_index, pos, ◌-ℤ◌}
 use Rattle.std.specs.List.{All}
 use Rattle.lg_carry.specs.Blocks.{spellings, IsBlock}
@@ -11,7 +11,6 @@ use Rattle.lg_carry_x86.specs.Places.{IsInCode}
 use Rattle.lg_carry_x86.proofs.OutsideLemmas.{instructions-stay}
 use Rattle.lg_carry_x86.specs.X86Rows.{x86_rows, is_straight}
 use Rattle.lg_x86.specs.Spelling.{spelling, IsInstr}
-use Rattle.lg_x86.specs.declared.instruction.Instr.TheVariants.{Movi32}
 use Rattle.lg_sel_items.proofs.GoodItemLemmas.{good-items-settle}
 use Rattle.lg_sel_items.proofs.HoleLemmas as holes
 use Rattle.lg_sel_items.proofs.NodeLemmas as nodes

@@ -1,5 +1,5 @@
 -- Instructions and items that write no register that is outside of the conventions.
-use Rattle.std.proofs.Common.{◌≡◌, ℕ, false, List, [], ◌∷◌, ◌++◌, refl}
+use Rattle.std.proofs.Common.{◌≡◌, ℕ, false, List, ◌++◌, refl}
 use Rattle.lg_base.specs.declared.target.Target.TheVariants.{X86_64}
 use Rattle.lg_carry.specs.Outside.{is_outside}
 use Rattle.lg_carry_x86.specs.Destinations.{WritesWithin}

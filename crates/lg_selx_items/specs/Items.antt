@@ -1,6 +1,6 @@
 -- The items of x86-64: as they are emitted, with 0 in the fields of labels, and as they are once the labels have places. Each is one instruction, of 1 to
 -- 10 bytes.
-use Rattle.std.specs.Prelude.{◌≡◌, ℕ, ◌+◌, ◌<◌, nat_lt, false, ℤ, pos, ◌-ℤ◌, if◌then◌else◌, List, [], ◌∷◌, ◌++◌, ⊤}
+use Rattle.std.specs.Prelude.{◌≡◌, ℕ, ◌+◌, ◌<◌, nat_lt, false, ℤ, pos, ◌-ℤ◌, if◌then◌else◌, List, [], ◌∷◌, ⊤}
 use Rattle.std.proofs.Common.{lit<}
 use Rattle.lg_base.specs.declared.target.Target.TheVariants.{X86_64}
 use Rattle.lg_x86.specs.declared.instruction.Instr.{Instr}

@@ -10,4 +10,4 @@ mod rows;
 
 pub use items::{Item, JumpKind};
 pub use numbers::{half_number, put_number};
-pub use rows::{FRAME_POINTER, STACK_POINTER, lea, mov, register_of, row};
+pub use rows::{FRAME_POINTER, STACK_POINTER, lea, mov, register_of, restore, row, save};

@@ -1,14 +1,15 @@
-// Instructions by their rows, and the registers that stand for portable ones. Registers are 0 to 15.
+// Instructions by their rows, those that save and restore a register, and the registers that stand for portable ones. Registers are 0 to 15.
 
-ghost use Rattle.std.specs.Prelude.{◌≡◌};
+ghost use Rattle.std.specs.Prelude.{◌≡◌, ◌<◌};
 ghost use Rattle.lg_base.specs.declared.target.Target.TheVariants.{X86_64};
+ghost use Rattle.lg_carry_x86.specs.X86Rows.{slot_offset};
 ghost use Rattle.lg_temp.specs.Abis.{register_of};
 ghost use Rattle.lg_x86.specs.declared.instruction.LoadOp.TheVariants.{Lea};
 
 use lg_base::target::Target;
 use lg_op::Reg;
 use lg_temp::abi::Abi;
-use lg_x86::{Instr, LoadOp, RmRegOp};
+use lg_x86::{Instr, LoadOp, RmRegOp, StoreOp};
 
 /// The stack pointer, rsp.
 pub const STACK_POINTER: u8 = 4;
@@ -39,6 +40,40 @@ pub fn lea(reg: u8, base: u8, disp: i32) -> Instr
         reg,
         base,
         disp,
+    }
+}
+
+// Where a spill slot of a frame, 0 to 4, lies from FP, in bytes.
+fn slot_offset(slot: u32) -> i32
+    requires { slot < 5 }
+    ensures { result ≡ slot_offset slot }
+{
+    -96 - 8 * (slot as i32)
+}
+
+/// The instruction that saves a register in a spill slot of its frame, 0 to 4.
+pub fn save(reg: u8, slot: u32) -> Instr
+    requires { slot < 5 }
+    ensures { result ≡ Instr.Store (StoreOp.St64) 5 (slot_offset slot) reg }
+{
+    Instr::Store {
+        op: StoreOp::St64,
+        base: FRAME_POINTER,
+        disp: slot_offset(slot),
+        reg,
+    }
+}
+
+/// The instruction that restores a register from a spill slot of its frame, 0 to 4.
+pub fn restore(reg: u8, slot: u32) -> Instr
+    requires { slot < 5 }
+    ensures { result ≡ Instr.Load (LoadOp.Ld64) reg 5 (slot_offset slot) }
+{
+    Instr::Load {
+        op: LoadOp::Ld64,
+        reg,
+        base: FRAME_POINTER,
+        disp: slot_offset(slot),
     }
 }
 

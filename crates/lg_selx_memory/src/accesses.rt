@@ -1,10 +1,10 @@
 // Loads and stores.
 
-ghost use Rattle.std.specs.Prelude.{◌≡◌, ◌+◌, ◌<◌, ◌≤◌, [], ◌∷◌, ◌++◌};
+ghost use Rattle.std.specs.Prelude.{◌≡◌, ◌+◌, ◌<◌, ◌≤◌, [], ◌++◌};
 ghost use Rattle.lg_selx_items.specs.Items.{ones, words_in};
 ghost use Rattle.lg_meaning.specs.Steps.{operand_at, stored_operand};
 ghost use Rattle.lg_sel_memory.specs.Accesses.{address_of};
-ghost use Rattle.lg_selx_memory.specs.Accesses.{load_row, store_row, at_register, at_spare, indexed, place_of, remade, behind};
+ghost use Rattle.lg_selx_memory.specs.Accesses.{load_row, store_row, at_register, at_spare, indexed, place_of, remade};
 ghost use Rattle.lg_selx_memory.specs.Accesses.{indexes, load_spare, store_spare, load_code, store_code};
 
 use crate::operands::register;

@@ -1,6 +1,6 @@
 // The arguments of calls and of functions.
 
-ghost use Rattle.std.specs.Prelude.{◌≡◌, ◌+◌, ◌<◌, ◌≤◌, [], ◌∷◌, ◌++◌, slice_index};
+ghost use Rattle.std.specs.Prelude.{◌≡◌, ◌+◌, ◌<◌, ◌≤◌, [], ◌∷◌, slice_index};
 ghost use Rattle.lg_base.specs.Conventions.{argument_registers};
 ghost use Rattle.lg_base.specs.declared.target.Target.TheVariants.{X86_64};
 ghost use Rattle.lg_selx_items.specs.declared.items.Item.TheVariants as item;

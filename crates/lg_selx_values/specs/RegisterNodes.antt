@@ -35,7 +35,8 @@ use Rattle.lg_selx_values.specs.UnaryCode.{unary_code, retval_code}
 use Rattle.lg_selx_values.specs.WideCode.{wide_code, wide_number_code}
 
 -- a node whose registers for its needs are chosen, whatever is live behind it and whatever is staged, and whose code is this, with saves and restores
-pub record IsChosen (code : List ℕ) (trash : ℕ) (c : Code) (i frame : ℕ) (n : Node) (live : Reg → Bool) (choices : List Choice) (body : List Instr) : Type 0 where
+pub record IsChosen (code : List ℕ) (trash : ℕ) (c : Code) (i frame : ℕ) (n : Node) (live : Reg → Bool) (choices : List Choice)
+    (body : List Instr) : Type 0 where
   pub staged : List Bool
   pub chosen : AreFor (around X86_64 n live staged) (value_needs n.op) [] (value_needs n.op) choices
   pub pushes : (j : ℕ) → j < pushed c.nodes.nodes i → slice_index_or staged j false ≡ true
@@ -104,14 +105,16 @@ abbrev pub BinaryNumbersCarry : Type 0
 BinaryNumbersCarry =
     (code : List ℕ) (trash : ℕ) (c : Code) (i frame : ℕ) (o : BinaryOp) (d a : Reg) (x : Operand) (v line : ℕ) (live : Reg → Bool) (choices : List Choice)
     → is_carried o ≡ false → d ≢ Fp → v < 2 ^ 64 → ((s : State) → value c.addresses s x ≡ Some v)
-    → IsChosen code trash c i frame (binary_node o last_operand.Immediate d a x line) live choices (number_form_code o frame (register_of X86_64 d) (register_of X86_64 a) v)
+    → IsChosen code trash c i frame (binary_node o last_operand.Immediate d a x line) live choices
+    (number_form_code o frame (register_of X86_64 d) (register_of X86_64 a) v)
     → CarriesNode (x86_processor code trash) c i (binary_node o last_operand.Immediate d a x line) (numbered live)
 
 abbrev pub CarriedNumbersCarry : Type 0
 CarriedNumbersCarry =
     (code : List ℕ) (trash : ℕ) (c : Code) (i frame : ℕ) (o : BinaryOp) (d a : Reg) (x : Operand) (v line : ℕ) (live : Reg → Bool) (choices : List Choice)
     → is_carried o ≡ true → d ≢ Fp → v < 2 ^ 64 → ((s : State) → value c.addresses s x ≡ Some v)
-    → IsChosen code trash c i frame (binary_node o last_operand.Immediate d a x line) live choices (carried_number_code o frame (register_of X86_64 d) (register_of X86_64 a) v)
+    → IsChosen code trash c i frame (binary_node o last_operand.Immediate d a x line) live choices
+    (carried_number_code o frame (register_of X86_64 d) (register_of X86_64 a) v)
     → CarriesNode (x86_processor code trash) c i (binary_node o last_operand.Immediate d a x line) (numbered live)
 
 abbrev pub WideNumbersCarry : Type 0

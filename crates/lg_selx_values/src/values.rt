@@ -1,21 +1,18 @@
 // The nodes that compute values.
 
-ghost use Rattle.std.specs.Prelude.{◌≡◌, ◌+◌, ◌*◌, ◌<◌, ◌≤◌, [], ◌∷◌, ◌++◌, length, slice_index_or};
-ghost use Rattle.lg_carry_x86.specs.X86Rows.{slot_offset};
+ghost use Rattle.std.specs.Prelude.{◌≡◌, ◌+◌, ◌*◌, ◌<◌, ◌≤◌, [], ◌++◌, length, slice_index_or};
 ghost use Rattle.lg_operators.specs.Operators.{is_carried};
 ghost use Rattle.lg_selx_items.specs.Items.{ones, words_in};
-ghost use Rattle.lg_selx_values.specs.ValueItems.{load_items, binary_code, binary_number_code, binary_items, wide_items, register_for, body_items, save, restore, saved_items, value_items, HaveSlots};
+ghost use Rattle.lg_selx_values.specs.ValueItems.{load_items, binary_code, binary_number_code, binary_items, wide_items, register_for, body_items, saved_items, value_items, HaveSlots};
 
 use crate::binary::{number_form_code, register_code};
 use crate::carried::{carried_number_code, carried_register_code};
-use crate::moves::SCRATCH;
 use crate::unary::{retval_code, unary_code};
 use crate::wide::{wide_code, wide_number_code};
-use lg_op::{BinaryOp, Label, Node, Op, Operand, PlainOp, Reg, ValueType, WideOp};
+use lg_op::{BinaryOp, Label, Node, Op, Operand, PlainOp, Reg, WideOp};
 use lg_sel_items::Items;
-use lg_selx_items::{Item, put_number, register_of};
+use lg_selx_items::{Item, put_number, register_of, restore, save};
 use lg_temp::choice::{Choice, Choices};
-use lg_x86::{Instr, LoadOp, StoreOp};
 
 // The register of an operand that is one, and else 0.
 fn register_for(operand: Operand) -> u8
@@ -137,40 +134,6 @@ fn body_items(frame: u32, op: Op, operands: &[Operand], items: &mut Items<Item>)
         Op::Plain(PlainOp::Movi | PlainOp::VaStart) => load_items(d, y, items),
         Op::Retval(value) => retval_code(value, d, items),
         _ => {}
-    }
-}
-
-// Where a spill slot lies from FP.
-fn slot_offset(slot: u32) -> i32
-    requires { slot < 5 }
-    ensures { result ≡ slot_offset slot }
-{
-    -96 - 8 * (slot as i32)
-}
-
-// Saves a register in a slot.
-fn save(reg: u8, slot: u32) -> Instr
-    requires { slot < 5 }
-    ensures { result ≡ save reg slot }
-{
-    Instr::Store {
-        op: StoreOp::St64,
-        base: SCRATCH,
-        disp: slot_offset(slot),
-        reg,
-    }
-}
-
-// Restores a register from a slot.
-fn restore(reg: u8, slot: u32) -> Instr
-    requires { slot < 5 }
-    ensures { result ≡ restore reg slot }
-{
-    Instr::Load {
-        op: LoadOp::Ld64,
-        reg,
-        base: SCRATCH,
-        disp: slot_offset(slot),
     }
 }
 

@@ -1,6 +1,6 @@
 // Steps at the entries of host functions.
 
-ghost use Rattle.std.specs.Prelude.{◌≡◌, ◌≤◌, ℕ, map, length, slice_index, Some};
+ghost use Rattle.std.specs.Prelude.{◌≡◌, ◌≤◌, map, length, slice_index, Some};
 ghost use Rattle.lg_base.specs.Conventions.{argument_registers, is_kept};
 ghost use Rattle.lg_base.specs.Words.{add_words};
 ghost use Rattle.lg_base.specs.declared.target.Target.{Target};

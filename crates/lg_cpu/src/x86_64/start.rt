@@ -1,6 +1,6 @@
 // The processor at the start of a run.
 
-ghost use Rattle.std.specs.Prelude.{◌≡◌, ◌≤◌, ◌-◌, length, slice_index, if◌then◌else◌, nat_lt};
+ghost use Rattle.std.specs.Prelude.{◌≡◌, ◌-◌, length, slice_index, if◌then◌else◌, nat_lt};
 ghost use Rattle.lg_cpu.specs.X86Step.{start_registers};
 
 use crate::board::{Board, CODE, STOP};

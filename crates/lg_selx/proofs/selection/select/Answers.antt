@@ -2,10 +2,10 @@ use Rattle.std.proofs.Common.{◌≡◌, ◌≤◌, length, ap, ◌∙◌, arith
 use Rattle.std.specs.Prelude.{slice_get}
 use Rattle.lg_live.specs.RegSets.{has}
 use Rattle.lg_sel.proofs.AppendedLemmas.{short-appended, one-fixed}
-use Rattle.lg_sel.proofs.SelectionLemmas.{selected-whole, selected-spares, selected-shortest, appended-begins}
+use Rattle.lg_sel.proofs.SelectionLemmas.{selected-whole, selected-spares, selected-shortest, selected-ahead, appended-begins}
 use Rattle.lg_selx.proofs.CarriedLemmas.{x86-selection, selected-carries, aligned-behind, appended-lead}
 use Rattle.lg_selx.proofs.NodeFits.{asked-of, made-fits}
-use Rattle.lg_selx.proofs.ShortLemmas.{node-short}
+use Rattle.lg_selx.proofs.ShortLemmas.{node-short, node-ahead}
 use Rattle.lg_selx.proofs.selection.select.Goals as goal
 use Rattle.lg_selx.specs.Items.{node_items}
 use Rattle.lg_selx.specs.Selected.{IsAsked}
@@ -76,10 +76,19 @@ pub returns-clause-shortest : goal.returns-clause-shortest
 returns-clause-shortest c = λ went.
     selected-shortest x86-selection c.shortest_items-reach.result.0 c.args.node.now c.args.frame (has c.args.live_after) c.args.staged.arguments c.args.choices.now c.args.buf.now c.append.new.buf
     c.shortest_items-reach.result.1 c.requires.frame (asked c) (made c) record { bytes = c.append.ensures.bytes went; fixes = c.append.ensures.fixes went }
-    (λ code d i goal f. node-short c.args.buf.now c.append.new.buf code d i goal c.args.frame f) c.shortest_items-reach.ensures.checked
+    (λ code d i goal f. node-short c.args.buf.now c.append.new.buf code d i f goal c.args.frame) c.shortest_items-reach.ensures.checked
     (λ l goal first bound low. c.shortest_items-reach.ensures.least
     (λ r. node_items r c.args.node.now c.args.frame c.args.choices.now c.args.staged.arguments (length c.args.buf.now.bytes)) (λ r xs made. search (of_calls, made))
     l goal (ap (λ ys. slice_get ys 0) c.as_slice-operands.ensures.value ∙ first) bound low)
+
+pub returns-clause-ahead : goal.returns-clause-ahead
+returns-clause-ahead c = λ went.
+    selected-ahead x86-selection c.shortest_items-reach.result.0 c.args.node.now c.args.frame (has c.args.live_after) c.args.staged.arguments c.args.choices.now c.args.buf.now c.append.new.buf
+    c.shortest_items-reach.result.1 c.requires.frame (asked c) (made c) record { bytes = c.append.ensures.bytes went; fixes = c.append.ensures.fixes went }
+    (λ code d i f. node-ahead c.args.buf.now c.append.new.buf code d i f c.args.frame)
+    (λ l first free low. c.shortest_items-reach.ensures.ahead
+    (λ r. node_items r c.args.node.now c.args.frame c.args.choices.now c.args.staged.arguments (length c.args.buf.now.bytes)) (λ r xs made. search (of_calls, made))
+    l (ap (λ ys. slice_get ys 0) c.as_slice-operands.ensures.value ∙ first) free low)
 
 pub returns-clause-aligned : goal.returns-clause-aligned
 returns-clause-aligned c =

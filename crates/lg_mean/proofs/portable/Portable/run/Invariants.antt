@@ -2,7 +2,7 @@ use Rattle.std.proofs.Common.{◌≡◌, ◌+◌, None}
 use Rattle.lg_meaning.specs.Fits.{Fits}
 use Rattle.lg_meaning.specs.Means.{mean_from}
 use Rattle.lg_mean.specs.Machines.{state_of}
-use Rattle.lg_mean.specs.Runs.{GoesOn}
+use Rattle.lg_mean.specs.Runs.{HasGoneOn}
 use Rattle.lg_mean.proofs.portable.Portable.run.Given as goal
 
 abbrev pub invariant-loop-turn : goal.invariant-loop-turn
@@ -11,6 +11,6 @@ invariant-loop-turn g l = record {
   running : l.self.over ≡ None;
   labels : l.self.labels ≡ l.fn.self.labels;
   steps : l.self.steps ≡ l.fn.self.steps + l._turn;
-  goes : GoesOn (mean_from l.unit.nodes l.shape l.fn.self.labels.addresses (state_of l.fn.self.machine)) l._turn (state_of l.self.machine) (g.O.Sink.taken l.fn.out) (g.O.Sink.taken l.out);
+  goes : HasGoneOn (mean_from l.unit.nodes l.shape l.fn.self.labels.addresses (state_of l.fn.self.machine)) l._turn (state_of l.self.machine) (g.O.Sink.taken l.fn.out) (g.O.Sink.taken l.out);
   same : g.O.Sink.faults l.out ≡ g.O.Sink.faults l.fn.out;
 }

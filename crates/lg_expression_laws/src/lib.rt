@@ -1,0 +1,4 @@
+//! What the nodes of expressions mean.
+#![tactic(auto)]
+
+pub mod laws;

@@ -1,0 +1,3 @@
+mod FrontCases
+mod GapLemmas
+mod WordLemmas

@@ -1,0 +1,4 @@
+//! The text between tokens.
+#![tactic(auto)]
+
+pub mod laws;
