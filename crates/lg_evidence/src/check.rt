@@ -1,17 +1,14 @@
 // The checks of whole files.
 
 ghost use Rattle.std.specs.Prelude.{◌≡◌, ◌↔◌, ◌++◌, ℕ, List, length, IsTrue, string_bytes};
-ghost use Rattle.lg_evidence.specs.Counts.{counted};
 
 use crate::table::{Found, Table};
 use crate::vector::{bytes_of, parse_refused, parse_spelled};
 use lg_base::piece::Piece;
+use lg_tally::{Counts, Outcome};
 use std::alloc::{AllocError, Global};
 use std::rt::Files;
 use std::{fs, io};
-
-// so many lines that differ are printed of each file
-const SHOWN: u64 = 20;
 
 /// Checks a file of encodings. Of each line the bytes, with others behind them, must be read as the
 /// instruction that the line names, which must be encoded as the bytes again.
@@ -41,13 +38,6 @@ pub fn check_refused<T: Table>(
         counts.take(rt, file, line, &outcome)?;
     }
     counts.print(rt, file)
-}
-
-/// Whether a line agrees, and else what was found in its place.
-#[derive(Drop)]
-pub enum Outcome {
-    Agrees,
-    Differs(String),
 }
 
 fn spelled_outcome<T: Table>(alloc: Global, line: &str) -> Result<Outcome, AllocError> {
@@ -102,72 +92,4 @@ fn followed(bytes: &Piece) -> [u8; 24]
     let front = bytes.as_slice();
     all[..front.len()].copy_from_slice(front);
     all
-}
-
-impl Outcome {
-    /// The outcome of a line that is not of the form.
-    pub fn unread(alloc: Global) -> Result<Outcome, AllocError> {
-        Ok(Outcome::Differs(format!(in alloc; "a line of another form")?))
-    }
-
-    // prints nothing of a line that agrees
-    fn print(&self, rt: &impl Print, file: &str, line: &str) -> io::Result<()> {
-        match self {
-            Outcome::Agrees => Ok(()),
-            Outcome::Differs(found) => println!(rt; "{file} differs: {line}: found {found}"),
-        }
-    }
-}
-
-/// How many lines of a file agree and differ.
-#[derive(Clone, Copy)]
-pub struct Counts {
-    agree: u64,
-    differ: u64,
-}
-
-impl Counts {
-    /// No lines.
-    pub fn new() -> Self
-        ensures { (result.agree ≡ 0) × (result.differ ≡ 0) }
-    {
-        Counts {
-            agree: 0,
-            differ: 0,
-        }
-    }
-
-    fn add(&mut self, outcome: &Outcome)
-        ensures { self.new ≡ counted self.old outcome.now }
-    {
-        match outcome {
-            Outcome::Agrees => self.agree = self.agree.saturating_add(1),
-            Outcome::Differs(_) => self.differ = self.differ.saturating_add(1),
-        }
-    }
-
-    /// Counts a line, and prints it where it is one of the first that differ.
-    pub fn take(
-        &mut self,
-        rt: &impl Print,
-        file: &str,
-        line: &str,
-        outcome: &Outcome,
-    ) -> io::Result<()> {
-        self.add(outcome);
-        if self.differ <= SHOWN {
-            outcome.print(rt, file, line)?;
-        }
-        Ok(())
-    }
-
-    /// Prints the counts of a file.
-    pub fn print(self, rt: &impl Print, file: &str) -> io::Result<()> {
-        let Counts { agree, differ } = self;
-        if differ == 0 {
-            println!(rt; "{file}: {agree} agree")
-        } else {
-            println!(rt; "{file}: {agree} agree, {differ} differ")
-        }
-    }
 }

@@ -1,12 +1,12 @@
 // The check of a file of whole programs.
 
 use crate::case::{code_of, parse_program};
-use crate::check::{Counts, Outcome};
 use crate::processor::{processor, run, sink};
 use crate::steps::name_of;
 use lg_base::target::Target;
 use lg_cpu::answer::CpuStep;
 use lg_cpu::cpu::Cpu;
+use lg_tally::{Counts, Outcome};
 use std::alloc::{AllocError, Global};
 use std::rt::Files;
 use std::{fs, io};

@@ -1,7 +1,6 @@
 // The check of a file of single steps.
 
 use crate::case::{Case, Item, code_of, parse_case, parse_item};
-use crate::check::{Counts, Outcome};
 use crate::processor::{CODE, TRASH, processor, run, sink};
 use lg_base::code::CodeBytes;
 use lg_base::flags::Flags;
@@ -9,6 +8,7 @@ use lg_base::target::Target;
 use lg_cpu::answer::CpuStep;
 use lg_cpu::cpu::Cpu;
 use lg_io::memory_sink::MemorySink;
+use lg_tally::{Counts, Outcome};
 use std::alloc::{AllocError, Global};
 use std::rt::Files;
 use std::{fs, io};

@@ -13,6 +13,7 @@ use lg_cpu::answer::CpuStep;
 use lg_cpu::cpu::Cpu;
 use lg_io::memory_sink::MemorySink;
 use lg_random::Random;
+use lg_tally::count;
 use std::alloc::Global;
 
 // how many runs are made over any bytes, and as many over changed code
@@ -133,7 +134,7 @@ impl Outcome {
         self.steps = self.steps.wrapping_add(cpu.steps().wrapping_sub(before));
         self.sum = self.sum.wrapping_mul(31).wrapping_add(cpu.pc());
         if answer != CpuStep::Went && !stays(cpu, &mut out, answer) {
-            self.changed = self.changed.wrapping_add(1);
+            count(&mut self.changed);
         }
         Ok(())
     }

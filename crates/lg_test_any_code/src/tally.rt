@@ -5,6 +5,7 @@ ghost use Rattle.lg_test_any_code.specs.Tally.{counted};
 
 use lg_base::fault::FaultKind;
 use lg_cpu::answer::CpuStep;
+use lg_tally::count;
 
 /// How many runs ended, faulted by each kind, failed to write, and went on to the last step.
 #[derive(Clone, Copy)]
@@ -43,16 +44,16 @@ impl Tally {
         ensures { self.new ≡ counted answer self.old }
     {
         match answer {
-            CpuStep::Went => self.went_on = self.went_on.wrapping_add(1),
-            CpuStep::Ended(_) => self.ended = self.ended.wrapping_add(1),
-            CpuStep::WriteFault => self.write = self.write.wrapping_add(1),
-            CpuStep::Fault(FaultKind::Fetch) => self.fetch = self.fetch.wrapping_add(1),
-            CpuStep::Fault(FaultKind::Decode) => self.decode = self.decode.wrapping_add(1),
-            CpuStep::Fault(FaultKind::Memory) => self.memory = self.memory.wrapping_add(1),
-            CpuStep::Fault(FaultKind::Align) => self.align = self.align.wrapping_add(1),
-            CpuStep::Fault(FaultKind::Divide) => self.divide = self.divide.wrapping_add(1),
-            CpuStep::Fault(FaultKind::Flag) => self.flag = self.flag.wrapping_add(1),
-            CpuStep::Fault(FaultKind::Host) => self.host = self.host.wrapping_add(1),
+            CpuStep::Went => count(&mut self.went_on),
+            CpuStep::Ended(_) => count(&mut self.ended),
+            CpuStep::WriteFault => count(&mut self.write),
+            CpuStep::Fault(FaultKind::Fetch) => count(&mut self.fetch),
+            CpuStep::Fault(FaultKind::Decode) => count(&mut self.decode),
+            CpuStep::Fault(FaultKind::Memory) => count(&mut self.memory),
+            CpuStep::Fault(FaultKind::Align) => count(&mut self.align),
+            CpuStep::Fault(FaultKind::Divide) => count(&mut self.divide),
+            CpuStep::Fault(FaultKind::Flag) => count(&mut self.flag),
+            CpuStep::Fault(FaultKind::Host) => count(&mut self.host),
         }
     }
 }

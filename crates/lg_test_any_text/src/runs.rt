@@ -6,6 +6,7 @@ use lg_base::refusal::OutOfMemory;
 use lg_io::memory_sink::MemorySink;
 use lg_io::memory_texts::MemoryTexts;
 use lg_random::Random;
+use lg_run::answer::Answer;
 use lg_run::top::lightning;
 use std::alloc::Global;
 
@@ -39,6 +40,26 @@ fn words_of(alloc: Global, target: &str, mode: &str) -> Result<Vec<String>, OutO
     Ok(words)
 }
 
+// The answer of the top call on these words and texts. What it promises is for proofs, and of no use here.
+fn answer_of(
+    alloc: Global,
+    words: &Vec<String>,
+    texts: &mut MemoryTexts,
+    out: &mut MemorySink,
+    err: &mut MemorySink,
+) -> Answer {
+    lightning(alloc, words, texts, out, err).answer
+}
+
+// The text of a call.
+fn texts_of(alloc: Global, text: &[u8]) -> Result<MemoryTexts, OutOfMemory> {
+    let mut texts = MemoryTexts::new(alloc, &[])?;
+    match texts.add("t.tst", text) {
+        Ok(()) => Ok(texts),
+        Err(OutOfMemory) => Err(OutOfMemory),
+    }
+}
+
 // Makes a call on a text, and counts what it comes to.
 fn call(
     alloc: Global,
@@ -46,12 +67,11 @@ fn call(
     text: &[u8],
     tally: &mut Tally,
 ) -> Result<(), OutOfMemory> {
-    let mut texts = MemoryTexts::new(alloc, &[])?;
-    texts.add("t.tst", text)?;
     let mut out = MemorySink::new(alloc, ROOM, &[])?;
     let mut err = MemorySink::new(alloc, 256, &[])?;
-    let done = lightning(alloc, words, &mut texts, &mut out, &mut err);
-    tally.count(done.answer, err.bytes());
+    let mut texts = texts_of(alloc, text)?;
+    let answer = answer_of(alloc, words, &mut texts, &mut out, &mut err);
+    tally.count(answer, err.bytes());
     Ok(())
 }
 

@@ -1,6 +1,7 @@
 // What calls came to, counted.
 
 use lg_run::answer::Answer;
+use lg_tally::count;
 
 /// How many kinds of refusal are counted, by their numbers.
 pub const KINDS: usize = 32;
@@ -40,28 +41,26 @@ impl Tally {
     // Counts a refusal of a kind.
     fn count_kind(&mut self, number: u32) {
         let number = number as usize;
-        self.refused = self.refused.wrapping_add(1);
+        count(&mut self.refused);
         if number < KINDS {
-            self.kinds[number] = self.kinds[number].wrapping_add(1);
+            count(&mut self.kinds[number]);
         }
     }
 
     /// Counts a call that came to this, with what it wrote on the standard error.
     pub fn count(&mut self, answer: Answer, line: &[u8]) {
         match answer {
-            Answer::Ended(_) => self.ended = self.ended.wrapping_add(1),
-            Answer::Listed => self.listed = self.listed.wrapping_add(1),
-            Answer::Undefined { .. } => self.undefined = self.undefined.wrapping_add(1),
+            Answer::Ended(_) => count(&mut self.ended),
+            Answer::Listed => count(&mut self.listed),
+            Answer::Undefined { .. } => count(&mut self.undefined),
             Answer::Refused(refusal) => self.count_kind(refusal.kind.number()),
-            Answer::StepsOut => self.steps_out = self.steps_out.wrapping_add(1),
-            Answer::Fault { .. } => self.fault = self.fault.wrapping_add(1),
-            Answer::WriteFault => self.write = self.write.wrapping_add(1),
-            Answer::Usage | Answer::ReadFault | Answer::OutOfMemory => {
-                self.other = self.other.wrapping_add(1)
-            }
+            Answer::StepsOut => count(&mut self.steps_out),
+            Answer::Fault { .. } => count(&mut self.fault),
+            Answer::WriteFault => count(&mut self.write),
+            Answer::Usage | Answer::ReadFault | Answer::OutOfMemory => { count(&mut self.other) }
         }
         if !is_line_of(answer, line) {
-            self.odd = self.odd.wrapping_add(1);
+            count(&mut self.odd);
         }
     }
 }

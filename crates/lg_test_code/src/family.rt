@@ -50,18 +50,34 @@ fn words(alloc: Global, target: &str, mode: &str) -> Result<Vec<String>, AllocEr
     Ok(words)
 }
 
+// The answer of the top call on these words and texts. What it promises is for proofs, and of no use here.
+fn answer_of(
+    alloc: Global,
+    words: &Vec<String>,
+    texts: &mut MemoryTexts,
+    out: &mut MemorySink,
+    err: &mut MemorySink,
+) -> Answer {
+    lightning(alloc, words, texts, out, err).answer
+}
+
+// The text of a run.
+fn texts_of(alloc: Global, text: &[u8]) -> Result<MemoryTexts, OutOfMemory> {
+    let mut texts = MemoryTexts::new(alloc, &[])?;
+    match texts.add("t.tst", text) {
+        Ok(()) => Ok(texts),
+        Err(OutOfMemory) => Err(OutOfMemory),
+    }
+}
+
 // Runs a text in a mode.
 fn run_in(alloc: Global, target: &str, mode: &str, text: &[u8]) -> Result<ModeRun, OutOfMemory> {
     let words = words(alloc, target, mode)?;
-    let mut texts = MemoryTexts::new(alloc, &[])?;
-    texts.add("t.tst", text)?;
     let mut out = MemorySink::new(alloc, ROOM, &[])?;
     let mut err = MemorySink::new(alloc, LINE, &[])?;
-    let done = lightning(alloc, &words, &mut texts, &mut out, &mut err);
-    Ok(ModeRun {
-        answer: done.answer,
-        out,
-    })
+    let mut texts = texts_of(alloc, text)?;
+    let answer = answer_of(alloc, &words, &mut texts, &mut out, &mut err);
+    Ok(ModeRun { answer, out })
 }
 
 // Runs a text by its meaning and by its code.

@@ -3,8 +3,6 @@
 use lg_base::refusal::{Refusal, Stop};
 use lg_pre::{PlainText, expand};
 use std::alloc::{AllocError, Global};
-use std::process::Abort;
-use std::test::Fail;
 
 // In a table a row is what its text expands to, or the kind and the line of its refusal, then 1F and the text; between rows stands 1E.
 
@@ -33,47 +31,68 @@ fn feeds(bytes: &[u8]) -> usize {
     bytes.iter().filter(|b| **b == b'\n').count()
 }
 
-/// Compares what one text expands to, or is refused for.
-pub(crate) fn compare_one(
-    rt: &(impl AllocGlobal + Abort),
-    wanted: &[u8],
-    text: &[u8],
-) -> Result<(), Fail> {
-    let found = told(rt.alloc(), text)?;
-    assert_eq!(rt; found.as_slice(), wanted);
-    Ok(())
+/// Whether a text expands to this, or is refused so.
+pub(crate) fn gives(alloc: Global, wanted: &[u8], text: &[u8]) -> Result<bool, AllocError> {
+    let found = told(alloc, text)?;
+    Ok(found.as_slice() == wanted)
 }
 
-/// Compares what the texts of a table expand to: as many line feeds as they have.
-pub(crate) fn compare_expansions(rt: &(impl AllocGlobal + Abort), table: &str) -> Result<(), Fail> {
+// What a row wants, and its text.
+fn parts(row: &str) -> (&str, &str) {
+    row.split_once('\x1f').unwrap_or((row, ""))
+}
+
+// Whether the text of a row expands to what it wants: to as many line feeds as it has.
+fn is_expansion(alloc: Global, row: &str) -> Result<bool, AllocError> {
+    let (wanted, text) = parts(row);
+    let same_lines = feeds(wanted.as_bytes()) == feeds(text.as_bytes());
+    Ok(gives(alloc, wanted.as_bytes(), text.as_bytes())? && same_lines)
+}
+
+/// The first row of a table whose text does not expand to what it wants, with as many line feeds as the text has.
+pub(crate) fn first_other_expansion(
+    alloc: Global,
+    table: &'static str,
+) -> Result<Option<&'static str>, AllocError> {
     for row in table.split('\x1e') {
-        let (wanted, text) = row.split_once('\x1f').unwrap_or((row, ""));
-        let found = told(rt.alloc(), text.as_bytes())?;
-        let shown = String::from_utf8_lossy(rt.alloc(), &found)?;
-        assert_eq!(rt; shown.as_str(), wanted, "{row:?}");
-        assert_eq!(rt; feeds(&found), feeds(text.as_bytes()), "{row:?}");
+        if !is_expansion(alloc, row)? {
+            return Ok(Some(row));
+        }
     }
-    Ok(())
+    Ok(None)
 }
 
-/// Compares what the texts of a table expand to or are refused for, where the same text stands before each.
-pub(crate) fn compare_behind(
-    rt: &(impl AllocGlobal + Abort),
+// Whether a text with another behind it expands to this, or is refused so.
+fn gives_behind(
+    alloc: Global,
     before: &[u8],
-    table: &str,
-) -> Result<(), Fail> {
-    for row in table.split('\x1e') {
-        let (wanted, behind) = row.split_once('\x1f').unwrap_or((row, ""));
-        let mut text = Vec::from_slice(rt.alloc(), before)?;
-        text.extend_from_slice(behind.as_bytes())?;
-        let found = told(rt.alloc(), &text)?;
-        let shown = String::from_utf8_lossy(rt.alloc(), &found)?;
-        assert_eq!(rt; shown.as_str(), wanted, "{row:?}");
-    }
-    Ok(())
+    behind: &[u8],
+    wanted: &[u8],
+) -> Result<bool, AllocError> {
+    let mut text = Vec::from_slice(alloc, before)?;
+    text.extend_from_slice(behind)?;
+    gives(alloc, wanted, &text)
 }
 
-/// Compares what the texts of a table are refused for.
-pub(crate) fn compare_refusals(rt: &(impl AllocGlobal + Abort), table: &str) -> Result<(), Fail> {
-    compare_behind(rt, b"", table)
+/// The first row of a table of which, behind the same text, something else comes.
+pub(crate) fn first_other_behind(
+    alloc: Global,
+    before: &[u8],
+    table: &'static str,
+) -> Result<Option<&'static str>, AllocError> {
+    for row in table.split('\x1e') {
+        let (wanted, behind) = parts(row);
+        if !gives_behind(alloc, before, behind.as_bytes(), wanted.as_bytes())? {
+            return Ok(Some(row));
+        }
+    }
+    Ok(None)
+}
+
+/// The first row of a table whose text is not refused as it wants.
+pub(crate) fn first_other_refusal(
+    alloc: Global,
+    table: &'static str,
+) -> Result<Option<&'static str>, AllocError> {
+    first_other_behind(alloc, b"", table)
 }

@@ -86,15 +86,34 @@ fn compared(case: Case<'_>, ended: u8, out: &[u8], err: &[u8]) -> Outcome {
     }
 }
 
+// Makes the top call on these words and texts, and gives the status that it ends with. What it promises is for proofs, and of no use here.
+fn ended(
+    alloc: Global,
+    words: &Vec<String>,
+    texts: &mut MemoryTexts,
+    out: &mut MemorySink,
+    err: &mut MemorySink,
+) -> u8 {
+    let done = lightning(alloc, words, texts, out, err);
+    status(&done.answer)
+}
+
+// The text of an example.
+fn texts_of(alloc: Global, case: Case<'_>) -> Result<MemoryTexts, OutOfMemory> {
+    let mut texts = MemoryTexts::new(alloc, &[])?;
+    match texts.add(case.name, case.text.as_bytes()) {
+        Ok(()) => Ok(texts),
+        Err(OutOfMemory) => Err(OutOfMemory),
+    }
+}
+
 // Makes the call for an example, and compares what comes of it.
 fn call(alloc: Global, words: &Vec<String>, case: Case<'_>) -> Result<Outcome, OutOfMemory> {
-    let mut texts = MemoryTexts::new(alloc, &[])?;
-    texts.add(case.name, case.text.as_bytes())?;
     let mut out = MemorySink::new(alloc, ROOM, &[])?;
     let mut err = MemorySink::new(alloc, ROOM, &[])?;
-    let done = lightning(alloc, words, &mut texts, &mut out, &mut err);
-    let ended = status(&done.answer);
-    Ok(compared(case, ended, out.bytes(), err.bytes()))
+    let mut texts = texts_of(alloc, case)?;
+    let status = ended(alloc, words, &mut texts, &mut out, &mut err);
+    Ok(compared(case, status, out.bytes(), err.bytes()))
 }
 
 /// Runs an example with these options, with spaces between, in front of its own.

@@ -2,10 +2,11 @@
 
 ghost use Rattle.std.specs.Prelude.{◌<◌, length, IfOk};
 
-use crate::outcome::{End, Outcome, compared};
+use crate::outcome::{End, compared};
 use lg_base::refusal::OutOfMemory;
 use lg_io::memory_sink::MemorySink;
 use lg_mean_text::meaning::meaning;
+use lg_tally::Outcome;
 use std::alloc::{AllocError, Global};
 use std::rt::Files;
 use std::{fs, io};
@@ -46,7 +47,7 @@ fn words_of(alloc: Global, file: String, line: &str) -> Result<Vec<String>, Allo
 }
 
 fn want_of_memory(alloc: Global) -> Result<Outcome, AllocError> {
-    Ok(Outcome::Differs(format!(in alloc; "an end, out of memory")?))
+    Ok(Outcome::Differs(format!(in alloc; "out of memory")?))
 }
 
 // Follows a text and compares it.
@@ -78,7 +79,7 @@ fn followed(
 pub fn case_outcome(rt: &(impl Files + AllocGlobal), line: &str) -> io::Result<Outcome> {
     let alloc = rt.alloc();
     let Some(case) = parse_case(line) else {
-        return Ok(Outcome::Differs(format!(in alloc; "a line of another form")?));
+        return Ok(Outcome::unread(alloc)?);
     };
     let text = fs::read(rt, format!(in alloc; "{}.tst", case.name)?)?;
     let out = fs::read(rt, format!(in alloc; "{}.out", case.name)?)?;

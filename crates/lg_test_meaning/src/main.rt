@@ -1,24 +1,25 @@
 // Compares the portable meaning with cases that were worked out elsewhere, the files of `data`. `cases.tsv` has a line a case, with tabs
 // between: its name, the most steps, and the words behind the file's with blanks between them. NAME.tst is the text, NAME.out the bytes
 // that it writes, and NAME.end says in one line how it ends. Prints how many agree, and first, for each of up to twenty that differ, how
-// it should end and how it does.
+// it ends and how it should.
 #![tactic(auto)]
 
 mod case;
-mod counts;
 mod outcome;
 
 use case::case_outcome;
-use counts::Counts;
+use lg_tally::Counts;
 use std::{fs, io};
 
+const LIST: &str = "cases.tsv";
+
 fn main(rt: HostRuntime) -> io::Result<()> {
-    let list = fs::read_to_string(&rt, "cases.tsv")?;
+    let list = fs::read_to_string(&rt, LIST)?;
     let mut counts = Counts::new();
     for line in list.as_str().lines() {
         let outcome = case_outcome(&rt, line)?;
         let (name, _) = line.split_once('\t').unwrap_or((line, ""));
-        counts.take(&rt, name, &outcome)?;
+        counts.take(&rt, LIST, name, &outcome)?;
     }
-    counts.print(&rt)
+    counts.print(&rt, LIST)
 }

@@ -2,14 +2,8 @@
 
 ghost use Rattle.std.specs.Prelude.{◌≡◌, ◌↔◌, IsTrue};
 
+use lg_tally::Outcome;
 use std::alloc::{AllocError, Global};
-
-/// Whether a case agrees, and else how it should end and what was found.
-#[derive(Drop)]
-pub enum Outcome {
-    Agrees,
-    Differs(String),
-}
 
 /// How a text ends, as a line, and the bytes that it writes.
 #[derive(Clone, Copy)]
@@ -35,5 +29,5 @@ pub fn compared(alloc: Global, found: End<'_>, wanted: End<'_>) -> Result<Outcom
     } else {
         "other bytes"
     };
-    Ok(Outcome::Differs(format!(in alloc; "{}, found {} with {bytes}", wanted.line, found.line)?))
+    Ok(Outcome::Differs(format!(in alloc; "{} with {bytes}, wanted {}", found.line, wanted.line)?))
 }

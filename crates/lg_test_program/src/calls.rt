@@ -1,12 +1,13 @@
 // Calls that are refused, or end otherwise.
 
-use crate::row::{Row, call, check, meant, plain};
+use crate::row::{Row, call_over, check, meant, plain, run_whole};
 use crate::texts::{first_letter, kept_registers};
+use lg_base::refusal::OutOfMemory;
 use lg_io::memory_sink::MemorySink;
 use lg_io::memory_texts::MemoryTexts;
 use lg_io::texts::Texts;
-use lg_run::answer::{Answer, status};
-use lg_run::top::{lightning, report_words};
+use lg_run::answer::{Answer, Done, status};
+use lg_run::top::report_words;
 use std::alloc::{AllocError, Global};
 use std::process::Abort;
 use std::test::Fail;
@@ -120,22 +121,29 @@ fn takes_targets(rt: HostRuntime) -> Result<(), Fail> {
     )
 }
 
-#[test]
-fn code_full(rt: HostRuntime) -> Result<(), Fail> {
-    let mut text = Vec::from_slice(rt.alloc(), b".code prolog")?;
+// A text that writes 64 letters.
+fn letters(alloc: Global) -> Result<Vec<u8>, AllocError> {
+    let mut text = Vec::from_slice(alloc, b".code prolog")?;
     for _ in 0..64 {
         text.extend_from_slice(b" prepare pushargi 65 finishi @putchar")?;
     }
     text.extend_from_slice(b" ret epilog")?;
-    let err = b"lightning: t.tst:0: refused 18 CodeFull\n";
-    let words = ["lightning", "--target", "riscv64", "--code", "256", "t.tst"];
-    check(
-        &rt,
-        &Row {
-            words: &words,
-            ..plain(&text, b"", err, 121)
-        },
-    )?;
+    Ok(text)
+}
+
+#[test]
+fn code_full(rt: HostRuntime) -> Result<(), Fail> {
+    let text = letters(rt.alloc())?;
+    let row = Row {
+        words: &["lightning", "--target", "riscv64", "--code", "256", "t.tst"],
+        ..plain(
+            &text,
+            b"",
+            b"lightning: t.tst:0: refused 18 CodeFull\n",
+            121,
+        )
+    };
+    check(&rt, &row)?;
     check(&rt, &plain(&text, &[b'A'; 64], b"", 0))
 }
 
@@ -269,28 +277,37 @@ fn refuses_the_longest_text(rt: HostRuntime) -> Result<(), Fail> {
     check(&rt, &plain(&text, b"", too_long, 121))
 }
 
+// A data part with three labels.
+const LABELS: &[u8] = b".data 16 a: .c 1 b: .align 8 c: .code prolog ret epilog";
+
+// Whether a call gave the addresses of its labels.
+fn has_addresses(done: &Done) -> bool {
+    match &done.code {
+        Some(code) => {
+            code.labels().as_slice() == [0x2000_0000u64, 0x2000_0001, 0x2000_0008].as_slice()
+        }
+        None => false,
+    }
+}
+
+fn are_addresses_given(alloc: Global) -> Result<bool, OutOfMemory> {
+    let mut out = MemorySink::new(alloc, 16, &[])?;
+    let mut err = MemorySink::new(alloc, 16, &[])?;
+    let done = run_whole(alloc, &plain(LABELS, b"", b"", 0), &mut out, &mut err)?;
+    Ok(has_addresses(&done))
+}
+
 #[test]
 fn gives_the_addresses_of_labels(rt: HostRuntime) -> Result<(), Fail> {
-    let mut words = Vec::new(rt.alloc());
-    for word in ["lightning", "--target", "riscv64", "t.tst"] {
-        words.push(String::from_str(rt.alloc(), word)?)?;
-    }
-    let mut texts = MemoryTexts::new(rt.alloc(), &[])?;
-    texts.add(
-        "t.tst",
-        b".data 16 a: .c 1 b: .align 8 c: .code prolog ret epilog",
-    )?;
-    let mut out = MemorySink::new(rt.alloc(), 16, &[])?;
-    let mut err = MemorySink::new(rt.alloc(), 16, &[])?;
-    let done = lightning(rt.alloc(), &words, &mut texts, &mut out, &mut err);
-    match &done.code {
-        Some(code) => assert_eq!(rt;
-            code.labels().as_slice(),
-            [0x2000_0000u64, 0x2000_0001, 0x2000_0008].as_slice()
-        ),
-        None => assert!(rt; false),
-    }
+    assert!(rt; are_addresses_given(rt.alloc())?);
     Ok(())
+}
+
+// A text behind 140,000 spaces, which is read in more than one piece.
+fn long_text(alloc: Global) -> Result<Vec<u8>, AllocError> {
+    let mut long = vec![in alloc; b' '; 140_000]?;
+    long.extend_from_slice(b".code prolog ret epilog")?;
+    Ok(long)
 }
 
 // A call of the texts fails: that is told, whatever it was, and no other call is made behind it.
@@ -313,10 +330,13 @@ fn says_which_read_fails(rt: HostRuntime) -> Result<(), Fail> {
         failing_reads: &[4],
         ..plain(first_letter(), b"A", b"", 3)
     };
-    check(&rt, &behind)?;
-    // a longer text fails in its middle, at its second piece and at its third
-    let mut long = vec![in rt.alloc(); b' '; 140_000]?;
-    long.extend_from_slice(b".code prolog ret epilog")?;
+    check(&rt, &behind)
+}
+
+// A longer text fails in its middle, at its second piece and at its third.
+#[test]
+fn says_which_read_of_a_long_text_fails(rt: HostRuntime) -> Result<(), Fail> {
+    let long = long_text(rt.alloc())?;
     for call in 2..6 {
         let failing = Row {
             failing_reads: &[call],
@@ -327,27 +347,48 @@ fn says_which_read_fails(rt: HostRuntime) -> Result<(), Fail> {
     check(&rt, &plain(&long, b"", b"", 0))
 }
 
-// Another text is selected, and a select that fails leaves it so: no piece of it is read as the text that was asked for.
+const WORDS: [&str; 4] = ["lightning", "--target", "riscv64", "t.tst"];
+
+fn add_two(texts: &mut MemoryTexts) -> Result<(), OutOfMemory> {
+    texts.add("other.tst", first_letter())?;
+    texts.add("t.tst", kept_registers())
+}
+
+// Whether the call on these texts comes to this, with or without code.
+fn comes_to(
+    alloc: Global,
+    texts: &mut MemoryTexts,
+    wanted: (u8, bool),
+    out: &[u8],
+    err: &[u8],
+) -> Result<bool, OutOfMemory> {
+    let mut out_sink = MemorySink::new(alloc, 16, &[])?;
+    let mut err_sink = MemorySink::new(alloc, 64, &[])?;
+    let told = call_over(alloc, &WORDS, texts, &mut out_sink, &mut err_sink)?;
+    let is_told = (told.status, told.has_code) == wanted;
+    Ok(is_told && out_sink.bytes() == out && err_sink.bytes() == err)
+}
+
+fn reads_its_own(alloc: Global, texts: &mut MemoryTexts) -> Result<bool, OutOfMemory> {
+    add_two(texts)?;
+    let is_selected = texts.select("other.tst").is_ok();
+    Ok(
+        is_selected
+            && comes_to(alloc, texts, (123, false), b"", READ)?
+            && comes_to(alloc, texts, (0, true), b"Hi!\n", b"")?,
+    )
+}
+
+fn is_other_not_read(alloc: Global) -> Result<bool, OutOfMemory> {
+    let mut texts = MemoryTexts::new(alloc, &[2])?;
+    reads_its_own(alloc, &mut texts)
+}
+
+// Another text is selected, and a select that fails leaves it so: no piece of it is read as the text that was asked for. The same call
+// again finds its text.
 #[test]
 fn reads_no_other_text(rt: HostRuntime) -> Result<(), Fail> {
-    let mut texts = MemoryTexts::new(rt.alloc(), &[2])?;
-    texts.add("other.tst", first_letter())?;
-    texts.add("t.tst", kept_registers())?;
-    assert!(rt; texts.select("other.tst").is_ok());
-    let mut words = Vec::new(rt.alloc());
-    for word in ["lightning", "--target", "riscv64", "t.tst"] {
-        words.push(String::from_str(rt.alloc(), word)?)?;
-    }
-    let mut out = MemorySink::new(rt.alloc(), 16, &[])?;
-    let mut err = MemorySink::new(rt.alloc(), 64, &[])?;
-    let told = call(rt.alloc(), &words, &mut texts, &mut out, &mut err);
-    assert_eq!(rt; (told.status, told.has_code), (123, false));
-    assert_eq!(rt; out.bytes(), b"".as_slice());
-    assert_eq!(rt; err.bytes(), READ);
-    // the same call again finds its text
-    let told = call(rt.alloc(), &words, &mut texts, &mut out, &mut err);
-    assert_eq!(rt; told.status, 0);
-    assert_eq!(rt; out.bytes(), b"Hi!\n".as_slice());
+    assert!(rt; is_other_not_read(rt.alloc())?);
     Ok(())
 }
 
@@ -402,11 +443,14 @@ fn says_write_fault_where_a_line_fails(rt: HostRuntime) -> Result<(), Fail> {
     check(&rt, &both)
 }
 
+fn is_want_told(alloc: Global) -> Result<bool, OutOfMemory> {
+    let mut err = MemorySink::new(alloc, 64, &[])?;
+    let answer = report_words(Answer::OutOfMemory, &mut err);
+    Ok(status(&answer) == 127 && err.bytes() == b"lightning: out of memory\n".as_slice())
+}
+
 #[test]
 fn says_that_memory_was_wanted(rt: HostRuntime) -> Result<(), Fail> {
-    let mut err = MemorySink::new(rt.alloc(), 64, &[])?;
-    let answer = report_words(Answer::OutOfMemory, &mut err);
-    assert_eq!(rt; status(&answer), 127);
-    assert_eq!(rt; err.bytes(), b"lightning: out of memory\n".as_slice());
+    assert!(rt; is_want_told(rt.alloc())?);
     Ok(())
 }

@@ -1,9 +1,10 @@
 // Texts, texts that cannot be read and sinks that cannot be written, at every edge.
 
-use crate::row::{Row, call, check, meant, plain};
+use crate::row::{Row, check, meant, plain, run};
 use crate::rows::NFIBS;
+use lg_base::refusal::OutOfMemory;
 use lg_io::memory_sink::MemorySink;
-use lg_io::memory_texts::MemoryTexts;
+use std::alloc::Global;
 use std::process::Abort;
 use std::test::Fail;
 
@@ -38,18 +39,12 @@ fn reads_fail_in_turn(rt: HostRuntime) -> Result<(), Fail> {
 // What stands on out when it has no more room stays there.
 #[test]
 fn writes_fail_where_room_ends(rt: HostRuntime) -> Result<(), Fail> {
-    let mut words = Vec::new(rt.alloc());
-    for word in NFIBS_WORDS {
-        words.push(String::from_str(rt.alloc(), word)?)?;
-    }
-    let mut texts = MemoryTexts::new(rt.alloc(), &[])?;
-    texts.add("t.tst", NFIBS)?;
-    let mut out = MemorySink::new(rt.alloc(), 5, &[])?;
-    let mut err = MemorySink::new(rt.alloc(), 256, &[])?;
-    let told = call(rt.alloc(), &words, &mut texts, &mut out, &mut err);
-    assert_eq!(rt; told.status, 124);
-    assert_eq!(rt; out.bytes(), b"nfibs".as_slice());
-    assert_eq!(rt; err.bytes(), b"lightning: write fault\n".as_slice());
+    let full = Row {
+        words: &NFIBS_WORDS,
+        room: 5,
+        ..plain(NFIBS, b"nfibs", b"lightning: write fault\n", 124)
+    };
+    check(&rt, &full)?;
     let empty = Row {
         words: &["lightning", "t.tst"],
         failing_lines: &[1],
@@ -58,43 +53,56 @@ fn writes_fail_where_room_ends(rt: HostRuntime) -> Result<(), Fail> {
     check(&rt, &empty)
 }
 
+// Whether a text is listed or refused, and has code where it is listed.
+fn is_listed_or_refused(alloc: Global, text: &[u8]) -> Result<bool, OutOfMemory> {
+    let row = Row {
+        words: &["lightning", "--mode", "list", "t.tst"],
+        ..plain(text, b"", b"", 0)
+    };
+    let mut out = MemorySink::new(alloc, 8192, &[])?;
+    let mut err = MemorySink::new(alloc, 256, &[])?;
+    let told = run(alloc, &row, &mut out, &mut err)?;
+    let is_line = match told.status {
+        0 => err.bytes().is_empty(),
+        121 => err.bytes().starts_with(b"lightning: t.tst:"),
+        _ => false,
+    };
+    Ok(is_line && told.has_code == (told.status == 0))
+}
+
+// The length of the first beginning of a text that is neither listed nor refused.
+fn first_other_prefix(alloc: Global, text: &[u8]) -> Result<Option<usize>, OutOfMemory> {
+    for len in 0..text.len() {
+        if !is_listed_or_refused(alloc, &text[..len])? {
+            return Ok(Some(len));
+        }
+    }
+    Ok(None)
+}
+
 // Each text that begins as another is listed or refused.
 #[test]
 fn takes_or_refuses_each_prefix(rt: HostRuntime) -> Result<(), Fail> {
-    let mut words = Vec::new(rt.alloc());
-    for word in ["lightning", "--mode", "list", "t.tst"] {
-        words.push(String::from_str(rt.alloc(), word)?)?;
-    }
-    for len in 0..NFIBS.len() {
-        let mut texts = MemoryTexts::new(rt.alloc(), &[])?;
-        texts.add("t.tst", &NFIBS[..len])?;
-        let mut out = MemorySink::new(rt.alloc(), 8192, &[])?;
-        let mut err = MemorySink::new(rt.alloc(), 256, &[])?;
-        let told = call(rt.alloc(), &words, &mut texts, &mut out, &mut err);
-        assert!(rt;
-            (told.status == 0 && err.bytes().is_empty())
-                || (told.status == 121 && err.bytes().starts_with(b"lightning: t.tst:"))
-        );
-        assert_eq!(rt; told.status == 0, told.has_code);
-    }
+    assert_eq!(rt; first_other_prefix(rt.alloc(), NFIBS)?, None);
     Ok(())
+}
+
+// Whether the line of a text on a target begins so, and its status is that of a fault.
+fn faults_on(alloc: Global, target: &str, text: &[u8], line: &[u8]) -> Result<bool, OutOfMemory> {
+    let row = Row {
+        words: &["lightning", "--target", target, "t.tst"],
+        ..plain(text, b"", b"", 126)
+    };
+    let mut out = MemorySink::new(alloc, 16, &[])?;
+    let mut err = MemorySink::new(alloc, 256, &[])?;
+    let told = run(alloc, &row, &mut out, &mut err)?;
+    Ok(told.status == 126 && err.bytes().starts_with(line) && out.bytes().is_empty())
 }
 
 // The line of a text on each target begins so, and its status is that of a fault.
 fn faults(rt: &(impl AllocGlobal + Abort), text: &[u8], line: &[u8]) -> Result<(), Fail> {
     for target in TARGETS {
-        let mut words = Vec::new(rt.alloc());
-        for word in ["lightning", "--target", target, "t.tst"] {
-            words.push(String::from_str(rt.alloc(), word)?)?;
-        }
-        let mut texts = MemoryTexts::new(rt.alloc(), &[])?;
-        texts.add("t.tst", text)?;
-        let mut out = MemorySink::new(rt.alloc(), 16, &[])?;
-        let mut err = MemorySink::new(rt.alloc(), 256, &[])?;
-        let told = call(rt.alloc(), &words, &mut texts, &mut out, &mut err);
-        assert_eq!(rt; told.status, 126);
-        assert!(rt; err.bytes().starts_with(line));
-        assert_eq!(rt; out.bytes(), b"".as_slice());
+        assert!(rt; faults_on(rt.alloc(), target, text, line)?, "{target}");
     }
     Ok(())
 }

@@ -1,7 +1,7 @@
 // Texts with directives and macros.
 
 use crate::row::{check, on_aarch64, on_x86_64, plain};
-use std::process::Abort;
+use std::alloc::{AllocError, Global};
 use std::test::Fail;
 
 const MACROS: &[u8] =
@@ -20,29 +20,38 @@ fn expands_macros(rt: HostRuntime) -> Result<(), Fail> {
     check(&rt, &on_x86_64(MACROS, b"xx", b"", 0))
 }
 
+// Appends the definition of the name of a level above the first by two of the name below it.
+fn push_double(text: &mut Vec<u8>, level: u8) -> Result<(), AllocError> {
+    let (name, below) = (b'b'.wrapping_add(level), b'a'.wrapping_add(level));
+    text.extend_from_slice(b"\n#define ")?;
+    text.extend_from_slice(&[name, b' ', below, b' ', below])
+}
+
+// Appends a word of 4,096 bytes, which doubles in each of 13 macros, and the last of them.
+fn push_doubles(text: &mut Vec<u8>) -> Result<(), AllocError> {
+    text.extend_from_slice(b"#define a ")?;
+    text.extend_from_slice(&[b'x'; 4096])?;
+    for level in 0..13u8 {
+        push_double(text, level)?;
+    }
+    text.extend_from_slice(b"\nn\n")
+}
+
+fn doubles(alloc: Global) -> Result<Vec<u8>, AllocError> {
+    let mut text = Vec::new(alloc);
+    push_doubles(&mut text)?;
+    Ok(text)
+}
+
 #[test]
 fn refuses_macros(rt: HostRuntime) -> Result<(), Fail> {
     let arguments = b"lightning: t.tst:9: refused 23 BadMacro\n";
     check(&rt, &plain(ARGUMENTS, b"", arguments, 121))?;
     let open = b"lightning: t.tst:4: refused 22 BadDirective\n";
     check(&rt, &plain(OPEN, b"", open, 121))?;
-    // a word of 4,096 bytes doubles in each of 13 macros: that is told, and not written out
-    let mut text = Vec::from_slice(rt.alloc(), b"#define a ")?;
-    for _ in 0..4096 {
-        text.push(b'x')?;
-    }
-    for level in 0..13u8 {
-        text.extend_from_slice(b"\n#define ")?;
-        text.push(b'b' + level)?;
-        text.extend_from_slice(b" ")?;
-        text.push(b'a' + level)?;
-        text.extend_from_slice(b" ")?;
-        text.push(b'a' + level)?;
-    }
-    text.push(b'\n')?;
-    text.extend_from_slice(b"n\n")?;
+    // that is told, and not written out
     let much = b"lightning: t.tst:15: refused 24 ExpandTooMuch\n";
-    check(&rt, &plain(&text, b"", much, 121))
+    check(&rt, &plain(&doubles(rt.alloc())?, b"", much, 121))
 }
 
 // What is wrong in the expansion is told at the line of the text.

@@ -1,5 +1,6 @@
 // Rows, and calls on them.
 
+use lg_base::refusal::OutOfMemory;
 use lg_io::memory_sink::MemorySink;
 use lg_io::memory_texts::MemoryTexts;
 use lg_run::answer::{Done, status};
@@ -8,7 +9,7 @@ use std::alloc::Global;
 use std::process::Abort;
 use std::test::Fail;
 
-/// A call, the numbers of the calls on texts, out and err that fail, and what it comes to.
+/// A call, the numbers of the calls on texts, out and err that fail, how many bytes out has room for, and what it comes to.
 #[derive(Clone, Copy)]
 pub struct Row<'a> {
     pub words: &'a [&'a str],
@@ -16,6 +17,7 @@ pub struct Row<'a> {
     pub failing_reads: &'a [u64],
     pub failing_writes: &'a [u64],
     pub failing_lines: &'a [u64],
+    pub room: usize,
     pub out: &'a [u8],
     pub err: &'a [u8],
     pub status: u8,
@@ -29,6 +31,7 @@ pub fn plain<'a>(text: &'a [u8], out: &'a [u8], err: &'a [u8], status: u8) -> Ro
         failing_reads: &[],
         failing_writes: &[],
         failing_lines: &[],
+        room: 256,
         out,
         err,
         status,
@@ -82,8 +85,8 @@ fn what_is_told(done: Done) -> Told {
     }
 }
 
-/// The top call over memory. What it promises is for proofs, and of no use in a test.
-pub fn call(
+// The top call over memory. What it promises is for proofs, and of no use in a test.
+fn call(
     alloc: Global,
     words: &Vec<String>,
     texts: &mut MemoryTexts,
@@ -94,36 +97,95 @@ pub fn call(
 }
 
 // The words of a call.
-fn words_of(rt: &(impl AllocGlobal + Abort), row: &Row<'_>) -> Result<Vec<String>, Fail> {
-    let mut words = Vec::new(rt.alloc());
-    for word in row.words {
-        words.push(String::from_str(rt.alloc(), word)?)?;
+fn words_of(alloc: Global, words: &[&str]) -> Result<Vec<String>, OutOfMemory> {
+    let mut list = Vec::new(alloc);
+    for word in words {
+        list.push(String::from_str(alloc, word)?)?;
     }
-    Ok(words)
+    Ok(list)
+}
+
+// The texts of a call: its own alone.
+fn texts_of(alloc: Global, row: &Row<'_>) -> Result<MemoryTexts, OutOfMemory> {
+    let mut texts = MemoryTexts::new(alloc, row.failing_reads)?;
+    match texts.add("t.tst", row.text) {
+        Ok(()) => Ok(texts),
+        Err(OutOfMemory) => Err(OutOfMemory),
+    }
+}
+
+/// Makes a call over these texts.
+pub fn call_over(
+    alloc: Global,
+    words: &[&str],
+    texts: &mut MemoryTexts,
+    out: &mut MemorySink,
+    err: &mut MemorySink,
+) -> Result<Told, OutOfMemory> {
+    let words = words_of(alloc, words)?;
+    Ok(call(alloc, &words, texts, out, err))
+}
+
+/// Makes the call of a row, and gives all that it gives.
+pub fn run_whole(
+    alloc: Global,
+    row: &Row<'_>,
+    out: &mut MemorySink,
+    err: &mut MemorySink,
+) -> Result<Done, OutOfMemory> {
+    let words = words_of(alloc, row.words)?;
+    let mut texts = texts_of(alloc, row)?;
+    Ok(lightning(alloc, &words, &mut texts, out, err))
+}
+
+/// Makes the call of a row.
+pub fn run(
+    alloc: Global,
+    row: &Row<'_>,
+    out: &mut MemorySink,
+    err: &mut MemorySink,
+) -> Result<Told, OutOfMemory> {
+    let mut texts = texts_of(alloc, row)?;
+    call_over(alloc, row.words, &mut texts, out, err)
+}
+
+// What is other than a row says.
+fn other(row: &Row<'_>, status: u8, out: &[u8], err: &[u8]) -> Option<&'static str> {
+    if err != row.err {
+        Some("another line on the standard error")
+    } else if out != row.out {
+        Some("other bytes")
+    } else if status != row.status {
+        Some("another status")
+    } else {
+        None
+    }
+}
+
+// Makes the call of a row, and tells what comes of it that is other than the row says.
+fn difference(alloc: Global, row: &Row<'_>) -> Result<Option<&'static str>, OutOfMemory> {
+    let mut out = MemorySink::new(alloc, row.room, row.failing_writes)?;
+    let mut err = MemorySink::new(alloc, 256, row.failing_lines)?;
+    let told = run(alloc, row, &mut out, &mut err)?;
+    Ok(other(row, told.status, out.bytes(), err.bytes()))
 }
 
 /// Makes the call of a row, and compares what it comes to.
 pub fn check(rt: &(impl AllocGlobal + Abort), row: &Row<'_>) -> Result<(), Fail> {
-    let words = words_of(rt, row)?;
-    let mut texts = MemoryTexts::new(rt.alloc(), row.failing_reads)?;
-    texts.add("t.tst", row.text)?;
-    let mut out = MemorySink::new(rt.alloc(), 256, row.failing_writes)?;
-    let mut err = MemorySink::new(rt.alloc(), 256, row.failing_lines)?;
-    let told = call(rt.alloc(), &words, &mut texts, &mut out, &mut err);
-    assert_eq!(rt; err.bytes(), row.err);
-    assert_eq!(rt; out.bytes(), row.out);
-    assert_eq!(rt; told.status, row.status);
+    assert_eq!(rt; difference(rt.alloc(), row)?, None);
     Ok(())
+}
+
+// Whether the output of a row's call begins with that of the row.
+fn does_begin(alloc: Global, row: &Row<'_>) -> Result<bool, OutOfMemory> {
+    let mut out = MemorySink::new(alloc, 256, &[])?;
+    let mut err = MemorySink::new(alloc, 256, &[])?;
+    run(alloc, row, &mut out, &mut err)?;
+    Ok(out.bytes().starts_with(row.out))
 }
 
 /// Makes the call of a row, whose output begins with that of the row. Nothing else is compared.
 pub fn begins(rt: &(impl AllocGlobal + Abort), row: &Row<'_>) -> Result<(), Fail> {
-    let words = words_of(rt, row)?;
-    let mut texts = MemoryTexts::new(rt.alloc(), &[])?;
-    texts.add("t.tst", row.text)?;
-    let mut out = MemorySink::new(rt.alloc(), 256, &[])?;
-    let mut err = MemorySink::new(rt.alloc(), 256, &[])?;
-    let _told = call(rt.alloc(), &words, &mut texts, &mut out, &mut err);
-    assert!(rt; out.bytes().starts_with(row.out));
+    assert!(rt; does_begin(rt.alloc(), row)?);
     Ok(())
 }

@@ -3,8 +3,9 @@
 
 ghost use Rattle.std.specs.Prelude.{◌≡◌, ◌+◌, ◌<◌, ◌≤◌, ◌↔◌, ◌++◌, [], ◌∷◌, length, IsTrue};
 
+use lg_base::refusal::OutOfMemory;
 use lg_buf::*;
-use std::process::Abort;
+use std::alloc::Global;
 use std::test::Fail;
 
 #[test]
@@ -80,203 +81,274 @@ fn pad(buf: &mut CodeBuf, zeros: &[u8], count: usize) -> bool
     true
 }
 
-// the code ends with a fix at the place; what it is once the fix is patched, or None where the fix can't be
-fn patched_is<R: Abort + AllocGlobal>(
-    rt: &R,
-    kind: FixKind,
-    place: u32,
-    target: u32,
-    code: &[u8],
-    want: Option<&[u8]>,
-) -> Result<(), Fail> {
+// appends zeros and code behind them
+fn put(buf: &mut CodeBuf, zeros: &[u8], count: usize, code: &[u8]) -> bool
+    ensures { buf.new ≡ record buf.old { bytes = buf.new.bytes } }
+{
+    pad(buf, zeros, count) && buf.emit(code)
+}
+
+// patches a fix, where it lies within what was appended
+fn patch(buf: &mut CodeBuf, kind: FixKind, place: u32, target: u32) -> bool
+    ensures { buf.new ≡ record buf.old { bytes = buf.new.bytes } }
+{
+    let is_within = place as u64 + kind.size() as u64 <= buf.here() as u64;
+    is_within && buf.patch(place, kind, target)
+}
+
+// A fix with its place and its target, the code that ends with it, and what that code becomes, or None where the fix cannot be patched.
+type Patch<'a> = (FixKind, u32, u32, &'a [u8], Option<&'a [u8]>);
+
+// Whether code of zeros and the code of the fix becomes so.
+fn is_patched(alloc: Global, zeros: &[u8], row: Patch<'_>) -> Result<bool, OutOfMemory> {
+    let (kind, place, target, code, want) = row;
     let end = place.saturating_add(kind.size());
     let start = (end as usize).saturating_sub(code.len());
-    let mut buf = CodeBuf::new(rt.alloc(), end, 0, 0)?;
-    let zeros = vec![in rt.alloc(); 0u8; 0x10_0000]?;
-    assert!(rt; pad(&mut buf, zeros.as_slice(), start));
-    assert!(rt; buf.emit(code));
-    assert!(rt; place as u64 + kind.size() as u64 <= buf.here() as u64);
-    assert_eq!(rt; kind.fits(place, target), want.is_some());
-    let fits = buf.patch(place, kind, target);
-    assert_eq!(rt; fits, want.is_some());
-    let Finished { bytes, places: _ } = buf.finish();
-    let got = bytes.as_slice();
-    assert!(rt; start <= got.len());
-    assert_eq!(rt; &got[start..], want.unwrap_or(code));
-    Ok(())
+    let mut buf = CodeBuf::new(alloc, end, 0, 0)?;
+    let is_put = put(&mut buf, zeros, start, code);
+    let is_fixed = patch(&mut buf, kind, place, target);
+    let done = buf.finish();
+    let behind = done.bytes.as_slice().get(start..);
+    let agrees = kind.fits(place, target) == want.is_some() && is_fixed == want.is_some();
+    Ok(is_put && agrees && behind == Some(want.unwrap_or(code)))
 }
 
-// a word with a field: places, targets, and what the word becomes, or None where the fix can't be patched
-fn words_are<R: Abort + AllocGlobal>(
-    rt: &R,
-    kind: FixKind,
-    word: u32,
-    rows: &[(u32, u32, Option<u32>)],
-) -> Result<(), Fail> {
-    let code = word.to_le_bytes();
-    for row in rows {
-        let (place, target, want) = *row;
-        match want {
-            Some(word) => patched_is(rt, kind, place, target, &code, Some(&word.to_le_bytes()))?,
-            None => patched_is(rt, kind, place, target, &code, None)?,
+// The number of the first row with another answer.
+fn first_other(alloc: Global, rows: &[Patch<'_>]) -> Result<Option<usize>, OutOfMemory> {
+    let zeros = vec![in alloc; 0u8; 0x10_0000]?;
+    for (number, row) in rows.iter().enumerate() {
+        if !is_patched(alloc, &zeros, *row)? {
+            return Ok(Some(number));
         }
     }
-    Ok(())
+    Ok(None)
 }
 
-#[test]
-fn reaches_on_riscv64(rt: HostRuntime) -> Result<(), Fail> {
-    // beq x5, x6; jal x1
-    let branches = [
-        (4096, 0, Some(0x8062_8063)),
-        (4, 4098, Some(0x7e62_8fe3)),
-        (4100, 2, None),
-        (4, 4100, None),
-        (4, 7, None),
-    ];
-    words_are(&rt, FixKind::RvBranch, 0x0062_8063, &branches)?;
-    let jumps = [
-        (1_048_576, 0, Some(0x8000_00ef)),
-        (0, 1_048_574, Some(0x7fff_f0ef)),
-        (1_048_578, 0, None),
-        (0, 1_048_576, None),
-    ];
-    words_are(&rt, FixKind::RvJal, 0x0000_00ef, &jumps)
-}
-
-#[test]
-fn reaches_an_address_on_riscv64(rt: HostRuntime) -> Result<(), Fail> {
-    let pair = [0xb7, 0x02, 0x00, 0x00, 0x93, 0x82, 0x02, 0x00];
-    patched_is(
-        &rt,
+// beq x5, x6; jal x1; lui and addi of x5
+const RISCV64: &[Patch<'static>] = &[
+    (
+        FixKind::RvBranch,
+        4096,
+        0,
+        &[0x63, 0x80, 0x62, 0x00],
+        Some(&[0x63, 0x80, 0x62, 0x80]),
+    ),
+    (
+        FixKind::RvBranch,
+        4,
+        4098,
+        &[0x63, 0x80, 0x62, 0x00],
+        Some(&[0xe3, 0x8f, 0x62, 0x7e]),
+    ),
+    (FixKind::RvBranch, 4100, 2, &[0x63, 0x80, 0x62, 0x00], None),
+    (FixKind::RvBranch, 4, 4100, &[0x63, 0x80, 0x62, 0x00], None),
+    (FixKind::RvBranch, 4, 7, &[0x63, 0x80, 0x62, 0x00], None),
+    (
+        FixKind::RvJal,
+        1_048_576,
+        0,
+        &[0xef, 0x00, 0x00, 0x00],
+        Some(&[0xef, 0x00, 0x00, 0x80]),
+    ),
+    (
+        FixKind::RvJal,
+        0,
+        1_048_574,
+        &[0xef, 0x00, 0x00, 0x00],
+        Some(&[0xef, 0xf0, 0xff, 0x7f]),
+    ),
+    (
+        FixKind::RvJal,
+        1_048_578,
+        0,
+        &[0xef, 0x00, 0x00, 0x00],
+        None,
+    ),
+    (
+        FixKind::RvJal,
+        0,
+        1_048_576,
+        &[0xef, 0x00, 0x00, 0x00],
+        None,
+    ),
+    (
         FixKind::RvLuiAddi,
         4,
         0,
-        &pair,
+        &[0xb7, 0x02, 0x00, 0x00, 0x93, 0x82, 0x02, 0x00],
         Some(&[0xb7, 0x02, 0x00, 0x10, 0x93, 0x82, 0x02, 0x00]),
-    )?;
-    patched_is(
-        &rt,
+    ),
+    (
         FixKind::RvLuiAddi,
         4,
         0x800,
-        &pair,
+        &[0xb7, 0x02, 0x00, 0x00, 0x93, 0x82, 0x02, 0x00],
         Some(&[0xb7, 0x12, 0x00, 0x10, 0x93, 0x82, 0x02, 0x80]),
-    )?;
-    patched_is(
-        &rt,
+    ),
+    (
         FixKind::RvLuiAddi,
         4,
         0x6fff_f7ff,
-        &pair,
+        &[0xb7, 0x02, 0x00, 0x00, 0x93, 0x82, 0x02, 0x00],
         Some(&[0xb7, 0xf2, 0xff, 0x7f, 0x93, 0x82, 0xf2, 0x7f]),
-    )?;
-    patched_is(&rt, FixKind::RvLuiAddi, 4, 0x6fff_f800, &pair, None)
-}
-
-#[test]
-fn reaches_on_aarch64(rt: HostRuntime) -> Result<(), Fail> {
-    // bl; b.ne
-    let calls = [
-        (4, 134_217_728, Some(0x95ff_ffff)),
-        (4, 134_217_732, None),
-        (4, 10, None),
-        // 134,217,728 bytes back
-        (134_217_728, 0, Some(0x9600_0000)),
-    ];
-    words_are(&rt, FixKind::A64Branch26, 0x9400_0000, &calls)?;
-    assert!(rt; !FixKind::A64Branch26.fits(134_217_732, 0));
-    let branches = [
-        (1_048_576, 0, Some(0x5480_0001)),
-        (0, 1_048_572, Some(0x547f_ffe1)),
-        (1_048_580, 0, None),
-        (0, 1_048_576, None),
-    ];
-    words_are(&rt, FixKind::A64Cond19, 0x5400_0001, &branches)
-}
-
-#[test]
-fn reaches_an_address_on_aarch64(rt: HostRuntime) -> Result<(), Fail> {
-    let pair = [0x09, 0x00, 0x80, 0xd2, 0x09, 0x00, 0xa0, 0xf2];
-    patched_is(
-        &rt,
-        FixKind::A64MovPair,
+    ),
+    (
+        FixKind::RvLuiAddi,
         4,
-        0,
-        &pair,
-        Some(&[0x09, 0x00, 0x80, 0xd2, 0x09, 0x00, 0xa2, 0xf2]),
-    )?;
-    patched_is(
-        &rt,
-        FixKind::A64MovPair,
-        4,
-        0xefff_ffff,
-        &pair,
-        Some(&[0xe9, 0xff, 0x9f, 0xd2, 0xe9, 0xff, 0xbf, 0xf2]),
-    )?;
-    patched_is(&rt, FixKind::A64MovPair, 4, 0xf000_0000, &pair, None)
-}
+        0x6fff_f800,
+        &[0xb7, 0x02, 0x00, 0x00, 0x93, 0x82, 0x02, 0x00],
+        None,
+    ),
+];
 
 #[test]
-fn reaches_on_x86_64(rt: HostRuntime) -> Result<(), Fail> {
-    let jmp8 = [0xeb, 0x00];
-    patched_is(&rt, FixKind::X86Rel8, 127, 0, &jmp8, Some(&[0xeb, 0x80]))?;
-    patched_is(&rt, FixKind::X86Rel8, 1, 129, &jmp8, Some(&[0xeb, 0x7f]))?;
-    patched_is(&rt, FixKind::X86Rel8, 128, 0, &jmp8, None)?;
-    patched_is(&rt, FixKind::X86Rel8, 1, 130, &jmp8, None)?;
-    let jmp32 = [0xe9, 0x00, 0x00, 0x00, 0x00];
-    patched_is(
-        &rt,
-        FixKind::X86Rel32,
-        1,
-        0,
-        &jmp32,
-        Some(&[0xe9, 0xfb, 0xff, 0xff, 0xff]),
-    )?;
-    patched_is(
-        &rt,
-        FixKind::X86Rel32,
-        1,
-        0x8000_0004,
-        &jmp32,
-        Some(&[0xe9, 0xff, 0xff, 0xff, 0x7f]),
-    )?;
-    patched_is(&rt, FixKind::X86Rel32, 1, 0x8000_0005, &jmp32, None)?;
-    assert!(rt; !FixKind::X86Rel32.fits(0x7fff_fffd, 0));
+fn reaches_on_riscv64(rt: HostRuntime) -> Result<(), Fail> {
+    assert_eq!(rt; first_other(rt.alloc(), RISCV64)?, None);
     Ok(())
 }
 
-// 2,147,483,648 bytes back
+// bl; b.ne; movz and movk of x9. The last of the calls leads 134,217,728 bytes back.
+const AARCH64: &[Patch<'static>] = &[
+    (
+        FixKind::A64Branch26,
+        4,
+        134_217_728,
+        &[0x00, 0x00, 0x00, 0x94],
+        Some(&[0xff, 0xff, 0xff, 0x95]),
+    ),
+    (
+        FixKind::A64Branch26,
+        4,
+        134_217_732,
+        &[0x00, 0x00, 0x00, 0x94],
+        None,
+    ),
+    (FixKind::A64Branch26, 4, 10, &[0x00, 0x00, 0x00, 0x94], None),
+    (
+        FixKind::A64Branch26,
+        134_217_728,
+        0,
+        &[0x00, 0x00, 0x00, 0x94],
+        Some(&[0x00, 0x00, 0x00, 0x96]),
+    ),
+    (
+        FixKind::A64Cond19,
+        1_048_576,
+        0,
+        &[0x01, 0x00, 0x00, 0x54],
+        Some(&[0x01, 0x00, 0x80, 0x54]),
+    ),
+    (
+        FixKind::A64Cond19,
+        0,
+        1_048_572,
+        &[0x01, 0x00, 0x00, 0x54],
+        Some(&[0xe1, 0xff, 0x7f, 0x54]),
+    ),
+    (
+        FixKind::A64Cond19,
+        1_048_580,
+        0,
+        &[0x01, 0x00, 0x00, 0x54],
+        None,
+    ),
+    (
+        FixKind::A64Cond19,
+        0,
+        1_048_576,
+        &[0x01, 0x00, 0x00, 0x54],
+        None,
+    ),
+    (
+        FixKind::A64MovPair,
+        4,
+        0,
+        &[0x09, 0x00, 0x80, 0xd2, 0x09, 0x00, 0xa0, 0xf2],
+        Some(&[0x09, 0x00, 0x80, 0xd2, 0x09, 0x00, 0xa2, 0xf2]),
+    ),
+    (
+        FixKind::A64MovPair,
+        4,
+        0xefff_ffff,
+        &[0x09, 0x00, 0x80, 0xd2, 0x09, 0x00, 0xa0, 0xf2],
+        Some(&[0xe9, 0xff, 0x9f, 0xd2, 0xe9, 0xff, 0xbf, 0xf2]),
+    ),
+    (
+        FixKind::A64MovPair,
+        4,
+        0xf000_0000,
+        &[0x09, 0x00, 0x80, 0xd2, 0x09, 0x00, 0xa0, 0xf2],
+        None,
+    ),
+];
+
 #[test]
-fn reaches_far_back_on_x86_64(rt: HostRuntime) -> Result<(), Fail> {
-    patched_is(
-        &rt,
+fn reaches_on_aarch64(rt: HostRuntime) -> Result<(), Fail> {
+    assert_eq!(rt; first_other(rt.alloc(), AARCH64)?, None);
+    assert!(rt; !FixKind::A64Branch26.fits(134_217_732, 0));
+    Ok(())
+}
+
+// jmp8; jmp32, of which the last leads 2,147,483,648 bytes back; movi32 of r9
+const X86_64: &[Patch<'static>] = &[
+    (FixKind::X86Rel8, 127, 0, &[0xeb, 0x00], Some(&[0xeb, 0x80])),
+    (FixKind::X86Rel8, 1, 129, &[0xeb, 0x00], Some(&[0xeb, 0x7f])),
+    (FixKind::X86Rel8, 128, 0, &[0xeb, 0x00], None),
+    (FixKind::X86Rel8, 1, 130, &[0xeb, 0x00], None),
+    (
+        FixKind::X86Rel32,
+        1,
+        0,
+        &[0xe9, 0x00, 0x00, 0x00, 0x00],
+        Some(&[0xe9, 0xfb, 0xff, 0xff, 0xff]),
+    ),
+    (
+        FixKind::X86Rel32,
+        1,
+        0x8000_0004,
+        &[0xe9, 0x00, 0x00, 0x00, 0x00],
+        Some(&[0xe9, 0xff, 0xff, 0xff, 0x7f]),
+    ),
+    (
+        FixKind::X86Rel32,
+        1,
+        0x8000_0005,
+        &[0xe9, 0x00, 0x00, 0x00, 0x00],
+        None,
+    ),
+    (
         FixKind::X86Rel32,
         0x7fff_fffc,
         0,
         &[0xe9, 0x00, 0x00, 0x00, 0x00],
         Some(&[0xe9, 0x00, 0x00, 0x00, 0x80]),
-    )
-}
-
-#[test]
-fn reaches_an_address_on_x86_64(rt: HostRuntime) -> Result<(), Fail> {
-    let movi32 = [0x41, 0xb9, 0x00, 0x00, 0x00, 0x00];
-    patched_is(
-        &rt,
+    ),
+    (
         FixKind::X86Abs32,
         2,
         0,
-        &movi32,
+        &[0x41, 0xb9, 0x00, 0x00, 0x00, 0x00],
         Some(&[0x41, 0xb9, 0x00, 0x00, 0x00, 0x10]),
-    )?;
-    patched_is(
-        &rt,
+    ),
+    (
         FixKind::X86Abs32,
         2,
         0xefff_ffff,
-        &movi32,
+        &[0x41, 0xb9, 0x00, 0x00, 0x00, 0x00],
         Some(&[0x41, 0xb9, 0xff, 0xff, 0xff, 0xff]),
-    )?;
-    patched_is(&rt, FixKind::X86Abs32, 2, 0xf000_0000, &movi32, None)
+    ),
+    (
+        FixKind::X86Abs32,
+        2,
+        0xf000_0000,
+        &[0x41, 0xb9, 0x00, 0x00, 0x00, 0x00],
+        None,
+    ),
+];
+
+#[test]
+fn reaches_on_x86_64(rt: HostRuntime) -> Result<(), Fail> {
+    assert_eq!(rt; first_other(rt.alloc(), X86_64)?, None);
+    assert!(rt; !FixKind::X86Rel32.fits(0x7fff_fffd, 0));
+    Ok(())
 }

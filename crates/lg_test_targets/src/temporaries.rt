@@ -39,51 +39,75 @@ fn choices(target: Target, needs: &[Need], staged: u32) -> Option<(Choice, Optio
     }
 }
 
+// Needs on a target with so many staged arguments, and what is chosen for the first, and for the second, if there is one.
+type Chosen = (Target, &'static [Need], u32, (Choice, Option<Choice>));
+
+const CHOSEN: &[Chosen] = &[
+    (Target::Riscv64, &[Need::Any], 0, (Choice::Free(17), None)),
+    (Target::X86_64, &[Need::Any], 0, (Choice::Free(9), None)),
+    (
+        Target::Aarch64,
+        &[Need::Any],
+        8,
+        (Choice::Spill { reg: 10, slot: 0 }, None),
+    ),
+    // rax is the node's own, and rcx is staged
+    (
+        Target::X86_64,
+        &[Need::Only(0), Need::Only(1)],
+        4,
+        (Choice::Own(0), Some(Choice::Spill { reg: 1, slot: 0 })),
+    ),
+    (
+        Target::X86_64,
+        &[Need::Any, Need::Only(9)],
+        0,
+        (Choice::Free(8), Some(Choice::Free(9))),
+    ),
+];
+
+fn is_chosen(chosen: &Chosen) -> bool {
+    let (target, needs, staged, wanted) = *chosen;
+    needs.len() <= 3 && choices(target, needs, staged) == Some(wanted)
+}
+
+fn are_chosen() -> bool {
+    for chosen in CHOSEN {
+        if !is_chosen(chosen) {
+            return false;
+        }
+    }
+    true
+}
+
 #[test]
 fn chooses_in_the_order(rt: HostRuntime) {
-    let any = [Need::Any];
-    assert_eq!(rt;
-        choices(Target::Riscv64, &any, 0),
-        Some((Choice::Free(17), None))
-    );
-    assert_eq!(rt;
-        choices(Target::X86_64, &any, 0),
-        Some((Choice::Free(9), None))
-    );
-    assert_eq!(rt;
-        choices(Target::Aarch64, &any, 8),
-        Some((Choice::Spill { reg: 10, slot: 0 }, None))
-    );
-    // rax is the node's own, and rcx is staged
-    let only = [Need::Only(0), Need::Only(1)];
-    let spilled = Choice::Spill { reg: 1, slot: 0 };
-    assert_eq!(rt;
-        choices(Target::X86_64, &only, 4),
-        Some((Choice::Own(0), Some(spilled)))
-    );
-    let both = [Need::Any, Need::Only(9)];
-    assert_eq!(rt;
-        choices(Target::X86_64, &both, 0),
-        Some((Choice::Free(8), Some(Choice::Free(9))))
-    );
+    assert!(rt; are_chosen());
+}
+
+fn are_choices_held() -> bool {
+    let list = [Choice::Free(9), Choice::Own(0)];
+    let staged = Staged::of(&[0, 5]);
+    let is_staged = staged.has(5) && !staged.has(1) && staged.len() == 2;
+    is_staged && Choices::of(&list).as_slice() == list.as_slice()
 }
 
 #[test]
 fn holds_choices_and_staged_arguments(rt: HostRuntime) {
-    let list = [Choice::Free(9), Choice::Own(0)];
-    assert_eq!(rt; Choices::of(&list).as_slice(), list.as_slice());
-    let staged = Staged::of(&[0, 5]);
-    assert!(rt; staged.has(5) && !staged.has(1) && staged.len() == 2);
+    assert!(rt; are_choices_held());
+}
+
+fn is_convention_known() -> bool {
+    let abi = Abi::of(Target::X86_64);
+    let registers = (abi.result(), abi.portable(Reg::V0), abi.portable(Reg::Fp));
+    registers == (0, 3, 5)
+        && abi.argument(5) == ArgPlace::Reg(9)
+        && abi.argument(6) == ArgPlace::Stack(0)
+        && abi.kept(12)
+        && !abi.kept(11)
 }
 
 #[test]
 fn knows_the_conventions(rt: HostRuntime) {
-    let abi = Abi::of(Target::X86_64);
-    assert_eq!(rt; abi.argument(5), ArgPlace::Reg(9));
-    assert_eq!(rt; abi.argument(6), ArgPlace::Stack(0));
-    assert_eq!(rt;
-        (abi.result(), abi.portable(Reg::V0), abi.portable(Reg::Fp)),
-        (0, 3, 5)
-    );
-    assert!(rt; abi.kept(12) && !abi.kept(11));
+    assert!(rt; is_convention_known());
 }
