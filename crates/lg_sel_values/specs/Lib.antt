@@ -1,3 +1,4 @@
 pub mod Computers
+pub mod Parts
 pub mod ValueNodes
 pub mod Values

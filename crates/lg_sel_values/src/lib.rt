@@ -3,5 +3,7 @@
 
 mod extensions;
 pub mod laws;
+mod parts;
 
 pub use extensions::extension;
+pub use parts::operand_in;

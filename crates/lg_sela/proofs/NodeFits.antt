@@ -29,7 +29,8 @@ use Rattle.lg_sela_items.specs.declared.items.Item.{Item}
 use Rattle.lg_sela_memory.proofs.FitLemmas.{memory-items-fit}
 use Rattle.lg_sela_memory.proofs.WithinLemmas.{memory-items-name, memory-items-stay}
 use Rattle.lg_sela_values.proofs.ValueFitLemmas.{value-items-fit, value-items-name, value-items-stay}
-use Rattle.lg_sela_values.specs.ValueItems.{HaveSlots, value_items}
+use Rattle.lg_sel_values.specs.Parts.{HaveSlots}
+use Rattle.lg_sela_values.specs.ValueItems.{value_items}
 use Rattle.lg_temp.proofs.ChoiceLemmas.{choices-are-for}
 use Rattle.lg_temp.specs.Choices.{AreFor}
 use Rattle.lg_sela_memory.specs.Accesses.{load_code, store_code}

@@ -35,7 +35,8 @@ use Rattle.lg_sela_items.specs.declared.items.Item.{Item}
 use Rattle.lg_sela_values.specs.BinaryCode.{register_code, second_register, loaded_code, is_small, takes_small, small_code, takes_negative, negative_code, negative_form_code, small_form_code, number_form_code}
 use Rattle.lg_sel_values.specs.ValueNodes.{extension}
 use Rattle.lg_sela_values.specs.UnaryCode.{unary_code, retval_code}
-use Rattle.lg_sela_values.specs.ValueItems.{load_items, binary_items, wide_items, operand_in, register_in, body_items, first_taken, saved_items, value_items}
+use Rattle.lg_sel_values.specs.Parts.{operand_in, first_taken}
+use Rattle.lg_sela_values.specs.ValueItems.{load_items, binary_items, wide_items, register_in, body_items, saved_items, value_items}
 use Rattle.lg_sela_values.specs.WideCode.{wide_code, product_by_link, quotient_by_link, wide_by_link}
 use Rattle.lg_temp.specs.Abis.{register_of}
 use Rattle.lg_temp.specs.Chosen.{spills}

@@ -7,7 +7,7 @@ ghost use Rattle.lg_sela.specs.Items.{node_items};
 ghost use Rattle.lg_sel.specs.Selected.{IsFrame, AreFirst, is_pusharg};
 ghost use Rattle.lg_sela.specs.Selected.{AreChosen};
 ghost use Rattle.lg_sela_items.specs.Items.{words_in};
-ghost use Rattle.lg_sela_values.specs.ValueItems.{HaveSlots};
+ghost use Rattle.lg_sel_values.specs.Parts.{HaveSlots};
 
 use lg_buf::CodeBuf;
 use lg_live::reg_set::RegSet;

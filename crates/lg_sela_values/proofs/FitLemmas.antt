@@ -34,7 +34,8 @@ use Rattle.lg_sela_values.specs.BinaryCode.{register_code, second_register, load
 use Rattle.lg_sel_values.specs.ValueNodes.{extension}
 use Rattle.lg_sela_values.specs.UnaryCode.{unary_code, retval_code}
 use Rattle.lg_sela_values.specs.WideCode.{product_by_link, quotient_by_link, wide_code, wide_by_link}
-use Rattle.lg_sela_values.specs.ValueItems.{load_items, binary_items, wide_items, register_for, register_in, operand_in, body_items}
+use Rattle.lg_sel_values.specs.Parts.{register_for, operand_in}
+use Rattle.lg_sela_values.specs.ValueItems.{load_items, binary_items, wide_items, register_in, body_items}
 
 -- ---- two registers
 register-good : (o : BinaryOp) (d a b : ℕ) → Fine d → a < 32 → b < 32 → AreGood (register_code o d a b)
@@ -188,7 +189,7 @@ wide-items-good o d e a (operand.Host name) h i k = behind-good link (operand.Ho
 wide-items-good o d e a (operand.Label l) h i k = behind-good link (operand.Label l) (wide_by_link o d e a) link-fine (link-good o d e a h i k)
 wide-items-good o d e a (operand.Slot j) h i k = behind-good link (operand.Slot j) (wide_by_link o d e a) link-fine (link-good o d e a h i k)
 
-register-fine : (x : Operand) → Fine (register_for x)
+register-fine : (x : Operand) → Fine (register_for Aarch64 x)
 register-fine (operand.Reg r) = let l = register-small r in (omega (arith, l), portable r)
 register-fine (operand.Number v) = (omega arith, refl)
 register-fine (operand.Host name) = (omega arith, refl)

@@ -29,7 +29,8 @@ use Rattle.lg_sela_items.proofs.ItemLemmas.{names-append, names-ones}
 use Rattle.lg_sela_values.specs.BinaryCode.{register_code, second_register, number_form_code}
 use Rattle.lg_sela_values.specs.UnaryCode.{unary_code, retval_code}
 use Rattle.lg_sela_values.specs.WideCode.{wide_code, wide_by_link}
-use Rattle.lg_sela_values.specs.ValueItems.{value_needs, first_taken, load_items, binary_items, wide_items, operand_in, register_in, body_items, saved_items, value_items, HaveSlots}
+use Rattle.lg_sel_values.specs.Parts.{first_taken, operand_in, HaveSlots}
+use Rattle.lg_sela_values.specs.ValueItems.{value_needs, load_items, binary_items, wide_items, register_in, body_items, saved_items, value_items}
 use Rattle.lg_sel_nodes.specs.Operands.{NamesBelow, NameBelow}
 use Rattle.lg_sela_values.specs.ValueFits.{AreValueItems, ValueItemsFit, ValueItemsStay, ValueItemsName}
 use Rattle.lg_sela_items.specs.GoodItems.{Fine, IsGoodItem}

@@ -34,7 +34,8 @@ use Rattle.lg_sela_values.specs.BinaryCode.{register_code, second_register, load
 use Rattle.lg_sel_values.specs.ValueNodes.{extension}
 use Rattle.lg_sela_values.specs.UnaryCode.{unary_code, retval_code}
 use Rattle.lg_sela_values.specs.WideCode.{product_by_link, quotient_by_link, wide_code, wide_by_link}
-use Rattle.lg_sela_values.specs.ValueItems.{load_items, binary_items, wide_items, register_in, operand_in, body_items, saved_items}
+use Rattle.lg_sel_values.specs.Parts.{operand_in}
+use Rattle.lg_sela_values.specs.ValueItems.{load_items, binary_items, wide_items, register_in, body_items, saved_items}
 use Rattle.lg_sela_values.proofs.EmissionLemmas.{load_words}
 
 register-few : (o : BinaryOp) (d a b : ℕ) → length (register_code o d a b) ≤ 2

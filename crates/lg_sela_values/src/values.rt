@@ -1,34 +1,27 @@
 // The nodes that compute values.
 
-ghost use Rattle.std.specs.Prelude.{◌≡◌, ◌+◌, ◌<◌, ◌≤◌, [], ◌∷◌, ◌++◌, length, slice_index_or};
+ghost use Rattle.std.specs.Prelude.{◌≡◌, ◌+◌, ◌<◌, ◌≤◌, [], ◌∷◌, ◌++◌, length};
+ghost use Rattle.lg_base.specs.declared.target.Target.TheVariants.{Aarch64};
 ghost use Rattle.lg_sela_items.specs.Items.{words_in};
-ghost use Rattle.lg_sela_values.specs.ValueItems.{load_items, binary_items, wide_items, register_for, body_items, value_items, HaveSlots};
+ghost use Rattle.lg_sel_values.specs.Parts.{register_for, HaveSlots};
+ghost use Rattle.lg_sela_values.specs.ValueItems.{load_items, binary_items, wide_items, body_items, value_items};
 
 use crate::binary::{number_form_code, register_code, second_register};
 use crate::unary::{retval_code, unary_code};
 use crate::wide::{wide_by_link, wide_code};
 use lg_op::{BinaryOp, Label, Node, Op, Operand, PlainOp, Reg, WideOp};
 use lg_sel_items::Items;
+use lg_sel_values::operand_in;
 use lg_sela_items::{Item, LINK, put_number, register_of, restore, save};
 use lg_temp::choice::{Choice, Choices};
 
 // The register of an operand that is one, and else 0.
 fn register_for(operand: Operand) -> u8
-    ensures { result ≡ register_for operand }
+    ensures { result ≡ register_for Aarch64 operand }
 {
     match operand {
         Operand::Reg(reg) => register_of(reg),
         _ => 0,
-    }
-}
-
-// An operand by its place, and the number 0 where there is none.
-fn operand_in(operands: &[Operand], index: usize) -> Operand
-    ensures { result ≡ slice_index_or operands.now index (Operand.Number 0) }
-{
-    match operands.get(index) {
-        Some(operand) => *operand,
-        None => Operand::Number(0),
     }
 }
 

@@ -30,7 +30,8 @@ use Rattle.lg_selr_items.proofs.ItemLemmas.{names-ones}
 use Rattle.lg_selr_items.proofs.WithinLemmas.{portable}
 use Rattle.lg_selr_memory.specs.Accesses.{link, Place, at_link, indexed, place_of, high_row, lower_bytes, higher_bytes, load_at, store_at, access_needs, load_code, store_code, load_items, store_items}
 use Rattle.lg_selr_memory.specs.MemoryFits.{AreAccessItems}
-use Rattle.lg_selr_values.specs.ValueItems.{saved_items, first_taken}
+use Rattle.lg_sel_values.specs.Parts.{first_taken}
+use Rattle.lg_selr_values.specs.ValueItems.{saved_items}
 use Rattle.lg_selr_values.proofs.ValueFitLemmas.{saved-names, temporary-good}
 use Rattle.lg_temp.specs.Abis.{register_of}
 use Rattle.lg_temp.specs.Choices.{AreFor}

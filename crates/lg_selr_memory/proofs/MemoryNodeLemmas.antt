@@ -47,7 +47,7 @@ use Rattle.lg_selr_memory.proofs.LoadLemmas.{IsFor, load-does-so, load-has-code}
 use Rattle.lg_selr_memory.proofs.PushLemmas.{pushes-do, has-push-code}
 use Rattle.lg_selr_memory.proofs.StoreLemmas.{store-does-so, store-has-code}
 use Rattle.lg_selr_memory.proofs.VariableArgumentLemmas.{next-arguments-do, has-next-argument-code}
-use Rattle.lg_selr_values.specs.ValueItems.{first_taken}
+use Rattle.lg_sel_values.specs.Parts.{first_taken}
 use Rattle.lg_selr_values.proofs.TemporaryLemmas.{IsOf, temporary-apart}
 use Rattle.lg_temp.specs.Abis.{register_of}
 use Rattle.lg_temp.specs.Choices.{AreFor}

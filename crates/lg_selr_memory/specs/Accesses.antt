@@ -26,7 +26,8 @@ use Rattle.lg_sel_memory.specs.Operands.{named}
 use Rattle.lg_carry_rv.specs.Numbers.{is_short, low_part, number_code}
 use Rattle.lg_selr_items.specs.declared.items.Item.{Item}
 use Rattle.lg_selr_items.specs.Items.{ones}
-use Rattle.lg_selr_values.specs.ValueItems.{first_taken, saved_items}
+use Rattle.lg_sel_values.specs.Parts.{first_taken}
+use Rattle.lg_selr_values.specs.ValueItems.{saved_items}
 
 -- the link holds nothing that is needed behind a `prolog`, so it takes addresses
 abbrev pub link : ℕ

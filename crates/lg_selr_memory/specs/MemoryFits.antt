@@ -21,7 +21,7 @@ use Rattle.lg_selr_memory.specs.PushCode.{push_code}
 use Rattle.lg_selr_memory.specs.VariableArgumentCode.{next_argument_code}
 use Rattle.lg_temp.specs.Choices.{AreFor}
 use Rattle.lg_temp.specs.Chosen.{around}
-use Rattle.lg_selr_values.specs.ValueItems.{HaveSlots}
+use Rattle.lg_sel_values.specs.Parts.{HaveSlots}
 use Rattle.lg_temp.specs.declared.choice.Choice.{Choice}
 
 -- the registers that the items write: none that is outside of the conventions, with the choices for the needs of a load or a store

@@ -28,7 +28,7 @@ use Rattle.lg_selr_memory.specs.Accesses.{access_needs, load_code, store_code}
 use Rattle.lg_selr_memory.specs.ArgumentCode.{rv_argument}
 use Rattle.lg_selr_memory.specs.PushCode.{rv_push}
 use Rattle.lg_selr_memory.specs.VariableArgumentCode.{rv_next_argument}
-use Rattle.lg_selr_values.specs.ValueItems.{first_taken}
+use Rattle.lg_sel_values.specs.Parts.{first_taken}
 use Rattle.lg_temp.specs.Choices.{AreFor}
 use Rattle.lg_temp.specs.Chosen.{around}
 use Rattle.lg_temp.specs.declared.choice.Choice.{Choice}

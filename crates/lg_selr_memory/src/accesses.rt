@@ -4,7 +4,7 @@ ghost use Rattle.std.specs.Prelude.{◌≡◌, ◌+◌, ◌*◌, ◌≤◌, [], 
 ghost use Rattle.lg_selr_items.specs.Items.{ones, words_in};
 ghost use Rattle.lg_sel_memory.specs.Accesses.{address_of};
 ghost use Rattle.lg_selr_memory.specs.Accesses.{load_row, high_row, at_register, indexed, place_of, lower_bytes, higher_bytes, load_at, store_at, load_code, store_code, load_items, store_items};
-ghost use Rattle.lg_selr_values.specs.ValueItems.{HaveSlots};
+ghost use Rattle.lg_sel_values.specs.Parts.{HaveSlots};
 
 use crate::operands::register;
 use lg_op::{Addressing, Node, Operand, StoreType, ValueType};

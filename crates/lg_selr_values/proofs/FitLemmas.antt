@@ -27,7 +27,8 @@ use Rattle.lg_selr_values.specs.CarriedCode.{carried_code}
 use Rattle.lg_sel_values.specs.ValueNodes.{extension}
 use Rattle.lg_selr_values.specs.UnaryCode.{more_bytes_code, swapped_code, unary_code, retval_code}
 use Rattle.lg_selr_values.specs.WideCode.{wide_code}
-use Rattle.lg_selr_values.specs.ValueItems.{load_items, binary_items, second_items, carried_items, wide_items, operation_items, register_for, register_in, operand_in, body_items}
+use Rattle.lg_sel_values.specs.Parts.{register_for, operand_in}
+use Rattle.lg_selr_values.specs.ValueItems.{load_items, binary_items, second_items, carried_items, wide_items, operation_items, register_in, body_items}
 use Rattle.lg_carry_rv.specs.Numbers.{low_part, number_code}
 use Rattle.lg_rv.specs.declared.instruction.Instr.{Instr}
 use Rattle.lg_rv.specs.declared.instruction.Instr.TheVariants.{Imm}
@@ -190,7 +191,7 @@ operation-good o u d a x g h k = by (is_carried o)
     by true = items-good (second_items x) (ones (carried_code o u d a)) (second-good x) (ones-good (carried_code o u d a) (carried-good o u d a g h k))
     by false = binary-good o d a x h k
 
-register-fine : (x : Operand) → Fine (register_for x)
+register-fine : (x : Operand) → Fine (register_for Riscv64 x)
 register-fine (operand.Reg r) = (register-small r, portable r)
 register-fine (operand.Number v) = (omega arith, refl)
 register-fine (operand.Host name) = (omega arith, refl)

@@ -18,7 +18,7 @@ use Rattle.lg_carry_rv.specs.RvRows.{can_save}
 use Rattle.lg_carry_rv.proofs.IsaLemmas.{tried-saved}
 use Rattle.lg_sel_nodes.specs.Straight.{is_taken}
 use Rattle.lg_sel_nodes.proofs.RegisterLemmas.{stands-for, number-few, numbered-at}
-use Rattle.lg_selr_values.specs.ValueItems.{first_taken}
+use Rattle.lg_sel_values.specs.Parts.{first_taken}
 
 -- a register of the node
 abbrev pub IsOf : Node → Reg → Type 0

@@ -31,7 +31,8 @@ use Rattle.lg_selr_values.specs.BinaryCode.{register_code, number_form_code}
 use Rattle.lg_selr_values.specs.CarriedCode.{carried_code}
 use Rattle.lg_selr_values.specs.UnaryCode.{unary_code, retval_code}
 use Rattle.lg_selr_values.specs.WideCode.{wide_code}
-use Rattle.lg_selr_values.specs.ValueItems.{value_needs, first_taken, load_items, binary_items, second_items, carried_items, wide_items, operation_items, operand_in, register_in, body_items, saved_items, value_items, HaveSlots}
+use Rattle.lg_sel_values.specs.Parts.{first_taken, operand_in, HaveSlots}
+use Rattle.lg_selr_values.specs.ValueItems.{value_needs, load_items, binary_items, second_items, carried_items, wide_items, operation_items, register_in, body_items, saved_items, value_items}
 use Rattle.lg_sel_nodes.specs.Operands.{NamesBelow, NameBelow}
 use Rattle.lg_selr_values.specs.ValueFits.{AreValueItems, ValueItemsFit, ValueItemsStay, ValueItemsName}
 use Rattle.lg_selr_items.specs.GoodItems.{Fine, IsGoodItem}

@@ -31,7 +31,8 @@ use Rattle.lg_selr_values.specs.CarriedCode.{carried_code}
 use Rattle.lg_sel_values.specs.ValueNodes.{extension}
 use Rattle.lg_selr_values.specs.UnaryCode.{unary_code, retval_code}
 use Rattle.lg_selr_values.specs.WideCode.{wide_code}
-use Rattle.lg_selr_values.specs.ValueItems.{load_items, binary_items, second_items, carried_items, wide_items, operation_items, register_in, operand_in, body_items, saved_items}
+use Rattle.lg_sel_values.specs.Parts.{operand_in}
+use Rattle.lg_selr_values.specs.ValueItems.{load_items, binary_items, second_items, carried_items, wide_items, operation_items, register_in, body_items, saved_items}
 use Rattle.lg_selr_values.proofs.EmissionLemmas.{number_few, load_words, second_words}
 
 register-few : (o : BinaryOp) (d a b : ℕ) → length (register_code o d a b) ≤ 2

@@ -1,5 +1,5 @@
 -- The items of the nodes that compute values.
-use Rattle.std.specs.Prelude.{ℕ, pos, List, [], ◌∷◌, ◌++◌, slice_index_or, ◌<◌, ⊤, if◌then◌else◌}
+use Rattle.std.specs.Prelude.{ℕ, pos, List, [], ◌∷◌, ◌++◌, if◌then◌else◌}
 use Rattle.lg_base.specs.HostNames.{host_address}
 use Rattle.lg_base.specs.declared.target.Target.TheVariants.{Riscv64}
 use Rattle.lg_op.specs.declared.op.Op.{Op}
@@ -20,9 +20,9 @@ use Rattle.lg_temp.specs.declared.choice.Need.TheVariants.{Any}
 use Rattle.lg_temp.specs.declared.choice.Choice.{Choice}
 use Rattle.lg_temp.specs.declared.choice.Choice.TheVariants.{Free, Own, Spill}
 use Rattle.lg_temp.specs.Abis.{register_of}
-use Rattle.lg_temp.specs.Chosen.{taken_by}
 use Rattle.lg_carry_rv.specs.Numbers.{number_code}
 use Rattle.lg_carry_rv.specs.RvRows.{slot_offset}
+use Rattle.lg_sel_values.specs.Parts.{operand_in, register_for, first_taken}
 use Rattle.lg_selr_items.specs.declared.items.Item.{Item}
 use Rattle.lg_selr_items.specs.declared.items.Item.TheVariants.{One, Address}
 use Rattle.lg_selr_items.specs.Items.{ones}
@@ -36,11 +36,6 @@ abbrev pub value_needs : Op → List Need
 value_needs (op.Binary binary.Addx last) = Any ∷ []
 value_needs (op.Binary binary.Subx last) = Any ∷ []
 value_needs o = []
-
--- the register of the first choice
-abbrev pub first_taken : List Choice → ℕ
-first_taken [] = 0
-first_taken (choice ∷ choices) = taken_by choice
 
 -- the word of an immediate, into register t
 abbrev pub load_items : ℕ → Operand → List Item
@@ -71,17 +66,9 @@ wide_items o d e a x = load_items 31 x ++ ones (wide_code o d e a 31)
 abbrev pub operation_items : BinaryOp → ℕ → ℕ → ℕ → Operand → List Item
 operation_items o u d a x = if is_carried o then carried_items o u d a x else binary_items o d a x
 
--- an operand; nodes have those of their form
-abbrev pub operand_in : List Operand → ℕ → Operand
-operand_in xs i = slice_index_or xs i (operand.Number 0)
-
--- the register that stands for an operand that is one
-abbrev pub register_for : Operand → ℕ
-register_for (operand.Reg r) = register_of Riscv64 r
-register_for x = 0
-
+-- the register of an operand, by its place
 abbrev pub register_in : List Operand → ℕ → ℕ
-register_in xs i = register_for (operand_in xs i)
+register_in xs i = register_for Riscv64 (operand_in xs i)
 
 -- those of an operation with its operands, where u is the temporary
 abbrev pub body_items : Op → List Operand → ℕ → List Item
@@ -102,9 +89,3 @@ saved_items (Spill r k ∷ choices) body = One (Store Sd 8 r (slot_offset k)) �
 
 abbrev pub value_items : Node → List Choice → List Item
 value_items n choices = saved_items choices (body_items n.op n.operands (first_taken choices))
-
--- the slots are those of a frame
-abbrev pub HaveSlots : List Choice → Type 0
-HaveSlots [] = ⊤
-HaveSlots (Spill r k ∷ choices) = (k < 5) × HaveSlots choices
-HaveSlots (choice ∷ choices) = HaveSlots choices

@@ -32,7 +32,8 @@ use Rattle.lg_selx_memory.proofs.FitLemmas.{memory-items-fit}
 use Rattle.lg_selx_memory.proofs.WithinLemmas.{memory-items-name, memory-items-stay}
 use Rattle.lg_selx_values.proofs.ChoiceLemmas.{choices-have-slots}
 use Rattle.lg_selx_values.proofs.ValueFitLemmas.{value-items-fit, value-items-name, value-items-stay}
-use Rattle.lg_selx_values.specs.ValueItems.{HaveSlots, value_items}
+use Rattle.lg_sel_values.specs.Parts.{HaveSlots}
+use Rattle.lg_selx_values.specs.ValueItems.{value_items}
 use Rattle.lg_temp.proofs.ChoiceLemmas.{choices-are-for}
 use Rattle.lg_temp.specs.Choices.{AreFor}
 use Rattle.lg_selx_memory.specs.Accesses.{load_code, store_code}

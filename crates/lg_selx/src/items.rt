@@ -7,7 +7,7 @@ ghost use Rattle.lg_selx.specs.Items.{node_items};
 ghost use Rattle.lg_sel.specs.Selected.{IsFrame, AreFirst, is_pusharg};
 ghost use Rattle.lg_selx.specs.Selected.{AreChosen};
 ghost use Rattle.lg_selx_items.specs.Items.{words_in};
-ghost use Rattle.lg_selx_values.specs.ValueItems.{HaveSlots};
+ghost use Rattle.lg_sel_values.specs.Parts.{HaveSlots};
 
 use lg_buf::CodeBuf;
 use lg_live::reg_set::RegSet;

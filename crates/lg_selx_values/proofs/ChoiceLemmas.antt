@@ -14,7 +14,7 @@ use Rattle.lg_temp.specs.Choices.{AreFor}
 use Rattle.lg_selx_items.specs.GoodItems.{Fine}
 use Rattle.lg_selx_values.specs.Needs.{value_needs}
 use Rattle.lg_selx_values.specs.ValueFits.{ChoicesHaveSlots}
-use Rattle.lg_selx_values.specs.ValueItems.{HaveSlots}
+use Rattle.lg_sel_values.specs.Parts.{HaveSlots}
 
 -- needs that name registers
 abbrev pub AreNamed : List Need → Type 0

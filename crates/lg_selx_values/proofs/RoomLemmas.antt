@@ -10,7 +10,8 @@ use Rattle.lg_selx_items.specs.declared.items.Item.{Item}
 use Rattle.lg_selx_items.specs.declared.items.Item.TheVariants.{One}
 use Rattle.lg_selx_items.specs.Items.{words_in}
 use Rattle.lg_selx_items.proofs.ItemLemmas.{words_append}
-use Rattle.lg_selx_values.specs.ValueItems.{operand_in, body_items, restore, saved_items, HaveSlots}
+use Rattle.lg_sel_values.specs.Parts.{operand_in, HaveSlots}
+use Rattle.lg_selx_values.specs.ValueItems.{body_items, restore, saved_items}
 use Rattle.lg_selx_values.proofs.RowLemmas.{HoldsOfRows}
 use Rattle.lg_selx_values.proofs.ValueFitLemmas.{any-number, body-are}
 

@@ -37,7 +37,8 @@ use Rattle.lg_selx_items.proofs.WithinLemmas.{In, portable}
 use Rattle.lg_selx_values.specs.UnaryCode.{unary_code, retval_code}
 use Rattle.lg_sel_nodes.specs.Operands.{HasWord, HaveWords, NamesBelow, NameBelow}
 use Rattle.lg_selx_values.specs.ValueFits.{ValueItemsFit, ValueItemsName, ValueItemsStay}
-use Rattle.lg_selx_values.specs.ValueItems.{load_items, binary_code, binary_number_code, binary_items, wide_items, operand_in, register_for, register_in, body_items, save, restore, saved_items, value_items}
+use Rattle.lg_sel_values.specs.Parts.{operand_in, register_for}
+use Rattle.lg_selx_values.specs.ValueItems.{load_items, binary_code, binary_number_code, binary_items, wide_items, register_in, body_items, save, restore, saved_items, value_items}
 use Rattle.lg_selx_values.specs.WideCode.{wide_code, wide_number_code}
 use Rattle.lg_selx_values.proofs.ChoiceLemmas.{AreSaved, chosen-well, slots-of}
 use Rattle.lg_selx_values.proofs.GivenLemmas.{host-small}
@@ -46,7 +47,7 @@ use Rattle.lg_selx_values.proofs.SpellingLemmas.{IsShort, rows-short, address-sh
 use Rattle.lg_selx_values.proofs.RowLemmas.{HoldsOfRows, Holds, rax-fine, binary-made, binary-number-made, unary-made, retval-made, wide-made, wide-number-made}
 
 -- ---- registers and numbers of operands
-register-fine : (x : Operand) → Fine (register_for x)
+register-fine : (x : Operand) → Fine (register_for X86_64 x)
 register-fine (operand.Reg r) = ((register-portable r).small, portable r)
 register-fine (operand.Number v) = rax-fine
 register-fine (operand.Host name) = rax-fine

@@ -1,5 +1,5 @@
 -- The items of the nodes that compute values.
-use Rattle.std.specs.Prelude.{ℕ, List, [], ◌∷◌, ◌++◌, slice_index_or, ◌<◌, ⊤, if◌then◌else◌}
+use Rattle.std.specs.Prelude.{ℕ, List, [], ◌∷◌, ◌++◌, if◌then◌else◌}
 use Rattle.lg_base.specs.HostNames.{host_address}
 use Rattle.lg_base.specs.declared.target.Target.TheVariants.{X86_64}
 use Rattle.lg_op.specs.declared.op.Op.{Op}
@@ -20,6 +20,7 @@ use Rattle.lg_x86.specs.declared.instruction.LoadOp.TheVariants.{Ld64}
 use Rattle.lg_x86.specs.declared.instruction.StoreOp.TheVariants.{St64}
 use Rattle.lg_carry_x86.specs.Numbers.{number_row}
 use Rattle.lg_carry_x86.specs.X86Rows.{slot_offset}
+use Rattle.lg_sel_values.specs.Parts.{operand_in, register_for}
 use Rattle.lg_selx_items.specs.declared.items.Item.{Item}
 use Rattle.lg_selx_items.specs.declared.items.Item.TheVariants.{One, Address}
 use Rattle.lg_selx_items.specs.Items.{ones}
@@ -56,17 +57,9 @@ wide_items o frame d e a (operand.Number v) = ones (wide_number_code o frame d e
 wide_items o frame d e a (operand.Host name) = ones (wide_number_code o frame d e a (host_address name))
 wide_items o frame d e a x = []
 
--- an operand; nodes have those of their form
-abbrev pub operand_in : List Operand → ℕ → Operand
-operand_in xs i = slice_index_or xs i (operand.Number 0)
-
--- the register that stands for an operand that is one
-abbrev pub register_for : Operand → ℕ
-register_for (operand.Reg r) = register_of X86_64 r
-register_for x = 0
-
+-- the register of an operand, by its place
 abbrev pub register_in : List Operand → ℕ → ℕ
-register_in xs i = register_for (operand_in xs i)
+register_in xs i = register_for X86_64 (operand_in xs i)
 
 -- those of an operation with its operands, in a function with a frame of so many bytes
 abbrev pub body_items : ℕ → Op → List Operand → List Item
@@ -94,9 +87,3 @@ saved_items (Spill r k ∷ choices) body = One (save r k) ∷ (saved_items choic
 
 abbrev pub value_items : ℕ → Node → List Choice → List Item
 value_items frame n choices = saved_items choices (body_items frame n.op n.operands)
-
--- the slots are those of a frame
-abbrev pub HaveSlots : List Choice → Type 0
-HaveSlots [] = ⊤
-HaveSlots (Spill r k ∷ choices) = (k < 5) × HaveSlots choices
-HaveSlots (choice ∷ choices) = HaveSlots choices
