@@ -1,9 +1,5 @@
-//! The portable meaning of texts from their bytes, and tests of it: rows with what they write and how they end, worked out by hand.
+//! The portable meaning of texts from their bytes.
 #![tactic(auto)]
 
 pub mod end;
 pub mod meaning;
-#[cfg(test)]
-mod rows;
-#[cfg(test)]
-mod worked;
