@@ -1,12 +1,12 @@
 // Calls that are refused, or end otherwise.
 
-use crate::row::{Row, call_over, check, meant, plain, run_whole};
+use crate::row::{Row, call_over, check, gives_labels, meant, plain};
 use crate::texts::{first_letter, kept_registers};
 use lg_base::refusal::OutOfMemory;
 use lg_io::memory_sink::MemorySink;
 use lg_io::memory_texts::MemoryTexts;
 use lg_io::texts::Texts;
-use lg_run::answer::{Answer, Done, status};
+use lg_run::answer::{Answer, status};
 use lg_run::top::report_words;
 use std::alloc::{AllocError, Global};
 use std::process::Abort;
@@ -280,21 +280,14 @@ fn refuses_the_longest_text(rt: HostRuntime) -> Result<(), Fail> {
 // A data part with three labels.
 const LABELS: &[u8] = b".data 16 a: .c 1 b: .align 8 c: .code prolog ret epilog";
 
-// Whether a call gave the addresses of its labels.
-fn has_addresses(done: &Done) -> bool {
-    match &done.code {
-        Some(code) => {
-            code.labels().as_slice() == [0x2000_0000u64, 0x2000_0001, 0x2000_0008].as_slice()
-        }
-        None => false,
-    }
-}
+// Their addresses.
+const ADDRESSES: &[u64] = &[0x2000_0000, 0x2000_0001, 0x2000_0008];
 
 fn are_addresses_given(alloc: Global) -> Result<bool, OutOfMemory> {
     let mut out = MemorySink::new(alloc, 16, &[])?;
     let mut err = MemorySink::new(alloc, 16, &[])?;
-    let done = run_whole(alloc, &plain(LABELS, b"", b"", 0), &mut out, &mut err)?;
-    Ok(has_addresses(&done))
+    let row = plain(LABELS, b"", b"", 0);
+    gives_labels(alloc, &row, ADDRESSES, &mut out, &mut err)
 }
 
 #[test]

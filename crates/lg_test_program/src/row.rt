@@ -126,16 +126,36 @@ pub fn call_over(
     Ok(call(alloc, &words, texts, out, err))
 }
 
-/// Makes the call of a row, and gives all that it gives.
-pub fn run_whole(
+// Whether a call gave code with these addresses of labels.
+fn has_labels(done: Done, labels: &[u64]) -> bool {
+    match &done.code {
+        Some(code) => code.labels().as_slice() == labels,
+        None => false,
+    }
+}
+
+// The top call over memory, as above, and the addresses of its labels.
+fn call_has_labels(
+    alloc: Global,
+    words: &Vec<String>,
+    labels: &[u64],
+    texts: &mut MemoryTexts,
+    (out, err): (&mut MemorySink, &mut MemorySink),
+) -> bool {
+    has_labels(lightning(alloc, words, texts, out, err), labels)
+}
+
+/// Makes the call of a row, and tells whether its code has these addresses of labels.
+pub fn gives_labels(
     alloc: Global,
     row: &Row<'_>,
+    labels: &[u64],
     out: &mut MemorySink,
     err: &mut MemorySink,
-) -> Result<Done, OutOfMemory> {
+) -> Result<bool, OutOfMemory> {
     let words = words_of(alloc, row.words)?;
     let mut texts = texts_of(alloc, row)?;
-    Ok(lightning(alloc, &words, &mut texts, out, err))
+    Ok(call_has_labels(alloc, &words, labels, &mut texts, (out, err)))
 }
 
 /// Makes the call of a row.
