@@ -26,12 +26,22 @@ fn file_of(target: Target) -> &'static str {
 pub fn check_programs(rt: &(impl Files + Print + AllocGlobal), target: Target) -> io::Result<()> {
     let file = file_of(target);
     let text = fs::read_to_string(rt, file)?;
+    count_programs(rt, file, target, text.as_str())?.print(rt, file)
+}
+
+// The counts of the programs of these lines.
+fn count_programs(
+    rt: &(impl Print + AllocGlobal),
+    file: &str,
+    target: Target,
+    lines: &str,
+) -> io::Result<Counts> {
     let mut counts = Counts::new();
-    for line in text.as_str().lines() {
+    for line in lines.lines() {
         let outcome = program_outcome(rt.alloc(), target, line)?;
         counts.take(rt, file, line, &outcome)?;
     }
-    counts.print(rt, file)
+    Ok(counts)
 }
 
 fn program_outcome(alloc: Global, target: Target, line: &str) -> Result<Outcome, AllocError> {
@@ -41,27 +51,55 @@ fn program_outcome(alloc: Global, target: Target, line: &str) -> Result<Outcome,
     let Some(code) = code_of(alloc, 0, program.hex)? else {
         return Outcome::unread(alloc);
     };
-    let Some(mut cpu) = processor(alloc, target, &code, &ARGS)? else {
-        return Outcome::unread(alloc);
-    };
-    let mut out = sink(alloc)?;
-    let answer = run(&mut cpu, &mut out, program.most);
-    let found = found_outcome(alloc, &cpu, answer)?;
-    if found.as_str() == program.outcome {
-        Ok(Outcome::Agrees)
-    } else {
-        Ok(Outcome::Differs(found))
+    match found_of(alloc, target, &code, program.most)? {
+        Some(found) => Ok(compared(found, program.outcome)),
+        None => Outcome::unread(alloc),
     }
 }
 
-// how the run ends, as the evidence writes it
-fn found_outcome(alloc: Global, cpu: &Cpu, answer: CpuStep) -> Result<String, AllocError> {
-    let name = name_of(answer);
-    let steps = cpu.steps();
-    let pc = cpu.pc();
-    match answer {
-        CpuStep::Ended(status) => format!(in alloc; "{name} {status} steps={steps} pc={pc:x}"),
-        CpuStep::Fault(_) => format!(in alloc; "Fault {name} steps={steps} pc={pc:x}"),
-        CpuStep::Went | CpuStep::WriteFault => format!(in alloc; "{name} steps={steps} pc={pc:x}"),
+fn compared(found: String, wanted: &str) -> Outcome {
+    if found.as_str() == wanted {
+        Outcome::Agrees
+    } else {
+        Outcome::Differs(found)
     }
+}
+
+// how a run of at most so many steps of this code ends, and None where there is no processor for it
+fn found_of(
+    alloc: Global,
+    target: Target,
+    code: &[u8],
+    most: u64,
+) -> Result<Option<String>, AllocError> {
+    match processor(alloc, target, code, &ARGS)? {
+        Some(mut cpu) => Ok(Some(found_on(alloc, &mut cpu, most)?)),
+        None => Ok(None),
+    }
+}
+
+fn found_on(alloc: Global, cpu: &mut Cpu, most: u64) -> Result<String, AllocError> {
+    let mut out = sink(alloc)?;
+    let answer = run(cpu, &mut out, most);
+    found_outcome(alloc, cpu, answer)
+}
+
+// how a run ends, as the evidence writes it
+fn end_of(alloc: Global, answer: CpuStep) -> Result<String, AllocError> {
+    let name = name_of(answer);
+    match answer {
+        CpuStep::Ended(status) => format!(in alloc; "{name} {status}"),
+        CpuStep::Fault(_) => format!(in alloc; "Fault {name}"),
+        CpuStep::Went | CpuStep::WriteFault => String::from_str(alloc, name),
+    }
+}
+
+// and behind how many steps, and where
+fn with_place(mut end: String, steps: u64, pc: u64) -> Result<String, AllocError> {
+    write!(end, " steps={steps} pc={pc:x}")?;
+    Ok(end)
+}
+
+fn found_outcome(alloc: Global, cpu: &Cpu, answer: CpuStep) -> Result<String, AllocError> {
+    with_place(end_of(alloc, answer)?, cpu.steps(), cpu.pc())
 }

@@ -29,18 +29,44 @@ pub fn check_steps(
     target: Target,
 ) -> io::Result<()> {
     let text = fs::read_to_string(rt, file)?;
-    let alloc = rt.alloc();
-    let args = vec![in alloc; 0u8; ARGS_LEN]?;
-    let mut out = sink(alloc)?;
-    let mut counts = Counts::new();
-    if let Some(mut cpu) = processor(alloc, target, &[], &args)? {
-        cpu.store(RETURN, 8, 0);
-        for line in text.as_str().lines() {
-            let outcome = case_outcome(alloc, target, &mut cpu, &mut out, line)?;
-            counts.take(rt, file, line, &outcome)?;
-        }
+    count_steps(rt, file, target, text.as_str())?.print(rt, file)
+}
+
+// The counts of the runs of these lines.
+fn count_steps(
+    rt: &(impl Print + AllocGlobal),
+    file: &str,
+    target: Target,
+    lines: &str,
+) -> io::Result<Counts> {
+    match first_processor(rt.alloc(), target)? {
+        Some(mut cpu) => count_runs(rt, file, target, lines, &mut cpu),
+        None => Ok(Counts::new()),
     }
-    counts.print(rt, file)
+}
+
+// The processor of the runs, with an argument part of zero bytes.
+fn first_processor(alloc: Global, target: Target) -> Result<Option<Cpu>, AllocError> {
+    let args = vec![in alloc; 0u8; ARGS_LEN]?;
+    processor(alloc, target, &[], &args)
+}
+
+// The counts of the runs of these lines, one behind the other on a processor.
+fn count_runs(
+    rt: &(impl Print + AllocGlobal),
+    file: &str,
+    target: Target,
+    lines: &str,
+    cpu: &mut Cpu,
+) -> io::Result<Counts> {
+    cpu.store(RETURN, 8, 0);
+    let mut out = sink(rt.alloc())?;
+    let mut counts = Counts::new();
+    for line in lines.lines() {
+        let outcome = case_outcome(rt.alloc(), target, cpu, &mut out, line)?;
+        counts.take(rt, file, line, &outcome)?;
+    }
+    Ok(counts)
 }
 
 // How a run stands: what its last step came to, and how many instructions went.
