@@ -1,5 +1,5 @@
 #!/usr/bin/env python3
-"""The examples of docs/LANGUAGE.md as the cases of lg_test_language. Says whether crates/lg_test_language/data/cases.txt has exactly them; with --write, writes it.
+"""The examples of docs/LANGUAGE.md as cases of lg_test_calls. Says whether crates/lg_test_calls/data/language/cases.txt has exactly them; with --write, writes it.
 
 A block ```tst NAME WORDS is a text, run with these words of the command; ```out NAME STATUS what it writes (without the last line feed where its head says so), and
 ```err NAME STATUS the line on the standard error; a status that is not said is 0. A row of a table of instructions has an example that stands in the block ```frame,
@@ -12,7 +12,7 @@ import sys
 
 root = pathlib.Path(__file__).resolve().parents[2]
 page = (root / "docs" / "LANGUAGE.md").read_text()
-data = root / "crates" / "lg_test_language" / "data" / "cases.txt"
+data = root / "crates" / "lg_test_calls" / "data" / "language" / "cases.txt"
 
 blocks = re.findall(r"^```(tst|out|err|frame) ?(.*)\n((?:.*\n)*?)```$", page, re.M)
 outputs, lines, statuses = {}, {}, {}

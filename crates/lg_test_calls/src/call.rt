@@ -1,0 +1,80 @@
+// Calls of the program. What the top call promises is for proofs, and of no use here: so each function that makes it only hands on its answer.
+
+ghost use Rattle.std.specs.Prelude.{◌<◌, length, IfOk};
+
+use lg_base::refusal::OutOfMemory;
+use lg_io::memory_sink::MemorySink;
+use lg_io::memory_texts::MemoryTexts;
+use lg_io::standard::StdTexts;
+use lg_run::answer::Answer;
+use lg_run::top::lightning;
+use std::alloc::{AllocError, Global};
+use std::io::Input;
+use std::rt::Files;
+
+/// A first word, and behind it the words of a line, which has this character between them.
+pub fn words_of(
+    alloc: Global,
+    first: &str,
+    line: &str,
+    between: char,
+) -> Result<Vec<String>, AllocError>
+    ensures { IfOk result (λ words. 0 < length words.items) }
+{
+    let mut words = Vec::new(alloc);
+    words.push(String::from_str(alloc, first)?)?;
+    for word in line.split(between) {
+        if !word.is_empty() {
+            words.push(String::from_str(alloc, word)?)?;
+        }
+    }
+    Ok(words)
+}
+
+/// The words of a command: the program's name, and those of a line, with blanks between them.
+pub fn command(alloc: Global, line: &str) -> Result<Vec<String>, AllocError> {
+    words_of(alloc, "lightning", line, ' ')
+}
+
+/// The answer of a call over the real files.
+pub fn call_on_files(
+    rt: &(impl Files + Input + AllocGlobal),
+    words: &Vec<String>,
+    out: &mut MemorySink,
+    err: &mut MemorySink,
+) -> Answer {
+    let mut texts = StdTexts::new(rt);
+    lightning(rt.alloc(), words, &mut texts, out, err).answer
+}
+
+// The answer of a call over texts in memory.
+fn call_on_texts(
+    alloc: Global,
+    words: &Vec<String>,
+    texts: &mut MemoryTexts,
+    out: &mut MemorySink,
+    err: &mut MemorySink,
+) -> Answer {
+    lightning(alloc, words, texts, out, err).answer
+}
+
+// One text in memory, under its name.
+fn texts_of(alloc: Global, name: &str, text: &[u8]) -> Result<MemoryTexts, OutOfMemory> {
+    let mut texts = MemoryTexts::new(alloc, &[])?;
+    match texts.add(name, text) {
+        Ok(()) => Ok(texts),
+        Err(OutOfMemory) => Err(OutOfMemory),
+    }
+}
+
+/// The answer of a call over one text in memory, with its name.
+pub fn call_on_text(
+    alloc: Global,
+    words: &Vec<String>,
+    (name, text): (&str, &[u8]),
+    out: &mut MemorySink,
+    err: &mut MemorySink,
+) -> Result<Answer, OutOfMemory> {
+    let mut texts = texts_of(alloc, name, text)?;
+    Ok(call_on_texts(alloc, words, &mut texts, out, err))
+}

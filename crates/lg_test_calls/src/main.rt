@@ -1,0 +1,46 @@
+// What calls of the program come to. Each part has a folder of `data` with its cases: `code` compares the code of texts with their meaning, `meaning` has
+// texts whose meaning was worked out elsewhere, `examples` the texts of the folder `examples`, `language` the examples of docs/LANGUAGE.md, `modes`
+// statistics, listings and the generator's texts, and `any_text` takes any bytes for a text. `targets.txt` has a target a line. Prints what each part found.
+// The status is 0 exactly where the code of all cases agrees with their meaning.
+#![tactic(auto)]
+
+ghost use Rattle.std.specs.Prelude.{◌≡◌};
+ghost use Rattle.std.specs.Process.{exit_status};
+ghost use Rattle.lg_test_calls.specs.Ends.{status_of};
+
+mod any_text;
+mod call;
+mod code;
+mod examples;
+mod form;
+mod language;
+mod meaning;
+mod modes;
+mod outcome;
+
+use any_text::change_texts;
+use code::compare_families;
+use examples::run_examples;
+use language::run_page;
+use meaning::follow_cases;
+use modes::make_calls;
+use std::process::ExitCode;
+use std::{fs, io};
+
+// The status that the program ends with.
+fn exit_code(all: bool) -> ExitCode
+    ensures { exit_status result ≡ status_of all }
+{
+    ExitCode::from(if all { 0 } else { 1 })
+}
+
+fn main(rt: HostRuntime) -> io::Result<ExitCode> {
+    let targets = fs::read_to_string(&rt, "targets.txt")?;
+    let all = compare_families(&rt, targets.as_str())?;
+    follow_cases(&rt)?;
+    run_examples(&rt, targets.as_str())?;
+    run_page(&rt)?;
+    make_calls(&rt, targets.as_str())?;
+    change_texts(&rt)?;
+    Ok(exit_code(all))
+}
