@@ -1,11 +1,13 @@
 // Code on a processor.
 
-ghost use Rattle.std.specs.Prelude.{◌<◌, length, IfOk};
+ghost use Rattle.std.specs.Prelude.{◌<◌, ◌≤◌, length, IfOk};
+ghost use Rattle.lg_base.specs.Arguments.{most_args};
 ghost use Rattle.expression_program.specs.Compiled.{CanRun};
 
 use crate::compile::Compiled;
 use crate::failure::Failure;
 use lg_base::args::args_image;
+use lg_base::image::ArgImage;
 use lg_base::refusal::OutOfMemory;
 use lg_cpu::answer::CpuStep;
 use lg_cpu::cpu::Cpu;
@@ -38,21 +40,42 @@ fn words_of(alloc: Global, argument: &str) -> Result<Vec<String>, OutOfMemory>
     Ok(words)
 }
 
-/// Runs code with an argument, from a new processor on.
-pub fn run(alloc: Global, compiled: &Compiled, argument: &str) -> Result<Ran, Failure>
-    requires { CanRun compiled.now }
+// The argument part of a run.
+fn args_of(alloc: Global, argument: &str) -> Result<ArgImage, Failure>
+    ensures { IfOk result (λ args. length args ≤ most_args) }
 {
-    let args = args_image(alloc, &words_of(alloc, argument)?)?;
-    let mut out = MemorySink::new(alloc, ROOM, &[])?;
+    let words = words_of(alloc, argument)?;
+    Ok(args_image(alloc, &words)?)
+}
+
+// Runs code with these arguments, from a new processor on, and gives the last step's answer.
+fn run_with(
+    alloc: Global,
+    compiled: &Compiled,
+    args: &ArgImage,
+    out: &mut MemorySink,
+) -> Result<CpuStep, Failure>
+    requires code { CanRun compiled.now }
+    requires args { length args.now ≤ most_args }
+{
     let code = &compiled.code;
     let mut cpu = Cpu::new(
         alloc,
         code.target(),
         code.bytes(),
         &compiled.unit.image,
-        &args,
+        args,
         ANYTHING,
     )?;
-    let end = cpu.run(MOST_STEPS, &mut out);
+    Ok(cpu.run(MOST_STEPS, out))
+}
+
+/// Runs code with an argument.
+pub fn run(alloc: Global, compiled: &Compiled, argument: &str) -> Result<Ran, Failure>
+    requires { CanRun compiled.now }
+{
+    let args = args_of(alloc, argument)?;
+    let mut out = MemorySink::new(alloc, ROOM, &[])?;
+    let end = run_with(alloc, compiled, &args, &mut out)?;
     Ok(Ran { out, end })
 }
