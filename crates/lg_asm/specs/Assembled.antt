@@ -1,5 +1,5 @@
 -- What is kept of code, and what follows from it.
-use Rattle.std.specs.Prelude.{◌≡◌, ℕ, ◌+◌, ◌*◌, ◌^◌, ◌<◌, ◌≤◌, Bool, List, [], Ok, length, slice_index}
+use Rattle.std.specs.Prelude.{◌≡◌, ℕ, ◌+◌, ◌*◌, ◌^◌, ◌<◌, ◌≤◌, nat_le, Bool, List, [], Ok, length, slice_index}
 use Rattle.lg_base.specs.Arguments.{most_args}
 use Rattle.lg_base.specs.Layout.{code_base, most_code}
 use Rattle.lg_base.specs.declared.refusal.RefusalKind.TheVariants.{CodeFull}
@@ -11,6 +11,7 @@ use Rattle.lg_carry.specs.Carries.{Carries}
 use Rattle.lg_carry.specs.FinalNodes.{Code}
 use Rattle.lg_carry.specs.Stands.{Stands}
 use Rattle.lg_sel.specs.Targets.{processor_of}
+use Rattle.lg_sel_items.specs.Reaches.{near_size}
 use Rattle.lg_cpu.specs.Laws.{AreBytes}
 use Rattle.lg_cpu.specs.Targets.{run_from}
 use Rattle.lg_liveness.specs.Liveness.{LiveSets, AreLive}
@@ -26,13 +27,15 @@ use Rattle.lg_op.specs.Nodes.{InForm}
 use Rattle.lg_op.specs.declared.node.Node.{Node}
 use Rattle.lg_opt.specs.Rewritings.{IsTidy, CarriesAddresses, RunsAreFollowed}
 use Rattle.std.specs.List.{All}
-use Rattle.lg_asm.specs.Lowered.{code_of, ArePlaces, AreOf, AreNodesWhole, AreNodesSparing, AreNodesShort}
+use Rattle.lg_asm.specs.Lowered.{code_of, ArePlaces, AreOf, AreNodesWhole, AreNodesSparing, AreNodesShort, AreNodesAhead}
 use Rattle.lg_asm.specs.NodeChoices.{spills_in}
 
--- the target, the bytes, the final nodes with their shape, the registers that are live before and behind each, the places of the nodes and of the end, the
--- addresses of the labels, the index of the text's node from which each comes, and how many registers are saved for temporaries
+-- the target, the size of the buffer in which the code was made, the bytes, the final nodes with their shape, the registers that are live before and behind
+-- each, the places of the nodes and of the end, the addresses of the labels, the index of the text's node from which each comes, and how many registers are
+-- saved for temporaries
 pub record Assembled : Type 0 where
   pub target : Target
+  pub size : ℕ
   pub bytes : List ℕ
   pub nodes : LabelledNodes
   pub shape : TextShape
@@ -48,14 +51,15 @@ pub record ArePushed (nodes : List Node) (xs : List ℕ) (count : ℕ) : Type 0 
   pub each : (i : ℕ) → i < count → slice_index xs i ≡ pushed nodes i
   pub few : (i : ℕ) → i < count → slice_index xs i ≤ 16
 
--- the nodes are accepted and tidy; they stand at their places, between which are whole instructions with few stores, and of what leads back to a label
--- the shortest that reach it; a label that is bound at a node has the address of its place, and each node is carried, for the registers that are live
--- before it
+-- the nodes are accepted and tidy; they stand at their places, between which are whole instructions with few stores, of what leads back to a label the
+-- shortest that reach it, and of what leads ahead the near ones where the size is one in which these lead to every place, else the far ones; a label that
+-- is bound at a node has the address of its place, and each node is carried, for the registers that are live before it
 pub record IsCode (c : Assembled) : Type 0 where
   pub shape_is : IsShapeOf c.nodes c.shape
   pub tidy : IsTidy c.nodes
   pub live_are : AreLive c.nodes c.shape c.live
   pub small : length c.bytes ≤ most_code
+  pub within : length c.bytes ≤ c.size
   pub are_bytes : AreBytes c.bytes
   pub ordered : ArePlaces c.nodes c.places (length c.bytes)
   pub addresses : AreAddresses c.nodes (length c.bytes) c.labels
@@ -63,6 +67,7 @@ pub record IsCode (c : Assembled) : Type 0 where
   pub instructions : AreNodesWhole c.target (length c.nodes.nodes) c.places c.bytes
   pub sparing : AreNodesSparing c.target c.nodes c.live c.places c.bytes
   pub shortest : AreNodesShort c.target c.nodes c.places c.bytes
+  pub ahead : AreNodesAhead c.target (nat_le c.size near_size) c.nodes c.places c.bytes
   pub carried : (trash i : ℕ) → trash < 2 ^ 64 → i < length c.nodes.nodes
       → Carries (processor_of c.target c.bytes trash) (code_of c.nodes c.shape c.labels c.places) (live_at c.live.before) i
   pub saved : c.spills ≡ spills_in c.target c.nodes.nodes c.live (length c.nodes.nodes)

@@ -8,9 +8,10 @@ use Rattle.lg_asm.specs.declared.parts.TextBytes.{TextBytes}
 use Rattle.lg_opt.specs.declared.rewritten.Rewritten.{Rewritten}
 
 -- what is kept of code with these parts
-abbrev pub kept_of : Target → TextBytes → List ℕ → Rewritten → LiveSets → Counts → Assembled
-kept_of target text labels list live counts = record {
+abbrev pub kept_of : Target → ℕ → TextBytes → List ℕ → Rewritten → LiveSets → Counts → Assembled
+kept_of target size text labels list live counts = record {
   target = target;
+  size = size;
   bytes = text.bytes.items;
   nodes = list.nodes;
   shape = list.shape;

@@ -48,7 +48,8 @@ ReadsFile mode.Gen = ⊥
 -- ---- code
 
 -- the code is that of the command's text: the text has a unit, the unit is accepted, the code is made for the command's
--- target from the unit's nodes without needless moves and jumps, fits its size, and agrees with the unit's meaning over the addresses of its labels
+-- target in a buffer of its size from the unit's nodes without needless moves and jumps, fits that size, and agrees with the unit's meaning over the
+-- addresses of its labels
 pub record IsCodeOf (c : Command) (held : Option NamedTexts) (code : Assembled) : Type 0 where
   pub text : List ℕ
   pub given : IsTextIn c.mode c held text
@@ -58,6 +59,7 @@ pub record IsCodeOf (c : Command) (held : Option NamedTexts) (code : Assembled) 
   pub fits : ArgumentsFit c
   pub bytes : AreBytes (args_of c.arguments)
   pub target : code.target ≡ c.target
+  pub size_is : code.size ≡ c.size
   pub tidy : IsTidy code.nodes
   pub origin : IsOrigin IsThreadedNode unit.nodes code.nodes code.origin
   pub size : length code.bytes ≤ c.size

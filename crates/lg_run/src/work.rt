@@ -84,6 +84,7 @@ fn code_of(alloc: Global, command: &Command<'_>, text: &Accepted) -> Result<Code
     requires whole { IsWhole text.now.unit }
     requires checked { IsChecked text.now.unit.nodes (Ok text.now.shape) }
     ensures target { IfOk result (λ c. c.target ≡ command.now.target) }
+    ensures size_is { IfOk result (λ c. c.size ≡ command.now.size) }
     ensures tidy { IfOk result (λ c. IsTidy c.nodes) }
     ensures origin { IfOk result (λ c. IsOrigin IsThreadedNode text.now.unit.nodes c.nodes c.origin) }
     ensures size { IfOk result (λ c. length c.bytes ≤ command.now.size) }

@@ -20,6 +20,7 @@ returns-in-Ok-clause-says g c = λ text is held under.
       fits = subst (λ a. length a ≤ most_args) c.requires.args c.requires.args_size;
       bytes = subst AreBytes (c.as_slice.ensures.value ∙ c.requires.args) c.see_bytes.ensures;
       target = made.target;
+      size_is = made.size_is;
       tidy = made.tidy;
       origin = made.origin;
       size = made.size;
