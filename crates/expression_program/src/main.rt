@@ -55,15 +55,29 @@ fn run_all(rt: &HostRuntime, compiled: &Compiled, arguments: &str) -> io::Result
     Ok(())
 }
 
+// Compiles an expression for a target, and runs its code.
+fn run_on(rt: &HostRuntime, target: Target, expression: &str, arguments: &str) -> io::Result<()> {
+    match compile(rt.alloc(), target, expression.as_bytes()) {
+        Ok(compiled) => run_all(rt, &compiled, arguments),
+        Err(failure) => print_failure(rt, failure),
+    }
+}
+
 // Compiles an expression for each target, and runs its code.
 fn run_line(rt: &HostRuntime, expression: &str, arguments: &str) -> io::Result<()> {
     println!(rt; "{expression}")?;
     for (target, name) in TARGETS {
         println!(rt; "  {name}")?;
-        match compile(rt.alloc(), target, expression.as_bytes()) {
-            Ok(compiled) => run_all(rt, &compiled, arguments)?,
-            Err(failure) => print_failure(rt, failure)?,
-        }
+        run_on(rt, target, expression, arguments)?;
+    }
+    Ok(())
+}
+
+// Compiles and runs the expressions of lines.
+fn run_lines(rt: &HostRuntime, lines: &str) -> io::Result<()> {
+    for line in lines.lines() {
+        let (expression, arguments) = line.split_once('\t').unwrap_or((line, "0"));
+        run_line(rt, expression, arguments)?;
     }
     Ok(())
 }
@@ -86,14 +100,16 @@ fn print_listing(rt: &HostRuntime, compiled: &Compiled) -> io::Result<()> {
     }
 }
 
+// Compiles an expression, and writes the listing of its code.
+fn list_one(rt: &HostRuntime, expression: &str) -> io::Result<()> {
+    match compile(rt.alloc(), Target::X86_64, expression.as_bytes()) {
+        Ok(compiled) => print_listing(rt, &compiled),
+        Err(failure) => print_failure(rt, failure),
+    }
+}
+
 fn main(rt: HostRuntime) -> io::Result<()> {
     let lines = fs::read_to_string(&rt, "expressions.txt")?;
-    for line in lines.as_str().lines() {
-        let (expression, arguments) = line.split_once('\t').unwrap_or((line, "0"));
-        run_line(&rt, expression, arguments)?;
-    }
-    match compile(rt.alloc(), Target::X86_64, b"x * x + 1") {
-        Ok(compiled) => print_listing(&rt, &compiled),
-        Err(failure) => print_failure(&rt, failure),
-    }
+    run_lines(&rt, lines.as_str())?;
+    list_one(&rt, "x * x + 1")
 }

@@ -1,6 +1,7 @@
 // A loop of five instructions on the modelled processors.
 
-ghost use Rattle.std.specs.Prelude.{◌≤◌, length};
+ghost use Rattle.std.specs.Prelude.{◌≡◌, ◌≤◌, length, IfOk};
+ghost use Rattle.lg_cpu.specs.Machines.{shown};
 
 use lg_base::code::CodeBytes;
 use lg_base::image::{ArgImage, DataImage};
@@ -41,12 +42,19 @@ fn code_of(target: Target) -> &'static [u8]
     }
 }
 
-/// Runs so many instructions of a target's loop, and tells how many were run.
-pub fn run(alloc: Global, target: Target, instructions: u32) -> Result<u64, OutOfMemory> {
+// A processor with a target's loop.
+fn processor(alloc: Global, target: Target) -> Result<Cpu, OutOfMemory>
+    ensures { IfOk result (λ cpu. (shown cpu).steps ≡ 0) }
+{
     let code = CodeBytes::of(alloc, code_of(target))?;
     let image = DataImage::of(alloc, &[])?;
     let args = ArgImage::of(alloc, &ARGS)?;
-    let mut cpu = Cpu::new(alloc, target, &code, &image, &args, 0)?;
+    Cpu::new(alloc, target, &code, &image, &args, 0)
+}
+
+/// Runs so many instructions of a target's loop, and tells how many were run.
+pub fn run(alloc: Global, target: Target, instructions: u32) -> Result<u64, OutOfMemory> {
+    let mut cpu = processor(alloc, target)?;
     let mut out = MemorySink::new(alloc, 0, &[])?;
     let _ = cpu.run(u64::from(instructions), &mut out);
     Ok(cpu.steps())

@@ -19,10 +19,14 @@ fn nodes_left(alloc: Global, unit: &Unit, shape: &Shape) -> Result<u32, OutOfMem
 /// Rewrites a list of so many lines so many times, and tells how many nodes are left.
 pub fn rewrite_list(alloc: Global, flow: Flow, lines: u32, times: u32) -> Result<u32, Stop> {
     let unit = unit(alloc, flow, lines)?;
-    let shape = check(alloc, &unit)?;
+    rewrite_unit(alloc, &unit, times)
+}
+
+fn rewrite_unit(alloc: Global, unit: &Unit, times: u32) -> Result<u32, Stop> {
+    let shape = check(alloc, unit)?;
     let mut left = 0;
     for _ in 0..times {
-        match nodes_left(alloc, &unit, &shape) {
+        match nodes_left(alloc, unit, &shape) {
             Ok(nodes) => left = nodes,
             Err(OutOfMemory) => return Err(Stop::OutOfMemory),
         }

@@ -1,11 +1,12 @@
 // Texts of many instructions.
 
 ghost use Rattle.std.specs.Prelude.{◌≤◌, length, IfOk};
+ghost use Rattle.lg_tst.specs.Answers.{IsWhole};
 
 use lg_asm::assemble;
 use lg_base::refusal::{OutOfMemory, Refusal, RefusalKind, Stop};
 use lg_base::target::Target;
-use lg_node::check;
+use lg_node::{Unit, check};
 use lg_tst::parse;
 use std::alloc::Global;
 
@@ -39,22 +40,31 @@ fn additions(text: &mut Vec<u8>, instructions: u32, addition: &[u8]) -> Result<(
     Ok(())
 }
 
+// A function of so many additions.
+fn put_straight(text: &mut Vec<u8>, instructions: u32) -> Result<(), OutOfMemory> {
+    text.extend_from_slice(b"prolog movi %r0 0\n")?;
+    additions(text, instructions, b"addi %r0 %r0 1\n")?;
+    text.extend_from_slice(b"retr %r0 epilog\n")?;
+    Ok(())
+}
+
+// A function with a branch over so many additions, and two calls of it.
+fn put_far(text: &mut Vec<u8>, instructions: u32) -> Result<(), OutOfMemory> {
+    text.extend_from_slice(b"jmpi main f: prolog arg $a getarg %v0 $a blei out %v0 0\n")?;
+    additions(text, instructions, b"addi %v0 %v0 99999\n")?;
+    text.extend_from_slice(
+        b"out: retr %v0 epilog main: prolog\nprepare pushargi 0 finishi f retval %v1\n\
+        prepare pushargi 5 finishi f retval %v2 ret epilog\n",
+    )?;
+    Ok(())
+}
+
 // A text with so many additions, at most 1,000,000.
 fn text(alloc: Global, shape: Shape, instructions: u32) -> Result<Vec<u8>, OutOfMemory> {
     let mut text = Vec::new(alloc);
     match shape {
-        Shape::Straight => {
-            text.extend_from_slice(b"prolog movi %r0 0\n")?;
-            additions(&mut text, instructions, b"addi %r0 %r0 1\n")?;
-            text.extend_from_slice(b"retr %r0 epilog\n")?;
-        }
-        Shape::Far => {
-            text.extend_from_slice(b"jmpi main f: prolog arg $a getarg %v0 $a blei out %v0 0\n")?;
-            additions(&mut text, instructions, b"addi %v0 %v0 99999\n")?;
-            text.extend_from_slice(b"out: retr %v0 epilog main: prolog\n")?;
-            text.extend_from_slice(b"prepare pushargi 0 finishi f retval %v1\n")?;
-            text.extend_from_slice(b"prepare pushargi 5 finishi f retval %v2 ret epilog\n")?;
-        }
+        Shape::Straight => put_straight(&mut text, instructions)?,
+        Shape::Far => put_far(&mut text, instructions)?,
     }
     Ok(text)
 }
@@ -77,7 +87,11 @@ fn short_text(alloc: Global, shape: Shape, instructions: u32) -> Result<Vec<u8>,
 pub fn read_and_check(alloc: Global, shape: Shape, instructions: u32) -> Result<Counts, Stop> {
     let text = short_text(alloc, shape, instructions)?;
     let unit = parse(alloc, &text)?;
-    let shape = check(alloc, &unit)?;
+    counts_of(alloc, &unit)
+}
+
+fn counts_of(alloc: Global, unit: &Unit) -> Result<Counts, Stop> {
+    let shape = check(alloc, unit)?;
     Ok(Counts {
         nodes: unit.nodes.len(),
         functions: shape.functions(),
@@ -89,8 +103,14 @@ fn code_bytes(alloc: Global, text: &[u8]) -> Result<u32, Stop>
     requires { length text.now ≤ 16777216 }
 {
     let unit = parse(alloc, text)?;
-    let shape = check(alloc, &unit)?;
-    let code = assemble(alloc, &unit, &shape, Target::Riscv64, 67_108_864)?;
+    unit_bytes(alloc, &unit)
+}
+
+fn unit_bytes(alloc: Global, unit: &Unit) -> Result<u32, Stop>
+    requires { IsWhole unit.now }
+{
+    let shape = check(alloc, unit)?;
+    let code = assemble(alloc, unit, &shape, Target::Riscv64, 67_108_864)?;
     Ok(code.bytes().len())
 }
 
