@@ -34,12 +34,16 @@ const NODES: &[u8] =
         5.code prolog movr %v0 %v1 movr %v2 %v0 movr %v0 %v1 ret epilog\x1e\
         6.code prolog movr %v0 %v1 movr %v1 %v2 movr %v0 %v1 ret epilog";
 
-/// What is counted of code.
+// The size in which the code is made.
+const SIZE: u32 = 1_048_576;
+
+/// What is counted of code, and the size that it tells.
 #[derive(Clone, Copy)]
 struct Counts {
     spills: u32,
     saved: u32,
     nodes: u32,
+    size: u32,
 }
 
 // How many of the choices of all nodes save a register.
@@ -60,11 +64,12 @@ fn saved(code: &Code) -> u32 {
 fn assembled(alloc: Global, target: Target, text: &[u8]) -> Result<Counts, Stop>
     requires few { length text.now ≤ 16777216 }
 {
-    let code = code_of(alloc, target, 1_048_576, text)?;
+    let code = code_of(alloc, target, SIZE, text)?;
     Ok(Counts {
         spills: code.spills(),
         saved: saved(&code),
         nodes: code.nodes().len(),
+        size: code.size(),
     })
 }
 
@@ -74,6 +79,7 @@ fn counted(alloc: Global, target: Target, text: &[u8]) -> Counts {
         spills: u32::MAX,
         saved: u32::MAX,
         nodes: u32::MAX,
+        size: u32::MAX,
     };
     if text.len() > 16_777_216 {
         return none;
@@ -107,5 +113,12 @@ fn needless_nodes_are_left_out(rt: HostRuntime) -> Result<(), Fail> {
             assert_eq!(rt; riscv64.nodes, u32::from(count.saturating_sub(b'0')));
         }
     }
+    Ok(())
+}
+
+#[test]
+fn code_tells_its_size(rt: HostRuntime) -> Result<(), Fail> {
+    let counts = counted(rt.alloc(), Target::Riscv64, b".code prolog ret epilog");
+    assert_eq!(rt; counts.size, SIZE);
     Ok(())
 }
