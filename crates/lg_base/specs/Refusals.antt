@@ -2,7 +2,7 @@
 use Rattle.std.specs.Prelude.{ℕ, List, codes, Result, Ok, Err}
 use Rattle.lg_base.specs.declared.refusal.Refusal.{Refusal}
 use Rattle.lg_base.specs.declared.refusal.RefusalKind.{RefusalKind}
-use Rattle.lg_base.specs.declared.refusal.RefusalKind.TheVariants.{BadToken, UnknownName, FloatRefused, BadOperand, BadExpr, LabelTwice, LabelMissing, NotInFunction, FunctionOpen, TargetOutside, BadCall, TooManyArgs, NoSuchArg, UnknownHost, DataFull, TextTooLong, TooManyNodes, CodeFull, FrameTooBig, NoCode, ArgsTooLong, BadDirective, BadMacro, ExpandTooMuch}
+use Rattle.lg_base.specs.declared.refusal.RefusalKind.TheVariants.{BadToken, UnknownName, FloatRefused, BadOperand, BadExpr, LabelTwice, LabelMissing, NotInFunction, FunctionOpen, TargetOutside, BadCall, TooManyArgs, NoSuchArg, UnknownHost, DataFull, TextTooLong, TooManyNodes, CodeFull, FrameTooBig, NoCode, ArgsTooLong, BadDirective, BadMacro, ExpandTooMuch, BadListing}
 
 -- a refusal of a kind in a line
 abbrev pub refuse : {A : Type 0} → RefusalKind → ℕ → Result A Refusal
@@ -44,6 +44,7 @@ number_of_kind ArgsTooLong = 21
 number_of_kind BadDirective = 22
 number_of_kind BadMacro = 23
 number_of_kind ExpandTooMuch = 24
+number_of_kind BadListing = 25
 
 -- the name that the program prints
 abbrev pub name_of_kind : RefusalKind → List ℕ
@@ -71,3 +72,4 @@ name_of_kind ArgsTooLong = codes "ArgsTooLong"
 name_of_kind BadDirective = codes "BadDirective"
 name_of_kind BadMacro = codes "BadMacro"
 name_of_kind ExpandTooMuch = codes "ExpandTooMuch"
+name_of_kind BadListing = codes "BadListing"

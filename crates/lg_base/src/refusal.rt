@@ -74,6 +74,8 @@ pub enum RefusalKind {
     BadMacro,
     /// 24: the expansion of macros, or what they replace, is too long or nested too deeply.
     ExpandTooMuch,
+    /// 25: what is read back is no listing.
+    BadListing,
 }
 
 /// A refused text: what is wrong, and in which line. Lines count from 1; 0 says that no line is to blame.
@@ -96,8 +98,19 @@ pub enum Stop {
     OutOfMemory,
 }
 
+impl From<OutOfMemory> for Stop {
+    ghost use Rattle.std.specs.Prelude.{◌≡◌};
+    ghost use Rattle.lg_base.specs.declared.refusal.Stop.TheVariants.{OutOfMemory};
+
+    ghost from_gives = { λ _ stop. stop ≡ OutOfMemory };
+
+    fn from(_error: OutOfMemory) -> Stop {
+        Stop::OutOfMemory
+    }
+}
+
 impl RefusalKind {
-    /// The number of the kind, 1 to 24.
+    /// The number of the kind, 1 to 25.
     pub fn number(self) -> u32
         ensures { result ≡ number_of_kind self }
     {
@@ -126,6 +139,7 @@ impl RefusalKind {
             RefusalKind::BadDirective => 22,
             RefusalKind::BadMacro => 23,
             RefusalKind::ExpandTooMuch => 24,
+            RefusalKind::BadListing => 25,
         }
     }
 
@@ -158,6 +172,7 @@ impl RefusalKind {
             RefusalKind::BadDirective => "BadDirective",
             RefusalKind::BadMacro => "BadMacro",
             RefusalKind::ExpandTooMuch => "ExpandTooMuch",
+            RefusalKind::BadListing => "BadListing",
         }
     }
 }

@@ -1,9 +1,9 @@
 // Texts in memory.
 
-ghost use Rattle.std.specs.Prelude.{◌≡◌, ◌<◌, ◌≤◌, ℕ, [], ◌∷◌, ◌++◌, ◌-◌, length, min, take, drop, Some, None, MatchOption, IfOk, OnOk, OnErr};
+ghost use Rattle.std.specs.Prelude.{◌≡◌, ◌==◌, ◌<◌, ◌≤◌, ℕ, [], ◌∷◌, ◌++◌, ◌-◌, length, min, take, drop, Some, None, MatchOption, IfOk, OnOk, OnErr};
 ghost use Rattle.std.specs.Io.KnownBytes.{ReadConsumes};
 ghost use Rattle.lg_io.specs.Counts.{HasCause};
-ghost use Rattle.lg_io.specs.NamedTexts.{text_under, Selects};
+ghost use Rattle.lg_io.specs.NamedTexts.{text_under, ReadsSurely, Selects, SelectsSurely};
 ghost use Rattle.lg_io.specs.Rests.{rest_of, IsPlaceOf};
 ghost use Rattle.lg_io.specs.MemoryTexts.{select_answer, after_select, read_answer, read_into, after_read};
 
@@ -102,11 +102,14 @@ impl Texts for MemoryTexts {
 
     ghost faults = { λ texts. texts.calls.faults };
 
+    ghost sure = { λ texts. length texts.calls.fail_at == 0 };
+
     /// Selects the first text of a name.
     fn select(&mut self, name: &str) -> Result<(), TextFault>
         ensures held { Some self.new.held ≡ Some self.old.held }
         ensures left { OnOk result (Selects (Some self.old.held) (Some self.new.left) name.now) }
         ensures err { OnErr result (Some self.new.left ≡ Some self.old.left) }
+        ensures sure { SelectsSurely (length self.old.calls.fail_at == 0) (length self.new.calls.fail_at == 0) (Some self.old.held) name.now result }
         ensures cause { HasCause self.old.calls.faults self.new.calls.faults result }
         ensures answer { result ≡ select_answer self.old name.now }
         ensures after { self.new ≡ after_select self.old name.now }
@@ -131,6 +134,7 @@ impl Texts for MemoryTexts {
         ensures held { Some self.new.held ≡ Some self.old.held }
         ensures bound { IfOk result (λ n. n ≤ length into.old) }
         ensures bytes { ReadConsumes (Some self.old.left) (Some self.new.left) result into.new }
+        ensures sure { ReadsSurely (length self.old.calls.fail_at == 0) (length self.new.calls.fail_at == 0) result }
         ensures cause { HasCause self.old.calls.faults self.new.calls.faults result }
         ensures answer { result ≡ read_answer self.old into.old }
         ensures after { self.new ≡ after_read self.old into.old }

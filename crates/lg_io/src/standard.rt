@@ -1,10 +1,10 @@
 // Texts and sinks over std's files, input and writers: the edge to the outside, whose bytes no contract tells.
 
-ghost use Rattle.std.specs.Prelude.{◌≡◌, ◌<◌, ◌≤◌, ℕ, List, [], length, true, codes, Option, Some, None, Ok, IfOk, OnOk, OnErr, is_ok, if◌then◌else◌};
+ghost use Rattle.std.specs.Prelude.{◌≡◌, ◌<◌, ◌≤◌, ℕ, List, [], length, true, false, codes, Option, Some, None, Ok, IfOk, OnOk, OnErr, is_ok, if◌then◌else◌};
 ghost use Rattle.std.specs.Str.{bytes_eq};
 ghost use Rattle.std.specs.Io.KnownBytes.{WriteAppends, ReadConsumes};
 ghost use Rattle.lg_io.specs.Counts.{HasCause, next_count};
-ghost use Rattle.lg_io.specs.NamedTexts.{NamedTexts, Selects};
+ghost use Rattle.lg_io.specs.NamedTexts.{NamedTexts, ReadsSurely, Selects, SelectsSurely};
 ghost use Rattle.lg_io.specs.StandardSinks.{source_under};
 ghost use Rattle.lg_io.specs.StandardSinks.Source.{NoText};
 
@@ -120,11 +120,14 @@ impl<'a, R: Files + Input> Texts for StdTexts<'a, R> {
 
     ghost faults = { λ texts. texts.faults };
 
+    ghost sure = { λ _. false };
+
     /// Opens the file of that name, or takes the standard input for `-`, which never fails.
     fn select(&mut self, name: &str) -> Result<(), TextFault>
         ensures held { ◌≡◌ {A = Option NamedTexts} None None }
         ensures left { OnOk result (Selects None self.new.left name.now) }
         ensures err { OnErr result (self.new.left ≡ self.old.left) }
+        ensures sure { SelectsSurely false false None name.now result }
         ensures source { self.new.source ≡ (if is_ok result then source_under name.now else self.old.source) }
         ensures input { bytes_eq name.now (codes "-") ≡ true → is_ok result ≡ true }
         ensures cause { HasCause self.old.faults self.new.faults result }
@@ -151,6 +154,7 @@ impl<'a, R: Files + Input> Texts for StdTexts<'a, R> {
         ensures held { ◌≡◌ {A = Option NamedTexts} None None }
         ensures bound { IfOk result (λ n. n ≤ length into.old) }
         ensures bytes { ReadConsumes self.old.left self.new.left result into.new }
+        ensures sure { ReadsSurely false false result }
         ensures source { self.new.source ≡ self.old.source }
         ensures nothing { self.old.source ≡ NoText → result ≡ Ok 0 }
         ensures cause { HasCause self.old.faults self.new.faults result }

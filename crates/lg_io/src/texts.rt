@@ -1,9 +1,9 @@
 // Sources of texts.
 
-ghost use Rattle.std.specs.Prelude.{◌≡◌, ℕ, ◌≤◌, List, Option, length, IfOk, OnOk, OnErr};
+ghost use Rattle.std.specs.Prelude.{◌≡◌, ℕ, ◌≤◌, Bool, List, Option, length, IfOk, OnOk, OnErr};
 ghost use Rattle.std.specs.Io.KnownBytes.{ReadConsumes};
 ghost use Rattle.lg_io.specs.Counts.{HasCause};
-ghost use Rattle.lg_io.specs.NamedTexts.{NamedTexts, Selects};
+ghost use Rattle.lg_io.specs.NamedTexts.{NamedTexts, ReadsSurely, Selects, SelectsSurely};
 
 use thiserror::Error;
 
@@ -26,11 +26,15 @@ pub trait Texts {
     /// How often a call failed.
     ghost faults: { Self → ℕ };
 
+    /// Whether the source is sure: no call of it fails but a select of a name that it does not hold.
+    ghost sure: { Self → Bool };
+
     /// Selects the text of a name, from its first byte on. After a fault what is left is as before.
     fn select(&mut self, name: &str) -> Result<(), TextFault>
         ensures held { held self.new ≡ held self.old }
         ensures left { OnOk result (Selects (held self.old) (left self.new) name.now) }
         ensures err { OnErr result (left self.new ≡ left self.old) }
+        ensures sure { SelectsSurely (sure self.old) (sure self.new) (held self.old) name.now result }
         ensures cause { HasCause (faults self.old) (faults self.new) result };
 
     /// Moves bytes from the front of what is left into the front of the slice, and says how many: none only at the end, or where
@@ -39,5 +43,6 @@ pub trait Texts {
         ensures held { held self.new ≡ held self.old }
         ensures bound { IfOk result (λ n. n ≤ length into.old) }
         ensures bytes { ReadConsumes (left self.old) (left self.new) result into.new }
+        ensures sure { ReadsSurely (sure self.old) (sure self.new) result }
         ensures cause { HasCause (faults self.old) (faults self.new) result };
 }
