@@ -57,7 +57,7 @@ long_read z more ok =
     ap (signed 2147483648) (word_read (bits_of 2147483648 z) more (bits_fit z ok))
     ∙ signed-bits_of 2147483648 z (omega (arith, ints, ok.0)) (omega (arith, ints, ok.1))
 
-short_number : (z : ℤ) → is_short z ≡ true → IsNumber8 z
+pub short_number : (z : ℤ) → is_short z ≡ true → IsNumber8 z
 short_number (pos k) e = let lt : k < 128 = grind (arith, nat_tests) in (omega (arith, ints), omega (arith, ints))
 short_number (negsuc k) e = let lt : k < 128 = grind (arith, nat_tests) in (omega (arith, ints), omega (arith, ints))
 

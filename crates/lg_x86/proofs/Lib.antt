@@ -1,6 +1,7 @@
 pub mod AcceptLemmas
 pub mod AgainLemmas
 pub mod BranchReadLemmas
+pub mod ByteLemmas
 pub mod CheckedLemmas
 pub mod DigitReadLemmas
 pub mod FieldLemmas
