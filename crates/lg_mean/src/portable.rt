@@ -112,6 +112,14 @@ impl Portable {
         answer
     }
 
+    /// The node of the next step. `step` has answered nothing but `Went`.
+    pub fn at(&self) -> u32
+        requires { self.now.over ≡ None }
+        ensures { result ≡ (state_of self.now.machine).at }
+    {
+        self.machine.place()
+    }
+
     /// How many steps went or ended.
     pub fn steps(&self) -> u64
         ensures { result ≡ self.now.steps }

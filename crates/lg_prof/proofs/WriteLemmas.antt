@@ -1,0 +1,43 @@
+-- Lines that are written one after another.
+use Rattle.std.proofs.Common.{◌≡◌, ℕ, zero, suc, ◌+◌, ◌<◌, List, [], ◌++◌, inl, inr, refl, sym, ap, ◌∙◌, arith, append_assoc, append-nil, add-one, length, get_or}
+use Rattle.std.specs.Prelude.{slice_index_or}
+use Rattle.std.proofs.lemmas.Bool.{cases_lt}
+use Rattle.std.proofs.lemmas.List.{get_or_default}
+use Rattle.lg_prof.specs.Tables.{table_below, told_line}
+use Rattle.lg_prof.specs.Tallies.{no_counts, ran_at, spent_at}
+use Rattle.lg_prof.specs.declared.tally.Counts.{Counts}
+
+pub no_lines : (ran spent : ℕ → ℕ) → table_below ran spent 0 ≡ []
+unfolding table_below
+no_lines ran spent = refl
+
+-- one line more
+pub line_more : (ran spent : ℕ → ℕ) (line : ℕ) → table_below ran spent (line + 1) ≡ table_below ran spent line ++ told_line line (ran line) (spent line)
+unfolding table_below
+line_more ran spent line = rw (add-one line) refl
+
+-- the lines before a line, it, and those behind it
+pub lines_split : (ran spent : ℕ → ℕ) (line top : ℕ) → line < top
+    → (rest : List ℕ) × (table_below ran spent top ≡ table_below ran spent line ++ (told_line line (ran line) (spent line) ++ rest))
+lines_split ran spent line zero lt = absurd (omega (arith, lt))
+lines_split ran spent line (suc top) lt = elim (cases_lt line top) [
+  | inl less ↦
+      let before = lines_split ran spent line top less in
+      let here = told_line line (ran line) (spent line) in
+      let last = told_line top (ran top) (spent top) in
+      let same : suc top ≡ top + 1 = omega arith in (
+        before.0 ++ last,
+        ap (table_below ran spent) same ∙ line_more ran spent top ∙ ap (λ x. x ++ last) before.1
+            ∙ append_assoc (table_below ran spent line) (here ++ before.0) last ∙ ap (λ x. table_below ran spent line ++ x) (append_assoc here before.0 last),
+      )
+  | inr other ↦
+      let same : suc top ≡ line + 1 = omega (arith, lt, other) in
+      ([], ap (table_below ran spent) same ∙ line_more ran spent line ∙ ap (λ x. table_below ran spent line ++ x) (sym (append-nil (told_line line (ran line) (spent line)))))
+]
+
+-- a line of a tally, as it was read
+pub line_at : (counts tally : List Counts) (line : ℕ) (read : Counts) → counts ≡ tally → line < length counts → read ≡ get_or counts line read
+    → told_line line read.ran read.spent ≡ told_line line (ran_at tally line) (spent_at tally line)
+line_at counts tally line read same lt is =
+    let here : read ≡ slice_index_or tally line no_counts = is ∙ get_or_default counts line read no_counts lt ∙ ap (λ t. slice_index_or t line no_counts) same in
+    ap (λ (x : Counts). told_line line x.ran x.spent) here
