@@ -1,0 +1,33 @@
+-- How a text begins: with which lines of a listing, and what they leave.
+use Rattle.std.specs.Prelude.{◌≡◌, ℕ, ◌+◌, ◌≤◌, List, ◌++◌, length}
+use Rattle.std.specs.List.{All}
+use Rattle.lg_base.specs.Layout.{code_base, most_code}
+use Rattle.lg_base.specs.declared.target.Target.{Target}
+use Rattle.lg_list.specs.Back.{IsEntry}
+use Rattle.lg_list.specs.Lines.{Entry, first_line, line_of, rendered, joined}
+
+-- a text begins with the first line of a listing for a target, which names a number of bytes
+pub record HasHead (text : List ℕ) (t : Target) (count : ℕ) : Type 0 where
+  pub rest : List ℕ
+  pub text_is : text ≡ first_line t count ++ rest
+  pub small : count ≤ most_code
+
+-- a text begins with a line that may stand behind the first of a listing, at an address
+pub record HasLine (t : Target) (at : ℕ) (text : List ℕ) (e : Entry) : Type 0 where
+  pub form : IsEntry t e
+  pub rest : List ℕ
+  pub text_is : text ≡ line_of at e ++ rest
+
+-- and it begins with none
+abbrev pub HasNoLine : Target → ℕ → List ℕ → Type 0
+HasNoLine t at text = (e : Entry) → ¬ HasLine t at text e
+
+-- a text begins with a first line and these lines behind it, and this is the rest
+pub record HasLines (text : List ℕ) (t : Target) (count : ℕ) (lines : List Entry) (rest : List ℕ) : Type 0 where
+  pub form : All (IsEntry t) lines
+  pub text_is : text ≡ first_line t count ++ (rendered code_base lines ++ rest)
+  pub small : count ≤ most_code
+
+-- the address of the line behind these
+abbrev pub address_behind : List Entry → ℕ
+address_behind lines = code_base + length (joined lines)

@@ -1,0 +1,113 @@
+// The lines behind the first, read back.
+
+ghost use Rattle.std.specs.Prelude.{◌≡◌, ◌++◌, ℕ, List, length, codes, IfSome, IfNone};
+ghost use Rattle.std.specs.List.{list_all};
+ghost use Rattle.lg_base.specs.WordBytes.{is_word_byte};
+ghost use Rattle.lg_base.specs.declared.target.Target.{Target as AnyTarget};
+ghost use Rattle.lg_node.specs.Nodes.{is_word};
+ghost use Rattle.lg_op.specs.declared.op.Op.{Op as AnyOp};
+ghost use Rattle.lg_list.specs.Lines.{Entry, line_of, bytes_of, address, node_line, label_line};
+ghost use Rattle.lg_list.specs.Lines.Entry.{Label, Node};
+ghost use Rattle.lg_back.specs.Reading.{HasLine, HasNoLine};
+
+use crate::digits::{behind, comment_words, read_decimal, until};
+use crate::instruction::read_instruction;
+use lg_base::piece::Piece;
+use lg_base::target::Target;
+use lg_base::word_bytes::{is_word_byte, is_word_start};
+use lg_list::line::Line;
+use lg_list::lines::node_line;
+use lg_node::Op;
+
+/// A line behind the first of a listing.
+#[derive(Debug, Drop)]
+pub struct EntryLine {
+    /// The bytes that it stands for: none but of an instruction.
+    pub bytes: Piece,
+    /// Its length, its line feed included.
+    pub len: usize,
+}
+
+// The length of the line of a node that a text begins with.
+fn read_node(text: &[u8]) -> Option<usize>
+    ensures found { IfSome result (λ len. (line : ℕ) × (op : AnyOp) × ((t : AnyTarget) (at : ℕ) → HasLine t at text.now (Node line op)) × (len ≡ length (node_line line op))) }
+    ensures none { IfNone result ((t : AnyTarget) (at line : ℕ) (op : AnyOp) → ¬ HasLine t at text.now (Node line op)) }
+{
+    let (digits, name) = comment_words(text);
+    let number = read_decimal(digits)?;
+    let op = Op::by_name(name)?;
+    let line = node_line(number, op);
+    let line = line.as_slice();
+    if text.starts_with(line) {
+        Some(line.len())
+    } else {
+        None
+    }
+}
+
+// Whether a word may go on with all of these bytes.
+fn are_word_bytes(bytes: &[u8]) -> bool
+    ensures { result ≡ list_all is_word_byte bytes.now }
+{
+    bytes.iter().all(|byte| is_word_byte(*byte))
+}
+
+// Whether bytes are a word of a text.
+fn is_word(bytes: &[u8]) -> bool
+    ensures { result ≡ is_word bytes.now }
+{
+    match bytes {
+        [] => false,
+        [first, rest @ ..] => is_word_start(*first) && are_word_bytes(rest),
+    }
+}
+
+// How the line of a label at an address begins.
+fn label_front(at: u32) -> Line
+    ensures { result ≡ address at ++ codes " " }
+{
+    let mut line = Line::new();
+    line.push_hex(&at.to_be_bytes());
+    line.push(b" ");
+    line
+}
+
+// The length of the line of a label at an address that a text begins with.
+fn read_label(at: u32, text: &[u8]) -> Option<usize>
+    ensures found { IfSome result (λ len. (word : List ℕ) × ((t : AnyTarget) → HasLine t at text.now (Label word)) × (len ≡ length (label_line at word))) }
+    ensures none { IfNone result ((t : AnyTarget) (word : List ℕ) → ¬ HasLine t at text.now (Label word)) }
+{
+    let front = label_front(at);
+    let rest = behind(text, 9);
+    let word = until(rest, b':');
+    if !text.starts_with(front.as_slice()) {
+        return None;
+    }
+    if !is_word(word) {
+        return None;
+    }
+    if behind(rest, word.len()).starts_with(b":\n") {
+        Some(11 + word.len())
+    } else {
+        None
+    }
+}
+
+/// The line behind the first of a listing for a target that a text begins with, at an address.
+pub fn read_entry(target: Target, at: u32, text: &[u8]) -> Option<EntryLine>
+    ensures found { IfSome result (λ f. (e : Entry) × HasLine target at text.now e × (f.bytes ≡ bytes_of e) × (f.len ≡ length (line_of at e))) }
+    ensures none { IfNone result (HasNoLine target at text.now) }
+{
+    if text.starts_with(b";") {
+        let len = read_node(text)?;
+        let bytes = Piece::new();
+        return Some(EntryLine { bytes, len });
+    }
+    if behind(text, 9).starts_with(b" ") {
+        let (bytes, len) = read_instruction(target, at, text)?;
+        return Some(EntryLine { bytes, len });
+    }
+    let len = read_label(at, text)?;
+    let bytes = Piece::new();
+    Some(EntryLine { bytes, len })
+}
