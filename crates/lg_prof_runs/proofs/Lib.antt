@@ -1,0 +1,4 @@
+pub mod CountLemmas
+pub mod SpentLemmas
+pub mod SumLemmas
+pub mod TableLemmas
