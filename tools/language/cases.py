@@ -1,10 +1,11 @@
 #!/usr/bin/env python3
-"""The examples of docs/LANGUAGE.md as cases of lg_test_calls. Says whether crates/lg_test_calls/data/language/cases.txt has exactly them; with --write, writes it.
+"""The examples of docs/LANGUAGE.md as cases of lg_test_calls. Says whether crates/lg_test_calls/data/cases/language.txt has exactly them; with --write, writes it.
 
 A block ```tst NAME WORDS is a text, run with these words of the command; ```out NAME STATUS what it writes (without the last line feed where its head says so), and
 ```err NAME STATUS the line on the standard error; a status that is not said is 0. A row of a table of instructions has an example that stands in the block ```frame,
 and what is printed of it; a row of the table of undefined steps a text and the steps before; a row of the table of refusals a text that is refused at line 1.
-A case is a line NAME.tst STATUS WORDS, and then the text, the output and the line, each but the text behind a line of four hyphens.
+A case is a line with its name, its status, how it is run and its words, with tabs between, and then the text, the output and the line, as
+crates/lg_test_calls/src/cases/case.rt says. One that names no mode is run on the three targets and by its meaning, any other on the three targets.
 """
 import pathlib
 import re
@@ -12,7 +13,7 @@ import sys
 
 root = pathlib.Path(__file__).resolve().parents[2]
 page = (root / "docs" / "LANGUAGE.md").read_text()
-data = root / "crates" / "lg_test_calls" / "data" / "language" / "cases.txt"
+data = root / "crates" / "lg_test_calls" / "data" / "cases" / "language.txt"
 
 blocks = re.findall(r"^```(tst|out|err|frame) ?(.*)\n((?:.*\n)*?)```$", page, re.M)
 outputs, lines, statuses = {}, {}, {}
@@ -29,8 +30,9 @@ cases = []
 
 
 def add(name, text, output="", status="0", words="", line=""):
-    first = " ".join([f"{name}.tst", status] + ([words] if words else []))
-    cases.append(f"====\n{first}\n{text}----\n{output}----\n{line}")
+    ways = "targets" if "--mode" in words else "all"
+    first = "\t".join([f"{name}.tst", status, ways, f"{words} {name}.tst".strip()])
+    cases.append(f"====\n{first}\n{text}\n----\n{output}\n----\n{line}\n")
 
 
 texts = [(head.split(), text) for kind, head, text in blocks if kind == "tst"]

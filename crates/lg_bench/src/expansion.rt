@@ -57,11 +57,11 @@ fn text(alloc: Global, lines: Lines, size: usize) -> Result<Vec<u8>, OutOfMemory
 }
 
 /// Expands a text of so many bytes, at most 16,777,216, and tells how many its expansion has.
-pub fn expand_lines(alloc: Global, lines: Lines, size: u32) -> Result<usize, Stop> {
+pub fn expand_lines(alloc: Global, lines: Lines, size: u32) -> Result<u64, Stop> {
     match text(alloc, lines, size as usize) {
         Ok(text) if text.len() <= 16_777_216 => {
             let given = expand(alloc, &text)?;
-            Ok(given.len())
+            Ok(given.len() as u64)
         }
         _ => Err(Stop::OutOfMemory),
     }

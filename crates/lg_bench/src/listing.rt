@@ -7,7 +7,7 @@ ghost use Rattle.lg_list.specs.Listing.{Placed};
 ghost use Rattle.lg_op.specs.Nodes.{InForm};
 
 use lg_base::code::{CodeBytes, Places};
-use lg_base::refusal::OutOfMemory;
+use lg_base::refusal::{OutOfMemory, Stop};
 use lg_base::target::Target;
 use lg_io::sink::{Sink, SinkFault};
 use lg_list::list::list;
@@ -20,13 +20,10 @@ const NODE_BYTES: u32 = 1_024;
 // `addi x5, x5, 1`.
 const ADDITION: [u8; 4] = [0x93, 0x82, 0x12, 0x00];
 
-/// Counts the bytes that it is given, and the writes.
+// Counts the bytes that it is given.
 #[derive(Drop)]
-pub struct Counter {
-    /// How many bytes it was given.
-    pub bytes: u64,
-    /// In how many writes.
-    pub writes: u64,
+struct Counter {
+    bytes: u64,
 }
 
 impl Sink for Counter {
@@ -42,7 +39,6 @@ impl Sink for Counter {
         ensures cause { HasCause 0 0 result }
     {
         self.bytes = self.bytes.wrapping_add(bytes.len() as u64);
-        self.writes = self.writes.wrapping_add(1);
         Ok(bytes.len())
     }
 }
@@ -95,18 +91,15 @@ fn nodes_of(alloc: Global, nodes: u32) -> Result<NodeList, OutOfMemory>
     Ok(list)
 }
 
-/// Writes the listing of so many nodes, at most 65,536, which have 1,024 bytes of code each, and tells how many bytes and writes it is.
-pub fn write_listing(alloc: Global, nodes: u32) -> Result<Counter, OutOfMemory> {
+/// Writes the listing of so many nodes, at most 65,536, which have 1,024 bytes of code each, and tells how many bytes it is.
+pub fn write_listing(alloc: Global, nodes: u32) -> Result<u64, Stop> {
     let nodes = nodes.min(65_536);
     let code = code_of(alloc, nodes)?;
     let places = places_of(alloc, nodes)?;
     let rets = nodes_of(alloc, nodes)?;
     let labels = LabelAddresses::of(alloc, &[])?;
-    let mut out = Counter {
-        bytes: 0,
-        writes: 0,
-    };
+    let mut out = Counter { bytes: 0 };
     match list(Target::Riscv64, &code, &rets, &places, &labels, &mut out) {
-        Ok(()) | Err(_) => Ok(out),
+        Ok(()) | Err(_) => Ok(out.bytes),
     }
 }

@@ -118,10 +118,8 @@ fn add_line(list: &mut NodeList, flow: Flow, index: u32) -> Result<(), OutOfMemo
 pub fn unit(alloc: Global, flow: Flow, lines: u32) -> Result<Unit, Stop> {
     let mut unit = parse(alloc, b"prolog movi %v0 0 movi %v1 0")?;
     let list = &mut unit.nodes;
-    match add_lines(list, flow, lines) {
-        Ok(()) => Ok(unit),
-        Err(OutOfMemory) => Err(Stop::OutOfMemory),
-    }
+    add_lines(list, flow, lines)?;
+    Ok(unit)
 }
 
 // Adds so many lines, and the end of the function.

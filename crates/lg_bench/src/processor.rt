@@ -5,7 +5,7 @@ ghost use Rattle.lg_cpu.specs.Machines.{shown};
 
 use lg_base::code::CodeBytes;
 use lg_base::image::{ArgImage, DataImage};
-use lg_base::refusal::OutOfMemory;
+use lg_base::refusal::{OutOfMemory, Stop};
 use lg_base::target::Target;
 use lg_cpu::cpu::Cpu;
 use lg_io::memory_sink::MemorySink;
@@ -53,7 +53,7 @@ fn processor(alloc: Global, target: Target) -> Result<Cpu, OutOfMemory>
 }
 
 /// Runs so many instructions of a target's loop, and tells how many were run.
-pub fn run(alloc: Global, target: Target, instructions: u32) -> Result<u64, OutOfMemory> {
+pub fn run(alloc: Global, target: Target, instructions: u32) -> Result<u64, Stop> {
     let mut cpu = processor(alloc, target)?;
     let mut out = MemorySink::new(alloc, 0, &[])?;
     let _ = cpu.run(u64::from(instructions), &mut out);

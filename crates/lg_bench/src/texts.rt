@@ -10,14 +10,6 @@ use lg_node::{Unit, check};
 use lg_tst::parse;
 use std::alloc::Global;
 
-/// What a text has.
-pub struct Counts {
-    /// Its nodes.
-    pub nodes: u32,
-    /// Its functions.
-    pub functions: u32,
-}
-
 /// What a text of many additions is.
 #[derive(Clone, Copy)]
 pub enum Shape {
@@ -83,35 +75,20 @@ fn short_text(alloc: Global, shape: Shape, instructions: u32) -> Result<Vec<u8>,
     }
 }
 
-/// Reads and checks a text of so many additions, at most 1,000,000.
-pub fn read_and_check(alloc: Global, shape: Shape, instructions: u32) -> Result<Counts, Stop> {
-    let text = short_text(alloc, shape, instructions)?;
-    let unit = parse(alloc, &text)?;
-    counts_of(alloc, &unit)
-}
-
-fn counts_of(alloc: Global, unit: &Unit) -> Result<Counts, Stop> {
-    let shape = check(alloc, unit)?;
-    Ok(Counts {
-        nodes: unit.nodes.len(),
-        functions: shape.functions(),
-    })
-}
-
 // How many bytes of code a text becomes on RV64.
-fn code_bytes(alloc: Global, text: &[u8]) -> Result<u32, Stop>
+fn code_bytes(alloc: Global, text: &[u8]) -> Result<u64, Stop>
     requires { length text.now ≤ 16777216 }
 {
     let unit = parse(alloc, text)?;
     unit_bytes(alloc, &unit)
 }
 
-fn unit_bytes(alloc: Global, unit: &Unit) -> Result<u32, Stop>
+fn unit_bytes(alloc: Global, unit: &Unit) -> Result<u64, Stop>
     requires { IsWhole unit.now }
 {
     let shape = check(alloc, unit)?;
     let code = assemble(alloc, unit, &shape, Target::Riscv64, 67_108_864)?;
-    Ok(code.bytes().len())
+    Ok(u64::from(code.bytes().len()))
 }
 
 /// Reads, checks and assembles a text of so many additions, at most 1,000,000, so many times, and tells how many bytes its code has.
@@ -120,7 +97,7 @@ pub fn read_and_assemble(
     shape: Shape,
     instructions: u32,
     times: u32,
-) -> Result<u32, Stop> {
+) -> Result<u64, Stop> {
     let text = short_text(alloc, shape, instructions)?;
     let mut bytes = 0;
     for _ in 0..times {

@@ -19,18 +19,19 @@ pub struct Case<'a> {
     pub answer: &'a str,
 }
 
-/// The columns of a line on single steps.
+// A column of a line, from 0 on.
+fn column(line: &str, number: usize) -> Option<&str> {
+    line.split('\t').nth(number)
+}
+
+/// The columns of a line on single steps, of which there are six.
 pub fn parse_case(line: &str) -> Option<Case<'_>> {
-    let (steps, rest) = line.split_once('\t')?;
-    let (_text, rest) = rest.split_once('\t')?;
-    let (hex, rest) = rest.split_once('\t')?;
-    let (before, rest) = rest.split_once('\t')?;
-    let (out, _how) = rest.split_once('\t')?;
-    let (answer, after) = out.split_once(' ')?;
+    let (answer, after) = column(line, 4)?.split_once(' ')?;
+    let _how = column(line, 5)?;
     Some(Case {
-        steps: steps.parse().ok()?,
-        hex,
-        before,
+        steps: column(line, 0)?.parse().ok()?,
+        hex: column(line, 2)?,
+        before: column(line, 3)?,
         after,
         answer,
     })
@@ -47,17 +48,13 @@ pub struct Program<'a> {
     pub outcome: &'a str,
 }
 
-/// The columns of a line on a program.
+/// The columns of a line on a program, of which there are six.
 pub fn parse_program(line: &str) -> Option<Program<'_>> {
-    let (_row, rest) = line.split_once('\t')?;
-    let (_text, rest) = rest.split_once('\t')?;
-    let (hex, rest) = rest.split_once('\t')?;
-    let (most, rest) = rest.split_once('\t')?;
-    let (outcome, _how) = rest.split_once('\t')?;
+    let _how = column(line, 5)?;
     Some(Program {
-        hex,
-        most: most.parse().ok()?,
-        outcome,
+        hex: column(line, 2)?,
+        most: column(line, 3)?.parse().ok()?,
+        outcome: column(line, 4)?,
     })
 }
 

@@ -1,8 +1,10 @@
-//! Counts of what cases come to, for programs that compare many.
+//! Counts of what cases come to, and numbers by a fixed generator, for programs that try many.
 #![tactic(auto)]
 
 mod counts;
 mod one_more;
+mod random;
 
 pub use counts::{Counts, Outcome};
 pub use one_more::count;
+pub use random::Random;

@@ -2,7 +2,7 @@
 
 ghost use Rattle.std.specs.Prelude.{◌≤◌, length};
 
-use lg_random::Random;
+use lg_tally::Random;
 
 /// The most bytes of a run's code.
 pub const MOST: usize = 64;

@@ -12,8 +12,7 @@ use lg_base::target::Target;
 use lg_cpu::answer::CpuStep;
 use lg_cpu::cpu::Cpu;
 use lg_io::memory_sink::MemorySink;
-use lg_random::Random;
-use lg_tally::count;
+use lg_tally::{Random, count};
 use std::alloc::Global;
 
 // how many runs are made over any bytes, and as many over changed code

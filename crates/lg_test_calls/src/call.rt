@@ -47,8 +47,8 @@ pub fn call_on_files(
     lightning(rt.alloc(), words, &mut texts, out, err).answer
 }
 
-// The answer of a call over texts in memory.
-fn call_on_texts(
+/// The answer of a call over texts in memory.
+pub fn call_on_texts(
     alloc: Global,
     words: &Vec<String>,
     texts: &mut MemoryTexts,
@@ -58,9 +58,32 @@ fn call_on_texts(
     lightning(alloc, words, texts, out, err).answer
 }
 
+/// Calls that fail, by their numbers from 1 on, or 0 for none: of the texts, of the standard output and of the standard error; and how many bytes the standard output
+/// takes, where that is not 0.
+#[derive(Clone, Copy)]
+pub struct Faults {
+    pub read: u32,
+    pub write: u32,
+    pub line: u32,
+    pub room: u32,
+}
+
+/// Nothing fails.
+pub const NO_FAULTS: Faults = Faults {
+    read: 0,
+    write: 0,
+    line: 0,
+    room: 0,
+};
+
 // One text in memory, under its name.
-fn texts_of(alloc: Global, name: &str, text: &[u8]) -> Result<MemoryTexts, OutOfMemory> {
-    let mut texts = MemoryTexts::new(alloc, &[])?;
+fn texts_of(
+    alloc: Global,
+    name: &str,
+    text: &[u8],
+    faults: Faults,
+) -> Result<MemoryTexts, OutOfMemory> {
+    let mut texts = MemoryTexts::new(alloc, &[u64::from(faults.read)])?;
     match texts.add(name, text) {
         Ok(()) => Ok(texts),
         Err(OutOfMemory) => Err(OutOfMemory),
@@ -72,9 +95,9 @@ pub fn call_on_text(
     alloc: Global,
     words: &Vec<String>,
     (name, text): (&str, &[u8]),
-    out: &mut MemorySink,
-    err: &mut MemorySink,
+    faults: Faults,
+    (out, err): (&mut MemorySink, &mut MemorySink),
 ) -> Result<Answer, OutOfMemory> {
-    let mut texts = texts_of(alloc, name, text)?;
+    let mut texts = texts_of(alloc, name, text, faults)?;
     Ok(call_on_texts(alloc, words, &mut texts, out, err))
 }

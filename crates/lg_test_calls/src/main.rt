@@ -1,6 +1,7 @@
-// What calls of the program come to. Each part has a folder of `data` with its cases: `code` compares the code of texts with their meaning, `meaning` has
-// texts whose meaning was worked out elsewhere, `examples` the texts of the folder `examples`, `language` the examples of docs/LANGUAGE.md, `modes`
-// statistics, listings and the generator's texts, and `any_text` takes any bytes for a text. `targets.txt` has a target a line. Prints what each part found.
+// What calls of the program come to. Each part has a folder of `data` with its cases: `code` compares the code of texts with their meaning, `cases` has
+// texts with what they write and how they end, `reaches` how long code is that leads to labels, `examples` the texts of the folder `examples`, `modes` statistics,
+// listings and the generator's texts, and `any_text` takes any bytes for a text; `edges` has what stands in no table. `targets.txt` has a target a line.
+// Prints what each part found.
 // The status is 0 exactly where the code of all cases agrees with their meaning.
 #![tactic(auto)]
 
@@ -10,20 +11,23 @@ ghost use Rattle.lg_test_calls.specs.Ends.{status_of};
 
 mod any_text;
 mod call;
+mod cases;
 mod code;
+mod edges;
 mod examples;
 mod form;
-mod language;
-mod meaning;
 mod modes;
 mod outcome;
+mod reaches;
+mod texts;
 
 use any_text::change_texts;
+use cases::make_cases;
 use code::compare_families;
+use edges::try_edges;
 use examples::run_examples;
-use language::run_page;
-use meaning::follow_cases;
 use modes::make_calls;
+use reaches::measure_rows;
 use std::process::ExitCode;
 use std::{fs, io};
 
@@ -37,9 +41,10 @@ fn exit_code(all: bool) -> ExitCode
 fn main(rt: HostRuntime) -> io::Result<ExitCode> {
     let targets = fs::read_to_string(&rt, "targets.txt")?;
     let all = compare_families(&rt, targets.as_str())?;
-    follow_cases(&rt)?;
+    make_cases(&rt)?;
+    measure_rows(&rt)?;
+    try_edges(&rt)?;
     run_examples(&rt, targets.as_str())?;
-    run_page(&rt)?;
     make_calls(&rt, targets.as_str())?;
     change_texts(&rt)?;
     Ok(exit_code(all))

@@ -2,7 +2,7 @@
 
 ghost use Rattle.std.specs.Prelude.{◌≡◌};
 
-use crate::call::{call_on_files, call_on_text};
+use crate::call::{Faults, call_on_files, call_on_text};
 use crate::form::has_form;
 use lg_base::refusal::OutOfMemory;
 use lg_io::memory_sink::MemorySink;
@@ -12,7 +12,7 @@ use std::fmt;
 use std::io::Input;
 use std::rt::Files;
 
-// room for the lines on the standard error
+// room for what a call writes, and for its lines on the standard error
 const ROOM: usize = 65_536;
 
 /// Lines on the standard error: these, or any of a form, in which `#` stands for any number and `+` for any but 0.
@@ -100,16 +100,21 @@ pub fn compare_on_files(
     outcome_of(wanted, out.bytes(), err.bytes(), status(&answer))
 }
 
-/// Makes a call over one text in memory, with its name, whose standard output takes so many bytes, and compares what it comes to.
+/// Makes a call over one text in memory, with its name, in which these calls fail, and compares what it comes to.
 pub fn compare_on_text(
     alloc: Global,
     words: &Vec<String>,
     text: (&str, &[u8]),
-    room: usize,
+    faults: Faults,
     wanted: Wanted<'_>,
 ) -> Result<Outcome, OutOfMemory> {
-    let mut out = MemorySink::new(alloc, room, &[])?;
-    let mut err = MemorySink::new(alloc, ROOM, &[])?;
-    let answer = call_on_text(alloc, words, text, &mut out, &mut err)?;
+    let room = if faults.room > 0 {
+        faults.room as usize
+    } else {
+        ROOM
+    };
+    let mut out = MemorySink::new(alloc, room, &[u64::from(faults.write)])?;
+    let mut err = MemorySink::new(alloc, ROOM, &[u64::from(faults.line)])?;
+    let answer = call_on_text(alloc, words, text, faults, (&mut out, &mut err))?;
     Ok(outcome_of(wanted, out.bytes(), err.bytes(), status(&answer)))
 }

@@ -1,10 +1,12 @@
-//! Tests of the crates below the top call: texts with what they are read as or refused for, and values computed elsewhere.
+//! Tests of the crates below the top call: texts with what they expand to, what they are read as or what they are refused for, and values computed elsewhere.
 #![tactic(auto)]
 
 #[cfg(test)]
 mod arguments;
 #[cfg(test)]
 mod check_rows;
+#[cfg(test)]
+mod expansion;
 #[cfg(test)]
 mod lists;
 #[cfg(test)]

@@ -3,7 +3,7 @@
 ghost use Rattle.std.specs.Prelude.{◌≤◌, length};
 
 use lg_base::refusal::OutOfMemory;
-use lg_random::Random;
+use lg_tally::Random;
 use std::alloc::Global;
 
 // Bytes that mean something in a text.

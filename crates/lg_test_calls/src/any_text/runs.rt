@@ -2,10 +2,10 @@
 
 use crate::any_text::changes::changed;
 use crate::any_text::tally::Tally;
-use crate::call::{call_on_text, command};
+use crate::call::{NO_FAULTS, call_on_text, command};
 use lg_base::refusal::OutOfMemory;
 use lg_io::memory_sink::MemorySink;
-use lg_random::Random;
+use lg_tally::Random;
 use std::alloc::{AllocError, Global};
 
 // How many calls are made.
@@ -33,7 +33,13 @@ fn count_call(
 ) -> Result<(), OutOfMemory> {
     let mut out = MemorySink::new(alloc, ROOM, &[])?;
     let mut err = MemorySink::new(alloc, 256, &[])?;
-    let answer = call_on_text(alloc, words, ("t.tst", text), &mut out, &mut err)?;
+    let answer = call_on_text(
+        alloc,
+        words,
+        ("t.tst", text),
+        NO_FAULTS,
+        (&mut out, &mut err),
+    )?;
     tally.count(answer, err.bytes());
     Ok(())
 }

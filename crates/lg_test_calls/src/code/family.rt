@@ -1,6 +1,6 @@
 // One family of cases.
 
-use crate::call::{call_on_text, command};
+use crate::call::{NO_FAULTS, call_on_text, command};
 use crate::code::ends::{do_agree, name};
 use crate::code::text::{lines_before_difference, text_of};
 use lg_base::refusal::OutOfMemory;
@@ -48,7 +48,13 @@ fn run_in(alloc: Global, target: &str, mode: &str, text: &[u8]) -> Result<ModeRu
     let words = words_in(alloc, target, mode)?;
     let mut out = MemorySink::new(alloc, ROOM, &[])?;
     let mut err = MemorySink::new(alloc, LINE, &[])?;
-    let answer = call_on_text(alloc, &words, ("t.tst", text), &mut out, &mut err)?;
+    let answer = call_on_text(
+        alloc,
+        &words,
+        ("t.tst", text),
+        NO_FAULTS,
+        (&mut out, &mut err),
+    )?;
     Ok(ModeRun { answer, out })
 }
 

@@ -1,5 +1,0 @@
-//! The portable meaning of texts from their bytes.
-#![tactic(auto)]
-
-pub mod end;
-pub mod meaning;

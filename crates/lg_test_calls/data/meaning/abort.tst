@@ -1,1 +1,0 @@
-.code prolog prepare finishi @abort ret epilog

@@ -1,1 +1,0 @@
-.code prolog movi %r0 0 ldr %r1 %r0 ret epilog

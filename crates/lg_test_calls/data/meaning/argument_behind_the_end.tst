@@ -1,1 +1,0 @@
-.code prolog movi %r0 0x28000000 ldxi_c %r1 %r0 44 ret epilog

@@ -1,1 +1,0 @@
-.data 16 d: .c "2147483648" .code prolog prepare pushargi d finishi @atoi ret epilog

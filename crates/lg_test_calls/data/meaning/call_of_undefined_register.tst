@@ -1,1 +1,0 @@
-.code prolog callr %r0 ret epilog

@@ -1,1 +1,0 @@
-.code f: prolog prepare finishi f ret epilog

@@ -1,1 +1,0 @@
-.data 16 fmt: .c "%lx %lx\n" .code prolog movi %v0 -1 movi %v1 0 movi %r0 1 addcr %v0 %v0 %r0 movi %r1 0 addxr %v1 %v1 %r1 prepare pushargi fmt ellipsis pushargr %v1 pushargr %v0 finishi @printf ret epilog

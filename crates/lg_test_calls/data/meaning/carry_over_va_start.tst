@@ -1,1 +1,0 @@
-.code prolog ellipsis movi %v0 1 addci %v0 %v0 1 va_start %r0 addxi %v0 %v0 1 reti 0 epilog

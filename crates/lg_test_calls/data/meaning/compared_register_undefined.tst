@@ -1,1 +1,0 @@
-.code prolog beqi a %r0 1 a: ret epilog

@@ -1,1 +1,0 @@
-.code prolog prepare pushargi 0 pushargi 0 pushargi 0 finishi @memcpy ret epilog

@@ -1,1 +1,0 @@
-.data 8 d: .code prolog prepare pushargi 24 finishi @malloc retval %v0 prepare pushargi d pushargr %v0 pushargi 8 finishi @memcpy ret epilog

@@ -1,1 +1,0 @@
-.data 8 d: .code prolog movi %v0 d addi %v0 %v0 4 prepare pushargr %v0 pushargi d pushargi 4 finishi @memcpy ret epilog

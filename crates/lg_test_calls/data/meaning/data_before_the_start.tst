@@ -1,1 +1,0 @@
-.data 16 d: .code prolog movi %r0 d ldxi %r1 %r0 -8 ret epilog

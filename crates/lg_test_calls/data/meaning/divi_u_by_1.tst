@@ -1,1 +1,0 @@
-.code prolog movi %r0 7 divi_u %r1 %r0 1 ret epilog

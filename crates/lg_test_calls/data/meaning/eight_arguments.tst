@@ -1,1 +1,0 @@
-.data 32 fmt: .c "%d %d %d %d %d %d %d %d\n" .code prolog prepare pushargi fmt ellipsis pushargi 1 pushargi 2 pushargi 3 pushargi 4 pushargi 5 pushargi 6 pushargi 7 pushargi 8 finishi @printf ret epilog

@@ -1,1 +1,0 @@
-.code prolog ellipsis va_end %r0 ret epilog

@@ -1,1 +1,0 @@
-.code prolog a: jmpi b b: jmpi a epilog

@@ -1,1 +1,0 @@
-.data 8 fmt: .c "%lx\n" .code prolog prepare pushargi fmt ellipsis pushargr %fp finishi @printf ret epilog

@@ -1,1 +1,0 @@
-.code prolog prepare pushargi -1 finishi @exit ret epilog

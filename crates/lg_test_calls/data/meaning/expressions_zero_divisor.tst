@@ -1,1 +1,0 @@
-.data 16 fmt: .c "%ld %ld %ld\n" .code prolog prepare pushargi fmt ellipsis pushargi $(1 / 0) pushargi $(-7 / 2) pushargi $(0xffffffffffffffff) finishi @printf ret epilog

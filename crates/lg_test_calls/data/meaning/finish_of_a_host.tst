@@ -1,1 +1,0 @@
-.code prolog movi %v0 @putchar prepare pushargi 'a' finishr %v0 ret epilog

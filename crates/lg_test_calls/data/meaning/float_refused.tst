@@ -1,2 +1,0 @@
-.code prolog
-addr_f %f0 %f1 %f2 ret epilog

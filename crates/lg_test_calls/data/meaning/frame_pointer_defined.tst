@@ -1,1 +1,0 @@
-.code prolog movr %r0 %fp ret epilog

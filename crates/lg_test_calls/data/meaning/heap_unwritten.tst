@@ -1,1 +1,0 @@
-.code prolog prepare pushargi 24 finishi @malloc retval %r0 ldr %r1 %r0 ret epilog

@@ -1,1 +1,0 @@
-.code prolog prepare pushargi 24 finishi @malloc retval %v0 str %v0 %v0 ldr %r1 %v0 ret epilog

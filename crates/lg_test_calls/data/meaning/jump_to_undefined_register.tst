@@ -1,1 +1,0 @@
-.code prolog jmpr %r0 ret epilog

@@ -1,4 +1,0 @@
-.code prolog
-jmpi x
-ret
-epilog

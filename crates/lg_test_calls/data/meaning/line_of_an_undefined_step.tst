@@ -1,6 +1,0 @@
-.code
-prolog
-
-movr %r0
-%r1
-ret epilog

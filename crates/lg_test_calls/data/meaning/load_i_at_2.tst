@@ -1,1 +1,0 @@
-.data 16 d: .code prolog movi %r0 d ldxi_i %r1 %r0 2 ret epilog

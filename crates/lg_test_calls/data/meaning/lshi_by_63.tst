@@ -1,1 +1,0 @@
-.code prolog movi %r0 1 lshi %r1 %r0 63 ret epilog

@@ -1,1 +1,0 @@
-.data 48 fmt: .c "%lx %lx %lx %lx\n" .align 8 buf: .size 16 .code prolog movi %v0 buf movi %r0 0x8182838485868788 stxi 1 %v0 %r0 ldxi_s %v1 %v0 1 ldxi_us %v2 %v0 7 ldxi_i %r1 %v0 5 ldxi_ui %r2 %v0 3 prepare pushargi fmt ellipsis pushargr %v1 pushargr %v2 pushargr %r1 pushargr %r2 finishi @printf ret epilog

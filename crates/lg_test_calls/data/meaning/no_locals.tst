@@ -1,1 +1,0 @@
-.code prolog movi %r0 1 stxi -136 %fp %r0 ret epilog

@@ -1,1 +1,0 @@
-.code prolog ret epilog

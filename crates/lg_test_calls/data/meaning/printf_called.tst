@@ -1,1 +1,0 @@
-.code prolog calli @printf ret epilog

@@ -1,1 +1,0 @@
-.data 16 fmt: .c "ab%" .code prolog prepare pushargi fmt ellipsis  finishi @printf ret epilog

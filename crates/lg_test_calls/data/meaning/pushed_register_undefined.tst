@@ -1,1 +1,0 @@
-.code prolog prepare pushargr %r0 finishi @free ret epilog

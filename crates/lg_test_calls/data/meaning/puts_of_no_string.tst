@@ -1,1 +1,0 @@
-.code prolog prepare pushargi 0 finishi @puts ret epilog

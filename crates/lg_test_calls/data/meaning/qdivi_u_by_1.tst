@@ -1,1 +1,0 @@
-.code prolog movi %r2 7 qdivi_u %r0 %r1 %r2 1 ret epilog

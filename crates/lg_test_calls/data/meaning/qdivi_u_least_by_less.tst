@@ -1,1 +1,0 @@
-.code prolog movi %r2 0x8000000000000000 qdivi_u %r0 %r1 %r2 -1 ret epilog

@@ -1,1 +1,0 @@
-.code prolog movi %r0 0x8000000000000000 remi %r1 %r0 -1 ret epilog

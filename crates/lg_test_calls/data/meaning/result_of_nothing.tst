@@ -1,1 +1,0 @@
-.code prolog movi %r0 1 retval %r0 ret epilog

@@ -1,1 +1,0 @@
-.code prolog ldxi %r0 %fp 8 ret epilog

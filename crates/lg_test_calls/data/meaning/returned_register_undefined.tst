@@ -1,1 +1,0 @@
-.code prolog retr %r0 epilog

@@ -1,1 +1,0 @@
-.code prolog movi %r0 64 rshr %r1 %r0 %r0 ret epilog

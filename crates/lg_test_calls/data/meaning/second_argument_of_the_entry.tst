@@ -1,1 +1,0 @@
-.code prolog arg $a arg $b getarg %r0 $b ret epilog

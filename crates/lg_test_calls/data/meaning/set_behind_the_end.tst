@@ -1,1 +1,0 @@
-.data 8 d: .code prolog prepare pushargi d pushargi 1 pushargi 9 finishi @memset ret epilog

@@ -1,1 +1,0 @@
-.data 32 fmt: .c "%lx %lx %lx\n" .code prolog movi %r0 -16 movi %r1 68 lshr %v0 %r0 %r1 rshr %v1 %r0 %r1 rshr_u %v2 %r0 %r1 prepare pushargi fmt ellipsis pushargr %v0 pushargr %v1 pushargr %v2 finishi @printf ret epilog

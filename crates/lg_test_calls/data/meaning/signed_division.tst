@@ -1,1 +1,0 @@
-.data 16 fmt: .c "%ld %ld %lu\n" .code prolog movi %r0 -7 divi %v0 %r0 2 remi %v1 %r0 2 divi_u %v2 %r0 2 prepare pushargi fmt ellipsis pushargr %v0 pushargr %v1 pushargr %v2 finishi @printf ret epilog

@@ -1,1 +1,0 @@
-.code prolog prepare pushargi 1 pushargi 2 pushargi 3 pushargi 4 pushargi 5 pushargi 6 pushargi 7 pushargi 8 pushargi 9 pushargi 10 pushargi 11 pushargi 12 pushargi 13 pushargi 14 pushargi 15 pushargi 61 finishi f retval %r0 prepare pushargr %r0 finishi @exit epilog f: prolog ellipsis movi %r0 15 va_arg %r1 %r0 retr %r1 epilog

@@ -1,1 +1,0 @@
-.code prolog divi %r0 %r0 0 epilog

@@ -1,1 +1,0 @@
-.data 16 d: .code prolog movi %r0 d stxi 8 %r0 %r0 ret epilog

@@ -1,1 +1,0 @@
-.data 8 d: .code prolog sti d %r0 ret epilog

@@ -1,1 +1,0 @@
-.data 8 d: .c "a" .code prolog prepare pushargi d finishi @strcmp ret epilog

@@ -1,1 +1,0 @@
-.code prolog ellipsis va_start %r0 va_arg %r1 %r0 va_arg %r2 %r0 va_arg %r2 %r0 retr %r0 epilog

@@ -1,1 +1,0 @@
-.code prolog addi %r0 %r1 1 ret epilog

@@ -1,1 +1,0 @@
-.code prolog prepare ellipsis pushargi 1 finishi f ret epilog f: prolog arg $x getarg %r0 $x ret epilog
