@@ -1,5 +1,6 @@
 pub mod Answers
 pub mod ChoiceLemmas
+pub mod FirstLemmas
 pub mod Induction
 pub mod SavedLemmas
 pub mod Steps

@@ -1,11 +1,11 @@
 -- What holds of each choice, for the code that takes it.
-use Rattle.std.specs.Prelude.{◌≡◌, ℕ, ◌==◌, ◌||◌, true, false, List, [], ◌∷◌, ◌++◌, Some, ⊤}
-use Rattle.std.specs.List.{list_any}
+use Rattle.std.specs.Prelude.{◌≡◌, ℕ, ◌==◌, ◌||◌, Bool, true, false, List, [], ◌∷◌, ◌++◌, Some, ⊤}
+use Rattle.std.specs.List.{list_all, list_any}
 use Rattle.lg_temp.specs.declared.choice.Need.{Need}
 use Rattle.lg_temp.specs.declared.choice.Need.TheVariants.{Any, Only}
 use Rattle.lg_temp.specs.declared.choice.Choice.{Choice}
 use Rattle.lg_temp.specs.declared.choice.Choice.TheVariants.{Free, Own, Spill}
-use Rattle.lg_temp.specs.Chosen.{Around, order, stands_in, is_named, is_chosen, spills, is_own, is_busy, choices_of}
+use Rattle.lg_temp.specs.Chosen.{Around, order, stands_in, is_named, is_chosen, spills, is_own, is_busy, is_barred, choices_of}
 
 -- a register for a need that names none, behind choices that are made: one that is tried, that the node neither reads nor writes, that no need names
 -- and that is not chosen already
@@ -37,3 +37,27 @@ AreFor a needs made left choices = ⊥
 
 abbrev pub ChoicesAreForNeeds : Type 0
 ChoicesAreForNeeds = (a : Around) (needs : List Need) (choices : List Choice) → choices_of a needs ≡ Some choices → AreFor a needs [] needs choices
+
+-- the first of a list that is not refused
+abbrev pub IsFirst : (ℕ → Bool) → List ℕ → ℕ → Type 0
+IsFirst refused registers r = (before : List ℕ) × (behind : List ℕ) × (registers ≡ before ++ r ∷ behind) × (list_all refused before ≡ true) × (refused r ≡ false)
+
+-- whether a need that names no register can only have one that is saved
+abbrev pub is_refused : Around → List Need → List Choice → ℕ → Bool
+is_refused a needs made r = is_barred a needs made r || is_busy a r
+
+-- a need that names no register takes the first in the order that is neither barred nor busy; only where there is none, the first that is not barred is
+-- saved
+abbrev pub IsFirstFor : Around → List Need → List Choice → Need → Choice → Type 0
+IsFirstFor a needs made Any (Free r) = IsFirst (is_refused a needs made) (order a.target) r
+IsFirstFor a needs made Any (Own r) = ⊥
+IsFirstFor a needs made Any (Spill r slot) = (list_all (is_refused a needs made) (order a.target) ≡ true) × IsFirst (is_barred a needs made) (order a.target) r
+IsFirstFor a needs made (Only x) choice = ⊤
+
+abbrev pub AreFirst : Around → List Need → List Choice → List Need → List Choice → Type 0
+AreFirst a needs made [] [] = ⊤
+AreFirst a needs made (need ∷ left) (choice ∷ choices) = IsFirstFor a needs made need choice × AreFirst a needs (made ++ choice ∷ []) left choices
+AreFirst a needs made left choices = ⊥
+
+abbrev pub ChoicesAreFirst : Type 0
+ChoicesAreFirst = (a : Around) (needs : List Need) (choices : List Choice) → choices_of a needs ≡ Some choices → AreFirst a needs [] needs choices
