@@ -4,6 +4,7 @@ pub mod A64RunLemmas
 pub mod A64SoundLemmas
 mod ArgumentLemmas
 mod CallLemmas
+mod DecodeLemmas
 mod FaultLemmas
 mod FollowLemmas
 mod OperatorLemmas

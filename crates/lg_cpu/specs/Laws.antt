@@ -1,13 +1,16 @@
 -- What holds of every step of the processors.
-use Rattle.std.specs.Prelude.{◌≡◌, ◌≢◌, ℕ, ◌-◌, ◌%◌, ◌^◌, ◌<◌, ◌≤◌, List, [], ◌++◌, length, drop, slice_index, Option, Some, ⊤}
+use Rattle.std.specs.Prelude.{◌≡◌, ◌≢◌, ℕ, ◌-◌, ◌%◌, ◌^◌, ◌<◌, ◌≤◌, true, List, [], ◌++◌, length, drop, slice_index, Option, Some, ⊤}
 use Rattle.std.specs.Io.KnownBytes.{Appends}
 use Rattle.lg_base.specs.declared.target.Target.{Target}
+use Rattle.lg_base.specs.Fronts.{BeginsWith}
 use Rattle.lg_base.specs.Layout.{code_base}
 use Rattle.lg_base.specs.Runs.{IsMachine}
 use Rattle.lg_host.specs.Host.{heap_end}
 use Rattle.lg_rv.specs.Spelling.{IsInstr, spelling}
 use Rattle.lg_rv.specs.declared.instruction.Instr.{Instr}
-use Rattle.lg_cpu.specs.Steps.{Progress, Goes, EndedWith, Faulted, Effect}
+use Rattle.lg_base.specs.declared.fault.FaultKind.TheVariants.{Decode}
+use Rattle.lg_cpu.specs.Fetches.{in_code}
+use Rattle.lg_cpu.specs.Steps.{Progress, Goes, EndedWith, Faulted, Effect, faults}
 use Rattle.lg_cpu.specs.States.{CpuState}
 use Rattle.lg_a64.specs.Spelling as a64_spelling
 use Rattle.lg_a64.specs.declared.instruction.Instr as a64_instr
@@ -59,6 +62,26 @@ X86ExecutesWhatStands = (code more : List ℕ) (trash : ℕ) (q : CpuState) (i :
     → drop (q.pc - code_base) code ≡ x86_spelling.spelling i ++ more
     → x86.effect code trash q ≡ x86.act i (length (x86_spelling.spelling i)) q
 
+-- ---- and where none stands at an address of the code, the step is a Decode fault: on RV64IM, AArch64 and x86-64
+abbrev pub AreBytes : List ℕ → Type 0
+AreBytes code = (k : ℕ) → slice_index code k < 256
+
+-- no instruction's spelling begins the bytes
+abbrev pub BeginsNone : {I : Type 0} → (I → List ℕ) → (I → Type 0) → List ℕ → Type 0
+BeginsNone {I} spelling fits bytes = (i : I) → BeginsWith spelling fits bytes i → ⊥
+
+abbrev pub RvExecutesNothingElse : Type 0
+RvExecutesNothingElse = (code : List ℕ) (trash : ℕ) (q : CpuState) → AreBytes code → in_code code q.pc ≡ true → q.pc % 4 ≡ 0
+    → BeginsNone spelling IsInstr (drop (q.pc - code_base) code) → effect code trash q ≡ faults q Decode
+
+abbrev pub A64ExecutesNothingElse : Type 0
+A64ExecutesNothingElse = (code : List ℕ) (trash : ℕ) (q : CpuState) → AreBytes code → in_code code q.pc ≡ true → q.pc % 4 ≡ 0
+    → BeginsNone a64_spelling.spelling a64_spelling.IsInstr (drop (q.pc - code_base) code) → a64.effect code trash q ≡ faults q Decode
+
+abbrev pub X86ExecutesNothingElse : Type 0
+X86ExecutesNothingElse = (code : List ℕ) (trash : ℕ) (q : CpuState) → AreBytes code → in_code code q.pc ≡ true
+    → BeginsNone x86_spelling.spelling x86_spelling.IsInstr (drop (q.pc - code_base) code) → x86.effect code trash q ≡ faults q Decode
+
 -- ---- a step that faults leaves everything as it was
 abbrev pub OnFault : Progress → Type 0 → Type 0
 OnFault (Faulted kind) P = P
@@ -79,9 +102,6 @@ pub record IsSound (q : CpuState) : Type 0 where
   pub words : (r : ℕ) → q.registers r < 2 ^ 64
   pub bytes : (a b : ℕ) → q.bytes a ≡ Some b → b < 256
   pub mark : q.mark ≤ heap_end
-
-abbrev pub AreBytes : List ℕ → Type 0
-AreBytes code = (k : ℕ) → slice_index code k < 256
 
 abbrev pub StaysSound : Type 0
 StaysSound = (target : Target) (code : List ℕ) (trash : ℕ) (q : CpuState) → AreBytes code → trash < 2 ^ 64 → IsSound q

@@ -1,6 +1,7 @@
 // What holds of every step, for the crates above. The functions do nothing: their contracts are the laws.
 
 ghost use Rattle.lg_cpu.specs.Laws.{StepsAreThose, StartsAreRuns, StepsFollowRuns, RvExecutesWhatStands, A64ExecutesWhatStands, X86ExecutesWhatStands};
+ghost use Rattle.lg_cpu.specs.Laws.{RvExecutesNothingElse, A64ExecutesNothingElse, X86ExecutesNothingElse};
 ghost use Rattle.lg_cpu.specs.Laws.{FaultsChangeNothing, StaysSound, RunsAreMachines};
 
 /// A call of `step` makes the step of the definition, unless a write fails.
@@ -32,6 +33,21 @@ pub fn what_stands_is_executed_on_aarch64()
 /// And on x86-64, where the address need not be a multiple of 4.
 pub fn what_stands_is_executed_on_x86_64()
     ensures { X86ExecutesWhatStands }
+{}
+
+/// Where the program counter is an address of the code at which no instruction's spelling begins, the step is a Decode fault: on RV64IM.
+pub fn nothing_else_is_executed_on_riscv64()
+    ensures { RvExecutesNothingElse }
+{}
+
+/// And on AArch64.
+pub fn nothing_else_is_executed_on_aarch64()
+    ensures { A64ExecutesNothingElse }
+{}
+
+/// And on x86-64, where the address need not be a multiple of 4.
+pub fn nothing_else_is_executed_on_x86_64()
+    ensures { X86ExecutesNothingElse }
 {}
 
 /// A step that faults leaves registers, flags and memory as they were, and writes nothing.

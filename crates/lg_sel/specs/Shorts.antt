@@ -60,6 +60,17 @@ pub record LeadsBy {I : Type 0} (spelling : I → List ℕ) (fits : I → Type 0
   pub leads : is_relative leap ≡ true
   pub form : has_form (place + length (spellings spelling front)) (leap ∷ rest)
 
+-- on RV64, the register that holds where a jump came from, and the one that a far jump goes through: none and x31 at a jump, the link at a call
+pub record RvLink : Type 0 where
+  pub holds : ℕ
+  pub through : ℕ
+
+abbrev pub of_jumps : RvLink
+of_jumps = record { holds = 0; through = 31 }
+
+abbrev pub of_calls : RvLink
+of_calls = record { holds = 1; through = 1 }
+
 -- ---- the forms back, of what leads from a place to a goal
 -- x86-64: a jump on a condition of two bytes, wherever its byte reaches
 abbrev pub IsShortJumpIf : ℕ → ℕ → List X86Instr → Type 0
@@ -76,9 +87,9 @@ pub record IsShortRvBranch (goal from : ℕ) (is : List RvInstr) : Type 0 where
   pub over : (Fits RvBranch from goal → ⊥) → Fits RvJal (from + 4) goal
       → (o : BranchOp) × (rs1 : ℕ) × (rs2 : ℕ) × (is ≡ rv_instr.Branch o rs1 rs2 (pos 8) ∷ rv_instr.Jal 0 (pos goal -ℤ pos (from + 4)) ∷ [])
 
--- and a `jal`, wherever it reaches
-abbrev pub IsShortRvJump : ℕ → ℕ → List RvInstr → Type 0
-IsShortRvJump goal from is = Fits RvJal from goal → (rd : ℕ) × (is ≡ rv_instr.Jal rd (pos goal -ℤ pos from) ∷ [])
+-- and a `jal` into a register, wherever it reaches
+abbrev pub IsShortRvJump : ℕ → ℕ → ℕ → List RvInstr → Type 0
+IsShortRvJump rd goal from is = Fits RvJal from goal → is ≡ rv_instr.Jal rd (pos goal -ℤ pos from) ∷ []
 
 -- ---- by target, of bytes that begin at a place
 abbrev pub IsShortBranch : Target → ℕ → ℕ → List ℕ → Type 0
@@ -86,18 +97,18 @@ IsShortBranch X86_64 goal place bytes = LeadsBy x86.spelling x86.IsInstr x86_is_
 IsShortBranch Aarch64 goal place bytes = LeadsBy a64.spelling a64.IsInstr a64_is_relative (IsShortBranchIf goal) place bytes
 IsShortBranch Riscv64 goal place bytes = LeadsBy rv.spelling rv.IsInstr rv_is_relative (IsShortRvBranch goal) place bytes
 
--- a jump or call has one form on the other targets
-abbrev pub IsShortJump : Target → ℕ → ℕ → List ℕ → Type 0
-IsShortJump Riscv64 goal place bytes = LeadsBy rv.spelling rv.IsInstr rv_is_relative (IsShortRvJump goal) place bytes
-IsShortJump target goal place bytes = ⊤
+-- a jump or a call has one form on the other targets
+abbrev pub IsShortJump : Target → RvLink → ℕ → ℕ → List ℕ → Type 0
+IsShortJump Riscv64 link goal place bytes = LeadsBy rv.spelling rv.IsInstr rv_is_relative (IsShortRvJump link.holds goal) place bytes
+IsShortJump target link goal place bytes = ⊤
 
 -- of a node with this operation, whose first operand is the label
 abbrev pub IsShort : Target → Op → ℕ → ℕ → List ℕ → Type 0
 IsShort target (op.Branch o last) goal place bytes = IsShortBranch target goal place bytes
 IsShort target (op.BranchSum o last) goal place bytes = IsShortBranch target goal place bytes
-IsShort target (op.Control control.Jmp last_operand.Immediate) goal place bytes = IsShortJump target goal place bytes
-IsShort target (op.Control control.Call last_operand.Immediate) goal place bytes = IsShortJump target goal place bytes
-IsShort target (op.Control control.Finish last_operand.Immediate) goal place bytes = IsShortJump target goal place bytes
+IsShort target (op.Control control.Jmp last_operand.Immediate) goal place bytes = IsShortJump target of_jumps goal place bytes
+IsShort target (op.Control control.Call last_operand.Immediate) goal place bytes = IsShortJump target of_calls goal place bytes
+IsShort target (op.Control control.Finish last_operand.Immediate) goal place bytes = IsShortJump target of_calls goal place bytes
 IsShort target o goal place bytes = ⊤
 
 -- ---- the forms ahead, to a label that is not bound yet, in a buffer in which the near form leads to every place, or in a larger one. Where they lead
@@ -117,14 +128,14 @@ abbrev pub IsRvBranchAhead : Bool → ℕ → List RvInstr → Type 0
 IsRvBranchAhead true from is =
     (o : BranchOp) × (rs1 : ℕ) × (rs2 : ℕ) × (distance : ℤ) × (is ≡ rv_instr.Branch o rs1 rs2 (pos 8) ∷ rv_instr.Jal 0 distance ∷ [])
 IsRvBranchAhead false from is =
-    (o : BranchOp) × (rs1 : ℕ) × (rs2 : ℕ) × (base : ℕ) × (high : ℕ) × (low : ℤ)
-    × (is ≡ rv_instr.Branch o rs1 rs2 (pos 12) ∷ rv_instr.Upper Auipc base high ∷ rv_instr.Imm Jalr 0 base low ∷ [])
+    (o : BranchOp) × (rs1 : ℕ) × (rs2 : ℕ) × (high : ℕ) × (low : ℤ)
+    × (is ≡ rv_instr.Branch o rs1 rs2 (pos 12) ∷ rv_instr.Upper Auipc of_jumps.through high ∷ rv_instr.Imm Jalr of_jumps.holds of_jumps.through low ∷ [])
 
 -- and a `jal`, or `auipc` and `jalr`
-abbrev pub IsRvJumpAhead : Bool → ℕ → List RvInstr → Type 0
-IsRvJumpAhead true from is = (rd : ℕ) × (distance : ℤ) × (is ≡ rv_instr.Jal rd distance ∷ [])
-IsRvJumpAhead false from is =
-    (rd : ℕ) × (base : ℕ) × (high : ℕ) × (low : ℤ) × (is ≡ rv_instr.Upper Auipc base high ∷ rv_instr.Imm Jalr rd base low ∷ [])
+abbrev pub IsRvJumpAhead : RvLink → Bool → ℕ → List RvInstr → Type 0
+IsRvJumpAhead link true from is = (distance : ℤ) × (is ≡ rv_instr.Jal link.holds distance ∷ [])
+IsRvJumpAhead link false from is =
+    (high : ℕ) × (low : ℤ) × (is ≡ rv_instr.Upper Auipc link.through high ∷ rv_instr.Imm Jalr link.holds link.through low ∷ [])
 
 -- ---- by target, of bytes that begin at a place
 abbrev pub IsBranchAhead : Target → Bool → ℕ → List ℕ → Type 0
@@ -132,16 +143,16 @@ IsBranchAhead X86_64 is_near place bytes = LeadsBy x86.spelling x86.IsInstr x86_
 IsBranchAhead Aarch64 is_near place bytes = LeadsBy a64.spelling a64.IsInstr a64_is_relative (IsBranchIfAhead is_near) place bytes
 IsBranchAhead Riscv64 is_near place bytes = LeadsBy rv.spelling rv.IsInstr rv_is_relative (IsRvBranchAhead is_near) place bytes
 
--- a jump or call has one form on the other targets
-abbrev pub IsJumpAhead : Target → Bool → ℕ → List ℕ → Type 0
-IsJumpAhead Riscv64 is_near place bytes = LeadsBy rv.spelling rv.IsInstr rv_is_relative (IsRvJumpAhead is_near) place bytes
-IsJumpAhead target is_near place bytes = ⊤
+-- a jump or a call has one form on the other targets
+abbrev pub IsJumpAhead : Target → RvLink → Bool → ℕ → List ℕ → Type 0
+IsJumpAhead Riscv64 link is_near place bytes = LeadsBy rv.spelling rv.IsInstr rv_is_relative (IsRvJumpAhead link is_near) place bytes
+IsJumpAhead target link is_near place bytes = ⊤
 
 -- of a node with this operation, whose first operand is the label
 abbrev pub IsAhead : Target → Bool → Op → ℕ → List ℕ → Type 0
 IsAhead target is_near (op.Branch o last) place bytes = IsBranchAhead target is_near place bytes
 IsAhead target is_near (op.BranchSum o last) place bytes = IsBranchAhead target is_near place bytes
-IsAhead target is_near (op.Control control.Jmp last_operand.Immediate) place bytes = IsJumpAhead target is_near place bytes
-IsAhead target is_near (op.Control control.Call last_operand.Immediate) place bytes = IsJumpAhead target is_near place bytes
-IsAhead target is_near (op.Control control.Finish last_operand.Immediate) place bytes = IsJumpAhead target is_near place bytes
+IsAhead target is_near (op.Control control.Jmp last_operand.Immediate) place bytes = IsJumpAhead target of_jumps is_near place bytes
+IsAhead target is_near (op.Control control.Call last_operand.Immediate) place bytes = IsJumpAhead target of_calls is_near place bytes
+IsAhead target is_near (op.Control control.Finish last_operand.Immediate) place bytes = IsJumpAhead target of_calls is_near place bytes
 IsAhead target is_near o place bytes = ⊤
