@@ -156,7 +156,7 @@ passing_on points to set s t i next p g here e =
       passed = λ j le jumps.
           ⊎_elim
           (λ (less : j < p.from). ⊎_elim (λ (less2 : i < j). absurd (h.none j less2 less jumps)) (λ (more : j ≤ i). let same : i ≡ j = omega arith in subst (HasPassed points set t) same here) (cases_lt i j))
-          (λ (more : p.from ≤ j). λ r a b. g.sets j r (p.passed j more jumps r a b))
+          (λ (more : p.from ≤ j). λ r a. g.sets j r (p.passed j more jumps r a))
           (cases_lt j p.from);
     }
 

@@ -1,20 +1,22 @@
--- What is needed at the points of a text is what is live at its nodes.
+-- What is wanted at the points of a text is what is needed at its nodes.
 use Rattle.std.proofs.Common.{◌≡◌, ◌↔◌, inl, inr, ⊎_elim, ℕ, ◌+◌, ◌*◌, ◌<◌, ◌≤◌, Bool, true, false, List, Option, Some, None, refl, sym, ap, ◌∙◌, length, get_or, arith}
-use Rattle.std.specs.Prelude.{slice_get, ◌&&◌, nat_lt, if◌then◌else◌}
-use Rattle.std.proofs.lemmas.Bool.{cases_lt, and_parts}
+use Rattle.std.specs.Prelude.{slice_get, not, ◌&&◌, nat_lt, if◌then◌else◌}
+use Rattle.std.proofs.lemmas.Bool.{cases_lt, and_parts, not-true}
 use Rattle.std.proofs.lemmas.List.{get_or_past}
 use Rattle.std.proofs.lemmas.Option.{slice_get_within, slice_get-get_or, slice_get_cases, same_Some}
 use Rattle.lg_op.specs.declared.node.Node.{Node}
+use Rattle.lg_op.specs.declared.op.Op.{Op}
 use Rattle.lg_op.specs.declared.operand.Reg.{Reg}
 use Rattle.lg_node.specs.Nodes.{LabelledNodes}
 use Rattle.lg_node.specs.Functions.{home}
 use Rattle.lg_node.specs.Shapes.{TextShape, IsSuccessor, IsTakenIn, IsTarget, IsNext, GoesBy, Way, Next, Jump, Either, Taken, Leave, way_of, target_of}
 use Rattle.lg_live.specs.RegSets.{has}
 use Rattle.lg_liveness.specs.declared.point.Point.{Point}
-use Rattle.lg_liveness.specs.Graphs.{point_at, no_point, IsArc, falls, jumps, joins, IsNeeded, IsNeededBehind, AreWithin}
+use Rattle.lg_liveness.specs.Graphs.{point_at, no_point, IsArc, falls, jumps, joins, IsWanted, IsWantedBehind, AreWithin}
 use Rattle.lg_liveness.specs.Graphs as graph
-use Rattle.lg_liveness.specs.Liveness.{IsLive, IsLiveBehind}
-use Rattle.lg_liveness.specs.Liveness as live
+use Rattle.lg_liveness.specs.Needs.{IsNeededBy, IsNeededBehind}
+use Rattle.lg_liveness.specs.Needs as need
+use Rattle.lg_live.specs.Uses.{is_read}
 use Rattle.lg_liveness.specs.Points.{falls_by, aims_by, gathers_by, node_within, gate, gate_of, join_of, IsTakenAt, IsPoint, ArePoints}
 use Rattle.lg_liveness.proofs.ChainLemmas.{jumps_past}
 use Rattle.lg_liveness.proofs.SearchLemmas.{past_reads_none}
@@ -36,6 +38,12 @@ joins_past points i k le e =
 
 writes_past : (points : List Point) (i : ℕ) (r : Reg) → length points ≤ i → has (point_at points i).writes r ≡ false
 writes_past points i r le = ap (λ (p : Point). has p.writes r) (get_or_past points i no_point le)
+
+feeds_past : (points : List Point) (i : ℕ) (r : Reg) → length points ≤ i → has (point_at points i).feeds r ≡ true → ⊥
+feeds_past points i r le e =
+    let d : has (point_at points i).feeds r ≡ false = ap (λ (p : Point). has p.feeds r) (get_or_past points i no_point le) in
+    let f : ◌≡◌ {A = Bool} false true = sym d ∙ e in
+    cc
 
 -- ---- ways
 goes_next : (l : LabelledNodes) (s : TextShape) (i k : ℕ) (n : Node) (w : Way) → falls_by w ≡ true → IsNext l i k → GoesBy l s i n w k
@@ -59,29 +67,30 @@ goes_taken l s i k n Jump e h = absurd (cc)
 goes_taken l s i k n Either e h = absurd (cc)
 goes_taken l s i k n Leave e h = absurd (cc)
 
--- a register is live before some node that is a taken label of a function
-pub record IsLiveAtGate (l : LabelledNodes) (s : TextShape) (r : Reg) (p : ℕ) : Type 0 where
+-- a register is needed before some node that is a taken label of a function
+pub record IsNeededAtGate (feeding : Op → Bool) (l : LabelledNodes) (s : TextShape) (r : Reg) (p : ℕ) : Type 0 where
   pub node : ℕ
   pub taken : IsTakenAt l s node
   pub inside : home l.nodes node ≡ Some p
   pub behind : p < node
-  pub live : IsLive l s r node
+  pub needed : IsNeededBy feeding l s r node
 
--- what it is for a register to be needed at a point
-pub record IsMeant (l : LabelledNodes) (s : TextShape) (r : Reg) (i : ℕ) : Type 0 where
-  pub node : i < length l.nodes → IsLive l s r i
-  pub gates : (p : ℕ) → i ≡ gate l p → IsLiveAtGate l s r p
+-- what it is for a register to be wanted at a point
+pub record IsMeant (feeding : Op → Bool) (l : LabelledNodes) (s : TextShape) (r : Reg) (i : ℕ) : Type 0 where
+  pub node : i < length l.nodes → IsNeededBy feeding l s r i
+  pub gates : (p : ℕ) → i ≡ gate l p → IsNeededAtGate feeding l s r p
 
-live_within : (l : LabelledNodes) (s : TextShape) (r : Reg) (i : ℕ) → IsLive l s r i → i < length l.nodes
-live_within l s r i (live.read_here j n h e) = slice_get_within l.nodes i n h
-live_within l s r i (live.kept_to j k n h w g e) = slice_get_within l.nodes i n h
+within : (feeding : Op → Bool) (l : LabelledNodes) (s : TextShape) (r : Reg) (i : ℕ) → IsNeededBy feeding l s r i → i < length l.nodes
+within feeding l s r i (need.read_here r1 j n h e d) = slice_get_within l.nodes i n h
+within feeding l s r i (need.read_for r1 q j k n h f w g e) = slice_get_within l.nodes i n h
+within feeding l s r i (need.kept_to r1 j k n h w g e) = slice_get_within l.nodes i n h
 
-module _ (l : LabelledNodes) (s : TextShape) (points : List Point) (are : ArePoints l s points) where
-  point_here : (i : ℕ) (n : Node) → slice_get l.nodes i ≡ Some n → IsPoint l s i n (point_at points i)
+module _ (feeding : Op → Bool) (l : LabelledNodes) (s : TextShape) (points : List Point) (are : ArePoints feeding l s points) where
+  point_here : (i : ℕ) (n : Node) → slice_get l.nodes i ≡ Some n → IsPoint feeding l s i n (point_at points i)
   point_here i n h = are.each i n (point_at points i) h (slice_get-get_or points i no_point (let lt = slice_get_within l.nodes i n h in omega (arith, lt, are.count)))
 
-  -- ---- what is needed is live
-  gate_case : (r : Reg) (i k : ℕ) (n : Node) → slice_get l.nodes i ≡ Some n → IsMeant l s r k → (b : Bool) → gathers_by (way_of n.op) ≡ b → (o : Option ℕ) → home l.nodes i ≡ o → gate_of l b o ≡ Some k → IsLiveBehind l s r i
+  -- ---- what is wanted is needed
+  gate_case : (r : Reg) (i k : ℕ) (n : Node) → slice_get l.nodes i ≡ Some n → IsMeant feeding l s r k → (b : Bool) → gathers_by (way_of n.op) ≡ b → (o : Option ℕ) → home l.nodes i ≡ o → gate_of l b o ≡ Some k → IsNeededBehind feeding l s r i
   gate_case r i k n h m b g None e f = absurd (cc)
   gate_case r i k n h m false g (Some p) e f = absurd (cc)
   gate_case r i k n h m true g (Some p) e f =
@@ -89,55 +98,88 @@ module _ (l : LabelledNodes) (s : TextShape) (points : List Point) (are : ArePoi
       record {
         next = t.node;
         successor = record { node = n; here = h; goes = goes_taken l s i t.node n (way_of n.op) g record { label = t.taken.label; taken = t.taken.by.taken; place = t.taken.by.place; function = p; here = e; there = t.inside; behind = t.behind } };
-        live = t.live;
+        needed = t.needed;
       }
 
-  jump_case : (r : Reg) (i k : ℕ) (n : Node) → slice_get l.nodes i ≡ Some n → IsMeant l s r k → (b : Bool) → aims_by (way_of n.op) ≡ b → (if b then node_within (length l.nodes) (target_of l.places n.operands) else gate_of l (gathers_by (way_of n.op)) (home l.nodes i)) ≡ Some k → IsLiveBehind l s r i
+  jump_case : (r : Reg) (i k : ℕ) (n : Node) → slice_get l.nodes i ≡ Some n → IsMeant feeding l s r k → (b : Bool) → aims_by (way_of n.op) ≡ b → (if b then node_within (length l.nodes) (target_of l.places n.operands) else gate_of l (gathers_by (way_of n.op)) (home l.nodes i)) ≡ Some k → IsNeededBehind feeding l s r i
   jump_case r i k n h m true a e =
       let target : IsTarget l n k = node_of_within (length l.nodes) k (target_of l.places n.operands) e in
-      record { next = k; successor = record { node = n; here = h; goes = goes_jump l s i k n (way_of n.op) a target }; live = m.node (below_of_within (length l.nodes) k (target_of l.places n.operands) e) }
+      record { next = k; successor = record { node = n; here = h; goes = goes_jump l s i k n (way_of n.op) a target }; needed = m.node (below_of_within (length l.nodes) k (target_of l.places n.operands) e) }
   jump_case r i k n h m false a e = gate_case r i k n h m (gathers_by (way_of n.op)) refl (home l.nodes i) refl e
 
-  jump_behind : (r : Reg) (i k : ℕ) (n : Node) → slice_get l.nodes i ≡ Some n → IsMeant l s r k → (point_at points i).jumps ≡ Some k → IsLiveBehind l s r i
+  jump_behind : (r : Reg) (i k : ℕ) (n : Node) → slice_get l.nodes i ≡ Some n → IsMeant feeding l s r k → (point_at points i).jumps ≡ Some k → IsNeededBehind feeding l s r i
   jump_behind r i k n h m e = jump_case r i k n h m (aims_by (way_of n.op)) refl (sym (point_here i n h).jumps ∙ e)
 
-  fall_behind : (r : Reg) (i k : ℕ) (n : Node) → slice_get l.nodes i ≡ Some n → IsMeant l s r k → (point_at points i).falls ≡ true → k ≡ i + 1 → IsLiveBehind l s r i
+  fall_behind : (r : Reg) (i k : ℕ) (n : Node) → slice_get l.nodes i ≡ Some n → IsMeant feeding l s r k → (point_at points i).falls ≡ true → k ≡ i + 1 → IsNeededBehind feeding l s r i
   fall_behind r i k n h m e next =
       let parts = and_parts (falls_by (way_of n.op)) (nat_lt (i + 1) (length l.nodes)) (sym (point_here i n h).falls ∙ e) in
       let lt : k < length l.nodes = (let b = lt_of_ltb (i + 1) (length l.nodes) parts.1 in omega (arith, b, next)) in
-      record { next = k; successor = record { node = n; here = h; goes = goes_next l s i k n (way_of n.op) parts.0 (next, lt) }; live = m.node lt }
+      record { next = k; successor = record { node = n; here = h; goes = goes_next l s i k n (way_of n.op) parts.0 (next, lt) }; needed = m.node lt }
 
-  live_before : (r : Reg) (i : ℕ) (n : Node) → slice_get l.nodes i ≡ Some n → has (point_at points i).writes r ≡ false → IsLiveBehind l s r i → IsLive l s r i
-  live_before r i n h w b = live.kept_to i b.next n h (sym ((point_here i n h).writes r) ∙ w) b.successor b.live
+  kept_before : (r : Reg) (i : ℕ) (n : Node) → slice_get l.nodes i ≡ Some n → has (point_at points i).writes r ≡ false → IsNeededBehind feeding l s r i → IsNeededBy feeding l s r i
+  kept_before r i n h w b = need.kept_to r i b.next n h (sym ((point_here i n h).writes r) ∙ w) b.successor b.needed
 
-  join_case : (r : Reg) (i k : ℕ) → IsLive l s r k → (marked : Bool) → (marked ≡ true → IsTakenAt l s k) → (o : Option ℕ) → home l.nodes k ≡ o → join_of l o k marked ≡ Some i → IsMeant l s r i
+  fed_before : (r q : Reg) (i : ℕ) (n : Node) → slice_get l.nodes i ≡ Some n → has (point_at points i).feeds r ≡ true → has (point_at points i).writes q ≡ true → IsNeededBehind feeding l s q i → IsNeededBy feeding l s r i
+  fed_before r q i n h f w b =
+      let parts = and_parts (is_read n r) (feeding n.op) (sym ((point_here i n h).feeds r) ∙ f) in
+      need.read_for r q i b.next n h parts.0 (sym ((point_here i n h).writes q) ∙ w) b.successor b.needed
+
+  -- a gate stands behind the nodes
+  gate_high : (i k : ℕ) (o : Option ℕ) (marked : Bool) → join_of l o k marked ≡ Some i → length l.nodes ≤ i
+  gate_high i k None marked e = absurd (cc)
+  gate_high i k (Some p) marked e = by (marked && nat_lt p k) e
+    where
+      by : (b : Bool) → (if b then Some (gate l p) else None) ≡ Some i → length l.nodes ≤ i
+      by false e = absurd (let g : ◌≡◌ {A = Option ℕ} None (Some i) = e in cc)
+      by true e = let at = same_Some (gate l p) i e in omega (arith, at)
+
+  join_high : (i k : ℕ) → (point_at points k).joins ≡ Some i → length l.nodes ≤ i
+  join_high i k e =
+      ⊎_elim
+      (λ (lt : k < length l.nodes). let n = there_is l.nodes k lt in let pt = point_here k n.0 n.1 in gate_high i k (home l.nodes k) pt.marked (sym pt.joins ∙ e))
+      (λ (le : length l.nodes ≤ k). absurd (joins_past points k i (omega (arith, le, are.count)) e))
+      (cases_lt k (length l.nodes))
+
+  join_case : (r : Reg) (i k : ℕ) → IsNeededBy feeding l s r k → (marked : Bool) → (marked ≡ true → IsTakenAt l s k) → (o : Option ℕ) → home l.nodes k ≡ o → join_of l o k marked ≡ Some i → IsMeant feeding l s r i
   join_case r i k v marked t None e f = absurd (cc)
   join_case r i k v false t (Some q) e f = absurd (cc)
   join_case r i k v true t (Some q) e f = join_gate (nat_lt q k) refl f
     where
-      join_gate : (b : Bool) → nat_lt q k ≡ b → (if b then Some (gate l q) else None) ≡ Some i → IsMeant l s r i
+      join_gate : (b : Bool) → nat_lt q k ≡ b → (if b then Some (gate l q) else None) ≡ Some i → IsMeant feeding l s r i
       join_gate false d f = absurd (let g : ◌≡◌ {A = Option ℕ} None (Some i) = f in cc)
       join_gate true d f =
           let at : gate l q ≡ i = same_Some (gate l q) i f in
           record {
             node = λ lt. absurd (omega (arith, at));
-            gates = λ p g. let same : q ≡ p = omega (arith, at, g) in record { node = k; taken = t refl; inside = e ∙ ap Some same; behind = (let lt = lt_of_ltb q k d in omega (arith, lt, same)); live = v };
+            gates = λ p g. let same : q ≡ p = omega (arith, at, g) in record { node = k; taken = t refl; inside = e ∙ ap Some same; behind = (let lt = lt_of_ltb q k d in omega (arith, lt, same)); needed = v };
           }
 
-  pub meant : (r : Reg) (i : ℕ) → IsNeeded points r i → IsMeant l s r i
-  meant r i (graph.read_here j e) = record {
-    node = λ lt. let n = there_is l.nodes i lt in live.read_here i n.0 n.1 (sym ((point_here i n.0 n.1).reads r) ∙ e);
+  pub meant : (r : Reg) (i : ℕ) → IsWanted points r i → IsMeant feeding l s r i
+  meant r i (graph.read_here r1 j e) = record {
+    node = λ lt.
+        let n = there_is l.nodes i lt in
+        let parts = and_parts (is_read n.0 r) (not (feeding n.0.op)) (sym ((point_here i n.0 n.1).reads r) ∙ e) in
+        need.read_here r i n.0 n.1 parts.0 (not-true (feeding n.0.op) parts.1);
     gates = λ p g. absurd (past_reads_none points i r (omega (arith, g, are.count)) e);
   }
-  meant r i (graph.kept_to j k w (falls a b e f) m) = record {
-    node = λ lt. let n = there_is l.nodes i lt in live_before r i n.0 n.1 w (fall_behind r i k n.0 n.1 (meant r k m) e f);
+  meant r i (graph.read_for r1 q j k f w (falls a b e d) m) = record {
+    node = λ lt. let n = there_is l.nodes i lt in fed_before r q i n.0 n.1 f w (fall_behind q i k n.0 n.1 (meant q k m) e d);
+    gates = λ p g. absurd (feeds_past points i r (omega (arith, g, are.count)) f);
+  }
+  meant r i (graph.read_for r1 q j k f w (jumps a b e) m) = record {
+    node = λ lt. let n = there_is l.nodes i lt in fed_before r q i n.0 n.1 f w (jump_behind q i k n.0 n.1 (meant q k m) e);
+    gates = λ p g. absurd (feeds_past points i r (omega (arith, g, are.count)) f);
+  }
+  meant r i (graph.read_for r1 q j k f w (joins a b e) m) = absurd (feeds_past points i r (omega (arith, join_high i k e, are.count)) f)
+  meant r i (graph.kept_to r1 j k w (falls a b e f) m) = record {
+    node = λ lt. let n = there_is l.nodes i lt in kept_before r i n.0 n.1 w (fall_behind r i k n.0 n.1 (meant r k m) e f);
     gates = λ p g. absurd (falls_past points i (omega (arith, g, are.count)) e);
   }
-  meant r i (graph.kept_to j k w (jumps a b e) m) = record {
-    node = λ lt. let n = there_is l.nodes i lt in live_before r i n.0 n.1 w (jump_behind r i k n.0 n.1 (meant r k m) e);
+  meant r i (graph.kept_to r1 j k w (jumps a b e) m) = record {
+    node = λ lt. let n = there_is l.nodes i lt in kept_before r i n.0 n.1 w (jump_behind r i k n.0 n.1 (meant r k m) e);
     gates = λ p g. absurd (jumps_past points i k (omega (arith, g, are.count)) e);
   }
-  meant r i (graph.kept_to j k w (joins a b e) m) =
+  meant r i (graph.kept_to r1 j k w (joins a b e) m) =
       ⊎_elim
       (λ (lt : k < length l.nodes).
       let n = there_is l.nodes k lt in
@@ -146,16 +188,16 @@ module _ (l : LabelledNodes) (s : TextShape) (points : List Point) (are : ArePoi
       (λ (le : length l.nodes ≤ k). absurd (joins_past points k i (omega (arith, le, are.count)) e))
       (cases_lt k (length l.nodes))
 
-  -- ---- what is live is needed
-  module _ (r : Reg) (i k : ℕ) (n : Node) (h : slice_get l.nodes i ≡ Some n) (lt : k < length l.nodes) (d : IsNeeded points r k) where
-    falls_on : (w : Way) → way_of n.op ≡ w → falls_by w ≡ true → IsNext l i k → IsNeededBehind points r i
+  -- ---- what is needed is wanted
+  module _ (r : Reg) (i k : ℕ) (n : Node) (h : slice_get l.nodes i ≡ Some n) (lt : k < length l.nodes) (d : IsWanted points r k) where
+    falls_on : (w : Way) → way_of n.op ≡ w → falls_by w ≡ true → IsNext l i k → IsWantedBehind points r i
     falls_on w e f g = record {
       next = k;
       way = inl ((point_here i n h).falls ∙ ap (λ x. falls_by x && nat_lt (i + 1) (length l.nodes)) e ∙ ap (λ b. b && nat_lt (i + 1) (length l.nodes)) f ∙ ltb_of_lt (i + 1) (length l.nodes) (omega (arith, g.0, g.1)), g.0);
       needed = d;
     }
 
-    jumps_on : (w : Way) → way_of n.op ≡ w → aims_by w ≡ true → IsTarget l n k → IsNeededBehind points r i
+    jumps_on : (w : Way) → way_of n.op ≡ w → aims_by w ≡ true → IsTarget l n k → IsWantedBehind points r i
     jumps_on w e f g = record {
       next = k;
       way = inr ((point_here i n h).jumps ∙ ap (λ x. if aims_by x then node_within (length l.nodes) (target_of l.places n.operands) else gate_of l (gathers_by x) (home l.nodes i)) e
@@ -164,7 +206,7 @@ module _ (l : LabelledNodes) (s : TextShape) (points : List Point) (are : ArePoi
       needed = d;
     }
 
-    taken_on : way_of n.op ≡ Taken → IsTakenIn l s i k → IsNeededBehind points r i
+    taken_on : way_of n.op ≡ Taken → IsTakenIn l s i k → IsWantedBehind points r i
     taken_on e t =
         let m = there_is l.nodes k lt in
         let pt = point_here k m.0 m.1 in
@@ -174,41 +216,46 @@ module _ (l : LabelledNodes) (s : TextShape) (points : List Point) (are : ArePoi
         record {
           next = gate l t.function;
           way = inr ((point_here i n h).jumps ∙ ap (λ x. if aims_by x then node_within (length l.nodes) (target_of l.places n.operands) else gate_of l (gathers_by x) (home l.nodes i)) e ∙ ap (gate_of l true) t.here);
-          needed = graph.kept_to (gate l t.function) k (writes_past points (gate l t.function) r (omega (arith, are.count))) (joins (gate l t.function) k join) d;
+          needed = graph.kept_to r (gate l t.function) k (writes_past points (gate l t.function) r (omega (arith, are.count))) (joins (gate l t.function) k join) d;
         }
 
-    way_on : (w : Way) → way_of n.op ≡ w → GoesBy l s i n w k → IsNeededBehind points r i
+    way_on : (w : Way) → way_of n.op ≡ w → GoesBy l s i n w k → IsWantedBehind points r i
     way_on Next e g = falls_on Next e refl g
     way_on Jump e g = jumps_on Jump e refl g
     way_on Either e g = ⊎_elim (λ (t : IsTarget l n k). jumps_on Either e refl t) (λ (t : IsNext l i k). falls_on Either e refl t) g
     way_on Taken e g = taken_on e g
     way_on Leave e g = absurd g
 
-  pub needed_behind : (r : Reg) (i k : ℕ) → IsSuccessor l s i k → k < length l.nodes → IsNeeded points r k → IsNeededBehind points r i
+  pub needed_behind : (r : Reg) (i k : ℕ) → IsSuccessor l s i k → k < length l.nodes → IsWanted points r k → IsWantedBehind points r i
   needed_behind r i k t lt d = way_on r i k t.node t.here lt d (way_of t.node.op) refl t.goes
 
-  arc_behind : (r : Reg) (i : ℕ) (b : IsNeededBehind points r i) → IsArc points i b.next
+  arc_behind : (r : Reg) (i : ℕ) (b : IsWantedBehind points r i) → IsArc points i b.next
   arc_behind r i b = ⊎_elim (λ (h : ((point_at points i).falls ≡ true) × (b.next ≡ i + 1)). falls i b.next h.0 h.1) (λ (h : (point_at points i).jumps ≡ Some b.next). jumps i b.next h) b.way
 
-  pub live_needed : (r : Reg) (i : ℕ) → IsLive l s r i → IsNeeded points r i
-  live_needed r i (live.read_here j n h e) = graph.read_here i ((point_here i n h).reads r ∙ e)
-  live_needed r i (live.kept_to j k n h w t v) =
-      let b = needed_behind r i k t (live_within l s r k v) (live_needed r k v) in
-      graph.kept_to i b.next ((point_here i n h).writes r ∙ w) (arc_behind r i b) b.needed
+  pub wanted : (r : Reg) (i : ℕ) → IsNeededBy feeding l s r i → IsWanted points r i
+  wanted r i (need.read_here r1 j n h e d) = graph.read_here r i ((point_here i n h).reads r ∙ ap (λ b. b && not (feeding n.op)) e ∙ ap not d)
+  wanted r i (need.read_for r1 q j k n h f w t v) = by (feeding n.op) refl (needed_behind q i k t (within feeding l s q k v) (wanted q k v))
+    where
+      by : (b : Bool) → feeding n.op ≡ b → IsWantedBehind points q i → IsWanted points r i
+      by false d x = graph.read_here r i ((point_here i n h).reads r ∙ ap (λ c. c && not (feeding n.op)) f ∙ ap not d)
+      by true d x = graph.read_for r q i x.next ((point_here i n h).feeds r ∙ ap (λ c. c && feeding n.op) f ∙ d) ((point_here i n h).writes q ∙ w) (arc_behind q i x) x.needed
+  wanted r i (need.kept_to r1 j k n h w t v) =
+      let b = needed_behind r i k t (within feeding l s r k v) (wanted r k v) in
+      graph.kept_to r i b.next ((point_here i n h).writes r ∙ w) (arc_behind r i b) b.needed
 
   -- ---- both
-  pub live_before_is : (r : Reg) (i : ℕ) → i < length l.nodes → IsNeeded points r i ↔ IsLive l s r i
-  live_before_is r i lt = ((λ d. (meant r i d).node lt), live_needed r i)
+  pub needed_is : (r : Reg) (i : ℕ) → i < length l.nodes → IsWanted points r i ↔ IsNeededBy feeding l s r i
+  needed_is r i lt = ((λ d. (meant r i d).node lt), wanted r i)
 
-  pub live_behind_is : (r : Reg) (i : ℕ) → i < length l.nodes → IsNeededBehind points r i ↔ IsLiveBehind l s r i
-  live_behind_is r i lt = (
+  pub needed_behind_is : (r : Reg) (i : ℕ) → i < length l.nodes → IsWantedBehind points r i ↔ IsNeededBehind feeding l s r i
+  needed_behind_is r i lt = (
     (λ b.
         let n = there_is l.nodes i lt in
         ⊎_elim
         (λ (h : ((point_at points i).falls ≡ true) × (b.next ≡ i + 1)). fall_behind r i b.next n.0 n.1 (meant r b.next b.needed) h.0 h.1)
         (λ (h : (point_at points i).jumps ≡ Some b.next). jump_behind r i b.next n.0 n.1 (meant r b.next b.needed) h)
         b.way),
-    (λ v. needed_behind r i v.next v.successor (live_within l s r v.next v.live) (live_needed r v.next v.live)),
+    (λ v. needed_behind r i v.next v.successor (within feeding l s r v.next v.needed) (wanted r v.next v.needed)),
   )
 
   -- ---- all points are below twice the number of nodes

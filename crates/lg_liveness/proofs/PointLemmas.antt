@@ -6,6 +6,7 @@ use Rattle.std.proofs.lemmas.Bool.{cases_lt}
 use Rattle.std.proofs.lemmas.Bool.Decides.{nat_tests}
 use Rattle.std.proofs.lemmas.Option.{slice_get_within, get_or_from_slice_get, slice_get-get_or, same_Some}
 use Rattle.lg_op.specs.declared.node.Node.{Node}
+use Rattle.lg_op.specs.declared.op.Op.{Op}
 use Rattle.lg_node.specs.declared.function.Function.{Function}
 use Rattle.lg_node.specs.declared.place.Place.{Place}
 use Rattle.lg_node.specs.declared.place.Place.TheVariants as place
@@ -75,12 +76,12 @@ pub within_of_node : (count k : ℕ) → k < count → node_within count (Some (
 within_of_node count k lt = rw (ltb_of_lt k count lt) refl
 
 -- ---- the points of the first nodes
-pub record AreFirst (l : LabelledNodes) (s : TextShape) (points : List Point) (count : ℕ) : Type 0 where
+pub record AreFirst (feeding : Op → Bool) (l : LabelledNodes) (s : TextShape) (points : List Point) (count : ℕ) : Type 0 where
   pub many : length points ≡ count
-  pub each : (i : ℕ) (n : Node) (p : Point) → slice_get l.nodes i ≡ Some n → slice_get points i ≡ Some p → IsPoint l s i n p
+  pub each : (i : ℕ) (n : Node) (p : Point) → slice_get l.nodes i ≡ Some n → slice_get points i ≡ Some p → IsPoint feeding l s i n p
 
-pub first_more : (l : LabelledNodes) (s : TextShape) (points : List Point) (count : ℕ) (m : Node) (q : Point) (more : List Point) → AreFirst l s points count → slice_get l.nodes count ≡ Some m → IsPoint l s count m q → more ≡ points ++ q ∷ [] → AreFirst l s more (count + 1)
-first_more l s points count m q more f here is e = rw e record {
+pub first_more : (feeding : Op → Bool) (l : LabelledNodes) (s : TextShape) (points : List Point) (count : ℕ) (m : Node) (q : Point) (more : List Point) → AreFirst feeding l s points count → slice_get l.nodes count ≡ Some m → IsPoint feeding l s count m q → more ≡ points ++ q ∷ [] → AreFirst feeding l s more (count + 1)
+first_more feeding l s points count m q more f here is e = rw e record {
   many = omega (arith, length-append points (q ∷ []), f.many);
   each = λ i n p a b.
       ⊎_elim
@@ -93,9 +94,9 @@ first_more l s points count m q more f here is e = rw e record {
       let at : i ≡ count = this ∙ f.many in
       let node : m ≡ n = same_Some m n (sym here ∙ ap (slice_get l.nodes) (sym at) ∙ a) in
       let point : q ≡ p = same_Some q p (sym (get_pushed points q) ∙ ap (slice_get (points ++ q ∷ [])) (sym this) ∙ b) in
-      let P : ℕ → Type 0 = λ k. IsPoint l s k n p in
-      let Q : Node → Type 0 = λ x. IsPoint l s count x p in
-      let R : Point → Type 0 = λ x. IsPoint l s count m x in
+      let P : ℕ → Type 0 = λ k. IsPoint feeding l s k n p in
+      let Q : Node → Type 0 = λ x. IsPoint feeding l s count x p in
+      let R : Point → Type 0 = λ x. IsPoint feeding l s count m x in
       subst P (sym at) (subst Q node (subst R point is)))
       (cases_lt i (length points));
 }

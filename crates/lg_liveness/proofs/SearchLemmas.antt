@@ -10,12 +10,14 @@ use Rattle.std.proofs.lemmas.Option.{slice_get-get_or, slice_get_within, get_or_
 use Rattle.std.proofs.lemmas.Grind.{common_steps}
 use Rattle.std.proofs.Math.ListN.{length-append, length-set}
 use Rattle.std.proofs.Math.Seq.{get_or-append_seam}
+use Rattle.std.specs.Int.Bits.{and_zero_r}
 use Rattle.lg_op.specs.declared.operand.Reg.{Reg}
+use Rattle.lg_op.specs.declared.operand.Reg.TheVariants.{R0, R1, R2, V0, V1, V2, Fp}
 use Rattle.lg_live.specs.RegSets.{has}
 use Rattle.lg_live.specs.declared.reg_set.RegSet.{RegSet}
 use Rattle.lg_liveness.specs.declared.point.Point.{Point}
 use Rattle.lg_liveness.proofs.ChainLemmas.{jumps_past}
-use Rattle.lg_liveness.specs.Graphs.{point_at, set_at, no_point, IsArc, falls, jumps, joins, IsNeeded, read_here, kept_to, AreWithin, AreNeeded}
+use Rattle.lg_liveness.specs.Graphs.{point_at, any_register, passes, set_at, no_point, IsArc, falls, jumps, joins, IsWanted, read_here, read_for, kept_to, AreWithin, AreWanted}
 use Rattle.lg_liveness.specs.Searches.{State, IsQueued, weight, Grows, IsSound, HasPassed, HasSpread, IsSearching}
 
 pub get_appended : {A : Type 0} (xs ys : List A) (j : ℕ) (k : A) → slice_get xs j ≡ Some k → slice_get (xs ++ ys) j ≡ Some k
@@ -57,6 +59,9 @@ grows_trans a b c f g = record {
   weight = omega (arith, f.weight, g.weight);
   within = λ h. let P : ℕ → Type 0 = λ n. All (λ k. k < n) c.queue in subst P f.count (g.within (let Q : ℕ → Type 0 = λ n. All (λ k. k < n) b.queue in subst Q (sym f.count) (f.within h)));
 }
+
+no_fp : (set : RegSet) → has set Fp ≡ false
+no_fp set = rw (and_zero_r set.0) refl
 
 -- ---- one set grows
 abbrev pub zero_set : RegSet
@@ -107,10 +112,79 @@ pub on_ok : {T E A B : Type 0} (r : Result T E) → OnOk r A → (A → B) → O
 on_ok (Ok x) a f = f a
 on_ok (Err e) a f = tt
 
-pub passed_are_needed : (points : List Point) (i k : ℕ) (set passing : RegSet) → IsArc points i k → ((r : Reg) → has set r ≡ true → IsNeeded points r k) → ((r : Reg) → has passing r ≡ (has set r && not (has (point_at points i).writes r))) → (r : Reg) → has passing r ≡ true → IsNeeded points r i
+or_either : (b c : Bool) → (b || c) ≡ true → (b ≡ true) ⊎ (c ≡ true)
+or_either true c e = inl refl
+or_either false c e = inr e
+
+or_first : (b c : Bool) → b ≡ true → (b || c) ≡ true
+or_first true c e = refl
+or_first false c e = cc
+
+or_second : (b c : Bool) → c ≡ true → (b || c) ≡ true
+or_second true c e = refl
+or_second false c e = e
+
+both_true : (b c : Bool) → b ≡ true → c ≡ true → (b && c) ≡ true
+both_true true c e f = f
+both_true false c e f = cc
+
+record Found (f : Reg → Bool) : Type 0 where
+  register : Reg
+  has_it : f register ≡ true
+
+any_found : (f : Reg → Bool) → any_register f ≡ true → Found f
+any_found f e =
+    ⊎_elim (λ h. record { register = R0; has_it = h })
+    (λ g. ⊎_elim (λ h. record { register = R1; has_it = h })
+    (λ g. ⊎_elim (λ h. record { register = R2; has_it = h })
+    (λ g. ⊎_elim (λ h. record { register = V0; has_it = h })
+    (λ g. ⊎_elim (λ h. record { register = V1; has_it = h }) (λ h. record { register = V2; has_it = h })
+    (or_either (f V1) (f V2) g))
+    (or_either (f V0) (f V1 || f V2) g))
+    (or_either (f R2) (f V0 || (f V1 || f V2)) g))
+    (or_either (f R1) (f R2 || (f V0 || (f V1 || f V2))) g))
+    (or_either (f R0) (f R1 || (f R2 || (f V0 || (f V1 || f V2)))) e)
+
+found_any : (f : Reg → Bool) (q : Reg) → q ≢ Fp → f q ≡ true → any_register f ≡ true
+found_any f R0 n e = or_first (f R0) _ e
+found_any f R1 n e = or_second (f R0) _ (or_first (f R1) _ e)
+found_any f R2 n e = or_second (f R0) _ (or_second (f R1) _ (or_first (f R2) _ e))
+found_any f V0 n e = or_second (f R0) _ (or_second (f R1) _ (or_second (f R2) _ (or_first (f V0) _ e)))
+found_any f V1 n e = or_second (f R0) _ (or_second (f R1) _ (or_second (f R2) _ (or_second (f V0) _ (or_first (f V1) _ e))))
+found_any f V2 n e = or_second (f R0) _ (or_second (f R1) _ (or_second (f R2) _ (or_second (f V0) _ (or_second (f V1) _ e))))
+found_any f Fp n e = absurd (n refl)
+
+has_no_fp : (set : RegSet) (q : Reg) → has set q ≡ true → q ≢ Fp
+has_no_fp set q e z = let f : has set Fp ≡ true = ap (has set) (sym z) ∙ e in let g : false ≡ true = sym (no_fp set) ∙ f in cc
+
+none_any : (f : Reg → Bool) → ((q : Reg) → f q ≡ false) → any_register f ≡ false
+none_any f h = by (any_register f) refl
+  where
+    by : (b : Bool) → any_register f ≡ b → any_register f ≡ false
+    by false e = e
+    by true e = let x = any_found f e in let g : true ≡ false = sym x.has_it ∙ h x.register in cc
+
+passes_none : (p : Point) (f : Reg → Bool) → ((q : Reg) → f q ≡ false) → (r : Reg) → passes p f r ≡ true → ⊥
+passes_none p f h r e =
+    let first : (f r && not (has p.writes r)) ≡ false = ap (λ b. b && not (has p.writes r)) (h r) in
+    let none : any_register (λ q. f q && has p.writes q) ≡ false = none_any (λ q. f q && has p.writes q) (λ q. ap (λ b. b && has p.writes q) (h q)) in
+    ⊎_elim
+    (λ (x : (f r && not (has p.writes r)) ≡ true). let g : false ≡ true = sym first ∙ x in cc)
+    (λ (x : (has p.feeds r && any_register (λ q. f q && has p.writes q)) ≡ true). let y = and_parts (has p.feeds r) (any_register (λ q. f q && has p.writes q)) x in let g : false ≡ true = sym none ∙ y.1 in cc)
+    (or_either (f r && not (has p.writes r)) (has p.feeds r && any_register (λ q. f q && has p.writes q)) e)
+
+pub passed_are_needed : (points : List Point) (i k : ℕ) (set passing : RegSet) → IsArc points i k → ((r : Reg) → has set r ≡ true → IsWanted points r k) → ((r : Reg) → has passing r ≡ passes (point_at points i) (has set) r) → (r : Reg) → has passing r ≡ true → IsWanted points r i
 passed_are_needed points i k set passing arc needed is r h =
-    let parts = and_parts (has set r) (not (has (point_at points i).writes r)) (sym (is r) ∙ h) in
-    kept_to i k (not-true (has (point_at points i).writes r) parts.1) arc (needed r parts.0)
+    ⊎_elim
+    (λ (x : (has set r && not (has (point_at points i).writes r)) ≡ true).
+    let parts = and_parts (has set r) (not (has (point_at points i).writes r)) x in
+    kept_to r i k (not-true (has (point_at points i).writes r) parts.1) arc (needed r parts.0))
+    (λ (x : (has (point_at points i).feeds r && any_register (λ q. has set q && has (point_at points i).writes q)) ≡ true).
+    let parts = and_parts (has (point_at points i).feeds r) (any_register (λ q. has set q && has (point_at points i).writes q)) x in
+    let q = any_found (λ q. has set q && has (point_at points i).writes q) parts.1 in
+    let both = and_parts (has set q.register) (has (point_at points i).writes q.register) q.has_it in
+    read_for r q.register i k parts.0 both.1 arc (needed q.register both.0))
+    (or_either (has set r && not (has (point_at points i).writes r)) (has (point_at points i).feeds r && any_register (λ q. has set q && has (point_at points i).writes q)) (sym (is r) ∙ h))
 
 pub read_at : {A : Type 0} (xs : List A) (i : ℕ) (x d : A) → i < length xs → x ≡ get_or xs i x → get_or xs i d ≡ x
 read_at xs i x d lt e = get_or_from_slice_get xs i x d (slice_get-get_or xs i x lt ∙ ap Some (sym e))
@@ -148,22 +222,30 @@ searching_on points count from p s t h here g sound spread = record {
       (λ (n : k ≢ p).
       ⊎_elim
       (λ (q : IsQueued s.queue from k). inl record { place = q.place; behind = later s.queue from q.place k p q.behind q.here here n; here = g.queue q.place k q.here })
-      (λ (d : HasSpread points k (set_at s.sets k) s). inr (λ i arc r a b. g.sets i r (d i arc r (ap (λ (x : RegSet). has x r) (sym same) ∙ a) b)))
+      (λ (d : HasSpread points k (set_at s.sets k) s). inr (λ i arc r a. g.sets i r (d i arc r (ap (λ (x : RegSet). passes (point_at points i) (has x) r) (sym same) ∙ a))))
       (h.settled k))
       (same_or_not k p))
       (λ (q : IsQueued t.queue (length s.queue) k). inl record { place = q.place; behind = (let lt = slice_get_within s.queue from p here in omega (arith, lt, q.behind)); here = q.here })
       (g.queued k);
 }
 
-searched : (points : List Point) (count from : ℕ) (s : State) → IsSearching points count from s → length s.queue ≤ from → (r : Reg) (i : ℕ) → IsNeeded points r i → has (set_at s.sets i) r ≡ true
-searched points count from s h end r i (read_here j e) = h.reads j r e
-searched points count from s h end r i (kept_to j k w arc n) =
+searched : (points : List Point) (count from : ℕ) (s : State) → IsSearching points count from s → length s.queue ≤ from → (r : Reg) (i : ℕ) → IsWanted points r i → has (set_at s.sets i) r ≡ true
+searched points count from s h end r i (read_here r1 j e) = h.reads i r e
+searched points count from s h end r i (read_for r1 q j k f w arc n) =
+    ⊎_elim
+    (λ (x : IsQueued s.queue from k). absurd (let lt = slice_get_within s.queue x.place k x.here in omega (arith, lt, x.behind, end)))
+    (λ (d : HasSpread points k (set_at s.sets k) s).
+    let there = searched points count from s h end q k n in
+    let any = found_any (λ x. has (set_at s.sets k) x && has (point_at points i).writes x) q (has_no_fp (set_at s.sets k) q there) (both_true (has (set_at s.sets k) q) (has (point_at points i).writes q) there w) in
+    d i arc r (or_second (has (set_at s.sets k) r && not (has (point_at points i).writes r)) _ (both_true (has (point_at points i).feeds r) _ f any)))
+    (h.settled k)
+searched points count from s h end r i (kept_to r1 j k w arc n) =
     ⊎_elim
     (λ (q : IsQueued s.queue from k). absurd (let lt = slice_get_within s.queue q.place k q.here in omega (arith, lt, q.behind, end)))
-    (λ (d : HasSpread points k (set_at s.sets k) s). d j arc r (searched points count from s h end r k n) w)
+    (λ (d : HasSpread points k (set_at s.sets k) s). d i arc r (or_first (has (set_at s.sets k) r && not (has (point_at points i).writes r)) _ (both_true (has (set_at s.sets k) r) (not (has (point_at points i).writes r)) (searched points count from s h end r k n) (ap not w))))
     (h.settled k)
 
-pub all_needed : (points : List Point) (count from : ℕ) (s : State) → IsSearching points count from s → length s.queue ≤ from → AreNeeded points count s.sets
+pub all_needed : (points : List Point) (count from : ℕ) (s : State) → IsSearching points count from s → length s.queue ≤ from → AreWanted points count s.sets
 all_needed points count from s h end = record { all = h.all; sound = h.sound; complete = λ i r. searched points count from s h end r i }
 
 -- ---- where points lead
@@ -183,9 +265,9 @@ pub spread_all : (points : List Point) (to : ℕ) (set : RegSet) (a b c : State)
     → ((i : ℕ) → (point_at points i).falls ≡ true → to ≡ i + 1 → HasPassed points set b i)
     → ((i : ℕ) → (point_at points i).jumps ≡ Some to → HasPassed points set c i)
     → (k : ℕ) → k ≡ to → (i : ℕ) → IsArc points i k → HasPassed points set c i
-spread_all points to set a b c f g joined fell jumped k same i (falls j m e d) = λ r x y. g.sets i r (fell i e (sym same ∙ d) r x y)
+spread_all points to set a b c f g joined fell jumped k same i (falls j m e d) = λ r x. g.sets i r (fell i e (sym same ∙ d) r x)
 spread_all points to set a b c f g joined fell jumped k same i (jumps j m e) = jumped i (e ∙ ap Some same)
-spread_all points to set a b c f g joined fell jumped k same i (joins j m e) = λ r x y. g.sets i r (f.sets i r (joined i (let P : ℕ → Type 0 = λ n. (point_at points n).joins ≡ Some i in subst P same e) r x y))
+spread_all points to set a b c f g joined fell jumped k same i (joins j m e) = λ r x. g.sets i r (f.sets i r (joined i (let P : ℕ → Type 0 = λ n. (point_at points n).joins ≡ Some i in subst P same e) r x))
 
 -- ---- the start
 pub record IsBegun (points : List Point) (count index : ℕ) (a s : State) : Type 0 where
@@ -211,7 +293,7 @@ begun_searches points count index a s b end = record {
       ⊎_elim (λ (less : i < index). b.reads i r less e) (λ (more : index ≤ i). absurd (past_reads_none points i r (omega arith) e)) (cases_lt i index);
   settled = λ k.
       ⊎_elim
-      (λ (same : set_at s.sets k ≡ set_at a.sets k). inr (λ i arc r x y. absurd (let f : ◌≡◌ {A = Bool} false true = sym (b.none k r) ∙ ap (λ (set : RegSet). has set r) (sym same) ∙ x in cc)))
+      (λ (same : set_at s.sets k ≡ set_at a.sets k). inr (λ i arc r x. absurd (passes_none (point_at points i) (has (set_at s.sets k)) (λ q. ap (λ (set : RegSet). has set q) same ∙ b.none k q) r x)))
       (λ (q : IsQueued s.queue (length a.queue) k). inl record { place = q.place; behind = omega arith; here = q.here })
       (b.grows.queued k);
 }

@@ -1,8 +1,9 @@
 -- The points of a text: its nodes, and behind them, for the function that begins at node p, a gate at p behind the last node, through
 -- which its jumps to taken labels go.
-use Rattle.std.specs.Prelude.{◌≡◌, ◌↔◌, ◌⊎◌, ℕ, ◌+◌, ◌<◌, nat_lt, Bool, true, false, ◌&&◌, if◌then◌else◌, List, Option, Some, None, length, slice_get, slice_index_or}
+use Rattle.std.specs.Prelude.{◌≡◌, ◌↔◌, ◌⊎◌, ℕ, ◌+◌, ◌<◌, nat_lt, Bool, true, false, not, ◌&&◌, if◌then◌else◌, List, Option, Some, None, length, slice_get, slice_index_or}
 use Rattle.lg_op.specs.declared.operand.Reg.{Reg}
 use Rattle.lg_op.specs.declared.node.Node.{Node}
+use Rattle.lg_op.specs.declared.op.Op.{Op}
 use Rattle.lg_node.specs.declared.place.Place.{Place}
 use Rattle.lg_node.specs.declared.place.Place.TheVariants as place
 use Rattle.lg_node.specs.Nodes.{LabelledNodes}
@@ -68,8 +69,10 @@ pub record AreMarked (l : LabelledNodes) (s : TextShape) (marks : List Bool) : T
   pub count : length marks ≡ length l.nodes
   pub marked : (k : ℕ) → k < length l.nodes → IsMarkedAt l s k (slice_index_or marks k false)
 
-pub record IsPoint (l : LabelledNodes) (s : TextShape) (i : ℕ) (n : Node) (p : Point) : Type 0 where
-  pub reads : (r : Reg) → has p.reads r ≡ is_read n r
+-- the point of a node, where the operations of `feeding` read only for what they write
+pub record IsPoint (feeding : Op → Bool) (l : LabelledNodes) (s : TextShape) (i : ℕ) (n : Node) (p : Point) : Type 0 where
+  pub reads : (r : Reg) → has p.reads r ≡ (is_read n r && not (feeding n.op))
+  pub feeds : (r : Reg) → has p.feeds r ≡ (is_read n r && feeding n.op)
   pub writes : (r : Reg) → has p.writes r ≡ is_written n r
   pub falls : p.falls ≡ (falls_by (way_of n.op) && nat_lt (i + 1) (length l.nodes))
   pub jumps : p.jumps ≡ jump_of l (home l.nodes i) n
@@ -77,6 +80,6 @@ pub record IsPoint (l : LabelledNodes) (s : TextShape) (i : ℕ) (n : Node) (p :
   pub marked_at : IsMarkedAt l s i marked
   pub joins : p.joins ≡ join_of l (home l.nodes i) i marked
 
-pub record ArePoints (l : LabelledNodes) (s : TextShape) (points : List Point) : Type 0 where
+pub record ArePoints (feeding : Op → Bool) (l : LabelledNodes) (s : TextShape) (points : List Point) : Type 0 where
   pub count : length points ≡ length l.nodes
-  pub each : (i : ℕ) (n : Node) (p : Point) → slice_get l.nodes i ≡ Some n → slice_get points i ≡ Some p → IsPoint l s i n p
+  pub each : (i : ℕ) (n : Node) (p : Point) → slice_get l.nodes i ≡ Some n → slice_get points i ≡ Some p → IsPoint feeding l s i n p

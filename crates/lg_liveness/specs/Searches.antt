@@ -1,12 +1,12 @@
 -- How a search goes on.
-use Rattle.std.specs.Prelude.{◌≡◌, ◌⊎◌, ℕ, ◌+◌, ◌-◌, ◌*◌, ◌<◌, ◌≤◌, true, false, List, Some, length, slice_get}
+use Rattle.std.specs.Prelude.{◌≡◌, ◌⊎◌, ℕ, ◌+◌, ◌-◌, ◌*◌, ◌<◌, ◌≤◌, true, List, Some, length, slice_get}
 use Rattle.std.specs.List.{sum_by, All}
 use Rattle.lg_op.specs.declared.operand.Reg.{Reg}
 use Rattle.lg_live.specs.RegSets.{has}
 use Rattle.lg_live.specs.declared.reg_set.RegSet.{RegSet}
 use Rattle.lg_liveness.specs.declared.point.Point.{Point}
 use Rattle.lg_liveness.specs.declared.search.Search.{Search}
-use Rattle.lg_liveness.specs.Graphs.{point_at, set_at, IsArc, IsNeeded}
+use Rattle.lg_liveness.specs.Graphs.{point_at, passes, set_at, IsArc, IsWanted}
 
 -- the sets found so far, and the points whose sets grew, in that order
 pub record State : Type 0 where
@@ -38,15 +38,15 @@ pub record Grows (a b : State) : Type 0 where
 
 -- only registers that are needed are in the sets
 abbrev pub IsSound : List Point → State → Type 0
-IsSound points s = (i : ℕ) (r : Reg) → has (set_at s.sets i) r ≡ true → IsNeeded points r i
+IsSound points s = (i : ℕ) (r : Reg) → has (set_at s.sets i) r ≡ true → IsWanted points r i
 
 -- these registers are needed at a point
-abbrev pub AreNeededAt : List Point → RegSet → ℕ → Type 0
-AreNeededAt points set i = (r : Reg) → has set r ≡ true → IsNeeded points r i
+abbrev pub AreWantedAt : List Point → RegSet → ℕ → Type 0
+AreWantedAt points set i = (r : Reg) → has set r ≡ true → IsWanted points r i
 
 -- these registers are in the set of a point, but for those that the point writes
 abbrev pub HasPassed : List Point → RegSet → State → ℕ → Type 0
-HasPassed points set s i = (r : Reg) → has set r ≡ true → has (point_at points i).writes r ≡ false → has (set_at s.sets i) r ≡ true
+HasPassed points set s i = (r : Reg) → passes (point_at points i) (has set) r ≡ true → has (set_at s.sets i) r ≡ true
 
 -- from these registers of a point those that lead to it have theirs
 abbrev pub HasSpread : List Point → ℕ → RegSet → State → Type 0
