@@ -1,5 +1,5 @@
 -- What is kept of code, and what follows from it.
-use Rattle.std.specs.Prelude.{◌≡◌, ℕ, ◌+◌, ◌*◌, ◌^◌, ◌<◌, ◌≤◌, nat_le, Bool, List, [], Ok, length, slice_index}
+use Rattle.std.specs.Prelude.{◌≡◌, ℕ, ◌+◌, ◌*◌, ◌%◌, ◌^◌, ◌<◌, ◌≤◌, Bool, List, [], ◌∷◌, Some, Ok, length, slice_get, slice_index}
 use Rattle.lg_base.specs.Arguments.{most_args}
 use Rattle.lg_base.specs.Layout.{code_base, most_code}
 use Rattle.lg_base.specs.declared.refusal.RefusalKind.TheVariants.{CodeFull}
@@ -7,27 +7,31 @@ use Rattle.lg_base.specs.declared.refusal.Stop.{Stop}
 use Rattle.lg_base.specs.declared.refusal.Stop.TheVariants as stop
 use Rattle.lg_base.specs.declared.target.Target.{Target}
 use Rattle.lg_carry.specs.Agreement.{Agrees}
-use Rattle.lg_carry.specs.Carries.{Carries}
 use Rattle.lg_carry.specs.FinalNodes.{Code}
 use Rattle.lg_carry.specs.Stands.{Stands}
 use Rattle.lg_sel.specs.Targets.{processor_of}
-use Rattle.lg_sel_items.specs.Reaches.{near_size}
 use Rattle.lg_cpu.specs.Laws.{AreBytes}
 use Rattle.lg_cpu.specs.Targets.{run_from}
 use Rattle.lg_liveness.specs.Liveness.{LiveSets, AreLive}
-use Rattle.lg_liveness_laws.specs.CarriedLiveness.{live_at}
 use Rattle.lg_meaning.specs.Addresses.{AreAddresses}
 use Rattle.lg_meaning.specs.Starts.{start_state}
 use Rattle.lg_meaning.specs.States.{Frame}
+use Rattle.lg_node.specs.Labels.{taken_labels}
 use Rattle.lg_node.specs.Nodes.{LabelledNodes}
 use Rattle.lg_node.specs.Preparations.{pushed}
 use Rattle.lg_node.specs.declared.unit.Unit.{Unit as TextUnit}
 use Rattle.lg_node.specs.Shapes.{TextShape, IsChecked, IsShapeOf}
 use Rattle.lg_op.specs.Nodes.{InForm}
 use Rattle.lg_op.specs.declared.node.Node.{Node}
-use Rattle.lg_opt.specs.Rewritings.{IsTidy, CarriesAddresses, RunsAreFollowed}
+use Rattle.lg_op.specs.declared.op.Op.TheVariants as op
+use Rattle.lg_op.specs.declared.op.PlainOp.TheVariants as plain
+use Rattle.lg_op.specs.declared.operand.Operand.TheVariants as operand
+use Rattle.lg_opt.specs.Rewritings.{IsTidy, IsOrigin, KeepsOthers, CarriesAddresses, RunsAreFollowed}
+use Rattle.lg_fold.specs.Known.{HasNoFolds}
+use Rattle.lg_dead.specs.Dead.{HasNoDeadButMoves}
+use Rattle.lg_dead.specs.Rewritten.{is_droppable, IsRewrittenNode, AreFinal}
 use Rattle.std.specs.List.{All}
-use Rattle.lg_asm.specs.Lowered.{code_of, ArePlaces, AreOf, AreNodesWhole, AreNodesSparing, AreNodesShort, AreNodesAhead}
+use Rattle.lg_asm.specs.Lowered.{ArePlaces, AreOf, AreNodesCoded, HasNoRoomFor}
 use Rattle.lg_asm.specs.NodeChoices.{spills_in}
 
 -- the target, the size of the buffer in which the code was made, the bytes, the final nodes with their shape, the registers that are live before and behind
@@ -51,12 +55,15 @@ pub record ArePushed (nodes : List Node) (xs : List ℕ) (count : ℕ) : Type 0 
   pub each : (i : ℕ) → i < count → slice_index xs i ≡ pushed nodes i
   pub few : (i : ℕ) → i < count → slice_index xs i ≤ 16
 
--- the nodes are accepted and tidy; they stand at their places, between which are whole instructions with few stores, of what leads back to a label the
--- shortest that reach it, and of what leads ahead the near ones where the size is one in which these lead to every place, else the far ones; a label that
--- is bound at a node has the address of its place, and each node is carried, for the registers that are live before it
+-- the nodes are accepted and tidy, none of them can be folded, and none but a `movr` is a dead definition; each comes from a node of the text, in their
+-- order; they stand at their places, between which are their bytes; a label that is bound at a node has the address of its place
 pub record IsCode (c : Assembled) : Type 0 where
   pub shape_is : IsShapeOf c.nodes c.shape
   pub tidy : IsTidy c.nodes
+  pub folds : HasNoFolds c.nodes
+  pub dead : HasNoDeadButMoves c.nodes c.shape
+  pub counted : length c.origin ≡ length c.nodes.nodes
+  pub rises : (i k : ℕ) → i < k → k < length c.origin → slice_index c.origin i < slice_index c.origin k
   pub live_are : AreLive c.nodes c.shape c.live
   pub small : length c.bytes ≤ most_code
   pub within : length c.bytes ≤ c.size
@@ -64,12 +71,7 @@ pub record IsCode (c : Assembled) : Type 0 where
   pub ordered : ArePlaces c.nodes c.places (length c.bytes)
   pub addresses : AreAddresses c.nodes (length c.bytes) c.labels
   pub addressed : AreOf c.nodes c.places c.labels
-  pub instructions : AreNodesWhole c.target (length c.nodes.nodes) c.places c.bytes
-  pub sparing : AreNodesSparing c.target c.nodes c.live c.places c.bytes
-  pub shortest : AreNodesShort c.target c.nodes c.places c.bytes
-  pub ahead : AreNodesAhead c.target (nat_le c.size near_size) c.nodes c.places c.bytes
-  pub carried : (trash i : ℕ) → trash < 2 ^ 64 → i < length c.nodes.nodes
-      → Carries (processor_of c.target c.bytes trash) (code_of c.nodes c.shape c.labels c.places) (live_at c.live.before) i
+  pub coded : AreNodesCoded c.target c.nodes c.shape c.live c.size c.places c.labels c.bytes
   pub saved : c.spills ≡ spills_in c.target c.nodes.nodes c.live (length c.nodes.nodes)
 
 -- ---- laws
@@ -102,8 +104,29 @@ StartStands =
     → IsShapeOf c.nodes c.shape
     → c.place 0 ≡ code_base → Stands (processor_of target code trash) c live (start_state image args) [] (run_from target image args trash) S
 
+-- behind each `.align` of the text the code stands at a multiple of its number
+abbrev pub AlignsStand : Type 0
+AlignsStand =
+    (c : Assembled) (l : LabelledNodes) (i number : ℕ) (node : Node) → IsCode c → KeepsOthers is_droppable l c.origin → IsOrigin IsRewrittenNode l c.nodes c.origin
+    → slice_get l.nodes i ≡ Some node → node.op ≡ op.Plain plain.Align → node.operands ≡ operand.Number number ∷ []
+    → (k : ℕ) × (slice_get c.origin k ≡ Some i) × (slice_index c.places (k + 1) % number ≡ 0)
+
 -- ---- refusals
+-- a text has no room in a size: at one of its final nodes fewer than 256 bytes were free behind the code of those before
+pub record HasNoRoom (target : Target) (l : LabelledNodes) (size : ℕ) : Type 0 where
+  pub nodes : LabelledNodes
+  pub shape : TextShape
+  pub origin : List ℕ
+  pub final : AreFinal l nodes shape origin
+  pub taken : shape.taken ≡ taken_labels l
+  pub room : HasNoRoomFor target nodes shape size
+
 -- that of code that has no room, and only where the nodes could have more bytes than the size
-abbrev pub IsRefusedBy : ℕ → ℕ → Stop → Type 0
-IsRefusedBy nodes size (stop.Refused r) = (r ≡ record { kind = CodeFull; line = 0 }) × (size < 256 * nodes + 256)
-IsRefusedBy nodes size stop.OutOfMemory = Unit {0}
+abbrev pub IsRefusedBy : Target → LabelledNodes → ℕ → Stop → Type 0
+IsRefusedBy target l size (stop.Refused r) = (r ≡ record { kind = CodeFull; line = 0 }) × (size < 256 * length l.nodes + 256) × HasNoRoom target l size
+IsRefusedBy target l size stop.OutOfMemory = Unit {0}
+
+-- the same of nodes that are final
+abbrev pub IsRefusedFor : Target → LabelledNodes → TextShape → ℕ → Stop → Type 0
+IsRefusedFor target l shape size (stop.Refused r) = (r ≡ record { kind = CodeFull; line = 0 }) × (size < 256 * length l.nodes + 256) × HasNoRoomFor target l shape size
+IsRefusedFor target l shape size stop.OutOfMemory = Unit {0}

@@ -2,7 +2,7 @@
 
 ghost use Rattle.std.specs.Prelude.{◌≡◌, ◌+◌, ◌*◌, ◌<◌, ◌≤◌, length, IfOk, IfErr};
 ghost use Rattle.lg_cpu.specs.Laws.{AreBytes};
-ghost use Rattle.lg_asm.specs.Assembled.{IsRefusedBy};
+ghost use Rattle.lg_asm.specs.Assembled.{IsRefusedFor};
 ghost use Rattle.lg_asm.specs.Lowered.{IsGiven};
 ghost use Rattle.lg_base.specs.Layout.{most_code};
 ghost use Rattle.lg_base.specs.declared.target.Target.{Target};
@@ -43,8 +43,8 @@ pub(crate) fn see_slice(bytes: &[u8])
     let _count = bytes.len();
 }
 
-/// The bytes of a text in a buffer of a size. They are refused with CodeFull only where 256 bytes for each node and 256 more are more than
-/// the size.
+/// The bytes of a text in a buffer of a size. They are refused with CodeFull only where at some node fewer than 256 bytes were free behind
+/// those of the nodes before it.
 pub(crate) fn text_bytes(
     alloc: Global,
     nodes: &NodeList,
@@ -57,7 +57,7 @@ pub(crate) fn text_bytes(
     requires live { AreLive nodes.now shape.now live.now }
     requires size { size ≤ most_code }
     ensures given { IfOk result (λ t. IsGiven target nodes.now shape.now live.now size t.places.items t.tags.items t.bytes.items) }
-    ensures refused { IfErr result (IsRefusedBy (length nodes.now.nodes) size) }
+    ensures refused { IfErr result (IsRefusedFor target nodes.now shape.now size) }
 {
     let count = nodes.len();
     let Some(room) = count.checked_add(1) else {

@@ -46,7 +46,7 @@ whole Riscv64 bytes a = whole-of Riscv64 rv.spelling rv.IsInstr instruction.Risc
 pub is-listable : (c : Assembled) → IsCode c → All (λ w. IsTrue (is_word w)) c.nodes.words → IsListable c.target c.bytes c.places c.nodes c.labels
 is-listable c k words = record {
   placed = record { count = k.ordered.long; first = k.ordered.first; last = k.ordered.last; rise = k.ordered.order; small = k.small };
-  whole = λ i below. whole c.target _ (k.instructions i below);
+  whole = λ i below. whole c.target _ (k.coded.instructions i below);
   addressed = λ x i bound.
       let below = slice_get_within c.nodes.places x (Some (place.Node i)) bound in
       let count = k.addressed.count in

@@ -1,5 +1,5 @@
 -- The run of the nodes that stay where moves that do nothing are dropped.
-use Rattle.std.proofs.Common.{◌≡◌, ◌≢◌, inl, inr, ℕ, zero, suc, ◌+◌, Bool, true, false, not, List, [], ◌∷◌, Option, Some, None, refl, sym, ap, ◌∙◌, subst, add-one}
+use Rattle.std.proofs.Common.{◌≡◌, ◌≢◌, inl, inr, ℕ, zero, suc, ◌+◌, Bool, true, false, not, List, [], ◌∷◌, Option, Some, None, length, refl, sym, ap, ◌∙◌, subst, add-one}
 use Rattle.std.specs.Prelude.{if◌then◌else◌, slice_get}
 use Rattle.std.specs.List.{All}
 use Rattle.lg_op.specs.Forms.{forms_of, admit}
@@ -34,9 +34,9 @@ use Rattle.lg_carry.specs.Carries.{leaps, leaps_at}
 use Rattle.lg_carry.proofs.FallLemmas.{nodes-fall}
 use Rattle.lg_opt.specs.Moves.{Move, move_of, move_at, no_sources, is_idle, behind_node, behind_at, sources_before, stays}
 use Rattle.lg_opt.specs.Paired.{Pair, Dropped, RestsAt, AreStepped}
-use Rattle.lg_opt.specs.Remaining.{new_number, rewritten, no_targets, may_go, IsRewriting}
+use Rattle.lg_opt.specs.Remaining.{new_number, rewritten, no_targets, origins, may_go, IsRewriting}
 use Rattle.lg_opt.specs.Renumbered.{over, Meets, IsRewritten}
-use Rattle.lg_opt.specs.Runs.{AreDropped}
+use Rattle.lg_opt.specs.Rewritings.{RunIsDropped}
 use Rattle.lg_opt.proofs.RemainingLemmas.{number-zero, number-goes}
 use Rattle.lg_opt.proofs.MovedLemmas.{stands, label-moved}
 use Rattle.lg_opt.proofs.RenumberLemmas.{renumbers}
@@ -44,6 +44,7 @@ use Rattle.lg_opt.proofs.ArrivalLemmas.{Arrives, leap-arrives}
 use Rattle.lg_opt.proofs.MoveLemmas.{AreSources, idle-rests}
 use Rattle.lg_opt.proofs.TidyLemmas.{move-is}
 use Rattle.lg_opt.proofs.HoldLemmas.{sources-on}
+use Rattle.lg_opt.proofs.OriginLemmas.{numbered}
 use Rattle.lg_opt.proofs.StepLemmas.{steps-meet}
 use Rattle.lg_opt.proofs.DropRunLemmas.{drops}
 
@@ -222,8 +223,17 @@ module _ (l : LabelledNodes) where
       stepped : AreStepped p Good (Dropped nu) (λ s k. stays l s.at)
       stepped = record { meets = meets; rests = rests }
 
+      -- what leaps stays
+      leaps-stay : (i : ℕ) → leaps_at (slice_get l.nodes i) ≡ true → (stays l i ≡ true) × (leaps_at (slice_get m.nodes (nu i)) ≡ true)
+      leaps-stay i e = by (slice_get l.nodes i) (stays l i) refl refl e
+        where
+          by : (o : Option Node) (b : Bool) → slice_get l.nodes i ≡ o → stays l i ≡ b → leaps_at o ≡ true → (stays l i ≡ true) × (leaps_at (slice_get m.nodes (nu i)) ≡ true)
+          by None b f s h = cc
+          by (Some n) true f s h = (s, ap leaps_at (stands l (stays l) no_targets i n f s) ∙ h)
+          by (Some n) false f s h = let no : false ≡ true = sym (drops-calm i s) ∙ ap leaps_at f ∙ h in cc
+
       -- the run of the new nodes follows
-      pub are-dropped : (image args : List ℕ) → AreDropped l shape (rewritten l (stays l) no_targets) new_shape A image args
+      pub are-dropped : (image args : List ℕ) → RunIsDropped l shape (rewritten l (stays l) no_targets) new_shape (origins (stays l) (length l.nodes)) A image args
       are-dropped image args =
           let start : Dropped nu (start_state image args) (start_state image args) = record {
             at = 0;
@@ -233,11 +243,13 @@ module _ (l : LabelledNodes) where
             lands = sym (number-zero (stays l));
             carries = inl refl;
             answers = inl refl;
-          } in
-          record {
-            j = _;
-            stays = stays l;
-            to = nu;
-            drops = drops p (stays l) nu Good stepped drops-calm (start_state image args) (start_state image args) (all-good image args) start;
-            calm = drops-calm;
-          }
+          } in (
+            record {
+              j = _;
+              stays = stays l;
+              to = nu;
+              drops = drops p (stays l) nu Good (Dropped nu) (λ s k a. ap (λ (x : State). x.at) a.is ∙ a.lands) stepped drops-calm (start_state image args) (start_state image args) (all-good image args) start;
+              leaps = leaps-stay;
+            },
+            numbered l (stays l) no_targets,
+          )

@@ -10,11 +10,11 @@ use Rattle.lg_meaning.specs.Steps.{Outcome, Goes, Ends, Undefined}
 use Rattle.lg_meaning.specs.Means.{Run, run_at, behind, run_step, machine, mean_from}
 use Rattle.lg_follow.specs.Drops.{Drops}
 use Rattle.lg_rewritten.specs.Rewritten.{at}
-use Rattle.lg_opt.specs.Paired.{Pair, Dropped, old_step, moves_made, AreStepped}
+use Rattle.lg_opt.specs.Paired.{Pair, old_step, moves_made, AreStepped}
 use Rattle.lg_opt.proofs.RunLemmas.{goes, stays, stays-bad, moved-on, rested, runs-alike, runs-follow}
 
-module _ (p : Pair) (keeps : ℕ → Bool) (number : ℕ → ℕ) (Good : State → Type 0) (step-ok : AreStepped p Good (Dropped number) (λ s m. keeps s.at)) (calm : (i : ℕ) → keeps i ≡ false → leaps_at (slice_get p.old.nodes i) ≡ false)
-    (s0 m0 : State) (good : (k : ℕ) → Good (mean_from p.old p.old_shape p.addresses s0 k).state) (alike : Dropped number s0 m0) where
+module _ (p : Pair) (keeps : ℕ → Bool) (number : ℕ → ℕ) (Good : State → Type 0) (R : State → State → Type 0) (places : (s m : State) → R s m → m.at ≡ number s.at) (step-ok : AreStepped p Good R (λ s m. keeps s.at)) (calm : (i : ℕ) → keeps i ≡ false → leaps_at (slice_get p.old.nodes i) ≡ false)
+    (s0 m0 : State) (good : (k : ℕ) → Good (mean_from p.old p.old_shape p.addresses s0 k).state) (alike : R s0 m0) where
   abbrev o-at : ℕ → Run
   o-at k = mean_from p.old p.old_shape p.addresses s0 k
 
@@ -51,9 +51,9 @@ module _ (p : Pair) (keeps : ℕ → Bool) (number : ℕ → ℕ) (Good : State 
 
   pub drops : Drops (machine p.old p.old_shape p.addresses) (machine p.new p.new_shape p.addresses) (run_at s0 []) (run_at m0 []) (moves_made p (λ s m. keeps s.at) s0 m0) at at keeps number
   drops = record {
-    follows = runs-follow p Good (Dropped number) (λ s m. keeps s.at) step-ok s0 m0 good alike;
-    steps = λ k run e. moved-on p Good (Dropped number) (λ s m. keeps s.at) step-ok s0 m0 good alike k e;
-    rests = λ k run e. rested p Good (Dropped number) (λ s m. keeps s.at) step-ok s0 m0 good alike k e;
-    here = λ k run. let a = (runs-alike p Good (Dropped number) (λ s m. keeps s.at) step-ok s0 m0 good alike k (λ b. bad (sym b ∙ run))).states run in ap (λ x. x.at) a.is ∙ a.lands;
+    follows = runs-follow p Good R (λ s m. keeps s.at) step-ok s0 m0 good alike;
+    steps = λ k run e. moved-on p Good R (λ s m. keeps s.at) step-ok s0 m0 good alike k e;
+    rests = λ k run e. rested p Good R (λ s m. keeps s.at) step-ok s0 m0 good alike k e;
+    here = λ k run. let a = (runs-alike p Good R (λ s m. keeps s.at) step-ok s0 m0 good alike k (λ b. bad (sym b ∙ run))).states run in places _ _ a;
     falls = falls;
   }

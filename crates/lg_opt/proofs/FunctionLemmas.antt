@@ -40,7 +40,7 @@ found-map p q f xs all =
     ∙ ap (λ n. cond (nat_lt (position_or_len p xs) n) (Some (position_or_len p xs)) None) (length-map xs f)
 
 -- an element of a list
-element : {X : Type 0} (P : X → Type 0) (xs : List X) (i : ℕ) (x : X) → slice_get xs i ≡ Some x → All P xs → P x
+pub element : {X : Type 0} (P : X → Type 0) (xs : List X) (i : ℕ) (x : X) → slice_get xs i ≡ Some x → All P xs → P x
 element P [] i x e all = cc
 element P (y ∷ ys) zero x e all = let same : y ≡ x = cc in subst P same (All-head P y ys all)
 element P (y ∷ ys) (suc i) x e all = element P ys i x e (All-tail P y ys all)

@@ -29,3 +29,4 @@ pub mod TargetLemmas
 pub mod ThreadRunLemmas
 pub mod ThreadedLemmas
 pub mod TidyLemmas
+pub mod TwiceLemmas

@@ -9,7 +9,7 @@ use Rattle.lg_op.specs.declared.op.Op.{Op}
 use Rattle.lg_op.specs.declared.op.Op.TheVariants as op
 use Rattle.lg_op.specs.declared.op.ControlOp.TheVariants as control
 use Rattle.lg_op.specs.declared.op.LastOperand.TheVariants as last_operand
-use Rattle.lg_op.specs.declared.op.UnaryOp.TheVariants as unary
+use Rattle.lg_op.specs.declared.op.PlainOp.TheVariants as plains
 use Rattle.lg_op.specs.declared.operand.Label.{Label}
 use Rattle.lg_op.specs.declared.operand.Operand.{Operand}
 use Rattle.lg_node.specs.declared.preparation.Preparation.{Preparation}
@@ -52,13 +52,67 @@ record IsPlain (p : Op) (xs : List Operand) : Type 0 where
   varies : (v : Bool) (c : Option Preparation) → varies_behind v c p ≡ v
 
 plain : (p : Op) (xs : List Operand) → may_go p ≡ true → IsPlain p xs
-plain (op.Unary unary.Mov) xs e = record { prolog = refl; epilog = refl; arg = refl; local = refl; call = λ c. same c; varies = λ v c. as-before v c }
+plain (op.Binary o last) xs e = record { prolog = refl; epilog = refl; arg = refl; local = refl; call = λ c. same c; varies = λ v c. as-before v c }
   where
-    as-before : (v : Bool) (c : Option Preparation) → varies_behind v c (op.Unary unary.Mov) ≡ v
+    as-before : (v : Bool) (c : Option Preparation) → varies_behind v c (op.Binary o last) ≡ v
     as-before v None = refl
     as-before v (Some c) = refl
 
-    same : (c : Option Preparation) → prepared_behind c (op.Unary unary.Mov) ≡ c
+    same : (c : Option Preparation) → prepared_behind c (op.Binary o last) ≡ c
+    same None = refl
+    same (Some c) = refl
+plain (op.Wide o last) xs e = record { prolog = refl; epilog = refl; arg = refl; local = refl; call = λ c. same c; varies = λ v c. as-before v c }
+  where
+    as-before : (v : Bool) (c : Option Preparation) → varies_behind v c (op.Wide o last) ≡ v
+    as-before v None = refl
+    as-before v (Some c) = refl
+
+    same : (c : Option Preparation) → prepared_behind c (op.Wide o last) ≡ c
+    same None = refl
+    same (Some c) = refl
+plain (op.Unary o) xs e = record { prolog = refl; epilog = refl; arg = refl; local = refl; call = λ c. same c; varies = λ v c. as-before v c }
+  where
+    as-before : (v : Bool) (c : Option Preparation) → varies_behind v c (op.Unary o) ≡ v
+    as-before v None = refl
+    as-before v (Some c) = refl
+
+    same : (c : Option Preparation) → prepared_behind c (op.Unary o) ≡ c
+    same None = refl
+    same (Some c) = refl
+plain (op.Plain plains.Movi) xs e = record { prolog = refl; epilog = refl; arg = refl; local = refl; call = λ c. same c; varies = λ v c. as-before v c }
+  where
+    as-before : (v : Bool) (c : Option Preparation) → varies_behind v c (op.Plain plains.Movi) ≡ v
+    as-before v None = refl
+    as-before v (Some c) = refl
+
+    same : (c : Option Preparation) → prepared_behind c (op.Plain plains.Movi) ≡ c
+    same None = refl
+    same (Some c) = refl
+plain (op.Load ty at) xs e = record { prolog = refl; epilog = refl; arg = refl; local = refl; call = λ c. same c; varies = λ v c. as-before v c }
+  where
+    as-before : (v : Bool) (c : Option Preparation) → varies_behind v c (op.Load ty at) ≡ v
+    as-before v None = refl
+    as-before v (Some c) = refl
+
+    same : (c : Option Preparation) → prepared_behind c (op.Load ty at) ≡ c
+    same None = refl
+    same (Some c) = refl
+plain (op.Retval ty) xs e = record { prolog = refl; epilog = refl; arg = refl; local = refl; call = λ c. same c; varies = λ v c. as-before v c }
+  where
+    as-before : (v : Bool) (c : Option Preparation) → varies_behind v c (op.Retval ty) ≡ v
+    as-before v None = refl
+    as-before v (Some c) = refl
+
+    same : (c : Option Preparation) → prepared_behind c (op.Retval ty) ≡ c
+    same None = refl
+    same (Some c) = refl
+plain (op.Getarg ty) xs e = record { prolog = refl; epilog = refl; arg = refl; local = refl; call = λ c. same c; varies = λ v c. as-before v c }
+  where
+    as-before : (v : Bool) (c : Option Preparation) → varies_behind v c (op.Getarg ty) ≡ v
+    as-before v None = refl
+    as-before v (Some c) = refl
+
+    same : (c : Option Preparation) → prepared_behind c (op.Getarg ty) ≡ c
     same None = refl
     same (Some c) = refl
 plain (op.Control control.Jmp last_operand.Immediate) xs e = record { prolog = refl; epilog = refl; arg = refl; local = refl; call = λ c. same c; varies = λ v c. as-before v c }
@@ -73,12 +127,24 @@ plain (op.Control control.Jmp last_operand.Immediate) xs e = record { prolog = r
 plain p xs e = cc
 
 pub goes-no-prolog : (p : Op) → may_go p ≡ true → is_prolog p ≡ false
-goes-no-prolog (op.Unary unary.Mov) e = refl
+goes-no-prolog (op.Binary o last) e = refl
+goes-no-prolog (op.Wide o last) e = refl
+goes-no-prolog (op.Unary o) e = refl
+goes-no-prolog (op.Plain plains.Movi) e = refl
+goes-no-prolog (op.Load v at) e = refl
+goes-no-prolog (op.Retval v) e = refl
+goes-no-prolog (op.Getarg v) e = refl
 goes-no-prolog (op.Control control.Jmp last_operand.Immediate) e = refl
 goes-no-prolog p e = cc
 
 pub goes-no-epilog : (p : Op) → may_go p ≡ true → is_epilog p ≡ false
-goes-no-epilog (op.Unary unary.Mov) e = refl
+goes-no-epilog (op.Binary o last) e = refl
+goes-no-epilog (op.Wide o last) e = refl
+goes-no-epilog (op.Unary o) e = refl
+goes-no-epilog (op.Plain plains.Movi) e = refl
+goes-no-epilog (op.Load v at) e = refl
+goes-no-epilog (op.Retval v) e = refl
+goes-no-epilog (op.Getarg v) e = refl
 goes-no-epilog (op.Control control.Jmp last_operand.Immediate) e = refl
 goes-no-epilog p e = cc
 

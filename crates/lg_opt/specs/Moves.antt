@@ -1,5 +1,5 @@
 -- Moves that do nothing.
-use Rattle.std.specs.Prelude.{◌≡◌, ◌≢◌, ◌⊎◌, ℕ, zero, suc, ◌==◌, ◌<◌, ◌≤◌, Bool, false, not, ◌||◌, if◌then◌else◌, List, [], ◌∷◌, Option, Some, None, slice_get}
+use Rattle.std.specs.Prelude.{◌≡◌, ◌≢◌, ◌⊎◌, ℕ, zero, suc, ◌==◌, ◌<◌, ◌≤◌, Bool, true, false, not, ◌||◌, if◌then◌else◌, List, [], ◌∷◌, Option, Some, None, slice_get}
 use Rattle.lg_op.specs.declared.op.Op.{Op}
 use Rattle.lg_op.specs.declared.op.Op.TheVariants as op
 use Rattle.lg_op.specs.declared.op.UnaryOp.TheVariants as unary
@@ -21,6 +21,10 @@ is_equal q r = number_of q == number_of r
 pub record Move : Type 0 where
   pub into : Reg
   pub from : Reg
+
+abbrev pub is_movr : Op → Bool
+is_movr (op.Unary unary.Mov) = true
+is_movr o = false
 
 abbrev pub move_of : Op → List Operand → Option Move
 move_of (op.Unary unary.Mov) (operand.Reg a ∷ operand.Reg b ∷ []) = Some record { into = a; from = b }

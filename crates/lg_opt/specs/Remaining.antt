@@ -6,7 +6,7 @@ use Rattle.lg_op.specs.declared.op.Op.{Op}
 use Rattle.lg_op.specs.declared.op.Op.TheVariants as op
 use Rattle.lg_op.specs.declared.op.ControlOp.TheVariants as control
 use Rattle.lg_op.specs.declared.op.LastOperand.TheVariants as last_operand
-use Rattle.lg_op.specs.declared.op.UnaryOp.TheVariants as unary
+use Rattle.lg_op.specs.declared.op.PlainOp.TheVariants as plain
 use Rattle.lg_op.specs.declared.operand.Label.{Label}
 use Rattle.lg_op.specs.declared.operand.Operand.{Operand}
 use Rattle.lg_op.specs.declared.operand.Operand.TheVariants as operand
@@ -58,9 +58,15 @@ no_targets i = None
 abbrev pub origins : (ℕ → Bool) → ℕ → List ℕ
 origins stays n = remaining stays (λ i. Some i) n
 
--- what may be dropped: `movr`, and `jmpi`
+-- what may be dropped without changing functions, locals and calls: what only makes words, and `jmpi`
 abbrev pub may_go : Op → Bool
-may_go (op.Unary unary.Mov) = true
+may_go (op.Binary o last) = true
+may_go (op.Wide o last) = true
+may_go (op.Unary o) = true
+may_go (op.Plain plain.Movi) = true
+may_go (op.Load v at) = true
+may_go (op.Retval v) = true
+may_go (op.Getarg v) = true
 may_go (op.Control control.Jmp last_operand.Immediate) = true
 may_go o = false
 

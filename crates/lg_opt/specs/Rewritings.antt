@@ -1,6 +1,7 @@
 -- What rewritten nodes are to the nodes that they were rewritten from.
-use Rattle.std.specs.Prelude.{◌≡◌, ◌⊎◌, ℕ, ◌<◌, Bool, true, false, List, [], Option, Some, None, length, replicate, slice_get, slice_index, slice_index_or}
+use Rattle.std.specs.Prelude.{◌≡◌, ◌⊎◌, ◌↔◌, ℕ, ◌<◌, ◌≤◌, Bool, true, false, List, [], Option, Some, None, length, replicate, slice_get, slice_index, slice_index_or}
 use Rattle.lg_op.specs.declared.node.Node.{Node}
+use Rattle.lg_op.specs.declared.op.Op.{Op}
 use Rattle.lg_op.specs.declared.operand.Label.{Label}
 use Rattle.lg_node.specs.declared.place.Place.TheVariants as place
 use Rattle.lg_node.specs.Nodes.{LabelledNodes}
@@ -30,20 +31,41 @@ IsSameNode old n = n ≡ old
 abbrev pub IsThreadedNode : Node → Node → Type 0
 IsThreadedNode old n = (n ≡ old) ⊎ ((has_target old.op ≡ true) × (y : Label) × (n ≡ retargeted (Some y) old))
 
--- the labels are the same ones, and those of data are bound where they were
-pub record KeepsLabels (l m : LabelledNodes) : Type 0 where
+-- every node is there but for those of these operations
+abbrev pub KeepsOthers : (Op → Bool) → LabelledNodes → List ℕ → Type 0
+KeepsOthers goes l origin = (i : ℕ) (n : Node) → slice_get l.nodes i ≡ Some n → goes n.op ≡ false → (k : ℕ) × (slice_get origin k ≡ Some i)
+
+-- a new node is the first of those that stand for an old one from number i on
+pub record IsFirstFrom (origin : List ℕ) (i k : ℕ) : Type 0 where
+  pub within : k ≤ length origin
+  pub before : (j : ℕ) → j < k → slice_index origin j < i
+  pub behind : (j : ℕ) → k ≤ j → j < length origin → i ≤ slice_index origin j
+
+-- the labels are the same ones; those of data are bound where they were, and one at a node at the first node that stays from there on
+pub record KeepsLabels (l m : LabelledNodes) (origin : List ℕ) : Type 0 where
   pub words : m.words ≡ l.words
   pub count : length m.places ≡ length l.places
   pub images : (x k : ℕ) → IsBound m x (place.Image k) → IsBound l x (place.Image k)
+  pub nodes : (x i : ℕ) → IsBound l x (place.Node i) → (k : ℕ) × IsBound m x (place.Node k) × IsFirstFrom origin i k
+
+-- of so many nodes those stay for which a new one stands, and each of them, and the end, leads to the first new node that stays from there on
+pub record IsNumberedBy (origin : List ℕ) (count : ℕ) (stays : ℕ → Bool) (to : ℕ → ℕ) : Type 0 where
+  pub kept : (i : ℕ) → i < count → (stays i ≡ true) ↔ ((k : ℕ) × (slice_get origin k ≡ Some i))
+  pub first : (i : ℕ) → i ≤ count → IsFirstFrom origin i (to i)
 
 -- addresses of the labels in the new nodes are addresses of them in the old ones
 abbrev pub CarriesAddresses : LabelledNodes → LabelledNodes → Type 0
 CarriesAddresses l m = (size : ℕ) (addresses : List ℕ) → AreAddresses m size addresses → AreAddresses l size addresses
 
+-- the new run follows the old one: it steps where the old one stands at a node for which a new one stands
+abbrev pub RunIsDropped : LabelledNodes → TextShape → LabelledNodes → TextShape → List ℕ → List ℕ → List ℕ → List ℕ → Type 0
+RunIsDropped l shape m new_shape origin addresses image args =
+    (run : AreDropped l shape m new_shape addresses image args) × IsNumberedBy origin (length l.nodes) run.stays run.to
+
 -- over addresses of the labels in the new nodes the new run follows the old one, from each start
-abbrev pub RunsAreDropped : LabelledNodes → TextShape → LabelledNodes → TextShape → Type 0
-RunsAreDropped l shape m new_shape =
-    (size : ℕ) (addresses image args : List ℕ) → AreAddresses m size addresses → AreDropped l shape m new_shape addresses image args
+abbrev pub RunsAreDropped : LabelledNodes → TextShape → LabelledNodes → TextShape → List ℕ → Type 0
+RunsAreDropped l shape m new_shape origin =
+    (size : ℕ) (addresses image args : List ℕ) → AreAddresses m size addresses → RunIsDropped l shape m new_shape origin addresses image args
 
 abbrev pub RunsAreThreaded : LabelledNodes → TextShape → LabelledNodes → TextShape → Type 0
 RunsAreThreaded l shape m new_shape =

@@ -1,5 +1,5 @@
 -- What the rewritings promise of runs.
-use Rattle.std.specs.Prelude.{◌≡◌, ℕ, Bool, false, List, [], slice_get}
+use Rattle.std.specs.Prelude.{◌≡◌, ℕ, Bool, true, List, [], slice_get}
 use Rattle.lg_node.specs.Nodes.{LabelledNodes}
 use Rattle.lg_node.specs.Shapes.{TextShape}
 use Rattle.lg_meaning.specs.Means.{run_at, machine}
@@ -9,20 +9,27 @@ use Rattle.lg_follow.specs.Drops.{Drops, Threads}
 use Rattle.lg_rewritten.specs.Rewritten.{at, is_loud, MeaningIsFollowed}
 use Rattle.lg_opt.specs.Hops.{jump_at}
 
--- the run of the new nodes steps where the old one stands at a node that stays, and no branch, jump, call or return is dropped
+-- the run of the new nodes steps where the old one stands at a node that stays; each branch, jump, call or return stays, as one of them
 pub record AreDropped (l : LabelledNodes) (shape : TextShape) (m : LabelledNodes) (new_shape : TextShape) (addresses image args : List ℕ) : Type 0 where
   pub j : ℕ → ℕ
   pub stays : ℕ → Bool
   pub to : ℕ → ℕ
   pub drops : Drops (machine l shape addresses) (machine m new_shape addresses) (run_at (start_state image args) []) (run_at (start_state image args) [])
       j at at stays to
-  pub calm : (i : ℕ) → stays i ≡ false → leaps_at (slice_get l.nodes i) ≡ false
+  pub leaps : (i : ℕ) → leaps_at (slice_get l.nodes i) ≡ true → (stays i ≡ true) × (leaps_at (slice_get m.nodes (to i)) ≡ true)
 
 -- the run of the new nodes follows that of the old ones and turns with it, and steps at each node that is no jump
 pub record AreThreaded (l : LabelledNodes) (shape : TextShape) (m : LabelledNodes) (new_shape : TextShape) (addresses image args : List ℕ) : Type 0 where
   pub j : ℕ → ℕ
   pub threads : Threads (machine l shape addresses) (machine m new_shape addresses) (run_at (start_state image args) []) (run_at (start_state image args) [])
       j at (jump_at l) (λ i. leaps_at (slice_get l.nodes i)) (is_loud m)
+
+-- nodes dropped twice are dropped
+abbrev pub DroppedTwiceAreDropped : Type 0
+DroppedTwiceAreDropped =
+    (l m n : LabelledNodes) (shape middle_shape new_shape : TextShape) (addresses image args : List ℕ)
+    → AreDropped l shape m middle_shape addresses image args → AreDropped m middle_shape n new_shape addresses image args
+    → AreDropped l shape n new_shape addresses image args
 
 -- nodes dropped, and then jumps threaded: the run of the last nodes follows that of the first, and turns with it
 abbrev pub DroppedAndThreadedAreFollowed : Type 0

@@ -4,17 +4,15 @@
 mod dropping;
 mod drops;
 mod hops;
-mod labels;
+pub mod labels;
 pub mod laws;
-mod moves;
-mod rebuilding;
-mod rewriting;
-mod rewritten;
+pub mod moves;
+pub mod rebuilding;
+pub mod rewritten;
 mod sources;
 mod targets;
 mod threading;
 
 pub use dropping::drop_moves;
-pub use rewriting::rewrite;
 pub use rewritten::Rewritten;
 pub use threading::thread;

@@ -16,7 +16,7 @@ use std::alloc::Global;
 
 // A list of no nodes with the labels of another, none of them bound. The words of a list's labels differ, so that each gets its number; one that
 // came twice would be told as want of memory.
-fn unbound(alloc: Global, old: &NodeList) -> Result<NodeList, OutOfMemory>
+pub fn unbound(alloc: Global, old: &NodeList) -> Result<NodeList, OutOfMemory>
     ensures { IfOk result (λ l. l ≡ unbound old.now.words) }
 {
     let mut list = NodeList::new(alloc);
@@ -108,7 +108,7 @@ fn counted(number: u32, stays: bool) -> u32
 }
 
 // Of each node its new number, and behind them how many stay.
-fn numbers(alloc: Global, stays: &[bool]) -> Result<Vec<u32>, OutOfMemory>
+pub fn numbers(alloc: Global, stays: &[bool]) -> Result<Vec<u32>, OutOfMemory>
     requires { length stays.now < 2 ^ 32 }
     ensures count { IfOk result (λ table. length table.items ≡ length stays.now + 1) }
     ensures numbers { IfOk result (λ table. (k : ℕ) → k ≤ length stays.now → slice_index table.items k ≡ new_number (marked stays.now) k) }
@@ -151,7 +151,7 @@ fn bind_at(list: &mut NodeList, label: Label, place: Option<Place>)
 }
 
 // Binds the labels of another list at their new places.
-fn bind_moved(list: &mut NodeList, nodes: &NodeList, numbers: &[u32])
+pub fn bind_moved(list: &mut NodeList, nodes: &NodeList, numbers: &[u32])
     requires labels { list.old.places ≡ replicate (length nodes.now.words) None }
     requires words { list.old.words ≡ nodes.now.words }
     requires count { length numbers.now ≡ length nodes.now.nodes + 1 }

@@ -3,9 +3,9 @@
 ghost use Rattle.std.specs.Prelude.{◌≡◌, ◌≤◌, length, IfOk};
 ghost use Rattle.lg_node.specs.ShapeLaws.{has_target};
 ghost use Rattle.lg_node.specs.Shapes.{IsShapeOf};
-ghost use Rattle.lg_opt.specs.Hops.{HasNoIdleJumps};
+ghost use Rattle.lg_opt.specs.Hops.{HasNoIdleJumps, is_jump};
 ghost use Rattle.lg_opt.specs.Moves.{HasNoIdleMoves};
-ghost use Rattle.lg_opt.specs.Rewritings.{IsOrigin, IsThreadedNode, KeepsLabels, CarriesAddresses, RunsAreThreaded, IsThreadedTo};
+ghost use Rattle.lg_opt.specs.Rewritings.{IsOrigin, IsThreadedNode, KeepsOthers, KeepsLabels, CarriesAddresses, RunsAreThreaded, IsThreadedTo};
 
 use crate::drops::{ends, staying};
 use crate::labels::labels_at;
@@ -34,19 +34,21 @@ fn threaded(alloc: Global, nodes: &NodeList, shape: &Shape) -> Result<Rewritten,
 /// `jmpi` that leads to the node that follows, until nothing is left to do. A label of a dropped node moves to the next that stays. The shape is
 /// that of the nodes. Memory goes by the number of nodes and labels, and time by that and at most 32 passes over a table of the nodes.
 ///
-/// The new run follows the old one over any addresses of the labels in the new nodes, and steps at each node that is no `jmpi`; between two times
+/// Every node but a `jmpi` stays. The new run follows the old one over any addresses of the labels in the new nodes, and steps at each node that is no `jmpi`; between two times
 /// at which the old run stands at one node, it steps at a branch, jump, call or return.
 pub fn thread(alloc: Global, nodes: &NodeList, shape: &Shape) -> Result<Rewritten, OutOfMemory>
     requires { IsShapeOf nodes.now shape.now }
     ensures shape { IfOk result (λ r. IsShapeOf r.nodes r.shape) }
     ensures taken { IfOk result (λ r. r.shape.taken ≡ shape.now.taken) }
     ensures origin { IfOk result (λ r. IsOrigin IsThreadedNode nodes.now r.nodes r.origin.items) }
+    ensures others { IfOk result (λ r. KeepsOthers is_jump nodes.now r.origin.items) }
     ensures few { IfOk result (λ r. length r.nodes.nodes ≤ length nodes.now.nodes) }
-    ensures labels { IfOk result (λ r. KeepsLabels nodes.now r.nodes) }
+    ensures labels { IfOk result (λ r. KeepsLabels nodes.now r.nodes r.origin.items) }
     ensures jumps { IfOk result (λ r. HasNoIdleJumps r.nodes has_target) }
     ensures moves { IfOk result (λ r. HasNoIdleMoves nodes.now → HasNoIdleMoves r.nodes) }
     ensures addresses { IfOk result (λ r. CarriesAddresses nodes.now r.nodes) }
     ensures runs { IfOk result (λ r. RunsAreThreaded nodes.now shape.now r.nodes r.shape) }
+    ensures made { IfOk result (λ r. IsThreadedTo nodes.now shape.now r.nodes r.shape r.origin.items) }
 {
     nodes.what_holds();
     threaded(alloc, nodes, shape)

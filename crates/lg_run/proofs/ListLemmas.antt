@@ -1,9 +1,8 @@
 -- Code can be listed, and a listing in two parts.
-use Rattle.std.proofs.Common.{◌≡◌, ℕ, ◌+◌, ◌<◌, ◌≤◌, List, ◌++◌, length, slice_index, Option, Some, refl, sym, ap, ◌∙◌, subst, arith}
+use Rattle.std.proofs.Common.{◌≡◌, ℕ, ◌<◌, List, ◌++◌, length, Option, Some, refl, ap, ◌∙◌, arith}
 use Rattle.std.specs.Io.KnownBytes.{Appends}
 use Rattle.std.proofs.lemmas.Option.{slice_get-get_or, slice_get_within}
 use Rattle.lg_asm.specs.Assembled.{Assembled, IsCode}
-use Rattle.lg_base.specs.Layout.{code_base}
 use Rattle.lg_base.specs.declared.target.Target.{Target}
 use Rattle.lg_list.specs.Listing.{AreAddressed, Placed, listing}
 use Rattle.lg_node.specs.Nodes.{LabelledNodes}

@@ -31,14 +31,14 @@ accepted_not : (l : LabelledNodes) (r : Refusal) → IsAccepted l → IsRefused 
 accepted_not l r accepted (inl a) = none_some (sym (accepted.nodes a.at a.within) ∙ a.here)
 accepted_not l r accepted (inr a) = none_some (sym accepted.end ∙ a.here)
 
-code_once : (t : Target) (nodes size : ℕ) (r q : Refusal) → IsRefusedCode t nodes size r → IsRefusedCode t nodes size q → r ≡ q
-code_once t nodes size r q a b = a.0 ∙ sym b.0
+code_once : (t : Target) (l : LabelledNodes) (size : ℕ) (r q : Refusal) → IsRefusedCode t l size r → IsRefusedCode t l size q → r ≡ q
+code_once t l size r q a b = a.0 ∙ sym b.0
 
 unit_once : (c : Command) (l : LabelledNodes) (r q : Refusal) → IsRefusedUnit c l r → IsRefusedUnit c l q → r ≡ q
 unit_once c l r q (inl a) (inl b) = checked_once l r q a b
 unit_once c l r q (inl a) (inr b) = absurd (accepted_not l r b.0 a)
 unit_once c l r q (inr a) (inl b) = absurd (accepted_not l q a.0 b)
-unit_once c l r q (inr a) (inr b) = code_once c.target (length l.nodes) c.size r q a.1 b.1
+unit_once c l r q (inr a) (inr b) = code_once c.target l c.size r q a.1 b.1
 
 as_once : (c : Command) (read : Result TextUnit Refusal) (r q : Refusal) → IsRefusedAs c read r → IsRefusedAs c read q → r ≡ q
 as_once c (Err fault) r q a b = a ∙ sym b
@@ -63,7 +63,7 @@ text_for_room c text unit r is accepted refused = at (subst (λ u. IsRefusedAs c
   where
     at : IsRefusedUnit c unit.nodes r → (r ≡ code_full) × MayBeFull (length unit.nodes.nodes) c.size
     at (inl checked) = absurd (accepted_not unit.nodes r accepted checked)
-    at (inr full) = full.1
+    at (inr full) = (full.1.0, full.1.1)
 
 -- and so is what expands to it
 read_for_room : (c : Command) (read text : List ℕ) (unit : TextUnit) (r : Refusal) → Expands read text → IsUnitOf text unit → IsAccepted unit.nodes → IsRefusedRead c read r

@@ -1,5 +1,5 @@
 -- The lines on err, each as its pieces in a row.
-use Rattle.std.specs.Prelude.{ℕ, Bool, true, false, not, ◌&&◌, if◌then◌else◌, List, [], ◌∷◌, ◌++◌, length, Option, Some, None, codes}
+use Rattle.std.specs.Prelude.{ℕ, Bool, true, false, not, ◌&&◌, if◌then◌else◌, List, [], ◌∷◌, length, Option, Some, None, codes}
 use Rattle.lg_asm.specs.Assembled.{Assembled}
 use Rattle.lg_io.specs.Wrote.{row}
 use Rattle.lg_io.specs.Radixes.{digits_in}

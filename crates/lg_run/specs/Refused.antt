@@ -1,5 +1,6 @@
 -- Why a call is refused, in the order of the reasons.
 use Rattle.std.specs.Prelude.{◌≡◌, ◌⊎◌, ℕ, ◌+◌, ◌*◌, ◌<◌, ◌≤◌, List, length, Option, Some, None, Result, Ok, Err, ⊤}
+use Rattle.lg_asm.specs.Assembled.{HasNoRoom}
 use Rattle.lg_base.specs.Arguments.{args_of, most_args, args_too_long}
 use Rattle.lg_base.specs.Refusals.{text_too_long}
 use Rattle.lg_base.specs.declared.refusal.Refusal.{Refusal}
@@ -28,11 +29,11 @@ abbrev pub MayBeFull : (nodes size : ℕ) → Type 0
 MayBeFull nodes size = size < 256 * nodes + 256
 
 -- nodes that are accepted are refused where they have no room in the size
-abbrev pub IsRefusedCode : Target → (nodes size : ℕ) → Refusal → Type 0
-IsRefusedCode target nodes size refusal = (refusal ≡ code_full) × MayBeFull nodes size
+abbrev pub IsRefusedCode : Target → LabelledNodes → (size : ℕ) → Refusal → Type 0
+IsRefusedCode target l size refusal = (refusal ≡ code_full) × MayBeFull (length l.nodes) size × HasNoRoom target l size
 
 abbrev pub IsRefusedAccepted : Command → LabelledNodes → Refusal → Type 0
-IsRefusedAccepted c l refusal = IsRefusedCode c.target (length l.nodes) c.size refusal
+IsRefusedAccepted c l refusal = IsRefusedCode c.target l c.size refusal
 
 -- nodes are refused by the first fault of their checks, or else as code
 abbrev pub IsRefusedUnit : Command → LabelledNodes → Refusal → Type 0

@@ -10,11 +10,13 @@ use Rattle.lg_cpu.specs.Laws.{AreBytes}
 use Rattle.lg_cpu.specs.States.{CpuState}
 use Rattle.lg_cpu.specs.Steps.{Run}
 use Rattle.lg_cpu.specs.Targets.{run_at}
+use Rattle.lg_dead.specs.Rewritten.{AreFinal}
 use Rattle.lg_io.specs.Counts.{Rose}
 use Rattle.lg_io.specs.NamedTexts.{NamedTexts}
 use Rattle.lg_list.specs.Listing.{listing}
 use Rattle.lg_meaning.specs.Means as means
 use Rattle.lg_node.specs.Checks.{IsAccepted}
+use Rattle.lg_node.specs.Labels.{taken_labels}
 use Rattle.lg_node.specs.declared.unit.Unit.{Unit as TextUnit}
 use Rattle.lg_io.specs.SinkChanges.{SinkChange, Took, TookPart}
 use Rattle.lg_run.specs.Changes.{TextsChange, TellsReads, TellsWrites}
@@ -24,7 +26,6 @@ use Rattle.lg_run.specs.Runs.{RunSays, MeanSays}
 use Rattle.lg_run.specs.declared.answer.Answer.{Answer}
 use Rattle.lg_run.specs.declared.answer.Answer.TheVariants.{Ended, Listed, Undefined, Refused, Usage, ReadFault, WriteFault, StepsOut, Fault, OutOfMemory}
 use Rattle.lg_run.specs.declared.answer.Done.{Done}
-use Rattle.lg_opt.specs.Rewritings.{IsTidy, IsOrigin, IsThreadedNode}
 
 -- what registers hold at first, and behind a call of a host function
 abbrev pub trash_word : ℕ
@@ -48,8 +49,8 @@ ReadsFile mode.Gen = ⊥
 -- ---- code
 
 -- the code is that of the command's text: the text has a unit, the unit is accepted, the code is made for the command's
--- target in a buffer of its size from the unit's nodes without needless moves and jumps, fits that size, and agrees with the unit's meaning over the
--- addresses of its labels
+-- target in a buffer of its size, of the unit's nodes, folded and without needless definitions, moves and jumps, with the unit's labels and taken labels;
+-- it fits that size, and agrees with the unit's meaning over the addresses of its labels
 pub record IsCodeOf (c : Command) (held : Option NamedTexts) (code : Assembled) : Type 0 where
   pub text : List ℕ
   pub given : IsTextIn c.mode c held text
@@ -60,8 +61,8 @@ pub record IsCodeOf (c : Command) (held : Option NamedTexts) (code : Assembled) 
   pub bytes : AreBytes (args_of c.arguments)
   pub target : code.target ≡ c.target
   pub size_is : code.size ≡ c.size
-  pub tidy : IsTidy code.nodes
-  pub origin : IsOrigin IsThreadedNode unit.nodes code.nodes code.origin
+  pub taken : code.shape.taken ≡ taken_labels unit.nodes
+  pub rewritten : AreFinal unit.nodes code.nodes code.shape code.origin
   pub size : length code.bytes ≤ c.size
   pub agrees : Agrees code.bytes code.labels unit c.target
 

@@ -8,11 +8,12 @@ ghost use Rattle.lg_carry.specs.Agreement.{Agrees};
 ghost use Rattle.lg_command.specs.Commands.{IsInRange, shown};
 ghost use Rattle.lg_command.specs.declared.command.Mode.TheVariants as modes;
 ghost use Rattle.lg_cpu.specs.Laws.{AreBytes};
+ghost use Rattle.lg_node.specs.Labels.{taken_labels};
 ghost use Rattle.lg_node.specs.Shapes.{IsChecked};
 ghost use Rattle.lg_tst.specs.Answers.{IsWhole};
 ghost use Rattle.lg_io.specs.SinkChanges.{on_sink};
 ghost use Rattle.lg_run.specs.Changes.{TellsWrites, TextsChange, on_texts};
-ghost use Rattle.lg_opt.specs.Rewritings.{IsTidy, IsOrigin, IsThreadedNode};
+ghost use Rattle.lg_dead.specs.Rewritten.{AreFinal};
 ghost use Rattle.lg_run.specs.Refused.{IsRefusedAccepted, most_text};
 ghost use Rattle.lg_run.specs.Says.{ReadsFile};
 ghost use Rattle.lg_run.specs.Work.{RanSays, ReadDone, TellsNoRead, TextDone, UnitDone, WorkDone};
@@ -85,8 +86,8 @@ fn code_of(alloc: Global, command: &Command<'_>, text: &Accepted) -> Result<Code
     requires checked { IsChecked text.now.unit.nodes (Ok text.now.shape) }
     ensures target { IfOk result (λ c. c.target ≡ command.now.target) }
     ensures size_is { IfOk result (λ c. c.size ≡ command.now.size) }
-    ensures tidy { IfOk result (λ c. IsTidy c.nodes) }
-    ensures origin { IfOk result (λ c. IsOrigin IsThreadedNode text.now.unit.nodes c.nodes c.origin) }
+    ensures taken { IfOk result (λ c. c.shape.taken ≡ taken_labels text.now.unit.nodes) }
+    ensures rewritten { IfOk result (λ c. AreFinal text.now.unit.nodes c.nodes c.shape c.origin) }
     ensures size { IfOk result (λ c. length c.bytes ≤ command.now.size) }
     ensures agrees { IfOk result (λ c. Agrees c.bytes c.labels text.now.unit command.now.target) }
     ensures refused { (r : Refusal) → result ≡ Err (Stop.Refused r) → IsRefusedAccepted (shown command.now) text.now.unit.nodes r }

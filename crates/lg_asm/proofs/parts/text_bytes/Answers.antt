@@ -1,14 +1,13 @@
-use Rattle.std.proofs.Common.{◌≡◌, ◌≤◌, length, ℕ, zero, suc, true, List, [], ◌∷◌, Option, Some, refl, sym, ap, subst, ◌∙◌, arith}
-use Rattle.std.specs.Prelude.{IsTrue, nat_le, map, slice_index}
+use Rattle.std.proofs.Common.{◌≡◌, ◌+◌, ◌*◌, ◌<◌, ◌≤◌, length, ℕ, zero, suc, true, List, [], ◌∷◌, Option, Some, refl, sym, ap, subst, ◌∙◌, arith}
+use Rattle.std.specs.Prelude.{IsTrue, map, slice_index}
 use Rattle.std.proofs.lemmas.List.{length-map}
 use Rattle.lg_base.specs.declared.target.Target.{Target}
 use Rattle.lg_buf.specs.Buffers.{Buffer, place_of, place_or_zero, AreDone}
 use Rattle.lg_cpu.specs.Laws.{AreBytes}
 use Rattle.lg_node.specs.Nodes.{LabelledNodes}
-use Rattle.lg_liveness.specs.Liveness.{LiveSets}
+use Rattle.lg_liveness.specs.Liveness.{LiveSets, AreLive}
 use Rattle.lg_node.specs.Shapes.{TextShape}
-use Rattle.lg_sel_items.specs.Reaches.{near_size}
-use Rattle.lg_asm.specs.Lowered.{ArePlaces, AreNodesAhead, IsLowered, IsGiven}
+use Rattle.lg_asm.specs.Lowered.{ArePlaces, AreNodesCoded, IsFull, HasNoRoomFor, IsLowered, IsGiven}
 use Rattle.lg_asm.proofs.parts.text_bytes.Goals as goal
 
 tag-at : (labels : List (Option ℕ)) (x p : ℕ) → place_of labels x ≡ Some p → slice_index (map place_or_zero labels) x ≡ p
@@ -25,11 +24,7 @@ given target l shape sets size places buf bytes tags low sized few done are is =
   ordered = subst (ArePlaces l places) (sym done.long) low.ordered;
   count = ap length is ∙ (length-map buf.labels place_or_zero ∙ low.count);
   tagged = λ x i e. ap (λ t. slice_index t x) is ∙ tag-at buf.labels x (slice_index places i) (low.labels x i e);
-  instructions = λ addresses of. low.instructions bytes addresses are done of;
-  sparing = λ addresses of. low.sparing bytes addresses are done of;
-  shortest = λ addresses of. low.shortest bytes addresses are done of;
-  ahead = λ addresses of. subst (λ k. AreNodesAhead target (nat_le k near_size) l places bytes) sized (low.ahead bytes addresses are done of);
-  carries = λ addresses trash i word of lt. low.carries bytes addresses trash word are done of i lt;
+  coded = λ addresses of. subst (λ k. AreNodesCoded target l shape sets k places addresses bytes) sized (low.coded bytes addresses are done of);
 }
 
 is-true : IsTrue true
@@ -42,3 +37,16 @@ returns-clause-given c =
     (let z = c.lower.ensures.size in let e = c.in-Ok.ensures.bytes.1 in omega (arith, z, e))
     (let w = c.here-end.ensures.within in let z = c.lower.ensures.size in let e = c.in-Ok.ensures.bytes.1 in omega (arith, w, z, e))
     c.finish-finished.ensures.bytes c.see_bytes.ensures c.finish-finished.ensures.places
+
+-- where the run over the nodes was full, they have no room
+full-for : (target : Target) (l : LabelledNodes) (shape : TextShape) (sets : LiveSets) (size : ℕ) (places : List ℕ) (buf : Buffer) → AreLive l shape sets → buf.size ≡ size → IsFull target l shape sets places buf
+    → (size < 256 * length l.nodes + 256) × HasNoRoomFor target l shape size
+full-for target l shape sets size places buf live sized full = (
+  (let f = full.full in let g = full.few in let b = full.below in omega (arith, f, g, b, sized)),
+  record { sets = sets; live = live; places = places; buf = buf; size_is = sized; full = full },
+)
+
+pub returns-then-not-lower-clause-refused : goal.returns-then-not-lower-clause-refused
+returns-then-not-lower-clause-refused c =
+    let h = full-for c.args.target c.args.nodes.now c.args.shape.now c.args.live.now c.args.size c.lower.new.places.items c.lower.new.buf c.requires.live (c.lower.ensures.size ∙ c.in-Ok.ensures.bytes.1) (c.lower.ensures.refused c.if-not-lower.true) in
+    (refl, h.0, h.1)

@@ -1,4 +1,4 @@
-use Rattle.std.proofs.Common.{◌++◌, refl}
+use Rattle.std.proofs.Common.{refl}
 use Rattle.lg_list.proofs.WriteLemmas.{tail_call}
 use Rattle.lg_run.proofs.ListLemmas.{first_written}
 use Rattle.lg_run.proofs.lines.write_lines.Goals as goal

@@ -1,4 +1,4 @@
-use Rattle.std.proofs.Common.{◌≡◌, ℕ, List, length, refl, subst}
+use Rattle.std.proofs.Common.{refl, subst}
 use Rattle.std.specs.Io.KnownBytes.{Appends}
 use Rattle.lg_io.specs.Wrote.{AppendsPrefix}
 use Rattle.lg_run.proofs.ListLemmas.{code_addressed, listed_is}

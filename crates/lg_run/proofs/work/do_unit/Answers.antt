@@ -21,8 +21,8 @@ returns-in-Ok-clause-says g c = λ text is held under.
       bytes = subst AreBytes (c.as_slice.ensures.value ∙ c.requires.args) c.see_bytes.ensures;
       target = made.target;
       size_is = made.size_is;
-      tidy = made.tidy;
-      origin = made.origin;
+      taken = made.taken;
+      rewritten = made.rewritten;
       size = made.size;
       agrees = made.agrees;
     }) (on_sink g.O.Sink.taken g.O.Sink.faults c.args.out.now c.run_mode-ran.new.out) c.run_mode-ran.result.steps c.run_mode-ran.result.answer c.run_mode-ran.ensures.says

@@ -1,0 +1,11 @@
+pub mod ClauseLemmas
+pub mod DeadRunLemmas
+pub mod Follows
+pub mod JoinLemmas
+pub mod Kept
+pub mod KnownKeepLemmas
+pub mod MovesKeepLemmas
+pub mod NeededLemmas
+pub mod NoFoldLemmas
+pub mod StayingLemmas
+pub mod ThreadLiveLemmas

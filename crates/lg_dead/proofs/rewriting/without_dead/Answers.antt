@@ -1,0 +1,33 @@
+use Rattle.std.proofs.Common.{◌≡◌, ◌≤◌, length, arith, ◌∙◌}
+use Rattle.lg_liveness.specs.Definitions.{defines}
+use Rattle.lg_opt.specs.Rewritings.{IsOrigin, IsSameNode, KeepsOthers, KeepsLabels, CarriesAddresses, RunsAreDropped}
+use Rattle.lg_opt.proofs.ClauseLemmas.{ok-weaker}
+use Rattle.lg_opt.proofs.TwiceLemmas.{twice}
+use Rattle.lg_fold.specs.Folds.{IsFoldedNode}
+use Rattle.lg_fold.specs.Known.{HasNoFolds}
+use Rattle.lg_dead.specs.Rewritten.{is_droppable, RunsRest}
+use Rattle.lg_dead.proofs.JoinLemmas.{folded-origin, folded-others, folded-labels, ok-two}
+use Rattle.lg_dead.proofs.rewriting.without_dead.Goals as goal
+
+pub returns : goal.returns
+returns c =
+    let l = c.args.nodes.now in
+    let s = c.args.shape.now in
+    let f = c.in_ok-folded.folded in
+    let first = c.in_ok-folded.ensures in
+    let to = first.made in
+    let r = c.drop_dead.result in
+    let e = c.drop_dead.ensures in
+    record {
+      shape = e.shape;
+      taken = ok-weaker (λ r. r.shape.taken ≡ f.shape.taken) (λ r. r.shape.taken ≡ s.taken) r (λ x t. t ∙ first.taken) e.taken;
+      origin = ok-weaker (λ r. IsOrigin IsSameNode f.nodes r.nodes r.origin.items) (λ r. IsOrigin IsFoldedNode l r.nodes r.origin.items) r (λ x o. folded-origin l f.nodes x.nodes x.origin.items to o) e.origin;
+      others = ok-weaker (λ r. KeepsOthers defines f.nodes r.origin.items) (λ r. KeepsOthers is_droppable l r.origin.items) r (λ x o. folded-others l f.nodes x.nodes x.origin.items to o) e.others;
+      few = ok-weaker (λ r. length r.nodes.nodes ≤ length f.nodes.nodes) (λ r. length r.nodes.nodes ≤ length l.nodes) r (λ x o. omega (arith, o, to.count)) e.few;
+      labels = ok-weaker (λ r. KeepsLabels f.nodes r.nodes r.origin.items) (λ r. KeepsLabels l r.nodes r.origin.items) r (λ x k. folded-labels l f.nodes x.nodes x.origin.items to k) e.labels;
+      folds = ok-weaker (λ r. HasNoFolds f.nodes → HasNoFolds r.nodes) (λ r. HasNoFolds r.nodes) r (λ x h. h first.folds) e.folds;
+      of_use = e.of_use;
+      addresses = ok-weaker (λ r. CarriesAddresses f.nodes r.nodes) (λ r. CarriesAddresses l r.nodes) r (λ x h. λ size A are. first.addresses size A (h size A are)) e.addresses;
+      runs = ok-two (λ r. CarriesAddresses f.nodes r.nodes) (λ r. RunsAreDropped f.nodes f.shape r.nodes r.shape r.origin.items) (λ r. RunsRest l s r.nodes r.shape) r
+          (λ x h d. λ size A image args are. twice l f.nodes x.nodes s f.shape x.shape A image args (first.runs size A image args (h size A are)).0 (d size A image args are).0) e.addresses e.runs;
+    }

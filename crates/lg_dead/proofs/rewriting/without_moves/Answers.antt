@@ -1,0 +1,48 @@
+use Rattle.std.proofs.Common.{arith, map, sym, ◌∙◌, subst}
+use Rattle.std.specs.Prelude.{slice_index}
+use Rattle.lg_node.specs.Nodes.{LabelledNodes}
+use Rattle.lg_opt.specs.Moves.{is_movr}
+use Rattle.lg_opt.specs.Rewritings.{IsOrigin, IsSameNode, KeepsOthers, KeepsLabels}
+use Rattle.lg_opt.proofs.ClauseLemmas.{Joined, joined-within, origins-join, others-join, labels-join}
+use Rattle.lg_opt.proofs.TwiceLemmas.{twice}
+use Rattle.lg_fold.specs.Folds.{IsFoldedNode}
+use Rattle.lg_fold.specs.Known.{HasNoFolds}
+use Rattle.lg_dead.specs.Dead.{HasNoDeadButMoves}
+use Rattle.lg_dead.specs.Rewritten.{is_droppable}
+use Rattle.lg_dead.proofs.JoinLemmas.{origin-weaker, others-weaker, no-movr, folded-still}
+use Rattle.lg_dead.proofs.MovesKeepLemmas.{no-dead-but-moves}
+use Rattle.lg_dead.proofs.NoFoldLemmas.{moves-keep}
+use Rattle.lg_dead.proofs.rewriting.without_moves.Goals as goal
+
+pub joined-requires : goal.joined-requires
+joined-requires c =
+    let l = c.args.nodes.now in
+    let n = c.in_ok-needed.needed in
+    let t = c.in_ok-nodes.field-0 in
+    joined-within IsFoldedNode IsSameNode l n.nodes t.nodes n.origin.items t.origin.items c.in_ok-needed.ensures.origin c.in_ok-nodes.ensures.origin
+
+pub returns : goal.returns
+returns c =
+    let l = c.args.nodes.now in
+    let s = c.args.shape.now in
+    let n = c.in_ok-needed.needed in
+    let t = c.in_ok-nodes.field-0 in
+    let first = c.in_ok-needed.ensures in
+    let second = c.in_ok-nodes.ensures in
+    let formed = c.what_holds.ensures.formed in
+    record {
+      shape = second.shape;
+      taken = second.taken ∙ first.taken;
+      origin = subst (IsOrigin IsFoldedNode l t.nodes) (sym c.in_ok-origin.ensures)
+          (origin-weaker (Joined IsFoldedNode IsSameNode) IsFoldedNode l t.nodes (map (slice_index n.origin.items) t.origin.items) (λ old x j. subst (IsFoldedNode old) (sym j.2) j.1)
+          (origins-join IsFoldedNode IsSameNode l n.nodes t.nodes n.origin.items t.origin.items first.origin second.origin));
+      others = subst (KeepsOthers is_droppable l) (sym c.in_ok-origin.ensures)
+          (others-join IsFoldedNode IsSameNode l n.nodes t.nodes n.origin.items t.origin.items first.origin second.origin is_droppable folded-still first.others (others-weaker is_movr is_droppable n.nodes t.origin.items no-movr second.others));
+      few = omega (arith, first.few, second.few);
+      labels = subst (KeepsLabels l t.nodes) (sym c.in_ok-origin.ensures) (labels-join IsFoldedNode IsSameNode l n.nodes t.nodes n.origin.items t.origin.items first.origin second.origin first.labels second.labels);
+      moves = second.moves;
+      folds = subst HasNoFolds (sym second.made.nodes) (moves-keep n.nodes first.shape.accepted formed first.folds);
+      dead = subst (λ (x : LabelledNodes). HasNoDeadButMoves x t.shape) (sym second.made.nodes) (no-dead-but-moves n.nodes n.shape t.shape first.shape formed second.made.taken first.of_use);
+      addresses = λ size A are. first.addresses size A (second.addresses size A are);
+      runs = λ size A image args are. twice l n.nodes t.nodes s n.shape t.shape A image args (first.runs size A image args (second.addresses size A are)) (second.runs size A image args are).0;
+    }

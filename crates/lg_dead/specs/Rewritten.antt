@@ -1,0 +1,36 @@
+-- What the four rewrites make of the nodes of a text.
+use Rattle.std.specs.Prelude.{ℕ, ◌||◌, Bool, List}
+use Rattle.lg_op.specs.declared.node.Node.{Node}
+use Rattle.lg_op.specs.declared.op.Op.{Op}
+use Rattle.lg_node.specs.Nodes.{LabelledNodes}
+use Rattle.lg_node.specs.Shapes.{TextShape, IsShapeOf}
+use Rattle.lg_liveness.specs.Definitions.{defines}
+use Rattle.lg_meaning.specs.Addresses.{AreAddresses}
+use Rattle.lg_opt.specs.Hops.{is_jump}
+use Rattle.lg_opt.specs.Rewritings.{IsOrigin, IsThreadedNode, IsTidy, KeepsOthers, KeepsLabels}
+use Rattle.lg_opt.specs.Runs.{AreDropped}
+use Rattle.lg_fold.specs.Folds.{IsFoldedNode}
+use Rattle.lg_fold.specs.Known.{HasNoFolds}
+use Rattle.lg_dead.specs.Dead.{HasNoDeadButMoves}
+
+-- what may be dropped: definitions, and jumps to labels
+abbrev pub is_droppable : Op → Bool
+is_droppable o = defines o || is_jump o
+
+-- a node is another, folded by some numbers that are known, and with another target where it is a branch or jump
+abbrev pub IsRewrittenNode : Node → Node → Type 0
+IsRewrittenNode old n = (middle : Node) × IsFoldedNode old middle × IsThreadedNode middle n
+
+-- final nodes of a text: they are its nodes, rewritten until nothing is left to do, and every other node of it is among them, as its labels are
+pub record AreFinal (l m : LabelledNodes) (shape : TextShape) (origin : List ℕ) : Type 0 where
+  pub shaped : IsShapeOf m shape
+  pub tidy : IsTidy m
+  pub folds : HasNoFolds m
+  pub dead : HasNoDeadButMoves m shape
+  pub from : IsOrigin IsRewrittenNode l m origin
+  pub others : KeepsOthers is_droppable l origin
+  pub labels : KeepsLabels l m origin
+
+-- over addresses of the labels in the new nodes the new run steps with the old one, or rests
+abbrev pub RunsRest : LabelledNodes → TextShape → LabelledNodes → TextShape → Type 0
+RunsRest l shape m new_shape = (size : ℕ) (addresses image args : List ℕ) → AreAddresses m size addresses → AreDropped l shape m new_shape addresses image args

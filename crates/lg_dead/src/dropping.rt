@@ -1,0 +1,52 @@
+// Definitions that nothing needs are dropped.
+
+ghost use Rattle.std.specs.Prelude.{◌≡◌, ◌≤◌, length, IfOk};
+ghost use Rattle.lg_liveness.specs.Definitions.{defines};
+ghost use Rattle.lg_node.specs.Shapes.{IsShapeOf};
+ghost use Rattle.lg_opt.specs.Rewritings.{IsOrigin, IsSameNode, KeepsOthers, KeepsLabels, CarriesAddresses, RunsAreDropped};
+ghost use Rattle.lg_fold.specs.Known.{HasNoFolds};
+ghost use Rattle.lg_dead.specs.Dead.{AllAreOfUse};
+ghost use Rattle.lg_dead.specs.Dropping.{IsDroppedTo};
+
+use crate::staying::staying;
+use lg_base::refusal::OutOfMemory;
+use lg_liveness::needs::needs;
+use lg_node::{NodeList, Shape};
+use lg_opt::Rewritten;
+use lg_opt::rebuilding::rebuilt;
+use lg_opt::rewritten::finished;
+use std::alloc::Global;
+
+// The nodes without the definitions that nothing needs.
+fn dropped(alloc: Global, nodes: &NodeList, shape: &Shape) -> Result<Rewritten, OutOfMemory>
+    requires { IsShapeOf nodes.now shape.now }
+    ensures { IfOk result (λ r. IsDroppedTo nodes.now shape.now r.nodes r.shape r.origin.items) }
+{
+    nodes.what_holds();
+    let needs = needs(alloc, nodes, shape)?;
+    let stays = staying(alloc, nodes, &needs)?;
+    let list = rebuilt(alloc, nodes, &stays, &[])?;
+    finished(alloc, list, shape, &stays)
+}
+
+/// Drops each definition whose words can come to no node that is no definition, in one pass. A label of a dropped node moves to the next that stays.
+/// The shape is that of the nodes. Time and memory go by the number of nodes and labels.
+///
+/// Every other node stays, and each definition that stays is of use; so none is dead. The new run makes a step where the old one stands at a node that
+/// stays, and rests at the others, over any addresses of the labels in the new nodes.
+pub fn drop_dead(alloc: Global, nodes: &NodeList, shape: &Shape) -> Result<Rewritten, OutOfMemory>
+    requires { IsShapeOf nodes.now shape.now }
+    ensures shape { IfOk result (λ r. IsShapeOf r.nodes r.shape) }
+    ensures taken { IfOk result (λ r. r.shape.taken ≡ shape.now.taken) }
+    ensures origin { IfOk result (λ r. IsOrigin IsSameNode nodes.now r.nodes r.origin.items) }
+    ensures others { IfOk result (λ r. KeepsOthers defines nodes.now r.origin.items) }
+    ensures few { IfOk result (λ r. length r.nodes.nodes ≤ length nodes.now.nodes) }
+    ensures labels { IfOk result (λ r. KeepsLabels nodes.now r.nodes r.origin.items) }
+    ensures of_use { IfOk result (λ r. AllAreOfUse r.nodes r.shape) }
+    ensures folds { IfOk result (λ r. HasNoFolds nodes.now → HasNoFolds r.nodes) }
+    ensures addresses { IfOk result (λ r. CarriesAddresses nodes.now r.nodes) }
+    ensures runs { IfOk result (λ r. RunsAreDropped nodes.now shape.now r.nodes r.shape r.origin.items) }
+{
+    nodes.what_holds();
+    dropped(alloc, nodes, shape)
+}

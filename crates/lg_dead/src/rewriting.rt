@@ -1,0 +1,106 @@
+// The four rewrites, one behind the other.
+
+ghost use Rattle.std.specs.Prelude.{◌≡◌, ◌<◌, ◌≤◌, ℕ, length, map, slice_index, IfOk};
+ghost use Rattle.lg_node.specs.Shapes.{IsShapeOf};
+ghost use Rattle.lg_opt.specs.Moves.{HasNoIdleMoves};
+ghost use Rattle.lg_opt.specs.Rewritings.{IsOrigin, KeepsOthers, KeepsLabels, CarriesAddresses, RunsAreFollowed};
+ghost use Rattle.lg_fold.specs.Folds.{IsFoldedNode};
+ghost use Rattle.lg_fold.specs.Known.{HasNoFolds};
+ghost use Rattle.lg_dead.specs.Dead.{AllAreOfUse, HasNoDeadButMoves};
+ghost use Rattle.lg_dead.specs.Rewritten.{is_droppable, AreFinal, RunsRest};
+
+use crate::dropping::drop_dead;
+use lg_base::code::Origin;
+use lg_base::refusal::OutOfMemory;
+use lg_fold::fold;
+use lg_node::{NodeList, Shape};
+use lg_opt::{Rewritten, drop_moves, thread};
+use std::alloc::Global;
+
+// Where nodes come from that were rewritten twice.
+fn joined(alloc: Global, first: &Origin, second: &Origin) -> Result<Origin, OutOfMemory>
+    requires { (k : ℕ) → k < length second.now.items → slice_index second.now.items k < length first.now.items }
+    ensures { IfOk result (λ o. o.items ≡ map (slice_index first.now.items) second.now.items) }
+{
+    let mut origin = Origin::with_room(alloc, second.len())?;
+    for index in 0..second.len() {
+        origin.push(first.get(second.get(index)));
+    }
+    Ok(origin)
+}
+
+// Folds the numbers that are known, and drops the definitions that nothing needs then. Folding leaves every node in its place.
+fn without_dead(alloc: Global, nodes: &NodeList, shape: &Shape) -> Result<Rewritten, OutOfMemory>
+    requires { IsShapeOf nodes.now shape.now }
+    ensures shape { IfOk result (λ r. IsShapeOf r.nodes r.shape) }
+    ensures taken { IfOk result (λ r. r.shape.taken ≡ shape.now.taken) }
+    ensures origin { IfOk result (λ r. IsOrigin IsFoldedNode nodes.now r.nodes r.origin.items) }
+    ensures others { IfOk result (λ r. KeepsOthers is_droppable nodes.now r.origin.items) }
+    ensures few { IfOk result (λ r. length r.nodes.nodes ≤ length nodes.now.nodes) }
+    ensures labels { IfOk result (λ r. KeepsLabels nodes.now r.nodes r.origin.items) }
+    ensures folds { IfOk result (λ r. HasNoFolds r.nodes) }
+    ensures of_use { IfOk result (λ r. AllAreOfUse r.nodes r.shape) }
+    ensures addresses { IfOk result (λ r. CarriesAddresses nodes.now r.nodes) }
+    ensures runs { IfOk result (λ r. RunsRest nodes.now shape.now r.nodes r.shape) }
+{
+    let folded = fold(alloc, nodes, shape)?;
+    drop_dead(alloc, &folded.nodes, &folded.shape)
+}
+
+// Drops the moves that do nothing besides.
+fn without_moves(alloc: Global, nodes: &NodeList, shape: &Shape) -> Result<Rewritten, OutOfMemory>
+    requires { IsShapeOf nodes.now shape.now }
+    ensures shape { IfOk result (λ r. IsShapeOf r.nodes r.shape) }
+    ensures taken { IfOk result (λ r. r.shape.taken ≡ shape.now.taken) }
+    ensures origin { IfOk result (λ r. IsOrigin IsFoldedNode nodes.now r.nodes r.origin.items) }
+    ensures others { IfOk result (λ r. KeepsOthers is_droppable nodes.now r.origin.items) }
+    ensures few { IfOk result (λ r. length r.nodes.nodes ≤ length nodes.now.nodes) }
+    ensures labels { IfOk result (λ r. KeepsLabels nodes.now r.nodes r.origin.items) }
+    ensures moves { IfOk result (λ r. HasNoIdleMoves r.nodes) }
+    ensures folds { IfOk result (λ r. HasNoFolds r.nodes) }
+    ensures dead { IfOk result (λ r. HasNoDeadButMoves r.nodes r.shape) }
+    ensures addresses { IfOk result (λ r. CarriesAddresses nodes.now r.nodes) }
+    ensures runs { IfOk result (λ r. RunsRest nodes.now shape.now r.nodes r.shape) }
+{
+    let needed = without_dead(alloc, nodes, shape)?;
+    needed.nodes.what_holds();
+    let Rewritten {
+        nodes,
+        shape,
+        origin,
+    } = drop_moves(alloc, &needed.nodes, &needed.shape)?;
+    let origin = joined(alloc, &needed.origin, &origin)?;
+    Ok(Rewritten {
+        nodes,
+        shape,
+        origin,
+    })
+}
+
+/// Rewrites the nodes of a text: folds the numbers that are known, drops the definitions that nothing needs and the moves that do nothing, and threads
+/// the jumps. The shape is that of the nodes. Time and memory go by the number of nodes and labels, but for the passes of `thread`.
+///
+/// The new nodes have no needless move, no jump or branch to a jump but where the jumps turn, and no jump to what follows; none of them can be folded,
+/// and none but a `movr` is a dead definition. Every node stays that is neither a definition nor a `jmpi`. Over any addresses of the labels in the new
+/// nodes the new run follows the old one, and turns with it.
+pub fn rewrite(alloc: Global, nodes: &NodeList, shape: &Shape) -> Result<Rewritten, OutOfMemory>
+    requires { IsShapeOf nodes.now shape.now }
+    ensures taken { IfOk result (λ r. r.shape.taken ≡ shape.now.taken) }
+    ensures rewritten { IfOk result (λ r. AreFinal nodes.now r.nodes r.shape r.origin.items) }
+    ensures addresses { IfOk result (λ r. CarriesAddresses nodes.now r.nodes) }
+    ensures runs { IfOk result (λ r. RunsAreFollowed nodes.now shape.now r.nodes r.shape) }
+{
+    let moved = without_moves(alloc, nodes, shape)?;
+    moved.nodes.what_holds();
+    let Rewritten {
+        nodes,
+        shape,
+        origin,
+    } = thread(alloc, &moved.nodes, &moved.shape)?;
+    let origin = joined(alloc, &moved.origin, &origin)?;
+    Ok(Rewritten {
+        nodes,
+        shape,
+        origin,
+    })
+}

@@ -1,0 +1,45 @@
+// Which definitions are needed.
+
+ghost use Rattle.std.specs.Prelude.{◌≡◌, Some, length, IfOk};
+ghost use Rattle.lg_op.specs.declared.operand.Reg.{Reg};
+ghost use Rattle.lg_live.specs.RegSets.{has};
+ghost use Rattle.lg_dead.specs.Dead.{stays_at, needs_in};
+ghost use Rattle.lg_dead.specs.Dropping.{AreStays};
+
+use lg_base::refusal::OutOfMemory;
+use lg_live::reg_set::RegSet;
+use lg_live::uses::writes;
+use lg_liveness::definitions::defines;
+use lg_liveness::sets::meets;
+use lg_node::{Node, NodeList};
+use std::alloc::Global;
+
+// The registers that are needed before a node, by the table; behind the last there are none.
+fn needed_at(needs: &[RegSet], index: u64) -> RegSet
+    ensures { (r : Reg) → has result r ≡ needs_in needs.now index r }
+{
+    match needs.get(index as usize) {
+        Some(set) => *set,
+        None => RegSet::none(),
+    }
+}
+
+// Whether a node is none of the definitions of registers that are not among these.
+fn stays_here(node: &Node, next: RegSet) -> bool
+    ensures { result ≡ stays_at (has next) (Some node.now) }
+{
+    !defines(node.op) || meets(writes(node), next)
+}
+
+/// Of each node whether it stays: all but the definitions of registers that are not needed behind them.
+pub fn staying(alloc: Global, nodes: &NodeList, needs: &[RegSet]) -> Result<Vec<bool>, OutOfMemory>
+    ensures { IfOk result (λ table. (length table.items ≡ length nodes.now.nodes) × AreStays nodes.now needs.now table.items) }
+{
+    let mut table = Vec::new(alloc);
+    for index in 0..nodes.len() {
+        let node = nodes.node(index);
+        let next = needed_at(needs, index as u64 + 1);
+        table.push(stays_here(&node, next))?;
+    }
+    Ok(table)
+}
