@@ -1,4 +1,4 @@
-// Lists of nodes of five shapes, of any length: longer than a text may be.
+// Lists of nodes of seven shapes, of any length: longer than a text may be.
 
 ghost use Rattle.std.specs.Prelude.{◌≡◌, ◌≤◌, length, true};
 ghost use Rattle.lg_base.specs.WordBytes.{is_word_byte};
@@ -17,10 +17,14 @@ pub enum Flow {
     Branches,
     /// Every second one jumps to a label in a register, and the others take a label each.
     Jumps,
-    /// Each moves one register into another; the first of them stays.
+    /// Each moves one register into another, which nothing reads.
     Moves,
     /// Each is a jump to the one before it: all of them lead to the start.
     Chain,
+    /// Every second one moves a number into a register, and the others add that register to another.
+    Known,
+    /// Each computes a word that nothing reads.
+    Dead,
 }
 
 // A letter for each digit.
@@ -94,6 +98,9 @@ fn add_line(list: &mut NodeList, flow: Flow, index: u32) -> Result<(), OutOfMemo
     match flow {
         Flow::Straight => add(list, b"addi", &[first, first, one]),
         Flow::Moves => add(list, b"movr", &[second, first]),
+        Flow::Known if index % 2 == 0 => add(list, b"movi", &[second, one]),
+        Flow::Known => add(list, b"addr", &[first, first, second]),
+        Flow::Dead => add(list, b"addi", &[second, first, one]),
         Flow::Branches => {
             let target = Operand::Label(label(list, index)?);
             bind(list, index.wrapping_add(1))?;
@@ -126,7 +133,7 @@ pub fn unit(alloc: Global, flow: Flow, lines: u32) -> Result<Unit, Stop> {
 fn add_lines(list: &mut NodeList, flow: Flow, lines: u32) -> Result<(), OutOfMemory> {
     let first = Operand::Reg(Reg::V0);
     bind(list, 0)?;
-    add(list, b"addi", &[first, first, Operand::Number(1)])?;
+    add(list, b"sti", &[Operand::Number(0), first])?;
     for index in 0..lines {
         add_line(list, flow, index)?;
     }

@@ -1,6 +1,7 @@
 // Work that is timed from outside, by two words and a third that says how often; each prints a number that it comes to. `code N TIMES` reads, checks and assembles
 // a text of N instructions, at most 1,000,000, for RV64; `far N TIMES` does so with a text in which a branch and calls lead over N instructions; `straight N TIMES`,
 // `branches N TIMES` and `jumps N TIMES` find the live registers of a list of nodes of N lines; `moves N TIMES` and `chain N TIMES` rewrite a list of N moves or jumps;
+// `known N TIMES` folds a list of N lines, and `dead N TIMES` drops the N definitions of one;
 // `emit N` emits 64 MiB in pieces of N bytes; `list N` lists N nodes of 1,024 bytes of code each, at most 65,536, into a sink that counts; `rv64 N`, `aarch64 N` and
 // `x86_64 N` run N instructions of a loop of five on the modelled processors; `steps N` follows the portable meaning of a loop for N steps; `expand N`, `calls N` and
 // `macros N` expand a text of N bytes, at most 16,777,216, without a name of a macro, of calls alone, and of macros that are each named once. Without words it does a
@@ -26,7 +27,7 @@ use liveness::find;
 use meaning::follow;
 use pieces::fill;
 use processor::run;
-use rewrites::rewrite_list;
+use rewrites::{Pass, rewrite_list};
 use std::alloc::Global;
 use std::{env, io, str};
 use texts::{Shape, read_and_assemble};
@@ -39,8 +40,10 @@ fn work(alloc: Global, word: &str, number: u32, times: u32) -> Result<u64, Stop>
         "straight" => find(alloc, Flow::Straight, number, times),
         "branches" => find(alloc, Flow::Branches, number, times),
         "jumps" => find(alloc, Flow::Jumps, number, times),
-        "moves" => rewrite_list(alloc, Flow::Moves, number, times),
-        "chain" => rewrite_list(alloc, Flow::Chain, number, times),
+        "moves" => rewrite_list(alloc, Flow::Moves, Pass::All, number, times),
+        "chain" => rewrite_list(alloc, Flow::Chain, Pass::All, number, times),
+        "known" => rewrite_list(alloc, Flow::Known, Pass::Fold, number, times),
+        "dead" => rewrite_list(alloc, Flow::Dead, Pass::Dead, number, times),
         "emit" => fill(alloc, 0x400_0000, number),
         "list" => write_listing(alloc, number),
         "rv64" => run(alloc, Target::Riscv64, number),
@@ -63,7 +66,7 @@ fn print_work(rt: &HostRuntime, word: &str, number: u32, times: u32) -> io::Resu
 }
 
 // A little of each: its word, and how much of it.
-const LITTLE: [(&str, u32); 16] = [
+const LITTLE: [(&str, u32); 18] = [
     ("code", 64),
     ("far", 64),
     ("straight", 64),
@@ -71,6 +74,8 @@ const LITTLE: [(&str, u32); 16] = [
     ("jumps", 64),
     ("moves", 65_000),
     ("chain", 65_000),
+    ("known", 64),
+    ("dead", 64),
     ("emit", 65_536),
     ("list", 4),
     ("rv64", 1_000),

@@ -34,7 +34,7 @@ fn additions(text: &mut Vec<u8>, instructions: u32, addition: &[u8]) -> Result<(
 
 // A function of so many additions.
 fn put_straight(text: &mut Vec<u8>, instructions: u32) -> Result<(), OutOfMemory> {
-    text.extend_from_slice(b"prolog movi %r0 0\n")?;
+    text.extend_from_slice(b"prolog movi %r0 0 more:\n")?;
     additions(text, instructions, b"addi %r0 %r0 1\n")?;
     text.extend_from_slice(b"retr %r0 epilog\n")?;
     Ok(())
@@ -45,8 +45,8 @@ fn put_far(text: &mut Vec<u8>, instructions: u32) -> Result<(), OutOfMemory> {
     text.extend_from_slice(b"jmpi main f: prolog arg $a getarg %v0 $a blei out %v0 0\n")?;
     additions(text, instructions, b"addi %v0 %v0 99999\n")?;
     text.extend_from_slice(
-        b"out: retr %v0 epilog main: prolog\nprepare pushargi 0 finishi f retval %v1\n\
-        prepare pushargi 5 finishi f retval %v2 ret epilog\n",
+        b"out: retr %v0 epilog main: prolog\nprepare pushargi 0 finishi f\n\
+        prepare pushargi 5 finishi f ret epilog\n",
     )?;
     Ok(())
 }

@@ -1,4 +1,5 @@
-// Compares code on the modelled processors with the portable meaning, in families of cases, both through the program's top call. `families.txt` has the name
+// Compares code on the modelled processors with the portable meaning, in families of cases, both through the program's top call. A label stands
+// before what a case computes: no number is known there, so that the processor computes it. `families.txt` has the name
 // of a family a line, NAME.txt has its rule and then a case a line, and `head.txt` is the beginning of each family's text. Prints a line a family: how many
 // cases agree, or the first case that differs.
 
