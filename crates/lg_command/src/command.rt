@@ -13,6 +13,8 @@ pub enum Mode {
     Mean,
     /// The code of the generator's text runs.
     Gen,
+    /// It is read as a listing, and the bytes that it is of are written.
+    Back,
 }
 
 /// What the words of the command ask for.

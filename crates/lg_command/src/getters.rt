@@ -19,6 +19,7 @@ fn mode_named(word: Option<&str>) -> Mode
         Some("list") => Mode::List,
         Some("mean") => Mode::Mean,
         Some("gen") => Mode::Gen,
+        Some("back") => Mode::Back,
         _ => Mode::Run,
     }
 }

@@ -7,12 +7,12 @@ use Rattle.lg_base.specs.declared.refusal.Refusal.{Refusal}
 use Rattle.lg_command.specs.Commands.{AreNoCommand, Command, HasFault, IsCommand}
 use Rattle.lg_command.specs.declared.command.Mode.{Mode}
 use Rattle.lg_command.specs.declared.command.Mode.TheVariants as mode
-use Rattle.lg_run.specs.Causes.{Causes, FaultCause, HasCode, StepsOutCause, UndefinedCause}
+use Rattle.lg_run.specs.Causes.{Causes, FaultCause, HasBack, HasCode, StepsOutCause, UndefinedCause}
 use Rattle.lg_io.specs.SinkChanges.{SinkChange, Took}
 use Rattle.lg_run.specs.Changes.{TextsChange, TellsReads, TellsWrites}
 use Rattle.lg_run.specs.Refused.{IsRefusedCall}
 use Rattle.lg_run.specs.Runs.{HasRun, HasMeant}
-use Rattle.lg_run.specs.Says.{AskedSays, IsCodeOf, IsStill, IsUntouched, ModeSays, NoCommandSays, ReadsFile, ReportSays, RunsCode, Says, code_meaning, code_run, lines_of, listing_of}
+use Rattle.lg_run.specs.Says.{AskedSays, IsCodeOf, IsStill, IsUntouched, ModeSays, NoCommandSays, Ran, ReadsFile, ReportSays, RunsCode, Says, WroteBack, code_meaning, code_run, lines_of, listing_of}
 use Rattle.lg_run.specs.declared.answer.Answer.{Answer}
 use Rattle.lg_run.specs.declared.answer.Answer.TheVariants.{Ended, Listed, Undefined, Refused, Usage, ReadFault, WriteFault, StepsOut, Fault, OutOfMemory}
 use Rattle.lg_run.specs.declared.answer.Done.{Done}
@@ -94,28 +94,39 @@ module _ (words : List (List ℕ)) (texts : TextsChange) (out : SinkChange) (cod
   steps_cause c mode.Gen ran made says =
       let going = subst (HasRun (code_run c ran made.unit)) says.0 says.1 in (going, lasts c texts.held ran made c.steps going)
   steps_cause c mode.Mean ran made says = subst (HasMeant (code_meaning c ran made.unit)) says.0 says.1
+  steps_cause c mode.Back ran made says = absurd says
 
   fault_cause : (c : Command) (m : Mode) (ran : Assembled) (made : IsCodeOf c texts.held ran) (kind : FaultKind) (pc : ℕ) → c.mode ≡ m → ModeSays m c ran made.unit steps out (Fault kind pc) → FaultCause steps c ran made.unit
   fault_cause c mode.Run ran made kind pc is says = (subst RunsCode (sym is) tt, undefined_at c texts.held ran made steps kind says.2)
   fault_cause c mode.List ran made kind pc is says = absurd says
   fault_cause c mode.Gen ran made kind pc is says = (subst RunsCode (sym is) tt, undefined_at c texts.held ran made steps kind says.2)
   fault_cause c mode.Mean ran made kind pc is says = absurd says
+  fault_cause c mode.Back ran made kind pc is says = absurd says
 
   undefined_cause : (c : Command) (m : Mode) (ran : Assembled) (made : IsCodeOf c texts.held ran) (line : ℕ) → c.mode ≡ m → ModeSays m c ran made.unit steps out (Undefined line) → UndefinedCause steps line c ran made.unit
   undefined_cause c mode.Run ran made line is says = absurd says
   undefined_cause c mode.List ran made line is says = absurd says
   undefined_cause c mode.Gen ran made line is says = absurd says
   undefined_cause c mode.Mean ran made line is says = (is, says.0, says.1, says.2, says.3)
+  undefined_cause c mode.Back ran made line is says = absurd says
+
+  abbrev Lists : Type 0
+  Lists = HasCode words texts.held code (λ c ran unit. (c.mode ≡ mode.List) × Took out (listing_of ran))
 
   listed_cause : (c : Command) (m : Mode) (ran : Assembled) (made : IsCodeOf c texts.held ran) → c.mode ≡ m → ModeSays m c ran made.unit steps out Listed → (c.mode ≡ mode.List) × Took out (listing_of ran)
   listed_cause c mode.Run ran made is says = absurd says
   listed_cause c mode.List ran made is says = (is, says.1)
   listed_cause c mode.Gen ran made is says = absurd says
   listed_cause c mode.Mean ran made is says = absurd says
+  listed_cause c mode.Back ran made is says = absurd says
 
-  listed_of : (asked : Option Command) → AskedSays words asked texts out code steps Listed → HasCode words texts.held code (λ c ran unit. (c.mode ≡ mode.List) × Took out (listing_of ran))
+  listed_by : (c : Command) → IsCommand words c → Ran c texts.held code steps out Listed ⊎ WroteBack c texts.held code steps out Listed → Lists ⊎ HasBack words texts.held code steps out
+  listed_by c asked (inl r) = inl (record { command = c; asked = asked; ran = r.ran; is = r.is; made = r.made; here = listed_cause c c.mode r.ran r.made refl r.says })
+  listed_by c asked (inr b) = inr (record { command = c; asked = asked; wrote = b })
+
+  listed_of : (asked : Option Command) → AskedSays words asked texts out code steps Listed → Lists ⊎ HasBack words texts.held code steps out
   listed_of None h = absurd h.1
-  listed_of (Some c) h = let r = h.1.says in record { command = c; asked = h.0; ran = r.ran; is = r.is; made = r.made; here = listed_cause c c.mode r.ran r.made refl r.says }
+  listed_of (Some c) h = listed_by c h.0 h.1.says
 
   steps_out_of : (asked : Option Command) → AskedSays words asked texts out code steps StepsOut → HasCode words texts.held code (λ c ran unit. StepsOutCause c.mode c ran unit)
   steps_out_of None h = absurd h.1

@@ -14,14 +14,15 @@ use Rattle.lg_node.specs.declared.unit.Unit.{Unit as TextUnit}
 use Rattle.lg_tst.specs.Units.{unit_of}
 use Rattle.lg_io.specs.SinkChanges.{SinkChange}
 use Rattle.lg_run.specs.Changes.{TellsReads, TellsWrites, TextsChange}
+use Rattle.lg_run.specs.Refused.{IsTextIn}
 use Rattle.lg_run.specs.Complete.{AnswersCode, AnswersCommand, AnswersMeaning, AnswersRun, Comes, Completeness, IsCompleteIn, IsCompleteMean, IsCompleteRun, IsFit}
 use Rattle.lg_run.specs.Runs.{HasMeant, MeanSays, RunSays}
-use Rattle.lg_run.specs.Says.{AnswerSays, AskedSays, CodeSays, IsCodeOf, ListSays, ModeSays, NoCommandSays, Ran, TellsFaults, code_meaning, code_run}
+use Rattle.lg_run.specs.Says.{AnswerSays, AskedSays, CodeSays, IsCodeOf, ListSays, ModeSays, NoCommandSays, Ran, TellsFaults, WroteBack, code_meaning, code_run}
 use Rattle.lg_run.specs.declared.answer.Answer.{Answer}
 use Rattle.lg_run.specs.declared.answer.Answer.TheVariants.{Ended, Listed, Undefined, Refused, Usage, ReadFault, WriteFault, StepsOut, Fault, OutOfMemory}
 use Rattle.lg_run.proofs.AgreementLemmas.{ends_in_time, meant_later, run_later, undefined_at}
 use Rattle.lg_run.proofs.OverLemmas.{bad_running, ended_running}
-use Rattle.lg_run.proofs.RefusedLemmas.{call_for_room, call_once, text_same}
+use Rattle.lg_run.proofs.RefusedLemmas.{back_no_text, call_for_room, call_once, call_stays, text_same}
 use Rattle.lg_run.proofs.SameLemmas.{answer_same, none_some, ok_same, some_same}
 
 -- ---- want of memory
@@ -42,11 +43,12 @@ memory_of_run c code unit = record {
   sound = λ sound kind pc e. cc (e);
 }
 
-memory_in : (m : Mode) (c : Command) (code : Assembled) (unit : TextUnit) → IsCompleteIn m c code unit OutOfMemory
-memory_in mode.Run c code unit = memory_of_run c code unit
-memory_in mode.List c code unit = inr refl
-memory_in mode.Gen c code unit = memory_of_run c code unit
-memory_in mode.Mean c code unit = record {
+memory_in : (m : Mode) (c : Command) (held : Option NamedTexts) (text : List ℕ) (code : Assembled) (unit : TextUnit) → IsTextIn m c held text → IsCompleteIn m c code unit OutOfMemory
+memory_in mode.Run c held text code unit given = memory_of_run c code unit
+memory_in mode.List c held text code unit given = inr refl
+memory_in mode.Gen c held text code unit given = memory_of_run c code unit
+memory_in mode.Back c held text code unit given = absurd given
+memory_in mode.Mean c held text code unit given = record {
   stands = memory_meaning (code_meaning c code unit c.steps).status;
   ends = λ m status time is. inr refl;
   only = λ status e. absurd (no e);
@@ -166,6 +168,7 @@ module _ (c : Command) (held : Option NamedTexts) (code : Assembled) (made : IsC
   complete_in mode.List steps out a says other = complete_list steps out a says other
   complete_in mode.Gen steps out a says other = complete_run steps out a says other
   complete_in mode.Mean steps out a says other = complete_mean steps out a says other
+  complete_in mode.Back steps out a says other = absurd says
 
 -- ---- the command's answer
 module _ (c : Command) (told : NamedTexts) (out : SinkChange) (code : Option Assembled) (steps : ℕ) where
@@ -184,6 +187,16 @@ module _ (c : Command) (told : NamedTexts) (out : SinkChange) (code : Option Ass
     refuses = λ refusal full refused. let m = r.made in absurd (full (call_for_room c told m.text m.unit refusal m.reads m.accepted m.fits m.given refused).0);
     makes = λ unit fit. inl (subst IsSome (sym r.is) refl);
     runs = λ unit ran fit there. ran_complete a unit ran fit r other there;
+    reads = λ bytes is fits l. absurd (back_no_text c (Some told) r.made.text is r.made.given);
+  }
+
+  -- bytes of a listing that were written
+  back_answers : (a : Answer) → WroteBack c (Some told) code steps out a → a ≡ Listed → AnswersCommand c told code a
+  back_answers a w is = record {
+    refuses = λ refusal full refused. absurd (call_stays c told w.bytes refusal w.asked w.fits w.listing refused);
+    makes = λ unit fit. absurd (back_no_text c (Some told) fit.text w.asked fit.given);
+    runs = λ unit ran fit there. absurd (none_some (sym w.none ∙ there));
+    reads = λ bytes asked fits l. inl is;
   }
 
   answers : (a : Answer) → AnswerSays c (Some told) code steps out a → (a ≡ ReadFault → ⊥) → (a ≡ WriteFault → ⊥) → AnswersCommand c told code a
@@ -194,16 +207,19 @@ module _ (c : Command) (told : NamedTexts) (out : SinkChange) (code : Option Ass
   answers WriteFault says read write = absurd (write refl)
   answers ReadFault says read write = absurd (read refl)
   answers Usage says read write = absurd says
-  answers Listed says read write = ran_answers Listed says write
+  answers Listed (inl says) read write = ran_answers Listed says write
+  answers Listed (inr says) read write = back_answers Listed says refl
   answers OutOfMemory says read write = record {
     refuses = λ refusal full refused. inr refl;
     makes = λ unit fit. inr refl;
-    runs = λ unit ran fit there. memory_in c.mode c ran unit;
+    runs = λ unit ran fit there. memory_in c.mode c (Some told) fit.text ran unit fit.given;
+    reads = λ bytes is fits l. inr refl;
   }
   answers (Refused q) says read write = record {
     refuses = λ refusal full refused. inl (ap Refused (call_once c told q refusal says.1 refused));
     makes = λ unit fit. absurd (room unit fit);
     runs = λ unit ran fit there. absurd (none_some (sym says.0.none ∙ there));
+    reads = λ bytes is fits l. absurd (call_stays c told bytes q is fits l says.1);
   }
     where
       room : (unit : TextUnit) → IsFit c told unit → ⊥
@@ -227,10 +243,14 @@ module _ (c : Command) (held : Option NamedTexts) (out : SinkChange) (code : Opt
   answers_code WriteFault says read write = absurd (write refl)
   answers_code ReadFault says read write = absurd (read refl)
   answers_code Usage says read write = absurd says
-  answers_code Listed says read write = ran_code Listed says write
+  answers_code Listed (inl says) read write = ran_code Listed says write
+  answers_code Listed (inr says) read write = record {
+    long = λ long. let fits = says.fits in absurd (omega (arith, long, fits));
+    runs = λ ran there. absurd (none_some (sym says.none ∙ there));
+  }
   answers_code OutOfMemory says read write = record {
     long = λ long. inr refl;
-    runs = λ ran there. let made = subst (CodeSays c held) there says.1 in (made, memory_in c.mode c ran made.unit);
+    runs = λ ran there. let made = subst (CodeSays c held) there says.1 in (made, memory_in c.mode c held made.text ran made.unit made.given);
   }
   answers_code (Refused q) says read write = record {
     long = λ long. elim says.1 [

@@ -9,3 +9,4 @@ pub mod RunLemmas
 pub mod SameLemmas
 pub mod WorkLemmas
 pub mod ListLemmas
+pub mod BackLemmas

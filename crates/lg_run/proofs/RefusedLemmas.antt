@@ -1,5 +1,5 @@
 -- A text is refused for one reason.
-use Rattle.std.proofs.Common.{◌≡◌, ℕ, inl, inr, List, length, Option, Some, sym, ap, ◌∙◌, subst, arith, ⊎_elim}
+use Rattle.std.proofs.Common.{◌≡◌, ℕ, ◌≤◌, inl, inr, List, length, Option, Some, sym, ap, ◌∙◌, subst, arith, ⊎_elim}
 use Rattle.std.specs.Prelude.{Result, Ok, Err}
 use Rattle.std.proofs.lemmas.Bool.{cases_lt}
 use Rattle.lg_base.specs.declared.refusal.Refusal.{Refusal}
@@ -7,15 +7,17 @@ use Rattle.lg_base.specs.declared.target.Target.{Target}
 use Rattle.lg_command.specs.Commands.{Command}
 use Rattle.lg_command.specs.declared.command.Mode.{Mode}
 use Rattle.lg_command.specs.declared.command.Mode.TheVariants as mode
+use Rattle.lg_back.proofs.ListLemmas.{bad-none, bad-one}
 use Rattle.lg_io.specs.NamedTexts.{NamedTexts}
+use Rattle.lg_list.specs.Back.{Back}
 use Rattle.lg_node.specs.Nodes.{LabelledNodes}
 use Rattle.lg_node.specs.Checks.{IsAccepted, IsRefused, refusal_at}
 use Rattle.lg_node.specs.declared.unit.Unit.{Unit as TextUnit}
 use Rattle.lg_tst.specs.Units.{unit_of}
 use Rattle.lg_made.specs.Made.{made}
 use Rattle.lg_pre.specs.Expanded.{expanded}
-use Rattle.lg_run.specs.Refused.{ArgumentsFit, Expands, IsExpandedUnder, IsRefusedAs, IsRefusedCall, IsRefusedCode, IsRefusedExpansion, IsRefusedIn, IsRefusedRead, IsRefusedText, IsRefusedUnder, IsRefusedUnit, IsTextIn, IsTextUnder, IsUnitOf, MayBeFull, TextsAreRefusedOnce, code_full}
-use Rattle.lg_run.specs.Says.{ReadsFile}
+use Rattle.lg_run.specs.Refused.{ArgumentsFit, Expands, IsExpandedUnder, IsRefusedAs, IsRefusedBack, IsRefusedCall, IsRefusedCode, IsRefusedExpansion, IsRefusedIn, IsRefusedListing, IsRefusedRead, IsRefusedText, IsRefusedUnder, IsRefusedUnit, IsTextIn, IsTextUnder, IsUnitOf, ListingsAreRefusedOnce, MayBeFull, TextsAreRefusedOnce, code_full, most_text}
+use Rattle.lg_run.specs.Says.{ExpandsFile, IsListingUnder, ReadsFile, WantsCode}
 use Rattle.lg_run.proofs.SameLemmas.{none_some, ok_same, some_same}
 
 checked_once : (l : LabelledNodes) (r q : Refusal) → IsRefused l r → IsRefused l q → r ≡ q
@@ -77,7 +79,27 @@ refused_once c read r refused = (
   λ text unit expands is accepted room. let full = (read_for_room c read text unit r expands is accepted refused).1 in omega (arith, full, room),
 )
 
+-- ---- listings
+refusal_same : (r q : Refusal) → r.kind ≡ q.kind → r.line ≡ q.line → r ≡ q
+refusal_same r q a b = λ i. record { kind = a i; line = b i }
+
+listing_once : (read : List ℕ) (r q : Refusal) → IsRefusedListing read r → IsRefusedListing read q → r ≡ q
+listing_once read r q (inl a) (inl b) = a.0 ∙ sym b.0
+listing_once read r q (inl a) (inr b) = let long = a.1 in let short = b.0 in absurd (omega (arith, long, short))
+listing_once read r q (inr a) (inl b) = let short = a.0 in let long = b.1 in absurd (omega (arith, long, short))
+listing_once read r q (inr a) (inr b) = refusal_same r q (a.1 ∙ sym b.1) (bad-one read r.line q.line a.2 b.2)
+
+listing_stays : (read : List ℕ) (r : Refusal) (target : Target) (bytes : List ℕ) → IsRefusedListing read r → length read ≤ most_text → Back read target bytes → ⊥
+listing_stays read r target bytes (inl a) short is = let long = a.1 in omega (arith, long, short)
+listing_stays read r target bytes (inr a) short is = bad-none read r.line target bytes a.2 is
+
+pub listings_once : ListingsAreRefusedOnce
+listings_once read r refused = (λ q other. listing_once read q r other refused, λ target bytes short is. listing_stays read r target bytes refused short is)
+
 -- ---- calls, where the texts are told
+back_once : (c : Command) (told : NamedTexts) (r q : Refusal) → IsRefusedBack c (Some told) r → IsRefusedBack c (Some told) q → r ≡ q
+back_once c told r q a b = listing_once b.0 r q (subst (λ t. IsRefusedListing t r) (some_same (sym a.1 ∙ b.1)) a.2) b.2
+
 under_once : (c : Command) (told : NamedTexts) (r q : Refusal) → IsRefusedUnder c (Some told) r → IsRefusedUnder c (Some told) q → r ≡ q
 under_once c told r q a b = read_once c b.0 r q (subst (λ t. IsRefusedRead c t r) (some_same (sym a.1 ∙ b.1)) a.2) b.2
 
@@ -86,6 +108,7 @@ in_once mode.Run c told r q a b = under_once c told r q a b
 in_once mode.List c told r q a b = under_once c told r q a b
 in_once mode.Mean c told r q a b = under_once c told r q a b
 in_once mode.Gen c told r q a b = text_once c (made c.seed) r q a b
+in_once mode.Back c told r q a b = back_once c told r q a b
 
 pub call_once : (c : Command) (told : NamedTexts) (r q : Refusal) → IsRefusedCall c (Some told) r → IsRefusedCall c (Some told) q → r ≡ q
 call_once c told r q (inl a) (inl b) = a.0 ∙ sym b.0
@@ -102,11 +125,26 @@ module _ (c : Command) (told : NamedTexts) (text : List ℕ) (unit : TextUnit) (
   in_for_room mode.List given a = under_for_room given a
   in_for_room mode.Mean given a = under_for_room given a
   in_for_room mode.Gen given a = text_for_room c text unit r is accepted (subst (λ t. IsRefusedText c t r) (sym given) a)
+  in_for_room mode.Back given a = absurd given
 
   -- a call on a text whose unit is accepted
   pub call_for_room : ArgumentsFit c → IsTextIn c.mode c (Some told) text → IsRefusedCall c (Some told) r → (r ≡ code_full) × MayBeFull (length unit.nodes.nodes) c.size
   call_for_room fits given (inl a) = let long = a.1 in absurd (omega (arith, long, fits))
   call_for_room fits given (inr a) = in_for_room c.mode given a.1
+
+-- a call on a listing is not refused
+back_stays : (c : Command) (told : NamedTexts) (bytes : List ℕ) (r : Refusal) → ArgumentsFit c → IsListingUnder c (Some told) bytes → (m : Mode) → m ≡ mode.Back → IsRefusedIn m c (Some told) r → ⊥
+back_stays c told bytes r fits l m is a =
+    let b = subst (λ n. IsRefusedIn n c (Some told) r) is a in
+    listing_stays l.text r l.target bytes (subst (λ t. IsRefusedListing t r) (some_same (sym b.1 ∙ l.given)) b.2) l.short l.reads
+
+pub call_stays : (c : Command) (told : NamedTexts) (bytes : List ℕ) (r : Refusal) → c.mode ≡ mode.Back → ArgumentsFit c → IsListingUnder c (Some told) bytes → IsRefusedCall c (Some told) r → ⊥
+call_stays c told bytes r is fits l (inl a) = let long = a.1 in omega (arith, long, fits)
+call_stays c told bytes r is fits l (inr a) = back_stays c told bytes r fits l c.mode is a.1
+
+-- and no code is made of it
+pub back_no_text : (c : Command) (held : Option NamedTexts) (text : List ℕ) → c.mode ≡ mode.Back → IsTextIn c.mode c held text → ⊥
+back_no_text c held text is given = subst (λ m. IsTextIn m c held text) is given
 
 -- a command has one text
 same_under : (c : Command) (told : NamedTexts) (text other : List ℕ) → IsExpandedUnder (Some told) c.file text → IsExpandedUnder (Some told) c.file other → text ≡ other
@@ -117,15 +155,17 @@ text_same mode.Run c told text other a b = same_under c told text other a b
 text_same mode.List c told text other a b = same_under c told text other a b
 text_same mode.Mean c told text other a b = same_under c told text other a b
 text_same mode.Gen c told text other a b = a ∙ sym b
+text_same mode.Back c told text other a b = absurd a
 
 -- ---- what is known of parts, and of the command
 module _ (c : Command) (held : Option NamedTexts) (r : Refusal) where
   -- what is read is the file's
-  pub read_refused : (m : Mode) (read : List ℕ) → ReadsFile m → IsTextUnder held c.file read → IsRefusedRead c read r → IsRefusedIn m c held r
+  pub read_refused : (m : Mode) (read : List ℕ) → ExpandsFile m → IsTextUnder held c.file read → IsRefusedRead c read r → IsRefusedIn m c held r
   read_refused mode.Run read file under refused = (read, under, refused)
   read_refused mode.List read file under refused = (read, under, refused)
   read_refused mode.Mean read file under refused = (read, under, refused)
   read_refused mode.Gen read file under refused = absurd file
+  read_refused mode.Back read file under refused = absurd file
 
   under_refused : (text : List ℕ) → IsExpandedUnder held c.file text → IsRefusedText c text r → IsRefusedUnder c held r
   under_refused text given refused = (given.0, given.1, inr (given.2.0, subst (λ e. IsRefusedExpansion c e r) (sym given.2.1) refused))
@@ -135,9 +175,26 @@ module _ (c : Command) (held : Option NamedTexts) (r : Refusal) where
   text_refused mode.List text given refused = under_refused text given refused
   text_refused mode.Mean text given refused = under_refused text given refused
   text_refused mode.Gen text given refused = subst (λ t. IsRefusedText c t r) given refused
+  text_refused mode.Back text given refused = absurd given
 
-pub text_in : (m : Mode) (c : Command) (held : Option NamedTexts) (read text : List ℕ) → ReadsFile m → IsTextUnder held c.file read → Expands read text → IsTextIn m c held text
+pub text_in : (m : Mode) (c : Command) (held : Option NamedTexts) (read text : List ℕ) → ExpandsFile m → IsTextUnder held c.file read → Expands read text → IsTextIn m c held text
 text_in mode.Run c held read text file under expands = (read, under, expands)
 text_in mode.List c held read text file under expands = (read, under, expands)
 text_in mode.Mean c held read text file under expands = (read, under, expands)
 text_in mode.Gen c held read text file under expands = absurd file
+text_in mode.Back c held read text file under expands = absurd file
+
+-- the file is read where it is expanded, and code is made of it
+pub file_reads : (m : Mode) → ExpandsFile m → ReadsFile m
+file_reads mode.Run file = file
+file_reads mode.List file = file
+file_reads mode.Mean file = file
+file_reads mode.Gen file = absurd file
+file_reads mode.Back file = absurd file
+
+pub file_wanted : (m : Mode) → ExpandsFile m → WantsCode m
+file_wanted mode.Run file = file
+file_wanted mode.List file = file
+file_wanted mode.Mean file = file
+file_wanted mode.Gen file = absurd file
+file_wanted mode.Back file = absurd file

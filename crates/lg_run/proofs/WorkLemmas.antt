@@ -1,5 +1,5 @@
 -- What the parts of the call say.
-use Rattle.std.proofs.Common.{◌≡◌, ℕ, Option, Some, refl, sym, subst}
+use Rattle.std.proofs.Common.{◌≡◌, ℕ, inl, Option, Some, refl, sym, subst}
 use Rattle.std.specs.Prelude.{Ok}
 use Rattle.lg_asm.specs.Assembled.{Assembled}
 use Rattle.lg_base.specs.declared.refusal.Refusal.{Refusal}
@@ -69,18 +69,21 @@ module _ (c : Command) (code : Assembled) (unit : TextUnit) (out : SinkChange) (
   no_refusal mode.List r h = h
   no_refusal mode.Gen r h = h
   no_refusal mode.Mean r h = h
+  no_refusal mode.Back r h = h
 
   no_usage : (m : Mode) → ModeSays m c code unit steps out Usage → ⊥
   no_usage mode.Run h = h
   no_usage mode.List h = h
   no_usage mode.Gen h = h
   no_usage mode.Mean h = h
+  no_usage mode.Back h = h
 
   no_read : (m : Mode) → ModeSays m c code unit steps out ReadFault → ⊥
   no_read mode.Run h = h
   no_read mode.List h = h
   no_read mode.Gen h = h
   no_read mode.Mean h = h
+  no_read mode.Back h = h
 
   -- a run tells no fault of texts
   pub run_reads : (m : Mode) (a : Answer) → StartSays m c code unit out steps a → TellsNoRead a
@@ -100,11 +103,11 @@ pub run_answers : (c : Command) (held : Option NamedTexts) (code : Assembled) (m
     → AnswerSays c held (Some code) steps out a
 run_answers c held code made out steps (Ended status) h = record { ran = code; is = refl; made = made; says = h }
 run_answers c held code made out steps (Undefined line) h = record { ran = code; is = refl; made = made; says = h }
-run_answers c held code made out steps WriteFault h = record { ran = code; is = refl; made = made; says = h }
+run_answers c held code made out steps WriteFault h = inl (record { ran = code; is = refl; made = made; says = h })
 run_answers c held code made out steps StepsOut h = record { ran = code; is = refl; made = made; says = h }
 run_answers c held code made out steps (Fault kind pc) h = record { ran = code; is = refl; made = made; says = h }
 run_answers c held code made out steps OutOfMemory h = (h, made)
-run_answers c held code made out steps Listed h = record { ran = code; is = refl; made = made; says = h }
+run_answers c held code made out steps Listed h = inl (record { ran = code; is = refl; made = made; says = h })
 run_answers c held code made out steps (Refused refusal) h = absurd (no_refusal c code made.unit out steps c.mode refusal h)
 run_answers c held code made out steps Usage h = absurd (no_usage c code made.unit out steps c.mode h)
 run_answers c held code made out steps ReadFault h = absurd (no_read c code made.unit out steps c.mode h)

@@ -16,7 +16,7 @@ use Rattle.lg_io.specs.SinkChanges.{SinkChange, Took}
 use Rattle.lg_run.specs.Changes.{TextsChange}
 use Rattle.lg_run.specs.Refused.{IsRefusedCall}
 use Rattle.lg_run.specs.Runs.{HasMeant, HasRun}
-use Rattle.lg_run.specs.Says.{IsCodeOf, IsStill, IsUntouched, ReadsFile, RunsCode, code_meaning, code_run, listing_of}
+use Rattle.lg_run.specs.Says.{IsCodeOf, IsStill, IsUntouched, ReadsFile, RunsCode, WroteBack, code_meaning, code_run, listing_of}
 use Rattle.lg_run.specs.declared.answer.Answer.TheVariants.{Listed, Undefined, Refused, Usage, ReadFault, WriteFault, StepsOut, Fault, OutOfMemory}
 use Rattle.lg_run.specs.declared.answer.Done.{Done}
 
@@ -28,6 +28,12 @@ pub record HasCode (words : List (List ℕ)) (held : Option NamedTexts) (code : 
   pub is : code ≡ Some ran
   pub made : IsCodeOf command held ran
   pub here : holds command ran made.unit
+
+-- the words ask for a listing to be read back, and out took the bytes that the text is a listing of
+pub record HasBack (words : List (List ℕ)) (held : Option NamedTexts) (code : Option Assembled) (steps : ℕ) (out : SinkChange) : Type 0 where
+  pub command : Command
+  pub asked : IsCommand words command
+  pub wrote : WroteBack command held code steps out Listed
 
 -- the meaning becomes undefined within so many steps
 abbrev pub IsUndefinedWithin : ℕ → (ℕ → means.Run) → Type 0
@@ -44,6 +50,7 @@ StepsOutCause mode.Run c code unit = HasRun (code_run c code unit) c.steps × La
 StepsOutCause mode.List c code unit = ⊥
 StepsOutCause mode.Gen c code unit = HasRun (code_run c code unit) c.steps × Lasts (length unit.nodes.nodes) c.steps (code_meaning c code unit)
 StepsOutCause mode.Mean c code unit = HasMeant (code_meaning c code unit) c.steps
+StepsOutCause mode.Back c code unit = ⊥
 
 -- the run of code faulted behind so many steps
 abbrev pub FaultCause : (steps : ℕ) → Command → Assembled → TextUnit → Type 0
@@ -68,8 +75,10 @@ pub record Causes (words : List (List ℕ)) (texts : TextsChange) (out err : Sin
   pub read_told : texts.faults < texts.faults' → (done.answer ≡ ReadFault) ⊎ ((done.answer ≡ WriteFault) × Rose err.faults err.faults')
   pub out_told : out.faults < out.faults' → done.answer ≡ WriteFault
   pub err_told : err.faults < err.faults' → done.answer ≡ WriteFault
-  -- a listing is told only where it is asked for, and all of it was written
-  pub listed : done.answer ≡ Listed → HasCode words texts.held done.code (λ c code unit. (c.mode ≡ mode.List) × Took out (listing_of code))
+  -- a listing is told only where it is asked for, and all of it was written, or where the text is one, and all its bytes were written
+  pub listed : done.answer ≡ Listed
+      → HasCode words texts.held done.code (λ c code unit. (c.mode ≡ mode.List) × Took out (listing_of code))
+      ⊎ HasBack words texts.held done.code done.steps out
   -- the rows on runs
   pub steps_out : done.answer ≡ StepsOut → HasCode words texts.held done.code (λ c code unit. StepsOutCause c.mode c code unit)
   pub fault : (kind : FaultKind) (pc : ℕ) → done.answer ≡ Fault kind pc → HasCode words texts.held done.code (FaultCause done.steps)

@@ -16,7 +16,7 @@ use Rattle.lg_node.specs.declared.unit.Unit.{Unit as TextUnit}
 use Rattle.lg_io.specs.SinkChanges.{SinkChange}
 use Rattle.lg_run.specs.Changes.{TextsChange}
 use Rattle.lg_run.specs.Refused.{ArgumentsFit, IsRefusedCall, IsTextIn, IsUnitOf, code_full}
-use Rattle.lg_run.specs.Says.{IsCodeOf, Says, code_meaning, code_run}
+use Rattle.lg_run.specs.Says.{IsCodeOf, IsListingUnder, Says, code_meaning, code_run}
 use Rattle.lg_run.specs.declared.answer.Answer.{Answer}
 use Rattle.lg_run.specs.declared.answer.Answer.TheVariants as answer
 use Rattle.lg_run.specs.declared.answer.Done.{Done}
@@ -60,6 +60,7 @@ IsCompleteIn mode.Run c code unit a = IsCompleteRun c code unit a
 IsCompleteIn mode.List c code unit a = Comes a answer.Listed
 IsCompleteIn mode.Gen c code unit a = IsCompleteRun c code unit a
 IsCompleteIn mode.Mean c code unit a = IsCompleteMean c code unit a
+IsCompleteIn mode.Back c code unit a = ⊥
 
 -- the command's text has this unit, which is accepted and whose code has room
 pub record IsFit (c : Command) (told : NamedTexts) (unit : TextUnit) : Type 0 where
@@ -82,6 +83,8 @@ pub record AnswersCommand (c : Command) (told : NamedTexts) (code : Option Assem
   -- there is code of a fit unit, which runs as it means
   pub makes : (unit : TextUnit) → IsFit c told unit → IsSome code ⊎ (a ≡ answer.OutOfMemory)
   pub runs : (unit : TextUnit) (ran : Assembled) → IsFit c told unit → code ≡ Some ran → IsCompleteIn c.mode c ran unit a
+  -- a listing is read back
+  pub reads : (bytes : List ℕ) → c.mode ≡ mode.Back → ArgumentsFit c → IsListingUnder c (Some told) bytes → Comes a answer.Listed
 
 abbrev pub Completeness : Type 0
 Completeness =

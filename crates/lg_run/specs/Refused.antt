@@ -4,12 +4,14 @@ use Rattle.lg_asm.specs.Assembled.{HasNoRoom}
 use Rattle.lg_base.specs.Arguments.{args_of, most_args, args_too_long}
 use Rattle.lg_base.specs.Refusals.{text_too_long}
 use Rattle.lg_base.specs.declared.refusal.Refusal.{Refusal}
-use Rattle.lg_base.specs.declared.refusal.RefusalKind.TheVariants.{CodeFull}
+use Rattle.lg_base.specs.declared.refusal.RefusalKind.TheVariants.{BadListing, CodeFull}
 use Rattle.lg_base.specs.declared.target.Target.{Target}
 use Rattle.lg_command.specs.Commands.{Command}
 use Rattle.lg_command.specs.declared.command.Mode.{Mode}
 use Rattle.lg_command.specs.declared.command.Mode.TheVariants as mode
 use Rattle.lg_io.specs.NamedTexts.{NamedTexts, text_under}
+use Rattle.lg_back.specs.Refused.{IsBadListing}
+use Rattle.lg_list.specs.Back.{Back}
 use Rattle.lg_made.specs.Made.{made}
 use Rattle.lg_node.specs.Nodes.{LabelledNodes}
 use Rattle.lg_node.specs.Checks.{IsAccepted, IsRefused}
@@ -66,6 +68,12 @@ Expands read text = (length read ≤ most_text) × (expanded read ≡ Ok text)
 abbrev pub IsUnitOf : List ℕ → TextUnit → Type 0
 IsUnitOf text unit = unit_of text ≡ Ok unit
 
+-- what is read as a listing is too long, or is none, at this line
+abbrev pub IsRefusedListing : List ℕ → Refusal → Type 0
+IsRefusedListing read refusal =
+    ((refusal ≡ text_too_long) × (most_text < length read))
+    ⊎ ((length read ≤ most_text) × (refusal.kind ≡ BadListing) × IsBadListing read refusal.line)
+
 -- the text is the one under this name; where the texts are not told it may be any
 abbrev pub IsTextUnder : Option NamedTexts → List ℕ → List ℕ → Type 0
 IsTextUnder None name text = ⊤
@@ -75,12 +83,13 @@ IsTextUnder (Some texts) name text = text_under texts name ≡ Some text
 abbrev pub IsExpandedUnder : Option NamedTexts → List ℕ → List ℕ → Type 0
 IsExpandedUnder held name text = (read : List ℕ) × IsTextUnder held name read × Expands read text
 
--- the text of a command: the generator's for its seed, or the expansion of what stands under the name of its file
+-- the text of which a command wants code: the generator's for its seed, or the expansion of what stands under the name of its file; none in the mode `back`
 abbrev pub IsTextIn : Mode → Command → Option NamedTexts → List ℕ → Type 0
 IsTextIn mode.Run c held text = IsExpandedUnder held c.file text
 IsTextIn mode.List c held text = IsExpandedUnder held c.file text
 IsTextIn mode.Mean c held text = IsExpandedUnder held c.file text
 IsTextIn mode.Gen c held text = text ≡ made c.seed
+IsTextIn mode.Back c held text = ⊥
 
 -- the words of the arguments fit the argument part
 abbrev pub ArgumentsFit : Command → Type 0
@@ -90,12 +99,17 @@ ArgumentsFit c = length (args_of c.arguments) ≤ most_args
 abbrev pub IsRefusedUnder : Command → Option NamedTexts → Refusal → Type 0
 IsRefusedUnder c held refusal = (read : List ℕ) × IsTextUnder held c.file read × IsRefusedRead c read refusal
 
+-- or of it as a listing
+abbrev pub IsRefusedBack : Command → Option NamedTexts → Refusal → Type 0
+IsRefusedBack c held refusal = (read : List ℕ) × IsTextUnder held c.file read × IsRefusedListing read refusal
+
 -- a refusal of the command's text
 abbrev pub IsRefusedIn : Mode → Command → Option NamedTexts → Refusal → Type 0
 IsRefusedIn mode.Run c held refusal = IsRefusedUnder c held refusal
 IsRefusedIn mode.List c held refusal = IsRefusedUnder c held refusal
 IsRefusedIn mode.Mean c held refusal = IsRefusedUnder c held refusal
 IsRefusedIn mode.Gen c held refusal = IsRefusedText c (made c.seed) refusal
+IsRefusedIn mode.Back c held refusal = IsRefusedBack c held refusal
 
 -- the arguments are too long, or they fit and the text is refused
 abbrev pub IsRefusedCall : Command → Option NamedTexts → Refusal → Type 0
@@ -108,3 +122,10 @@ TextsAreRefusedOnce =
     (c : Command) (read : List ℕ) (refusal : Refusal) → IsRefusedRead c read refusal
     → ((other : Refusal) → IsRefusedRead c read other → other ≡ refusal)
     × ((text : List ℕ) (unit : TextUnit) → Expands read text → IsUnitOf text unit → IsAccepted unit.nodes → 256 * length unit.nodes.nodes + 256 ≤ c.size → ⊥)
+
+-- what is read as a listing is refused for one reason, and not where it is one
+abbrev pub ListingsAreRefusedOnce : Type 0
+ListingsAreRefusedOnce =
+    (read : List ℕ) (refusal : Refusal) → IsRefusedListing read refusal
+    → ((other : Refusal) → IsRefusedListing read other → other ≡ refusal)
+    × ((target : Target) (bytes : List ℕ) → length read ≤ most_text → Back read target bytes → ⊥)

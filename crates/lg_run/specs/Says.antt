@@ -13,6 +13,8 @@ use Rattle.lg_cpu.specs.Targets.{run_at}
 use Rattle.lg_dead.specs.Rewritten.{AreFinal}
 use Rattle.lg_io.specs.Counts.{Rose}
 use Rattle.lg_io.specs.NamedTexts.{NamedTexts}
+use Rattle.lg_base.specs.declared.target.Target.{Target}
+use Rattle.lg_list.specs.Back.{Back}
 use Rattle.lg_list.specs.Listing.{listing}
 use Rattle.lg_meaning.specs.Means as means
 use Rattle.lg_node.specs.Checks.{IsAccepted}
@@ -21,7 +23,7 @@ use Rattle.lg_node.specs.declared.unit.Unit.{Unit as TextUnit}
 use Rattle.lg_io.specs.SinkChanges.{SinkChange, Took, TookPart}
 use Rattle.lg_run.specs.Changes.{TextsChange, TellsReads, TellsWrites}
 use Rattle.lg_run.specs.Lines.{line_of, stats_of}
-use Rattle.lg_run.specs.Refused.{ArgumentsFit, IsRefusedCall, IsTextIn, IsUnitOf}
+use Rattle.lg_run.specs.Refused.{ArgumentsFit, IsRefusedCall, IsTextIn, IsTextUnder, IsUnitOf, most_text}
 use Rattle.lg_run.specs.Runs.{RunSays, MeanSays}
 use Rattle.lg_run.specs.declared.answer.Answer.{Answer}
 use Rattle.lg_run.specs.declared.answer.Answer.TheVariants.{Ended, Listed, Undefined, Refused, Usage, ReadFault, WriteFault, StepsOut, Fault, OutOfMemory}
@@ -38,13 +40,31 @@ RunsCode mode.Run = ⊤
 RunsCode mode.List = ⊥
 RunsCode mode.Mean = ⊥
 RunsCode mode.Gen = ⊤
+RunsCode mode.Back = ⊥
 
--- and those in which a file is read
+-- those in which code is made
+abbrev pub WantsCode : Mode → Type 0
+WantsCode mode.Run = ⊤
+WantsCode mode.List = ⊤
+WantsCode mode.Mean = ⊤
+WantsCode mode.Gen = ⊤
+WantsCode mode.Back = ⊥
+
+-- those in which a file is read
 abbrev pub ReadsFile : Mode → Type 0
 ReadsFile mode.Run = ⊤
 ReadsFile mode.List = ⊤
 ReadsFile mode.Mean = ⊤
 ReadsFile mode.Gen = ⊥
+ReadsFile mode.Back = ⊤
+
+-- to be expanded
+abbrev pub ExpandsFile : Mode → Type 0
+ExpandsFile mode.Run = ⊤
+ExpandsFile mode.List = ⊤
+ExpandsFile mode.Mean = ⊤
+ExpandsFile mode.Gen = ⊥
+ExpandsFile mode.Back = ⊥
 
 -- ---- code
 
@@ -93,6 +113,7 @@ ModeSays mode.Run c code unit steps out answer = RunSays (code_run c code unit) 
 ModeSays mode.List c code unit steps out answer = ListSays code steps out answer
 ModeSays mode.Gen c code unit steps out answer = RunSays (code_run c code unit) c.steps steps out answer
 ModeSays mode.Mean c code unit steps out answer = MeanSays unit.nodes (code_meaning c code unit) c.steps steps out answer
+ModeSays mode.Back c code unit steps out answer = ⊥
 
 -- there is code, and it, or its meaning, ran so, or was listed so
 pub record Ran (c : Command) (held : Option NamedTexts) (code : Option Assembled) (steps : ℕ) (out : SinkChange) (answer : Answer) : Type 0 where
@@ -100,6 +121,32 @@ pub record Ran (c : Command) (held : Option NamedTexts) (code : Option Assembled
   pub is : code ≡ Some ran
   pub made : IsCodeOf c held ran
   pub says : ModeSays c.mode c ran made.unit steps out answer
+
+-- ---- listings that are read back
+
+-- what stands under the name of the file is a listing of these bytes
+pub record IsListingUnder (c : Command) (held : Option NamedTexts) (bytes : List ℕ) : Type 0 where
+  pub text : List ℕ
+  pub given : IsTextUnder held c.file text
+  pub short : length text ≤ most_text
+  pub target : Target
+  pub reads : Back text target bytes
+
+-- what an answer says of bytes that were to be written: out took them, or a part of them
+abbrev pub BytesSay : List ℕ → SinkChange → Answer → Type 0
+BytesSay bytes out Listed = Took out bytes
+BytesSay bytes out WriteFault = TookPart out bytes
+BytesSay bytes out answer = ⊥
+
+-- in the mode `back` nothing was assembled and nothing ran; the text is a listing, and its bytes were written so
+pub record WroteBack (c : Command) (held : Option NamedTexts) (code : Option Assembled) (steps : ℕ) (out : SinkChange) (answer : Answer) : Type 0 where
+  pub asked : c.mode ≡ mode.Back
+  pub fits : ArgumentsFit c
+  pub none : code ≡ None
+  pub steps_none : steps ≡ 0
+  pub bytes : List ℕ
+  pub listing : IsListingUnder c held bytes
+  pub wrote : BytesSay bytes out answer
 
 -- ---- answers
 
@@ -119,12 +166,12 @@ AnswerSays c held code steps out (Ended status) = Ran c held code steps out (End
 AnswerSays c held code steps out StepsOut = Ran c held code steps out StepsOut
 AnswerSays c held code steps out (Fault kind pc) = Ran c held code steps out (Fault kind pc)
 AnswerSays c held code steps out (Undefined line) = Ran c held code steps out (Undefined line)
-AnswerSays c held code steps out WriteFault = Ran c held code steps out WriteFault
+AnswerSays c held code steps out WriteFault = Ran c held code steps out WriteFault ⊎ WroteBack c held code steps out WriteFault
 AnswerSays c held code steps out (Refused refusal) = IsUntouched code steps out × IsRefusedCall c held refusal
 AnswerSays c held code steps out ReadFault = IsUntouched code steps out × ReadsFile c.mode
 AnswerSays c held code steps out OutOfMemory = IsStill steps out × CodeSays c held code
 AnswerSays c held code steps out Usage = ⊥
-AnswerSays c held code steps out Listed = Ran c held code steps out Listed
+AnswerSays c held code steps out Listed = Ran c held code steps out Listed ⊎ WroteBack c held code steps out Listed
 
 -- a fault of texts and of out came exactly where that is the answer
 pub record TellsFaults (texts : TextsChange) (out : SinkChange) (answer : Answer) : Type 0 where
@@ -152,6 +199,7 @@ name_in mode.Run c = c.file
 name_in mode.List c = c.file
 name_in mode.Mean c = c.file
 name_in mode.Gen c = codes "gen"
+name_in mode.Back c = c.file
 
 -- the lines on err: the statistics, and the line of the answer
 abbrev pub lines_of : Option Command → Option Assembled → (steps : ℕ) → Answer → List ℕ

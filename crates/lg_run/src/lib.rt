@@ -1,8 +1,10 @@
 //! The top call: it reads the words of the command and a text, expands the text, makes code of it, and runs the code on a
-//! model of the processor, or the text's portable meaning, or lists the code.
+//! model of the processor, or the text's portable meaning, or lists the code;
+//! or it reads a listing back.
 #![tactic(auto)]
 
 pub mod answer;
+mod back;
 pub mod laws;
 mod lines;
 mod listing;

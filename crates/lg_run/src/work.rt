@@ -15,10 +15,11 @@ ghost use Rattle.lg_io.specs.SinkChanges.{on_sink};
 ghost use Rattle.lg_run.specs.Changes.{TellsWrites, TextsChange, on_texts};
 ghost use Rattle.lg_dead.specs.Rewritten.{AreFinal};
 ghost use Rattle.lg_run.specs.Refused.{IsRefusedAccepted, most_text};
-ghost use Rattle.lg_run.specs.Says.{ReadsFile};
+ghost use Rattle.lg_run.specs.Says.{ExpandsFile, WantsCode};
 ghost use Rattle.lg_run.specs.Work.{RanSays, ReadDone, TellsNoRead, TextDone, UnitDone, WorkDone};
 
 use crate::answer::{Answer, Done};
+use crate::back::do_back;
 use crate::listing::list_code;
 use crate::mean::run_meaning;
 use crate::reading::{Accepted, read_unit};
@@ -61,8 +62,8 @@ fn not_run() -> Ran
     }
 }
 
-// The answer of what stops a call before it runs.
-fn stopped(stop: Stop) -> Answer
+/// The answer of what stops a call before it runs.
+pub fn stopped(stop: Stop) -> Answer
     ensures refused { (r : Refusal) → stop ≡ Stop.Refused r → result ≡ Answer.Refused r }
     ensures memory { stop ≡ Stop.OutOfMemory → result ≡ Answer.OutOfMemory }
 {
@@ -72,8 +73,8 @@ fn stopped(stop: Stop) -> Answer
     }
 }
 
-// A refusal at no line.
-fn refusal(kind: RefusalKind) -> Refusal
+/// A refusal at no line.
+pub fn refusal(kind: RefusalKind) -> Refusal
     ensures { result ≡ record { kind = kind; line = 0 } }
 {
     Refusal { kind, line: 0 }
@@ -168,6 +169,7 @@ fn run_mode<O: Sink>(
     requires target { code.now.target ≡ command.now.target }
     requires size { length code.now.bytes ≤ command.now.size }
     requires agrees { Agrees code.now.bytes code.now.labels text.now.unit command.now.target }
+    requires wanted { WantsCode command.now.mode }
     ensures says { RanSays command.now.mode (shown command.now) code.now text.now.unit (on_sink O.taken O.faults out.old out.new) result }
     ensures writes { TellsWrites result.answer (on_sink O.taken O.faults out.old out.new) }
 {
@@ -175,6 +177,7 @@ fn run_mode<O: Sink>(
         Mode::Run | Mode::Gen => run_code(alloc, command, args, text, code, out),
         Mode::List => list_code(command, text, code, out),
         Mode::Mean => run_mean(alloc, command, args, text, code, out),
+        Mode::Back => unreachable!(),
     }
 }
 
@@ -198,6 +201,7 @@ fn do_unit<O: Sink>(
     requires args_size { length args.now ≤ most_args }
     requires whole { IsWhole text.now.unit }
     requires checked { IsChecked text.now.unit.nodes (Ok text.now.shape) }
+    requires wanted { WantsCode command.now.mode }
     ensures says { UnitDone (shown command.now) text.now.unit (on_sink O.taken O.faults out.old out.new) result }
     ensures writes { TellsWrites result.answer (on_sink O.taken O.faults out.old out.new) }
     ensures reads { TellsNoRead result.answer }
@@ -228,6 +232,7 @@ fn do_text<O: Sink>(
     requires args { args.now ≡ args_of (texts_of command.now.arguments.items) }
     requires args_size { length args.now ≤ most_args }
     requires short { length text.now ≤ most_text }
+    requires wanted { WantsCode command.now.mode }
     ensures says { TextDone (shown command.now) text.now (on_sink O.taken O.faults out.old out.new) result }
     ensures writes { TellsWrites result.answer (on_sink O.taken O.faults out.old out.new) }
     ensures reads { TellsNoRead result.answer }
@@ -246,7 +251,7 @@ fn do_read<O: Sink>(
     read: &[u8],
     out: &mut O,
 ) -> Done
-    requires file { ReadsFile command.now.mode }
+    requires file { ExpandsFile command.now.mode }
     requires range { IsInRange command.now }
     requires args { args.now ≡ args_of (texts_of command.now.arguments.items) }
     requires args_size { length args.now ≤ most_args }
@@ -269,7 +274,7 @@ fn do_file<T: Texts, O: Sink>(
     texts: &mut T,
     out: &mut O,
 ) -> Done
-    requires file { ReadsFile command.now.mode }
+    requires file { ExpandsFile command.now.mode }
     requires range { IsInRange command.now }
     requires args { args.now ≡ args_of (texts_of command.now.arguments.items) }
     requires args_size { length args.now ≤ most_args }
@@ -297,7 +302,7 @@ fn do_made<O: Sink>(alloc: Global, command: &Command<'_>, args: &ArgImage, out: 
     }
 }
 
-/// Reads the text of a command's file, or makes the generator's, and does what is asked for. Words of arguments that are too long are refused first.
+/// Reads the text of a command's file, or makes the generator's, and does what is asked for; or reads the file as a listing (`--mode back`). Words of arguments that are too long are refused first.
 pub fn work<T: Texts, O: Sink>(
     alloc: Global,
     command: &Command<'_>,
@@ -313,6 +318,7 @@ pub fn work<T: Texts, O: Sink>(
     };
     match command.mode {
         Mode::Gen => do_made(alloc, command, &args, out),
+        Mode::Back => do_back(alloc, command, texts, out),
         Mode::Run | Mode::List | Mode::Mean => do_file(alloc, command, &args, texts, out),
     }
 }
