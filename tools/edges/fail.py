@@ -42,10 +42,15 @@ def main():
         subprocess.run(["cc", "-O1", "-shared", "-fPIC", "-o", preload, "tools/edges/refuse.c", "-ldl"], check=True)
         with open(pressure, "w", encoding="utf-8") as file:
             file.write(PRESSURE)
-        for mode in ("run", "list", "mean", "gen"):
+        for mode in ("run", "list", "mean", "gen", "back"):
             for text in ("examples/nfibs.tst", pressure):
                 for target in ("x86_64", "aarch64", "riscv64"):
-                    words = [PROGRAM, "--mode", mode, "--stats", "--target", target, text, "10"]
+                    given = text
+                    if mode == "back":
+                        given = f"{room}/listing"
+                        with open(given, "wb") as file:
+                            file.write(run([PROGRAM, "--mode", "list", "--target", target, text]).stdout)
+                    words = [PROGRAM, "--mode", mode, "--stats", "--target", target, given, "10"]
                     own = run(words)
 
                     def wants(ran):
