@@ -1,6 +1,6 @@
 // What calls of the program come to. Each part has a folder of `data` with its cases: `code` compares the code of texts with their meaning, `cases` has
 // texts with what they write and how they end, `reaches` how long code is that leads to labels, `examples` the texts of the folder `examples`, `modes` statistics,
-// listings and the generator's texts, and `any_text` takes any bytes for a text; `edges` has what stands in no table. `targets.txt` has a target a line.
+// listings and the generator's texts, `any_text` takes any bytes for a text, and `back` reads listings back; `edges` has what stands in no table. `targets.txt` has a target a line.
 // Prints what each part found.
 // The status is 0 exactly where the code of all cases agrees with their meaning.
 #![tactic(auto)]
@@ -10,6 +10,7 @@ ghost use Rattle.std.specs.Process.{exit_status};
 ghost use Rattle.lg_test_calls.specs.Ends.{status_of};
 
 mod any_text;
+mod back;
 mod call;
 mod cases;
 mod code;
@@ -22,6 +23,7 @@ mod reaches;
 mod texts;
 
 use any_text::change_texts;
+use back::read_listings;
 use cases::make_cases;
 use code::compare_families;
 use edges::try_edges;
@@ -47,5 +49,6 @@ fn main(rt: HostRuntime) -> io::Result<ExitCode> {
     run_examples(&rt, targets.as_str())?;
     make_calls(&rt, targets.as_str())?;
     change_texts(&rt)?;
+    read_listings(&rt, targets.as_str())?;
     Ok(exit_code(all))
 }
