@@ -27,7 +27,8 @@ pub record Command : Type 0 where
 abbrev pub mode_of : Option Text → Mode
 mode_of None = mode.Run
 mode_of (Some t) = if bytes_eq t (codes "list") then mode.List
-    else (if bytes_eq t (codes "mean") then mode.Mean else (if bytes_eq t (codes "gen") then mode.Gen else (if bytes_eq t (codes "back") then mode.Back else mode.Run)))
+    else (if bytes_eq t (codes "mean") then mode.Mean else (if bytes_eq t (codes "gen") then mode.Gen else (if bytes_eq t (codes "back") then mode.Back
+    else (if bytes_eq t (codes "profile") then mode.Profile else mode.Run))))
 
 abbrev pub target_of : Option Text → Target
 target_of None = target.X86_64

@@ -14,7 +14,7 @@ abbrev pub lent : Lent → List Text
 lent texts = map (λ s. s.now) texts.now
 
 abbrev pub mode_words : List Text
-mode_words = codes "run" ∷ codes "list" ∷ codes "mean" ∷ codes "gen" ∷ codes "back" ∷ []
+mode_words = codes "run" ∷ codes "list" ∷ codes "mean" ∷ codes "gen" ∷ codes "back" ∷ codes "profile" ∷ []
 
 abbrev pub target_words : List Text
 target_words = codes "x86_64" ∷ codes "aarch64" ∷ codes "riscv64" ∷ []

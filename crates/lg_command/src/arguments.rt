@@ -7,7 +7,7 @@ ghost use Rattle.lg_command.specs.Rules.{IsApp, IsModeRule, IsTargetRule, steps_
 use clap::{Arg, ArgAction, Command, value_parser};
 use std::alloc::{AllocError, Global};
 
-static MODES: [&str; 5] = ["run", "list", "mean", "gen", "back"];
+static MODES: [&str; 6] = ["run", "list", "mean", "gen", "back", "profile"];
 
 static TARGETS: [&str; 3] = ["x86_64", "aarch64", "riscv64"];
 

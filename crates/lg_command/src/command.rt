@@ -15,6 +15,8 @@ pub enum Mode {
     Gen,
     /// It is read as a listing, and the bytes that it is of are written.
     Back,
+    /// Its code runs, and then its portable meaning, and the steps of both are told line by line.
+    Profile,
 }
 
 /// What the words of the command ask for.

@@ -20,6 +20,7 @@ fn mode_named(word: Option<&str>) -> Mode
         Some("mean") => Mode::Mean,
         Some("gen") => Mode::Gen,
         Some("back") => Mode::Back,
+        Some("profile") => Mode::Profile,
         _ => Mode::Run,
     }
 }

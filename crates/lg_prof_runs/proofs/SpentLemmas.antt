@@ -53,7 +53,7 @@ module _ (start here : Shown) (n : ℕ) (out : List ℕ) (at : IsAt start here n
   ended status e = by_end status (effect_at here).progress refl (sym e)
 
 -- ---- lines of code are lines of its nodes
-line_of_node : (nodes : List Node) (places : List ℕ) (place line top : ℕ) → AreBelow nodes top → line_here nodes places place ≡ Some line → line < top
+pub line_of_node : (nodes : List Node) (places : List ℕ) (place line top : ℕ) → AreBelow nodes top → line_here nodes places place ≡ Some line → line < top
 line_of_node [] places place line top below e = cc
 line_of_node (n ∷ nodes) places place line top below e = at (lies_first places place) e (line_of_node nodes (drop 1 places) place line top (λ i m here. below (suc i) m here))
   where

@@ -75,7 +75,7 @@ found (n ∷ nodes) (from ∷ []) place e = absurd (omega (arith, e))
 found (n ∷ nodes) (from ∷ to ∷ places) place e =
     by_first n nodes from to places place (lies_first (from ∷ to ∷ places) place) refl (found nodes (to ∷ places) place (omega (arith, e)))
 
-line_is : (nodes : List Node) (places lines : List ℕ) → length places ≡ length nodes + 1 → AreLines nodes places lines → (place : ℕ) → slice_get lines place ≡ line_here nodes places place
+pub line_is : (nodes : List Node) (places lines : List ℕ) → length places ≡ length nodes + 1 → AreLines nodes places lines → (place : ℕ) → slice_get lines place ≡ line_here nodes places place
 line_is nodes places lines count are place = elim (found nodes places place count) [
   | inl f ↦ are.each f.i place f.n f.here f.held ∙ sym f.line
   | inr g ↦ elim (cases_lt place (length lines)) [

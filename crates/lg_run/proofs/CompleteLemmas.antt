@@ -48,6 +48,7 @@ memory_in mode.Run c held text code unit given = memory_of_run c code unit
 memory_in mode.List c held text code unit given = inr refl
 memory_in mode.Gen c held text code unit given = memory_of_run c code unit
 memory_in mode.Back c held text code unit given = absurd given
+memory_in mode.Profile c held text code unit given = memory_of_run c code unit
 memory_in mode.Mean c held text code unit given = record {
   stands = memory_meaning (code_meaning c code unit c.steps).status;
   ends = λ m status time is. inr refl;
@@ -169,6 +170,7 @@ module _ (c : Command) (held : Option NamedTexts) (code : Assembled) (made : IsC
   complete_in mode.Gen steps out a says other = complete_run steps out a says other
   complete_in mode.Mean steps out a says other = complete_mean steps out a says other
   complete_in mode.Back steps out a says other = absurd says
+  complete_in mode.Profile steps out a says other = complete_run steps out a says other
 
 -- ---- the command's answer
 module _ (c : Command) (told : NamedTexts) (out : SinkChange) (code : Option Assembled) (steps : ℕ) where

@@ -4,6 +4,7 @@ pub mod CompleteLemmas
 pub mod MeanLemmas
 pub mod OverLemmas
 pub mod ReadLemmas
+pub mod ProfileLemmas
 pub mod RefusedLemmas
 pub mod RunLemmas
 pub mod SameLemmas

@@ -70,6 +70,7 @@ module _ (c : Command) (code : Assembled) (unit : TextUnit) (out : SinkChange) (
   no_refusal mode.Gen r h = h
   no_refusal mode.Mean r h = h
   no_refusal mode.Back r h = h
+  no_refusal mode.Profile r h = h
 
   no_usage : (m : Mode) → ModeSays m c code unit steps out Usage → ⊥
   no_usage mode.Run h = h
@@ -77,6 +78,7 @@ module _ (c : Command) (code : Assembled) (unit : TextUnit) (out : SinkChange) (
   no_usage mode.Gen h = h
   no_usage mode.Mean h = h
   no_usage mode.Back h = h
+  no_usage mode.Profile h = h
 
   no_read : (m : Mode) → ModeSays m c code unit steps out ReadFault → ⊥
   no_read mode.Run h = h
@@ -84,6 +86,7 @@ module _ (c : Command) (code : Assembled) (unit : TextUnit) (out : SinkChange) (
   no_read mode.Gen h = h
   no_read mode.Mean h = h
   no_read mode.Back h = h
+  no_read mode.Profile h = h
 
   -- a run tells no fault of texts
   pub run_reads : (m : Mode) (a : Answer) → StartSays m c code unit out steps a → TellsNoRead a

@@ -51,6 +51,7 @@ StepsOutCause mode.List c code unit = ⊥
 StepsOutCause mode.Gen c code unit = HasRun (code_run c code unit) c.steps × Lasts (length unit.nodes.nodes) c.steps (code_meaning c code unit)
 StepsOutCause mode.Mean c code unit = HasMeant (code_meaning c code unit) c.steps
 StepsOutCause mode.Back c code unit = ⊥
+StepsOutCause mode.Profile c code unit = HasRun (code_run c code unit) c.steps × Lasts (length unit.nodes.nodes) c.steps (code_meaning c code unit)
 
 -- the run of code faulted behind so many steps
 abbrev pub FaultCause : (steps : ℕ) → Command → Assembled → TextUnit → Type 0

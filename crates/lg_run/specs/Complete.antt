@@ -16,7 +16,8 @@ use Rattle.lg_node.specs.declared.unit.Unit.{Unit as TextUnit}
 use Rattle.lg_io.specs.SinkChanges.{SinkChange}
 use Rattle.lg_run.specs.Changes.{TextsChange}
 use Rattle.lg_run.specs.Refused.{ArgumentsFit, IsRefusedCall, IsTextIn, IsUnitOf, code_full}
-use Rattle.lg_run.specs.Says.{IsCodeOf, IsListingUnder, Says, code_meaning, code_run}
+use Rattle.lg_run.specs.Calls.{Says}
+use Rattle.lg_run.specs.Says.{IsCodeOf, IsListingUnder, code_meaning, code_run}
 use Rattle.lg_run.specs.declared.answer.Answer.{Answer}
 use Rattle.lg_run.specs.declared.answer.Answer.TheVariants as answer
 use Rattle.lg_run.specs.declared.answer.Done.{Done}
@@ -61,6 +62,7 @@ IsCompleteIn mode.List c code unit a = Comes a answer.Listed
 IsCompleteIn mode.Gen c code unit a = IsCompleteRun c code unit a
 IsCompleteIn mode.Mean c code unit a = IsCompleteMean c code unit a
 IsCompleteIn mode.Back c code unit a = ⊥
+IsCompleteIn mode.Profile c code unit a = IsCompleteRun c code unit a
 
 -- the command's text has this unit, which is accepted and whose code has room
 pub record IsFit (c : Command) (told : NamedTexts) (unit : TextUnit) : Type 0 where

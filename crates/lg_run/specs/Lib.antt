@@ -1,8 +1,11 @@
+pub mod Calls
 pub mod Causes
 pub mod Changes
 pub mod Complete
 pub mod Lines
 pub mod Means
+pub mod ProfileStarts
+pub mod Profiles
 pub mod Reads
 pub mod Refused
 pub mod Runs

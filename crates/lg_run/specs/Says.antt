@@ -41,6 +41,7 @@ RunsCode mode.List = ⊥
 RunsCode mode.Mean = ⊥
 RunsCode mode.Gen = ⊤
 RunsCode mode.Back = ⊥
+RunsCode mode.Profile = ⊤
 
 -- those in which code is made
 abbrev pub WantsCode : Mode → Type 0
@@ -49,6 +50,7 @@ WantsCode mode.List = ⊤
 WantsCode mode.Mean = ⊤
 WantsCode mode.Gen = ⊤
 WantsCode mode.Back = ⊥
+WantsCode mode.Profile = ⊤
 
 -- those in which a file is read
 abbrev pub ReadsFile : Mode → Type 0
@@ -57,6 +59,7 @@ ReadsFile mode.List = ⊤
 ReadsFile mode.Mean = ⊤
 ReadsFile mode.Gen = ⊥
 ReadsFile mode.Back = ⊤
+ReadsFile mode.Profile = ⊤
 
 -- to be expanded
 abbrev pub ExpandsFile : Mode → Type 0
@@ -65,6 +68,7 @@ ExpandsFile mode.List = ⊤
 ExpandsFile mode.Mean = ⊤
 ExpandsFile mode.Gen = ⊥
 ExpandsFile mode.Back = ⊥
+ExpandsFile mode.Profile = ⊤
 
 -- ---- code
 
@@ -114,6 +118,7 @@ ModeSays mode.List c code unit steps out answer = ListSays code steps out answer
 ModeSays mode.Gen c code unit steps out answer = RunSays (code_run c code unit) c.steps steps out answer
 ModeSays mode.Mean c code unit steps out answer = MeanSays unit.nodes (code_meaning c code unit) c.steps steps out answer
 ModeSays mode.Back c code unit steps out answer = ⊥
+ModeSays mode.Profile c code unit steps out answer = RunSays (code_run c code unit) c.steps steps out answer
 
 -- there is code, and it, or its meaning, ran so, or was listed so
 pub record Ran (c : Command) (held : Option NamedTexts) (code : Option Assembled) (steps : ℕ) (out : SinkChange) (answer : Answer) : Type 0 where
@@ -200,6 +205,7 @@ name_in mode.List c = c.file
 name_in mode.Mean c = c.file
 name_in mode.Gen c = codes "gen"
 name_in mode.Back c = c.file
+name_in mode.Profile c = c.file
 
 -- the lines on err: the statistics, and the line of the answer
 abbrev pub lines_of : Option Command → Option Assembled → (steps : ℕ) → Answer → List ℕ
@@ -210,10 +216,3 @@ lines_of (Some c) code steps answer = stats_of c.stats code steps answer ++ line
 abbrev pub ReportSays : (lines : List ℕ) → SinkChange → (inner outer : Answer) → Type 0
 ReportSays lines err inner outer =
     ((outer ≡ inner) × (err.faults' ≡ err.faults) × Took err lines) ⊎ ((outer ≡ WriteFault) × Rose err.faults err.faults' × TookPart err lines)
-
--- the clause of the top call
-pub record Says (words : List (List ℕ)) (texts : TextsChange) (out err : SinkChange) (done : Done) : Type 0 where
-  pub asked : Option Command
-  pub inner : Answer
-  pub says : AskedSays words asked texts out done.code done.steps inner
-  pub report : ReportSays (lines_of asked done.code done.steps inner) err inner done.answer

@@ -1,7 +1,10 @@
 //! Laws that hold of the definitions and of every call.
 
 ghost use Rattle.lg_run.specs.Complete.{Completeness};
+ghost use Rattle.lg_run.specs.Profiles.{ProfilesAddUp};
 ghost use Rattle.lg_run.specs.Refused.{ListingsAreRefusedOnce, TextsAreRefusedOnce};
+
+use lg_prof_runs::laws::{counts_add_up, spent_steps_add_up};
 
 /// Where clap takes the words, no count of faults rose and memory was had, the answer says where the run of the code that is there, or
 /// its meaning, stands after the most steps: it is the meaning's end where that comes in time, and no fault where the meaning is never
@@ -20,3 +23,12 @@ pub fn texts_are_refused_once()
 pub fn listings_are_refused_once()
     ensures { ListingsAreRefusedOnce }
 {}
+
+/// The numbers of a profile add up: those of the meaning to its steps that went or ended, of the first `--steps`, and those of the code to the steps of
+/// the run.
+pub fn profiles_add_up()
+    ensures { ProfilesAddUp }
+{
+    counts_add_up();
+    spent_steps_add_up();
+}

@@ -1,19 +1,22 @@
 // The top call.
 
-ghost use Rattle.std.specs.Prelude.{◌≡◌, [], Some};
+ghost use Rattle.std.specs.Prelude.{◌≡◌, [], ◌++◌, Some};
 ghost use Rattle.lg_base.specs.Arguments.{texts_of};
 ghost use Rattle.lg_command.specs.Commands.{shown};
 ghost use Rattle.lg_run.specs.Causes.{Causes};
-ghost use Rattle.lg_io.specs.SinkChanges.{on_sink};
+ghost use Rattle.lg_io.specs.SinkChanges.{WroteTo, on_sink};
 ghost use Rattle.lg_run.specs.Changes.{on_texts};
 ghost use Rattle.lg_run.specs.Lines.{line_of};
-ghost use Rattle.lg_run.specs.Says.{ReportSays, Says, lines_of, name_in};
+ghost use Rattle.lg_run.specs.Profiles.{table_of};
+ghost use Rattle.lg_run.specs.Calls.{Says};
+ghost use Rattle.lg_run.specs.Says.{ReportSays, lines_of, name_in};
 
 use crate::answer::{Answer, Done};
 use crate::lines::{write_line, write_lines};
+use crate::profile::{Worked, write_table};
 use crate::work::{without_code, work};
 use lg_command::{Command, Mode, WordsStop, read_words};
-use lg_io::sink::Sink;
+use lg_io::sink::{Sink, SinkFault};
 use lg_io::texts::Texts;
 use std::alloc::Global;
 
@@ -23,7 +26,7 @@ fn name_in<'a>(command: &Command<'a>) -> &'a str
 {
     match command.mode {
         Mode::Gen => "gen",
-        Mode::Run | Mode::List | Mode::Mean | Mode::Back => command.file,
+        Mode::Run | Mode::List | Mode::Mean | Mode::Back | Mode::Profile => command.file,
     }
 }
 
@@ -37,21 +40,37 @@ pub fn report_words<E: Sink>(answer: Answer, err: &mut E) -> Answer
     }
 }
 
-/// Writes the lines of what was done for a command: the statistics, where they are asked for, and the line of the answer, which a run that ended
-/// has not. Where that fails, the answer is a write fault.
-pub fn report<E: Sink>(command: &Command<'_>, done: &Done, err: &mut E) -> Answer
-    ensures { let lines = lines_of (Some (shown command.now)) done.now.code done.now.steps done.now.answer in
-        ReportSays lines (on_sink E.taken E.faults err.old err.new) done.now.answer result }
+// Writes the lines of what was done for a command: the table of a profile, the statistics, where they are asked for, and the line of the answer.
+fn write_report<E: Sink>(
+    command: &Command<'_>,
+    worked: &Worked,
+    err: &mut E,
+) -> Result<(), SinkFault>
+    ensures { let lines = lines_of (Some (shown command.now)) worked.now.done.code worked.now.done.steps worked.now.done.answer in
+        WroteTo (on_sink E.taken E.faults err.old err.new) result (table_of worked.now.tally ++ lines) }
 {
-    match write_lines(
-        command.stats,
-        name_in(command),
-        &done.code,
-        done.answer,
-        done.steps,
-        err,
-    ) {
-        Ok(()) => done.answer,
+    let done = &worked.done;
+    match write_table(&worked.tally, err) {
+        Ok(()) => write_lines(
+            command.stats,
+            name_in(command),
+            &done.code,
+            done.answer,
+            done.steps,
+            err,
+        ),
+        Err(fault) => Err(fault),
+    }
+}
+
+/// Writes the lines of what was done for a command, of which a run that ended without statistics and without a profile has none. Where that fails, the
+/// answer is a write fault.
+pub fn report<E: Sink>(command: &Command<'_>, worked: &Worked, err: &mut E) -> Answer
+    ensures { let lines = lines_of (Some (shown command.now)) worked.now.done.code worked.now.done.steps worked.now.done.answer in
+        ReportSays (table_of worked.now.tally ++ lines) (on_sink E.taken E.faults err.old err.new) worked.now.done.answer result }
+{
+    match write_report(command, worked, err) {
+        Ok(()) => worked.done.answer,
         Err(_) => Answer::WriteFault,
     }
 }
@@ -71,12 +90,12 @@ fn answer<T: Texts, O: Sink, E: Sink>(
 {
     match read_words(alloc, words) {
         Ok(command) => {
-            let done = work(alloc, &command, texts, out);
-            let answer = report(&command, &done, err);
+            let worked = work(alloc, &command, texts, out);
+            let answer = report(&command, &worked, err);
             Done {
                 answer,
-                code: done.code,
-                steps: done.steps,
+                code: worked.done.code,
+                steps: worked.done.steps,
             }
         }
         Err(WordsStop::Usage) => without_code(report_words(Answer::Usage, err)),
@@ -87,7 +106,8 @@ fn answer<T: Texts, O: Sink, E: Sink>(
 /// Reads the words of the command, and the text of its file, which it expands, or makes the generator's text (`--mode gen`); makes code of the text's unit
 /// for the command's target, and runs the code on a model of the processor, or, with `--mode mean`, the unit's portable meaning over the
 /// addresses of the code's labels, for at most so many steps as the command says; or, with `--mode list`, writes the code's listing; or, with
-/// `--mode back`, reads the file's text as a listing, and writes the bytes that it is of. What the run writes, the listing and these bytes go to `out`, and the statistics and the line of every answer but an end to `err`. All memory is taken before the first step and before
+/// `--mode back`, reads the file's text as a listing, and writes the bytes that it is of; or, with `--mode profile`, runs the code, and then the
+/// meaning, and tells how many steps of both belong to each line. What the run writes, the listing and these bytes go to `out`, and the table of a profile, the statistics and the line of every answer but an end to `err`. All memory is taken before the first step and before
 /// the first line.
 pub fn lightning<T: Texts, O: Sink, E: Sink>(
     alloc: Global,

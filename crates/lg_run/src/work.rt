@@ -1,6 +1,6 @@
 // What is done with the text that a command names.
 
-ghost use Rattle.std.specs.Prelude.{◌≡◌, ◌≤◌, Ok, Err, length, IfOk, None};
+ghost use Rattle.std.specs.Prelude.{◌≡◌, ◌≤◌, Ok, Err, length, IfOk, None, Option, false};
 ghost use Rattle.lg_base.specs.Arguments.{args_of, most_args, texts_of};
 ghost use Rattle.lg_base.specs.declared.refusal.Refusal.{Refusal};
 ghost use Rattle.lg_base.specs.declared.refusal.Stop.{Stop};
@@ -11,9 +11,12 @@ ghost use Rattle.lg_cpu.specs.Laws.{AreBytes};
 ghost use Rattle.lg_node.specs.Labels.{taken_labels};
 ghost use Rattle.lg_node.specs.Shapes.{IsChecked};
 ghost use Rattle.lg_tst.specs.Answers.{IsWhole};
+ghost use Rattle.lg_io.specs.NamedTexts.{NamedTexts};
 ghost use Rattle.lg_io.specs.SinkChanges.{on_sink};
 ghost use Rattle.lg_run.specs.Changes.{TellsWrites, TextsChange, on_texts};
 ghost use Rattle.lg_dead.specs.Rewritten.{AreFinal};
+ghost use Rattle.lg_run.specs.ProfileStarts.{RanTells, ReadTold, TextTells, UnitTells, WorkTells};
+ghost use Rattle.lg_run.specs.Profiles.{is_run_end};
 ghost use Rattle.lg_run.specs.Refused.{IsRefusedAccepted, most_text};
 ghost use Rattle.lg_run.specs.Says.{ExpandsFile, WantsCode};
 ghost use Rattle.lg_run.specs.Work.{RanSays, ReadDone, TellsNoRead, TextDone, UnitDone, WorkDone};
@@ -22,6 +25,7 @@ use crate::answer::{Answer, Done};
 use crate::back::do_back;
 use crate::listing::list_code;
 use crate::mean::run_meaning;
+use crate::profile::{Profiled, Worked, run_profile, untold, untold_run};
 use crate::reading::{Accepted, read_unit};
 use crate::run::{Ran, run};
 use crate::source::{ReadStop, read_text};
@@ -38,8 +42,8 @@ use lg_mean::portable::Portable;
 use lg_pre::expand;
 use std::alloc::Global;
 
-// What registers hold at first, and behind a call of a host function.
-const TRASH: u64 = 0x5A5A_5A5A_5A5A_5A5A;
+/// What registers hold at first, and behind a call of a host function.
+pub const TRASH: u64 = 0x5A5A_5A5A_5A5A_5A5A;
 
 /// An answer with no code, and nothing run.
 pub fn without_code(answer: Answer) -> Done
@@ -52,8 +56,8 @@ pub fn without_code(answer: Answer) -> Done
     }
 }
 
-// Nothing ran, since memory was wanted.
-fn not_run() -> Ran
+/// Nothing ran, since memory was wanted.
+pub fn not_run() -> Ran
     ensures { (result.answer ≡ Answer.OutOfMemory) × (result.steps ≡ 0) }
 {
     Ran {
@@ -66,6 +70,7 @@ fn not_run() -> Ran
 pub fn stopped(stop: Stop) -> Answer
     ensures refused { (r : Refusal) → stop ≡ Stop.Refused r → result ≡ Answer.Refused r }
     ensures memory { stop ≡ Stop.OutOfMemory → result ≡ Answer.OutOfMemory }
+    ensures end { is_run_end result ≡ false }
 {
     match stop {
         Stop::Refused(refusal) => Answer::Refused(refusal),
@@ -160,24 +165,28 @@ fn run_mode<O: Sink>(
     text: &Accepted,
     code: &Code,
     out: &mut O,
-) -> Ran
+) -> Profiled
     requires range { IsInRange command.now }
     requires args { args.now ≡ args_of (texts_of command.now.arguments.items) }
     requires args_size { length args.now ≤ most_args }
     requires whole { IsWhole text.now.unit }
     requires checked { IsChecked text.now.unit.nodes (Ok text.now.shape) }
     requires target { code.now.target ≡ command.now.target }
+    requires rewritten { AreFinal text.now.unit.nodes code.now.nodes code.now.shape code.now.origin }
     requires size { length code.now.bytes ≤ command.now.size }
     requires agrees { Agrees code.now.bytes code.now.labels text.now.unit command.now.target }
     requires wanted { WantsCode command.now.mode }
-    ensures says { RanSays command.now.mode (shown command.now) code.now text.now.unit (on_sink O.taken O.faults out.old out.new) result }
-    ensures writes { TellsWrites result.answer (on_sink O.taken O.faults out.old out.new) }
+    ensures says { RanSays command.now.mode (shown command.now) code.now text.now.unit (on_sink O.taken O.faults out.old out.new) result.ran }
+    ensures writes { TellsWrites result.ran.answer (on_sink O.taken O.faults out.old out.new) }
+    ensures told { RanTells (shown command.now) code.now text.now.unit result }
 {
     match command.mode {
-        Mode::Run | Mode::Gen => run_code(alloc, command, args, text, code, out),
-        Mode::List => list_code(command, text, code, out),
-        Mode::Mean => run_mean(alloc, command, args, text, code, out),
+        Mode::Run => untold_run(run_code(alloc, command, args, text, code, out)),
+        Mode::Gen => untold_run(run_code(alloc, command, args, text, code, out)),
+        Mode::List => untold_run(list_code(command, text, code, out)),
+        Mode::Mean => untold_run(run_mean(alloc, command, args, text, code, out)),
         Mode::Back => unreachable!(),
+        Mode::Profile => run_profile(alloc, command, args, text, code, out),
     }
 }
 
@@ -195,28 +204,32 @@ fn do_unit<O: Sink>(
     args: &ArgImage,
     text: &Accepted,
     out: &mut O,
-) -> Done
+) -> Worked
     requires range { IsInRange command.now }
     requires args { args.now ≡ args_of (texts_of command.now.arguments.items) }
     requires args_size { length args.now ≤ most_args }
     requires whole { IsWhole text.now.unit }
     requires checked { IsChecked text.now.unit.nodes (Ok text.now.shape) }
     requires wanted { WantsCode command.now.mode }
-    ensures says { UnitDone (shown command.now) text.now.unit (on_sink O.taken O.faults out.old out.new) result }
-    ensures writes { TellsWrites result.answer (on_sink O.taken O.faults out.old out.new) }
-    ensures reads { TellsNoRead result.answer }
+    ensures says { UnitDone (shown command.now) text.now.unit (on_sink O.taken O.faults out.old out.new) result.done }
+    ensures told { UnitTells (shown command.now) text.now.unit result }
+    ensures writes { TellsWrites result.done.answer (on_sink O.taken O.faults out.old out.new) }
+    ensures reads { TellsNoRead result.done.answer }
 {
     see_bytes(args.as_slice());
     match code_of(alloc, command, text) {
         Ok(code) => {
-            let ran = run_mode(alloc, command, args, text, &code, out);
-            Done {
-                answer: ran.answer,
-                code: Some(code),
-                steps: ran.steps,
+            let profiled = run_mode(alloc, command, args, text, &code, out);
+            Worked {
+                done: Done {
+                    answer: profiled.ran.answer,
+                    code: Some(code),
+                    steps: profiled.ran.steps,
+                },
+                tally: profiled.tally,
             }
         }
-        Err(stop) => without_code(stopped(stop)),
+        Err(stop) => untold(without_code(stopped(stop))),
     }
 }
 
@@ -227,19 +240,20 @@ fn do_text<O: Sink>(
     args: &ArgImage,
     text: &[u8],
     out: &mut O,
-) -> Done
+) -> Worked
     requires range { IsInRange command.now }
     requires args { args.now ≡ args_of (texts_of command.now.arguments.items) }
     requires args_size { length args.now ≤ most_args }
     requires short { length text.now ≤ most_text }
     requires wanted { WantsCode command.now.mode }
-    ensures says { TextDone (shown command.now) text.now (on_sink O.taken O.faults out.old out.new) result }
-    ensures writes { TellsWrites result.answer (on_sink O.taken O.faults out.old out.new) }
-    ensures reads { TellsNoRead result.answer }
+    ensures says { TextDone (shown command.now) text.now (on_sink O.taken O.faults out.old out.new) result.done }
+    ensures told { TextTells (shown command.now) text.now result }
+    ensures writes { TellsWrites result.done.answer (on_sink O.taken O.faults out.old out.new) }
+    ensures reads { TellsNoRead result.done.answer }
 {
     match read_unit(alloc, text) {
         Ok(text) => do_unit(alloc, command, args, &text, out),
-        Err(stop) => without_code(stopped(stop)),
+        Err(stop) => untold(without_code(stopped(stop))),
     }
 }
 
@@ -250,19 +264,20 @@ fn do_read<O: Sink>(
     args: &ArgImage,
     read: &[u8],
     out: &mut O,
-) -> Done
+) -> Worked
     requires file { ExpandsFile command.now.mode }
     requires range { IsInRange command.now }
     requires args { args.now ≡ args_of (texts_of command.now.arguments.items) }
     requires args_size { length args.now ≤ most_args }
     requires short { length read.now ≤ most_text }
-    ensures says { ReadDone (shown command.now) read.now (on_sink O.taken O.faults out.old out.new) result }
-    ensures writes { TellsWrites result.answer (on_sink O.taken O.faults out.old out.new) }
-    ensures reads { TellsNoRead result.answer }
+    ensures says { ReadDone (shown command.now) read.now (on_sink O.taken O.faults out.old out.new) result.done }
+    ensures told { ReadTold (shown command.now) read.now result }
+    ensures writes { TellsWrites result.done.answer (on_sink O.taken O.faults out.old out.new) }
+    ensures reads { TellsNoRead result.done.answer }
 {
     match expand(alloc, read) {
         Ok(text) => do_text(alloc, command, args, text.as_bytes(), out),
-        Err(stop) => without_code(stopped(stop)),
+        Err(stop) => untold(without_code(stopped(stop))),
     }
 }
 
@@ -273,32 +288,36 @@ fn do_file<T: Texts, O: Sink>(
     args: &ArgImage,
     texts: &mut T,
     out: &mut O,
-) -> Done
+) -> Worked
     requires file { ExpandsFile command.now.mode }
     requires range { IsInRange command.now }
     requires args { args.now ≡ args_of (texts_of command.now.arguments.items) }
     requires args_size { length args.now ≤ most_args }
-    ensures { WorkDone (shown command.now) (on_texts T.held T.faults texts.old texts.new) (on_sink O.taken O.faults out.old out.new) result }
+    ensures says { WorkDone (shown command.now) (on_texts T.held T.faults texts.old texts.new) (on_sink O.taken O.faults out.old out.new) result.done }
+    ensures told { WorkTells (shown command.now) (T.held texts.old) result }
 {
     match read_text(alloc, command.file, texts) {
         Ok(read) => do_read(alloc, command, args, &read, out),
-        Err(ReadStop::ReadFault) => without_code(Answer::ReadFault),
-        Err(ReadStop::TooLong) => without_code(Answer::Refused(refusal(RefusalKind::TextTooLong))),
-        Err(ReadStop::OutOfMemory) => without_code(Answer::OutOfMemory),
+        Err(ReadStop::ReadFault) => untold(without_code(Answer::ReadFault)),
+        Err(ReadStop::TooLong) => untold(without_code(Answer::Refused(refusal(
+            RefusalKind::TextTooLong,
+        )))),
+        Err(ReadStop::OutOfMemory) => untold(without_code(Answer::OutOfMemory)),
     }
 }
 
 // Makes the generator's text, and does what is asked for.
-fn do_made<O: Sink>(alloc: Global, command: &Command<'_>, args: &ArgImage, out: &mut O) -> Done
+fn do_made<O: Sink>(alloc: Global, command: &Command<'_>, args: &ArgImage, out: &mut O) -> Worked
     requires made { command.now.mode ≡ modes.Gen }
     requires range { IsInRange command.now }
     requires args { args.now ≡ args_of (texts_of command.now.arguments.items) }
     requires args_size { length args.now ≤ most_args }
-    ensures { (t : TextsChange) → t.faults' ≡ t.faults → WorkDone (shown command.now) t (on_sink O.taken O.faults out.old out.new) result }
+    ensures says { (t : TextsChange) → t.faults' ≡ t.faults → WorkDone (shown command.now) t (on_sink O.taken O.faults out.old out.new) result.done }
+    ensures told { (held : Option NamedTexts) → WorkTells (shown command.now) held result }
 {
     match made(alloc, command.seed) {
         Ok(text) => do_text(alloc, command, args, text.as_slice(), out),
-        Err(_) => without_code(Answer::OutOfMemory),
+        Err(_) => untold(without_code(Answer::OutOfMemory)),
     }
 }
 
@@ -308,17 +327,20 @@ pub fn work<T: Texts, O: Sink>(
     command: &Command<'_>,
     texts: &mut T,
     out: &mut O,
-) -> Done
+) -> Worked
     requires { IsInRange command.now }
-    ensures { WorkDone (shown command.now) (on_texts T.held T.faults texts.old texts.new) (on_sink O.taken O.faults out.old out.new) result }
+    ensures says { WorkDone (shown command.now) (on_texts T.held T.faults texts.old texts.new) (on_sink O.taken O.faults out.old out.new) result.done }
+    ensures told { WorkTells (shown command.now) (T.held texts.old) result }
 {
     let args = match args_image(alloc, &command.arguments) {
         Ok(args) => args,
-        Err(stop) => return without_code(stopped(stop)),
+        Err(stop) => return untold(without_code(stopped(stop))),
     };
     match command.mode {
         Mode::Gen => do_made(alloc, command, &args, out),
-        Mode::Back => do_back(alloc, command, texts, out),
-        Mode::Run | Mode::List | Mode::Mean => do_file(alloc, command, &args, texts, out),
+        Mode::Back => untold(do_back(alloc, command, texts, out)),
+        Mode::Run | Mode::List | Mode::Mean | Mode::Profile => do_file(
+            alloc, command, &args, texts, out,
+        ),
     }
 }

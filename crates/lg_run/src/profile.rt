@@ -1,0 +1,240 @@
+// The profile of a run.
+
+ghost use Rattle.std.specs.Prelude.{◌≡◌, ◌<◌, ◌≤◌, ◌-◌, ◌^◌, ℕ, Ok, Some, None, length, slice_get, IfOk};
+ghost use Rattle.lg_base.specs.Arguments.{args_of, most_args, texts_of};
+ghost use Rattle.lg_carry.specs.Agreement.{Agrees};
+ghost use Rattle.lg_command.specs.Commands.{IsInRange, shown as shown_command};
+ghost use Rattle.lg_command.specs.declared.command.Mode.TheVariants as modes;
+ghost use Rattle.lg_cpu.specs.Machines.{shown, shown_at_start};
+ghost use Rattle.lg_cpu.specs.Series.{run_from};
+ghost use Rattle.lg_cpu.specs.declared.answer.CpuStep.{CpuStep};
+ghost use Rattle.lg_dead.specs.Rewritten.{AreFinal};
+ghost use Rattle.lg_io.specs.SinkChanges.{WroteTo, on_sink};
+ghost use Rattle.lg_node.specs.Shapes.{IsChecked};
+ghost use Rattle.lg_prof.specs.Places.{AreLines};
+ghost use Rattle.lg_prof.specs.Tallies.{ran_at, spent_at};
+ghost use Rattle.lg_prof_runs.specs.Spent.{spent, table_line};
+ghost use Rattle.lg_run.specs.Changes.{TellsWrites};
+ghost use Rattle.lg_run.specs.ProfileStarts.{IsStartOf, RanTells, StandsAtStart, TalliesFor};
+ghost use Rattle.lg_run.specs.Profiles.{is_run_end, table_of};
+ghost use Rattle.lg_run.specs.Runs.{RunSays};
+ghost use Rattle.lg_run.specs.Work.{RanSays};
+ghost use Rattle.lg_tst.specs.Answers.{IsWhole};
+
+use crate::answer::{Answer, Done};
+use crate::reading::Accepted;
+use crate::run::Ran;
+use crate::work::{TRASH, not_run};
+use lg_asm::Code;
+use lg_base::image::ArgImage;
+use lg_base::refusal::OutOfMemory;
+use lg_command::Command;
+use lg_cpu::answer::CpuStep;
+use lg_cpu::cpu::Cpu;
+use lg_io::sink::{Sink, SinkFault};
+use lg_mean::portable::Portable;
+use lg_prof::{LineTable, Tally};
+use lg_prof_runs::code::run_counted;
+use lg_prof_runs::laws::tables_have_the_lines;
+use lg_prof_runs::meaning::count_meaning;
+use std::alloc::Global;
+
+/// What ran, and the numbers of the lines, where they are told.
+#[derive(Drop)]
+pub struct Profiled {
+    pub ran: Ran,
+    pub tally: Option<Tally>,
+}
+
+/// What was done, and the numbers of the lines, where they are told.
+#[derive(Drop)]
+pub struct Worked {
+    pub done: Done,
+    pub tally: Option<Tally>,
+}
+
+/// What ran, with no numbers.
+pub fn untold_run(ran: Ran) -> Profiled
+    ensures { (result.ran ≡ ran) × (result.tally ≡ None) }
+{
+    Profiled { ran, tally: None }
+}
+
+/// What was done, with no numbers.
+pub fn untold(done: Done) -> Worked
+    ensures { (result.done ≡ done) × (result.tally ≡ None) }
+{
+    Worked { done, tally: None }
+}
+
+/// Writes the numbers of the lines, where there are some.
+pub fn write_table<E: Sink>(tally: &Option<Tally>, err: &mut E) -> Result<(), SinkFault>
+    ensures { WroteTo (on_sink E.taken E.faults err.old err.new) result (table_of tally.now) }
+{
+    match tally {
+        Some(tally) => tally.write(err),
+        None => Ok(()),
+    }
+}
+
+// Whether an answer is one that a run comes to, but a write fault.
+fn is_run_end(answer: Answer) -> bool
+    ensures { result ≡ is_run_end answer }
+{
+    matches!(
+        answer,
+        Answer::Ended(_) | Answer::StepsOut | Answer::Fault { .. }
+    )
+}
+
+// The lines of the code of a text.
+fn line_table(alloc: Global, code: &Code) -> Result<LineTable, OutOfMemory>
+    ensures { IfOk result (λ l. AreLines code.now.nodes.nodes code.now.places l) }
+{
+    let _ = code.target();
+    LineTable::new(alloc, code.nodes(), code.places())
+}
+
+// Runs a processor before its first step, and counts its steps for the lines of the code.
+fn run_by_lines<O: Sink>(
+    cpu: &mut Cpu,
+    lines: &LineTable,
+    tally: &mut Tally,
+    most: u64,
+    out: &mut O,
+) -> Ran
+    requires going { (shown cpu.old).answer ≡ CpuStep.Went }
+    requires first { (shown cpu.old).steps ≡ 0 }
+    requires most { most < 2 ^ 64 - 1 }
+    requires some { 0 < length tally.old }
+    requires lines { (place line : ℕ) → slice_get lines.now place ≡ Some line → line < length tally.old }
+    requires none { (line : ℕ) → spent_at tally.old line ≡ 0 }
+    ensures says { RunSays (run_from (shown cpu.old)) most result.steps (on_sink O.taken O.faults out.old out.new) result.answer }
+    ensures writes { TellsWrites result.answer (on_sink O.taken O.faults out.old out.new) }
+    ensures spent { (line : ℕ) → spent_at tally.new line ≡ spent (table_line lines.now) (run_from (shown cpu.old)) line result.steps }
+    ensures ran { (line : ℕ) → ran_at tally.new line ≡ ran_at tally.old line }
+    ensures kept { length tally.new ≡ length tally.old }
+{
+    match run_counted(cpu, lines, tally, most, out) {
+        CpuStep::Went => Ran {
+            answer: Answer::StepsOut,
+            steps: cpu.steps(),
+        },
+        CpuStep::Ended(status) => Ran {
+            answer: Answer::Ended(status),
+            steps: cpu.steps(),
+        },
+        CpuStep::Fault(kind) => Ran {
+            answer: Answer::Fault { kind, pc: cpu.pc() },
+            steps: cpu.steps(),
+        },
+        CpuStep::WriteFault => Ran {
+            answer: Answer::WriteFault,
+            steps: cpu.steps(),
+        },
+    }
+}
+
+/// What a profile takes before the first step: the lines of the code, the numbers, the processor, and the portable machine.
+#[derive(Drop)]
+pub struct Start {
+    lines: LineTable,
+    tally: Tally,
+    cpu: Cpu,
+    machine: Portable,
+}
+
+// Takes the memory of a profile.
+fn begin(
+    alloc: Global,
+    command: &Command<'_>,
+    args: &ArgImage,
+    text: &Accepted,
+    code: &Code,
+) -> Result<Start, OutOfMemory>
+    requires range { IsInRange command.now }
+    requires args_size { length args.now ≤ most_args }
+    requires whole { IsWhole text.now.unit }
+    requires checked { IsChecked text.now.unit.nodes (Ok text.now.shape) }
+    requires size { length code.now.bytes ≤ command.now.size }
+    requires agrees { Agrees code.now.bytes code.now.labels text.now.unit command.now.target }
+    ensures { IfOk result (IsStartOf text.now.unit text.now.shape code.now args.now) }
+{
+    let _ = text.unit.nodes.labels();
+    let lines = line_table(alloc, code)?;
+    let tally = Tally::new(alloc, &text.unit.nodes)?;
+    let cpu = Cpu::new(
+        alloc,
+        code.target(),
+        code.bytes(),
+        &text.unit.image,
+        args,
+        TRASH,
+    )?;
+    let machine = Portable::new(alloc, &text.unit, &text.shape, code.labels(), args)?;
+    Ok(Start {
+        lines,
+        tally,
+        cpu,
+        machine,
+    })
+}
+
+// Runs the code, and then, where its run came to an end, the meaning for the numbers of the lines.
+fn run_start<O: Sink>(start: Start, most: u64, text: &Accepted, out: &mut O) -> Profiled
+    requires going { (shown start.cpu).answer ≡ CpuStep.Went }
+    requires first { (shown start.cpu).steps ≡ 0 }
+    requires most { most < 2 ^ 64 - 1 }
+    requires machine { StandsAtStart text.now.unit text.now.shape start }
+    requires lines { (place line : ℕ) → slice_get start.lines place ≡ Some line → line < length start.tally }
+    ensures says { RunSays (run_from (shown start.cpu)) most result.ran.steps (on_sink O.taken O.faults out.old out.new) result.ran.answer }
+    ensures writes { TellsWrites result.ran.answer (on_sink O.taken O.faults out.old out.new) }
+    ensures told { TalliesFor (is_run_end result.ran.answer) text.now.unit text.now.shape start most result.ran.steps result.tally }
+{
+    let Start {
+        lines,
+        mut tally,
+        mut cpu,
+        mut machine,
+    } = start;
+    let ran = run_by_lines(&mut cpu, &lines, &mut tally, most, out);
+    if !is_run_end(ran.answer) {
+        return untold_run(ran);
+    }
+    count_meaning(&mut machine, &text.unit, &text.shape, most, &mut tally);
+    Profiled {
+        ran,
+        tally: Some(tally),
+    }
+}
+
+/// Runs code as `run` does, and tells how many of its steps, and of those of its meaning over the addresses of the code's labels, belong to each line.
+pub fn run_profile<O: Sink>(
+    alloc: Global,
+    command: &Command<'_>,
+    args: &ArgImage,
+    text: &Accepted,
+    code: &Code,
+    out: &mut O,
+) -> Profiled
+    requires profile { command.now.mode ≡ modes.Profile }
+    requires range { IsInRange command.now }
+    requires args { args.now ≡ args_of (texts_of command.now.arguments.items) }
+    requires args_size { length args.now ≤ most_args }
+    requires whole { IsWhole text.now.unit }
+    requires checked { IsChecked text.now.unit.nodes (Ok text.now.shape) }
+    requires target { code.now.target ≡ command.now.target }
+    requires rewritten { AreFinal text.now.unit.nodes code.now.nodes code.now.shape code.now.origin }
+    requires size { length code.now.bytes ≤ command.now.size }
+    requires agrees { Agrees code.now.bytes code.now.labels text.now.unit command.now.target }
+    ensures says { RanSays modes.Profile (shown_command command.now) code.now text.now.unit (on_sink O.taken O.faults out.old out.new) result.ran }
+    ensures writes { TellsWrites result.ran.answer (on_sink O.taken O.faults out.old out.new) }
+    ensures told { RanTells (shown_command command.now) code.now text.now.unit result }
+{
+    tables_have_the_lines();
+    let _ = code.target();
+    match begin(alloc, command, args, text, code) {
+        Ok(start) => run_start(start, command.steps, text, out),
+        Err(_) => untold_run(not_run()),
+    }
+}
