@@ -53,8 +53,8 @@ pub struct Worked {
     pub tally: Option<Tally>,
 }
 
-/// What ran, with no numbers.
-pub fn untold_run(ran: Ran) -> Profiled
+// What ran, with no numbers.
+fn untold_run(ran: Ran) -> Profiled
     ensures { (result.ran ≡ ran) × (result.tally ≡ None) }
 {
     Profiled { ran, tally: None }

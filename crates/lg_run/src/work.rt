@@ -25,7 +25,7 @@ use crate::answer::{Answer, Done};
 use crate::back::do_back;
 use crate::listing::list_code;
 use crate::mean::run_meaning;
-use crate::profile::{Profiled, Worked, run_profile, untold, untold_run};
+use crate::profile::{Profiled, Worked, run_profile, untold};
 use crate::reading::{Accepted, read_unit};
 use crate::run::{Ran, run};
 use crate::source::{ReadStop, read_text};
@@ -181,10 +181,18 @@ fn run_mode<O: Sink>(
     ensures told { RanTells (shown command.now) code.now text.now.unit result }
 {
     match command.mode {
-        Mode::Run => untold_run(run_code(alloc, command, args, text, code, out)),
-        Mode::Gen => untold_run(run_code(alloc, command, args, text, code, out)),
-        Mode::List => untold_run(list_code(command, text, code, out)),
-        Mode::Mean => untold_run(run_mean(alloc, command, args, text, code, out)),
+        Mode::Run | Mode::Gen => Profiled {
+            ran: run_code(alloc, command, args, text, code, out),
+            tally: None,
+        },
+        Mode::List => Profiled {
+            ran: list_code(command, text, code, out),
+            tally: None,
+        },
+        Mode::Mean => Profiled {
+            ran: run_mean(alloc, command, args, text, code, out),
+            tally: None,
+        },
         Mode::Back => unreachable!(),
         Mode::Profile => run_profile(alloc, command, args, text, code, out),
     }

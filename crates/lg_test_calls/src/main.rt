@@ -1,6 +1,7 @@
 // What calls of the program come to. Each part has a folder of `data` with its cases: `code` compares the code of texts with their meaning, `cases` has
-// texts with what they write and how they end, `reaches` how long code is that leads to labels, `examples` the texts of the folder `examples`, `modes` statistics,
-// listings and the generator's texts, `any_text` takes any bytes for a text, and `back` reads listings back; `edges` has what stands in no table. `targets.txt` has a target a line.
+// texts with what they write and how they end, `reaches` how long code is that leads to labels, `examples` the texts of the folder `examples`, which the mode `profile`
+// runs too, `modes` statistics, listings and the generator's texts, `any_text` takes any bytes for a text, and `back` reads listings back; `edges` has what stands in no
+// table. `targets.txt` has a target a line.
 // Prints what each part found.
 // The status is 0 exactly where the code of all cases agrees with their meaning.
 #![tactic(auto)]
@@ -19,6 +20,7 @@ mod examples;
 mod form;
 mod modes;
 mod outcome;
+mod profiles;
 mod reaches;
 mod texts;
 
@@ -29,6 +31,7 @@ use code::compare_families;
 use edges::try_edges;
 use examples::run_examples;
 use modes::make_calls;
+use profiles::profile_examples;
 use reaches::measure_rows;
 use std::process::ExitCode;
 use std::{fs, io};
@@ -47,6 +50,7 @@ fn main(rt: HostRuntime) -> io::Result<ExitCode> {
     measure_rows(&rt)?;
     try_edges(&rt)?;
     run_examples(&rt, targets.as_str())?;
+    profile_examples(&rt, targets.as_str())?;
     make_calls(&rt, targets.as_str())?;
     change_texts(&rt)?;
     read_listings(&rt, targets.as_str())?;
