@@ -1,5 +1,5 @@
 -- The causes of answers, from what a call says.
-use Rattle.std.proofs.Common.{◌≡◌, ℕ, ◌<◌, inl, inr, List, ◌++◌, Option, Some, None, refl, sym, ◌∙◌, subst, arith}
+use Rattle.std.proofs.Common.{◌≡◌, ℕ, ◌<◌, true, inl, inr, List, ◌++◌, Option, Some, None, refl, sym, ◌∙◌, subst, arith}
 use Rattle.std.specs.Prelude.{◌⊎◌}
 use Rattle.lg_asm.specs.Assembled.{Assembled}
 use Rattle.lg_base.specs.declared.fault.FaultKind.{FaultKind}
@@ -8,6 +8,7 @@ use Rattle.lg_command.specs.Commands.{AreNoCommand, Command, HasFault, IsCommand
 use Rattle.lg_command.specs.declared.command.Mode.{Mode}
 use Rattle.lg_command.specs.declared.command.Mode.TheVariants as mode
 use Rattle.lg_run.specs.Causes.{Causes, FaultCause, HasBack, HasCode, StepsOutCause, UndefinedCause}
+use Rattle.lg_io.specs.NamedTexts.{IsHeld}
 use Rattle.lg_io.specs.SinkChanges.{SinkChange, Took}
 use Rattle.lg_run.specs.Changes.{TextsChange, TellsReads, TellsWrites}
 use Rattle.lg_run.specs.Refused.{IsRefusedCall}
@@ -53,6 +54,23 @@ module _ (words : List (List ℕ)) (texts : TextsChange) (out : SinkChange) (cod
   writes_of : (asked : Option Command) (a : Answer) → AskedSays words asked texts out code steps a → TellsWrites a out
   writes_of None a h = h.2.writes
   writes_of (Some c) a h = h.1.faults.writes
+
+  no_command_reads : (a : Answer) → NoCommandSays words a → TellsReads a texts → texts.faults' ≡ texts.faults
+  no_command_reads Usage h reads = reads
+  no_command_reads OutOfMemory h reads = reads
+  no_command_reads (Ended s) h reads = reads
+  no_command_reads Listed h reads = reads
+  no_command_reads (Undefined line) h reads = reads
+  no_command_reads (Refused r) h reads = reads
+  no_command_reads ReadFault h reads = absurd h
+  no_command_reads WriteFault h reads = reads
+  no_command_reads StepsOut h reads = reads
+  no_command_reads (Fault kind pc) h reads = reads
+
+  surely_of : (asked : Option Command) (a : Answer) → AskedSays words asked texts out code steps a → texts.sure ≡ true → ((c : Command) → IsCommand words c → IsHeld texts.held c.file)
+      → texts.faults' ≡ texts.faults
+  surely_of None a h sure held = no_command_reads a h.1 h.2.reads
+  surely_of (Some c) a h sure held = h.1.sure sure (held c h.0)
 
   usage_of : (asked : Option Command) → AskedSays words asked texts out code steps Usage → AreNoCommand words × IsUntouched code steps out
   usage_of None h = (h.1, h.0)
@@ -177,6 +195,7 @@ causes words texts out err done s = record {
     | inl h ↦ inl (h.0 ∙ inner)
     | inr h ↦ inr (h.0, h.1)
   ];
+  sure_reads = λ sure held. surely_of words texts out done.code done.steps s.asked s.inner s.says sure held;
   out_told = λ lt. let inner = write_inner s.inner out (writes_of words texts out done.code done.steps s.asked s.inner s.says) lt in elim s.report [
     | inl h ↦ h.0 ∙ inner
     | inr h ↦ h.0

@@ -1,5 +1,5 @@
 -- Which answer comes, where no count rose.
-use Rattle.std.proofs.Common.{◌≡◌, ℕ, ◌+◌, ◌*◌, ◌≤◌, true, false, inl, inr, List, Option, Some, None, IsSome, refl, sym, ap, ◌∙◌, subst, arith}
+use Rattle.std.proofs.Common.{◌≡◌, ℕ, ◌+◌, ◌*◌, ◌-◌, ◌^◌, ◌<◌, ◌≤◌, true, false, inl, inr, List, Option, Some, None, IsSome, refl, sym, ap, ◌∙◌, subst, arith}
 use Rattle.std.specs.Prelude.{◌⊎◌}
 use Rattle.lg_asm.specs.Assembled.{Assembled}
 use Rattle.lg_base.specs.Runs.{Status, Running, Bad}
@@ -15,11 +15,12 @@ use Rattle.lg_tst.specs.Units.{unit_of}
 use Rattle.lg_io.specs.SinkChanges.{SinkChange}
 use Rattle.lg_run.specs.Changes.{TellsReads, TellsWrites, TextsChange}
 use Rattle.lg_run.specs.Refused.{IsTextIn}
-use Rattle.lg_run.specs.Complete.{AnswersCode, AnswersCommand, AnswersMeaning, AnswersRun, Comes, Completeness, IsCompleteIn, IsCompleteMean, IsCompleteRun, IsFit}
+use Rattle.lg_run.specs.Complete.{AnswersCode, AnswersCommand, AnswersMeaning, AnswersRun, Comes, Completeness, SureCompleteness, IsCompleteIn, IsCompleteMean, IsCompleteRun, IsFit}
 use Rattle.lg_run.specs.Runs.{HasMeant, MeanSays, RunSays}
 use Rattle.lg_run.specs.Says.{AnswerSays, AskedSays, CodeSays, IsCodeOf, ListSays, ModeSays, NoCommandSays, Ran, TellsFaults, WroteBack, code_meaning, code_run}
 use Rattle.lg_run.specs.declared.answer.Answer.{Answer}
 use Rattle.lg_run.specs.declared.answer.Answer.TheVariants.{Ended, Listed, Undefined, Refused, Usage, ReadFault, WriteFault, StepsOut, Fault, OutOfMemory}
+use Rattle.lg_run.proofs.CauseLemmas.{causes}
 use Rattle.lg_run.proofs.AgreementLemmas.{ends_in_time, meant_later, run_later, undefined_at}
 use Rattle.lg_run.proofs.OverLemmas.{bad_running, ended_running}
 use Rattle.lg_run.proofs.RefusedLemmas.{back_no_text, call_for_room, call_once, call_stays, text_same}
@@ -307,3 +308,12 @@ complete words texts out err done s none takes = elim s.report [
   | inl h ↦ subst (Answered words texts done.code) (sym h.0) (asked_complete words texts out done.code done.steps s.inner s.asked none.reads none.writes takes s.says)
   | inr h ↦ absurd (none.errs h.1)
 ]
+
+-- a count that stays did not rise
+stayed : (before now : ℕ) → before < 2 ^ 64 - 1 → now ≡ before → Rose before now → ⊥
+stayed before now room same rose = omega (arith, room, same, rose)
+
+pub sure-complete : SureCompleteness
+sure-complete words texts out err done s trusted writes errs takes =
+    let same = (causes words texts out err done s).sure_reads trusted.sure trusted.holds in
+    complete words texts out err done s (record { reads = stayed texts.faults texts.faults' trusted.room same; writes = writes; errs = errs }) takes

@@ -1,5 +1,5 @@
 -- The causes of answers: an answer comes only where its row says so.
-use Rattle.std.specs.Prelude.{◌≡◌, ◌⊎◌, ℕ, ◌+◌, ◌*◌, ◌/◌, ◌<◌, ◌≤◌, List, length, Option, Some, None}
+use Rattle.std.specs.Prelude.{◌≡◌, ◌⊎◌, ℕ, ◌+◌, ◌*◌, ◌/◌, ◌<◌, ◌≤◌, true, List, length, Option, Some, None}
 use Rattle.lg_asm.specs.Assembled.{Assembled}
 use Rattle.lg_base.specs.Runs.{Bad}
 use Rattle.lg_base.specs.declared.fault.FaultKind.{FaultKind}
@@ -8,7 +8,7 @@ use Rattle.lg_command.specs.Commands.{AreNoCommand, Command, HasFault, IsCommand
 use Rattle.lg_command.specs.declared.command.Mode.{Mode}
 use Rattle.lg_command.specs.declared.command.Mode.TheVariants as mode
 use Rattle.lg_io.specs.Counts.{Rose}
-use Rattle.lg_io.specs.NamedTexts.{NamedTexts}
+use Rattle.lg_io.specs.NamedTexts.{IsHeld, NamedTexts}
 use Rattle.lg_meaning.specs.Means as means
 use Rattle.lg_meaning.specs.Texts.{line_at}
 use Rattle.lg_node.specs.declared.unit.Unit.{Unit as TextUnit}
@@ -74,6 +74,8 @@ pub record Causes (words : List (List ℕ)) (texts : TextsChange) (out err : Sin
   pub read_fault : done.answer ≡ ReadFault → Rose texts.faults texts.faults' × ((c : Command) × IsCommand words c × ReadsFile c.mode)
   pub write_fault : done.answer ≡ WriteFault → Rose out.faults out.faults' ⊎ Rose err.faults err.faults'
   pub read_told : texts.faults < texts.faults' → (done.answer ≡ ReadFault) ⊎ ((done.answer ≡ WriteFault) × Rose err.faults err.faults')
+  -- and none is brought about: of a sure source that holds the file that the words ask for no call failed
+  pub sure_reads : texts.sure ≡ true → ((c : Command) → IsCommand words c → IsHeld texts.held c.file) → texts.faults' ≡ texts.faults
   pub out_told : out.faults < out.faults' → done.answer ≡ WriteFault
   pub err_told : err.faults < err.faults' → done.answer ≡ WriteFault
   -- a listing is told only where it is asked for, and all of it was written, or where the text is one, and all its bytes were written

@@ -1,5 +1,5 @@
 -- Which answer comes, where no count rose and memory was had.
-use Rattle.std.specs.Prelude.{◌≡◌, ◌≢◌, ◌<◌, ◌≤◌, ◌+◌, ◌*◌, ◌⊎◌, ℕ, List, length, Option, Some, IsSome}
+use Rattle.std.specs.Prelude.{◌≡◌, ◌≢◌, ◌<◌, ◌≤◌, ◌+◌, ◌*◌, ◌-◌, ◌^◌, ◌⊎◌, ℕ, true, List, length, Option, Some, IsSome}
 use Rattle.lg_asm.specs.Assembled.{Assembled}
 use Rattle.lg_base.specs.Arguments.{args_of, args_too_long, most_args}
 use Rattle.lg_base.specs.Runs.{Status, Running, Ended, Bad}
@@ -10,7 +10,7 @@ use Rattle.lg_command.specs.declared.command.Mode.{Mode}
 use Rattle.lg_command.specs.declared.command.Mode.TheVariants as mode
 use Rattle.lg_cpu.specs.Steps.{Progress, Goes, EndedWith, Faulted}
 use Rattle.lg_io.specs.Counts.{Rose}
-use Rattle.lg_io.specs.NamedTexts.{NamedTexts}
+use Rattle.lg_io.specs.NamedTexts.{IsHeld, NamedTexts}
 use Rattle.lg_node.specs.Checks.{IsAccepted}
 use Rattle.lg_node.specs.declared.unit.Unit.{Unit as TextUnit}
 use Rattle.lg_io.specs.SinkChanges.{SinkChange}
@@ -88,9 +88,25 @@ pub record AnswersCommand (c : Command) (told : NamedTexts) (code : Option Assem
   -- a listing is read back
   pub reads : (bytes : List ℕ) → c.mode ≡ mode.Back → ArgumentsFit c → IsListingUnder c (Some told) bytes → Comes a answer.Listed
 
+-- what is answered to words that ask for a command: it, or want of memory
+abbrev pub IsAnswered : List (List ℕ) → Option NamedTexts → Done → Type 0
+IsAnswered words held done =
+    (done.answer ≡ answer.OutOfMemory) ⊎ ((c : Command) × IsCommand words c × AnswersCode c held done.code done.answer
+    × ((told : NamedTexts) → held ≡ Some told → AnswersCommand c told done.code done.answer))
+
 abbrev pub Completeness : Type 0
 Completeness =
     (words : List (List ℕ)) (texts : TextsChange) (out err : SinkChange) (done : Done)
-    → Says words texts out err done → NoneRose texts out err → Takes words
-    → (done.answer ≡ answer.OutOfMemory) ⊎ ((c : Command) × IsCommand words c × AnswersCode c texts.held done.code done.answer
-    × ((told : NamedTexts) → texts.held ≡ Some told → AnswersCommand c told done.code done.answer))
+    → Says words texts out err done → NoneRose texts out err → Takes words → IsAnswered words texts.held done
+
+-- a source that can be trusted before the call: it is sure, its count has not come to its end, and it holds the file that the words ask for
+pub record IsTrusted (words : List (List ℕ)) (texts : TextsChange) : Type 0 where
+  pub sure : texts.sure ≡ true
+  pub room : texts.faults < 2 ^ 64 - 1
+  pub holds : (c : Command) → IsCommand words c → IsHeld texts.held c.file
+
+-- the same where that is all that is known of the texts
+abbrev pub SureCompleteness : Type 0
+SureCompleteness =
+    (words : List (List ℕ)) (texts : TextsChange) (out err : SinkChange) (done : Done)
+    → Says words texts out err done → IsTrusted words texts → ¬ Rose out.faults out.faults' → ¬ Rose err.faults err.faults' → Takes words → IsAnswered words texts.held done

@@ -21,7 +21,7 @@ use Rattle.lg_node.specs.Checks.{IsAccepted}
 use Rattle.lg_node.specs.Labels.{taken_labels}
 use Rattle.lg_node.specs.declared.unit.Unit.{Unit as TextUnit}
 use Rattle.lg_io.specs.SinkChanges.{SinkChange, Took, TookPart}
-use Rattle.lg_run.specs.Changes.{TextsChange, TellsReads, TellsWrites}
+use Rattle.lg_run.specs.Changes.{IsReadSurely, TextsChange, TellsReads, TellsWrites}
 use Rattle.lg_run.specs.Lines.{line_of, stats_of}
 use Rattle.lg_run.specs.Refused.{ArgumentsFit, IsRefusedCall, IsTextIn, IsTextUnder, IsUnitOf, most_text}
 use Rattle.lg_run.specs.Runs.{RunSays, MeanSays}
@@ -187,6 +187,7 @@ pub record TellsFaults (texts : TextsChange) (out : SinkChange) (answer : Answer
 pub record WorkSays (c : Command) (texts : TextsChange) (out : SinkChange) (code : Option Assembled) (steps : ℕ) (answer : Answer) : Type 0 where
   pub says : AnswerSays c texts.held code steps out answer
   pub faults : TellsFaults texts out answer
+  pub sure : IsReadSurely texts c.file
 
 -- words that ask for none are no command, or memory was wanted
 abbrev pub NoCommandSays : List (List ℕ) → Answer → Type 0

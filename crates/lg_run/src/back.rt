@@ -55,7 +55,7 @@ pub fn do_back<T: Texts, O: Sink>(
 ) -> Done
     requires mode { command.now.mode ≡ modes.Back }
     requires fits { ArgumentsFit (shown command.now) }
-    ensures { WorkDone (shown command.now) (on_texts T.held T.faults texts.old texts.new) (on_sink O.taken O.faults out.old out.new) result }
+    ensures { WorkDone (shown command.now) (on_texts T.held T.faults T.sure texts.old texts.new) (on_sink O.taken O.faults out.old out.new) result }
 {
     match read_text(alloc, command.file, texts) {
         Ok(read) => do_listing(alloc, command, &read, out),

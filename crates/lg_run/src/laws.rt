@@ -1,6 +1,6 @@
 //! Laws that hold of the definitions and of every call.
 
-ghost use Rattle.lg_run.specs.Complete.{Completeness};
+ghost use Rattle.lg_run.specs.Complete.{Completeness, SureCompleteness};
 ghost use Rattle.lg_run.specs.Profiles.{ProfilesAddUp};
 ghost use Rattle.lg_run.specs.Refused.{ListingsAreRefusedOnce, TextsAreRefusedOnce};
 
@@ -12,6 +12,11 @@ use lg_prof_runs::laws::{counts_add_up, spent_steps_add_up};
 /// there is a cause of one.
 pub fn completeness()
     ensures { Completeness }
+{}
+
+/// The same over a source that is sure and holds the file that the words ask for, whatever the counts are: no fault of it is brought about by the call.
+pub fn completeness_over_sure_sources()
+    ensures { SureCompleteness }
 {}
 
 /// No text is refused for two reasons, and none is refused whose unit is accepted and whose code has room.

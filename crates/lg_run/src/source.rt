@@ -1,7 +1,8 @@
 // Reading a text whole.
 
-ghost use Rattle.std.specs.Prelude.{◌≡◌, ◌≤◌, ◌<◌, length, IfOk, IfSome, Err};
+ghost use Rattle.std.specs.Prelude.{◌≡◌, ◌≤◌, ◌<◌, true, length, IfOk, IfSome, Err};
 ghost use Rattle.std.specs.Io.KnownBytes.{Consumes, IsAtEnd};
+ghost use Rattle.lg_io.specs.NamedTexts.{IsHeld};
 ghost use Rattle.lg_run.specs.Reads.{IsLongText, ReadTells};
 ghost use Rattle.lg_run.specs.Refused.{IsTextUnder, most_text};
 
@@ -40,6 +41,7 @@ fn read_rest<T: Texts>(alloc: Global, piece: &mut [u8], texts: &mut T) -> Result
     ensures small { IfOk result (λ v. length v.items ≤ most_text) }
     ensures long { result ≡ Err ReadStop.TooLong → IfSome (T.left texts.old) (λ left. most_text < length left) }
     ensures faults { ReadTells (T.faults texts.old) (T.faults texts.new) result }
+    ensures sure { T.sure texts.old ≡ true → T.faults texts.new ≡ T.faults texts.old }
 {
     let mut text = Vec::new(alloc);
     while text.len() <= MOST_TEXT {
@@ -57,12 +59,14 @@ fn read_rest<T: Texts>(alloc: Global, piece: &mut [u8], texts: &mut T) -> Result
     Err(ReadStop::TooLong)
 }
 
-/// The whole text of a name. A read fault comes exactly where a call of the source failed; no other call is made behind it.
+/// The whole text of a name. A read fault comes exactly where a call of the source failed, and never of a sure source that holds the name; no other call is made
+/// behind it.
 pub fn read_text<T: Texts>(alloc: Global, name: &str, texts: &mut T) -> Result<Vec<u8>, ReadStop>
     ensures text { IfOk result (λ v. IsTextUnder (T.held texts.old) name.now v.items) }
     ensures small { IfOk result (λ v. length v.items ≤ most_text) }
     ensures long { result ≡ Err ReadStop.TooLong → IsLongText (T.held texts.old) name.now }
     ensures faults { ReadTells (T.faults texts.old) (T.faults texts.new) result }
+    ensures sure { T.sure texts.old ≡ true → IsHeld (T.held texts.old) name.now → T.faults texts.new ≡ T.faults texts.old }
 {
     let mut piece = match piece(alloc) {
         Ok(piece) => piece,

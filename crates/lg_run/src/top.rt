@@ -83,7 +83,7 @@ fn answer<T: Texts, O: Sink, E: Sink>(
     out: &mut O,
     err: &mut E,
 ) -> Done
-    ensures { let texts_change = on_texts T.held T.faults texts.old texts.new in
+    ensures { let texts_change = on_texts T.held T.faults T.sure texts.old texts.new in
         let out_change = on_sink O.taken O.faults out.old out.new in
         let err_change = on_sink E.taken E.faults err.old err.new in
         Says (texts_of words.now.items) texts_change out_change err_change result }
@@ -116,11 +116,11 @@ pub fn lightning<T: Texts, O: Sink, E: Sink>(
     out: &mut O,
     err: &mut E,
 ) -> Done
-    ensures says { let texts_change = on_texts T.held T.faults texts.old texts.new in
+    ensures says { let texts_change = on_texts T.held T.faults T.sure texts.old texts.new in
         let out_change = on_sink O.taken O.faults out.old out.new in
         let err_change = on_sink E.taken E.faults err.old err.new in
         Says (texts_of words.now.items) texts_change out_change err_change result }
-    ensures causes { let texts_change = on_texts T.held T.faults texts.old texts.new in
+    ensures causes { let texts_change = on_texts T.held T.faults T.sure texts.old texts.new in
         let out_change = on_sink O.taken O.faults out.old out.new in
         let err_change = on_sink E.taken E.faults err.old err.new in
         Causes (texts_of words.now.items) texts_change out_change err_change result }

@@ -301,7 +301,7 @@ fn do_file<T: Texts, O: Sink>(
     requires range { IsInRange command.now }
     requires args { args.now ≡ args_of (texts_of command.now.arguments.items) }
     requires args_size { length args.now ≤ most_args }
-    ensures says { WorkDone (shown command.now) (on_texts T.held T.faults texts.old texts.new) (on_sink O.taken O.faults out.old out.new) result.done }
+    ensures says { WorkDone (shown command.now) (on_texts T.held T.faults T.sure texts.old texts.new) (on_sink O.taken O.faults out.old out.new) result.done }
     ensures told { WorkTells (shown command.now) (T.held texts.old) result }
 {
     match read_text(alloc, command.file, texts) {
@@ -337,7 +337,7 @@ pub fn work<T: Texts, O: Sink>(
     out: &mut O,
 ) -> Worked
     requires { IsInRange command.now }
-    ensures says { WorkDone (shown command.now) (on_texts T.held T.faults texts.old texts.new) (on_sink O.taken O.faults out.old out.new) result.done }
+    ensures says { WorkDone (shown command.now) (on_texts T.held T.faults T.sure texts.old texts.new) (on_sink O.taken O.faults out.old out.new) result.done }
     ensures told { WorkTells (shown command.now) (T.held texts.old) result }
 {
     let args = match args_image(alloc, &command.arguments) {

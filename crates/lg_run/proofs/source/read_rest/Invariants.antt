@@ -1,4 +1,4 @@
-use Rattle.std.proofs.Common.{◌≡◌, ◌-◌, ◌+◌, ◌<◌, length, vec_len}
+use Rattle.std.proofs.Common.{◌≡◌, true, ◌-◌, ◌+◌, ◌<◌, length, vec_len}
 use Rattle.std.specs.Io.KnownBytes.{Consumes}
 use Rattle.lg_run.specs.Refused.{most_text}
 use Rattle.lg_run.proofs.source.read_rest.Given as goal
@@ -8,6 +8,7 @@ invariant-loop-texts g l = record {
   read : Consumes (g.T.Texts.left l.fn.texts) (g.T.Texts.left l.texts) l.text.items;
   room : 0 < length l.piece;
   same : g.T.Texts.faults l.texts ≡ g.T.Texts.faults l.fn.texts;
+  sure : g.T.Texts.sure l.fn.texts ≡ true → g.T.Texts.sure l.texts ≡ true;
 }
 
 abbrev pub decreases-loop-texts : goal.decreases-loop-texts
