@@ -37,7 +37,7 @@ fn words_for(
 }
 
 // Makes a call.
-fn called(
+fn make_call(
     rt: &(impl Files + Input + AllocGlobal),
     words: &Vec<String>,
 ) -> Result<Called, OutOfMemory> {
@@ -83,8 +83,8 @@ fn sums_of(lines: &str) -> Sums {
 }
 
 // The sums of what a call wrote to the standard error.
-fn sums_in(called: &Called) -> Sums {
-    sums_of(str::from_utf8(called.err.bytes()).unwrap_or(""))
+fn sums_in(call: &Called) -> Sums {
+    sums_of(str::from_utf8(call.err.bytes()).unwrap_or(""))
 }
 
 // Whether a profile comes to what a run comes to, and adds up to its steps and those of the meaning.
@@ -105,9 +105,9 @@ fn example_adds_up(
     args: &str,
 ) -> Result<bool, OutOfMemory> {
     let alloc = rt.alloc();
-    let run = called(rt, &words_for(alloc, "run", target, name, args)?)?;
-    let meaning = called(rt, &words_for(alloc, "mean", target, name, args)?)?;
-    let profile = called(rt, &words_for(alloc, "profile", target, name, args)?)?;
+    let run = make_call(rt, &words_for(alloc, "run", target, name, args)?)?;
+    let meaning = make_call(rt, &words_for(alloc, "mean", target, name, args)?)?;
+    let profile = make_call(rt, &words_for(alloc, "profile", target, name, args)?)?;
     Ok(adds_up(&run, &meaning, &profile))
 }
 
