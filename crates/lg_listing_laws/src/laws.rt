@@ -1,9 +1,14 @@
 // Laws of the listings of assembled code. The functions do nothing, or call once: their contracts are the laws.
 
-ghost use Rattle.std.specs.Prelude.{◌≡◌, ◌≤◌, length};
+ghost use Rattle.std.specs.Prelude.{◌≡◌, ◌≤◌, ◌+◌, ◌++◌, ℕ, List, length};
+ghost use Rattle.lg_base.specs.Layout.{code_base};
+ghost use Rattle.lg_base.specs.declared.target.Target.{Target as AnyTarget};
 ghost use Rattle.lg_back.specs.Answers.{GivesBack};
-ghost use Rattle.lg_list.specs.Back.{Back as IsBack};
+ghost use Rattle.lg_back.specs.Refused.{HasBadLine};
+ghost use Rattle.lg_list.specs.Back.{Back as IsBack, IsEntry};
+ghost use Rattle.lg_list.specs.Lines.{Entry, first_line, line_of, rendered};
 ghost use Rattle.lg_list.specs.Listing.{listing};
+ghost use Rattle.lg_listing_laws.specs.Feeds.{IsLine, feeds};
 
 use lg_asm::Code;
 use lg_back::{Back, read_back};
@@ -30,3 +35,14 @@ pub fn code_listings_are_read_back(alloc: Global, text: &[u8], code: &Code) -> R
     code_listings_read_back(code);
     read_back(alloc, text)
 }
+
+/// Each line of a listing ends with its one line feed: the first, and whatever stands behind it.
+pub fn lines_are_lines()
+    ensures first { (t : AnyTarget) (count : ℕ) → IsLine (first_line t count) }
+    ensures other { (t : AnyTarget) (at : ℕ) (e : Entry) → IsEntry t e → IsLine (line_of at e) }
+{}
+
+/// So the line that is to blame where a line is not of the form has the number of the text's line: one more than the line feeds in front of it.
+pub fn bad_lines_are_lines()
+    ensures { (text : List ℕ) (line : ℕ) (bad : HasBadLine text line) → line ≡ feeds (first_line bad.t bad.count ++ rendered code_base bad.lines) + 1 }
+{}
