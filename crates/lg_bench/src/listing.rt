@@ -6,9 +6,11 @@ ghost use Rattle.lg_io.specs.Counts.{HasCause};
 ghost use Rattle.lg_list.specs.Listing.{Placed};
 ghost use Rattle.lg_op.specs.Nodes.{InForm};
 
+use lg_back::read_back;
 use lg_base::code::{CodeBytes, Places};
 use lg_base::refusal::{OutOfMemory, Stop};
 use lg_base::target::Target;
+use lg_io::memory_sink::MemorySink;
 use lg_io::sink::{Sink, SinkFault};
 use lg_list::list::list;
 use lg_node::{LabelAddresses, Node, NodeList, Op, Operands, PlainOp};
@@ -16,6 +18,9 @@ use std::alloc::Global;
 
 // How many bytes of code a node has: 256 instructions of RV64.
 const NODE_BYTES: u32 = 1_024;
+
+// The most bytes of a node's lines.
+const NODE_LINES: usize = 9_216;
 
 // `addi x5, x5, 1`.
 const ADDITION: [u8; 4] = [0x93, 0x82, 0x12, 0x00];
@@ -91,15 +96,42 @@ fn nodes_of(alloc: Global, nodes: u32) -> Result<NodeList, OutOfMemory>
     Ok(list)
 }
 
-/// Writes the listing of so many nodes, at most 65,536, which have 1,024 bytes of code each, and tells how many bytes it is.
-pub fn write_listing(alloc: Global, nodes: u32) -> Result<u64, Stop> {
-    let nodes = nodes.min(65_536);
+// Writes the listing of so many nodes into a sink.
+fn write_into<O: Sink>(alloc: Global, nodes: u32, out: &mut O) -> Result<(), OutOfMemory>
+    requires { nodes ≤ 65536 }
+{
     let code = code_of(alloc, nodes)?;
     let places = places_of(alloc, nodes)?;
     let rets = nodes_of(alloc, nodes)?;
     let labels = LabelAddresses::of(alloc, &[])?;
+    let _written = list(Target::Riscv64, &code, &rets, &places, &labels, out);
+    Ok(())
+}
+
+/// Writes the listing of so many nodes, at most 65,536, which have 1,024 bytes of code each, and tells how many bytes it is.
+pub fn write_listing(alloc: Global, nodes: u32) -> Result<u64, Stop> {
     let mut out = Counter { bytes: 0 };
-    match list(Target::Riscv64, &code, &rets, &places, &labels, &mut out) {
-        Ok(()) | Err(_) => Ok(out.bytes),
+    write_into(alloc, nodes.min(65_536), &mut out)?;
+    Ok(out.bytes)
+}
+
+// How many bytes a listing is read back to.
+fn bytes_in(alloc: Global, listing: &[u8]) -> Result<u64, Stop> {
+    if listing.len() > 4_294_967_294 {
+        return Ok(0);
     }
+    let back = read_back(alloc, listing)?;
+    Ok(u64::from(back.bytes().len()))
+}
+
+/// Reads the same listing back so often, and tells to how many bytes each time.
+pub fn read_listing(alloc: Global, nodes: u32, times: u32) -> Result<u64, Stop> {
+    let nodes = nodes.min(65_536);
+    let mut out = MemorySink::new(alloc, nodes as usize * NODE_LINES + 64, &[])?;
+    write_into(alloc, nodes, &mut out)?;
+    let mut bytes = 0;
+    for _ in 0..times {
+        bytes = bytes_in(alloc, out.bytes())?;
+    }
+    Ok(bytes)
 }

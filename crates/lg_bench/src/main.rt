@@ -2,10 +2,10 @@
 // a text of N instructions, at most 1,000,000, for RV64; `far N TIMES` does so with a text in which a branch and calls lead over N instructions; `straight N TIMES`,
 // `branches N TIMES` and `jumps N TIMES` find the live registers of a list of nodes of N lines; `moves N TIMES` and `chain N TIMES` rewrite a list of N moves or jumps;
 // `known N TIMES` folds a list of N lines, and `dead N TIMES` drops the N definitions of one;
-// `emit N` emits 64 MiB in pieces of N bytes; `list N` lists N nodes of 1,024 bytes of code each, at most 65,536, into a sink that counts; `rv64 N`, `aarch64 N` and
-// `x86_64 N` run N instructions of a loop of five on the modelled processors; `steps N` follows the portable meaning of a loop for N steps; `expand N`, `calls N` and
-// `macros N` expand a text of N bytes, at most 16,777,216, without a name of a macro, of calls alone, and of macros that are each named once. Without words it does a
-// little of each.
+// `emit N` emits 64 MiB in pieces of N bytes; `list N` lists N nodes of 1,024 bytes of code each, at most 65,536, into a sink that counts, and `back N TIMES` reads that
+// listing back; `rv64 N`, `aarch64 N` and `x86_64 N` run N instructions of a loop of five on the modelled processors; `steps N` follows the portable meaning of a loop
+// for N steps; `expand N`, `calls N` and `macros N` expand a text of N bytes, at most 16,777,216, without a name of a macro, of calls alone, and of macros that are
+// each named once. Without words it does a little of each.
 #![tactic(auto)]
 
 mod expansion;
@@ -21,7 +21,7 @@ mod texts;
 use expansion::{Lines, expand_lines};
 use lg_base::refusal::Stop;
 use lg_base::target::Target;
-use listing::write_listing;
+use listing::{read_listing, write_listing};
 use lists::Flow;
 use liveness::find;
 use meaning::follow;
@@ -46,6 +46,7 @@ fn work(alloc: Global, word: &str, number: u32, times: u32) -> Result<u64, Stop>
         "dead" => rewrite_list(alloc, Flow::Dead, Pass::Dead, number, times),
         "emit" => fill(alloc, 0x400_0000, number),
         "list" => write_listing(alloc, number),
+        "back" => read_listing(alloc, number, times),
         "rv64" => run(alloc, Target::Riscv64, number),
         "aarch64" => run(alloc, Target::Aarch64, number),
         "x86_64" => run(alloc, Target::X86_64, number),
@@ -66,7 +67,7 @@ fn print_work(rt: &HostRuntime, word: &str, number: u32, times: u32) -> io::Resu
 }
 
 // A little of each: its word, and how much of it.
-const LITTLE: [(&str, u32); 18] = [
+const LITTLE: [(&str, u32); 19] = [
     ("code", 64),
     ("far", 64),
     ("straight", 64),
@@ -78,6 +79,7 @@ const LITTLE: [(&str, u32); 18] = [
     ("dead", 64),
     ("emit", 65_536),
     ("list", 4),
+    ("back", 4),
     ("rv64", 1_000),
     ("aarch64", 1_000),
     ("x86_64", 1_000),
