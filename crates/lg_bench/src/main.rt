@@ -4,10 +4,11 @@
 // `known N TIMES` folds a list of N lines, and `dead N TIMES` drops the N definitions of one;
 // `emit N` emits 64 MiB in pieces of N bytes; `list N` lists N nodes of 1,024 bytes of code each, at most 65,536, into a sink that counts, and `back N TIMES` reads that
 // listing back; `rv64 N`, `aarch64 N` and `x86_64 N` run N instructions of a loop of five on the modelled processors; `steps N` follows the portable meaning of a loop
-// for N steps; `expand N`, `calls N` and `macros N` expand a text of N bytes, at most 16,777,216, without a name of a macro, of calls alone, and of macros that are
-// each named once. Without words it does a little of each.
+// for N steps, and `run N`, `mean N` and `profile N` call the program in these modes on it; `expand N`, `calls N` and `macros N` expand a text of N bytes, at most
+// 16,777,216, without a name of a macro, of calls alone, and of macros that are each named once. Without words it does a little of each.
 #![tactic(auto)]
 
+mod calls;
 mod expansion;
 mod listing;
 mod lists;
@@ -18,6 +19,7 @@ mod processor;
 mod rewrites;
 mod texts;
 
+use calls::call;
 use expansion::{Lines, expand_lines};
 use lg_base::refusal::Stop;
 use lg_base::target::Target;
@@ -51,6 +53,7 @@ fn work(alloc: Global, word: &str, number: u32, times: u32) -> Result<u64, Stop>
         "aarch64" => run(alloc, Target::Aarch64, number),
         "x86_64" => run(alloc, Target::X86_64, number),
         "steps" => follow(alloc, number),
+        "run" | "mean" | "profile" => call(alloc, word, number),
         "expand" => expand_lines(alloc, Lines::Plain, number),
         "calls" => expand_lines(alloc, Lines::Calls, number),
         "macros" => expand_lines(alloc, Lines::Names, number),
@@ -67,7 +70,7 @@ fn print_work(rt: &HostRuntime, word: &str, number: u32, times: u32) -> io::Resu
 }
 
 // A little of each: its word, and how much of it.
-const LITTLE: [(&str, u32); 19] = [
+const LITTLE: [(&str, u32); 22] = [
     ("code", 64),
     ("far", 64),
     ("straight", 64),
@@ -84,6 +87,9 @@ const LITTLE: [(&str, u32); 19] = [
     ("aarch64", 1_000),
     ("x86_64", 1_000),
     ("steps", 1_000),
+    ("run", 1_000),
+    ("mean", 1_000),
+    ("profile", 1_000),
     ("expand", 1_000),
     ("calls", 1_000),
     ("macros", 1_000),
