@@ -8,7 +8,7 @@ ghost use Rattle.lg_node.specs.Nodes.{is_word};
 ghost use Rattle.lg_op.specs.declared.op.Op.{Op as AnyOp};
 ghost use Rattle.lg_list.specs.Lines.{Entry, line_of, bytes_of, address, node_line, label_line};
 ghost use Rattle.lg_list.specs.Lines.Entry.{Label, Node};
-ghost use Rattle.lg_back.specs.Reading.{HasLine, HasNoLine};
+ghost use Rattle.lg_back.specs.Reading.{HasLine, HasNoLine, HasNodeLine, HasLabelLine};
 
 use crate::digits::{behind, comment_words, read_decimal, until};
 use crate::instruction::read_instruction;
@@ -30,7 +30,7 @@ pub struct EntryLine {
 
 // The length of the line of a node that a text begins with.
 fn read_node(text: &[u8]) -> Option<usize>
-    ensures found { IfSome result (λ len. (line : ℕ) × (op : AnyOp) × ((t : AnyTarget) (at : ℕ) → HasLine t at text.now (Node line op)) × (len ≡ length (node_line line op))) }
+    ensures found { IfSome result (HasNodeLine text.now) }
     ensures none { IfNone result ((t : AnyTarget) (at line : ℕ) (op : AnyOp) → ¬ HasLine t at text.now (Node line op)) }
 {
     let (digits, name) = comment_words(text);
@@ -74,7 +74,7 @@ fn label_front(at: u32) -> Line
 
 // The length of the line of a label at an address that a text begins with.
 fn read_label(at: u32, text: &[u8]) -> Option<usize>
-    ensures found { IfSome result (λ len. (word : List ℕ) × ((t : AnyTarget) → HasLine t at text.now (Label word)) × (len ≡ length (label_line at word))) }
+    ensures found { IfSome result (HasLabelLine at text.now) }
     ensures none { IfNone result ((t : AnyTarget) (word : List ℕ) → ¬ HasLine t at text.now (Label word)) }
 {
     let front = label_front(at);

@@ -5,7 +5,7 @@ ghost use Rattle.lg_list.specs.Instructions.{spelling};
 ghost use Rattle.lg_list.specs.Lines.{instruction_line};
 ghost use Rattle.lg_list.specs.Lines.Entry.{Code};
 ghost use Rattle.lg_list.specs.declared.instruction.Instruction.{Instruction};
-ghost use Rattle.lg_back.specs.Reading.{HasLine};
+ghost use Rattle.lg_back.specs.Reading.{HasLine, HasCodeLine};
 
 use crate::digits::{behind, read_hex};
 use lg_base::piece::Piece;
@@ -14,7 +14,7 @@ use lg_list::instruction::decode;
 
 /// The bytes of the instruction whose line at an address a text begins with, and the length of the line.
 pub fn read_instruction(target: Target, at: u32, text: &[u8]) -> Option<(Piece, usize)>
-    ensures found { IfSome result (λ f. (i : Instruction) × HasLine target at text.now (Code i) × (f.0 ≡ spelling i) × (f.1 ≡ length (instruction_line at i))) }
+    ensures found { IfSome result (λ found. HasCodeLine target at text.now found.0 found.1) }
     ensures none { IfNone result ((i : Instruction) → ¬ HasLine target at text.now (Code i)) }
 {
     let bytes = read_hex(behind(text, 10))?;

@@ -20,9 +20,13 @@ abbrev pub pointers : ℕ → List (List ℕ) → List ℕ
 pointers address [] = []
 pointers address (w ∷ ws) = to_le_bytes w64 address ++ pointers (address + (length w + 1)) ws
 
+-- a word for each string, which stand behind them and a word of 0
+abbrev pub first_words : List (List ℕ) → List ℕ
+first_words words = pointers (args_base + 8 * (length words + 1)) words
+
 -- a word for each string, a word of 0, and the strings
 abbrev pub args_of : List (List ℕ) → List ℕ
-args_of words = pointers (args_base + 8 * (length words + 1)) words ++ to_le_bytes w64 0 ++ strings words
+args_of words = first_words words ++ to_le_bytes w64 0 ++ strings words
 
 -- the argument part has at most so many bytes
 abbrev pub most_args : ℕ

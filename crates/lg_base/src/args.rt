@@ -2,7 +2,7 @@
 
 ghost use Rattle.std.specs.Prelude.{◌≡◌, ◌<◌, ◌≤◌, ◌+◌, ◌*◌, ◌^◌, ◌↔◌, ◌++◌, length, take, drop, Err, IfOk, OnOk, IsTrue};
 ghost use Rattle.std.specs.Int.{w64, from_le_bytes};
-ghost use Rattle.lg_base.specs.Arguments.{texts_of, strings, pointers, args_of, most_args, args_too_long, argument_count, CountsArguments};
+ghost use Rattle.lg_base.specs.Arguments.{texts_of, strings, first_words, args_of, most_args, args_too_long, argument_count, CountsArguments};
 ghost use Rattle.lg_base.specs.Parts.{args_base};
 ghost use Rattle.lg_base.specs.Lengths.{args_len};
 
@@ -36,7 +36,7 @@ fn fits(words: &Vec<String>) -> bool
 // Appends the words that point to the strings.
 fn push_pointers(bytes: &mut Vec<u8>, words: &Vec<String>) -> Result<(), OutOfMemory>
     requires { args_len (texts_of words.now.items) ≤ most_args }
-    ensures { OnOk result (bytes.new.items ≡ bytes.old.items ++ pointers (args_base + 8 * (length (texts_of words.now.items) + 1)) (texts_of words.now.items)) }
+    ensures { OnOk result (bytes.new.items ≡ bytes.old.items ++ first_words (texts_of words.now.items)) }
 {
     let mut address = ARGS + 8 * (words.len() as u64 + 1);
     for word in words {

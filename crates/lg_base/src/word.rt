@@ -108,8 +108,8 @@ pub fn is_half(value: u64) -> bool
     value.wrapping_add(1 << 31) < 1 << 32
 }
 
-/// The word of 32 bits that the first four bytes are, the lowest byte first. There are at least 4.
 // In a function of its own it becomes one load.
+/// The word of 32 bits that the first four bytes are, the lowest byte first. There are at least 4.
 pub fn word_in_front(bytes: &[u8]) -> u32
     requires { 4 ≤ length bytes.now }
     ensures { result ≡ from_le_bytes w32 (take 4 bytes.now) }

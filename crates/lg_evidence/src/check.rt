@@ -1,6 +1,7 @@
 // The checks of whole files.
 
 ghost use Rattle.std.specs.Prelude.{◌≡◌, ◌↔◌, ◌++◌, ℕ, List, length, IsTrue, string_bytes};
+ghost use Rattle.lg_evidence.specs.Found.{IsAsWanted};
 
 use crate::table::{Found, Table};
 use crate::vector::{bytes_of, parse_refused, parse_spelled};
@@ -56,7 +57,7 @@ fn spelled_outcome<T: Table>(alloc: Global, line: &str) -> Result<Outcome, Alloc
 
 // whether what was found is the operation wanted, of these bytes and no others
 fn is_as_wanted(found: &Found, operation: &str, bytes: &Piece) -> bool
-    ensures { IsTrue result ↔ ((string_bytes found.now.operation ≡ operation.now) × (found.now.length ≡ length bytes.now) × (found.now.spelling ≡ bytes.now)) }
+    ensures { IsTrue result ↔ IsAsWanted found.now operation.now bytes.now }
 {
     found.operation.as_str() == operation
         && found.length as usize == bytes.as_slice().len()

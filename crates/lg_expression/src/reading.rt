@@ -29,7 +29,7 @@ pub enum ReadError {
 }
 
 // What stands next: an operand, more digits of a number or what may stand behind it, or what may stand behind an operand.
-#[derive(Clone, Copy, PartialEq, Eq)]
+#[derive(Clone, Copy)]
 enum Next {
     Operand,
     Digits(u64),
@@ -37,7 +37,7 @@ enum Next {
 }
 
 // What waits for operands.
-#[derive(Clone, Copy, PartialEq, Eq)]
+#[derive(Clone, Copy)]
 enum Waiting {
     Open,
     Negate,

@@ -7,7 +7,7 @@ use crate::bytes::{ahead, behind, byte_at, digit_len};
 use crate::numbers::{Literal, digits_value};
 
 /// One byte or one escape at the front of a text: how many bytes it takes, and the byte that it stands for.
-#[derive(Clone, Copy, Debug, PartialEq, Eq)]
+#[derive(Clone, Copy)]
 pub(crate) struct TextByte {
     pub(crate) len: usize,
     pub(crate) byte: u8,

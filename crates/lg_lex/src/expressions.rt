@@ -13,7 +13,7 @@ use crate::operators::{Operator, Sign, is_zero};
 const MOST_LEVELS: u32 = 64;
 
 /// What was read of an expression: its value, its levels, and the place where it ends, behind the blanks that follow it.
-#[derive(Clone, Copy, Debug, PartialEq, Eq)]
+#[derive(Clone, Copy)]
 pub(crate) struct Reading {
     pub(crate) value: i64,
     pub(crate) levels: u32,

@@ -15,7 +15,7 @@ use lg_base::refusal::RefusalKind;
 use lg_base::word_bytes::is_word_start;
 
 /// What stands at the front of a text.
-#[derive(Clone, Copy, Debug, PartialEq, Eq)]
+#[derive(Clone, Copy)]
 pub(crate) enum Front {
     /// Nothing: the text is at its end.
     Nothing,

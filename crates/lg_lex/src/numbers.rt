@@ -7,7 +7,7 @@ ghost use Rattle.lg_lex.specs.Numbers.{with_digit, digits_value, narrowed, digit
 use crate::bytes::{ahead, behind, byte_at, digit_len, suffix_letter_len};
 
 /// A number, character or expression at the front of a text: how many bytes it takes, and its value as a word.
-#[derive(Clone, Copy, Debug, PartialEq, Eq)]
+#[derive(Clone, Copy)]
 pub(crate) struct Literal {
     pub(crate) len: usize,
     pub(crate) value: u64,

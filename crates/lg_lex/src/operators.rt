@@ -5,7 +5,7 @@ ghost use Rattle.std.specs.Int.{w64, int_wrap, int_wrapping_div};
 ghost use Rattle.lg_lex.specs.Operators.{level_of, double_symbol, single_symbol, sign_symbol, truth, is_zero, shift_count, binary_value, unary_value};
 
 /// An operator between two operands.
-#[derive(Clone, Copy, Debug, PartialEq, Eq)]
+#[derive(Clone, Copy)]
 pub(crate) enum Operator {
     Multiply,
     Divide,
@@ -28,7 +28,7 @@ pub(crate) enum Operator {
 }
 
 /// An operator before one operand.
-#[derive(Clone, Copy, Debug, PartialEq, Eq)]
+#[derive(Clone, Copy)]
 pub(crate) enum Sign {
     Plus,
     Minus,

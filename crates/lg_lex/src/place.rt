@@ -4,7 +4,7 @@ ghost use Rattle.std.specs.Prelude.{◌≡◌, ◌+◌, ◌<◌, ◌^◌, ◌==�
 ghost use Rattle.lg_lex.specs.Tokens.{with_byte};
 
 /// A place of a text: the bytes before it, its line, and whether only spaces and tabs stand before it in its line.
-#[derive(Clone, Copy, Debug, PartialEq, Eq)]
+#[derive(Clone, Copy)]
 pub(crate) struct Place {
     pub(crate) offset: usize,
     pub(crate) line: u32,

@@ -19,7 +19,8 @@ pub data IsArc (points : List Point) : ℕ → ℕ → Type 0 where
   jumps : (i k : ℕ) → (point_at points i).jumps ≡ Some k → IsArc points i k
   joins : (i k : ℕ) → (point_at points k).joins ≡ Some i → IsArc points i k
 
--- a register is needed at a point where some walk from it comes to a point that reads it, and none before that one writes it
+-- a register is wanted at a point where that point reads it; where a register that the point makes of it is wanted behind the point; and where it is
+-- wanted behind the point, which does not write it
 pub data IsWanted (points : List Point) : Reg → ℕ → Type 0 where
   read_here : (r : Reg) (i : ℕ) → has (point_at points i).reads r ≡ true → IsWanted points r i
   read_for : (r q : Reg) (i k : ℕ) → has (point_at points i).feeds r ≡ true → has (point_at points i).writes q ≡ true → IsArc points i k → IsWanted points q k → IsWanted points r i
@@ -43,13 +44,13 @@ passes p set r = (set r && not (has p.writes r)) || (has p.feeds r && any_regist
 abbrev pub set_at : List RegSet → ℕ → RegSet
 set_at sets i = slice_index_or sets i (record { 0 = 0 })
 
--- the registers that are needed at each point
+-- the registers that are wanted at each point
 pub record AreWanted (points : List Point) (count : ℕ) (sets : List RegSet) : Type 0 where
   pub all : length sets ≡ count
   pub sound : (i : ℕ) (r : Reg) → has (set_at sets i) r ≡ true → IsWanted points r i
   pub complete : (i : ℕ) (r : Reg) → IsWanted points r i → has (set_at sets i) r ≡ true
 
--- a register is needed at a point to which one leads by falling or jumping
+-- a register is wanted at a point to which one leads by falling or jumping
 pub record IsWantedBehind (points : List Point) (r : Reg) (i : ℕ) : Type 0 where
   pub next : ℕ
   pub way : (((point_at points i).falls ≡ true) × (next ≡ i + 1)) ⊎ ((point_at points i).jumps ≡ Some next)

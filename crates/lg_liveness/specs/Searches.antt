@@ -36,13 +36,17 @@ pub record Grows (a b : State) : Type 0 where
   pub weight : weight b ≤ weight a
   pub within : All (λ k. k < length a.sets) a.queue → All (λ k. k < length a.sets) b.queue
 
--- only registers that are needed are in the sets
+-- only registers that are wanted are in the sets
 abbrev pub IsSound : List Point → State → Type 0
 IsSound points s = (i : ℕ) (r : Reg) → has (set_at s.sets i) r ≡ true → IsWanted points r i
 
--- these registers are needed at a point
+-- these registers are wanted at a point
 abbrev pub AreWantedAt : List Point → RegSet → ℕ → Type 0
 AreWantedAt points set i = (r : Reg) → has set r ≡ true → IsWanted points r i
+
+-- where only wanted registers are in the sets, and these are wanted at a point, only wanted ones are in these sets
+abbrev pub StaysSound : List Point → RegSet → ℕ → State → State → Type 0
+StaysSound points more point a b = IsSound points a → AreWantedAt points more point → IsSound points b
 
 -- these registers are in the set of a point, but for those that the point writes
 abbrev pub HasPassed : List Point → RegSet → State → ℕ → Type 0
@@ -52,7 +56,7 @@ HasPassed points set s i = (r : Reg) → passes (point_at points i) (has set) r 
 abbrev pub HasSpread : List Point → ℕ → RegSet → State → Type 0
 HasSpread points k set s = (i : ℕ) → IsArc points i k → HasPassed points set s i
 
--- a search that looks at the points of its queue from this place on: what is needed at the others has been passed on
+-- a search that looks at the points of its queue from this place on: what is wanted at the others has been passed on
 pub record IsSearching (points : List Point) (count from : ℕ) (s : State) : Type 0 where
   pub all : length s.sets ≡ count
   pub sound : IsSound points s

@@ -14,8 +14,8 @@ use lg_base::refusal::OutOfMemory;
 use lg_node::{Label, Node, NodeList, Operand, Operands, Place};
 use std::alloc::Global;
 
-// A list of no nodes with the labels of another, none of them bound. The words of a list's labels differ, so that each gets its number; one that
-// came twice would be told as want of memory.
+/// A list of no nodes with the labels of another, none of them bound. The words of a list's labels differ, so that each gets its number; one that
+/// came twice would be told as want of memory.
 pub fn unbound(alloc: Global, old: &NodeList) -> Result<NodeList, OutOfMemory>
     ensures { IfOk result (λ l. l ≡ unbound old.now.words) }
 {
@@ -107,7 +107,7 @@ fn counted(number: u32, stays: bool) -> u32
     if stays { number + 1 } else { number }
 }
 
-// Of each node its new number, and behind them how many stay.
+/// Of each node its new number, and behind them how many stay.
 pub fn numbers(alloc: Global, stays: &[bool]) -> Result<Vec<u32>, OutOfMemory>
     requires { length stays.now < 2 ^ 32 }
     ensures count { IfOk result (λ table. length table.items ≡ length stays.now + 1) }
@@ -150,7 +150,7 @@ fn bind_at(list: &mut NodeList, label: Label, place: Option<Place>)
     }
 }
 
-// Binds the labels of another list at their new places.
+/// Binds the labels of another list at their new places.
 pub fn bind_moved(list: &mut NodeList, nodes: &NodeList, numbers: &[u32])
     requires labels { list.old.places ≡ replicate (length nodes.now.words) None }
     requires words { list.old.words ≡ nodes.now.words }

@@ -12,7 +12,7 @@ use crate::instruction::{
 use lg_base::piece::Piece;
 
 /// When the byte REX stands.
-#[derive(Clone, Copy, PartialEq, Eq, Debug)]
+#[derive(Clone, Copy)]
 pub(crate) enum Mark {
     /// Always, with the bit W set: 64 bits.
     Wide,
