@@ -10,8 +10,8 @@ use Rattle.lg_node.specs.ShapeLaws.{has_target}
 use Rattle.lg_node.proofs.FunctionLaws.{node_within}
 use Rattle.lg_opt.specs.Remaining.{retargeted}
 use Rattle.lg_opt.specs.Rewritings.{IsThreadedNode}
-use Rattle.lg_fold.specs.Folds.{IsFoldedNode}
-use Rattle.lg_fold.specs.Known.{made, last_known, folded_by}
+use Rattle.lg_dead.specs.Folds.{IsFoldedNode}
+use Rattle.lg_dead.specs.Known.{made, last_known, folded_by}
 use Rattle.lg_dead.specs.Rewritten.{is_droppable, IsRewrittenNode}
 use Rattle.lg_asm.specs.Assembled.{AlignsStand}
 

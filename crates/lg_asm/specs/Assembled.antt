@@ -27,7 +27,7 @@ use Rattle.lg_op.specs.declared.op.Op.TheVariants as op
 use Rattle.lg_op.specs.declared.op.PlainOp.TheVariants as plain
 use Rattle.lg_op.specs.declared.operand.Operand.TheVariants as operand
 use Rattle.lg_opt.specs.Rewritings.{IsTidy, IsOrigin, KeepsOthers, CarriesAddresses, RunsAreFollowed}
-use Rattle.lg_fold.specs.Known.{HasNoFolds}
+use Rattle.lg_dead.specs.Known.{HasNoFolds}
 use Rattle.lg_dead.specs.Dead.{HasNoDeadButMoves}
 use Rattle.lg_dead.specs.Rewritten.{is_droppable, IsRewrittenNode, AreFinal}
 use Rattle.std.specs.List.{All}
@@ -107,8 +107,8 @@ StartStands =
 -- behind each `.align` of the text the code stands at a multiple of its number
 abbrev pub AlignsStand : Type 0
 AlignsStand =
-    (c : Assembled) (l : LabelledNodes) (i number : ℕ) (node : Node) → IsCode c → KeepsOthers is_droppable l c.origin → IsOrigin IsRewrittenNode l c.nodes c.origin
-    → slice_get l.nodes i ≡ Some node → node.op ≡ op.Plain plain.Align → node.operands ≡ operand.Number number ∷ []
+    (c : Assembled) (l : LabelledNodes) (i number : ℕ) (node : Node) → IsCode c → KeepsOthers is_droppable l c.origin
+    → IsOrigin IsRewrittenNode l c.nodes c.origin → slice_get l.nodes i ≡ Some node → node.op ≡ op.Plain plain.Align → node.operands ≡ operand.Number number ∷ []
     → (k : ℕ) × (slice_get c.origin k ≡ Some i) × (slice_index c.places (k + 1) % number ≡ 0)
 
 -- ---- refusals
@@ -128,5 +128,6 @@ IsRefusedBy target l size stop.OutOfMemory = Unit {0}
 
 -- the same of nodes that are final
 abbrev pub IsRefusedFor : Target → LabelledNodes → TextShape → ℕ → Stop → Type 0
-IsRefusedFor target l shape size (stop.Refused r) = (r ≡ record { kind = CodeFull; line = 0 }) × (size < 256 * length l.nodes + 256) × HasNoRoomFor target l shape size
+IsRefusedFor target l shape size (stop.Refused r) =
+    (r ≡ record { kind = CodeFull; line = 0 }) × (size < 256 * length l.nodes + 256) × HasNoRoomFor target l shape size
 IsRefusedFor target l shape size stop.OutOfMemory = Unit {0}

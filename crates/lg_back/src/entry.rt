@@ -16,7 +16,7 @@ use lg_base::piece::Piece;
 use lg_base::target::Target;
 use lg_base::word_bytes::{is_word_byte, is_word_start};
 use lg_list::line::Line;
-use lg_list::lines::node_line;
+use lg_list::lines::write_node_line;
 use lg_node::Op;
 
 /// A line behind the first of a listing.
@@ -28,15 +28,15 @@ pub struct EntryLine {
     pub len: usize,
 }
 
-// The length of the line of a node that a text begins with.
-fn read_node(text: &[u8]) -> Option<usize>
+// The length of the line of a node that a text begins with. What the line has is not looked at.
+fn read_node(text: &[u8], line: &mut Line) -> Option<usize>
     ensures found { IfSome result (HasNodeLine text.now) }
     ensures none { IfNone result ((t : AnyTarget) (at line : ℕ) (op : AnyOp) → ¬ HasLine t at text.now (Node line op)) }
 {
     let (digits, name) = comment_words(text);
     let number = read_decimal(digits)?;
     let op = Op::by_name(name)?;
-    let line = node_line(number, op);
+    write_node_line(number, op, line);
     let line = line.as_slice();
     if text.starts_with(line) {
         Some(line.len())
@@ -62,25 +62,24 @@ fn is_word(bytes: &[u8]) -> bool
     }
 }
 
-// How the line of a label at an address begins.
-fn label_front(at: u32) -> Line
-    ensures { result ≡ address at ++ codes " " }
+// Puts how the line of a label at an address begins in the place of what a line has.
+fn write_label_front(at: u32, line: &mut Line)
+    ensures { line.new ≡ address at ++ codes " " }
 {
-    let mut line = Line::new();
+    line.clear();
     line.push_hex(&at.to_be_bytes());
     line.push(b" ");
-    line
 }
 
-// The length of the line of a label at an address that a text begins with.
-fn read_label(at: u32, text: &[u8]) -> Option<usize>
+// The length of the line of a label at an address that a text begins with. What the line has is not looked at.
+fn read_label(at: u32, text: &[u8], line: &mut Line) -> Option<usize>
     ensures found { IfSome result (HasLabelLine at text.now) }
     ensures none { IfNone result ((t : AnyTarget) (word : List ℕ) → ¬ HasLine t at text.now (Label word)) }
 {
-    let front = label_front(at);
+    write_label_front(at, line);
     let rest = behind(text, 9);
     let word = until(rest, b':');
-    if !text.starts_with(front.as_slice()) {
+    if !text.starts_with(line.as_slice()) {
         return None;
     }
     if !is_word(word) {
@@ -93,21 +92,22 @@ fn read_label(at: u32, text: &[u8]) -> Option<usize>
     }
 }
 
-/// The line behind the first of a listing for a target that a text begins with, at an address.
-pub fn read_entry(target: Target, at: u32, text: &[u8]) -> Option<EntryLine>
+/// The line behind the first of a listing for a target that a text begins with, at an address. Lines to compare with are written into one that is given; what
+/// it has is not looked at.
+pub fn read_entry(target: Target, at: u32, text: &[u8], line: &mut Line) -> Option<EntryLine>
     ensures found { IfSome result (λ f. (e : Entry) × HasLine target at text.now e × (f.bytes ≡ bytes_of e) × (f.len ≡ length (line_of at e))) }
     ensures none { IfNone result (HasNoLine target at text.now) }
 {
     if text.starts_with(b";") {
-        let len = read_node(text)?;
+        let len = read_node(text, line)?;
         let bytes = Piece::new();
         return Some(EntryLine { bytes, len });
     }
     if behind(text, 9).starts_with(b" ") {
-        let (bytes, len) = read_instruction(target, at, text)?;
+        let (bytes, len) = read_instruction(target, at, text, line)?;
         return Some(EntryLine { bytes, len });
     }
-    let len = read_label(at, text)?;
+    let len = read_label(at, text, line)?;
     let bytes = Piece::new();
     Some(EntryLine { bytes, len })
 }

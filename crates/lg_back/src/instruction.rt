@@ -11,15 +11,22 @@ use crate::digits::{behind, read_hex};
 use lg_base::piece::Piece;
 use lg_base::target::Target;
 use lg_list::instruction::decode;
+use lg_list::line::Line;
 
-/// The bytes of the instruction whose line at an address a text begins with, and the length of the line.
-pub fn read_instruction(target: Target, at: u32, text: &[u8]) -> Option<(Piece, usize)>
+/// The bytes of the instruction whose line at an address a text begins with, and the length of the line. The line to compare with is written into one that
+/// is given; what it has is not looked at.
+pub fn read_instruction(
+    target: Target,
+    at: u32,
+    text: &[u8],
+    line: &mut Line,
+) -> Option<(Piece, usize)>
     ensures found { IfSome result (λ found. HasCodeLine target at text.now found.0 found.1) }
     ensures none { IfNone result ((i : Instruction) → ¬ HasLine target at text.now (Code i)) }
 {
     let bytes = read_hex(behind(text, 10))?;
     let (instruction, _) = decode(target, bytes.as_slice())?;
-    let line = instruction.line(at);
+    instruction.write_line(at, line);
     let line = line.as_slice();
     if text.starts_with(line) {
         Some((bytes, line.len()))

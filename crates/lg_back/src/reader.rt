@@ -13,6 +13,7 @@ use crate::head::{Head, read_head};
 use lg_base::code::CodeBytes;
 use lg_base::refusal::{Refusal, RefusalKind, Stop};
 use lg_base::target::Target;
+use lg_list::line::Line;
 use std::alloc::Global;
 
 // The address of the first byte of the code.
@@ -82,11 +83,12 @@ fn read_lines(text: &[u8], head: Head, mut bytes: CodeBytes) -> Result<Back, Sto
     requires room { bytes.room ≡ min head.count (length text.now / 2) }
     ensures { ReadsBack text.now result }
 {
+    let mut written = Line::new();
     let mut at = head.len;
     let mut line = 2;
     let mut done = 0;
     while at < text.len() {
-        match read_entry(head.target, CODE_BASE + done, &text[at..]) {
+        match read_entry(head.target, CODE_BASE + done, &text[at..], &mut written) {
             None => return Err(bad_listing(line)),
             Some(entry) => {
                 let own = entry.bytes.as_slice();

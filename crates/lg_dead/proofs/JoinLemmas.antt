@@ -1,5 +1,5 @@
 -- Rewritings one behind the other.
-use Rattle.std.proofs.Common.{◌≡◌, ℕ, ◌<◌, Bool, true, false, not, ◌||◌, List, [], Option, Some, None, ◌∷◌, length, refl, sym, ap, ◌∙◌, arith, Ok, Err}
+use Rattle.std.proofs.Common.{◌≡◌, ℕ, ◌<◌, Bool, true, false, not, ◌||◌, List, [], Option, Some, None, ◌∷◌, length, map, refl, sym, ap, ◌∙◌, subst, arith, Ok, Err}
 use Rattle.std.specs.Prelude.{if◌then◌else◌, Result, IfOk, slice_get, slice_index}
 use Rattle.std.proofs.lemmas.Option.{slice_get_within, same_Some}
 use Rattle.lg_op.specs.declared.node.Node.{Node}
@@ -13,8 +13,9 @@ use Rattle.lg_liveness.specs.Definitions.{defines}
 use Rattle.lg_opt.specs.Hops.{is_jump}
 use Rattle.lg_opt.specs.Moves.{is_movr}
 use Rattle.lg_opt.specs.Rewritings.{IsOrigin, IsSameNode, KeepsOthers, KeepsLabels}
-use Rattle.lg_fold.specs.Folds.{IsFoldedNode, IsFoldedTo}
-use Rattle.lg_fold.specs.Known.{number_in, both_known, made, last_known, with_immediate, folded_by, folded, known_before}
+use Rattle.lg_opt.proofs.ClauseLemmas.{Joined, origins-join}
+use Rattle.lg_dead.specs.Folds.{IsFoldedNode, IsFoldedTo, ComesFolded}
+use Rattle.lg_dead.specs.Known.{number_in, both_known, made, last_known, with_immediate, folded_by, folded, known_before}
 use Rattle.lg_operators.specs.Operators.{is_carried, binary_value}
 use Rattle.lg_dead.specs.Rewritten.{is_droppable}
 
@@ -27,6 +28,16 @@ origin-weaker R S l m origin h o = record {
 
 pub others-weaker : (f g : Op → Bool) (l : LabelledNodes) (origin : List ℕ) → ((o : Op) → g o ≡ false → f o ≡ false) → KeepsOthers f l origin → KeepsOthers g l origin
 others-weaker f g l origin h k i n e may = k i n e (h n.op may)
+
+-- nodes that come folded, and others that come from them
+pub folded-joins : (Stands : Node → Node → Type 0) (l m n : LabelledNodes) (first second : List ℕ) → ComesFolded IsSameNode l m first → IsOrigin Stands m n second
+    → ComesFolded Stands l n (map (slice_index first) second)
+folded-joins Stands l m n first second made o = record {
+  middle = made.middle;
+  folded = made.folded;
+  from = origin-weaker (Joined IsSameNode Stands) Stands made.middle n (map (slice_index first) second) (λ old x j. subst (λ (a : Node). Stands a x) j.1 j.2)
+      (origins-join IsSameNode Stands made.middle m n first second made.from o);
+}
 
 -- ---- which operations go
 no-or : (a b : Bool) → (a || b) ≡ false → (a ≡ false) × (b ≡ false)

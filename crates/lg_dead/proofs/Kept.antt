@@ -13,7 +13,7 @@ use Rattle.lg_opt.specs.Moves as moves
 use Rattle.lg_opt.specs.Remaining.{rewritten, no_targets}
 use Rattle.lg_opt.specs.Targets.{AreTargets}
 use Rattle.lg_dead.specs.Dead.{HasNoDeadButMoves}
-use Rattle.lg_fold.specs.Known.{HasNoFolds}
+use Rattle.lg_dead.specs.Known.{HasNoFolds}
 
 -- dropping definitions that are not needed, moves that do nothing, and threading make no node one that can be folded
 abbrev pub DeadKeepsNoFolds : Type 0

@@ -30,9 +30,9 @@ use Rattle.lg_opt.specs.Remaining.{new_number, moved_place, retargeted, rewritte
 use Rattle.lg_opt.proofs.LabelLemmas.{label-there, labelled-bound}
 use Rattle.lg_opt.proofs.MovedLemmas.{same-op, stands}
 use Rattle.lg_opt.proofs.RemainingLemmas.{number-zero, number-stays, number-goes}
-use Rattle.lg_fold.specs.Known.{number_in, both_known, made, last_known, can_be_folded, moved_number, or_else, known_behind, known_before}
-use Rattle.lg_fold.proofs.KnownLemmas.{unwritten-known, behind-cases, fresh-at, known-step, came}
-use Rattle.lg_fold.proofs.FoldNodeLemmas.{BinaryMade, UnaryMade, BinaryLast, BranchLast, made-cases, last-cases}
+use Rattle.lg_dead.specs.Known.{number_in, both_known, made, last_known, can_be_folded, moved_number, or_else, known_behind, known_before}
+use Rattle.lg_dead.proofs.KnownLemmas.{unwritten-known, behind-cases, fresh-at, known-step, came}
+use Rattle.lg_dead.proofs.FoldNodeLemmas.{BinaryMade, UnaryMade, BinaryLast, BranchLast, made-cases, last-cases}
 
 no : true ≡ false → ⊥
 no e = cc

@@ -1,9 +1,15 @@
 pub mod ClauseLemmas
 pub mod DeadRunLemmas
+pub mod FoldAcceptLemmas
+pub mod FoldClauseLemmas
+pub mod FoldListLemmas
+pub mod FoldNodeLemmas
+pub mod FoldRunLemmas
 pub mod Follows
 pub mod JoinLemmas
 pub mod Kept
 pub mod KnownKeepLemmas
+pub mod KnownLemmas
 pub mod MovesKeepLemmas
 pub mod NeededLemmas
 pub mod NoFoldLemmas

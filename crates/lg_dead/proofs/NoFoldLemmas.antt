@@ -42,10 +42,10 @@ use Rattle.lg_opt.proofs.RemainingLemmas.{number-goes}
 use Rattle.lg_opt.proofs.TargetLemmas.{dropped-jumps, goal-labelled, same-node}
 use Rattle.lg_opt.proofs.TidyLemmas.{move-is}
 use Rattle.lg_opt.proofs.MovedLemmas.{comes-from, new-count, stands}
-use Rattle.lg_fold.specs.Known.{made, last_known, can_be_folded, moved_number, or_else, known_behind, known_before, HasNoFolds}
-use Rattle.lg_fold.proofs.FoldRunLemmas.{is-same}
+use Rattle.lg_dead.specs.Known.{made, last_known, can_be_folded, moved_number, or_else, known_behind, known_before, HasNoFolds}
+use Rattle.lg_dead.proofs.FoldRunLemmas.{is-same}
 use Rattle.lg_dead.proofs.Kept.{DeadKeepsNoFolds, MovesKeepNoFolds, ThreadsKeepNoFolds}
-use Rattle.lg_fold.proofs.KnownLemmas.{no-fp-known, fresh-at, known-step, unwritten-known}
+use Rattle.lg_dead.proofs.KnownLemmas.{no-fp-known, fresh-at, known-step, unwritten-known}
 use Rattle.lg_dead.proofs.KnownKeepLemmas.{tracked, can-less, label-kept}
 
 falls-next : (o : Op) → leaps o ≡ false → way_of o ≡ Next

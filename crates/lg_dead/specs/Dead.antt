@@ -2,12 +2,12 @@
 use Rattle.std.specs.Prelude.{◌≡◌, ◌↔◌, ℕ, ◌+◌, not, Bool, true, false, ◌&&◌, ◌||◌, List, Option, Some, None, slice_get, slice_index_or}
 use Rattle.lg_op.specs.declared.node.Node.{Node}
 use Rattle.lg_op.specs.declared.operand.Reg.{Reg}
-use Rattle.lg_op.specs.declared.operand.Reg.TheVariants.{R0, R1, R2, V0, V1, V2}
 use Rattle.lg_node.specs.Nodes.{LabelledNodes}
 use Rattle.lg_node.specs.Shapes.{TextShape, IsSuccessor}
 use Rattle.lg_live.specs.RegSets.{has}
 use Rattle.lg_live.specs.declared.reg_set.RegSet.{RegSet}
 use Rattle.lg_live.specs.Uses.{is_written}
+use Rattle.lg_liveness.specs.Graphs.{any_register}
 use Rattle.lg_liveness.specs.Liveness.{IsLiveBehind}
 use Rattle.lg_liveness.specs.Definitions.{defines}
 use Rattle.lg_liveness.specs.Needs.{IsNeeded}
@@ -40,8 +40,7 @@ HasNoDeadButMoves l s = (i : ℕ) (n : Node) → slice_get l.nodes i ≡ Some n 
 
 -- ---- the nodes that stay
 abbrev pub any_needed : (Reg → Bool) → Node → Bool
-any_needed needs n =
-    (is_written n R0 && needs R0) || ((is_written n R1 && needs R1) || ((is_written n R2 && needs R2) || ((is_written n V0 && needs V0) || ((is_written n V1 && needs V1) || (is_written n V2 && needs V2)))))
+any_needed needs n = any_register (λ r. is_written n r && needs r)
 
 abbrev pub stays_at : (Reg → Bool) → Option Node → Bool
 stays_at needs None = true

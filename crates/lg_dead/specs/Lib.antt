@@ -1,3 +1,7 @@
 pub mod Dead
 pub mod Dropping
+pub mod Folds
+pub mod Known
+pub mod Lists
 pub mod Rewritten
+pub mod Tables

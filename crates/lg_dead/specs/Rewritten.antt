@@ -9,8 +9,8 @@ use Rattle.lg_meaning.specs.Addresses.{AreAddresses}
 use Rattle.lg_opt.specs.Hops.{is_jump}
 use Rattle.lg_opt.specs.Rewritings.{IsOrigin, IsThreadedNode, IsTidy, KeepsOthers, KeepsLabels}
 use Rattle.lg_opt.specs.Runs.{AreDropped}
-use Rattle.lg_fold.specs.Folds.{IsFoldedNode}
-use Rattle.lg_fold.specs.Known.{HasNoFolds}
+use Rattle.lg_dead.specs.Folds.{IsFoldedNode, ComesFolded}
+use Rattle.lg_dead.specs.Known.{HasNoFolds}
 use Rattle.lg_dead.specs.Dead.{HasNoDeadButMoves}
 
 -- what may be dropped: definitions, and jumps to labels
@@ -21,13 +21,15 @@ is_droppable o = defines o || is_jump o
 abbrev pub IsRewrittenNode : Node → Node → Type 0
 IsRewrittenNode old n = (middle : Node) × IsFoldedNode old middle × IsThreadedNode middle n
 
--- final nodes of a text: they are its nodes, rewritten until nothing is left to do, and every other node of it is among them, as its labels are
+-- final nodes of a text: they are its nodes, folded by what is known before each of them and then threaded, until nothing is left to do, and every other node
+-- of it is among them, as its labels are
 pub record AreFinal (l m : LabelledNodes) (shape : TextShape) (origin : List ℕ) : Type 0 where
   pub shaped : IsShapeOf m shape
   pub tidy : IsTidy m
   pub folds : HasNoFolds m
   pub dead : HasNoDeadButMoves m shape
   pub from : IsOrigin IsRewrittenNode l m origin
+  pub folded : ComesFolded IsThreadedNode l m origin
   pub others : KeepsOthers is_droppable l origin
   pub labels : KeepsLabels l m origin
 

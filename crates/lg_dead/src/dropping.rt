@@ -4,7 +4,7 @@ ghost use Rattle.std.specs.Prelude.{◌≡◌, ◌≤◌, length, IfOk};
 ghost use Rattle.lg_liveness.specs.Definitions.{defines};
 ghost use Rattle.lg_node.specs.Shapes.{IsShapeOf};
 ghost use Rattle.lg_opt.specs.Rewritings.{IsOrigin, IsSameNode, KeepsOthers, KeepsLabels, CarriesAddresses, RunsAreDropped};
-ghost use Rattle.lg_fold.specs.Known.{HasNoFolds};
+ghost use Rattle.lg_dead.specs.Known.{HasNoFolds};
 ghost use Rattle.lg_dead.specs.Dead.{AllAreOfUse};
 ghost use Rattle.lg_dead.specs.Dropping.{IsDroppedTo};
 

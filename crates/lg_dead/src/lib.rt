@@ -1,10 +1,15 @@
-//! Definitions that nothing needs are dropped; and the four rewrites of a text's nodes, one behind the other.
+//! Numbers that are known are put in the place of the registers that hold them, and of the nodes that make them; definitions that nothing needs are dropped;
+//! and the four rewrites of a text's nodes, one behind the other.
 #![tactic(auto)]
 
 mod dropping;
+mod folding;
+mod known;
+pub mod laws;
+mod list;
 mod rewriting;
 mod staying;
 
 pub use dropping::drop_dead;
-pub use lg_fold::fold;
+pub use list::fold;
 pub use rewriting::rewrite;

@@ -3,16 +3,16 @@
 ghost use Rattle.std.specs.Prelude.{◌≡◌, ◌<◌, ◌≤◌, ℕ, length, map, slice_index, IfOk};
 ghost use Rattle.lg_node.specs.Shapes.{IsShapeOf};
 ghost use Rattle.lg_opt.specs.Moves.{HasNoIdleMoves};
-ghost use Rattle.lg_opt.specs.Rewritings.{IsOrigin, KeepsOthers, KeepsLabels, CarriesAddresses, RunsAreFollowed};
-ghost use Rattle.lg_fold.specs.Folds.{IsFoldedNode};
-ghost use Rattle.lg_fold.specs.Known.{HasNoFolds};
+ghost use Rattle.lg_opt.specs.Rewritings.{IsOrigin, IsSameNode, KeepsOthers, KeepsLabels, CarriesAddresses, RunsAreFollowed};
+ghost use Rattle.lg_dead.specs.Folds.{IsFoldedNode, ComesFolded};
+ghost use Rattle.lg_dead.specs.Known.{HasNoFolds};
 ghost use Rattle.lg_dead.specs.Dead.{AllAreOfUse, HasNoDeadButMoves};
 ghost use Rattle.lg_dead.specs.Rewritten.{is_droppable, AreFinal, RunsRest};
 
 use crate::dropping::drop_dead;
+use crate::list::fold;
 use lg_base::code::Origin;
 use lg_base::refusal::OutOfMemory;
-use lg_fold::fold;
 use lg_node::{NodeList, Shape};
 use lg_opt::{Rewritten, drop_moves, thread};
 use std::alloc::Global;
@@ -35,6 +35,7 @@ fn without_dead(alloc: Global, nodes: &NodeList, shape: &Shape) -> Result<Rewrit
     ensures shape { IfOk result (λ r. IsShapeOf r.nodes r.shape) }
     ensures taken { IfOk result (λ r. r.shape.taken ≡ shape.now.taken) }
     ensures origin { IfOk result (λ r. IsOrigin IsFoldedNode nodes.now r.nodes r.origin.items) }
+    ensures folded { IfOk result (λ r. ComesFolded IsSameNode nodes.now r.nodes r.origin.items) }
     ensures others { IfOk result (λ r. KeepsOthers is_droppable nodes.now r.origin.items) }
     ensures few { IfOk result (λ r. length r.nodes.nodes ≤ length nodes.now.nodes) }
     ensures labels { IfOk result (λ r. KeepsLabels nodes.now r.nodes r.origin.items) }
@@ -53,6 +54,7 @@ fn without_moves(alloc: Global, nodes: &NodeList, shape: &Shape) -> Result<Rewri
     ensures shape { IfOk result (λ r. IsShapeOf r.nodes r.shape) }
     ensures taken { IfOk result (λ r. r.shape.taken ≡ shape.now.taken) }
     ensures origin { IfOk result (λ r. IsOrigin IsFoldedNode nodes.now r.nodes r.origin.items) }
+    ensures folded { IfOk result (λ r. ComesFolded IsSameNode nodes.now r.nodes r.origin.items) }
     ensures others { IfOk result (λ r. KeepsOthers is_droppable nodes.now r.origin.items) }
     ensures few { IfOk result (λ r. length r.nodes.nodes ≤ length nodes.now.nodes) }
     ensures labels { IfOk result (λ r. KeepsLabels nodes.now r.nodes r.origin.items) }

@@ -46,20 +46,19 @@ impl Instruction {
         }
     }
 
-    /// The line of the instruction at an address.
-    pub fn line(&self, at: u32) -> Line
+    /// Puts the line of the instruction at an address in the place of what a line has.
+    pub fn write_line(&self, at: u32, line: &mut Line)
         requires { IsInstruction self.now }
-        ensures { result ≡ instruction_line at self.now }
+        ensures { line.new ≡ instruction_line at self.now }
     {
-        let mut line = Line::new();
+        line.clear();
         line.push_hex(&at.to_be_bytes());
         line.push(b"  ");
         let spelling = self.encode();
         line.push_hex(spelling.as_slice());
         line.push(b"  ");
-        self.push_text(at, &mut line);
+        self.push_text(at, line);
         line.push(b"\n");
-        line
     }
 }
 

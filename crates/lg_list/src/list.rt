@@ -10,7 +10,7 @@ ghost use Rattle.lg_list.specs.Listing.{labels_at, bytes_between, node_entries, 
 
 use crate::instruction::decode;
 use crate::line::Line;
-use crate::lines::{first_line, node_line};
+use crate::lines::{first_line, write_node_line};
 use lg_base::code::{CodeBytes, Places};
 use lg_base::target::Target;
 use lg_io::sink::{Sink, SinkFault, write_all, write_parts};
@@ -56,11 +56,12 @@ fn write_labels<O: Sink>(nodes: Nodes<'_>, index: u32, out: &mut O) -> Result<()
     Ok(())
 }
 
-// Writes the instructions of bytes from an address on.
+// Writes the instructions of bytes from an address on, each in this line.
 fn write_instructions<O: Sink>(
     target: Target,
     at: u32,
     bytes: &[u8],
+    line: &mut Line,
     out: &mut O,
 ) -> Result<(), SinkFault>
     requires { at + length bytes.now < 2 ^ 32 }
@@ -71,7 +72,7 @@ fn write_instructions<O: Sink>(
         match decode(target, &bytes[done..]) {
             None => return Ok(()),
             Some((instruction, length)) => {
-                let line = instruction.line(at + done as u32);
+                instruction.write_line(at + done as u32, line);
                 match write_all(out, line.as_slice()) {
                     Ok(()) => done += length as usize,
                     Err(fault) => return Err(fault),
@@ -103,13 +104,14 @@ fn node_address(places: &Places, index: u32) -> u32
     CODE_BASE + places.get(index)
 }
 
-// Writes the lines of a node, whose bytes stand from an address on.
+// Writes the lines of a node, whose bytes stand from an address on, each in this line.
 fn write_node<O: Sink>(
     target: Target,
     nodes: Nodes<'_>,
     index: u32,
     at: u32,
     bytes: &[u8],
+    line: &mut Line,
     out: &mut O,
 ) -> Result<(), SinkFault>
     requires index { index < length nodes.list.now.nodes }
@@ -121,16 +123,16 @@ fn write_node<O: Sink>(
         (rendered at (node_entries target bytes.now nodes.entry.list.now index)) }
 {
     let node = nodes.list.node(index);
-    let own = node_line(node.line, node.op);
+    write_node_line(node.line, node.op, line);
     match write_labels(nodes, index, out) {
         Ok(()) => {}
         Err(fault) => return Err(fault),
     }
-    match write_all(out, own.as_slice()) {
+    match write_all(out, line.as_slice()) {
         Ok(()) => {}
         Err(fault) => return Err(fault),
     }
-    write_instructions(target, at, bytes, out)
+    write_instructions(target, at, bytes, line, out)
 }
 
 /// Writes the listing of code for a target: its bytes, the nodes that they were made of, the place of each node in the bytes, the last of which
@@ -148,7 +150,7 @@ pub fn list<O: Sink>(
     ensures { Wrote (O.taken out.old) (O.taken out.new) (O.faults out.old) (O.faults out.new) result
         (listing target code.now.items places.now.items nodes.now) }
 {
-    let line = first_line(target, code.len());
+    let mut line = first_line(target, code.len());
     match write_all(out, line.as_slice()) {
         Ok(()) => {}
         Err(fault) => return Err(fault),
@@ -161,7 +163,7 @@ pub fn list<O: Sink>(
     for index in 0..nodes.len() {
         let at = node_address(places, index);
         let bytes = node_bytes(code, places, index);
-        match write_node(target, all, index, at, bytes, out) {
+        match write_node(target, all, index, at, bytes, &mut line, out) {
             Ok(()) => {}
             Err(fault) => return Err(fault),
         }

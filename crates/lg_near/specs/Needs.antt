@@ -16,9 +16,11 @@ use Rattle.lg_near.specs.Near.{Near, Meets}
 -- registers that are not needed behind it
 pub record AreNeeds (l : LabelledNodes) (shape : TextShape) (stays : ℕ → Bool) (needs : ℕ → Reg → Bool) : Type 0 where
   pub reads : (i : ℕ) (n : Node) (r : Reg) → slice_get l.nodes i ≡ Some n → stays i ≡ true → is_read n r ≡ true → needs i r ≡ true
-  pub passes : (i k : ℕ) (n : Node) (r : Reg) → slice_get l.nodes i ≡ Some n → IsSuccessor l shape i k → needs k r ≡ true → is_written n r ≡ false → needs i r ≡ true
+  pub passes : (i k : ℕ) (n : Node) (r : Reg) → slice_get l.nodes i ≡ Some n → IsSuccessor l shape i k → needs k r ≡ true → is_written n r ≡ false
+      → needs i r ≡ true
   pub inside : (k : ℕ) (r : Reg) → needs k r ≡ true → k < length l.nodes
-  pub gone : (i : ℕ) (n : Node) → slice_get l.nodes i ≡ Some n → stays i ≡ false → (defines n.op ≡ true) × ((r : Reg) → is_written n r ≡ true → needs (i + 1) r ≡ false)
+  pub gone : (i : ℕ) (n : Node) → slice_get l.nodes i ≡ Some n → stays i ≡ false
+      → (defines n.op ≡ true) × ((r : Reg) → is_written n r ≡ true → needs (i + 1) r ≡ false)
 
 -- the same state, but for registers that are not needed at its node, and saved ones that are not needed at the returns
 abbrev pub AreNear : (ℕ → Reg → Bool) → State → State → Type 0

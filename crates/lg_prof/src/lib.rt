@@ -1,7 +1,11 @@
-//! A profile of a text by its lines: two numbers for each line, and which node's bytes hold a place of the code.
+//! A profile of a text by its lines: two numbers for each line, which node's bytes hold a place of the code, and the runs whose steps are counted: of the
+//! code on a processor, and of the portable meaning.
 #![tactic(auto)]
 
+pub mod code;
+pub mod laws;
 mod line_table;
+pub mod meaning;
 mod nowhere;
 mod places;
 mod tally;

@@ -15,7 +15,7 @@ use Rattle.lg_cpu.specs.Targets.{effect_of}
 use Rattle.lg_cpu.specs.Targets as targets
 use Rattle.lg_cpu.proofs.RunLemmas.{machine_is}
 use Rattle.lg_dead.specs.Rewritten.{IsRewrittenNode}
-use Rattle.lg_fold.specs.Known.{folded_by, last_known, made}
+use Rattle.lg_dead.specs.Known.{folded_by, last_known, made}
 use Rattle.lg_io.specs.NamedTexts.{NamedTexts}
 use Rattle.lg_io.specs.SinkChanges.{SinkChange}
 use Rattle.lg_mean.specs.Machines.{state_of}
@@ -29,13 +29,13 @@ use Rattle.lg_prof.specs.Places.{AreLines}
 use Rattle.lg_prof.specs.Tables.{table_below}
 use Rattle.lg_prof.specs.Tallies.{AreBelow, ran_at, spent_at as spent_in}
 use Rattle.lg_prof.specs.declared.tally.Counts.{Counts}
-use Rattle.lg_prof_runs.specs.Counted.{total}
-use Rattle.lg_prof_runs.specs.Counts as counts
-use Rattle.lg_prof_runs.specs.Laws.{CountsAddUp, SpentAddsUp, TablesHaveLines}
-use Rattle.lg_prof_runs.specs.Spent.{code_line, has_run, is_fault, is_going, spent, table_line}
-use Rattle.lg_prof_runs.proofs.SpentLemmas.{line_of_node, spent_same}
-use Rattle.lg_prof_runs.proofs.SumLemmas.{all_are_made}
-use Rattle.lg_prof_runs.proofs.TableLemmas.{line_is}
+use Rattle.lg_prof.specs.Counted.{total}
+use Rattle.lg_prof.specs.Counts as counts
+use Rattle.lg_prof.specs.Laws.{CountsAddUp, SpentAddsUp, TablesHaveLines}
+use Rattle.lg_prof.specs.Spent.{code_line, has_run, is_fault, is_going, spent, table_line}
+use Rattle.lg_prof.proofs.SpentLemmas.{line_of_node, spent_same}
+use Rattle.lg_prof.proofs.SumLemmas.{all_are_made}
+use Rattle.lg_prof.proofs.TableLemmas.{line_is}
 use Rattle.lg_run.specs.ProfileStarts.{AreTallied, IsStartOf, TalliesFor, WorkTells}
 use Rattle.lg_run.specs.Profiles.{IsProfileOf, ProfilesAddUp, TableFor, TableIn, is_profile, is_run_end, meant_at, spent_at, table_of, tells_table}
 use Rattle.lg_run.specs.Runs.{HasRun, RunSays}

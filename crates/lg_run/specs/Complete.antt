@@ -109,4 +109,5 @@ pub record IsTrusted (words : List (List ℕ)) (texts : TextsChange) : Type 0 wh
 abbrev pub SureCompleteness : Type 0
 SureCompleteness =
     (words : List (List ℕ)) (texts : TextsChange) (out err : SinkChange) (done : Done)
-    → Says words texts out err done → IsTrusted words texts → ¬ Rose out.faults out.faults' → ¬ Rose err.faults err.faults' → Takes words → IsAnswered words texts.held done
+    → Says words texts out err done → IsTrusted words texts → ¬ Rose out.faults out.faults' → ¬ Rose err.faults err.faults' → Takes words
+    → IsAnswered words texts.held done

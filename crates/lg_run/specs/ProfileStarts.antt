@@ -15,8 +15,8 @@ use Rattle.lg_node.specs.declared.unit.Unit.{Unit as TextUnit}
 use Rattle.lg_prof.specs.Places.{AreLines}
 use Rattle.lg_prof.specs.Tallies.{AreBelow, ran_at, spent_at}
 use Rattle.lg_prof.specs.declared.tally.Counts.{Counts}
-use Rattle.lg_prof_runs.specs.Counts.{count}
-use Rattle.lg_prof_runs.specs.Spent.{spent, table_line}
+use Rattle.lg_prof.specs.Counts.{count}
+use Rattle.lg_prof.specs.Spent.{spent, table_line}
 use Rattle.lg_run.specs.Profiles.{TableFor, TableIn, table_of, tells_table}
 use Rattle.lg_run.specs.Refused.{IsTextIn, IsTextUnder, IsUnitOf}
 use Rattle.lg_run.specs.Says.{trash_word}

@@ -10,9 +10,9 @@ use Rattle.lg_node.specs.declared.unit.Unit.{Unit as TextUnit}
 use Rattle.lg_prof.specs.Tables.{table, table_below}
 use Rattle.lg_prof.specs.Tallies.{AreBelow}
 use Rattle.lg_prof.specs.declared.tally.Counts.{Counts}
-use Rattle.lg_prof_runs.specs.Counted.{all_made, total}
-use Rattle.lg_prof_runs.specs.Counts.{count, has_meant}
-use Rattle.lg_prof_runs.specs.Spent.{code_line, spent}
+use Rattle.lg_prof.specs.Counted.{all_made, total}
+use Rattle.lg_prof.specs.Counts.{count, has_meant}
+use Rattle.lg_prof.specs.Spent.{code_line, spent}
 use Rattle.lg_run.specs.Runs.{RunSays}
 use Rattle.lg_run.specs.Says.{IsCodeOf, code_meaning, code_run}
 use Rattle.lg_run.specs.declared.answer.Answer.{Answer}

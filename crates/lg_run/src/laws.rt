@@ -4,7 +4,7 @@ ghost use Rattle.lg_run.specs.Complete.{Completeness, SureCompleteness};
 ghost use Rattle.lg_run.specs.Profiles.{ProfilesAddUp};
 ghost use Rattle.lg_run.specs.Refused.{ListingsAreRefusedOnce, TextsAreRefusedOnce};
 
-use lg_prof_runs::laws::{counts_add_up, spent_steps_add_up};
+use lg_prof::laws::{counts_add_up, spent_steps_add_up};
 
 /// Where clap takes the words, no count of faults rose and memory was had, the answer says where the run of the code that is there, or
 /// its meaning, stands after the most steps: it is the meaning's end where that comes in time, and no fault where the meaning is never

@@ -13,7 +13,7 @@ ghost use Rattle.lg_io.specs.SinkChanges.{WroteTo, on_sink};
 ghost use Rattle.lg_node.specs.Shapes.{IsChecked};
 ghost use Rattle.lg_prof.specs.Places.{AreLines};
 ghost use Rattle.lg_prof.specs.Tallies.{ran_at, spent_at};
-ghost use Rattle.lg_prof_runs.specs.Spent.{spent, table_line};
+ghost use Rattle.lg_prof.specs.Spent.{spent, table_line};
 ghost use Rattle.lg_run.specs.Changes.{TellsWrites};
 ghost use Rattle.lg_run.specs.ProfileStarts.{IsStartOf, RanTells, StandsAtStart, TalliesFor};
 ghost use Rattle.lg_run.specs.Profiles.{is_run_end, table_of};
@@ -34,9 +34,9 @@ use lg_cpu::cpu::Cpu;
 use lg_io::sink::{Sink, SinkFault};
 use lg_mean::portable::Portable;
 use lg_prof::{LineTable, Tally};
-use lg_prof_runs::code::run_counted;
-use lg_prof_runs::laws::tables_have_the_lines;
-use lg_prof_runs::meaning::count_meaning;
+use lg_prof::code::run_counted;
+use lg_prof::laws::tables_have_the_lines;
+use lg_prof::meaning::count_meaning;
 use std::alloc::Global;
 
 /// What ran, and the numbers of the lines, where they are told.

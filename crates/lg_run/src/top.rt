@@ -104,11 +104,11 @@ fn answer<T: Texts, O: Sink, E: Sink>(
 }
 
 /// Reads the words of the command, and the text of its file, which it expands, or makes the generator's text (`--mode gen`); makes code of the text's unit
-/// for the command's target, and runs the code on a model of the processor, or, with `--mode mean`, the unit's portable meaning over the
-/// addresses of the code's labels, for at most so many steps as the command says; or, with `--mode list`, writes the code's listing; or, with
-/// `--mode back`, reads the file's text as a listing, and writes the bytes that it is of; or, with `--mode profile`, runs the code, and then the
-/// meaning, and tells how many steps of both belong to each line. What the run writes, the listing and these bytes go to `out`, and the table of a profile, the statistics and the line of every answer but an end to `err`. All memory is taken before the first step and before
-/// the first line.
+/// for the command's target, and runs the code on a model of the processor, or, with `--mode mean`, the unit's portable meaning over the addresses of the
+/// code's labels, for at most so many steps as the command says; or, with `--mode list`, writes the code's listing; or, with `--mode back`, reads the file's
+/// text as a listing, and writes the bytes that it is of; or, with `--mode profile`, runs the code, and then the meaning, and tells how many steps of both
+/// belong to each line. What the run writes, the listing and these bytes go to `out`, and the table of a profile, the statistics and the line of every answer
+/// but an end to `err`. All memory is taken before the first step and before the first line.
 pub fn lightning<T: Texts, O: Sink, E: Sink>(
     alloc: Global,
     words: &Vec<String>,

@@ -329,7 +329,8 @@ fn do_made<O: Sink>(alloc: Global, command: &Command<'_>, args: &ArgImage, out: 
     }
 }
 
-/// Reads the text of a command's file, or makes the generator's, and does what is asked for; or reads the file as a listing (`--mode back`). Words of arguments that are too long are refused first.
+/// Reads the text of a command's file, or makes the generator's, and does what is asked for; or reads the file as a listing (`--mode back`). Words of
+/// arguments that are too long are refused first.
 pub fn work<T: Texts, O: Sink>(
     alloc: Global,
     command: &Command<'_>,

@@ -58,8 +58,8 @@ pub fn call_on_texts(
     lightning(alloc, words, texts, out, err).answer
 }
 
-/// Calls that fail, by their numbers from 1 on, or 0 for none: of the texts, of the standard output and of the standard error; and how many bytes the standard output
-/// takes, where that is not 0.
+/// Calls that fail, by their numbers from 1 on, or 0 for none: of the texts, of the standard output and of the standard error; and how many bytes the
+/// standard output takes, where that is not 0.
 #[derive(Clone, Copy)]
 pub struct Faults {
     pub read: u32,

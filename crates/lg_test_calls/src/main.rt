@@ -1,9 +1,8 @@
-// What calls of the program come to. Each part has a folder of `data` with its cases: `code` compares the code of texts with their meaning, `cases` has
-// texts with what they write and how they end, `reaches` how long code is that leads to labels, `examples` the texts of the folder `examples`, which the mode `profile`
-// runs too, `modes` statistics, listings and the generator's texts, `any_text` takes any bytes for a text, and `back` reads listings back; `edges` has what stands in no
-// table. `targets.txt` has a target a line.
-// Prints what each part found.
-// The status is 0 exactly where the code of all cases agrees with their meaning.
+// What calls of the program come to. Each part has a folder of `data` with its cases: `code` compares the code of texts with their meaning, `cases` has texts
+// with what they write and how they end, `reaches` how long code is that leads to labels, `examples` the texts of the folder `examples`, which the mode
+// `profile` runs too, `modes` statistics, listings and the generator's texts, `any_text` takes any bytes for a text, and `back` reads listings back; `edges`
+// has what stands in no table. `targets.txt` has a target a line. Prints what each part found. The status is 0 exactly where the code of all cases agrees
+// with their meaning.
 #![tactic(auto)]
 
 ghost use Rattle.std.specs.Prelude.{◌≡◌};

@@ -1,7 +1,7 @@
-// How long the code is that leads to labels, at both edges of each form. `rows.tsv` has a line a row, with tabs between: the target, the size of the buffer, how many
-// additions of a wide number and how many of 1 stand in front, how many bytes they have, what stands behind them, then what leads to a label, and how many bytes
-// this has. The label `f` stands in front of the function, `a` behind its `prolog`, and `c` behind what leads. Bytes are those by which the statistics of two texts
-// differ. Prints for each row that is not right how many bytes there are, and how many rows are right.
+// How long the code is that leads to labels, at both edges of each form. `rows.tsv` has a line a row, with tabs between: the target, the size of the buffer,
+// how many additions of a wide number and how many of 1 stand in front, how many bytes they have, what stands behind them, then what leads to a label, and
+// how many bytes this has. The label `f` stands in front of the function, `a` behind its `prolog`, and `c` behind what leads. Bytes are those by which the
+// statistics of two texts differ. Prints for each row that is not right how many bytes there are, and how many rows are right.
 
 use crate::call::{NO_FAULTS, call_on_text, command};
 use lg_base::refusal::OutOfMemory;

@@ -61,11 +61,11 @@ fn faults_in(line: &str) -> Faults {
     }
 }
 
-/// The case of a block: in the first line, with tabs between, its name, its status, its ways (`all`, on each target and by its meaning, `targets`, on each target, and
-/// else as it stands), and the words of the command; then, each 0 or left out where there is none, the number of the call of the texts that fails, of the write to
-/// the standard output, and of that to the standard error, and how many bytes the standard output takes. Behind it stand the text, what it writes, and the form of
-/// its lines on the standard error, with a line of four hyphens behind the first two. The last line feed of each is not its own. None where the block
-/// has another form.
+/// The case of a block: in the first line, with tabs between, its name, its status, its ways (`all`, on each target and by its meaning, `targets`, on each
+/// target, and else as it stands), and the words of the command; then, each 0 or left out where there is none, the number of the call of the texts that
+/// fails, of the write to the standard output, and of that to the standard error, and how many bytes the standard output takes. Behind it stand the text,
+/// what it writes, and the form of its lines on the standard error, with a line of four hyphens behind the first two. The last line feed of each is not its
+/// own. None where the block has another form.
 pub fn parse_case(block: &str) -> Option<Case<'_>> {
     let (first, rest) = block.split_once('\n')?;
     let (text, rest) = rest.split_once("\n----\n")?;

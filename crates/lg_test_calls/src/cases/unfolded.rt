@@ -24,8 +24,8 @@ fn push_line(bytes: &mut Vec<u8>, line: &str) -> Result<(), AllocError> {
     }
 }
 
-/// The bytes that lines stand for: `REPEAT N PIECE` for so many times the piece, `BYTE N` for that byte, both with no line feed behind, and every other line for
-/// itself.
+/// The bytes that lines stand for: `REPEAT N PIECE` for so many times the piece, `BYTE N` for that byte, both with no line feed behind, and every other line
+/// for itself.
 pub fn unfolded(alloc: Global, lines: &str) -> Result<Vec<u8>, AllocError> {
     let mut bytes = Vec::new(alloc);
     for line in lines.split_inclusive('\n') {

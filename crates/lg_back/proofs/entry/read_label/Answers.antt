@@ -9,7 +9,7 @@ use Rattle.lg_back.proofs.entry.read_label.Goals as goal
 
 pub returns-then-not-starts_with-clause-none : goal.returns-then-not-starts_with-clause-none
 returns-then-not-starts_with-clause-none c t word h =
-    let front : c.as_slice.result.now ≡ address c.args.at ++ codes " " = c.as_slice.ensures.value ∙ c.label_front-front.ensures in
+    let front : c.as_slice.result.now ≡ address c.args.at ++ codes " " = c.as_slice.ensures.value ∙ c.write_label_front.ensures in
     not-both _ _ c.if-not-starts_with.true c.starts_with.ensures.value (starts-again c.args.text.now c.as_slice.result.now _ (label-front t c.args.at word c.args.text.now h ∙ ap (λ x. x ++ (word ++ (codes ":\n" ++ h.rest))) (sym front)))
 
 pub returns-then-not-is_word-clause-none : goal.returns-then-not-is_word-clause-none
@@ -20,7 +20,7 @@ returns-then-not-is_word-clause-none c t word h =
 pub returns-then-starts_with-clause-found : goal.returns-then-starts_with-clause-found
 returns-then-starts_with-clause-found c =
     let word = c.until-word.result.now in
-    let front : c.as_slice.result.now ≡ address c.args.at ++ codes " " = c.as_slice.ensures.value ∙ c.label_front-front.ensures in
+    let front : c.as_slice.result.now ≡ address c.args.at ++ codes " " = c.as_slice.ensures.value ∙ c.write_label_front.ensures in
     let begins : c.args.text.now ≡ (address c.args.at ++ codes " ") ++ drop 9 c.args.text.now =
     starts-front c.args.text.now (address c.args.at ++ codes " ") (ap (starts_with nat_eq c.args.text.now) (sym front) ∙ sym c.starts_with.ensures.value ∙ c.if-not-starts_with.false) in
     let is : word ≡ until 58 (drop 9 c.args.text.now) = c.until-word.ensures ∙ ap (until 58) c.behind-rest.ensures in

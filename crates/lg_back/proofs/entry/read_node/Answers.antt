@@ -14,7 +14,7 @@ returns-in_err-op-clause-none c = rw c.from_residual-in_err-op.ensures (λ t at 
 
 pub returns-then-starts_with-clause-found : goal.returns-then-starts_with-clause-found
 returns-then-starts_with-clause-found c =
-    let line : c.as_slice-line.result.now ≡ node_line c.in_ok-number.number c.in_ok-op.op = c.as_slice-line.ensures.value ∙ c.node_line-line.ensures in
+    let line : c.as_slice-line.result.now ≡ node_line c.in_ok-number.number c.in_ok-op.op = c.as_slice-line.ensures.value ∙ c.write_node_line.ensures in
     let front : c.args.text.now ≡ c.as_slice-line.result.now ++ drop (length c.as_slice-line.result.now) c.args.text.now = starts-front c.args.text.now c.as_slice-line.result.now (sym c.starts_with.ensures.value ∙ c.if-starts_with.true) in
     let whole : c.args.text.now ≡ node_line c.in_ok-number.number c.in_ok-op.op ++ drop (length c.as_slice-line.result.now) c.args.text.now = front ∙ ap (λ x. x ++ drop (length c.as_slice-line.result.now) c.args.text.now) line in
     let small : c.in_ok-number.number < 2 ^ 32 = omega arith in
@@ -25,5 +25,5 @@ returns-else-starts_with-clause-none c t at line op h =
     let words = node-words t at line op c.args.text.now h in
     let number : c.in_ok-number.number ≡ line = some-is _ line (c.in_ok-number.ensures line h.form (c.comment_words.ensures.first ∙ words.0)) in
     let own : c.in_ok-op.op ≡ op = some-is _ op ((c.in_ok-op.ensures).every op (inl (c.comment_words.ensures.second ∙ words.1))) in
-    let printed : c.as_slice-line.result.now ≡ node_line line op = c.as_slice-line.ensures.value ∙ c.node_line-line.ensures ∙ ap₂ node_line number own in
+    let printed : c.as_slice-line.result.now ≡ node_line line op = c.as_slice-line.ensures.value ∙ c.write_node_line.ensures ∙ ap₂ node_line number own in
     not-both _ _ c.if-starts_with.false c.starts_with.ensures.value (starts-again c.args.text.now c.as_slice-line.result.now h.rest (h.text_is ∙ ap (λ x. x ++ h.rest) (sym printed)))

@@ -20,7 +20,7 @@ returns-in_err-instruction-clause-none c = rw c.from_residual-in_err-instruction
 pub returns-then-starts_with-clause-found : goal.returns-then-starts_with-clause-found
 returns-then-starts_with-clause-found c =
     let i = c.in_ok-instruction.instruction in
-    let line : c.as_slice-line.result.now ≡ instruction_line c.args.at i = c.as_slice-line.ensures.value ∙ c.line-line.ensures in
+    let line : c.as_slice-line.result.now ≡ instruction_line c.args.at i = c.as_slice-line.ensures.value ∙ c.write_line.ensures in
     let front : c.args.text.now ≡ c.as_slice-line.result.now ++ drop (length c.as_slice-line.result.now) c.args.text.now = starts-front c.args.text.now c.as_slice-line.result.now (sym c.starts_with.ensures.value ∙ c.if-starts_with.true) in
     let whole : c.args.text.now ≡ instruction_line c.args.at i ++ drop (length c.as_slice-line.result.now) c.args.text.now = front ∙ ap (λ x. x ++ drop (length c.as_slice-line.result.now) c.args.text.now) line in
     let f = (c.in_ok-instruction.ensures).front in
@@ -32,5 +32,5 @@ returns-else-starts_with-clause-none c i h =
     let bytes = c.as_slice.ensures.value ∙ (c.in_ok-bytes.ensures).all ∙ ap hex_front c.behind.ensures in
     let read = read-in-line c.args.target c.args.at i c.args.text.now h.rest c.as_slice.result.now h.form h.text_is bytes in
     let same : c.in_ok-instruction.instruction ≡ i = same-first _ _ _ _ _ _ (c.in_ok-instruction.was) c.decode.ensures.value read in
-    let line : c.as_slice-line.result.now ≡ instruction_line c.args.at i = c.as_slice-line.ensures.value ∙ c.line-line.ensures ∙ ap (instruction_line c.args.at) same in
+    let line : c.as_slice-line.result.now ≡ instruction_line c.args.at i = c.as_slice-line.ensures.value ∙ c.write_line.ensures ∙ ap (instruction_line c.args.at) same in
     not-both _ _ c.if-starts_with.false c.starts_with.ensures.value (starts-again c.args.text.now c.as_slice-line.result.now h.rest (h.text_is ∙ ap (λ x. x ++ h.rest) (sym line)))

@@ -4,11 +4,11 @@ use Rattle.lg_opt.specs.Hops.{is_jump}
 use Rattle.lg_opt.specs.Rewritings.{IsOrigin, IsThreadedNode, KeepsOthers, KeepsLabels}
 use Rattle.lg_opt.proofs.ClauseLemmas.{joined-within, origins-join, others-join, labels-join}
 use Rattle.lg_opt.proofs.FollowedLemmas.{law}
-use Rattle.lg_fold.specs.Folds.{IsFoldedNode}
-use Rattle.lg_fold.specs.Known.{HasNoFolds}
+use Rattle.lg_dead.specs.Folds.{IsFoldedNode, ComesFolded}
+use Rattle.lg_dead.specs.Known.{HasNoFolds}
 use Rattle.lg_dead.specs.Dead.{HasNoDeadButMoves}
 use Rattle.lg_dead.specs.Rewritten.{is_droppable, IsRewrittenNode}
-use Rattle.lg_dead.proofs.JoinLemmas.{others-weaker, no-jump, folded-still}
+use Rattle.lg_dead.proofs.JoinLemmas.{folded-joins, others-weaker, no-jump, folded-still}
 use Rattle.lg_dead.proofs.NoFoldLemmas.{threads-keep}
 use Rattle.lg_dead.proofs.ThreadLiveLemmas.{threads-keep-no-dead}
 use Rattle.lg_dead.proofs.rewriting.rewrite.Goals as goal
@@ -37,6 +37,7 @@ returns c =
         folds = subst HasNoFolds (sym second.made.nodes) (threads-keep m.nodes second.made.targets first.shape.accepted formed second.made.are first.folds);
         dead = subst (λ (x : LabelledNodes). HasNoDeadButMoves x t.shape) (sym second.made.nodes) (threads-keep-no-dead m.nodes m.shape t.shape second.made.targets first.shape formed second.made.are second.made.taken first.dead);
         from = subst (IsOrigin IsRewrittenNode l t.nodes) (sym c.in_ok-origin.ensures) (origins-join IsFoldedNode IsThreadedNode l m.nodes t.nodes m.origin.items t.origin.items first.origin second.origin);
+        folded = subst (ComesFolded IsThreadedNode l t.nodes) (sym c.in_ok-origin.ensures) (folded-joins IsThreadedNode l m.nodes t.nodes m.origin.items t.origin.items first.folded second.origin);
         others = subst (KeepsOthers is_droppable l) (sym c.in_ok-origin.ensures)
             (others-join IsFoldedNode IsThreadedNode l m.nodes t.nodes m.origin.items t.origin.items first.origin second.origin is_droppable folded-still first.others (others-weaker is_jump is_droppable m.nodes t.origin.items no-jump second.others));
         labels = subst (KeepsLabels l t.nodes) (sym c.in_ok-origin.ensures) (labels-join IsFoldedNode IsThreadedNode l m.nodes t.nodes m.origin.items t.origin.items first.origin second.origin first.labels second.labels);

@@ -3,8 +3,8 @@ use Rattle.lg_liveness.specs.Definitions.{defines}
 use Rattle.lg_opt.specs.Rewritings.{IsOrigin, IsSameNode, KeepsOthers, KeepsLabels, CarriesAddresses, RunsAreDropped}
 use Rattle.lg_opt.proofs.ClauseLemmas.{ok-weaker}
 use Rattle.lg_opt.proofs.TwiceLemmas.{twice}
-use Rattle.lg_fold.specs.Folds.{IsFoldedNode}
-use Rattle.lg_fold.specs.Known.{HasNoFolds}
+use Rattle.lg_dead.specs.Folds.{IsFoldedNode, ComesFolded}
+use Rattle.lg_dead.specs.Known.{HasNoFolds}
 use Rattle.lg_dead.specs.Rewritten.{is_droppable, RunsRest}
 use Rattle.lg_dead.proofs.JoinLemmas.{folded-origin, folded-others, folded-labels, ok-two}
 use Rattle.lg_dead.proofs.rewriting.without_dead.Goals as goal
@@ -22,6 +22,7 @@ returns c =
       shape = e.shape;
       taken = ok-weaker (λ r. r.shape.taken ≡ f.shape.taken) (λ r. r.shape.taken ≡ s.taken) r (λ x t. t ∙ first.taken) e.taken;
       origin = ok-weaker (λ r. IsOrigin IsSameNode f.nodes r.nodes r.origin.items) (λ r. IsOrigin IsFoldedNode l r.nodes r.origin.items) r (λ x o. folded-origin l f.nodes x.nodes x.origin.items to o) e.origin;
+      folded = ok-weaker (λ r. IsOrigin IsSameNode f.nodes r.nodes r.origin.items) (λ r. ComesFolded IsSameNode l r.nodes r.origin.items) r (λ x o. record { middle = f.nodes; folded = to; from = o }) e.origin;
       others = ok-weaker (λ r. KeepsOthers defines f.nodes r.origin.items) (λ r. KeepsOthers is_droppable l r.origin.items) r (λ x o. folded-others l f.nodes x.nodes x.origin.items to o) e.others;
       few = ok-weaker (λ r. length r.nodes.nodes ≤ length f.nodes.nodes) (λ r. length r.nodes.nodes ≤ length l.nodes) r (λ x o. omega (arith, o, to.count)) e.few;
       labels = ok-weaker (λ r. KeepsLabels f.nodes r.nodes r.origin.items) (λ r. KeepsLabels l r.nodes r.origin.items) r (λ x k. folded-labels l f.nodes x.nodes x.origin.items to k) e.labels;

@@ -5,11 +5,11 @@ use Rattle.lg_opt.specs.Moves.{is_movr}
 use Rattle.lg_opt.specs.Rewritings.{IsOrigin, IsSameNode, KeepsOthers, KeepsLabels}
 use Rattle.lg_opt.proofs.ClauseLemmas.{Joined, joined-within, origins-join, others-join, labels-join}
 use Rattle.lg_opt.proofs.TwiceLemmas.{twice}
-use Rattle.lg_fold.specs.Folds.{IsFoldedNode}
-use Rattle.lg_fold.specs.Known.{HasNoFolds}
+use Rattle.lg_dead.specs.Folds.{IsFoldedNode, ComesFolded}
+use Rattle.lg_dead.specs.Known.{HasNoFolds}
 use Rattle.lg_dead.specs.Dead.{HasNoDeadButMoves}
 use Rattle.lg_dead.specs.Rewritten.{is_droppable}
-use Rattle.lg_dead.proofs.JoinLemmas.{origin-weaker, others-weaker, no-movr, folded-still}
+use Rattle.lg_dead.proofs.JoinLemmas.{origin-weaker, folded-joins, others-weaker, no-movr, folded-still}
 use Rattle.lg_dead.proofs.MovesKeepLemmas.{no-dead-but-moves}
 use Rattle.lg_dead.proofs.NoFoldLemmas.{moves-keep}
 use Rattle.lg_dead.proofs.rewriting.without_moves.Goals as goal
@@ -36,6 +36,7 @@ returns c =
       origin = subst (IsOrigin IsFoldedNode l t.nodes) (sym c.in_ok-origin.ensures)
           (origin-weaker (Joined IsFoldedNode IsSameNode) IsFoldedNode l t.nodes (map (slice_index n.origin.items) t.origin.items) (λ old x j. subst (IsFoldedNode old) (sym j.2) j.1)
           (origins-join IsFoldedNode IsSameNode l n.nodes t.nodes n.origin.items t.origin.items first.origin second.origin));
+      folded = subst (ComesFolded IsSameNode l t.nodes) (sym c.in_ok-origin.ensures) (folded-joins IsSameNode l n.nodes t.nodes n.origin.items t.origin.items first.folded second.origin);
       others = subst (KeepsOthers is_droppable l) (sym c.in_ok-origin.ensures)
           (others-join IsFoldedNode IsSameNode l n.nodes t.nodes n.origin.items t.origin.items first.origin second.origin is_droppable folded-still first.others (others-weaker is_movr is_droppable n.nodes t.origin.items no-movr second.others));
       few = omega (arith, first.few, second.few);

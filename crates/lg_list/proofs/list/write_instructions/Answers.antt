@@ -28,7 +28,7 @@ returns g c =
 pub returns-in-Err : goal.returns-in-Err
 returns-in-Err g c =
     let s = code-step c.loop-done.invariant.fuel c.args.at c.loop-done.done c.args.target c.args.bytes.now c.in-Some.instruction c.in-Some.length (omega arith) (sym (rw take_rest at c.decode.ensures.value) ∙ c.in-Some.is) c.in-Some.ensures.front.1 in
-    stopped _ _ _ _ _ _ _ _ _ _ _ c.in-Err.fault c.loop-done.invariant.written s.2 (c.as_slice.ensures.value ∙ c.line-line.ensures) c.in-Err.ensures.err c.in-Err.ensures.cause.later c.in-Err.ensures.cause.failed
+    stopped _ _ _ _ _ _ _ _ _ _ _ c.in-Err.fault c.loop-done.invariant.written s.2 (c.as_slice.ensures.value ∙ c.write_line.ensures) c.in-Err.ensures.err c.in-Err.ensures.cause.later c.in-Err.ensures.cause.failed
 
 pub loop-done-preserved : goal.loop-done-preserved
 loop-done-preserved g c =
@@ -39,5 +39,5 @@ loop-done-preserved g c =
       fuel = s.0;
       enough = omega (arith, fuel, c.in-Some.ensures.within.0, c.loop-done.invariant.enough);
       within = omega (arith, rw take_rest at c.in-Some.ensures.within.1, length-drop c.loop-done.done c.args.bytes.now);
-      written = went _ _ _ _ _ _ _ _ _ _ _ c.loop-done.invariant.written s.2 (c.as_slice.ensures.value ∙ c.line-line.ensures) c.in-Ok.ensures.ok c.in-Ok.ensures.cause.kept;
+      written = went _ _ _ _ _ _ _ _ _ _ _ c.loop-done.invariant.written s.2 (c.as_slice.ensures.value ∙ c.write_line.ensures) c.in-Ok.ensures.ok c.in-Ok.ensures.cause.kept;
     }

@@ -1,0 +1,114 @@
+// The nodes of a text, folded.
+
+ghost use Rattle.std.specs.Prelude.{◌≡◌, ◌<◌, ◌≤◌, ℕ, true, false, if◌then◌else◌, None, Some, [], length, OnOk, IfOk};
+ghost use Rattle.lg_op.specs.declared.operand.Reg.{Reg};
+ghost use Rattle.lg_op.specs.declared.operand.Reg.TheVariants.{R0, R1, R2, V0, V1, V2};
+ghost use Rattle.lg_node.specs.Shapes.{IsShapeOf};
+ghost use Rattle.lg_opt.specs.Rewritings.{marked, IsOrigin, KeepsOthers, KeepsLabels, CarriesAddresses, RunsAreDropped};
+ghost use Rattle.lg_opt.specs.Targets.{AreLabelsAt};
+ghost use Rattle.lg_dead.specs.Known.{known_at, HasNoFolds};
+ghost use Rattle.lg_dead.specs.Folds.{IsFoldedNode, IsFoldedTo};
+ghost use Rattle.lg_dead.specs.Lists.{AreFolded, IsFoldedList};
+ghost use Rattle.lg_dead.specs.Tables.{known_of};
+
+use crate::folding::folded;
+use crate::known::Known;
+use lg_base::refusal::OutOfMemory;
+use lg_node::{Label, Node, NodeList, Shape};
+use lg_opt::Rewritten;
+use lg_opt::labels::{is_labelled, labels_at};
+use lg_opt::moves::leaps;
+use lg_opt::rebuilding::{bind_moved, numbers, unbound};
+use lg_opt::rewritten::finished;
+use std::alloc::Global;
+
+// What is known at a node, of what is known behind the node before: nothing where a label is bound at it.
+fn at_node(known: Known, labelled: bool) -> Known
+    ensures { (r : Reg) → known_of result r ≡ (if labelled then None else known_of known r) }
+{
+    if labelled { Known::none() } else { known }
+}
+
+// What is known behind a node.
+fn behind_node(known: Known, node: &Node) -> Known
+    ensures r0 { known_of result R0 ≡ known_at (known_of known) (Some node.now) R0 }
+    ensures r1 { known_of result R1 ≡ known_at (known_of known) (Some node.now) R1 }
+    ensures r2 { known_of result R2 ≡ known_at (known_of known) (Some node.now) R2 }
+    ensures v0 { known_of result V0 ≡ known_at (known_of known) (Some node.now) V0 }
+    ensures v1 { known_of result V1 ≡ known_at (known_of known) (Some node.now) V1 }
+    ensures v2 { known_of result V2 ≡ known_at (known_of known) (Some node.now) V2 }
+{
+    if leaps(node.op) {
+        Known::none()
+    } else {
+        known.behind(node)
+    }
+}
+
+// Appends the nodes, folded.
+fn push_folded(
+    list: &mut NodeList,
+    nodes: &NodeList,
+    labels: &[Option<Label>],
+) -> Result<(), OutOfMemory>
+    requires empty { list.old.nodes ≡ [] }
+    requires count { length labels.now ≡ length nodes.now.nodes }
+    requires labels { AreLabelsAt nodes.now labels.now }
+    ensures list { OnOk result (list.new ≡ record list.old { nodes = list.new.nodes }) }
+    ensures folded { OnOk result (AreFolded nodes.now list.new.nodes (length nodes.now.nodes)) }
+{
+    let mut known = Known::none();
+    for index in 0..nodes.len() {
+        let node = nodes.node(index);
+        let here = at_node(known, is_labelled(labels, index));
+        let new = folded(here, &node);
+        list.push(new)?;
+        known = behind_node(here, &new);
+    }
+    Ok(())
+}
+
+// Of each node that it stays.
+fn all_stay(alloc: Global, nodes: &NodeList) -> Result<Vec<bool>, OutOfMemory>
+    ensures count { IfOk result (λ table. length table.items ≡ length nodes.now.nodes) }
+    ensures stays { IfOk result (λ table. (i : ℕ) → i < length nodes.now.nodes → marked table.items i ≡ true) }
+{
+    Ok(vec![in alloc; true; nodes.len() as usize]?)
+}
+
+// The folded nodes, with their shape.
+fn folded_list(alloc: Global, nodes: &NodeList, shape: &Shape) -> Result<Rewritten, OutOfMemory>
+    requires { IsShapeOf nodes.now shape.now }
+    ensures { IfOk result (λ r. IsFoldedList nodes.now shape.now r.nodes r.shape r.origin.items) }
+{
+    nodes.what_holds();
+    let labels = labels_at(alloc, nodes)?;
+    let stays = all_stay(alloc, nodes)?;
+    let mut list = unbound(alloc, nodes)?;
+    push_folded(&mut list, nodes, &labels)?;
+    let numbers = numbers(alloc, &stays)?;
+    bind_moved(&mut list, nodes, &numbers);
+    finished(alloc, list, shape, &stays)
+}
+
+/// Folds the numbers that are known in each straight run: a node that makes a word of words that are known becomes the `movi` of that word, and one
+/// whose last operand is a register that is known gets the number in its place. Every node and label stays where it is. Time and memory go by the
+/// number of nodes and labels.
+///
+/// No node of the result can be folded. The new run makes a step at each step of the old one.
+pub fn fold(alloc: Global, nodes: &NodeList, shape: &Shape) -> Result<Rewritten, OutOfMemory>
+    requires { IsShapeOf nodes.now shape.now }
+    ensures shape { IfOk result (λ r. IsShapeOf r.nodes r.shape) }
+    ensures taken { IfOk result (λ r. r.shape.taken ≡ shape.now.taken) }
+    ensures origin { IfOk result (λ r. IsOrigin IsFoldedNode nodes.now r.nodes r.origin.items) }
+    ensures others { IfOk result (λ r. KeepsOthers (λ o. false) nodes.now r.origin.items) }
+    ensures few { IfOk result (λ r. length r.nodes.nodes ≤ length nodes.now.nodes) }
+    ensures labels { IfOk result (λ r. KeepsLabels nodes.now r.nodes r.origin.items) }
+    ensures folds { IfOk result (λ r. HasNoFolds r.nodes) }
+    ensures addresses { IfOk result (λ r. CarriesAddresses nodes.now r.nodes) }
+    ensures runs { IfOk result (λ r. RunsAreDropped nodes.now shape.now r.nodes r.shape r.origin.items) }
+    ensures made { IfOk result (λ r. IsFoldedTo nodes.now r.nodes) }
+{
+    nodes.what_holds();
+    folded_list(alloc, nodes, shape)
+}

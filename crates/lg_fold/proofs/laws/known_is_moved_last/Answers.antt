@@ -1,5 +1,0 @@
-use Rattle.lg_fold.proofs.KnownLemmas.{known-is-moved-last}
-use Rattle.lg_fold.proofs.laws.known_is_moved_last.Goals as goal
-
-pub returns : goal.returns
-returns c = known-is-moved-last

@@ -1,0 +1,61 @@
+// Running code, counted by lines.
+
+ghost use Rattle.std.specs.Prelude.{◌≡◌, ◌<◌, ◌≤◌, ◌+◌, ◌-◌, ◌^◌, ℕ, Some, length, slice_get, unwrap_or};
+ghost use Rattle.lg_cpu.specs.Machines.{shown};
+ghost use Rattle.lg_cpu.specs.Series.{Advances, run_from};
+ghost use Rattle.lg_prof.specs.Tallies.{ran_at, spent_at};
+ghost use Rattle.lg_prof.specs.Spent.{spent, table_line};
+
+use crate::{LineTable, Tally};
+use lg_cpu::answer::CpuStep;
+use lg_cpu::cpu::Cpu;
+use lg_io::sink::Sink;
+
+// The address of the first byte of the code.
+const CODE_BASE: u64 = 0x1000_0000;
+
+// The line of a program counter, and the one before where it lies in no node's bytes.
+fn line_at(lines: &LineTable, pc: u64, before: u32) -> u32
+    ensures { result ≡ unwrap_or (table_line lines.now pc) before }
+{
+    if pc < CODE_BASE {
+        return before;
+    }
+    lines.get(pc - CODE_BASE).unwrap_or(before)
+}
+
+/// Takes steps as `Cpu::run` does, and counts each that went or ended for the line of its program counter, by a table of the lines of the code; a host
+/// step for the line of the code step before it. The run goes on, has taken no step yet, and takes fewer than `u64::MAX`; the lines of the table are
+/// those of the tally, which has counted no step of code.
+pub fn run_counted<O: Sink>(
+    cpu: &mut Cpu,
+    lines: &LineTable,
+    tally: &mut Tally,
+    most: u64,
+    out: &mut O,
+) -> CpuStep
+    requires going { (shown cpu.old).answer ≡ CpuStep.Went }
+    requires first { (shown cpu.old).steps ≡ 0 }
+    requires most { most < 2 ^ 64 - 1 }
+    requires some { 0 < length tally.old }
+    requires lines { (place line : ℕ) → slice_get lines.now place ≡ Some line → line < length tally.old }
+    requires none { (line : ℕ) → spent_at tally.old line ≡ 0 }
+    ensures says { Advances (shown cpu.old) (shown cpu.new) most (O.taken out.old) (O.taken out.new) (O.faults out.old) (O.faults out.new) result }
+    ensures spent { (line : ℕ) → spent_at tally.new line ≡ spent (table_line lines.now) (run_from (shown cpu.old)) line (shown cpu.new).steps }
+    ensures ran { (line : ℕ) → ran_at tally.new line ≡ ran_at tally.old line }
+    ensures kept { length tally.new ≡ length tally.old }
+{
+    let mut line = 0;
+    for _went in 0..most {
+        line = line_at(lines, cpu.pc(), line);
+        match cpu.step(out) {
+            CpuStep::Went => tally.spent(line),
+            CpuStep::Ended(status) => {
+                tally.spent(line);
+                return CpuStep::Ended(status);
+            }
+            answer => return answer,
+        }
+    }
+    CpuStep::Went
+}

@@ -1,4 +1,0 @@
-pub mod CountLemmas
-pub mod SpentLemmas
-pub mod SumLemmas
-pub mod TableLemmas

@@ -1,4 +1,0 @@
-pub mod Counted
-pub mod Counts
-pub mod Laws
-pub mod Spent
