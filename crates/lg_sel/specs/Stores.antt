@@ -14,7 +14,7 @@ use Rattle.lg_op.specs.declared.op.Op.{Op}
 use Rattle.lg_op.specs.declared.op.Op.TheVariants as op
 use Rattle.lg_op.specs.declared.op.PlainOp.TheVariants as plain
 use Rattle.lg_op.specs.declared.op.StoreType.{StoreType}
-use Rattle.lg_operators.specs.Operators.{store_width}
+use Rattle.lg_op.specs.declared.op.StoreType.TheVariants as store_type
 use Rattle.lg_rv.specs.Spelling as rv
 use Rattle.lg_rv.specs.declared.instruction.Instr.{Instr as RvInstr}
 use Rattle.lg_rv.specs.declared.instruction.Instr.TheVariants as rv_instr
@@ -42,9 +42,17 @@ rv_stores (rv_instr.Store o rs1 rs2 imm) = true
 rv_stores i = false
 
 -- ---- which nodes do
--- how many rows store by a type: RV64 refuses one of several bytes at an address that is no multiple of their number, so a byte is stored at a time
+-- RV64 refuses a row of several bytes at an address that is no multiple of their number: there the code has the row, and for other addresses stores of one byte
+-- each, or six for eight bytes
+abbrev pub rows_stored_rv : StoreType → ℕ
+rows_stored_rv store_type.Char = 1
+rows_stored_rv store_type.Short = 3
+rows_stored_rv store_type.Int = 5
+rows_stored_rv store_type.Long = 7
+
+-- how many rows store by a type
 abbrev pub rows_stored : Target → StoreType → ℕ
-rows_stored Riscv64 t = store_width t
+rows_stored Riscv64 t = rows_stored_rv t
 rows_stored target t = 1
 
 -- the stores that a node has beside those that save its temporaries

@@ -1,6 +1,6 @@
 -- Loads and stores with each kind of address are carried.
-use Rattle.std.proofs.Common.{◌≡◌, ◌≢◌, ℕ, ◌^◌, ◌<◌, Bool, true, false, List, [], ◌∷◌, Option, Some, refl, sym, ap, ◌∙◌, arith, subst, length}
-use Rattle.std.specs.Prelude.{◌||◌}
+use Rattle.std.proofs.Common.{◌≡◌, ◌≢◌, ℕ, ◌^◌, ◌<◌, ◌≤◌, Bool, true, false, List, [], ◌∷◌, Option, Some, refl, sym, ap, ◌∙◌, arith, subst, length}
+use Rattle.std.specs.Prelude.{◌||◌, slice_index_or}
 use Rattle.std.specs.List.{list_any}
 use Rattle.lg_base.specs.Words.{add_words}
 use Rattle.lg_op.specs.Forms.{admit, forms_of, address_forms, store_forms}
@@ -18,23 +18,35 @@ use Rattle.lg_op.specs.declared.node.Node.{Node}
 use Rattle.lg_live.specs.Registers.{is_same}
 use Rattle.lg_meaning.specs.States.{State, reg, value}
 use Rattle.lg_meaning.specs.Steps.{need, load_to, store_to, operand_at, stored_operand}
+use Rattle.lg_temp.specs.Choices.{AreFor}
+use Rattle.lg_temp.specs.Chosen.{around}
 use Rattle.lg_temp.specs.declared.choice.Choice.{Choice}
+use Rattle.lg_temp.specs.declared.choice.Need.{Need}
 use Rattle.lg_carry.specs.Blocks.{spellings}
 use Rattle.lg_carry.specs.Carries.{leaps}
 use Rattle.lg_carry.specs.FinalNodes.{Code}
+use Rattle.lg_carry.specs.Passages.{IsNodeCode}
 use Rattle.lg_carry.specs.NodeBlocks.{IsNodeBlock}
 use Rattle.lg_carry.specs.NodeCode.{numbered, CarriesNode}
 use Rattle.lg_carry.specs.Rows.{Rows}
-use Rattle.lg_carry.specs.Spills.{wrapped}
+use Rattle.lg_carry.specs.Spills.{wrapped, spilled, with_register}
 use Rattle.lg_carry.specs.TextNodes.{IsInText, IsFrameOf, stands_inside}
 use Rattle.lg_sel_nodes.specs.Isas.{IsIsa}
-use Rattle.lg_sel_nodes.specs.Straight.{ComputesNode}
+use Rattle.lg_node.specs.Preparations.{pushed}
+use Rattle.lg_sel_nodes.specs.Straight.{spoils, from_to, NeedWell}
 use Rattle.lg_sel_nodes.proofs.RegisterLemmas.{same-self}
-use Rattle.lg_sel_nodes.proofs.StraightLemmas.{AreHarmless, none-harmless, harmless, computing-nodes-carry, plain-nodes-carry}
+use Rattle.lg_sel_nodes.proofs.StraightLemmas.{AreHarmless, none-harmless, harmless}
+use Rattle.lg_sel_memory.proofs.CrossingLemmas.{straight-crosses, block-within}
+use Rattle.lg_sel_memory.proofs.PassedNodeLemmas.{crossed-carries}
+use Rattle.lg_base.specs.Conventions.{frame_register}
+use Rattle.lg_base.specs.Spaces.{stored}
+use Rattle.lg_temp.specs.Abis.{register_of}
+use Rattle.lg_operators.specs.Operators.{extended_by_type, store_width}
 use Rattle.lg_sel_memory.specs.Accesses.{Base, At, Sum, Index, address_of}
-use Rattle.lg_sel_memory.specs.Loads.{LoadCode, LoadDoes, LoadsDo, HasCode, LoadsCarry, LoadsWithTemporariesCarry}
+use Rattle.lg_sel_memory.specs.Crossings.{CrossesNode}
+use Rattle.lg_sel_memory.specs.Loads.{LoadCode, LoadCrosses, LoadsDo, HasCode, LoadsCarry, LoadsWithTemporariesCarry}
 use Rattle.lg_sel_memory.specs.Operands.{named, number, is_label, names_label, HasWords}
-use Rattle.lg_sel_memory.specs.Stores.{StoreCode, StoreDoes, StoresDo, HasStoreCode, StoresCarry, StoresWithTemporariesCarry}
+use Rattle.lg_sel_memory.specs.Stores.{StoreCode, StoreDoes, StoreCrosses, StoresDo, HasStoreCode, StoresCarry, StoresWithTemporariesCarry}
 use Rattle.lg_sel_memory.proofs.FormLemmas.{nothing-left, starts-written, starts-read, starts-number}
 use Rattle.lg_sel_memory.proofs.LoadLemmas.{load-computes}
 use Rattle.lg_sel_memory.proofs.ReadLemmas.{sum, same-some, parts, or-true, or-first, or-false, numbered-same, numbered-none, number-small, with_op, stepped}
@@ -57,14 +69,14 @@ held-offset : {u : ℕ} (x : Option ℕ) (v a : ℕ) → ((b : ℕ) → x ≡ So
 held-offset {u} x v a f e = turned u v ∙ held-sum (Some v) x a (λ b g. same-some v b g) f e
 
 -- ---- loads
-module _ {Q I : Type 0} (R : Rows Q I) (scratch : ℕ → Bool) (c : Code) (i : ℕ) (t : ValueType) (frame : ℕ) (choices : List Choice) (body : List I) (some : 0 < length (spellings R.spelling body))
+module _ {Q I : Type 0} (R : Rows Q I) (fits : I → Type 0) (scratch : ℕ → Bool) (c : Code) (i : ℕ) (t : ValueType) (frame : ℕ) (choices : List Choice) (body : List I) (some : 0 < length (spellings R.spelling body))
     (line : ℕ) (d : Reg) (named : d ≢ Fp) where
   abbrev node : Addressing → List Operand → Node
   node at xs = record { op = op.Load t at; operands = operand.Reg d ∷ xs; line = line }
 
   abbrev Computed : Addressing → List Operand → Type 0
-  Computed at xs = HasWords (node at xs) → IsInText c i (node at xs) → LoadDoes R scratch choices frame t d (address_of at (operand_at (node at xs) 1) (operand_at (node at xs) 2)) body
-      → ComputesNode R scratch c i (node at xs) frame choices body
+  Computed at xs = HasWords (node at xs) → IsInText c i (node at xs) → LoadCrosses R fits scratch choices frame t d (address_of at (operand_at (node at xs) 1) (operand_at (node at xs) 2)) body
+      → CrossesNode R fits scratch c i (node at xs) frame choices body
 
   only-d : (r : ℕ) → numbered (λ m. is_same d m || false) r ≡ numbered (is_same d) r
   only-d r = numbered-same (λ m. is_same d m || false) (is_same d) (λ m. or-false (is_same d m)) r
@@ -72,21 +84,21 @@ module _ {Q I : Type 0} (R : Rows Q I) (scratch : ℕ → Bool) (c : Code) (i : 
   by-register : (a : Reg) → Computed addressing.Register (operand.Reg a ∷ [])
   by-register a words x lead =
       let n = node addressing.Register (operand.Reg a ∷ []) in
-      load-computes R scratch c i n t d named (Base a) tt frame choices body lead some (λ s. reg s a)
+      load-computes R fits scratch c i n t d named (Base a) tt frame choices body lead some (λ s. reg s a)
       (λ s q v h e. h.registers a v (λ ne. or-first (is_same a a) false (same-self a ne)) e)
       only-d (λ s at. stepped c i n s x at)
 
   by-number : (v : Operand) → number v < 2 ^ 64 → ((A : List ℕ) (s : State) → value A s v ≡ Some (number v)) → Computed addressing.Immediate (v ∷ [])
   by-number v small gives words x lead =
       let n = node addressing.Immediate (v ∷ []) in
-      load-computes R scratch c i n t d named (At (number v)) small frame choices body lead some (λ s. Some (number v))
+      load-computes R fits scratch c i n t d named (At (number v)) small frame choices body lead some (λ s. Some (number v))
       (λ s q a h e. same-some (number v) a e)
       only-d (λ s at. stepped c i n s x at ∙ ap (λ z. need z (λ a. load_to s t a (operand.Reg d))) (gives c.addresses s))
 
   by-registers : (a b : Reg) → Computed addressing.RegisterRegister (operand.Reg a ∷ operand.Reg b ∷ [])
   by-registers a b words x lead =
       let n = node addressing.RegisterRegister (operand.Reg a ∷ operand.Reg b ∷ []) in
-      load-computes R scratch c i n t d named (Sum a b) tt frame choices body lead some (λ s. sum (reg s a) (reg s b))
+      load-computes R fits scratch c i n t d named (Sum a b) tt frame choices body lead some (λ s. sum (reg s a) (reg s b))
       (λ s q v h e. held-sum (reg s a) (reg s b) v
       (λ y ey. h.registers a y (λ ne. or-first (is_same b a || is_same a a) false (ap (λ z. is_same b a || z) (same-self a ne) ∙ or-true (is_same b a))) ey)
       (λ y ey. h.registers b y (λ ne. or-first (is_same b b || is_same a b) false (or-first (is_same b b) (is_same a b) (same-self b ne))) ey) e)
@@ -95,7 +107,7 @@ module _ {Q I : Type 0} (R : Rows Q I) (scratch : ℕ → Bool) (c : Code) (i : 
   by-index : (a : Reg) (v : Operand) → number v < 2 ^ 64 → ((A : List ℕ) (s : State) → value A s v ≡ Some (number v)) → Computed addressing.RegisterImmediate (operand.Reg a ∷ v ∷ [])
   by-index a v small gives words x lead =
       let n = node addressing.RegisterImmediate (operand.Reg a ∷ v ∷ []) in
-      load-computes R scratch c i n t d named (Index a (number v)) small frame choices body lead some (λ s. sum (reg s a) (Some (number v)))
+      load-computes R fits scratch c i n t d named (Index a (number v)) small frame choices body lead some (λ s. sum (reg s a) (Some (number v)))
       (λ s q b h e. held-index (reg s a) (number v) b (λ y ey. h.registers a y (λ ne. or-first (is_same a a) false (same-self a ne)) ey) e)
       only-d (λ s at. stepped c i n s x at ∙ ap (λ z. need (sum (reg s a) z) (λ y. load_to s t y (operand.Reg d))) (gives c.addresses s))
 
@@ -129,8 +141,8 @@ module _ {Q I : Type 0} (R : Rows Q I) (scratch : ℕ → Bool) (fits : I → Ty
 
   abbrev Stores : Addressing → List Operand → Type 0
   Stores at xs = HasWords (store at xs) → IsInText c i (store at xs) → AreHarmless R c i (store at xs) S choices
-      → StoreDoes R scratch choices frame t (address_of at (operand_at (store at xs) 0) (operand_at (store at xs) 1)) (named (operand_at (store at xs) (stored_operand at))) body
-      → IsNodeBlock R fits c i (wrapped R choices body) → CarriesNode R.processor c i (store at xs) S
+      → StoreCrosses R fits scratch choices frame t (address_of at (operand_at (store at xs) 0) (operand_at (store at xs) 1)) (named (operand_at (store at xs) (stored_operand at))) body
+      → IsNodeCode R fits c i (wrapped R choices body) → CarriesNode R.processor c i (store at xs) S
 
   at-register : (a b : Reg) → Stores addressing.Register (operand.Reg a ∷ operand.Reg b ∷ [])
   at-register a b words x harm lead k =
@@ -162,7 +174,7 @@ module _ {Q I : Type 0} (R : Rows Q I) (scratch : ℕ → Bool) (fits : I → Ty
       → Stores addressing.RegisterImmediate (v ∷ operand.Reg b ∷ operand.Reg d ∷ [])
   at-index v b d plain small gives words x harm lead k =
       let n = store addressing.RegisterImmediate (v ∷ operand.Reg b ∷ operand.Reg d ∷ []) in
-      store-carried R scratch fits isa c i n t S d (Index b (number v)) small frame choices body (subst (λ a. StoreDoes R scratch choices frame t a d body) (address-is v b plain) lead) some harm (λ s. sum (Some (number v)) (reg s b)) (λ s. reg s d) refl refl
+      store-carried R scratch fits isa c i n t S d (Index b (number v)) small frame choices body (subst (λ a. StoreCrosses R fits scratch choices frame t a d body) (address-is v b plain) lead) some harm (λ s. sum (Some (number v)) (reg s b)) (λ s. reg s d) refl refl
       (λ s q a h e. held-offset (reg s b) (number v) a
       (λ y ey. h.registers b y (λ ne. or-first (is_same d b || is_same b b) false (ap (λ z. is_same d b || z) (same-self b ne) ∙ or-true (is_same d b))) ey) e)
       (λ s q y h e. h.registers d y (λ ne. or-first (is_same d d || is_same b d) false (or-first (is_same d d) (is_same b d) (same-self d ne))) e)
@@ -205,30 +217,30 @@ module _ {Q I : Type 0} (R : Rows Q I) (scratch : ℕ → Bool) (fits : I → Ty
 
 -- ---- nodes
 -- a load is computed, and a store carried, by code that does so with its address
-abbrev IsComputed : {Q I : Type 0} → Rows Q I → (ℕ → Bool) → Code → ℕ → ValueType → Addressing → ℕ → List Choice → List I → Node → Type 0
-IsComputed R scratch c i t at frame choices body m =
-    names_label m ≡ false → HasWords m → IsInText c i m → LoadDoes R scratch choices frame t (named (operand_at m 0)) (address_of at (operand_at m 1) (operand_at m 2)) body
-    → ComputesNode R scratch c i m frame choices body
+abbrev IsComputed : {Q I : Type 0} → Rows Q I → (I → Type 0) → (ℕ → Bool) → Code → ℕ → ValueType → Addressing → ℕ → List Choice → List I → Node → Type 0
+IsComputed R fits scratch c i t at frame choices body m =
+    names_label m ≡ false → HasWords m → IsInText c i m → LoadCrosses R fits scratch choices frame t (named (operand_at m 0)) (address_of at (operand_at m 1) (operand_at m 2)) body
+    → CrossesNode R fits scratch c i m frame choices body
 
 abbrev IsCarried : {Q I : Type 0} → Rows Q I → (ℕ → Bool) → (I → Type 0) → Code → ℕ → StoreType → Addressing → ℕ → (ℕ → Bool) → List Choice → List I → Node → Type 0
 IsCarried R scratch fits c i t at frame S choices body m =
     names_label m ≡ false → HasWords m → IsInText c i m → AreHarmless R c i m S choices
-    → StoreDoes R scratch choices frame t (address_of at (operand_at m 0) (operand_at m 1)) (named (operand_at m (stored_operand at))) body
-    → IsNodeBlock R fits c i (wrapped R choices body) → CarriesNode R.processor c i m S
+    → StoreCrosses R fits scratch choices frame t (address_of at (operand_at m 0) (operand_at m 1)) (named (operand_at m (stored_operand at))) body
+    → IsNodeCode R fits c i (wrapped R choices body) → CarriesNode R.processor c i m S
 
 module _ {Q I : Type 0} (R : Rows Q I) (scratch : ℕ → Bool) (fits : I → Type 0) (isa : IsIsa R scratch fits) where
   loads-compute : (c : Code) (i : ℕ) (n : Node) (t : ValueType) (at : Addressing) (frame : ℕ) (choices : List Choice) (body : List I) → 0 < length (spellings R.spelling body) → n.op ≡ op.Load t at
-      → IsComputed R scratch c i t at frame choices body n
-  loads-compute c i n t at frame choices body some e none words x lead = subst (IsComputed R scratch c i t at frame choices body) (ap (with_op n) (sym e)) with-op none words x lead
+      → IsComputed R fits scratch c i t at frame choices body n
+  loads-compute c i n t at frame choices body some e none words x lead = subst (IsComputed R fits scratch c i t at frame choices body) (ap (with_op n) (sym e)) with-op none words x lead
     where
       formed : admit (forms_of (op.Load t at)) n.operands ≡ true
       formed = ap (λ o. admit (forms_of o) n.operands) (sym e) ∙ (x.formed n x.here).forms
 
-      with-op : IsComputed R scratch c i t at frame choices body (with_op n (op.Load t at))
+      with-op : IsComputed R fits scratch c i t at frame choices body (with_op n (op.Load t at))
       with-op =
           let d = starts-written (address_forms at) n.operands formed in
-          subst (λ xs. IsComputed R scratch c i t at frame choices body record { op = op.Load t at; operands = xs; line = n.line }) (sym d.is)
-          (λ none' words' x' lead'. load-law R scratch c i t frame choices body some n.line d.register d.named at d.rest d.admitted none' words' x' lead')
+          subst (λ xs. IsComputed R fits scratch c i t at frame choices body record { op = op.Load t at; operands = xs; line = n.line }) (sym d.is)
+          (λ none' words' x' lead'. load-law R fits scratch c i t frame choices body some n.line d.register d.named at d.rest d.admitted none' words' x' lead')
 
   stores-go : (c : Code) (i : ℕ) (n : Node) (t : StoreType) (at : Addressing) (frame : ℕ) → IsFrameOf c i frame → (S : ℕ → Bool) (choices : List Choice) (body : List I) → 0 < length (spellings R.spelling body)
       → n.op ≡ op.Store t at → IsCarried R scratch fits c i t at frame S choices body n
@@ -245,21 +257,39 @@ module _ {Q I : Type 0} (R : Rows Q I) (scratch : ℕ → Bool) (fits : I → Ty
   loads-carry code lead some c i n t at frame S e none words x is-frame k =
       let d = named (operand_at n 0) in
       let a = address_of at (operand_at n 1) (operand_at n 2) in
-      plain-nodes-carry R scratch fits isa c i n frame S (code frame t d a) (ap stands_inside e) (ap leaps e) x is-frame k
-      (loads-compute c i n t at frame [] (code frame t d a) (some frame t d a) e none words x (lead frame t d a))
+      crossed-carries R scratch fits isa c i n frame S [] (code frame t d a) (ap stands_inside e) (ap leaps e) x is-frame k.code
+      (loads-compute c i n t at frame [] (code frame t d a) (some frame t d a) e none words x
+      (λ q b v ne ok f address end readable lt. straight-crosses R fits isa.rows (from_to (R.processor.seen q) (with_register (R.processor.seen q).registers (register_of R.processor.target d) (extended_by_type t v)) (R.processor.seen q).bytes (R.processor.seen q).flags) (code frame t d a)
+      ((R.processor.seen q).registers (frame_register R.processor.target)) 0 (spoils scratch []) k.block (lead frame t d a q b v ne ok f address end readable lt)))
+      (none-harmless R scratch fits isa c i n S)
 
   pub stores-carry : (code : StoreCode I) → StoresDo R scratch code → HasStoreCode R code → StoresCarry R fits code
   stores-carry code lead some c i n t at frame S e none words x is-frame k =
       let a = address_of at (operand_at n 0) (operand_at n 1) in
       let b = named (operand_at n (stored_operand at)) in
-      stores-go c i n t at frame is-frame S [] (code frame t a b) (some frame t a b) e none words x (none-harmless R scratch fits isa c i n S) (lead frame t a b) k
+      stores-go c i n t at frame is-frame S [] (code frame t a b) (some frame t a b) e none words x (none-harmless R scratch fits isa c i n S)
+      (λ q y ok f address end writable off. straight-crosses R fits isa.rows (from_to (R.processor.seen q) (R.processor.seen q).registers (stored (R.processor.seen q).bytes y (store_width t) ((R.processor.seen q).registers (register_of R.processor.target b))) (R.processor.seen q).flags) (code frame t a b)
+      ((R.processor.seen q).registers (frame_register R.processor.target)) 0 (spoils scratch []) k.block (lead frame t a b q y ok f address end writable off)) k.code
 
   -- ---- with temporaries
   pub loads-with-temporaries-carry : LoadsWithTemporariesCarry R scratch fits
   loads-with-temporaries-carry c i n t at frame live staged needs choices body e none words well few chosen pushes x is-frame k some lead =
-      computing-nodes-carry R scratch fits isa c i n frame live staged needs choices body (ap stands_inside e) (ap leaps e) well few chosen pushes x is-frame k
-      (loads-compute c i n t at frame choices body some e none words x lead)
+      crossed-carries R scratch fits isa c i n frame (numbered live) choices body (ap stands_inside e) (ap leaps e) x is-frame k
+      (loads-compute c i n t at frame choices body some e none words x lead) (harmless R scratch fits isa c i n live staged needs choices well few chosen pushes)
 
   pub stores-with-temporaries-carry : StoresWithTemporariesCarry R scratch fits
   stores-with-temporaries-carry c i n t at frame live staged needs choices body e none words well few chosen pushes x is-frame k some lead =
       stores-go c i n t at frame is-frame (numbered live) choices body some e none words x (harmless R scratch fits isa c i n live staged needs choices well few chosen pushes) lead k
+
+  -- the code of a store that goes straight on, with temporaries
+  pub straight-stores-with-temporaries-carry : (c : Code) (i : ℕ) (n : Node) (t : StoreType) (at : Addressing) (frame : ℕ) (live : Reg → Bool) (staged : List Bool) (needs : List Need)
+      (choices : List Choice) (body : List I) → n.op ≡ op.Store t at → names_label n ≡ false → HasWords n → NeedWell R needs → length needs ≤ 3
+      → AreFor (around R.processor.target n live staged) needs [] needs choices → ((j : ℕ) → j < pushed c.nodes.nodes i → slice_index_or staged j false ≡ true)
+      → IsInText c i n → IsFrameOf c i frame → IsNodeBlock R fits c i (wrapped R choices body) → 0 < length (spellings R.spelling body)
+      → StoreDoes R scratch choices frame t (address_of at (operand_at n 0) (operand_at n 1)) (named (operand_at n (stored_operand at))) body
+      → CarriesNode R.processor c i n (numbered live)
+  straight-stores-with-temporaries-carry c i n t at frame live staged needs choices body e none words well few chosen pushes x is-frame k some lead =
+      let b = named (operand_at n (stored_operand at)) in
+      stores-with-temporaries-carry c i n t at frame live staged needs choices body e none words well few chosen pushes x is-frame k.code some
+      (λ q y ok f address end writable off. straight-crosses R fits isa.rows (from_to (R.processor.seen q) (R.processor.seen q).registers (stored (R.processor.seen q).bytes y (store_width t) ((R.processor.seen q).registers (register_of R.processor.target b))) (R.processor.seen q).flags) body
+      ((R.processor.seen q).registers (frame_register R.processor.target)) (spilled choices) (spoils scratch choices) (block-within R choices body k.block) (lead q y ok f address end writable off))

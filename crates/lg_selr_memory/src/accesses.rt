@@ -1,18 +1,21 @@
 // Loads and stores.
 
-ghost use Rattle.std.specs.Prelude.{◌≡◌, ◌+◌, ◌*◌, ◌≤◌, [], ◌++◌, length};
+ghost use Rattle.std.specs.Prelude.{◌≡◌, ◌+◌, ◌-◌, ◌*◌, ◌<◌, ◌≤◌, pos, [], ◌∷◌, ◌++◌, length};
 ghost use Rattle.lg_selr_items.specs.Items.{ones, words_in};
 ghost use Rattle.lg_sel_memory.specs.Accesses.{address_of};
-ghost use Rattle.lg_selr_memory.specs.Accesses.{load_row, high_row, at_register, indexed, place_of, lower_bytes, higher_bytes, load_at, store_at, load_code, store_code, load_items, store_items};
+ghost use Rattle.lg_selr_memory.specs.Accesses.{load_row, store_row, high_row, at_register, is_frame, is_whole, near, indexed, absolute, place_of, lower_bytes, higher_bytes, tester, slow_load, halves, store_bytes, slow_store, store_skip, load_at, store_at, load_code, store_code, load_items, store_items};
 ghost use Rattle.lg_sel_values.specs.Parts.{HaveSlots};
 
 use crate::operands::register;
-use lg_op::{Addressing, Node, Operand, StoreType, ValueType};
+use lg_op::{Addressing, Node, Operand, Reg, StoreType, ValueType};
 use lg_operators::operators::{store_width, width};
-use lg_rv::{ImmOp, Instr, RegOp, ShiftOp, StoreOp};
+use lg_rv::{BranchOp, ImmOp, Instr, RegOp, ShiftOp, StoreOp, UpperOp};
 use lg_sel_items::Items;
-use lg_sel_memory::operands::{number, operand};
-use lg_selr_items::{Item, LINK, imm, is_short, low_part, put_number, restore, row, save, shift};
+use lg_sel_memory::operands::{named, number, operand};
+use lg_selr_items::{
+    Item, LINK, branch, high_part, imm, is_short, low_part, put_number, restore, row, save, shift,
+    upper,
+};
 use lg_temp::choice::{Choice, Choices};
 
 // Where an access is: a register, and an offset from it of 12 bits.
@@ -47,6 +50,30 @@ fn high_row(t: ValueType) -> ImmOp
     }
 }
 
+// The row that stores by a type, at a multiple of its width.
+fn store_row(t: StoreType) -> StoreOp
+    ensures { result ≡ store_row t }
+{
+    match t {
+        StoreType::Char => StoreOp::Sb,
+        StoreType::Short => StoreOp::Sh,
+        StoreType::Int => StoreOp::Sw,
+        StoreType::Long => StoreOp::Sd,
+    }
+}
+
+// An instruction that stores a register.
+fn store(op: StoreOp, from: u8, register: u8, offset: i32) -> Instr
+    ensures { result ≡ Instr.Store op register from offset }
+{
+    Instr::Store {
+        op,
+        rs1: register,
+        rs2: from,
+        imm: offset,
+    }
+}
+
 // The instruction that stores the low byte of a register.
 fn store_byte(from: u8, register: u8, offset: i32) -> Instr
     ensures { result ≡ Instr.Store (StoreOp.Sb) register from offset }
@@ -70,45 +97,100 @@ fn at_register(register: u8) -> Base
     }
 }
 
+// Whether a register is FP.
+fn is_frame(reg: Reg) -> bool
+    ensures { result ≡ is_frame reg }
+{
+    match reg {
+        Reg::Fp => true,
+        _ => false,
+    }
+}
+
+// Whether the address that operands give is known to be a multiple of so many bytes.
+fn is_whole(width: u32, at: Addressing, first: Operand, second: Operand) -> bool
+    requires { 0 < width }
+    ensures { result ≡ is_whole width (address_of at first second) }
+{
+    match at {
+        Addressing::Register => width == 1 || is_frame(named(first)),
+        Addressing::Immediate => number(first) % u64::from(width) == 0,
+        Addressing::RegisterRegister => width == 1,
+        Addressing::RegisterImmediate => match first {
+            Operand::Reg(a) => width == 1
+                || (is_frame(a) && number(second) % u64::from(width) == 0),
+            _ => width == 1 || (is_frame(named(second)) && number(first) % u64::from(width) == 0),
+        },
+    }
+}
+
 // The sum of a register and a number: what computes it is appended, at most 9 instructions, for which there is room.
 #[tactic(auto, using(lg_selr_values::proofs::EmissionLemmas::ones_twice, lg_selr_values::proofs::EmissionLemmas::number_words))]
-fn put_indexed(register: u8, value: u64, items: &mut Items<Item>) -> Base
-    requires { words_in items.old + 9 ≤ 64 }
-    ensures code { items.new ≡ items.old ++ ones (indexed register value).code }
-    ensures register { result.register ≡ (indexed register value).base }
-    ensures offset { result.offset ≡ (indexed register value).offset }
+fn put_indexed(width: u32, register: u8, value: u64, items: &mut Items<Item>) -> Base
+    requires some { 0 < width }
+    requires room { words_in items.old + 9 ≤ 64 }
+    ensures code { items.new ≡ items.old ++ ones (indexed width register value).code }
+    ensures register { result.register ≡ (indexed width register value).base }
+    ensures offset { result.offset ≡ (indexed width register value).offset }
 {
     if is_short(value) {
-        return Base {
-            register,
-            offset: low_part(value),
-        };
+        if value % u64::from(width) == 0 {
+            return Base {
+                register,
+                offset: low_part(value),
+            };
+        }
+        items.one(imm(ImmOp::Addi, LINK, register, low_part(value)));
+        return at_register(LINK);
     }
     put_number(LINK, value, items);
     items.one(row(RegOp::Add, LINK, register, LINK));
     at_register(LINK)
 }
 
+// A number as an address: what computes it is appended, at most 8 instructions, for which there is room.
+fn put_absolute(width: u32, value: u64, items: &mut Items<Item>) -> Base
+    requires some { 0 < width }
+    requires room { words_in items.old + 9 ≤ 64 }
+    ensures code { items.new ≡ items.old ++ ones (absolute width value).code }
+    ensures register { result.register ≡ (absolute width value).base }
+    ensures offset { result.offset ≡ (absolute width value).offset }
+{
+    if value < 0x7FFF_F800 && value % u64::from(width) == 0 {
+        items.one(upper(UpperOp::Lui, LINK, high_part(value)));
+        return Base {
+            register: LINK,
+            offset: low_part(value),
+        };
+    }
+    put_number(LINK, value, items);
+    at_register(LINK)
+}
+
 // The address that operands give: what computes it is appended, at most 9 instructions, for which there is room.
-fn put_address(at: Addressing, first: Operand, second: Operand, items: &mut Items<Item>) -> Base
-    requires { words_in items.old + 9 ≤ 64 }
-    ensures code { items.new ≡ items.old ++ ones (place_of (address_of at first second)).code }
-    ensures register { result.register ≡ (place_of (address_of at first second)).base }
-    ensures offset { result.offset ≡ (place_of (address_of at first second)).offset }
+fn put_address(
+    width: u32,
+    at: Addressing,
+    first: Operand,
+    second: Operand,
+    items: &mut Items<Item>,
+) -> Base
+    requires some { 0 < width }
+    requires room { words_in items.old + 9 ≤ 64 }
+    ensures code { items.new ≡ items.old ++ ones (place_of width (address_of at first second)).code }
+    ensures register { result.register ≡ (place_of width (address_of at first second)).base }
+    ensures offset { result.offset ≡ (place_of width (address_of at first second)).offset }
 {
     match at {
         Addressing::Register => at_register(register(first)),
-        Addressing::Immediate => {
-            put_number(LINK, number(first), items);
-            at_register(LINK)
-        }
+        Addressing::Immediate => put_absolute(width, number(first), items),
         Addressing::RegisterRegister => {
             items.one(row(RegOp::Add, LINK, register(first), register(second)));
             at_register(LINK)
         }
         Addressing::RegisterImmediate => match first {
-            Operand::Reg(_) => put_indexed(register(first), number(second), items),
-            _ => put_indexed(register(second), number(first), items),
+            Operand::Reg(_) => put_indexed(width, register(first), number(second), items),
+            _ => put_indexed(width, register(second), number(first), items),
         },
     }
 }
@@ -147,64 +229,169 @@ fn higher_bytes(from: u8, u: u8, place: u32, count: u32, items: &mut Items<Item>
     }
 }
 
-// Appends the code that loads by a type from a place into `d`, where `u` is a temporary: at most 23 instructions, for which there is room.
-fn load_at(t: ValueType, d: u8, u: u8, base: Base, items: &mut Items<Item>)
+// The register of a test of a base, where `u` is a temporary.
+fn tester(u: u8, base: u8) -> u8
+    ensures { result ≡ tester u base }
+{
+    if base == LINK { u } else { LINK }
+}
+
+// Appends the test of the low bits of a base, and the branch that leads so many bytes further where they are 0.
+fn put_test(u: u8, base: u8, width: u32, skip: i32, items: &mut Items<Item>)
+    requires some { 0 < width }
+    requires few { width ≤ 8 }
+    requires room { words_in items.old + 2 ≤ 64 }
+    ensures { items.new ≡ items.old ++ ones (Instr.Imm (ImmOp.Andi) (tester u base) base (pos (width - 1)) ∷ Instr.Branch (BranchOp.Beq) (tester u base) 0 skip ∷ []) }
+{
+    let test = tester(u, base);
+    items.all(&[
+        imm(ImmOp::Andi, test, base, (width - 1) as i32),
+        branch(BranchOp::Beq, test, 0, skip),
+    ]);
+}
+
+// Appends the code that loads by a type from a place, byte by byte: at most 23 instructions, for which there is room.
+fn slow_load(t: ValueType, d: u8, u: u8, base: Base, items: &mut Items<Item>)
     requires { words_in items.old + 23 ≤ 64 }
-    ensures { items.new ≡ items.old ++ ones (load_at t d u base.register base.offset) }
+    ensures { items.new ≡ items.old ++ ones (slow_load t d u base.register base.offset) }
 {
-    let width = width(t);
-    if width == 1 {
-        items.one(imm(high_row(t), d, base.register, base.offset));
+    let rest = width(t) - 1;
+    items.all(&[
+        imm(ImmOp::Addi, LINK, base.register, base.offset),
+        imm(high_row(t), d, LINK, rest as i32),
+    ]);
+    lower_bytes(d, u, rest, items);
+}
+
+// Appends the code that loads by a type from a place into `d`, where `u` is a temporary: at most 27 instructions, for which there is room.
+fn load_at(whole: bool, t: ValueType, d: u8, u: u8, base: Base, items: &mut Items<Item>)
+    requires { words_in items.old + 27 ≤ 64 }
+    ensures { items.new ≡ items.old ++ ones (load_at whole t d u base.register base.offset) }
+{
+    let last = imm(load_row(t), d, base.register, base.offset);
+    if whole {
+        items.one(last);
     } else {
-        let rest = width - 1;
-        items.all(&[
-            imm(ImmOp::Addi, LINK, base.register, base.offset),
-            imm(high_row(t), d, LINK, rest as i32),
-        ]);
-        lower_bytes(d, u, rest, items);
+        let width = width(t);
+        put_test(u, base.register, width, (12 * width + 4) as i32, items);
+        slow_load(t, d, u, base, items);
+        items.all(&[branch(BranchOp::Beq, 0, 0, 8), last]);
     }
 }
 
-// Appends the code that stores a register by a type at a place, where `u` is a temporary: at most 16 instructions, for which there is room.
-fn store_at(t: StoreType, from: u8, u: u8, base: Base, items: &mut Items<Item>)
-    requires { words_in items.old + 16 ≤ 64 }
-    ensures { items.new ≡ items.old ++ ones (store_at t from u base.register base.offset) }
+// Appends the code that stores eight bytes at the link's address by six stores, where `u` is a temporary: 14 instructions.
+fn halves(from: u8, u: u8, items: &mut Items<Item>)
+    requires { words_in items.old + 14 ≤ 64 }
+    ensures { items.new ≡ items.old ++ ones (halves from u) }
 {
-    let width = store_width(t);
-    if width == 1 {
-        items.one(store_byte(from, base.register, base.offset));
-    } else {
-        items.all(&[
-            imm(ImmOp::Addi, LINK, base.register, base.offset),
-            store_byte(from, LINK, 0),
-        ]);
-        higher_bytes(from, u, 1, width - 1, items);
+    items.all(&[
+        store_byte(from, LINK, 0),
+        shift(ShiftOp::Srli, u, from, 48),
+        store_byte(u, LINK, 6),
+        shift(ShiftOp::Srli, u, u, 8),
+        store_byte(u, LINK, 7),
+        imm(ImmOp::Andi, u, LINK, 1),
+        row(RegOp::Add, LINK, LINK, u),
+        shift(ShiftOp::Slli, u, u, 3),
+        row(RegOp::Srl, u, from, u),
+        store(StoreOp::Sh, u, LINK, 0),
+        shift(ShiftOp::Srli, u, u, 16),
+        store(StoreOp::Sh, u, LINK, 2),
+        shift(ShiftOp::Srli, u, u, 16),
+        store(StoreOp::Sh, u, LINK, 4),
+    ]);
+}
+
+// Appends the code that stores a register by a type at the link's address, in parts: at most 14 instructions, for which there is room.
+fn store_bytes(t: StoreType, from: u8, u: u8, items: &mut Items<Item>)
+    requires { words_in items.old + 14 ≤ 64 }
+    ensures { items.new ≡ items.old ++ ones (store_bytes t from u) }
+{
+    match t {
+        StoreType::Long => halves(from, u, items),
+        StoreType::Char => items.one(store_byte(from, LINK, 0)),
+        StoreType::Short => {
+            items.one(store_byte(from, LINK, 0));
+            higher_bytes(from, u, 1, 1, items);
+        }
+        StoreType::Int => {
+            items.one(store_byte(from, LINK, 0));
+            higher_bytes(from, u, 1, 3, items);
+        }
     }
 }
 
-// Appends the code of a load, where `u` is a temporary: at most 32 instructions, for which there is room.
+// How many bytes a branch over these leads further.
+fn store_skip(t: StoreType) -> i32
+    ensures { result ≡ pos (store_skip t) }
+{
+    match t {
+        StoreType::Char => 16,
+        StoreType::Short => 24,
+        StoreType::Int => 40,
+        StoreType::Long => 68,
+    }
+}
+
+// Appends the code that stores a register by a type at a place, where `u` is a temporary: at most 19 instructions, for which there is room.
+fn store_at(whole: bool, t: StoreType, from: u8, u: u8, base: Base, items: &mut Items<Item>)
+    requires { words_in items.old + 19 ≤ 64 }
+    ensures { items.new ≡ items.old ++ ones (store_at whole t from u base.register base.offset) }
+{
+    let last = store(store_row(t), from, base.register, base.offset);
+    if whole {
+        items.one(last);
+    } else {
+        put_test(u, base.register, store_width(t), store_skip(t), items);
+        items.one(imm(ImmOp::Addi, LINK, base.register, base.offset));
+        store_bytes(t, from, u, items);
+        items.all(&[branch(BranchOp::Beq, 0, 0, 8), last]);
+    }
+}
+
+// Appends the code of a load, where `u` is a temporary: at most 36 instructions, for which there is room.
 fn load_code(t: ValueType, at: Addressing, node: &Node, u: u8, items: &mut Items<Item>)
-    requires { words_in items.old + 32 ≤ 64 }
+    requires { words_in items.old + 36 ≤ 64 }
     ensures { items.new ≡ items.old ++ ones (load_code t at node.now u) }
 {
-    let base = put_address(at, operand(node, 1), operand(node, 2), items);
-    load_at(t, register(operand(node, 0)), u, base, items);
+    let first = operand(node, 1);
+    let second = operand(node, 2);
+    let width = width(t);
+    let base = put_address(width, at, first, second, items);
+    load_at(
+        is_whole(width, at, first, second),
+        t,
+        register(operand(node, 0)),
+        u,
+        base,
+        items,
+    );
 }
 
-// Appends the code of a store, where `u` is a temporary: at most 25 instructions, for which there is room.
+// Appends the code of a store, where `u` is a temporary: at most 28 instructions, for which there is room.
 fn store_code(t: StoreType, at: Addressing, node: &Node, u: u8, items: &mut Items<Item>)
-    requires { words_in items.old + 32 ≤ 64 }
+    requires { words_in items.old + 36 ≤ 64 }
     ensures { items.new ≡ items.old ++ ones (store_code t at node.now u) }
 {
     let from = match at {
         Addressing::Register | Addressing::Immediate => operand(node, 1),
         _ => operand(node, 2),
     };
-    let base = put_address(at, operand(node, 0), operand(node, 1), items);
-    store_at(t, register(from), u, base, items);
+    let first = operand(node, 0);
+    let second = operand(node, 1);
+    let width = store_width(t);
+    let base = put_address(width, at, first, second, items);
+    store_at(
+        is_whole(width, at, first, second),
+        t,
+        register(from),
+        u,
+        base,
+        items,
+    );
 }
 
-/// Appends the code of a load to no items: 1 to 34 instructions. The operands are those of the load's row in the instruction table. There is
+/// Appends the code of a load to no items: 1 to 38 instructions. The operands are those of the load's row in the instruction table. There is
 /// a choice at most, and one where the load reads several bytes.
 pub fn put_load(
     node: &Node,
@@ -229,7 +416,7 @@ pub fn put_load(
     }
 }
 
-/// Appends the code of a store to no items: 1 to 27 instructions. The operands are those of the store's row in the instruction table. There is
+/// Appends the code of a store to no items: 1 to 30 instructions. The operands are those of the store's row in the instruction table. There is
 /// a choice at most, and one where the store writes several bytes.
 pub fn put_store(
     node: &Node,

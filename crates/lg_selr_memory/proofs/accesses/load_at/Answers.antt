@@ -1,14 +1,16 @@
-use Rattle.std.proofs.Common.{[], ◌∷◌, ap, arith}
-use Rattle.lg_selr_items.specs.declared.items.Item.TheVariants.{One}
-use Rattle.lg_selr_items.specs.Items.{words_in}
-use Rattle.lg_selr_items.proofs.ItemLemmas.{words_append}
-use Rattle.lg_selr_memory.proofs.AccessFitLemmas.{narrow}
+use Rattle.std.proofs.Common.{arith}
+use Rattle.lg_selr_items.proofs.ItemLemmas.{words-ones}
+use Rattle.lg_selr_memory.specs.Accesses.{slow_load}
+use Rattle.lg_selr_memory.proofs.EmissionLemmas.{appended, slow_load_few}
 use Rattle.lg_selr_memory.proofs.accesses.load_at.Goals as goal
 
-pub lower_bytes-requires-clause-room : goal.lower_bytes-requires-clause-room
-lower_bytes-requires-clause-room c =
-    let e = ap words_in c.all.ensures in
-    let w = words_append c.args.items.now (One c.imm-else-width-eq1.result ∷ One c.imm-else-width-eq1-2.result ∷ []) in
-    let few = narrow c.args.t in
-    let is = c.width-width.ensures.value in
-    omega (arith, e, w, few, is, c.requires)
+pub slow_load-requires : goal.slow_load-requires
+slow_load-requires c = let test = appended c.args.items.now _ _ c.put_test.ensures in omega (arith, test, c.requires)
+
+pub all-requires : goal.all-requires
+all-requires c =
+    let test = appended c.args.items.now _ _ c.put_test.ensures in
+    let slow = appended c.put_test.new.items _ _ c.slow_load.ensures in
+    let words = words-ones (slow_load c.args.t c.args.d c.args.u c.args.base.register c.args.base.offset) in
+    let few = slow_load_few c.args.t c.args.d c.args.u c.args.base.register c.args.base.offset in
+    omega (arith, test, slow, words, few, c.requires)

@@ -1,14 +1,23 @@
-use Rattle.std.proofs.Common.{[], ◌∷◌, ap, arith}
-use Rattle.lg_selr_items.specs.declared.items.Item.TheVariants.{One}
-use Rattle.lg_selr_items.specs.Items.{words_in}
-use Rattle.lg_selr_items.proofs.ItemLemmas.{words_append}
-use Rattle.lg_selr_memory.proofs.AccessFitLemmas.{narrow-store}
+use Rattle.std.proofs.Common.{arith}
+use Rattle.lg_selr_items.proofs.ItemLemmas.{words-ones}
+use Rattle.lg_selr_memory.specs.Accesses.{store_bytes}
+use Rattle.lg_selr_memory.proofs.EmissionLemmas.{appended, store_bytes_few}
 use Rattle.lg_selr_memory.proofs.accesses.store_at.Goals as goal
 
-pub higher_bytes-requires-clause-room : goal.higher_bytes-requires-clause-room
-higher_bytes-requires-clause-room c =
-    let e = ap words_in c.all.ensures in
-    let w = words_append c.args.items.now (One c.imm.result ∷ One c.store_byte-else-width-eq1.result ∷ []) in
-    let few = narrow-store c.args.t in
-    let is = c.store_width-width.ensures.value in
-    omega (arith, e, w, few, is, c.requires)
+pub one-requires-else-whole : goal.one-requires-else-whole
+one-requires-else-whole c = let test = appended c.args.items.now _ _ c.put_test.ensures in omega (arith, test, c.requires)
+
+pub store_bytes-requires : goal.store_bytes-requires
+store_bytes-requires c =
+    let test = appended c.args.items.now _ _ c.put_test.ensures in
+    let first = appended c.put_test.new.items _ _ c.one-else-whole.ensures in
+    omega (arith, test, first, c.requires)
+
+pub all-requires : goal.all-requires
+all-requires c =
+    let test = appended c.args.items.now _ _ c.put_test.ensures in
+    let first = appended c.put_test.new.items _ _ c.one-else-whole.ensures in
+    let slow = appended c.one-else-whole.new.self _ _ c.store_bytes.ensures in
+    let words = words-ones (store_bytes c.args.t c.args.from c.args.u) in
+    let few = store_bytes_few c.args.t c.args.from c.args.u in
+    omega (arith, test, first, slow, words, few, c.requires)

@@ -7,5 +7,5 @@ use Rattle.lg_selr_memory.proofs.accesses.store_code.Goals as goal
 pub store_at-requires : goal.store_at-requires
 store_at-requires c =
     let e = ap words_in c.put_address-base.ensures.code in
-    let w = place_words c.args.items.now (address_of c.args.at c.operand.result c.operand-2.result) in
+    let w = place_words c.args.items.now c.store_width-width.result (address_of c.args.at c.operand-first.result c.operand-second.result) in
     omega (arith, e, w, c.requires)
