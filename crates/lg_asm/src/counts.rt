@@ -8,7 +8,7 @@ ghost use Rattle.lg_live.specs.RegSets.{has};
 ghost use Rattle.lg_node.specs.Checks.{IsAccepted};
 
 use crate::node::{first, pushed_behind};
-use crate::target::needs;
+use crate::target::{chosen, needs};
 use lg_base::refusal::OutOfMemory;
 use lg_base::target::Target;
 use lg_live::reg_set::RegSet;
@@ -16,7 +16,6 @@ use lg_liveness::live::Live;
 use lg_node::NodeList;
 use lg_op::Node;
 use lg_temp::choice::{Choice, Choices};
-use lg_temp::choose::choose;
 use std::alloc::Global;
 
 /// The registers that are live behind a node.
@@ -32,7 +31,7 @@ pub(crate) fn node_choices(target: Target, node: &Node, live_after: RegSet, pass
     requires { passed ≤ 16 }
     ensures { node_choices target (has live_after) passed node.now ≡ Some result }
 {
-    choose(
+    chosen(
         target,
         &needs(target, node),
         node,

@@ -1,9 +1,9 @@
 // The registers that a node reads and writes.
 
-ghost use Rattle.std.specs.Prelude.{◌≡◌, ◌||◌};
+ghost use Rattle.std.specs.Prelude.{◌≡◌, ◌||◌, ◌&&◌};
 ghost use Rattle.lg_op.specs.declared.operand.Reg.{Reg};
 ghost use Rattle.lg_live.specs.RegSets.{has, IsSmall};
-ghost use Rattle.lg_live.specs.Uses.{is_for, names, is_call, is_read, is_written};
+ghost use Rattle.lg_live.specs.Uses.{is_for, is_register, names, is_call, is_read, is_written};
 
 use crate::reg_set::RegSet;
 use lg_op::{ControlOp, Form, Node, Op, Operand, Reg};
@@ -27,21 +27,29 @@ fn is_for(access: Access, form: Form) -> bool
     }
 }
 
-// The registers that operands name for this access.
-fn named(access: Access, forms: &[Form], operands: &[Operand]) -> RegSet
-    ensures registers { (r : Reg) → has result r ≡ names access forms.now operands.now r }
-    ensures small { IsSmall result }
+// A set with the register that an operand of this form names for this access.
+fn with_named(found: RegSet, access: Access, form: Form, operand: Operand) -> RegSet
+    ensures registers { (r : Reg) → has result r ≡ (has found r || (is_for access form && is_register r operand)) }
+    ensures small { IsSmall found → IsSmall result }
+{
+    match operand {
+        Operand::Reg(reg) if is_for(access, form) => found.with(reg),
+        _ => found,
+    }
+}
+
+// A set with the registers that operands name for this access.
+fn named(access: Access, forms: &[Form], operands: &[Operand], found: RegSet) -> RegSet
+    ensures registers { (r : Reg) → has result r ≡ (has found r || names access forms.now operands.now r) }
+    ensures small { IsSmall found → IsSmall result }
 {
     match forms {
-        [] => RegSet::none(),
+        [] => found,
         [form, forms @ ..] => match operands {
-            [] => RegSet::none(),
+            [] => found,
             [operand, operands @ ..] => {
-                let rest = named(access, forms, operands);
-                match *operand {
-                    Operand::Reg(reg) if is_for(access, *form) => rest.with(reg),
-                    _ => rest,
-                }
+                let found = with_named(found, access, *form, *operand);
+                named(access, forms, operands, found)
             }
         },
     }
@@ -59,7 +67,12 @@ pub fn reads(node: &Node) -> RegSet
     ensures registers { (r : Reg) → has result r ≡ is_read node.now r }
     ensures small { IsSmall result }
 {
-    named(Access::Read, node.op.forms(), node.operands.as_slice())
+    named(
+        Access::Read,
+        node.op.forms(),
+        node.operands.as_slice(),
+        RegSet::none(),
+    )
 }
 
 /// The registers of R0 to V2 that a node writes. A call writes R0, R1 and R2.
@@ -67,7 +80,12 @@ pub fn writes(node: &Node) -> RegSet
     ensures registers { (r : Reg) → has result r ≡ is_written node.now r }
     ensures small { IsSmall result }
 {
-    let written = named(Access::Write, node.op.forms(), node.operands.as_slice());
+    let written = named(
+        Access::Write,
+        node.op.forms(),
+        node.operands.as_slice(),
+        RegSet::none(),
+    );
     if is_call(node.op) {
         written.with(Reg::R0).with(Reg::R1).with(Reg::R2)
     } else {

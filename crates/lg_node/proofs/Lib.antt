@@ -4,6 +4,7 @@ pub mod ChainLemmas
 pub mod FunctionLaws
 pub mod FunctionLemmas
 pub mod LimitLemmas
+pub mod MarkLemmas
 pub mod NodeListLemmas
 pub mod NumberLaws
 pub mod SuccessorLaws

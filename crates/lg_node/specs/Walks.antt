@@ -1,6 +1,8 @@
 -- What is known before a node when the nodes are walked in order.
-use Rattle.std.specs.Prelude.{ℕ, ◌+◌, ◌≤◌, ◌||◌, cond, if◌then◌else◌, List, Option, is_some}
+use Rattle.std.specs.Prelude.{ℕ, ◌+◌, ◌≤◌, Bool, true, false, ◌||◌, cond, if◌then◌else◌, List, Option, is_some}
 use Rattle.lg_op.specs.declared.node.Node.{Node}
+use Rattle.lg_op.specs.declared.op.Op.{Op}
+use Rattle.lg_op.specs.declared.op.Op.TheVariants.{Control, Plain}
 use Rattle.lg_node.specs.declared.walk.Walk.{Walk}
 use Rattle.lg_node.specs.Functions.{is_prolog, home_of, open_behind, open_before, local_size}
 use Rattle.lg_node.specs.Preparations.{prepared_behind, prepared_before, pushed_of, varies_behind, varies_before}
@@ -29,6 +31,12 @@ behind_in function w n = record {
 
 abbrev pub walk_behind : Walk → ℕ → Node → Walk
 walk_behind w i n = behind_in (open_behind (home_of w.function i n.op) n.op) w n
+
+-- what may change it within a function
+abbrev pub is_mark : Op → Bool
+is_mark (Plain o) = true
+is_mark (Control o last) = true
+is_mark o = false
 
 -- the limits of a function and of a call
 pub record IsWithinLimits (w : Walk) : Type 0 where

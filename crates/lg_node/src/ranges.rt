@@ -75,13 +75,14 @@ impl Ranges {
         requires { IsAccepted nodes.now }
         ensures { IfOk result (λ r. AreRanges nodes.now.nodes r) }
     {
+        let count = nodes.len() as usize;
         let mut functions = Vec::new(alloc);
-        let mut numbers = Vec::new(alloc);
+        let mut numbers = Vec::with_capacity(alloc, count)?;
         let mut walk = Walk::new();
         for index in 0..nodes.len() {
             let node = nodes.node(index);
             let home = home_of(walk.function, index, node.op);
-            numbers.push(number_in(functions.len() as u32, home))?;
+            numbers.push_reserved(number_in(functions.len() as u32, home));
             push_ended(&mut functions, ended(nodes, home, walk, index, &node))?;
             walk = walk.behind(index, &node);
         }

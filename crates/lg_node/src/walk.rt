@@ -5,7 +5,7 @@ ghost use Rattle.lg_op.specs.Nodes.{InForm};
 ghost use Rattle.lg_node.specs.Functions.{is_prolog, is_epilog, home_of, open_behind, local_size};
 ghost use Rattle.lg_node.specs.Preparations.{prepared_behind, pushed_of, varies_behind};
 ghost use Rattle.lg_node.specs.Checks.{is_arg};
-ghost use Rattle.lg_node.specs.Walks.{walk_behind, IsWithinLimits};
+ghost use Rattle.lg_node.specs.Walks.{is_mark, walk_behind, IsWithinLimits};
 
 use crate::preparation::Preparation;
 use lg_op::{ControlOp, Node, Op, Operand, PlainOp};
@@ -39,6 +39,13 @@ pub fn is_epilog(op: Op) -> bool
     ensures { result ≡ is_epilog op }
 {
     matches!(op, Op::Plain(PlainOp::Epilog))
+}
+
+// Whether an operation may change what is known within a function: it is a plain one, or a jump, a call or what is passed by one.
+fn is_mark(op: Op) -> bool
+    ensures { result ≡ is_mark op }
+{
+    matches!(op, Op::Plain(_) | Op::Control(_, _))
 }
 
 /// Whether an operation is `arg`.
@@ -128,8 +135,8 @@ impl Walk {
         }
     }
 
-    /// What is known behind the next node, which is in form.
-    pub fn behind(self, index: u32, node: &Node) -> Walk
+    // What is known behind the next node, which is in form: all is looked at.
+    fn past(self, index: u32, node: &Node) -> Walk
         requires form { InForm node.now }
         requires limits { IsWithinLimits self }
         ensures { result ≡ walk_behind self index node.now }
@@ -151,6 +158,20 @@ impl Walk {
             },
             call: prepared_behind(self.call, node.op),
             varies: varies_behind(self.varies, self.call, node.op),
+        }
+    }
+
+    /// What is known behind the next node, which is in form. Within a function only a mark changes it.
+    #[tactic(auto, using(crate::proofs::MarkLemmas::unmarked))]
+    pub fn behind(self, index: u32, node: &Node) -> Walk
+        requires form { InForm node.now }
+        requires limits { IsWithinLimits self }
+        ensures { result ≡ walk_behind self index node.now }
+    {
+        if self.function.is_some() && !is_mark(node.op) {
+            self
+        } else {
+            self.past(index, node)
         }
     }
 }

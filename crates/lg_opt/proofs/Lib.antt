@@ -30,3 +30,4 @@ pub mod ThreadRunLemmas
 pub mod ThreadedLemmas
 pub mod TidyLemmas
 pub mod TwiceLemmas
+pub mod WholeLemmas

@@ -1,7 +1,8 @@
 // Lists of nodes of which some are dropped and some get other targets.
 
 ghost use Rattle.std.specs.Prelude.{◌≡◌, ◌<◌, ◌≤◌, ◌+◌, ◌^◌, ◌-◌, ℕ, Some, None, true, if◌then◌else◌, cond, [], ◌∷◌, ◌++◌, length, map};
-ghost use Rattle.std.specs.Prelude.{replicate, slice_get, slice_index, slice_set, OnOk, IfOk, IfSome};
+ghost use Rattle.std.specs.Prelude.{replicate, slice_get, slice_index, slice_set, OnOk, IfOk, IfSome, is_none};
+ghost use Rattle.std.specs.List.{list_all};
 ghost use Rattle.lg_op.specs.declared.operand.Label.{Label};
 ghost use Rattle.lg_op.specs.Nodes.{InForm};
 ghost use Rattle.lg_node.specs.Nodes.{IsWithin, with_node};
@@ -164,8 +165,8 @@ pub fn bind_moved(list: &mut NodeList, nodes: &NodeList, numbers: &[u32])
     }
 }
 
-/// The nodes that stay, with their targets and the labels in their new places.
-pub fn rebuilt(
+// The nodes that stay, with their targets and the labels in their new places, built one by one.
+fn rebuilt_anew(
     alloc: Global,
     nodes: &NodeList,
     stays: &[bool],
@@ -181,6 +182,40 @@ pub fn rebuilt(
     let numbers = numbers(alloc, stays)?;
     bind_moved(&mut list, nodes, &numbers);
     Ok(list)
+}
+
+// Whether all nodes stay.
+fn all_stay(stays: &[bool]) -> bool
+    ensures { result ≡ list_all (λ s. s) stays.now }
+{
+    stays.iter().all(|stays| *stays)
+}
+
+// Whether no other target is given.
+fn none_given(targets: &[Option<Label>]) -> bool
+    ensures { result ≡ list_all is_none targets.now }
+{
+    targets.iter().all(|target| target.is_none())
+}
+
+/// The nodes that stay, with their targets and the labels in their new places. Where all stay as they are the list is copied.
+#[tactic(auto, using(crate::proofs::WholeLemmas::copied))]
+pub fn rebuilt(
+    alloc: Global,
+    nodes: &NodeList,
+    stays: &[bool],
+    targets: &[Option<Label>],
+) -> Result<NodeList, OutOfMemory>
+    requires count { length stays.now ≡ length nodes.now.nodes }
+    requires targets { TargetsAreOfJumps nodes.now targets.now }
+    ensures { IfOk result (λ l. l ≡ rewritten nodes.now (marked stays.now) (target_in targets.now)) }
+{
+    nodes.what_holds();
+    if all_stay(stays) && none_given(targets) {
+        nodes.copy(alloc)
+    } else {
+        rebuilt_anew(alloc, nodes, stays, targets)
+    }
 }
 
 // Appends the number of a node that stays.

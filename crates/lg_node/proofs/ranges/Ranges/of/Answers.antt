@@ -16,7 +16,8 @@ loop-index-init c = record {
   walk = c.new-walk.ensures ∙ sym (walk_start c.args.nodes.now.nodes);
   functions = c.new-functions.ensures.items ∙ sym (functions_start c.args.nodes.now.nodes);
   few = omega (arith, ap length c.new-functions.ensures.items);
-  count = ap length c.new-numbers.ensures.items;
+  count = ap length c.in_ok-numbers.ensures.items;
+  room = omega (arith, c.in_ok-numbers.ensures.capacity, c.len-count.ensures);
   numbers = λ i h. absurd (omega arith);
 }
 
@@ -31,6 +32,9 @@ ended-requires-clause-limits c = rw c.loop-index.invariant.walk (limits_before c
 
 pub behind-walk-requires-clause-limits : goal.behind-walk-requires-clause-limits
 behind-walk-requires-clause-limits c = rw c.loop-index.invariant.walk (limits_before c.args.nodes.now c.loop-index.index (omega arith) c.requires.nodes)
+
+pub push_reserved-requires : goal.push_reserved-requires
+push_reserved-requires c = omega (arith, c.loop-index.numbers.ok.0, c.loop-index.invariant.count, c.loop-index.invariant.room, c.loop-index-test.true, c.len-index-end.ensures)
 
 pub loop-index-preserved : goal.loop-index-preserved
 loop-index-preserved c =
@@ -53,8 +57,9 @@ loop-index-preserved c =
           ∙ ap₂ (λ (fs : List Function) (o : Option Function). fs ++ option_to_list o) c.loop-index.invariant.functions ended
           ∙ sym (functions_on nodes i c.node-node.result here);
       few = few_on c.loop-index.functions.items c.push_ended.new.functions.items c.ended.result i c.in_ok-push_ended.ensures c.loop-index.invariant.few;
-      count = count_push c.loop-index.numbers.items c.push.new.self.items c.number_in.result i c.in_ok-push.ensures.items c.loop-index.invariant.count;
-      numbers = table_push (number_of nodes) c.loop-index.numbers.items c.push.new.self.items c.number_in.result None i c.in_ok-push.ensures.items c.loop-index.invariant.count number c.loop-index.invariant.numbers;
+      count = count_push c.loop-index.numbers.items c.push_reserved.new.self.items c.number_in.result i c.push_reserved.ensures.items c.loop-index.invariant.count;
+      room = omega (arith, c.push_reserved.ensures.capacity, c.loop-index.invariant.room);
+      numbers = table_push (number_of nodes) c.loop-index.numbers.items c.push_reserved.new.self.items c.number_in.result None i c.push_reserved.ensures.items c.loop-index.invariant.count number c.loop-index.invariant.numbers;
     }
 
 pub returns : goal.returns

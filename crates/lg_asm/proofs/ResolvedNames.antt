@@ -1,0 +1,15 @@
+-- Operands without labels stay.
+use Rattle.std.proofs.Common.{◌≡◌, false, List, [], ◌∷◌, Option, map, refl, ap}
+use Rattle.std.specs.List.{list_any}
+use Rattle.lg_node.specs.declared.place.Place.{Place}
+use Rattle.lg_op.specs.declared.operand.Operand.{Operand}
+use Rattle.lg_op.specs.declared.operand.Operand.TheVariants as operand
+use Rattle.lg_asm.specs.Resolved.{is_name, resolved}
+
+pub unnamed : (places : List (Option Place)) (xs : List Operand) → list_any is_name xs ≡ false → xs ≡ map (resolved places) xs
+unnamed places [] e = refl
+unnamed places (operand.Label l ∷ xs) e = cc
+unnamed places (operand.Reg r ∷ xs) e = ap (λ ys. operand.Reg r ∷ ys) (unnamed places xs e)
+unnamed places (operand.Number n ∷ xs) e = ap (λ ys. operand.Number n ∷ ys) (unnamed places xs e)
+unnamed places (operand.Host h ∷ xs) e = ap (λ ys. operand.Host h ∷ ys) (unnamed places xs e)
+unnamed places (operand.Slot s ∷ xs) e = ap (λ ys. operand.Slot s ∷ ys) (unnamed places xs e)
