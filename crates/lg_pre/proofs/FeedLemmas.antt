@@ -34,7 +34,7 @@ one_if b = if b == 10 then 1 else 0
 pub feeds_append : (a b : List ℕ) → feeds_of (a ++ b) ≡ feeds_of a + feeds_of b
 feeds_append a b = sum_by-append one_if a b
 
-feeds_cons : (b : ℕ) (rest : List ℕ) → feeds_of (b ∷ rest) ≡ one_if b + feeds_of rest
+pub feeds_cons : (b : ℕ) (rest : List ℕ) → feeds_of (b ∷ rest) ≡ one_if b + feeds_of rest
 feeds_cons b rest = sum_by-cons one_if b rest
 
 pub feeds_parts : (n : ℕ) (bytes : List ℕ) → feeds_of (take n bytes) + feeds_of (drop n bytes) ≡ feeds_of bytes

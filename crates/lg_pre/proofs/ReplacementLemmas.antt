@@ -12,11 +12,11 @@ use Rattle.lg_pre.specs.declared.macros.Macro.{Macro}
 use Rattle.lg_pre.specs.declared.macros.Mark.{Mark}
 use Rattle.lg_pre.specs.Replacements.{NameNothing, OthersStay, is_hidden, HiddenNamesStay, StandsForItself, IsPlain, BodiesReplaceNames}
 
-append-end : {A : Type 0} (xs : List A) → xs ++ [] ≡ xs
+pub append-end : {A : Type 0} (xs : List A) → xs ++ [] ≡ xs
 append-end [] = refl
 append-end (x ∷ xs) = ap (λ l. x ∷ l) (append-end xs)
 
-append-again : {A : Type 0} (xs ys zs : List A) → (xs ++ ys) ++ zs ≡ xs ++ (ys ++ zs)
+pub append-again : {A : Type 0} (xs ys zs : List A) → (xs ++ ys) ++ zs ≡ xs ++ (ys ++ zs)
 append-again [] ys zs = refl
 append-again (x ∷ xs) ys zs = ap (λ l. x ∷ l) (append-again xs ys zs)
 
@@ -29,7 +29,7 @@ step-hidden : (table : List Macro) (inner : Expander) (hidden : List ℕ) (p : P
 unfolding step at_name at_macro
 step-hidden table inner hidden p rest given place m e at h = rw (e, at, h) refl
 
-step-object : (table : List Macro) (inner : Expander) (hidden : List ℕ) (p : Piece) (rest : List Piece) (given : Given) (place : ℕ) (m : Macro) → named table p ≡ Some place → slice_get table place ≡ Some m → is_hidden hidden place ≡ false → m.arity ≡ None → step table inner hidden p rest given ≡ object inner p hidden place m given
+pub step-object : (table : List Macro) (inner : Expander) (hidden : List ℕ) (p : Piece) (rest : List Piece) (given : Given) (place : ℕ) (m : Macro) → named table p ≡ Some place → slice_get table place ≡ Some m → is_hidden hidden place ≡ false → m.arity ≡ None → step table inner hidden p rest given ≡ object inner p hidden place m given
 unfolding step at_name at_macro
 step-object table inner hidden p rest given place m e at h o = rw (e, at, h, o) refl
 
@@ -76,7 +76,7 @@ unfolding substituted
 plain-body line m h = filled-plain line m.body m.marks [] [] h.marked h.plain
 
 -- an outcome with no piece taken behind the name, and what follows
-behind-name : (o : Outcome) (rest : List Piece) (f : List Piece → Given → Outcome) → (behind_name o >>= (λ t. f (drop t.0 rest) t.1)) ≡ (o >>= f rest)
+pub behind-name : (o : Outcome) (rest : List Piece) (f : List Piece → Given → Outcome) → (behind_name o >>= (λ t. f (drop t.0 rest) t.1)) ≡ (o >>= f rest)
 behind-name (Ok g) rest f = refl
 behind-name (Err fault) rest f = refl
 

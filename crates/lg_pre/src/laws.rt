@@ -1,5 +1,6 @@
 // What holds of every expansion. The functions do nothing: their contracts are the laws.
 
+ghost use Rattle.lg_pre.specs.Calls.{BodiesAreFilled, CallsReplaceNames, PastedBodiesReplaceNames};
 ghost use Rattle.lg_pre.specs.Lines.{GivenBytesStay, LineFeedsAreKept, PiecesAreTheText, TokensKeepTheirLines};
 ghost use Rattle.lg_pre.specs.PlainTexts.{PlainTextsStay};
 ghost use Rattle.lg_pre.specs.Replacements.{BodiesReplaceNames, HiddenNamesStay, OthersStay};
@@ -43,4 +44,17 @@ pub fn hidden_names_stay()
 /// A name without parameters, whose body has no `##`, is replaced by its body, which is scanned again with the name hidden.
 pub fn bodies_replace_names()
     ensures { BodiesReplaceNames }
+{}
+
+/// Such a body may have `##`: what stands on both sides of it is put together first.
+pub fn pasted_bodies_replace_names()
+    ensures { PastedBodiesReplaceNames }
+{}
+
+/// A name with parameters and a call of it are replaced by the body, with an argument in place of each parameter: expanded, and beside `##` as it is written,
+/// with what stands on both sides of a `##` put together. The body is scanned again with the name hidden, and the line feeds of the call follow it. Each body
+/// can be filled so, where no `##` begins it.
+pub fn calls_replace_names()
+    ensures replaced { CallsReplaceNames }
+    ensures filled { BodiesAreFilled }
 {}
