@@ -1,6 +1,6 @@
 -- The items of the nodes that branch, jump, call and return, of `prolog`, `.align` and of those without code; none but those of a `prolog` store.
 use Rattle.std.proofs.Common.{◌≡◌, ℕ, zero, suc, ◌≤◌, Bool, true, false, List, [], ◌∷◌, refl, arith}
-use Rattle.std.specs.Prelude.{pos}
+use Rattle.std.specs.Prelude.{pos, nat_lt, if◌then◌else◌}
 use Rattle.lg_a64.specs.declared.instruction.BranchOp.TheVariants.{B, Bl}
 use Rattle.lg_a64.specs.declared.instruction.BranchRegOp.{BranchRegOp}
 use Rattle.lg_a64.specs.declared.instruction.BranchRegOp.TheVariants.{Br, Blr}
@@ -37,7 +37,7 @@ use Rattle.lg_sela_control.specs.Branches.{comparison, taken, turned}
 use Rattle.lg_sela_control.specs.ControlItems.{second_register, word_items, second_items, leads_items, branch_if_items, branch_items, sum_items, jump_items, call_items, result_items, ret_items, register_leap_items, leap_items, align_items, control_items}
 use Rattle.lg_sela_control.specs.Prologs.{prolog_code}
 use Rattle.lg_sela_control.specs.RegisterLeaps.{register_leap_code}
-use Rattle.lg_sela_control.specs.Returns.{result, return_code}
+use Rattle.lg_sela_control.specs.Returns.{result, near_return, far_return, return_code}
 use Rattle.lg_sela_control.specs.SumBranches.{sum_instruction, sum_taken}
 use Rattle.lg_sela_items.specs.declared.items.Item.{Item}
 use Rattle.lg_sela_items.specs.declared.items.Item.TheVariants.{Branch}
@@ -67,6 +67,13 @@ leads-emit Near is holds l h = branch_if Near is holds l.0 h
 leads-emit Far is holds l h = front Far is 1 0 (instr.BranchIf (turned holds) (pos 2) ∷ []) (Branch B l.0 ∷ []) refl (branch Far is B l.0 h)
 
 -- ---- items
+return-none : (frame : ℕ) → NoneStores (return_code frame)
+return-none frame = by (nat_lt frame 4096)
+  where
+    by : (b : Bool) → NoneStores (if b then near_return frame else far_return)
+    by true = refl
+    by false = refl
+
 module _ (reach : Reach) (is : ℕ → Bool) where
   word : (t : ℕ) (x : Operand) → Emits reach is 0 0 (word_items t (immediate x))
   word t (operand.Number v) = number reach is 0 t v
@@ -119,23 +126,23 @@ module _ (reach : Reach) (is : ℕ → Bool) where
   result-emits (operand.Host name) h = wider (result_items (operand.Host name)) (word result (operand.Host name))
   result-emits (operand.Slot k) h = wider (result_items (operand.Slot k)) (word result (operand.Slot k))
 
-  returned : (xs : List Operand) → AllPass is xs → Emits reach is 1 0 (ret_items xs)
-  returned (x ∷ []) h = behind reach is 1 0 (result_items x) return_code (result-emits x h.0) refl
-  returned xs h = none reach is 1 0
+  returned : (frame : ℕ) (xs : List Operand) → AllPass is xs → Emits reach is 1 0 (ret_items frame xs)
+  returned frame (x ∷ []) h = behind reach is 1 0 (result_items x) (return_code frame) (result-emits x h.0) (return-none frame)
+  returned frame xs h = none reach is 1 0
 
   leapt : (o : BranchRegOp) (xs : List Operand) → Emits reach is 1 0 (register_leap_items o xs)
   leapt o (operand.Reg a ∷ []) = plain reach is 1 (register_leap_code o a) refl
   leapt o xs = none reach is 1 0
 
-  leaps : (o : ControlOp) (last : LastOperand) (xs : List Operand) → AllPass is xs → Emits reach is 1 0 (leap_items o last xs)
-  leaps control.Jmp last_operand.Immediate xs h = jumped xs h
-  leaps control.Jmp last_operand.Register xs h = leapt Br xs
-  leaps control.Call last_operand.Immediate xs h = called xs h
-  leaps control.Call last_operand.Register xs h = leapt Blr xs
-  leaps control.Finish last_operand.Immediate xs h = called xs h
-  leaps control.Finish last_operand.Register xs h = leapt Blr xs
-  leaps control.Ret last xs h = returned xs h
-  leaps control.Pusharg last xs h = none reach is 1 0
+  leaps : (frame : ℕ) (o : ControlOp) (last : LastOperand) (xs : List Operand) → AllPass is xs → Emits reach is 1 0 (leap_items frame o last xs)
+  leaps frame control.Jmp last_operand.Immediate xs h = jumped xs h
+  leaps frame control.Jmp last_operand.Register xs h = leapt Br xs
+  leaps frame control.Call last_operand.Immediate xs h = called xs h
+  leaps frame control.Call last_operand.Register xs h = leapt Blr xs
+  leaps frame control.Finish last_operand.Immediate xs h = called xs h
+  leaps frame control.Finish last_operand.Register xs h = leapt Blr xs
+  leaps frame control.Ret last xs h = returned frame xs h
+  leaps frame control.Pusharg last xs h = none reach is 1 0
 
   aligned : (at : ℕ) (xs : List Operand) → Emits reach is 1 0 (align_items at xs)
   aligned at (operand.Number n ∷ []) = plain reach is 1 (align_code at n) (idle-none (padding at n))
@@ -144,10 +151,10 @@ module _ (reach : Reach) (is : ℕ → Bool) where
   pub controls-emit : (o : Op) (xs : List Operand) (frame at : ℕ) → is_free o ≡ false → AllPass is xs → Emits reach is 1 0 (control_items reach o xs frame at)
   controls-emit (op.Branch o last) xs frame at other h = branched o xs h
   controls-emit (op.BranchSum o last) xs frame at other h = summed o xs h
-  controls-emit (op.Control o last) xs frame at other h = leaps o last xs h
+  controls-emit (op.Control o last) xs frame at other h = leaps frame o last xs h
   controls-emit (op.Plain plain_op.Prolog) xs frame at other h = cc
-  controls-emit (op.Plain plain_op.Epilog) xs frame at other h = plain reach is 1 return_code refl
-  controls-emit (op.Plain plain_op.Ret) xs frame at other h = plain reach is 1 return_code refl
+  controls-emit (op.Plain plain_op.Epilog) xs frame at other h = plain reach is 1 (return_code frame) (return-none frame)
+  controls-emit (op.Plain plain_op.Ret) xs frame at other h = plain reach is 1 (return_code frame) (return-none frame)
   controls-emit (op.Plain plain_op.Align) xs frame at other h = aligned at xs
   controls-emit (op.Plain plain_op.Movi) xs frame at other h = none reach is 1 0
   controls-emit (op.Plain o) xs frame at other h = none reach is 1 0

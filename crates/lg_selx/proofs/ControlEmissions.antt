@@ -1,6 +1,6 @@
 -- The items of the nodes that branch, jump, call and return, of `prolog`, `.align` and of those without code; none but those of a `prolog` store.
 use Rattle.std.proofs.Common.{◌≡◌, ℕ, zero, suc, ◌≤◌, Bool, true, false, List, [], ◌∷◌, refl, arith}
-use Rattle.std.specs.Prelude.{◌==◌, ◌&&◌, if◌then◌else◌, Option, Some, None}
+use Rattle.std.specs.Prelude.{◌==◌, ◌&&◌, ◌%◌, ◌^◌, pos, negsuc, if◌then◌else◌, Option, Some, None}
 use Rattle.lg_base.specs.HostNames.{host_address}
 use Rattle.lg_base.specs.Words.{signed_view, is_half}
 use Rattle.lg_base.specs.declared.target.Target.TheVariants.{X86_64}
@@ -25,7 +25,7 @@ use Rattle.lg_sel_items.specs.declared.reach.Reach.{Reach}
 use Rattle.lg_sel_items.specs.declared.reach.Reach.TheVariants as reaches
 use Rattle.lg_selx.proofs.Emissions.{Names, NoneStores, keep-none, number-keeps, Emits, none, instructions, plain, number, address, jump, front, behind}
 use Rattle.lg_selx_control.specs.Alignments.{padding, idle, align_code}
-use Rattle.lg_selx_control.specs.Branches.{comparison, is_difference, taken, lowered, wide_comparison, word_comparison, before_branch}
+use Rattle.lg_selx_control.specs.Branches.{comparison, is_difference, taken, far_number, pointer_comparison, wide_comparison, word_comparison, before_branch}
 use Rattle.lg_selx_control.specs.ControlItems.{jump_kind, branch_if_items, branch_items, sum_items, jump_items, call_items, result_items, ret_items, register_jump_items, register_call_items, leap_items, align_items, control_items}
 use Rattle.lg_selx_control.specs.HostCalls.{host_code}
 use Rattle.lg_selx_control.specs.Prologs.{prolog_code}
@@ -37,25 +37,32 @@ use Rattle.lg_selx_items.specs.declared.items.JumpKind.TheVariants.{Near}
 use Rattle.lg_selx_values.specs.Scratch.{again}
 use Rattle.lg_temp.specs.Abis.{register_of}
 use Rattle.lg_x86.specs.declared.instruction.Cond.{Cond}
-use Rattle.lg_x86.specs.declared.instruction.ImmOp.TheVariants.{Cmpi}
+use Rattle.lg_x86.specs.declared.instruction.ImmOp.TheVariants.{Andi, Cmpi}
 use Rattle.lg_x86.specs.declared.instruction.Instr.{Instr}
 use Rattle.lg_x86.specs.declared.instruction.Instr.TheVariants as instr
 use Rattle.lg_x86.specs.declared.instruction.JumpNearOp.TheVariants.{Jmp32, Call32}
 use Rattle.lg_x86.specs.declared.instruction.RmRegOp.TheVariants.{Mov}
 
 -- ---- instructions
-wide-none : (o : Condition) (frame a v : ℕ) → NoneStores (wide_comparison (comparison o) frame a v)
+pointed-none : (o : Condition) (frame v : ℕ) → NoneStores (pointer_comparison o frame v)
+pointed-none o frame v = by (is_difference o)
+  where
+    by : (b : Bool) → NoneStores (if b then instr.Imm Cmpi 5 (far_number v) ∷ [] else instr.Imm Andi 5 (pos (v % 2 ^ 30)) ∷ again frame)
+    by true = refl
+    by false = refl
+
+wide-none : (o : Condition) (frame a v : ℕ) → NoneStores (wide_comparison o frame a v)
 wide-none o frame a v = by (a == 5)
   where
-    by : (b : Bool) → NoneStores (if b then number_row 4 v ∷ (instr.RmReg (comparison o) a 4 ∷ lowered frame) else number_row 5 v ∷ (instr.RmReg (comparison o) a 5 ∷ again frame))
-    by true = keep-none (number_row 4 v ∷ (instr.RmReg (comparison o) a 4 ∷ lowered frame)) (number-keeps 4 v, (refl, (refl, tt)))
+    by : (b : Bool) → NoneStores (if b then pointer_comparison o frame v else number_row 5 v ∷ (instr.RmReg (comparison o) a 5 ∷ again frame))
+    by true = pointed-none o frame v
     by false = keep-none (number_row 5 v ∷ (instr.RmReg (comparison o) a 5 ∷ again frame)) (number-keeps 5 v, (refl, (refl, tt)))
 
 compared-none : (o : Condition) (frame a : ℕ) (x : Option ℕ) → NoneStores (word_comparison o frame a x)
 compared-none o frame a None = refl
 compared-none o frame a (Some v) = by (is_difference o && is_half v)
   where
-    by : (b : Bool) → NoneStores (if b then instr.Imm Cmpi a (signed_view v) ∷ [] else wide_comparison (comparison o) frame a v)
+    by : (b : Bool) → NoneStores (if b then instr.Imm Cmpi a (signed_view v) ∷ [] else wide_comparison o frame a v)
     by true = refl
     by false = wide-none o frame a v
 

@@ -3,10 +3,12 @@ pub mod ControlEmissions
 pub mod Emissions
 pub mod FinishedLemmas
 pub mod MemoryEmissions
+pub mod NeedLemmas
 pub mod NodeFits
 pub mod NodeLemmas
 pub mod OperandLemmas
 pub mod PlaceLemmas
+pub mod SavedEmissions
 pub mod ShortLemmas
 pub mod SizeLemmas
 pub mod SmallLemmas

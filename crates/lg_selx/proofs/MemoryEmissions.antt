@@ -1,5 +1,5 @@
 -- The items of loads, stores and nodes that read and pass arguments: a store and an argument that is passed store once.
-use Rattle.std.proofs.Common.{ℕ, ◌-◌, ◌*◌, ◌≤◌, Bool, true, false, List, [], ◌∷◌, ◌++◌, refl, arith}
+use Rattle.std.proofs.Common.{ℕ, ◌+◌, ◌-◌, ◌*◌, ◌≤◌, Bool, true, false, List, [], ◌∷◌, ◌++◌, refl, arith}
 use Rattle.std.specs.Prelude.{◌==◌, nat_lt, slice_index, if◌then◌else◌, pos}
 use Rattle.lg_base.specs.Conventions.{argument_registers}
 use Rattle.lg_base.specs.HostNames.{host_address}
@@ -19,15 +19,18 @@ use Rattle.lg_sel.specs.Stores.{x86_stores}
 use Rattle.lg_sel_memory.specs.Accesses.{Address, Base, At, Sum, Index, address_of}
 use Rattle.lg_sel_items.specs.declared.reach.Reach.{Reach}
 use Rattle.lg_selx.proofs.Emissions.{NoneStores, keep-none, number-keeps, Emits, none, append, more, either, instructions, plain, number, address}
-use Rattle.lg_selx_control.specs.Branches.{lowered}
+use Rattle.lg_selx.proofs.SavedEmissions.{saved}
 use Rattle.lg_selx_items.specs.Items.{ones}
 use Rattle.lg_selx_memory.specs.Accesses as accesses
-use Rattle.lg_selx_memory.specs.Accesses.{register, load_row, store_row, Place, at_register, at_spare, indexed, place_of, remade, load_spare, store_spare, loading, storing, load_code, store_code}
+use Rattle.lg_selx_memory.specs.Accesses.{register, load_row, store_row, Place, at_register, at_spare, indexed, place_of, remade, load_spare, loading, storing, load_code, store_code, store_items}
 use Rattle.lg_selx_memory.specs.ArgumentCode.{argument_load, argument_code}
 use Rattle.lg_selx_memory.specs.PushCode.{into, stack_push, onto_stack, push_code}
 use Rattle.lg_selx_memory.specs.VariableArgumentCode.{next_argument_code}
 use Rattle.lg_selx_values.specs.Scratch.{again}
+use Rattle.lg_sel_values.specs.Parts.{first_taken}
 use Rattle.lg_temp.specs.Abis.{register_of}
+use Rattle.lg_temp.specs.Chosen.{spills}
+use Rattle.lg_temp.specs.declared.choice.Choice.{Choice}
 use Rattle.lg_x86.specs.declared.instruction.Instr.{Instr}
 use Rattle.lg_x86.specs.declared.instruction.Instr.TheVariants as instr
 use Rattle.lg_x86.specs.declared.instruction.RmRegOp.TheVariants.{Mov}
@@ -48,12 +51,11 @@ place-none t (Sum a b) = refl
 place-none t (Index a v) = indexed-none t (register_of X86_64 a) v
 
 remade-none : (frame t : ℕ) → NoneStores (remade frame t)
-remade-none frame t = by (t == 4) (t == 5)
+remade-none frame t = by (t == 5)
   where
-    by : (b c : Bool) → NoneStores (if b then lowered frame else if c then again frame else [])
-    by true c = refl
-    by false true = refl
-    by false false = refl
+    by : (c : Bool) → NoneStores (if c then again frame else [])
+    by true = refl
+    by false = refl
 
 behind-none : (frame : ℕ) (p : Place) → NoneStores (accesses.behind frame p)
 behind-none frame p = by p.spare
@@ -66,10 +68,9 @@ loading-none : (frame : ℕ) (t : ValueType) (d : ℕ) (p : Place) → NoneStore
 loading-none frame t d p few =
     stores.none-append x86_stores p.code (instr.Load (load_row t) d p.base p.disp ∷ accesses.behind frame p) few (behind-none frame p)
 
-storing-one : (frame : ℕ) (t : StoreType) (from : ℕ) (p : Place) → NoneStores p.code → stores.stores_among x86_stores (storing frame t from p) ≤ 1
-storing-one frame t from p few =
-    let h = stores.among-append x86_stores p.code (instr.Store (store_row t) p.base p.disp from ∷ accesses.behind frame p) in
-    let g = behind-none frame p in omega (arith, h, few, g)
+storing-one : (t : StoreType) (from : ℕ) (p : Place) → NoneStores p.code → stores.stores_among x86_stores (storing t from p) ≤ 1
+storing-one t from p few =
+    let h = stores.among-append x86_stores p.code (instr.Store (store_row t) p.base p.disp from ∷ []) in omega (arith, h, few)
 
 argument-none : (t : ValueType) (rd k : ℕ) → NoneStores (argument_load t rd k)
 argument-none t rd k = refl
@@ -85,11 +86,12 @@ module _ (reach : Reach) (is : ℕ → Bool) (frame : ℕ) where
       let a : Address = address_of at (operand_at n 1) (operand_at n 2) in
       plain reach is 1 (load_code frame t at n) (loading-none frame t d (place_of (load_spare d a) a) (place-none (load_spare d a) a))
 
-  pub stores-emit : (t : StoreType) (at : Addressing) (n : Node) → Emits reach is 1 1 (ones (store_code frame t at n))
-  stores-emit t at n =
+  pub stores-emit : (t : StoreType) (at : Addressing) (n : Node) (choices : List Choice) → Emits reach is 1 (spills choices + 1) (store_items t at n choices)
+  stores-emit t at n choices =
       let v : ℕ = register (operand_at n (stored_operand at)) in
       let a : Address = address_of at (operand_at n 0) (operand_at n 1) in
-      instructions reach is 1 1 (store_code frame t at n) (storing-one frame t v (place_of (store_spare v a) a) (place-none (store_spare v a) a))
+      let u : ℕ = first_taken choices in
+      saved reach is 1 choices (ones (store_code t at n u)) (instructions reach is 1 1 (store_code t at n u) (storing-one t v (place_of u a) (place-none u a)))
 
   pub arguments-emit : (t : ValueType) (n : Node) → Emits reach is 1 0 (ones (argument_code frame t n))
   arguments-emit t n = plain reach is 1 (argument_code frame t n)

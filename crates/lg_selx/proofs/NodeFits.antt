@@ -2,6 +2,7 @@
 use Rattle.std.proofs.Common.{◌≡◌, ℕ, ◌<◌, ◌≤◌, Bool, List, [], length, arith, true, sym, subst, ◌+◌}
 use Rattle.lg_base.specs.declared.target.Target.TheVariants.{X86_64}
 use Rattle.lg_op.specs.declared.node.Node.{Node}
+use Rattle.lg_op.specs.declared.op.Op.TheVariants as op
 use Rattle.lg_op.specs.declared.operand.Operand.{Operand}
 use Rattle.lg_op.specs.declared.operand.Reg.{Reg}
 use Rattle.lg_meaning.specs.Steps.{operand_at}
@@ -20,6 +21,7 @@ use Rattle.lg_selx.proofs.ControlEmissions.{controls-emit, prologs-emit}
 use Rattle.lg_selx.proofs.Emissions.{Names, Emits, more}
 use Rattle.lg_selx.proofs.MemoryEmissions.{loads-emit, stores-emit, arguments-emit, next-arguments-emit, pushes-emit}
 use Rattle.lg_sel_nodes.proofs.GivenLemmas.{are-given}
+use Rattle.lg_selx.proofs.NeedLemmas.{value-is-none, made-values, made-access}
 use Rattle.lg_selx.proofs.SmallLemmas.{items-small}
 use Rattle.lg_selx.proofs.ValueEmissions.{values-emit}
 use Rattle.lg_selx.specs.Items.{x86_families, node_items}
@@ -30,28 +32,20 @@ use Rattle.lg_selx_items.specs.Items.{ones, x86_holes, IsItem, NamesOneOf, Stays
 use Rattle.lg_selx_items.specs.declared.items.Item.{Item}
 use Rattle.lg_selx_memory.proofs.FitLemmas.{memory-items-fit}
 use Rattle.lg_selx_memory.proofs.WithinLemmas.{memory-items-name, memory-items-stay}
-use Rattle.lg_selx_values.proofs.ChoiceLemmas.{choices-have-slots}
 use Rattle.lg_selx_values.proofs.ValueFitLemmas.{value-items-fit, value-items-name, value-items-stay}
-use Rattle.lg_sel_values.specs.Parts.{HaveSlots}
+use Rattle.lg_selx_values.specs.Needs.{value_needs}
 use Rattle.lg_selx_values.specs.ValueItems.{value_items}
-use Rattle.lg_temp.proofs.ChoiceLemmas.{choices-are-for}
 use Rattle.lg_temp.specs.Choices.{AreFor}
-use Rattle.lg_selx_memory.specs.Accesses.{load_code, store_code}
+use Rattle.lg_selx_memory.specs.Accesses.{load_code}
 use Rattle.lg_temp.specs.Chosen.{around, spills}
 use Rattle.lg_temp.specs.declared.choice.Choice.{Choice}
-
--- at most two registers are chosen, and they have slots where they are saved
-pub choices-fit : (n : Node) (live : Reg → Bool) (staged : List Bool) (choices : List Choice) → AreChosen n live staged choices → (length choices ≤ 2) × HaveSlots choices
-choices-fit n live staged choices k =
-    let are = choices-have-slots n live k.set choices (choices-are-for (around X86_64 n live k.set) (needs n.op) choices k.chosen) in
-    (are.few, are.slots)
 
 -- ---- labels, fixes and stores
 families-emit : (reach : Reach) → emission.FamiliesEmit X86_64 x86_holes x86_stores (Names reach) (x86_families reach)
 families-emit reach = record {
   values = λ is frame n choices h. values-emit reach is frame n choices h;
   loads = λ is frame t at n choices. more reach is 1 1 0 (spills choices) (ones (load_code frame t at n)) (omega arith) (omega arith) (loads-emit reach is frame t at n);
-  stores = λ is frame t at n choices. more reach is 1 1 1 (spills choices + 1) (ones (store_code frame t at n)) (omega arith) (omega arith) (stores-emit reach is frame t at n);
+  stores = λ is frame t at n choices. stores-emit reach is frame t at n choices;
   arguments = λ is frame t n. arguments-emit reach is frame t n;
   next_arguments = λ is n. next-arguments-emit reach is n;
   pushes = λ is frame j n h. pushes-emit reach is frame j n h;
@@ -67,7 +61,7 @@ abbrev Fit : Reach → ℕ → List Item → Type 0
 Fit reach labels xs = fit.Fit X86_64 needs (x86_families reach) IsItem NamesOneOf labels xs
 
 -- those of values
-values : (reach : Reach) (labels frame : ℕ) (n : Node) (live : Reg → Bool) (set : List Bool) (choices : List Choice) → IsFrame frame → AreFor (around X86_64 n live set) (needs n.op) [] (needs n.op) choices → NameBelow labels n.operands
+values : (reach : Reach) (labels frame : ℕ) (n : Node) (live : Reg → Bool) (set : List Bool) (choices : List Choice) → IsFrame frame → AreFor (around X86_64 n live set) (value_needs n.op) [] (value_needs n.op) choices → NameBelow labels n.operands
     → HaveWords n.operands → Fit reach labels (value_items frame n choices)
 values reach labels frame n live set choices sized are named words = record {
   instrs = (value-items-fit frame n live set choices sized.low sized.high words are).fit;
@@ -80,9 +74,12 @@ frame-small frame sized = let h = sized.high in omega (arith, h)
 
 families-fit : (reach : Reach) (labels : ℕ) → fit.FamiliesFit X86_64 needs (x86_families reach) IsItem NamesOneOf labels
 families-fit reach labels = record {
-  values = λ frame n live set choices sized is are named words. values reach labels frame n live set choices sized are named words;
+  values = λ frame n live set choices sized is are named words. values reach labels frame n live set choices sized (made-values n live set choices (value-is-none n.op is) are) named words;
   loads = λ frame n t at live set choices sized e are words. record { instrs = (memory-items-fit.loads frame t at n (frame-small frame sized) words).appendable.fit; names = memory-items-name.loads labels frame t at n };
-  stores = λ frame n t at live set choices sized e are words. record { instrs = (memory-items-fit.stores frame t at n (frame-small frame sized) words).appendable.fit; names = memory-items-name.stores labels frame t at n };
+  stores = λ frame n t at live set choices sized e are words. record {
+    instrs = (memory-items-fit.stores t at n live set choices words (made-access n (op.Store t at) live set choices e are)).appendable.fit;
+    names = memory-items-name.stores labels t at n choices;
+  };
   arguments = λ frame n t sized. record { instrs = (memory-items-fit.arguments frame t n (frame-small frame sized)).appendable.fit; names = memory-items-name.arguments labels frame t n };
   next_arguments = λ n. record { instrs = (memory-items-fit.next_arguments n).appendable.fit; names = memory-items-name.next_arguments labels n };
   pushes = λ frame n j sized few named word. record {
@@ -109,9 +106,9 @@ items-fit reach frame live staged choices labels place n sized k =
 -- ---- registers
 families-stay : (reach : Reach) → fit.FamiliesStay X86_64 needs (x86_families reach) StaysWithin
 families-stay reach = record {
-  values = λ frame n live set choices is are. value-items-stay frame n live set choices are;
+  values = λ frame n live set choices is are. value-items-stay frame n live set choices (made-values n live set choices (value-is-none n.op is) are);
   loads = λ frame t at n live set choices e are. memory-items-stay.loads frame t at n;
-  stores = λ frame t at n live set choices e are. memory-items-stay.stores frame t at n;
+  stores = λ frame t at n live set choices e are. memory-items-stay.stores t at n live set choices (made-access n (op.Store t at) live set choices e are);
   arguments = λ frame t n. memory-items-stay.arguments frame t n;
   next_arguments = λ n. memory-items-stay.next_arguments n;
   pushes = λ frame j n. memory-items-stay.pushes frame j n;

@@ -19,9 +19,10 @@ use Rattle.lg_op.specs.declared.operand.Reg.{Reg}
 use Rattle.lg_carry.specs.Carries.{leaps, leaps_at}
 use Rattle.lg_carry.specs.FinalNodes.{Code}
 use Rattle.lg_carry.specs.NodeCode.{numbered, CarriesNode}
+use Rattle.lg_carry.specs.Spills.{wrapped}
 use Rattle.lg_node.specs.Preparations.{pushed}
 use Rattle.lg_carry_x86.specs.Places.{IsInCode}
-use Rattle.lg_carry_x86.specs.X86Rows.{x86_processor}
+use Rattle.lg_carry_x86.specs.X86Rows.{x86_processor, x86_rows}
 use Rattle.lg_x86.specs.declared.instruction.Instr.{Instr}
 use Rattle.lg_sel.proofs.CountLemmas.{count-is}
 use Rattle.lg_sel.proofs.FamilyLemmas.{HoldsOfFamilies, of-node, value-stays}
@@ -32,7 +33,8 @@ use Rattle.lg_sel_memory.specs.Operands.{is_label}
 use Rattle.lg_sel_items.specs.declared.reach.Reach.{Reach}
 use Rattle.lg_selx.specs.Items.{x86_families, node_items}
 use Rattle.lg_sel.specs.Selected.{IsFrame, is_pusharg, may_take_label, IsNodeOf}
-use Rattle.lg_selx.specs.Selected.{IsAsked}
+use Rattle.lg_selx.specs.Selected.{needs, IsAsked}
+use Rattle.lg_selx.proofs.NeedLemmas.{value-is-none, made-values, made-access}
 use Rattle.lg_sel.proofs.NodeFitLemmas.{few-staged}
 use Rattle.lg_sel_nodes.proofs.GivenLemmas.{are-given, are-words}
 use Rattle.lg_selx.proofs.OperandLemmas.{are-unlabelled}
@@ -49,19 +51,19 @@ use Rattle.lg_selx_items.specs.GoodItems.{AreAppendable}
 use Rattle.lg_selx_items.specs.OfNodes.{AreOfNode}
 use Rattle.lg_selx_items.proofs.ItemLemmas.{settled-ones}
 use Rattle.lg_selx_items.proofs.NodeLemmas.{items-are-node-code, items-are-in-code}
-use Rattle.lg_selx_memory.specs.Accesses.{load_code, store_code}
+use Rattle.lg_selx_memory.specs.Accesses.{load_code, store_code, store_items}
 use Rattle.lg_selx_memory.specs.ArgumentCode.{argument_code}
 use Rattle.lg_selx_memory.specs.PushCode.{push_code}
 use Rattle.lg_selx_memory.specs.VariableArgumentCode.{next_argument_code}
 use Rattle.lg_selx_memory.proofs.FitLemmas.{memory-items-fit}
 use Rattle.lg_selx_memory.proofs.MemoryNodeLemmas.{memory-is-carried}
-use Rattle.lg_selx_values.specs.Needs.{value_needs}
+use Rattle.lg_sel_values.specs.Parts.{first_taken}
+use Rattle.lg_selx_values.proofs.SettledLemmas.{settles-ones, settles-saved}
 use Rattle.lg_selx_values.specs.ValueItems.{value_items}
 use Rattle.lg_selx_values.specs.ValueLaws.{AreUnlabelled, takes_label}
 use Rattle.lg_selx_values.proofs.ValueFitLemmas.{value-items-fit}
 use Rattle.lg_selx_values.proofs.ValueNodeLemmas.{value-nodes-carry}
 use Rattle.lg_temp.specs.declared.choice.Choice.{Choice}
-use Rattle.lg_temp.specs.Choices.{AreFor}
 use Rattle.lg_temp.specs.Chosen.{around}
 use Rattle.lg_temp.proofs.ChoiceLemmas.{choices-are-for}
 use Rattle.lg_carry.specs.TextNodes.{IsInText}
@@ -126,7 +128,7 @@ module _ (reach : Reach) (code : List ℕ) (trash : ℕ) (c : Code) (i frame : �
   values : (n : Node) → is_value n.op ≡ true → leaps n.op ≡ false → (takes_label n.op ≡ false → may_take_label n.op ≡ false) → (takes_label n.op ≡ false → leads_nowhere (forms_of n.op) ≡ true) → Carries n (value_items frame n choices)
   values n computes stays may leads k a =
       let set = k.asked.chosen.set in
-      let are : AreFor (around X86_64 n live set) (value_needs n.op) [] (value_needs n.op) choices = choices-are-for (around X86_64 n live set) (value_needs n.op) choices k.asked.chosen.chosen in
+      let are = made-values n live set choices (value-is-none n.op computes) (choices-are-for (around X86_64 n live set) (needs n.op) choices k.asked.chosen.chosen) in
       let fit = value-items-fit frame n live set choices sized.low sized.high k.asked.words are in
       value-nodes-carry code trash c i frame n live set choices computes (are-words c.addresses k.node.low n.operands k.asked.words) (λ t. no-value-labels n (may t) (leads t) k) are (λ j below. k.asked.chosen.holds j (k.node.pushed_are j below)) k.node.text
       k.node.frame_is (items-are-in-code code trash c i (value_items frame n choices) a (falls c i n (value_items frame n choices) k.node.text stays) (fit.block (slice_index c.addresses) (c.place i)))
@@ -137,11 +139,19 @@ module _ (reach : Reach) (code : List ℕ) (trash : ℕ) (c : Code) (i frame : �
       (memory-is-carried code trash a.small a.bytes a.word).loads c i n t at frame (numbered live) e (none-labels n (op.Load t at) e refl (loads-lead at) k) words k.node.text k.node.frame_is
       (plain-code code trash c i n (load_code frame t at n) k.node.text (ap leaps e) (memory-items-fit.loads frame t at n small words).appendable a).block
 
-  stores : (n : Node) (t : StoreType) (at : Addressing) → n.op ≡ op.Store t at → Carries n (ones (store_code frame t at n))
+  stores : (n : Node) (t : StoreType) (at : Addressing) → n.op ≡ op.Store t at → Carries n (store_items t at n choices)
   stores n t at e k a =
+      let set = k.asked.chosen.set in
+      let are = made-access n (op.Store t at) live set choices e (choices-are-for (around X86_64 n live set) (needs n.op) choices k.asked.chosen.chosen) in
       let words = has-words n k.asked.words in
-      (memory-is-carried code trash a.small a.bytes a.word).stores c i n t at frame (numbered live) e (none-labels n (op.Store t at) e refl (stores-lead at) k) words k.node.text k.node.frame_is
-      (plain-code code trash c i n (store_code frame t at n) k.node.text (ap leaps e) (memory-items-fit.stores frame t at n small words).appendable a).block
+      let is : List Instr = store_code t at n (first_taken choices) in
+      let to : ℕ → ℕ = slice_index c.addresses in
+      let fit = memory-items-fit.stores t at n live set choices words are in
+      let stands : IsInCode code trash c i (wrapped (x86_rows code trash) choices is) =
+      subst (IsInCode code trash c i) ((settles-saved to code trash choices (ones is) is (settles-ones to is is refl)).become (c.place i))
+      (items-are-in-code code trash c i (store_items t at n choices) a (falls c i n (store_items t at n choices) k.node.text (ap leaps e)) (fit.appendable.block to (c.place i))) in
+      (memory-is-carried code trash a.small a.bytes a.word).stores t at c i n frame live set choices e (none-labels n (op.Store t at) e refl (stores-lead at) k) words are
+      (λ j below. k.asked.chosen.holds j (k.node.pushed_are j below)) k.node.text k.node.frame_is stands.block
 
   arguments : (n : Node) (t : ValueType) → n.op ≡ op.Getarg t → Carries n (ones (argument_code frame t n))
   arguments n t e k a =

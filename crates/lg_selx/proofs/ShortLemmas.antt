@@ -1,6 +1,6 @@
 -- Code that leads back to a label has the shortest form that reaches it, and code that leads ahead the near one.
 use Rattle.std.proofs.Common.{◌≡◌, ℕ, ◌+◌, ◌-◌, Bool, true, false, List, [], ◌∷◌, ◌++◌, length, Option, Some, None, refl, sym, ap, ◌∙◌, subst, arith}
-use Rattle.std.specs.Prelude.{◌==◌, ◌&&◌, ◌^◌, pos, ◌-ℤ◌, nat_le, nat_lt, if◌then◌else◌, slice_get, slice_index}
+use Rattle.std.specs.Prelude.{◌==◌, ◌&&◌, ◌%◌, ◌^◌, pos, negsuc, ◌-ℤ◌, nat_le, nat_lt, if◌then◌else◌, slice_get, slice_index}
 use Rattle.std.proofs.lemmas.Int.{ints}
 use Rattle.lg_base.specs.HostNames.{host_address}
 use Rattle.lg_base.specs.Layout.{code_base}
@@ -28,7 +28,7 @@ use Rattle.lg_op.specs.declared.operand.Operand.TheVariants as operand
 use Rattle.lg_op.specs.declared.operand.Reg.{Reg}
 use Rattle.lg_x86.specs.Spelling.{IsInstr, spelling}
 use Rattle.lg_x86.specs.declared.instruction.Cond.{Cond}
-use Rattle.lg_x86.specs.declared.instruction.ImmOp.TheVariants.{Cmpi}
+use Rattle.lg_x86.specs.declared.instruction.ImmOp.TheVariants.{Andi, Cmpi}
 use Rattle.lg_x86.specs.declared.instruction.Instr.{Instr}
 use Rattle.lg_x86.specs.declared.instruction.Instr.TheVariants as instr
 use Rattle.lg_sel.proofs.SelectionLemmas as selection
@@ -42,7 +42,7 @@ use Rattle.lg_sel_items.specs.Reaches.{near_size, Leads, LeadsTo, IsLeast, IsLea
 use Rattle.lg_sel_items.specs.declared.reach.Reach.{Reach}
 use Rattle.lg_sel_items.specs.declared.reach.Reach.TheVariants.{Short, Near, Far}
 use Rattle.lg_selx_control.proofs.ControlLemmas.{blanks-ones, branch-settled}
-use Rattle.lg_selx_control.specs.Branches.{comparison, is_difference, lowered, wide_comparison, word_comparison, before_branch, taken}
+use Rattle.lg_selx_control.specs.Branches.{comparison, is_difference, far_number, pointer_comparison, wide_comparison, word_comparison, before_branch, taken}
 use Rattle.lg_selx_control.specs.ControlItems.{jump_kind, branch_if_items, branch_items, sum_items, control_items}
 use Rattle.lg_selx_control.specs.SumBranches.{sum_row, sum_number, number_sum, before_sum_branch, sum_taken}
 use Rattle.lg_selx_control.specs.TwoWays.{jump_if}
@@ -66,18 +66,25 @@ number-apart reg v = by (nat_lt v (2 ^ 32)) (is_half v)
     by false true = refl
     by false false = refl
 
-wide-apart : (o : Condition) (frame a v : ℕ) → Each Apart (wide_comparison (comparison o) frame a v)
+pointed-apart : (o : Condition) (frame v : ℕ) → Each Apart (pointer_comparison o frame v)
+pointed-apart o frame v = by (is_difference o)
+  where
+    by : (b : Bool) → Each Apart (if b then instr.Imm Cmpi 5 (far_number v) ∷ [] else instr.Imm Andi 5 (pos (v % 2 ^ 30)) ∷ again frame)
+    by true = (refl, tt)
+    by false = (refl, (refl, tt))
+
+wide-apart : (o : Condition) (frame a v : ℕ) → Each Apart (wide_comparison o frame a v)
 wide-apart o frame a v = by (a == 5)
   where
-    by : (b : Bool) → Each Apart (if b then number_row 4 v ∷ (instr.RmReg (comparison o) a 4 ∷ lowered frame) else number_row 5 v ∷ (instr.RmReg (comparison o) a 5 ∷ again frame))
-    by true = (number-apart 4 v, (refl, (refl, tt)))
+    by : (b : Bool) → Each Apart (if b then pointer_comparison o frame v else number_row 5 v ∷ (instr.RmReg (comparison o) a 5 ∷ again frame))
+    by true = pointed-apart o frame v
     by false = (number-apart 5 v, (refl, (refl, tt)))
 
 compared-apart : (o : Condition) (frame a : ℕ) (x : Option ℕ) → Each Apart (word_comparison o frame a x)
 compared-apart o frame a None = tt
 compared-apart o frame a (Some v) = by (is_difference o && is_half v)
   where
-    by : (b : Bool) → Each Apart (if b then instr.Imm Cmpi a (signed_view v) ∷ [] else wide_comparison (comparison o) frame a v)
+    by : (b : Bool) → Each Apart (if b then instr.Imm Cmpi a (signed_view v) ∷ [] else wide_comparison o frame a v)
     by true = (refl, tt)
     by false = wide-apart o frame a v
 

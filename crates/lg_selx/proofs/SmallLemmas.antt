@@ -1,6 +1,6 @@
 -- The items of each node have at most 256 bytes.
 use Rattle.std.proofs.Common.{◌≡◌, ◌⊎◌, ⊎_elim, ℕ, zero, suc, ◌<◌, ◌≤◌, Bool, true, false, List, [], ◌∷◌, ◌++◌, length, refl, sym, ap, subst, arith}
-use Rattle.std.specs.Prelude.{◌==◌, ◌&&◌, if◌then◌else◌, Option, Some, None}
+use Rattle.std.specs.Prelude.{◌==◌, ◌&&◌, ◌%◌, ◌^◌, pos, negsuc, if◌then◌else◌, Option, Some, None}
 use Rattle.lg_base.specs.HostNames.{host_address}
 use Rattle.lg_base.specs.Words.{signed_view, is_half}
 use Rattle.lg_base.specs.declared.target.Target.TheVariants.{X86_64}
@@ -27,11 +27,13 @@ use Rattle.lg_sel.proofs.PlaceLemmas.{and-first}
 use Rattle.lg_sel.specs.Families.{staged_count}
 use Rattle.lg_sel.specs.Selected.{IsFrame}
 use Rattle.lg_sel_items.specs.declared.reach.Reach.{Reach}
+use Rattle.lg_sel_values.specs.ValueNodes.{is_value}
+use Rattle.lg_selx.proofs.NeedLemmas.{value-is-none, made-values, made-access}
 use Rattle.lg_selx.proofs.SizeLemmas.{bytes-few}
 use Rattle.lg_selx.specs.Items.{x86_families, node_items}
 use Rattle.lg_selx.specs.Selected.{needs, IsAsked}
 use Rattle.lg_selx_control.specs.Alignments.{padding, idle}
-use Rattle.lg_selx_control.specs.Branches.{comparison, is_difference, lowered, wide_comparison, word_comparison, before_branch}
+use Rattle.lg_selx_control.specs.Branches.{comparison, is_difference, far_number, pointer_comparison, wide_comparison, word_comparison, before_branch}
 use Rattle.lg_selx_control.specs.ControlItems.{branch_items, sum_items, jump_items, call_items, result_items, ret_items, register_jump_items, register_call_items, leap_items, align_items, plain_items, control_items}
 use Rattle.lg_selx_control.specs.Prologs.{prolog_code}
 use Rattle.lg_selx_control.specs.Returns.{return_code}
@@ -47,7 +49,7 @@ use Rattle.lg_temp.proofs.ChoiceLemmas.{choices-are-for}
 use Rattle.lg_temp.specs.Abis.{register_of}
 use Rattle.lg_temp.specs.Chosen.{around}
 use Rattle.lg_temp.specs.declared.choice.Choice.{Choice}
-use Rattle.lg_x86.specs.declared.instruction.ImmOp.TheVariants.{Cmpi}
+use Rattle.lg_x86.specs.declared.instruction.ImmOp.TheVariants.{Andi, Cmpi}
 use Rattle.lg_x86.specs.declared.instruction.Instr.{Instr}
 use Rattle.lg_x86.specs.declared.instruction.Instr.TheVariants as instr
 
@@ -92,18 +94,25 @@ aligned-small at xs a = by xs a
     by xs a = omega arith
 
 -- ---- branches
-wide-few : (o : Condition) (frame a v : ℕ) → length (wide_comparison (comparison o) frame a v) ≤ 3
+pointed-few : (o : Condition) (frame v : ℕ) → length (pointer_comparison o frame v) ≤ 3
+pointed-few o frame v = by (is_difference o)
+  where
+    by : (b : Bool) → length (if b then instr.Imm Cmpi 5 (far_number v) ∷ [] else instr.Imm Andi 5 (pos (v % 2 ^ 30)) ∷ again frame) ≤ 3
+    by true = omega arith
+    by false = omega arith
+
+wide-few : (o : Condition) (frame a v : ℕ) → length (wide_comparison o frame a v) ≤ 3
 wide-few o frame a v = by (a == 5)
   where
-    by : (b : Bool) → length (if b then number_row 4 v ∷ (instr.RmReg (comparison o) a 4 ∷ lowered frame) else number_row 5 v ∷ (instr.RmReg (comparison o) a 5 ∷ again frame)) ≤ 3
-    by true = omega arith
+    by : (b : Bool) → length (if b then pointer_comparison o frame v else number_row 5 v ∷ (instr.RmReg (comparison o) a 5 ∷ again frame)) ≤ 3
+    by true = pointed-few o frame v
     by false = omega arith
 
 compared-few : (o : Condition) (frame a : ℕ) (x : Option ℕ) → length (word_comparison o frame a x) ≤ 3
 compared-few o frame a None = omega arith
 compared-few o frame a (Some v) = by (is_difference o && is_half v)
   where
-    by : (b : Bool) → length (if b then instr.Imm Cmpi a (signed_view v) ∷ [] else wide_comparison (comparison o) frame a v) ≤ 3
+    by : (b : Bool) → length (if b then instr.Imm Cmpi a (signed_view v) ∷ [] else wide_comparison o frame a v) ≤ 3
     by true = omega arith
     by false = wide-few o frame a v
 
@@ -200,17 +209,21 @@ module _ (reach : Reach) (frame : ℕ) (sized : IsFrame frame) (live : Reg → B
   near : frame < 0x40000000
   near = let h = sized.high in omega (arith, h)
 
-  values-small : (n : Node) → IsSmall n ((x86_families reach).values frame n choices)
-  values-small n k =
+  values-small : (n : Node) → is_value n.op ≡ true → IsSmall n ((x86_families reach).values frame n choices)
+  values-small n is k =
       let set = k.chosen.set in
-      let fit = value-items-fit frame n live set choices sized.low sized.high k.words (choices-are-for (around X86_64 n live set) (needs n.op) choices k.chosen.chosen) in
+      let are = made-values n live set choices (value-is-none n.op is) (choices-are-for (around X86_64 n live set) (needs n.op) choices k.chosen.chosen) in
+      let fit = value-items-fit frame n live set choices sized.low sized.high k.words are in
       let s = fit.small in omega (arith, s)
 
   families-small : HoldsOfFamilies (x86_families reach) IsSmall frame choices staged place
   families-small = record {
-    values = λ n is. values-small n;
+    values = values-small;
     loads = λ n t at e k. few-small _ 4 (memory-items-fit.loads frame t at n near (has-words n k.words)).short (omega arith);
-    stores = λ n t at e k. few-small _ 4 (memory-items-fit.stores frame t at n near (has-words n k.words)).short (omega arith);
+    stores = λ n t at e k.
+        let set = k.chosen.set in
+        let are = made-access n (op.Store t at) live set choices e (choices-are-for (around X86_64 n live set) (needs n.op) choices k.chosen.chosen) in
+        few-small _ 5 (memory-items-fit.stores t at n live set choices (has-words n k.words) are).short (omega arith);
     arguments = λ n t e k. few-small _ 1 (memory-items-fit.arguments frame t n near).short (omega arith);
     next_arguments = λ n e k. few-small (ones (next_argument_code n)) 8 (memory-items-fit.next_arguments n).short (omega arith);
     pushes = λ n last e k. few-small _ 3 (memory-items-fit.pushes frame (staged_count staged) n near (few-staged n live staged choices labels last k e) (has-words n k.words 0)).short (omega arith);

@@ -1,5 +1,5 @@
 -- The items of a node that computes values name the labels of its operands, have at most one fix, and store where a temporary is saved.
-use Rattle.std.proofs.Common.{ℕ, ◌+◌, Bool, List, [], ◌∷◌, ◌++◌, refl, arith}
+use Rattle.std.proofs.Common.{ℕ, ◌+◌, Bool, List, refl, arith}
 use Rattle.std.specs.Prelude.{⊤}
 use Rattle.lg_base.specs.HostNames.{host_address}
 use Rattle.lg_base.specs.declared.target.Target.TheVariants.{X86_64}
@@ -13,7 +13,8 @@ use Rattle.lg_op.specs.declared.operand.Operand.{Operand}
 use Rattle.lg_op.specs.declared.operand.Operand.TheVariants as operand
 use Rattle.lg_sel.proofs.LabelLemmas.{Passes, AllPass, passes-at}
 use Rattle.lg_sel_items.specs.declared.reach.Reach.{Reach}
-use Rattle.lg_selx.proofs.Emissions.{Keeps, keep-none, number-keeps, Emits, none, append, more, instructions, plain, number, address}
+use Rattle.lg_selx.proofs.Emissions.{Keeps, keep-none, number-keeps, Emits, none, more, plain, number, address}
+use Rattle.lg_selx.proofs.SavedEmissions.{saved}
 use Rattle.lg_selx_items.proofs.WithinLemmas.{portable}
 use Rattle.lg_selx_items.specs.GoodItems.{Fine}
 use Rattle.lg_selx_items.specs.Items.{ones}
@@ -22,12 +23,11 @@ use Rattle.lg_selx_values.proofs.RegisterLemmas.{register-portable}
 use Rattle.lg_selx_values.proofs.RowLemmas.{HoldsOfRows, Holds, rax-fine, binary-made, binary-number-made, unary-made, retval-made, wide-made, wide-number-made}
 use Rattle.lg_selx_values.specs.UnaryCode.{unary_code, retval_code}
 use Rattle.lg_sel_values.specs.Parts.{operand_in, register_for}
-use Rattle.lg_selx_values.specs.ValueItems.{load_items, binary_code, binary_number_code, binary_items, wide_items, register_in, body_items, save, restore, saved_items, value_items}
+use Rattle.lg_selx_values.specs.ValueItems.{load_items, binary_code, binary_number_code, binary_items, wide_items, register_in, body_items, value_items}
 use Rattle.lg_selx_values.specs.WideCode.{wide_code, wide_number_code}
 use Rattle.lg_temp.specs.Abis.{register_of}
 use Rattle.lg_temp.specs.Chosen.{spills}
 use Rattle.lg_temp.specs.declared.choice.Choice.{Choice}
-use Rattle.lg_temp.specs.declared.choice.Choice.TheVariants.{Free, Own, Spill}
 use Rattle.lg_x86.specs.declared.instruction.Instr.{Instr}
 
 -- no row of the code of values stores
@@ -91,17 +91,7 @@ module _ (reach : Reach) (is : ℕ → Bool) (frame : ℕ) where
   body (op.Retval t) xs h = of 3 (retval_code t (register_in xs 0)) (retval-made frame Keeps (λ v. ⊤) (rows-keep frame) t (register_in xs 0) (fine-at xs 0))
   body o xs h = none reach is 1 0
 
-  -- a register that is saved is stored
-  saved : (choices : List Choice) (xs : List Item) → Emits reach is 1 0 xs → Emits reach is 1 (spills choices) (saved_items choices xs)
-  saved [] xs a = a
-  saved (Free r ∷ choices) xs a = saved choices xs a
-  saved (Own r ∷ choices) xs a = saved choices xs a
-  saved (Spill r k ∷ choices) xs a =
-      let save-code : List Instr = save r k ∷ [] in
-      let restore-code : List Instr = restore r k ∷ [] in
-      let inner = append reach is 1 0 (spills choices) 0 (saved_items choices xs) (ones restore-code) (saved choices xs a) (plain reach is 0 restore-code refl) in
-      more reach is (0 + (1 + 0)) 1 (1 + (spills choices + 0)) (spills choices + 1) (saved_items (Spill r k ∷ choices) xs) (omega arith) (omega arith)
-      (append reach is 0 (1 + 0) 1 (spills choices + 0) (ones save-code) (saved_items choices xs ++ ones restore-code) (instructions reach is 0 1 save-code (omega arith)) inner)
-
   pub values-emit : (n : Node) (choices : List Choice) → AllPass is n.operands → Emits reach is 1 (spills choices) (value_items frame n choices)
-  values-emit n choices h = saved choices (body_items frame n.op n.operands) (body n.op n.operands h)
+  values-emit n choices h =
+      more reach is 1 1 (spills choices + 0) (spills choices) (value_items frame n choices) (omega arith) (omega arith)
+      (saved reach is 0 choices (body_items frame n.op n.operands) (body n.op n.operands h))

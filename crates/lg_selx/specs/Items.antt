@@ -7,7 +7,7 @@ use Rattle.lg_sel_items.specs.declared.reach.Reach.{Reach}
 use Rattle.lg_selx_control.specs.ControlItems.{control_items}
 use Rattle.lg_selx_items.specs.declared.items.Item.{Item}
 use Rattle.lg_selx_items.specs.Items.{ones}
-use Rattle.lg_selx_memory.specs.Accesses.{load_code, store_code}
+use Rattle.lg_selx_memory.specs.Accesses.{load_code, store_items}
 use Rattle.lg_selx_memory.specs.ArgumentCode.{argument_code}
 use Rattle.lg_selx_memory.specs.PushCode.{push_code}
 use Rattle.lg_selx_memory.specs.VariableArgumentCode.{next_argument_code}
@@ -19,7 +19,7 @@ abbrev pub x86_families : Reach → Families Item
 x86_families reach = record {
   values = value_items;
   load = λ frame t at n choices. ones (load_code frame t at n);
-  store = λ frame t at n choices. ones (store_code frame t at n);
+  store = λ frame t at n choices. store_items t at n choices;
   argument = λ frame t n. ones (argument_code frame t n);
   next_argument = λ n. ones (next_argument_code n);
   push = push_code;

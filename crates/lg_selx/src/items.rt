@@ -5,7 +5,7 @@ ghost use Rattle.lg_live.specs.RegSets.{has};
 ghost use Rattle.lg_op.specs.Nodes.{InForm};
 ghost use Rattle.lg_selx.specs.Items.{node_items};
 ghost use Rattle.lg_sel.specs.Selected.{IsFrame, AreFirst, is_pusharg};
-ghost use Rattle.lg_selx.specs.Selected.{AreChosen};
+ghost use Rattle.lg_selx.specs.Selected.{AreChosen, is_store};
 ghost use Rattle.lg_selx_items.specs.Items.{words_in};
 ghost use Rattle.lg_sel_values.specs.Parts.{HaveSlots};
 
@@ -33,6 +33,7 @@ fn put_items(
     requires formed { InForm node.now }
     requires frame { IsFrame frame }
     requires few { length choices.now ≤ 2 }
+    requires stores { is_store node.now.op ≡ true → length choices.now ≤ 1 }
     requires slots { HaveSlots choices.now }
     requires staged { is_pusharg node.now.op ≡ true → AreFirst staged.now.arguments }
     requires empty { items.old ≡ [] }
@@ -45,7 +46,7 @@ fn put_items(
         | Op::Plain(PlainOp::Movi | PlainOp::VaStart)
         | Op::Retval(_) => value_items(node, frame, choices, items),
         Op::Load(t, at) => put_load(node, frame, t, at, items),
-        Op::Store(t, at) => put_store(node, frame, t, at, items),
+        Op::Store(t, at) => put_store(node, choices, t, at, items),
         Op::Getarg(t) => put_getarg(node, t, items),
         Op::Plain(PlainOp::VaArg) => put_next_argument(node, items),
         Op::Control(ControlOp::Pusharg, _) => {

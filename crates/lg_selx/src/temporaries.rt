@@ -2,10 +2,10 @@
 
 ghost use Rattle.std.specs.Prelude.{◌≡◌, false};
 ghost use Rattle.std.specs.List.{list_any};
-ghost use Rattle.lg_selx.specs.Selected.{is_any};
-ghost use Rattle.lg_selx_values.specs.Needs.{value_needs};
+ghost use Rattle.lg_selx.specs.Selected.{needs, is_any, is_store};
+ghost use Rattle.lg_selx_memory.specs.Accesses.{store_needs};
 
-use lg_op::{BinaryOp, LastOperand, Node, Op};
+use lg_op::{Addressing, BinaryOp, LastOperand, Node, Op};
 use lg_temp::choice::{Need, Needs};
 
 // The low word of a product, and a quotient.
@@ -17,11 +17,21 @@ const RCX: u8 = 1;
 // The high word of a product, and a remainder.
 const RDX: u8 = 2;
 
-/// What the temporaries of a node's code need: rax and rdx at quotients, remainders and products in two words, and rcx at shifts by a
-/// register; nothing elsewhere. None asks for a register that is any.
+// What a store needs: one register that is any, but at an address that is a register.
+fn store_needs(at: Addressing) -> Needs
+    ensures { result ≡ store_needs at }
+{
+    match at {
+        Addressing::Register => Needs::of(&[]),
+        _ => Needs::of(&[Need::Any]),
+    }
+}
+
+/// What the temporaries of a node's code need: rax and rdx at quotients, remainders and products in two words, rcx at shifts by a register,
+/// and one register that is any at stores whose address is no register; nothing elsewhere. Only stores ask for a register that is any.
 pub fn needs(node: &Node) -> Needs
-    ensures value { result ≡ value_needs node.now.op }
-    ensures no_any { list_any is_any result ≡ false }
+    ensures value { result ≡ needs node.now.op }
+    ensures no_any { is_store node.now.op ≡ false → list_any is_any result ≡ false }
 {
     match node.op {
         Op::Binary(BinaryOp::Lsh | BinaryOp::Rsh | BinaryOp::RshU, LastOperand::Register) => {
@@ -29,6 +39,7 @@ pub fn needs(node: &Node) -> Needs
         }
         Op::Binary(BinaryOp::Div | BinaryOp::DivU | BinaryOp::Rem | BinaryOp::RemU, _)
         | Op::Wide(_, _) => Needs::of(&[Need::Only(RAX), Need::Only(RDX)]),
+        Op::Store(_, at) => store_needs(at),
         _ => Needs::of(&[]),
     }
 }

@@ -1,5 +1,5 @@
 -- The items of the nodes can be appended to a buffer.
-use Rattle.std.proofs.Common.{◌≡◌, ℕ, zero, suc, ◌+◌, ◌-◌, ◌*◌, ◌^◌, ◌<◌, ◌≤◌, Bool, true, false, List, [], ◌∷◌, ◌++◌, refl, sym, ap, subst, arith, length}
+use Rattle.std.proofs.Common.{◌≡◌, ℕ, zero, suc, ◌+◌, ◌-◌, ◌*◌, ◌%◌, ◌^◌, ◌<◌, ◌≤◌, Bool, true, false, List, [], ◌∷◌, ◌++◌, refl, sym, ap, subst, arith, length}
 use Rattle.std.specs.Prelude.{◌==◌, ◌&&◌, if◌then◌else◌, negsuc, pos, nat_lt}
 use Rattle.std.proofs.lemmas.Bool.{and_parts}
 use Rattle.std.proofs.lemmas.Int.{ints}
@@ -24,7 +24,7 @@ use Rattle.lg_op.specs.declared.operand.Operand.TheVariants as operand
 use Rattle.lg_op.specs.declared.operand.Reg.{Reg}
 use Rattle.lg_x86.specs.Spelling.{IsNumber32}
 use Rattle.lg_x86.specs.declared.instruction.Cond.{Cond}
-use Rattle.lg_x86.specs.declared.instruction.ImmOp.TheVariants.{Cmpi}
+use Rattle.lg_x86.specs.declared.instruction.ImmOp.TheVariants.{Andi, Cmpi}
 use Rattle.lg_x86.specs.declared.instruction.Instr.{Instr}
 use Rattle.lg_x86.specs.declared.instruction.Instr.TheVariants as instr
 use Rattle.lg_x86.specs.declared.instruction.JumpNearOp.{JumpNearOp}
@@ -45,13 +45,13 @@ use Rattle.lg_selx_values.proofs.RegisterLemmas.{register-portable}
 use Rattle.lg_sel_items.proofs.EmittedLemmas.{nothing-emitted, ones-emitted, ones-in-front}
 use Rattle.lg_sel_items.specs.declared.reach.Reach.{Reach}
 use Rattle.lg_selx_control.specs.Alignments.{padding, idle, align_code}
-use Rattle.lg_selx_control.specs.Branches.{comparison, is_difference, lowered, wide_comparison, number_comparison, before_branch, taken}
+use Rattle.lg_selx_control.specs.Branches.{comparison, is_difference, far_number, pointer_comparison, wide_comparison, number_comparison, before_branch, taken}
 use Rattle.lg_sel_nodes.specs.Operands.{IsGiven, AreGiven}
 use Rattle.lg_selx_control.specs.ControlFits.{AreEmitted, ControlItemsFit}
 use Rattle.lg_selx_control.specs.ControlItems.{jump_kind, branch_if_items, register_jump_items, register_call_items, control_items, is_control}
 use Rattle.lg_selx_control.specs.ControlLaws.{ends_in_label}
 use Rattle.lg_selx_control.specs.HostCalls.{host_code}
-use Rattle.lg_selx_control.specs.Prologs.{stored_registers, stores_below, prolog_code}
+use Rattle.lg_selx_control.specs.Prologs.{stored_registers, stores_below, lowered, prolog_code}
 use Rattle.lg_selx_control.specs.RegisterLeaps.{register_jump_code, register_call_code}
 use Rattle.lg_selx_control.specs.Returns.{result, return_code}
 use Rattle.lg_selx_control.specs.SumBranches.{sum_row, sum_number, number_sum, before_sum_branch, sum_taken}
@@ -84,19 +84,32 @@ again-fits frame h = ((omega arith, omega arith, near-number (frame - 16) (omega
 lowered-fits : (frame : ℕ) → frame < 0x40000000 → AreItems (ones (lowered frame))
 lowered-fits frame h = ((omega arith, omega arith, low-number (frame - 17) (omega (arith, h))), tt)
 
-wide-fits : (o : Condition) (frame a v : ℕ) → frame < 0x40000000 → a < 16 → v < 2 ^ 64 → AreItems (ones (wide_comparison (comparison o) frame a v))
+far-number : (v : ℕ) → IsNumber32 (far_number v)
+far-number v = by (nat_lt v (2 ^ 63))
+  where
+    by : (b : Bool) → IsNumber32 (if b then pos 0x7FFFFFFF else negsuc 0x7FFFFFFF)
+    by true = (omega (arith, ints), omega (arith, ints))
+    by false = (omega (arith, ints), omega (arith, ints))
+
+pointer-fits : (o : Condition) (frame v : ℕ) → frame < 0x40000000 → AreItems (ones (pointer_comparison o frame v))
+pointer-fits o frame v h = by (is_difference o)
+  where
+    by : (b : Bool) → AreItems (ones (if b then instr.Imm Cmpi 5 (far_number v) ∷ [] else instr.Imm Andi 5 (pos (v % 2 ^ 30)) ∷ again frame))
+    by true = ((omega arith, far-number v), tt)
+    by false = ((omega arith, near-number (v % 2 ^ 30) (omega arith)), again-fits frame h)
+
+wide-fits : (o : Condition) (frame a v : ℕ) → frame < 0x40000000 → a < 16 → v < 2 ^ 64 → AreItems (ones (wide_comparison o frame a v))
 wide-fits o frame a v h few small = by (a == 5)
   where
-    by : (b : Bool) → AreItems (ones (if b then number_row 4 v ∷ (instr.RmReg (comparison o) a 4 ∷ lowered frame)
-        else number_row 5 v ∷ (instr.RmReg (comparison o) a 5 ∷ again frame)))
-    by true = ((row-loads 4 v (omega arith) small).fits, ((few, omega arith), lowered-fits frame h))
+    by : (b : Bool) → AreItems (ones (if b then pointer_comparison o frame v else number_row 5 v ∷ (instr.RmReg (comparison o) a 5 ∷ again frame)))
+    by true = pointer-fits o frame v h
     by false = ((row-loads 5 v (omega arith) small).fits, ((few, omega arith), again-fits frame h))
 
 comparison-fits : (o : Condition) (frame a v : ℕ) → frame < 0x40000000 → a < 16 → v < 2 ^ 64 → AreItems (ones (number_comparison o frame a v))
 comparison-fits o frame a v h few small = by (is_difference o) (is_half v) refl
   where
     by : (b c : Bool) → is_half v ≡ c
-        → AreItems (ones (if b && c then instr.Imm Cmpi a (signed_view v) ∷ [] else wide_comparison (comparison o) frame a v))
+        → AreItems (ones (if b && c then instr.Imm Cmpi a (signed_view v) ∷ [] else wide_comparison o frame a v))
     by true true e = ((few, half-number v small e), tt)
     by true false e = wide-fits o frame a v h few small
     by false c e = wide-fits o frame a v h few small

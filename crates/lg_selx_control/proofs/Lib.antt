@@ -5,6 +5,7 @@ pub mod ComparisonLemmas
 pub mod ControlLemmas
 pub mod FitLemmas
 pub mod HostLemmas
+pub mod PointerLemmas
 pub mod PrologLemmas
 pub mod ReturnLemmas
 pub mod SpareLemmas

@@ -30,8 +30,7 @@ use Rattle.lg_carry_x86.specs.X86Rows.{x86_processor, x86_rows, x86_seen}
 use Rattle.lg_sel_nodes.specs.Stretches.{StandsAt, behind}
 use Rattle.lg_sel_control.specs.Prologs.{Entrance, PrologsLead}
 use Rattle.lg_sel_control.proofs.StoreLemmas.{word_below, with_stored, HasStack, mapped-below, stored-off, stored-word}
-use Rattle.lg_selx_control.specs.Branches.{lowered}
-use Rattle.lg_selx_control.specs.Prologs.{stored_registers, store_word, stores_below, prolog_code}
+use Rattle.lg_selx_control.specs.Prologs.{lowered, stored_registers, store_word, stores_below, prolog_code}
 use Rattle.lg_selx_control.proofs.SpareLemmas.{lower-is}
 use Rattle.lg_selx_control.proofs.StretchLemmas.{Made, stands-high, made-passed}
 

@@ -1,5 +1,5 @@
--- FP and the stack pointer, each of which code may spoil and make again from the other.
-use Rattle.std.proofs.Common.{◌≡◌, ◌≢◌, ℕ, ◌+◌, ◌-◌, ◌≤◌, Option, Some, sym, ap, ◌∙◌, arith}
+-- FP, which code may spoil and make again from the stack pointer.
+use Rattle.std.proofs.Common.{◌≡◌, ◌≢◌, ℕ, ◌+◌, ◌-◌, ◌^◌, ◌<◌, ◌≤◌, Option, Some, sym, ap, ◌∙◌, arith}
 use Rattle.std.specs.Prelude.{pos}
 use Rattle.lg_base.specs.Fields.{word_of}
 use Rattle.lg_base.specs.Layout.{least_frame, stack_end}
@@ -14,12 +14,12 @@ use Rattle.lg_carry.specs.Processors.{Seen}
 use Rattle.lg_carry_x86.specs.MakingNodes.{scene}
 use Rattle.lg_sel_nodes.specs.Stretches.{HasFrame}
 use Rattle.lg_selx_values.proofs.RegisterLemmas.{put-own, put-twice, put-swap}
-use Rattle.lg_selx_control.specs.Branches.{lower}
+use Rattle.lg_selx_control.specs.Prologs.{lower}
 
--- each is where the frame has it from the other
+-- FP is where the frame has it from the stack pointer, and lies in the stack
 pub record IsFramed (frame : ℕ) (w : ℕ → ℕ) : Type 0 where
   pub pointer : add_words (w 4) (frame - 16) ≡ w 5
-  pub stack : add_words (w 5) (word_of (lower frame)) ≡ w 4
+  pub low : w 5 < 2 ^ 30
 
 higher-is : (frame sp : ℕ) → 272 ≤ frame → least_frame ≤ sp → sp + frame ≤ stack_end → add_words sp (frame - 16) ≡ sp + frame - 16
 higher-is frame sp large low high = grind (arith, large, low, high)
@@ -30,17 +30,12 @@ lower-is frame top large low high = grind (arith, large, low, high)
 pub framed : (frame : ℕ) (q : Seen) → HasFrame X86_64 frame q → IsFramed frame q.registers
 framed frame q f =
     let low = f.low in let high = f.high in let large = f.large in
-    let e : q.registers 4 + frame - frame ≡ q.registers 4 = omega arith in record {
+    let is = f.pointer in record {
       pointer = higher-is frame (q.registers 4) large low high ∙ sym f.pointer;
-      stack = ap (λ x. add_words x (word_of (lower frame))) f.pointer ∙ lower-is frame (q.registers 4 + frame) large (omega (arith, low)) high ∙ e;
+      low = omega (arith, is, high, large);
     }
 
--- the one that was spoilt is made again, where the other was not
-pub stack-again : (frame v : ℕ) (w : ℕ → ℕ) (f : Flags) (m : ℕ → Option ℕ) → IsFramed frame w
-    → made (instr.Load Lea 4 5 (lower frame)) (scene (put w 4 v) f m) ≡ Some (scene w f m)
-stack-again frame v w f m h =
-    ap (λ g. Some (scene g f m)) (put-twice w 4 v (add_words (w 5) (word_of (lower frame))) ∙ put-own w 4 (add_words (w 5) (word_of (lower frame))) h.stack)
-
+-- it is made again, where the stack pointer was not spoilt
 pub pointer-again : (frame v : ℕ) (w : ℕ → ℕ) (f : Flags) (m : ℕ → Option ℕ) → IsFramed frame w
     → made (instr.Load Lea 5 4 (pos (frame - 16))) (scene (put w 5 v) f m) ≡ Some (scene w f m)
 pointer-again frame v w f m h =

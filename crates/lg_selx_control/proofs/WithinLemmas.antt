@@ -1,6 +1,6 @@
 -- No item of a node that branches, jumps, calls or returns, of `prolog` or `.align` writes a register that is outside of the conventions.
 use Rattle.std.proofs.Common.{ℕ, zero, suc, List, [], ◌∷◌, Option, Some, None, Bool, refl}
-use Rattle.std.specs.Prelude.{true, false, ◌==◌, ◌&&◌, ◌^◌, nat_lt, if◌then◌else◌}
+use Rattle.std.specs.Prelude.{true, false, ◌==◌, ◌&&◌, ◌%◌, ◌^◌, nat_lt, pos, negsuc, if◌then◌else◌}
 use Rattle.lg_base.specs.HostNames.{host_address}
 use Rattle.lg_base.specs.Words.{signed_view, is_half}
 use Rattle.lg_base.specs.declared.target.Target.TheVariants.{X86_64}
@@ -17,7 +17,7 @@ use Rattle.lg_op.specs.declared.op.PlainOp.TheVariants as plain
 use Rattle.lg_op.specs.declared.operand.Operand.{Operand}
 use Rattle.lg_op.specs.declared.operand.Operand.TheVariants as operand
 use Rattle.lg_op.specs.declared.operand.Reg.{Reg}
-use Rattle.lg_x86.specs.declared.instruction.ImmOp.TheVariants.{Cmpi}
+use Rattle.lg_x86.specs.declared.instruction.ImmOp.TheVariants.{Andi, Cmpi}
 use Rattle.lg_x86.specs.declared.instruction.Instr.TheVariants as instr
 use Rattle.lg_temp.specs.Abis.{register_of}
 use Rattle.lg_carry_x86.specs.Destinations.{WritesWithin}
@@ -27,12 +27,12 @@ use Rattle.lg_selx_items.proofs.WithinLemmas.{In, portable, Within, join, stay-a
 use Rattle.lg_selx_values.specs.Scratch.{again}
 use Rattle.lg_sel_items.specs.declared.reach.Reach.{Reach}
 use Rattle.lg_selx_control.specs.Alignments.{padding, idle, align_code}
-use Rattle.lg_selx_control.specs.Branches.{comparison, is_difference, lowered, wide_comparison, word_comparison, before_branch}
+use Rattle.lg_selx_control.specs.Branches.{comparison, is_difference, far_number, pointer_comparison, wide_comparison, word_comparison, before_branch}
 use Rattle.lg_selx_control.specs.ControlFits.{ControlItemsStay}
 use Rattle.lg_selx_control.specs.ControlItems.{branch_items, sum_items, jump_items, call_items, result_items, ret_items}
 use Rattle.lg_selx_control.specs.ControlItems.{register_jump_items, register_call_items, leap_items, align_items, plain_items, control_items}
 use Rattle.lg_selx_control.specs.HostCalls.{host_code}
-use Rattle.lg_selx_control.specs.Prologs.{stored_registers, stores_below, prolog_code}
+use Rattle.lg_selx_control.specs.Prologs.{stored_registers, stores_below, lowered, prolog_code}
 use Rattle.lg_selx_control.specs.Returns.{result, return_code}
 use Rattle.lg_selx_control.specs.SumBranches.{sum_row, sum_number, number_sum, before_sum_branch}
 
@@ -45,19 +45,25 @@ number r v h = by (nat_lt v (2 ^ 32)) (is_half v)
     by false true = (h, tt)
     by false false = (h, tt)
 
-wide : (o : Condition) (frame a v : ℕ) → In a → Within (wide_comparison (comparison o) frame a v)
+pointed : (o : Condition) (frame v : ℕ) → Within (pointer_comparison o frame v)
+pointed o frame v = by (is_difference o)
+  where
+    by : (b : Bool) → Within (if b then instr.Imm Cmpi 5 (far_number v) ∷ [] else instr.Imm Andi 5 (pos (v % 2 ^ 30)) ∷ again frame)
+    by true = ((refl, tt), tt)
+    by false = ((refl, tt), ((refl, tt), tt))
+
+wide : (o : Condition) (frame a v : ℕ) → In a → Within (wide_comparison o frame a v)
 wide o frame a v h = by (a == 5)
   where
-    by : (b : Bool) → Within (if b then number_row 4 v ∷ (instr.RmReg (comparison o) a 4 ∷ lowered frame)
-        else number_row 5 v ∷ (instr.RmReg (comparison o) a 5 ∷ again frame))
-    by true = (number 4 v refl, ((h, tt), ((refl, tt), tt)))
+    by : (b : Bool) → Within (if b then pointer_comparison o frame v else number_row 5 v ∷ (instr.RmReg (comparison o) a 5 ∷ again frame))
+    by true = pointed o frame v
     by false = (number 5 v refl, ((h, tt), ((refl, tt), tt)))
 
 compared : (o : Condition) (frame a : ℕ) (x : Option ℕ) → In a → Within (word_comparison o frame a x)
 compared o frame a None h = tt
 compared o frame a (Some v) h = by (is_difference o && is_half v)
   where
-    by : (b : Bool) → Within (if b then instr.Imm Cmpi a (signed_view v) ∷ [] else wide_comparison (comparison o) frame a v)
+    by : (b : Bool) → Within (if b then instr.Imm Cmpi a (signed_view v) ∷ [] else wide_comparison o frame a v)
     by true = ((h, tt), tt)
     by false = wide o frame a v h
 

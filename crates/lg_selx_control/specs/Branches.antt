@@ -1,5 +1,5 @@
 -- What a branch compares, and the condition on which it is taken.
-use Rattle.std.specs.Prelude.{ℕ, ◌-◌, ◌==◌, ◌&&◌, Bool, true, false, if◌then◌else◌, ℤ, negsuc, List, [], ◌∷◌, Option, Some, None}
+use Rattle.std.specs.Prelude.{ℕ, ◌%◌, ◌^◌, ◌==◌, ◌&&◌, nat_lt, Bool, true, false, if◌then◌else◌, ℤ, pos, negsuc, List, [], ◌∷◌, Option, Some, None}
 use Rattle.lg_base.specs.Words.{signed_view, is_half}
 use Rattle.lg_base.specs.declared.target.Target.TheVariants.{X86_64}
 use Rattle.lg_op.specs.declared.op.Condition.{Condition}
@@ -9,10 +9,9 @@ use Rattle.lg_op.specs.declared.operand.Operand.TheVariants as operand
 use Rattle.lg_op.specs.declared.operand.Reg.{Reg}
 use Rattle.lg_x86.specs.declared.instruction.Cond.{Cond}
 use Rattle.lg_x86.specs.declared.instruction.Cond.TheVariants as cond
-use Rattle.lg_x86.specs.declared.instruction.ImmOp.TheVariants.{Cmpi}
+use Rattle.lg_x86.specs.declared.instruction.ImmOp.TheVariants.{Andi, Cmpi}
 use Rattle.lg_x86.specs.declared.instruction.Instr.{Instr}
 use Rattle.lg_x86.specs.declared.instruction.Instr.TheVariants as instr
-use Rattle.lg_x86.specs.declared.instruction.LoadOp.TheVariants.{Lea}
 use Rattle.lg_x86.specs.declared.instruction.RmRegOp.{RmRegOp}
 use Rattle.lg_x86.specs.declared.instruction.RmRegOp.TheVariants as row
 use Rattle.lg_temp.specs.Abis.{register_of}
@@ -47,23 +46,23 @@ taken condition.Ne = cond.NotEqual
 taken condition.Ms = cond.NotEqual
 taken condition.Mc = cond.Equal
 
--- how far the stack pointer, rsp, 4, lies from FP, rbp, 5, in a frame of so many bytes
-abbrev pub lower : ℕ → ℤ
-lower frame = negsuc (frame - 17)
+-- FP, rbp, 5, is below 2 ^ 30: of a number of more than 32 bits it lies on the same side as of this one
+abbrev pub far_number : ℕ → ℤ
+far_number v = if nat_lt v (2 ^ 63) then pos 0x7FFFFFFF else negsuc 0x7FFFFFFF
 
--- the stack pointer again, from FP
-abbrev pub lowered : ℕ → List Instr
-lowered frame = instr.Load Lea 4 5 (lower frame) ∷ []
+-- so FP is compared with this one. Its bits are tested in FP itself, which has none but the lowest 30, and is made again; that changes no flag
+abbrev pub pointer_comparison : Condition → ℕ → ℕ → List Instr
+pointer_comparison o frame v =
+    if is_difference o then instr.Imm Cmpi 5 (far_number v) ∷ [] else instr.Imm Andi 5 (pos (v % 2 ^ 30)) ∷ again frame
 
--- a number of more than 32 bits is loaded into FP, which is made again from the stack pointer; and where the first operand is FP, into the stack
--- pointer, which is made again from FP. Neither changes a flag
-abbrev pub wide_comparison : RmRegOp → ℕ → ℕ → ℕ → List Instr
-wide_comparison r frame a v =
-    if a == 5 then number_row 4 v ∷ (instr.RmReg r a 4 ∷ lowered frame) else number_row 5 v ∷ (instr.RmReg r a 5 ∷ again frame)
+-- a number of more than 32 bits, and for bits any, is loaded into FP, which is made again from the stack pointer, rsp, 4; but where FP is compared
+abbrev pub wide_comparison : Condition → ℕ → ℕ → ℕ → List Instr
+wide_comparison o frame a v =
+    if a == 5 then pointer_comparison o frame v else number_row 5 v ∷ (instr.RmReg (comparison o) a 5 ∷ again frame)
 
 abbrev pub number_comparison : Condition → ℕ → ℕ → ℕ → List Instr
 number_comparison o frame a v =
-    if is_difference o && is_half v then instr.Imm Cmpi a (signed_view v) ∷ [] else wide_comparison (comparison o) frame a v
+    if is_difference o && is_half v then instr.Imm Cmpi a (signed_view v) ∷ [] else wide_comparison o frame a v
 
 abbrev pub word_comparison : Condition → ℕ → ℕ → Option ℕ → List Instr
 word_comparison o frame a None = []

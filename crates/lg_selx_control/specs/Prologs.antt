@@ -1,6 +1,6 @@
 -- `prolog`: the call has pushed the return address; the caller's frame pointer goes below it, FP is set to that word, V0, V1 and V2 and the register
 -- arguments go below, and the stack pointer falls by the size of the frame.
-use Rattle.std.specs.Prelude.{ℕ, ◌-◌, ◌*◌, negsuc, List, ◌∷◌, ◌++◌}
+use Rattle.std.specs.Prelude.{ℕ, ◌-◌, ◌*◌, ℤ, negsuc, List, [], ◌∷◌, ◌++◌}
 use Rattle.lg_base.specs.Conventions.{argument_registers, portable_register}
 use Rattle.lg_base.specs.declared.target.Target.TheVariants.{X86_64}
 use Rattle.lg_x86.specs.declared.instruction.Instr.{Instr}
@@ -8,7 +8,6 @@ use Rattle.lg_x86.specs.declared.instruction.Instr.TheVariants as instr
 use Rattle.lg_x86.specs.declared.instruction.LoadOp.TheVariants.{Lea}
 use Rattle.lg_x86.specs.declared.instruction.StoreOp.TheVariants.{St64}
 use Rattle.lg_sel_control.specs.Stores as stores
-use Rattle.lg_selx_control.specs.Branches.{lowered}
 
 -- the registers that are stored by FP: those of V0, V1 and V2, and those of the arguments
 abbrev pub stored_registers : List ℕ
@@ -21,6 +20,13 @@ store_word r k = instr.Store St64 5 (negsuc (8 * k - 9)) r
 -- each is stored below the one before, from word k on
 abbrev pub stores_below : List ℕ → ℕ → List Instr
 stores_below rs k = stores.stores_below store_word rs k
+
+-- how far the stack pointer, rsp, 4, lies from FP, rbp, 5, in a frame of so many bytes
+abbrev pub lower : ℕ → ℤ
+lower frame = negsuc (frame - 17)
+
+abbrev pub lowered : ℕ → List Instr
+lowered frame = instr.Load Lea 4 5 (lower frame) ∷ []
 
 abbrev pub prolog_code : ℕ → List Instr
 prolog_code size = instr.Store St64 4 (negsuc 7) 5 ∷ (instr.Load Lea 5 4 (negsuc 7) ∷ (stores_below stored_registers 2 ++ lowered size))

@@ -1,18 +1,16 @@
 // Branches on a condition.
 
 ghost use Rattle.std.specs.Prelude.{◌≡◌, ◌≤◌, ◌<◌, [], ◌∷◌, ◌++◌};
-ghost use Rattle.lg_selx_control.specs.Branches.{comparison, is_difference, taken, wide_comparison, number_comparison, before_branch};
+ghost use Rattle.lg_selx_control.specs.Branches.{comparison, is_difference, taken, far_number, pointer_comparison, wide_comparison, number_comparison, before_branch};
 ghost use Rattle.lg_selx_control.specs.ControlItems.{jump_kind, branch_items};
 ghost use Rattle.lg_selx_items.specs.Items.{words_in, ones};
 ghost use Rattle.lg_selx_items.specs.declared.items.Item.TheVariants.{Jump};
 
-use crate::pointers::{pointer_again, stack_again};
+use crate::pointers::pointer_again;
 use lg_base::word::is_half;
 use lg_op::{Condition, Label, Operand, Reg};
 use lg_sel_items::{Items, Reach};
-use lg_selx_items::{
-    FRAME_POINTER, Item, JumpKind, STACK_POINTER, half_number, put_number, register_of, row,
-};
+use lg_selx_items::{FRAME_POINTER, Item, JumpKind, half_number, put_number, register_of, row};
 use lg_x86::{Cond, ImmOp, Instr, RmRegOp};
 
 // What sets the flags: the difference of two words, and for bits their conjunction.
@@ -53,22 +51,52 @@ fn taken(condition: Condition) -> Cond
     }
 }
 
-// Puts a comparison with a number of more than 32 bits: it is loaded into FP, or where that is compared into the stack pointer.
+// The row of a register and a number.
+fn with_number(op: ImmOp, rm: u8, imm: i32) -> Instr
+    ensures { result ≡ Instr.Imm op rm imm }
+{
+    Instr::Imm { op, rm, imm }
+}
+
+// FP lies on the same side of a number of more than 32 bits as of this one.
+fn far_number(value: u64) -> i32
+    ensures { result ≡ far_number value }
+{
+    if value < 1 << 63 { i32::MAX } else { i32::MIN }
+}
+
+// Puts a comparison of FP with a number of more than 32 bits, and for bits with any.
 #[tactic(auto, using(lg_selx_items::proofs::ItemLemmas::words_append))]
-fn put_wide_comparison(op: RmRegOp, frame: u32, a: u8, value: u64, items: &mut Items<Item>)
+fn put_pointer_comparison(condition: Condition, frame: u32, value: u64, items: &mut Items<Item>)
     requires empty { items.old ≡ [] }
     requires some { 272 ≤ frame }
     requires small { frame < 0x4000_0000 }
-    ensures items { items.new ≡ ones (wide_comparison op frame a value) }
+    ensures items { items.new ≡ ones (pointer_comparison condition frame value) }
+    ensures few { words_in items.new ≤ 2 }
+{
+    if is_difference(condition) {
+        items.one(with_number(ImmOp::Cmpi, FRAME_POINTER, far_number(value)));
+    } else {
+        let bits = (value % (1 << 30)) as i32;
+        items.one(with_number(ImmOp::Andi, FRAME_POINTER, bits));
+        items.one(pointer_again(frame));
+    }
+}
+
+// Puts a comparison with a number of more than 32 bits, and for bits with any: it is loaded into FP, where FP is not what is compared.
+#[tactic(auto, using(lg_selx_items::proofs::ItemLemmas::words_append))]
+fn put_wide_comparison(condition: Condition, frame: u32, a: u8, value: u64, items: &mut Items<Item>)
+    requires empty { items.old ≡ [] }
+    requires some { 272 ≤ frame }
+    requires small { frame < 0x4000_0000 }
+    ensures items { items.new ≡ ones (wide_comparison condition frame a value) }
     ensures few { words_in items.new ≤ 3 }
 {
     if a == FRAME_POINTER {
-        put_number(STACK_POINTER, value, items);
-        items.one(row(op, a, STACK_POINTER));
-        items.one(stack_again(frame));
+        put_pointer_comparison(condition, frame, value, items);
     } else {
         put_number(FRAME_POINTER, value, items);
-        items.one(row(op, a, FRAME_POINTER));
+        items.one(row(comparison(condition), a, FRAME_POINTER));
         items.one(pointer_again(frame));
     }
 }
@@ -88,13 +116,9 @@ fn put_number_comparison(
     ensures few { words_in items.new ≤ 3 }
 {
     if is_difference(condition) && is_half(value) {
-        items.one(Instr::Imm {
-            op: ImmOp::Cmpi,
-            rm: a,
-            imm: half_number(value),
-        });
+        items.one(with_number(ImmOp::Cmpi, a, half_number(value)));
     } else {
-        put_wide_comparison(comparison(condition), frame, a, value, items);
+        put_wide_comparison(condition, frame, a, value, items);
     }
 }
 

@@ -4,11 +4,11 @@ ghost use Rattle.std.specs.Prelude.{◌≡◌, ◌+◌, ◌<◌, ◌≤◌, true
 ghost use Rattle.lg_op.specs.Forms.{admit, plain_forms};
 ghost use Rattle.lg_op.specs.declared.form.Form.TheVariants as form;
 ghost use Rattle.lg_selx_control.specs.ControlItems.{align_items, plain_items};
-ghost use Rattle.lg_selx_control.specs.Prologs.{prolog_code};
+ghost use Rattle.lg_selx_control.specs.Prologs.{lower, prolog_code};
+ghost use Rattle.lg_x86.specs.declared.instruction.LoadOp.TheVariants.{Lea};
 ghost use Rattle.lg_selx_control.specs.Returns.{return_code};
 ghost use Rattle.lg_selx_items.specs.Items.{words_in, ones};
 
-use crate::pointers::stack_again;
 use lg_op::{Operand, PlainOp};
 use lg_sel_control::{gap, put_idle};
 use lg_sel_items::Items;
@@ -34,6 +34,15 @@ fn store(base: u8, disp: i32, reg: u8) -> Instr
     }
 }
 
+// The stack pointer falls from FP to the end of a frame of so many bytes.
+fn lowered(size: u32) -> Instr
+    requires some { 272 ≤ size }
+    requires small { size < 0x4000_0000 }
+    ensures { result ≡ Instr.Load Lea 4 5 (lower size) }
+{
+    lea(STACK_POINTER, FRAME_POINTER, -((size - 17) as i32) - 1)
+}
+
 // What a `prolog` does: the caller's FP goes below the return address, and FP points there; V0, V1, V2 and the arguments in rdi, rsi, rdx, rcx, r8 and
 // r9 go below, and the stack pointer falls.
 fn prolog_code(size: u32) -> [Instr; 12]
@@ -53,7 +62,7 @@ fn prolog_code(size: u32) -> [Instr; 12]
         store(FRAME_POINTER, -56, 1),
         store(FRAME_POINTER, -64, 8),
         store(FRAME_POINTER, -72, 9),
-        stack_again(size),
+        lowered(size),
     ]
 }
 

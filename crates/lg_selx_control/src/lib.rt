@@ -11,4 +11,4 @@ mod pointers;
 mod sums;
 
 pub use control::put_control;
-pub use pointers::{pointer_again, stack_again};
+pub use pointers::pointer_again;

@@ -1,8 +1,7 @@
-// FP and the stack pointer, each of which is made again from the other.
+// FP, which is made again from the stack pointer.
 
 ghost use Rattle.std.specs.Prelude.{◌≡◌, ◌≤◌, ◌<◌, ◌-◌, pos};
 ghost use Rattle.lg_x86.specs.declared.instruction.LoadOp.TheVariants.{Lea};
-ghost use Rattle.lg_selx_control.specs.Branches.{lower};
 
 use lg_selx_items::{FRAME_POINTER, STACK_POINTER, lea};
 use lg_x86::Instr;
@@ -14,13 +13,4 @@ pub fn pointer_again(frame: u32) -> Instr
     ensures { result ≡ Instr.Load Lea 5 4 (pos (frame - 16)) }
 {
     lea(FRAME_POINTER, STACK_POINTER, (frame - 16) as i32)
-}
-
-/// The stack pointer again, from FP. `frame` is the size of the frame in bytes.
-pub fn stack_again(frame: u32) -> Instr
-    requires some { 272 ≤ frame }
-    requires small { frame < 0x4000_0000 }
-    ensures { result ≡ Instr.Load Lea 4 5 (lower frame) }
-{
-    lea(STACK_POINTER, FRAME_POINTER, -((frame - 17) as i32) - 1)
 }

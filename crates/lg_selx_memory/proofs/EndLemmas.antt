@@ -1,5 +1,5 @@
 -- Code that makes a scene, whatever stands in the slots.
-use Rattle.std.proofs.Common.{◌≡◌, ℕ, ◌<◌, Bool, false, List, [], ◌∷◌, ◌++◌, Option, Some, ap, ◌∙◌, arith, length, length-append}
+use Rattle.std.proofs.Common.{◌≡◌, ℕ, ◌<◌, Bool, true, false, List, [], ◌∷◌, ◌++◌, Option, Some, refl, ap, ◌∙◌, arith, length, length-append}
 use Rattle.lg_base.specs.declared.flags.Flags.{Flags}
 use Rattle.lg_x86.specs.Spelling.{spelling}
 use Rattle.lg_x86.specs.declared.instruction.Instr.{Instr}
@@ -7,7 +7,7 @@ use Rattle.lg_x86.proofs.SizeLemmas.{sized}
 use Rattle.lg_cpu.specs.X86Step.{Scene, scene_of}
 use Rattle.lg_carry.specs.Blocks.{spellings}
 use Rattle.lg_carry.specs.Processors.{Seen}
-use Rattle.lg_carry.specs.Spills.{Does, in_slots}
+use Rattle.lg_carry.specs.Spills.{Does, in_slots, in_first_slots}
 use Rattle.lg_carry_x86.specs.MakingNodes.{scene}
 use Rattle.lg_carry_x86.specs.Makings.{makes}
 use Rattle.lg_carry_x86.specs.X86Rows.{x86_rows}
@@ -15,30 +15,47 @@ use Rattle.lg_carry_x86.proofs.MakingLemmas.{makings-run}
 use Rattle.lg_sel_nodes.specs.Straight.{from_to}
 use Rattle.lg_sel_memory.proofs.BehindLemmas.{no-slots}
 
--- over a memory the code makes these registers and flags, and these bytes but for the slots
+-- over a memory the code makes these registers, but for those of T, these flags, and these bytes but for the slots; it keeps the first n slots
+pub record LeadsTo (is : List Instr) (s : Seen) (W : ℕ → ℕ) (M : ℕ → Option ℕ) (F : Flags) (fp n : ℕ) (T : ℕ → Bool) (bytes : ℕ → Option ℕ) : Type 0 where
+  pub registers : ℕ → ℕ
+  pub end : ℕ → Option ℕ
+  pub makes_it : makes is (scene s.registers s.flags bytes) ≡ Some (scene registers F end)
+  pub registers_are : (x : ℕ) → T x ≡ false → registers x ≡ W x
+  pub bytes_are : (a : ℕ) → in_slots fp a ≡ false → end a ≡ M a
+  pub slots_are : (a : ℕ) → in_first_slots fp n a ≡ true → end a ≡ bytes a
+
+-- where it does so over each memory that looks so, it is code that does so
+pub makes-leads : (code : List ℕ) (trash : ℕ) (is : List Instr) (s : Seen) (W : ℕ → ℕ) (M : ℕ → Option ℕ) (F : Flags) (fp n : ℕ) (T : ℕ → Bool)
+    → ((bytes : ℕ → Option ℕ) → ((a : ℕ) → in_slots fp a ≡ false → bytes a ≡ s.bytes a) → LeadsTo is s W M F fp n T bytes)
+    → Does (x86_rows code trash) (from_to s W M F) is fp n T
+makes-leads code trash is s W M F fp n T leads q looks room =
+    let l = leads q.state.bytes looks.has_bytes in
+    let same : scene_of q.state ≡ scene s.registers s.flags q.state.bytes = λ j. scene (λ r. looks.has_registers r j) (looks.has_flags j) q.state.bytes in
+    let r = makings-run is q (scene l.registers F l.end) (ap (makes is) same ∙ l.makes_it) looks.runs room.low room.high in
+    record {
+      through = r.through;
+      runs = r.runs;
+      behind = r.behind;
+      registers = λ x free. ap (λ (z : Scene). z.registers x) r.scene ∙ l.registers_are x free;
+      bytes = λ a off. ap (λ (z : Scene). z.bytes a) r.scene ∙ l.bytes_are a off;
+      slots = λ a on. ap (λ (z : Scene). z.bytes a) r.scene ∙ l.slots_are a on;
+      has_mark = r.mark ∙ looks.has_mark;
+      has_flags = ap (λ (z : Scene). z.flags) r.scene;
+    }
+
+-- these registers, and no slot has to be kept
 pub record Leads (is : List Instr) (s : Seen) (W : ℕ → ℕ) (M : ℕ → Option ℕ) (F : Flags) (fp : ℕ) (bytes : ℕ → Option ℕ) : Type 0 where
   pub end : ℕ → Option ℕ
   pub makes_it : makes is (scene s.registers s.flags bytes) ≡ Some (scene W F end)
   pub bytes_are : (a : ℕ) → in_slots fp a ≡ false → end a ≡ M a
 
--- where it does so over each memory that looks so, it is code that does so
 pub makes-does : (code : List ℕ) (trash : ℕ) (is : List Instr) (s : Seen) (W : ℕ → ℕ) (M : ℕ → Option ℕ) (F : Flags) (fp : ℕ) (T : ℕ → Bool)
     → ((bytes : ℕ → Option ℕ) → ((a : ℕ) → in_slots fp a ≡ false → bytes a ≡ s.bytes a) → Leads is s W M F fp bytes)
     → Does (x86_rows code trash) (from_to s W M F) is fp 0 T
-makes-does code trash is s W M F fp T leads q looks room =
-    let l = leads q.state.bytes looks.has_bytes in
-    let same : scene_of q.state ≡ scene s.registers s.flags q.state.bytes = λ j. scene (λ r. looks.has_registers r j) (looks.has_flags j) q.state.bytes in
-    let r = makings-run is q (scene W F l.end) (ap (makes is) same ∙ l.makes_it) looks.runs room.low room.high in
-    record {
-      through = r.through;
-      runs = r.runs;
-      behind = r.behind;
-      registers = λ x free. ap (λ (z : Scene). z.registers x) r.scene;
-      bytes = λ a off. ap (λ (z : Scene). z.bytes a) r.scene ∙ l.bytes_are a off;
-      slots = λ a on. no-slots fp a on;
-      has_mark = r.mark ∙ looks.has_mark;
-      has_flags = ap (λ (z : Scene). z.flags) r.scene;
-    }
+makes-does code trash is s W M F fp T leads =
+    makes-leads code trash is s W M F fp 0 T
+    (λ bytes looks. let l = leads bytes looks in
+    record { registers = W; end = l.end; makes_it = l.makes_it; registers_are = λ x free. refl; bytes_are = l.bytes_are; slots_are = λ a on. no-slots fp a on })
 
 -- code with an instruction has some bytes
 pub some-spelled : (front : List Instr) (x : Instr) (is : List Instr) → 0 < length (spellings spelling (front ++ x ∷ is))

@@ -1,6 +1,6 @@
 -- The items of loads, stores and arguments: their numbers are in the ranges of their instructions, there are few, and each is followed by the next.
 use Rattle.std.proofs.Common.{◌≡◌, ◌≢◌, ℕ, zero, suc, ◌+◌, ◌-◌, ◌*◌, ◌^◌, ◌<◌, ◌≤◌, Bool, true, false, List, [], ◌∷◌, ◌++◌, length, refl, arith, length-append}
-use Rattle.std.specs.Prelude.{◌==◌, ◌||◌, nat_lt, slice_index, if◌then◌else◌, ℤ, pos, negsuc}
+use Rattle.std.specs.Prelude.{◌==◌, nat_lt, slice_index, if◌then◌else◌, ℤ, pos, negsuc}
 use Rattle.std.proofs.lemmas.Int.{ints}
 use Rattle.lg_base.specs.Conventions.{argument_registers}
 use Rattle.lg_base.specs.HostNames.{host_address}
@@ -25,12 +25,14 @@ use Rattle.lg_x86.specs.declared.instruction.RmRegOp.TheVariants.{Mov}
 use Rattle.lg_x86.specs.declared.instruction.StoreOp.TheVariants.{St64}
 use Rattle.lg_meaning.specs.Steps.{operand_at, stored_operand, slot}
 use Rattle.lg_temp.specs.Abis.{register_of}
+use Rattle.lg_temp.specs.declared.choice.Choice.{Choice}
+use Rattle.lg_temp.specs.declared.choice.Choice.TheVariants.{Free, Own, Spill}
 use Rattle.lg_carry_x86.specs.Numbers.{number_row}
 use Rattle.lg_carry_x86.proofs.NumberCodeLemmas.{half-number}
 use Rattle.lg_sel_memory.specs.Accesses.{Address, Base, At, Sum, Index, address_of, IsAddress}
 use Rattle.lg_sel_memory.specs.Operands.{named, number}
 use Rattle.lg_sel_memory.proofs.ReadLemmas.{host-small}
-use Rattle.lg_carry_x86.specs.X86Rows.{is_straight}
+use Rattle.lg_carry_x86.specs.X86Rows.{is_straight, slot_offset}
 use Rattle.lg_sel_items.proofs.FewLemmas.{AreBounded, bounded-append, bounded-more, bounded-ones, bounded-few}
 use Rattle.lg_selx_items.specs.declared.items.Item.TheVariants.{One}
 use Rattle.lg_selx_items.specs.declared.items.Item.{Item}
@@ -39,13 +41,15 @@ use Rattle.lg_selx_items.specs.Items.{ones, x86_holes, IsItem, StaysWithin}
 use Rattle.lg_selx_items.proofs.GoodLemmas.{good-append, number-good, ones-good, good-items-are-appendable}
 use Rattle.lg_selx_items.proofs.WithinLemmas.{portable}
 use Rattle.lg_selx_values.specs.Scratch.{again}
+use Rattle.lg_selx_values.specs.ValueItems.{save, restore, saved_items}
 use Rattle.lg_selx_values.proofs.RegisterLemmas.{register-portable}
-use Rattle.lg_selx_control.specs.Branches.{lowered}
-use Rattle.lg_selx_memory.specs.Accesses.{register, load_row, store_row, Place, at_register, at_spare, indexed, place_of, remade, behind, indexes, load_spare, store_spare, load_into, store_from, load_code, store_code}
+use Rattle.lg_selx_memory.specs.Accesses.{register, load_row, store_row, Place, at_register, at_spare, indexed, place_of, remade, behind, indexes, load_spare, load_into, store_from, load_code, store_code, store_items}
 use Rattle.lg_selx_memory.specs.ArgumentCode.{argument_offset, argument_load, argument_code}
 use Rattle.lg_selx_memory.specs.MemoryFits.{AreMemoryItems, MemoryItemsFit}
 use Rattle.lg_selx_memory.specs.PushCode.{into, stack_push, onto_stack, push_code}
 use Rattle.lg_selx_memory.specs.VariableArgumentCode.{next_code, next_argument_code}
+use Rattle.lg_selx_memory.proofs.TemporaryLemmas.{AreOne, choices-are, one-fits}
+use Rattle.lg_sel_values.specs.Parts.{first_taken}
 
 register-fine : (x : Operand) → Fine (register x)
 register-fine x = ((register-portable (named x)).small, portable (named x))
@@ -65,13 +69,6 @@ load-spare-fine d at h = by (indexes d at)
     by true = (omega arith, refl)
     by false = h
 
-store-spare-fine : (from : ℕ) (at : Address) → Fine (store_spare from at)
-store-spare-fine from at = by (indexes 5 at || (from == 5))
-  where
-    by : (b : Bool) → Fine (if b then 4 else 5)
-    by true = (omega arith, refl)
-    by false = (omega arith, refl)
-
 -- good instructions, of which there are at most so many
 record IsFitCode (most : ℕ) (is : List Instr) : Type 0 where
   good : AreGood is
@@ -80,16 +77,12 @@ record IsFitCode (most : ℕ) (is : List Instr) : Type 0 where
 again-good : (frame : ℕ) → frame < 0x40000000 → IsFitCode 1 (again frame)
 again-good frame h = record { good = (((omega arith, omega arith, near-number (frame - 16) (omega (arith, h))), (refl, tt), refl), tt); few = omega arith }
 
-lowered-good : (frame : ℕ) → frame < 0x40000000 → IsFitCode 1 (lowered frame)
-lowered-good frame h = record { good = (((omega arith, omega arith, low-number (frame - 17) (omega (arith, h))), (refl, tt), refl), tt); few = omega arith }
-
 remade-good : (frame t : ℕ) → frame < 0x40000000 → IsFitCode 1 (remade frame t)
-remade-good frame t h = by (t == 4) (t == 5)
+remade-good frame t h = by (t == 5)
   where
-    by : (b c : Bool) → IsFitCode 1 (if b then lowered frame else if c then again frame else [])
-    by true c = lowered-good frame h
-    by false true = again-good frame h
-    by false false = record { good = tt; few = omega arith }
+    by : (c : Bool) → IsFitCode 1 (if c then again frame else [])
+    by true = again-good frame h
+    by false = record { good = tt; few = omega arith }
 
 -- ---- places
 record IsGoodPlace (p : Place) : Type 0 where
@@ -168,11 +161,13 @@ load-fits frame t d at lt fine ok =
     let g = place-good (load_spare d at) at (load-spare-fine d at fine) ok in
     around-place frame p (instr.Load (load_row t) d p.base p.disp) lt g (load-good (load_row t) d p.base p.disp fine g.base g.disp)
 
-store-fits : (frame : ℕ) (t : StoreType) (from : ℕ) (at : Address) → frame < 0x40000000 → from < 16 → IsAddress at → IsFitCode 4 (store_from frame t from at)
-store-fits frame t from at lt few ok =
-    let p = place_of (store_spare from at) at in
-    let g = place-good (store_spare from at) at (store-spare-fine from at) ok in
-    around-place frame p (instr.Store (store_row t) p.base p.disp from) lt g (store-row-good t p.base p.disp from g.base g.disp few)
+store-fits : (t : StoreType) (from u : ℕ) (at : Address) → from < 16 → Fine u → IsAddress at → IsFitCode 3 (store_from t from u at)
+store-fits t from u at few fine ok =
+    let p = place_of u at in
+    let g = place-good u at fine ok in
+    let x = instr.Store (store_row t) p.base p.disp from in
+    let l = length-append p.code (x ∷ []) in
+    let k = g.few in record { good = good-append p.code (x ∷ []) g.code (store-row-good t p.base p.disp from g.base g.disp few, tt); few = omega (arith, l, k) }
 
 offset-number : (k : ℕ) → k < 16 → IsNumber32 (argument_offset k)
 offset-number k few = by (nat_lt k 6)
@@ -289,6 +284,23 @@ push-fit frame j n lt few words = by (nat_lt j 6)
         fewer 1 3 1 1 (into rd (operand_at n 0)) (omega arith) (omega arith) (into-fit rd (operand_at n 0) (argument-fine j) words)
     by false = onto-fit frame j (operand_at n 0) lt few words
 
+-- a store with its choice
+slot-good : (k : ℕ) → k ≡ 0 → IsNumber32 (slot_offset k)
+slot-good k e = low-number (95 + 8 * k) (omega (arith, e))
+
+stored-fit : (code : ℕ → List Instr) → ((u : ℕ) → Fine u → IsFitCode 3 (code u)) → (choices : List Choice) → AreOne choices
+    → AreFit 5 0 (saved_items choices (ones (code (first_taken choices))))
+stored-fit code good [] h = fewer 3 5 0 0 (ones (code 0)) (omega arith) (omega arith) (code-fit 3 (code 0) (good 0 (omega arith, refl)))
+stored-fit code good (Free u ∷ []) h = fewer 3 5 0 0 (ones (code u)) (omega arith) (omega arith) (code-fit 3 (code u) (good u h))
+stored-fit code good (Own u ∷ []) h = absurd h
+stored-fit code good (choice ∷ next ∷ choices) h = absurd h
+stored-fit code good (Spill u k ∷ []) h =
+    let n = slot-good k h.1 in
+    let front : AreFit 1 0 (ones (save u k ∷ [])) = code-fit 1 (save u k ∷ []) record { good = (((omega arith, n, h.0.0), tt, refl), tt); few = omega arith } in
+    let last : AreFit 1 0 (ones (restore u k ∷ [])) = code-fit 1 (restore u k ∷ []) record { good = (load-good Ld64 u 5 (slot_offset k) h.0 (omega arith) n, tt); few = omega arith } in
+    joined 1 4 0 0 (ones (save u k ∷ [])) (ones (code u) ++ ones (restore u k ∷ [])) front
+    (joined 3 1 0 0 (ones (code u)) (ones (restore u k ∷ [])) (code-fit 3 (code u) (good u h.0)) last)
+
 -- ---- what is asked of items
 are-items : (most fixes : ℕ) (xs : List Item) → fixes ≤ 1 → AreFit most fixes xs → AreMemoryItems most xs
 are-items = bounded-few x86_holes IsGoodItem is_straight IsItem StaysWithin good-items-are-appendable
@@ -300,11 +312,13 @@ memory-items-fit = record {
       (code-fit 4 (load_code frame t at n)
       (load-fits frame t (register (operand_at n 0)) (address_of at (operand_at n 1) (operand_at n 2)) lt (register-fine (operand_at n 0))
       (address-fine at (operand_at n 1) (operand_at n 2) (words 1) (words 2))));
-  stores = λ frame t at n lt words.
-      are-items 4 0 (ones (store_code frame t at n)) (omega arith)
-      (code-fit 4 (store_code frame t at n)
-      (store-fits frame t (register (operand_at n (stored_operand at))) (address_of at (operand_at n 0) (operand_at n 1)) lt
-      (register-fine (operand_at n (stored_operand at))).0 (address-fine at (operand_at n 0) (operand_at n 1) (words 0) (words 1))));
+  stores = λ t at n live staged choices words are.
+      are-items 5 0 (store_items t at n choices) (omega arith)
+      (stored-fit (store_code t at n)
+      (λ u fine. store-fits t (register (operand_at n (stored_operand at))) u (address_of at (operand_at n 0) (operand_at n 1))
+      (register-fine (operand_at n (stored_operand at))).0 fine (address-fine at (operand_at n 0) (operand_at n 1) (words 0) (words 1)))
+      choices (choices-are at n live staged choices are));
+  choices = λ at n live staged choices are. one-fits choices (choices-are at n live staged choices are);
   arguments = λ frame t n lt. are-items 1 0 (ones (argument_code frame t n)) (omega arith) (code-fit 1 (argument_code frame t n) (argument-fits frame t n));
   next_arguments = λ n.
       are-items 8 0 (ones (next_argument_code n)) (omega arith)

@@ -7,5 +7,6 @@ pub mod PlaceLemmas
 pub mod PushLemmas
 pub mod PutLemmas
 pub mod StoreLemmas
+pub mod TemporaryLemmas
 pub mod VariableArgumentLemmas
 pub mod WithinLemmas

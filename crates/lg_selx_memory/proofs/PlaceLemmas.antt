@@ -1,6 +1,6 @@
 -- How an address is made: the code computes it into the spare register, or changes nothing.
 use Rattle.std.proofs.Common.{◌≡◌, ◌≢◌, ℕ, ◌^◌, ◌<◌, ◌⊎◌, inl, inr, Bool, true, false, List, [], ◌∷◌, Option, Some, refl, sym, ap, ◌∙◌, subst, arith}
-use Rattle.std.specs.Prelude.{◌==◌, ◌||◌, if◌then◌else◌, pos}
+use Rattle.std.specs.Prelude.{◌==◌, if◌then◌else◌, pos}
 use Rattle.std.specs.Option.{option_and_then}
 use Rattle.lg_base.specs.Fields.{word_of}
 use Rattle.lg_base.specs.Words.{add_words, signed_view, is_half}
@@ -16,10 +16,9 @@ use Rattle.lg_carry_x86.specs.Numbers.{number_row}
 use Rattle.lg_carry_x86.proofs.NumberCodeLemmas.{view-word, row-loads}
 use Rattle.lg_sel_memory.specs.Accesses.{Address, Base, At, Sum, Index, address_word, IsAddress}
 use Rattle.lg_selx_values.specs.Scratch.{again}
-use Rattle.lg_selx_values.proofs.RegisterLemmas.{put-same, put-other, put-twice, put-own, equal, apart, register-portable}
-use Rattle.lg_selx_control.specs.Branches.{lowered}
-use Rattle.lg_selx_control.proofs.SpareLemmas.{IsFramed, stack-again, pointer-again, pointer-behind}
-use Rattle.lg_selx_memory.specs.Accesses.{Place, at_register, at_spare, place_of, remade, behind, indexes, load_spare, store_spare}
+use Rattle.lg_selx_values.proofs.RegisterLemmas.{put-same, put-other, put-twice, put-own, equal, apart}
+use Rattle.lg_selx_control.proofs.SpareLemmas.{IsFramed, pointer-behind}
+use Rattle.lg_selx_memory.specs.Accesses.{Place, at_register, at_spare, place_of, remade, behind, indexes, load_spare}
 
 -- the code puts a word into register t alone, behind which the place has this address; where the place does not use t, that is its own word
 pub record IsPlaced (t : ℕ) (p : Place) (w : ℕ → ℕ) (a : ℕ) : Type 0 where
@@ -29,7 +28,7 @@ pub record IsPlaced (t : ℕ) (p : Place) (w : ℕ → ℕ) (a : ℕ) : Type 0 w
   pub spared : ((p.spare ≡ true) × (p.base ≡ t)) ⊎ ((p.spare ≡ false) × (word ≡ w t))
 
 -- ---- words
-none-behind : (a : ℕ) → a < 2 ^ 64 → add_words a 0 ≡ a
+pub none-behind : (a : ℕ) → a < 2 ^ 64 → add_words a 0 ≡ a
 none-behind a h = omega (arith, h)
 
 sum-small : (b c : ℕ) → add_words b c < 2 ^ 64
@@ -106,64 +105,16 @@ load-spare d at few ne = by (indexes d at) refl
     by true e = record { few = omega arith; free = off-pointer d at ne e; which = inl refl }
     by false e = record { few = few; free = e; which = inr refl }
 
-pub record IsStoreSpare (t from : ℕ) (at : Address) : Type 0 where
-  pub few : t < 16
-  pub free : indexes t at ≡ false
-  pub apart_from : from ≢ t
-  pub which : (t ≡ 4) ⊎ (t ≡ 5)
-
-off-stack : (at : Address) → indexes 4 at ≡ false
-off-stack (Index a v) = let p = register-portable a in let n = p.no_stack in grind (arith, n)
-off-stack (Base a) = refl
-off-stack (At v) = refl
-off-stack (Sum a b) = refl
-
-pub store-spare : (from : ℕ) (at : Address) → from ≢ 4 → IsStoreSpare (store_spare from at) from at
-store-spare from at ne = by (indexes 5 at) (from == 5) refl refl
-  where
-    stack : IsStoreSpare 4 from at
-    stack = record { few = omega arith; free = off-stack at; apart_from = ne; which = inl refl }
-
-    by : (b c : Bool) → indexes 5 at ≡ b → (from == 5) ≡ c → IsStoreSpare (if b || c then 4 else 5) from at
-    by true c e g = stack
-    by false true e g = stack
-    by false false e g = record { few = omega arith; free = e; apart_from = apart from 5 g; which = inr refl }
-
 -- ---- what is behind
 module _ (frame : ℕ) (w : ℕ → ℕ) (f : Flags) (m : ℕ → Option ℕ) (framed : IsFramed frame w) where
-  -- a spare register that is made again
-  stack-remade : (v : ℕ) → makes (lowered frame) (scene (put w 4 v) f m) ≡ Some (scene w f m)
-  stack-remade v = ap (option_and_then (makes [])) (stack-again frame v w f m framed)
-
-  pointer-remade : (v : ℕ) → makes (again frame) (scene (put w 5 v) f m) ≡ Some (scene w f m)
-  pointer-remade v = ap (option_and_then (makes [])) (pointer-again frame v w f m framed)
-
-  spare-remade : (t v : ℕ) → (t ≡ 4) ⊎ (t ≡ 5) → makes (remade frame t) (scene (put w t v) f m) ≡ Some (scene w f m)
-  spare-remade t v (inl e) = subst (λ z. makes (remade frame z) (scene (put w z v) f m) ≡ Some (scene w f m)) (sym e) (stack-remade v)
-  spare-remade t v (inr e) = subst (λ z. makes (remade frame z) (scene (put w z v) f m) ≡ Some (scene w f m)) (sym e) (pointer-remade v)
-
-  -- behind a store
-  pub stored-behind : (t a : ℕ) (p : Place) (h : IsPlaced t p w a) → (t ≡ 4) ⊎ (t ≡ 5) → makes (behind frame p) (scene (put w t h.word) f m) ≡ Some (scene w f m)
-  stored-behind t a p h which = by h.spared
-    where
-      by : ((p.spare ≡ true) × (p.base ≡ t)) ⊎ ((p.spare ≡ false) × (h.word ≡ w t)) → makes (behind frame p) (scene (put w t h.word) f m) ≡ Some (scene w f m)
-      by (inl e) =
-          ap (λ b. makes (if b then remade frame p.base else []) (scene (put w t h.word) f m)) e.0
-          ∙ ap (λ z. makes (remade frame z) (scene (put w t h.word) f m)) e.1 ∙ spare-remade t h.word which
-      by (inr e) =
-          ap (λ b. makes (if b then remade frame p.base else []) (scene (put w t h.word) f m)) e.0
-          ∙ ap (λ g. Some (scene g f m)) (put-own w t h.word e.1)
-
   -- another register keeps what it got meanwhile
   module _ (d x : ℕ) (off5 : d ≢ 5) (off4 : d ≢ 4) where
     own-behind : (v : ℕ) → makes (remade frame d) (scene (put (put w d v) d x) f m) ≡ Some (scene (put w d x) f m)
-    own-behind v = by (d == 4) (d == 5) refl refl
+    own-behind v = by (d == 5) refl
       where
-        by : (b c : Bool) → (d == 4) ≡ b → (d == 5) ≡ c
-            → makes (if b then lowered frame else if c then again frame else []) (scene (put (put w d v) d x) f m) ≡ Some (scene (put w d x) f m)
-        by true c e g = absurd (off4 (equal d 4 e))
-        by false true e g = absurd (off5 (equal d 5 g))
-        by false false e g = ap (λ h. Some (scene h f m)) (put-twice w d v x)
+        by : (c : Bool) → (d == 5) ≡ c → makes (if c then again frame else []) (scene (put (put w d v) d x) f m) ≡ Some (scene (put w d x) f m)
+        by true g = absurd (off5 (equal d 5 g))
+        by false g = ap (λ h. Some (scene h f m)) (put-twice w d v x)
 
     pointer-kept : (v : ℕ) → makes (again frame) (scene (put (put w 5 v) d x) f m) ≡ Some (scene (put w d x) f m)
     pointer-kept v = ap (option_and_then (makes [])) (pointer-behind frame v d x w f m off5 off4 framed)

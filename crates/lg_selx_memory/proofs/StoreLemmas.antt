@@ -1,18 +1,28 @@
 -- Stores.
-use Rattle.std.proofs.Common.{◌≡◌, ℕ, true, Some, refl, ap, ◌∙◌, List, [], ◌∷◌}
-use Rattle.std.specs.Prelude.{ℤ}
+use Rattle.std.proofs.Common.{◌≡◌, ◌≢◌, ℕ, ◌+◌, ◌-◌, ◌<◌, ◌≤◌, ⊎_elim, inl, inr, Bool, true, false, Option, Some, refl, sym, ap, ◌∙◌, arith, subst, List, [], ◌∷◌, length}
+use Rattle.std.specs.Prelude.{ℤ, pos, ◌||◌}
 use Rattle.std.specs.Option.{option_and_then}
+use Rattle.std.proofs.lemmas.Bool.{cases_lt}
 use Rattle.lg_base.specs.Fields.{word_of}
 use Rattle.lg_base.specs.Spaces.{mapped, stored}
 use Rattle.lg_base.specs.Words.{add_words}
 use Rattle.lg_base.specs.declared.target.Target.TheVariants.{X86_64}
+use Rattle.lg_base.proofs.SpaceLemmas.{stored-out}
+use Rattle.lg_op.specs.declared.op.Addressing.{Addressing}
+use Rattle.lg_op.specs.declared.op.Addressing.TheVariants as addressing
 use Rattle.lg_op.specs.declared.op.StoreType.{StoreType}
 use Rattle.lg_op.specs.declared.op.StoreType.TheVariants as store_type
+use Rattle.lg_op.specs.declared.operand.Operand.{Operand}
+use Rattle.lg_op.specs.declared.operand.Reg.{Reg}
 use Rattle.lg_operators.specs.Operators.{store_width}
+use Rattle.lg_x86.specs.Spelling.{spelling}
 use Rattle.lg_x86.specs.declared.instruction.Instr.TheVariants as instr
 use Rattle.lg_cpu.specs.HostSteps.{put}
 use Rattle.lg_cpu.specs.X86Step.{Scene, made}
 use Rattle.lg_temp.specs.Abis.{register_of}
+use Rattle.lg_temp.specs.declared.choice.Choice.{Choice}
+use Rattle.lg_carry.specs.Blocks.{spellings}
+use Rattle.lg_carry.specs.Spills.{in_slots, in_first_slots, spilled}
 use Rattle.lg_carry_x86.specs.MakingNodes.{scene}
 use Rattle.lg_carry_x86.specs.Makings.{makes}
 use Rattle.lg_carry_x86.specs.X86Computers.{x86_scratch}
@@ -20,13 +30,15 @@ use Rattle.lg_carry_x86.specs.X86Rows.{x86_rows, x86_seen}
 use Rattle.lg_carry_x86.proofs.MakingLemmas.{makes-append}
 use Rattle.lg_sel_nodes.specs.Straight.{spoils}
 use Rattle.lg_sel_nodes.proofs.ByteLemmas.{stored-same}
-use Rattle.lg_sel_memory.specs.Accesses.{address_word}
-use Rattle.lg_sel_memory.specs.Stores.{StoresDo, HasStoreCode}
-use Rattle.lg_selx_values.proofs.RegisterLemmas.{put-other, register-portable}
-use Rattle.lg_selx_control.proofs.SpareLemmas.{framed}
-use Rattle.lg_selx_memory.specs.Accesses.{store_row, store_spare, place_of, behind, x86_store}
-use Rattle.lg_selx_memory.proofs.EndLemmas.{makes-does, some-spelled}
-use Rattle.lg_selx_memory.proofs.PlaceLemmas.{placed, store-spare, stored-behind}
+use Rattle.lg_sel_memory.specs.Accesses.{Address, Base, address_of}
+use Rattle.lg_sel_memory.specs.Operands.{named}
+use Rattle.lg_sel_memory.specs.Stores.{IsOffSlots, StoreDoes}
+use Rattle.lg_sel_memory.proofs.BehindLemmas.{more-slots}
+use Rattle.lg_selx_values.proofs.RegisterLemmas.{put-other}
+use Rattle.lg_selx_memory.specs.Accesses.{store_row, place_of, store_from}
+use Rattle.lg_selx_memory.proofs.EndLemmas.{makes-leads, some-spelled}
+use Rattle.lg_selx_memory.proofs.PlaceLemmas.{none-behind, placed}
+use Rattle.lg_selx_memory.proofs.TemporaryLemmas.{IsSpare, is_computed}
 
 -- a row stores by its type, wherever the address lies
 pub store-made : (t : StoreType) (s : Scene) (base : ℕ) (disp : ℤ) (from a v : ℕ) → add_words (s.registers base) (word_of disp) ≡ a
@@ -37,30 +49,80 @@ store-made store_type.Short s base disp from a v at there holds = rw (at, there,
 store-made store_type.Int s base disp from a v at there holds = rw (at, there, holds) refl
 store-made store_type.Long s base disp from a v at there holds = rw (at, there, holds) refl
 
-pub stores-do : (code : List ℕ) (trash : ℕ) → StoresDo (x86_rows code trash) x86_scratch x86_store
-stores-do code trash frame t at b q a ok f address end writable off =
-    let s = x86_seen q in
-    let w = q.state.registers in
-    let rb = register_of X86_64 b in
-    let portable = register-portable b in
-    let k = store-spare rb at portable.no_stack in
-    let ts = store_spare rb at in
-    let p = place_of ts at in
-    let h = placed ts w at k.few ok f.seen.words k.free in
-    let x = instr.Store (store_row t) p.base p.disp rb in
-    makes-does code trash (x86_store frame t at b) s w (stored s.bytes a (store_width t) (w rb)) s.flags (w 5) (spoils x86_scratch [])
-    (λ bytes same. record {
-      end = stored bytes a (store_width t) (w rb);
-      makes_it = makes-append p.code (x ∷ behind frame p) (scene w s.flags bytes) (scene (put w ts h.word) s.flags bytes)
-          (scene w s.flags (stored bytes a (store_width t) (w rb))) (h.makes_it s.flags bytes)
-          (ap (option_and_then (makes (behind frame p)))
-          (store-made t (scene (put w ts h.word) s.flags bytes) p.base p.disp rb a (w rb) (h.address ∙ address) (writable bytes same)
-          (put-other w ts h.word rb k.apart_from))
-          ∙ stored-behind frame w s.flags (stored bytes a (store_width t) (w rb)) (framed frame s f) ts (address_word X86_64 w at) p h k.which);
-      bytes_are = λ y off. stored-same s.bytes bytes a (store_width t) (w rb) y (same y off);
-    })
+-- ---- the slots
+-- a store off the slots keeps them
+slots-kept : (m : ℕ → Option ℕ) (fp n a w v y : ℕ) → n ≤ 5 → IsOffSlots fp a w → in_first_slots fp n y ≡ true → stored m a w v y ≡ m y
+slots-kept m fp n a w v y most off on = ⊎_elim
+    (λ lt. stored-out m a w v y (inl lt))
+    (λ le. ⊎_elim
+    (λ lt. let z : a + (y - a) ≡ y = omega (arith, le) in
+    let out : in_slots fp y ≡ false = subst (λ x. in_slots fp x ≡ false) z (off (y - a) (omega (arith, le, lt))) in
+    absurd (clash (more-slots fp n y most on) out))
+    (λ ge. stored-out m a w v y (inr ge)) (cases_lt y (a + w)))
+    (cases_lt y a)
+  where
+    clash : {b : Bool} → b ≡ true → b ≡ false → ⊥
+    clash e h = cc
 
-pub has-store-code : (code : List ℕ) (trash : ℕ) → HasStoreCode (x86_rows code trash) x86_store
-has-store-code code trash frame t at b =
-    let rb = register_of X86_64 b in
-    let p = place_of (store_spare rb at) at in some-spelled p.code (instr.Store (store_row t) p.base p.disp rb) (behind frame p)
+-- ---- the code
+module _ (code : List ℕ) (trash : ℕ) (choices : List Choice) (u frame : ℕ) (t : StoreType) (b : Reg) (most : spilled choices ≤ 5) where
+  abbrev rb : ℕ
+  rb = register_of X86_64 b
+
+  abbrev StoresAt : Address → Type 0
+  StoresAt at = StoreDoes (x86_rows code trash) x86_scratch choices frame t at b (store_from t rb u at)
+
+  -- at a register
+  at-register : (r : Reg) → StoresAt (Base r)
+  at-register r q a ok f address end writable off =
+      let s = x86_seen q in
+      let w = q.state.registers in
+      let wide : ℕ = store_width t in
+      let rr : ℕ = register_of X86_64 r in
+      makes-leads code trash (store_from t rb u (Base r)) s w (stored s.bytes a wide (w rb)) s.flags (w 5) (spilled choices) (spoils x86_scratch choices)
+      (λ bytes same. record {
+        registers = w;
+        end = stored bytes a wide (w rb);
+        makes_it = ap (option_and_then (makes []))
+            (store-made t (scene w s.flags bytes) rr (pos 0) rb a (w rb) (none-behind (w rr) (f.seen.words rr) ∙ address) (writable bytes same) refl);
+        registers_are = λ x free. refl;
+        bytes_are = λ y out. stored-same s.bytes bytes a wide (w rb) y (same y out);
+        slots_are = λ y on. slots-kept bytes (w 5) (spilled choices) a wide (w rb) y most off on;
+      })
+
+  -- where the address is computed
+  by-temporary : (at : Address) → IsSpare u at rb choices → StoresAt at
+  by-temporary at k q a ok f address end writable off =
+      let s = x86_seen q in
+      let w = q.state.registers in
+      let wide : ℕ = store_width t in
+      let p = place_of u at in
+      let h = placed u w at k.few ok f.seen.words k.free in
+      let x = instr.Store (store_row t) p.base p.disp rb in
+      let W : ℕ → ℕ = put w u h.word in
+      makes-leads code trash (store_from t rb u at) s w (stored s.bytes a wide (w rb)) s.flags (w 5) (spilled choices) (spoils x86_scratch choices)
+      (λ bytes same. record {
+        registers = W;
+        end = stored bytes a wide (w rb);
+        makes_it = makes-append p.code (x ∷ []) (scene w s.flags bytes) (scene W s.flags bytes)
+            (scene W s.flags (stored bytes a wide (w rb))) (h.makes_it s.flags bytes)
+            (ap (option_and_then (makes []))
+            (store-made t (scene W s.flags bytes) p.base p.disp rb a (w rb) (h.address ∙ address) (writable bytes same) (put-other w u h.word rb k.apart_from)));
+        registers_are = λ y free. put-other w u h.word y (unlike y free);
+        bytes_are = λ y out. stored-same s.bytes bytes a wide (w rb) y (same y out);
+        slots_are = λ y on. slots-kept bytes (w 5) (spilled choices) a wide (w rb) y most off on;
+      })
+    where
+      unlike : (y : ℕ) → spoils x86_scratch choices y ≡ false → y ≢ u
+      unlike y free e =
+          let z : spoils x86_scratch choices y ≡ true = ap (spoils x86_scratch choices) e ∙ ap (λ c. c || false) k.taken in
+          let g : true ≡ false = sym z ∙ free in cc
+
+  pub store-does-so : (m : Addressing) (x y : Operand) → (is_computed m ≡ true → IsSpare u (address_of m x y) rb choices) → StoresAt (address_of m x y)
+  store-does-so addressing.Register x y k = at-register (named x)
+  store-does-so addressing.Immediate x y k = by-temporary (address_of addressing.Immediate x y) (k refl)
+  store-does-so addressing.RegisterRegister x y k = by-temporary (address_of addressing.RegisterRegister x y) (k refl)
+  store-does-so addressing.RegisterImmediate x y k = by-temporary (address_of addressing.RegisterImmediate x y) (k refl)
+
+pub store-has-code : (t : StoreType) (from u : ℕ) (at : Address) → 0 < length (spellings spelling (store_from t from u at))
+store-has-code t from u at = let p = place_of u at in some-spelled p.code (instr.Store (store_row t) p.base p.disp from) []

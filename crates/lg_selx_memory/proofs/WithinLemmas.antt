@@ -1,6 +1,6 @@
 -- The items of loads, stores and arguments write no register that is outside of the conventions, and name no label but that of an operand.
-use Rattle.std.proofs.Common.{◌≡◌, ℕ, ◌<◌, ◌^◌, Bool, true, false, [], ◌∷◌, ◌++◌, refl}
-use Rattle.std.specs.Prelude.{nat_lt, slice_index, if◌then◌else◌, ◌==◌, ◌||◌}
+use Rattle.std.proofs.Common.{◌≡◌, ℕ, ◌<◌, ◌^◌, Bool, true, false, List, [], ◌∷◌, ◌++◌, refl}
+use Rattle.std.specs.Prelude.{nat_lt, slice_index, if◌then◌else◌, ◌==◌}
 use Rattle.lg_base.specs.Conventions.{argument_registers}
 use Rattle.lg_base.specs.HostNames.{host_address}
 use Rattle.lg_base.specs.Words.{signed_view, is_half}
@@ -19,17 +19,23 @@ use Rattle.lg_carry_x86.specs.Destinations.{WritesWithin}
 use Rattle.lg_carry_x86.specs.Numbers.{number_row}
 use Rattle.lg_sel_memory.specs.Accesses.{Address, Base, At, Sum, Index, address_of}
 use Rattle.lg_sel_memory.specs.Operands.{named}
+use Rattle.lg_selx_items.specs.declared.items.Item.{Item}
+use Rattle.lg_selx_items.specs.declared.items.Item.TheVariants.{One}
 use Rattle.lg_selx_items.specs.Items.{ones, NameLabels, StayWithin}
 use Rattle.lg_selx_items.proofs.ItemLemmas.{names-append, names-ones}
 use Rattle.lg_selx_items.proofs.WithinLemmas.{In, Within, portable, join, stay-append, stay-ones}
 use Rattle.lg_selx_values.specs.Scratch.{again}
-use Rattle.lg_selx_control.specs.Branches.{lowered}
-use Rattle.lg_selx_memory.specs.Accesses.{register, load_row, store_row, Place, at_register, at_spare, place_of, behind, indexes, load_spare, store_spare, load_into, store_from, load_code, store_code}
+use Rattle.lg_selx_values.specs.ValueItems.{restore, saved_items}
+use Rattle.lg_selx_memory.specs.Accesses.{register, load_row, store_row, Place, at_register, at_spare, place_of, behind, indexes, load_spare, load_into, store_from, load_code, store_code}
 use Rattle.lg_selx_memory.specs.ArgumentCode.{argument_load, argument_code}
 use Rattle.lg_selx_memory.specs.MemoryFits.{MemoryItemsStay, MemoryItemsName}
 use Rattle.lg_selx_memory.specs.PushCode.{into, stack_push, onto_stack, push_code}
 use Rattle.lg_selx_memory.specs.VariableArgumentCode.{next_code, next_argument_code}
 use Rattle.lg_selx_memory.proofs.FitLemmas.{argument-fine}
+use Rattle.lg_selx_memory.proofs.TemporaryLemmas.{AreOne, choices-are}
+use Rattle.lg_sel_values.specs.Parts.{first_taken}
+use Rattle.lg_temp.specs.declared.choice.Choice.{Choice}
+use Rattle.lg_temp.specs.declared.choice.Choice.TheVariants.{Free, Own, Spill}
 
 -- ---- registers
 number : (r v : ℕ) → In r → WritesWithin (number_row r v)
@@ -51,13 +57,12 @@ place-within t (Index a v) h = by (is_half v)
     by false = (number t v h, ((h, tt), tt))
 
 behind-within : (frame : ℕ) (p : Place) → Within (behind frame p)
-behind-within frame p = by p.spare (p.base == 4) (p.base == 5)
+behind-within frame p = by p.spare (p.base == 5)
   where
-    by : (a b c : Bool) → Within (if a then (if b then lowered frame else if c then again frame else []) else [])
-    by true true c = ((refl, tt), tt)
-    by true false true = ((refl, tt), tt)
-    by true false false = tt
-    by false b c = tt
+    by : (a c : Bool) → Within (if a then (if c then again frame else []) else [])
+    by true true = ((refl, tt), tt)
+    by true false = tt
+    by false c = tt
 
 around : (frame : ℕ) (p : Place) (i : Instr) → Within p.code → WritesWithin i → Within (p.code ++ i ∷ behind frame p)
 around frame p i h k = join p.code (i ∷ behind frame p) h (k, behind-within frame p)
@@ -69,22 +74,22 @@ load-spare-in d at h = by (indexes d at)
     by true = refl
     by false = h
 
-store-spare-in : (from : ℕ) (at : Address) → In (store_spare from at)
-store-spare-in from at = by (indexes 5 at || (from == 5))
-  where
-    by : (b : Bool) → In (if b then 4 else 5)
-    by true = refl
-    by false = refl
-
 loads : (frame : ℕ) (t : ValueType) (d : ℕ) (at : Address) → In d → Within (load_into frame t d at)
 loads frame t d at h =
     let p = place_of (load_spare d at) at in
     around frame p (instr.Load (load_row t) d p.base p.disp) (place-within (load_spare d at) at (load-spare-in d at h)) (h, tt)
 
-stores : (frame : ℕ) (t : StoreType) (from : ℕ) (at : Address) → Within (store_from frame t from at)
-stores frame t from at =
-    let p = place_of (store_spare from at) at in
-    around frame p (instr.Store (store_row t) p.base p.disp from) (place-within (store_spare from at) at (store-spare-in from at)) tt
+stores : (t : StoreType) (from u : ℕ) (at : Address) → In u → Within (store_from t from u at)
+stores t from u at h = let p = place_of u at in join p.code (instr.Store (store_row t) p.base p.disp from ∷ []) (place-within u at h) (tt, tt)
+
+-- with its choice
+stored : (code : ℕ → List Instr) → ((u : ℕ) → In u → Within (code u)) → (choices : List Choice) → AreOne choices
+    → StayWithin (saved_items choices (ones (code (first_taken choices))))
+stored code within [] h = stay-ones (code 0) (within 0 refl)
+stored code within (Free u ∷ []) h = stay-ones (code u) (within u h.1)
+stored code within (Own u ∷ []) h = absurd h
+stored code within (choice ∷ next ∷ choices) h = absurd h
+stored code within (Spill u k ∷ []) h = (tt, stay-append (ones (code u)) (One (restore u k) ∷ []) (stay-ones (code u) (within u h.0.1)) ((h.0.1, tt), tt))
 
 arguments : (frame : ℕ) (t : ValueType) (n : Node) → Within (argument_code frame t n)
 arguments frame t n = by (nat_lt (slot (operand_at n 1)) 16)
@@ -125,9 +130,10 @@ memory-items-stay = record {
   loads = λ frame t at n.
       stay-ones (load_code frame t at n)
       (loads frame t (register (operand_at n 0)) (address_of at (operand_at n 1) (operand_at n 2)) (portable (named (operand_at n 0))));
-  stores = λ frame t at n.
-      stay-ones (store_code frame t at n)
-      (stores frame t (register (operand_at n (stored_operand at))) (address_of at (operand_at n 0) (operand_at n 1)));
+  stores = λ t at n live staged choices are.
+      stored (store_code t at n)
+      (λ u h. stores t (register (operand_at n (stored_operand at))) u (address_of at (operand_at n 0) (operand_at n 1)) h)
+      choices (choices-are at n live staged choices are);
   arguments = λ frame t n. stay-ones (argument_code frame t n) (arguments frame t n);
   next_arguments = λ n.
       stay-ones (next_argument_code n)
@@ -137,6 +143,12 @@ memory-items-stay = record {
 
 -- ---- labels
 module _ (labels : ℕ) where
+  saved-names : (choices : List Choice) (body : List Item) → NameLabels labels body → NameLabels labels (saved_items choices body)
+  saved-names [] body h = h
+  saved-names (Free r ∷ choices) body h = saved-names choices body h
+  saved-names (Own r ∷ choices) body h = saved-names choices body h
+  saved-names (Spill r k ∷ choices) body h = (tt, names-append labels (saved_items choices body) (One (restore r k) ∷ []) (saved-names choices body h) (tt, tt))
+
   names : (rd : ℕ) (x : Operand) → ((l : Label) → x ≡ operand.Label l → l.0 < labels) → NameLabels labels (into rd x)
   names rd (operand.Reg r) h = (tt, tt)
   names rd (operand.Number v) h = (tt, tt)
@@ -164,7 +176,7 @@ module _ (labels : ℕ) where
 pub memory-items-name : MemoryItemsName
 memory-items-name = record {
   loads = λ labels frame t at n. names-ones labels (load_code frame t at n);
-  stores = λ labels frame t at n. names-ones labels (store_code frame t at n);
+  stores = λ labels t at n choices. saved-names labels choices (ones (store_code t at n (first_taken choices))) (names-ones labels (store_code t at n (first_taken choices)));
   arguments = λ labels frame t n. names-ones labels (argument_code frame t n);
   next_arguments = λ labels n. names-ones labels (next_argument_code n);
   pushes = passes;

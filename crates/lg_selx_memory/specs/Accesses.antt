@@ -1,6 +1,6 @@
 -- The code of loads and stores: the address is a number of 32 bits behind a register, or is computed into a spare register first; one row loads or
--- stores, and the spare register is made again where it held something that is needed. Moves and `lea` alone compute: no flag changes.
-use Rattle.std.specs.Prelude.{ℕ, ◌==◌, ◌||◌, Bool, true, false, if◌then◌else◌, ℤ, pos, List, [], ◌∷◌, ◌++◌}
+-- stores. A load's spare register is made again where it is FP, and a store's is a temporary. Moves and `lea` alone compute: no flag changes.
+use Rattle.std.specs.Prelude.{ℕ, ◌==◌, Bool, true, false, if◌then◌else◌, ℤ, pos, List, [], ◌∷◌, ◌++◌}
 use Rattle.lg_base.specs.Words.{signed_view, is_half}
 use Rattle.lg_base.specs.declared.target.Target.TheVariants.{X86_64}
 use Rattle.lg_op.specs.declared.node.Node.{Node}
@@ -9,6 +9,7 @@ use Rattle.lg_op.specs.declared.op.ValueType.TheVariants as value_type
 use Rattle.lg_op.specs.declared.op.StoreType.{StoreType}
 use Rattle.lg_op.specs.declared.op.StoreType.TheVariants as store_type
 use Rattle.lg_op.specs.declared.op.Addressing.{Addressing}
+use Rattle.lg_op.specs.declared.op.Addressing.TheVariants as addressing
 use Rattle.lg_op.specs.declared.operand.Operand.{Operand}
 use Rattle.lg_x86.specs.declared.instruction.Instr.{Instr}
 use Rattle.lg_x86.specs.declared.instruction.Instr.TheVariants as instr
@@ -17,14 +18,19 @@ use Rattle.lg_x86.specs.declared.instruction.LoadOp.TheVariants.{Ld64, Ld32u, Ld
 use Rattle.lg_x86.specs.declared.instruction.StoreOp.{StoreOp}
 use Rattle.lg_x86.specs.declared.instruction.StoreOp.TheVariants.{St64, St32, St16, St8}
 use Rattle.lg_temp.specs.Abis.{register_of}
+use Rattle.lg_temp.specs.declared.choice.Choice.{Choice}
+use Rattle.lg_temp.specs.declared.choice.Need.{Need}
+use Rattle.lg_temp.specs.declared.choice.Need.TheVariants.{Any}
 use Rattle.lg_meaning.specs.Steps.{operand_at, stored_operand}
 use Rattle.lg_sel_memory.specs.Accesses.{Address, Base, At, Sum, Index, address_of}
 use Rattle.lg_sel_memory.specs.Loads.{LoadCode}
 use Rattle.lg_sel_memory.specs.Operands.{named}
-use Rattle.lg_sel_memory.specs.Stores.{StoreCode}
+use Rattle.lg_sel_values.specs.Parts.{first_taken}
 use Rattle.lg_carry_x86.specs.Numbers.{number_row}
+use Rattle.lg_selx_items.specs.declared.items.Item.{Item}
+use Rattle.lg_selx_items.specs.Items.{ones}
 use Rattle.lg_selx_values.specs.Scratch.{again}
-use Rattle.lg_selx_control.specs.Branches.{lowered}
+use Rattle.lg_selx_values.specs.ValueItems.{saved_items}
 
 -- the register that an operand names
 abbrev pub register : Operand → ℕ
@@ -70,9 +76,9 @@ place_of t (At v) = at_spare t (number_row t v ∷ [])
 place_of t (Sum a b) = at_spare t (instr.Lea2 t (register_of X86_64 a) (register_of X86_64 b) ∷ [])
 place_of t (Index a v) = indexed t (register_of X86_64 a) v
 
--- a spare register is made again: the stack pointer, rsp, 4, from FP, and FP, rbp, 5, from the stack pointer. Any other held nothing that is needed
+-- FP, rbp, 5, is made again from the stack pointer, where it is the spare register. Any other held nothing that is needed
 abbrev pub remade : ℕ → ℕ → List Instr
-remade frame t = if t == 4 then lowered frame else if t == 5 then again frame else []
+remade frame t = if t == 5 then again frame else []
 
 abbrev pub behind : ℕ → Place → List Instr
 behind frame p = if p.spare then remade frame p.base else []
@@ -86,32 +92,34 @@ indexes r at = false
 abbrev pub load_spare : ℕ → Address → ℕ
 load_spare d at = if indexes d at then 5 else d
 
--- that of a store is FP, and the stack pointer where FP is stored or a number is added to it
-abbrev pub store_spare : ℕ → Address → ℕ
-store_spare from at = if indexes 5 at || (from == 5) then 4 else 5
-
 abbrev pub loading : ℕ → ValueType → ℕ → Place → List Instr
 loading frame t d p = p.code ++ instr.Load (load_row t) d p.base p.disp ∷ behind frame p
 
-abbrev pub storing : ℕ → StoreType → ℕ → Place → List Instr
-storing frame t from p = p.code ++ instr.Store (store_row t) p.base p.disp from ∷ behind frame p
+abbrev pub storing : StoreType → ℕ → Place → List Instr
+storing t from p = p.code ++ instr.Store (store_row t) p.base p.disp from ∷ []
 
--- the code of a load and of a store, in a frame of so many bytes
+-- the code of a load, in a frame of so many bytes, and that of a store, with a temporary as the spare register
 abbrev pub load_into : ℕ → ValueType → ℕ → Address → List Instr
 load_into frame t d at = loading frame t d (place_of (load_spare d at) at)
 
-abbrev pub store_from : ℕ → StoreType → ℕ → Address → List Instr
-store_from frame t from at = storing frame t from (place_of (store_spare from at) at)
+abbrev pub store_from : StoreType → ℕ → ℕ → Address → List Instr
+store_from t from u at = storing t from (place_of u at)
 
 abbrev pub x86_load : LoadCode Instr
 x86_load frame t d at = load_into frame t (register_of X86_64 d) at
 
-abbrev pub x86_store : StoreCode Instr
-x86_store frame t at b = store_from frame t (register_of X86_64 b) at
+-- a store needs a temporary, but at an address that is a register
+abbrev pub store_needs : Addressing → List Need
+store_needs addressing.Register = []
+store_needs at = Any ∷ []
 
 -- that of a node
 abbrev pub load_code : ℕ → ValueType → Addressing → Node → List Instr
 load_code frame t at n = load_into frame t (register (operand_at n 0)) (address_of at (operand_at n 1) (operand_at n 2))
 
-abbrev pub store_code : ℕ → StoreType → Addressing → Node → List Instr
-store_code frame t at n = store_from frame t (register (operand_at n (stored_operand at))) (address_of at (operand_at n 0) (operand_at n 1))
+abbrev pub store_code : StoreType → Addressing → Node → ℕ → List Instr
+store_code t at n u = store_from t (register (operand_at n (stored_operand at))) u (address_of at (operand_at n 0) (operand_at n 1))
+
+-- the items of a store, with the register that is saved
+abbrev pub store_items : StoreType → Addressing → Node → List Choice → List Item
+store_items t at n choices = saved_items choices (ones (store_code t at n (first_taken choices)))

@@ -1,19 +1,21 @@
 // Loads and stores.
 
-ghost use Rattle.std.specs.Prelude.{◌≡◌, ◌+◌, ◌<◌, ◌≤◌, [], ◌++◌};
+ghost use Rattle.std.specs.Prelude.{◌≡◌, ◌+◌, ◌<◌, ◌≤◌, [], ◌++◌, length};
 ghost use Rattle.lg_selx_items.specs.Items.{ones, words_in};
 ghost use Rattle.lg_meaning.specs.Steps.{operand_at, stored_operand};
 ghost use Rattle.lg_sel_memory.specs.Accesses.{address_of};
+ghost use Rattle.lg_sel_values.specs.Parts.{HaveSlots};
 ghost use Rattle.lg_selx_memory.specs.Accesses.{load_row, store_row, at_register, at_spare, indexed, place_of, remade};
-ghost use Rattle.lg_selx_memory.specs.Accesses.{indexes, load_spare, store_spare, load_code, store_code};
+ghost use Rattle.lg_selx_memory.specs.Accesses.{indexes, load_spare, load_code, store_code, store_items};
 
 use crate::operands::register;
 use lg_base::word::is_half;
 use lg_op::{Addressing, Node, Operand, StoreType, ValueType};
 use lg_sel_items::Items;
 use lg_sel_memory::operands::{number, operand};
-use lg_selx_control::{pointer_again, stack_again};
-use lg_selx_items::{FRAME_POINTER, Item, STACK_POINTER, half_number, put_number};
+use lg_selx_control::pointer_again;
+use lg_selx_items::{FRAME_POINTER, Item, half_number, put_number, restore, save};
+use lg_temp::choice::{Choice, Choices};
 use lg_x86::{Instr, LoadOp, StoreOp};
 
 // Where an access is: a register and a number behind it, and whether the register is a spare one.
@@ -84,14 +86,15 @@ fn sum(reg: u8, base: u8, index: u8) -> Instr
     Instr::Lea2 { reg, base, index }
 }
 
-// The sum of a register and a number, by a spare register: at most 2 instructions.
+// The sum of a register and a number, by a spare register: at most 2 instructions, for which there is room.
+#[tactic(auto, using(lg_selx_values::proofs::EmissionLemmas::one_words, lg_selx_values::proofs::EmissionLemmas::ones_after))]
 fn put_indexed(spare: u8, register: u8, value: u64, items: &mut Items<Item>) -> Base
-    requires empty { items.old ≡ [] }
-    ensures code { items.new ≡ ones (indexed spare register value).code }
+    requires room { words_in items.old ≤ 8 }
+    ensures code { items.new ≡ items.old ++ ones (indexed spare register value).code }
     ensures register { result.register ≡ (indexed spare register value).base }
     ensures disp { result.disp ≡ (indexed spare register value).disp }
     ensures spare { result.spare ≡ (indexed spare register value).spare }
-    ensures few { words_in items.new ≤ 2 }
+    ensures few { words_in items.new ≤ words_in items.old + 2 }
 {
     if is_half(value) {
         return at_register(register, half_number(value));
@@ -101,7 +104,8 @@ fn put_indexed(spare: u8, register: u8, value: u64, items: &mut Items<Item>) -> 
     at_spare(spare)
 }
 
-// The address that operands give, by a spare register: what computes it is appended, at most 2 instructions.
+// The address that operands give, by a spare register: what computes it is appended, at most 2 instructions, for which there is room.
+#[tactic(auto, using(lg_selx_values::proofs::EmissionLemmas::one_words))]
 fn put_address(
     spare: u8,
     at: Addressing,
@@ -109,12 +113,12 @@ fn put_address(
     second: Operand,
     items: &mut Items<Item>,
 ) -> Base
-    requires empty { items.old ≡ [] }
-    ensures code { items.new ≡ ones (place_of spare (address_of at first second)).code }
+    requires room { words_in items.old ≤ 8 }
+    ensures code { items.new ≡ items.old ++ ones (place_of spare (address_of at first second)).code }
     ensures register { result.register ≡ (place_of spare (address_of at first second)).base }
     ensures disp { result.disp ≡ (place_of spare (address_of at first second)).disp }
     ensures spare { result.spare ≡ (place_of spare (address_of at first second)).spare }
-    ensures few { words_in items.new ≤ 2 }
+    ensures few { words_in items.new ≤ words_in items.old + 2 }
 {
     match at {
         Addressing::Register => at_register(register(first), 0),
@@ -157,18 +161,7 @@ fn load_spare(reg: u8, at: Addressing, first: Operand, second: Operand) -> u8
     }
 }
 
-// The spare register of a store.
-fn store_spare(from: u8, at: Addressing, first: Operand, second: Operand) -> u8
-    ensures { result ≡ store_spare from (address_of at first second) }
-{
-    if indexes(FRAME_POINTER, at, first, second) || from == FRAME_POINTER {
-        STACK_POINTER
-    } else {
-        FRAME_POINTER
-    }
-}
-
-// Makes a spare register again.
+// Makes FP again, where it is the spare register.
 #[tactic(auto, using(lg_selx_items::proofs::ItemLemmas::words_append))]
 fn put_remade(frame: u32, spare: u8, items: &mut Items<Item>)
     requires some { 272 ≤ frame }
@@ -176,9 +169,7 @@ fn put_remade(frame: u32, spare: u8, items: &mut Items<Item>)
     requires few { words_in items.old ≤ 3 }
     ensures { items.new ≡ items.old ++ ones (remade frame spare) }
 {
-    if spare == STACK_POINTER {
-        items.one(stack_again(frame));
-    } else if spare == FRAME_POINTER {
+    if spare == FRAME_POINTER {
         items.one(pointer_again(frame));
     }
 }
@@ -235,20 +226,38 @@ fn stored(at: Addressing, node: &Node) -> Operand
     }
 }
 
-/// Appends the code of a store to no items: 1 to 4 instructions. The operands are those of the store's row in the instruction table, and `frame`
-/// is the size of the frame of the node's function in bytes, from 272 to 0x3FFF_FFFF.
-#[tactic(auto, using(lg_selx_items::proofs::ItemLemmas::words_append))]
-pub fn put_store(node: &Node, frame: u32, t: StoreType, at: Addressing, items: &mut Items<Item>)
-    requires empty { items.old ≡ [] }
-    requires some { 272 ≤ frame }
-    requires small { frame < 0x4000_0000 }
-    ensures { items.new ≡ ones (store_code frame t at node.now) }
+// Appends the code of a store, where `u` is a temporary: at most 3 instructions, for which there is room.
+#[tactic(auto, using(lg_selx_values::proofs::EmissionLemmas::one_words, lg_selx_values::proofs::EmissionLemmas::ones_twice))]
+fn store_code(t: StoreType, at: Addressing, node: &Node, u: u8, items: &mut Items<Item>)
+    requires room { words_in items.old ≤ 8 }
+    ensures code { items.new ≡ items.old ++ ones (store_code t at node.now u) }
+    ensures few { words_in items.new ≤ words_in items.old + 3 }
 {
-    let from = register(stored(at, node));
-    let spare = store_spare(from, at, operand(node, 0), operand(node, 1));
-    let base = put_address(spare, at, operand(node, 0), operand(node, 1), items);
-    items.one(store(t, from, base));
-    if base.spare {
-        put_remade(frame, base.register, items);
+    let base = put_address(u, at, operand(node, 0), operand(node, 1), items);
+    items.one(store(t, register(stored(at, node)), base));
+}
+
+/// Appends the code of a store to no items: 1 to 5 instructions. The operands are those of the store's row in the instruction table. There is a
+/// choice at most, and one where the address is no register.
+pub fn put_store(
+    node: &Node,
+    choices: &Choices,
+    t: StoreType,
+    at: Addressing,
+    items: &mut Items<Item>,
+)
+    requires few { length choices.now ≤ 1 }
+    requires slots { HaveSlots choices.now }
+    requires empty { items.old ≡ [] }
+    ensures { items.new ≡ store_items t at node.now choices.now }
+{
+    match choices.as_slice() {
+        [] => store_code(t, at, node, 0, items),
+        [Choice::Free(u) | Choice::Own(u), ..] => store_code(t, at, node, *u, items),
+        [Choice::Spill { reg, slot }, ..] => {
+            items.one(save(*reg, *slot));
+            store_code(t, at, node, *reg, items);
+            items.one(restore(*reg, *slot));
+        }
     }
 }
