@@ -33,10 +33,10 @@ use lg_cpu::answer::CpuStep;
 use lg_cpu::cpu::Cpu;
 use lg_io::sink::{Sink, SinkFault};
 use lg_mean::portable::Portable;
-use lg_prof::{LineTable, Tally};
 use lg_prof::code::run_counted;
 use lg_prof::laws::tables_have_the_lines;
 use lg_prof::meaning::count_meaning;
+use lg_prof::{LineTable, Tally};
 use std::alloc::Global;
 
 /// What ran, and the numbers of the lines, where they are told.
