@@ -1,5 +1,6 @@
-// Work that is timed from outside, by two words and a third that says how often; each prints a number that it comes to. `code N TIMES` reads, checks and assembles
-// a text of N instructions, at most 1,000,000, for RV64; `far N TIMES` does so with a text in which a branch and calls lead over N instructions; `straight N TIMES`,
+// Work that is timed from outside, by two words and a third that says how often; each prints a number that it comes to. `code N TIMES TARGET` reads, checks and
+// assembles a text of N instructions, at most 1,000,000, for `rv64`, `aarch64` or `x86_64`, and without a word for RV64; `far N TIMES TARGET` does so with a text in
+// which a branch and calls lead over N instructions, and `assemble N TIMES TARGET` with that of `code`, which it reads once; `straight N TIMES`,
 // `branches N TIMES` and `jumps N TIMES` find the live registers of a list of nodes of N lines; `moves N TIMES` and `chain N TIMES` rewrite a list of N moves or jumps;
 // `known N TIMES` folds a list of N lines, and `dead N TIMES` drops the N definitions of one;
 // `emit N` emits 64 MiB in pieces of N bytes; `list N` lists N nodes of 1,024 bytes of code each, at most 65,536, into a sink that counts, and `back N TIMES` reads that
@@ -32,13 +33,14 @@ use processor::run;
 use rewrites::{Pass, rewrite_list};
 use std::alloc::Global;
 use std::{env, io, str};
-use texts::{Shape, read_and_assemble};
+use texts::{Shape, assemble_nodes, read_and_assemble};
 
 // What the work of a word comes to; 0 where there is no such work.
-fn work(alloc: Global, word: &str, number: u32, times: u32) -> Result<u64, Stop> {
+fn work(alloc: Global, word: &str, number: u32, times: u32, target: Target) -> Result<u64, Stop> {
     match word {
-        "code" => read_and_assemble(alloc, Shape::Straight, number, times),
-        "far" => read_and_assemble(alloc, Shape::Far, number, times),
+        "code" => read_and_assemble(alloc, Shape::Straight, number, times, target),
+        "far" => read_and_assemble(alloc, Shape::Far, number, times, target),
+        "assemble" => assemble_nodes(alloc, number, times, target),
         "straight" => find(alloc, Flow::Straight, number, times),
         "branches" => find(alloc, Flow::Branches, number, times),
         "jumps" => find(alloc, Flow::Jumps, number, times),
@@ -62,17 +64,24 @@ fn work(alloc: Global, word: &str, number: u32, times: u32) -> Result<u64, Stop>
 }
 
 // Does the work of a word, and prints what it comes to.
-fn print_work(rt: &HostRuntime, word: &str, number: u32, times: u32) -> io::Result<()> {
-    match work(rt.alloc(), word, number, times) {
+fn print_work(
+    rt: &HostRuntime,
+    word: &str,
+    number: u32,
+    times: u32,
+    target: Target,
+) -> io::Result<()> {
+    match work(rt.alloc(), word, number, times, target) {
         Ok(count) => println!(rt; "{word} {number}: {count}"),
         Err(stop) => println!(rt; "{word} {number}: {stop}"),
     }
 }
 
 // A little of each: its word, and how much of it.
-const LITTLE: [(&str, u32); 22] = [
+const LITTLE: [(&str, u32); 23] = [
     ("code", 64),
     ("far", 64),
+    ("assemble", 64),
     ("straight", 64),
     ("branches", 64),
     ("jumps", 64),
@@ -103,15 +112,28 @@ fn number_in(word: Option<String>) -> u32 {
     }
 }
 
+// The target that a word names, and else RV64.
+fn target_in(word: Option<String>) -> Target {
+    match word {
+        Some(word) => match word.as_str() {
+            "x86_64" => Target::X86_64,
+            "aarch64" => Target::Aarch64,
+            _ => Target::Riscv64,
+        },
+        None => Target::Riscv64,
+    }
+}
+
 fn main(rt: HostRuntime) -> io::Result<()> {
     let mut words = env::args(&rt)?;
     let _ = words.next();
     if let (Some(word), Some(number)) = (words.next(), words.next()) {
         let times = number_in(words.next());
-        return print_work(&rt, word.as_str(), number_in(Some(number)), times);
+        let target = target_in(words.next());
+        return print_work(&rt, word.as_str(), number_in(Some(number)), times, target);
     }
     for (word, number) in LITTLE {
-        print_work(&rt, word, number, 1)?;
+        print_work(&rt, word, number, 1, Target::Riscv64)?;
     }
     Ok(())
 }

@@ -75,19 +75,20 @@ fn short_text(alloc: Global, shape: Shape, instructions: u32) -> Result<Vec<u8>,
     }
 }
 
-// How many bytes of code a text becomes on RV64.
-fn code_bytes(alloc: Global, text: &[u8]) -> Result<u64, Stop>
+// How many bytes of code a text becomes on a target.
+fn code_bytes(alloc: Global, text: &[u8], target: Target) -> Result<u64, Stop>
     requires { length text.now ≤ 16777216 }
 {
     let unit = parse(alloc, text)?;
-    unit_bytes(alloc, &unit)
+    unit_bytes(alloc, &unit, target)
 }
 
-fn unit_bytes(alloc: Global, unit: &Unit) -> Result<u64, Stop>
+// How many bytes of code the nodes of a text become on a target.
+fn unit_bytes(alloc: Global, unit: &Unit, target: Target) -> Result<u64, Stop>
     requires { IsWhole unit.now }
 {
     let shape = check(alloc, unit)?;
-    let code = assemble(alloc, unit, &shape, Target::Riscv64, 67_108_864)?;
+    let code = assemble(alloc, unit, &shape, target, 67_108_864)?;
     Ok(u64::from(code.bytes().len()))
 }
 
@@ -97,11 +98,28 @@ pub fn read_and_assemble(
     shape: Shape,
     instructions: u32,
     times: u32,
+    target: Target,
 ) -> Result<u64, Stop> {
     let text = short_text(alloc, shape, instructions)?;
     let mut bytes = 0;
     for _ in 0..times {
-        bytes = code_bytes(alloc, &text)?;
+        bytes = code_bytes(alloc, &text, target)?;
+    }
+    Ok(bytes)
+}
+
+/// Reads a text of so many additions, at most 1,000,000, once, and checks and assembles its nodes so many times; tells how many bytes the code has.
+pub fn assemble_nodes(
+    alloc: Global,
+    instructions: u32,
+    times: u32,
+    target: Target,
+) -> Result<u64, Stop> {
+    let text = short_text(alloc, Shape::Straight, instructions)?;
+    let unit = parse(alloc, &text)?;
+    let mut bytes = 0;
+    for _ in 0..times {
+        bytes = unit_bytes(alloc, &unit, target)?;
     }
     Ok(bytes)
 }
