@@ -1,1 +1,4 @@
+pub mod Commands
+pub mod Defaults
 pub mod Numbers
+pub mod Ranges

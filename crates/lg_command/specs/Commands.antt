@@ -1,13 +1,14 @@
 -- What the words of the command ask for.
-use Rattle.std.specs.Prelude.{◌≡◌, ◌≢◌, ◌<◌, ◌≤◌, ℕ, ◌^◌, min, max, Bool, true, false, ◌&&◌, nat_lt, List, [], ◌∷◌, length, Option, Some, None, codes, unwrap_or, if◌then◌else◌}
+use Rattle.std.specs.Prelude.{◌≡◌, ◌<◌, ◌≤◌, ℕ, ◌^◌, Bool, true, false, ◌&&◌, nat_lt, List, [], ◌∷◌, length, Option, Some, None, codes, unwrap_or, option_map, option_and_then, if◌then◌else◌}
 use Rattle.std.specs.Char.{digit_value}
 use Rattle.std.specs.Str.{bytes_eq}
 use Rattle.std.specs.Str.Parse.{digits_value, without_leading_plus}
-use Rattle.clap.specs.Words.{App, Row, Text, takes, matches_of, first_of, one_of, all_of, fault_of}
+use Rattle.clap.specs.Walk.{is_empty}
+use Rattle.clap.specs.Words.{Row, Text, matches_of, first_of, one_of, all_of, fault_of}
 use Rattle.lg_base.specs.Arguments.{texts_of}
 use Rattle.lg_base.specs.declared.target.Target.{Target}
 use Rattle.lg_base.specs.declared.target.Target.TheVariants as target
-use Rattle.lg_command.specs.Rules.{IsApp}
+use Rattle.lg_command.specs.Rules.{app}
 use Rattle.lg_command.specs.declared.command.Command.{Command as Held}
 use Rattle.lg_command.specs.declared.command.Mode.{Mode}
 use Rattle.lg_command.specs.declared.command.Mode.TheVariants as mode
@@ -24,15 +25,14 @@ pub record Command : Type 0 where
   pub file : Text
   pub arguments : List Text
 
-abbrev pub mode_of : Option Text → Mode
-mode_of None = mode.Run
-mode_of (Some t) = if bytes_eq t (codes "list") then mode.List
-    else (if bytes_eq t (codes "mean") then mode.Mean else (if bytes_eq t (codes "gen") then mode.Gen else (if bytes_eq t (codes "back") then mode.Back
-    else (if bytes_eq t (codes "profile") then mode.Profile else mode.Run))))
+abbrev pub mode_of : Text → Option Mode
+mode_of t = if bytes_eq t (codes "run") then Some mode.Run else (if bytes_eq t (codes "list") then Some mode.List
+    else (if bytes_eq t (codes "mean") then Some mode.Mean else (if bytes_eq t (codes "gen") then Some mode.Gen
+    else (if bytes_eq t (codes "back") then Some mode.Back else (if bytes_eq t (codes "profile") then Some mode.Profile else None)))))
 
-abbrev pub target_of : Option Text → Target
-target_of None = target.X86_64
-target_of (Some t) = if bytes_eq t (codes "riscv64") then target.Riscv64 else (if bytes_eq t (codes "aarch64") then target.Aarch64 else target.X86_64)
+abbrev pub target_of : Text → Option Target
+target_of t = if bytes_eq t (codes "x86_64") then Some target.X86_64 else (if bytes_eq t (codes "aarch64") then Some target.Aarch64
+    else (if bytes_eq t (codes "riscv64") then Some target.Riscv64 else None))
 
 abbrev pub are_digits : Text → Bool
 are_digits [] = true
@@ -42,14 +42,10 @@ are_digits (c ∷ cs) = nat_lt (digit_value c) 10 && are_digits cs
 abbrev pub is_number : Text → Bool
 is_number t = nat_lt 0 (length t) && are_digits t && nat_lt (digits_value 10 t) (2 ^ 64)
 
--- the number that a text writes, behind a plus or without one, and another number where it writes none
-abbrev pub number_of : ℕ → Option Text → ℕ
-number_of other None = other
-number_of other (Some t) = let digits = without_leading_plus t in if is_number digits then digits_value 10 digits else other
-
--- a number between two others
-abbrev pub between : ℕ → ℕ → ℕ → ℕ
-between least most n = min (max n least) most
+-- the number that a text writes, behind a plus or without one, and 0 where it writes none
+abbrev pub number_of : Option Text → ℕ
+number_of None = 0
+number_of (Some t) = let digits = without_leading_plus t in if is_number digits then digits_value 10 digits else 0
 
 -- a flag's value says that it was given
 abbrev pub is_told : Option Text → Bool
@@ -59,46 +55,52 @@ is_told (Some t) = bytes_eq t (codes "true")
 abbrev pub file_of : List Row → Text
 file_of rows = unwrap_or (first_of (codes "FILE") rows) (codes "-")
 
--- the command that the values of the arguments give
-abbrev pub command_of : List Row → Command
-command_of rows = record {
-  mode = mode_of (first_of (codes "mode") rows);
-  target = target_of (first_of (codes "target") rows);
-  steps = between 1 1000000000000 (number_of 1000000000 (one_of (codes "steps") rows));
-  size = between 256 67108864 (number_of 1048576 (one_of (codes "code") rows));
-  seed = number_of 1 (one_of (codes "seed") rows);
+-- the command of a mode and a target that the values of the other arguments give
+abbrev pub command_with : List Row → Mode → Target → Command
+command_with rows mode target = record {
+  mode = mode;
+  target = target;
+  steps = number_of (one_of (codes "steps") rows);
+  size = number_of (one_of (codes "code") rows);
+  seed = number_of (one_of (codes "seed") rows);
   stats = is_told (first_of (codes "stats") rows);
   file = file_of rows;
   arguments = file_of rows ∷ unwrap_or (all_of (codes "ARG") rows) [];
 }
 
--- clap reads these values in the words, and no fault
+-- the command that the values of the arguments give, where the mode and the target are among those that there are
+abbrev pub command_of : List Row → Option Command
+command_of rows =
+    option_and_then (λ m. option_map (command_with rows m) (option_and_then target_of (first_of (codes "target") rows)))
+    (option_and_then mode_of (first_of (codes "mode") rows))
+
+-- the command that words ask for, where clap finds no fault in them
+unfoldable pub command_in : List Text → Option Command
+command_in words = if is_empty (fault_of app words) then command_of (matches_of app words) else None
+
+-- the words ask for this command
+abbrev pub IsCommand : List Text → Command → Type 0
+IsCommand words command = command_in words ≡ Some command
+
+-- they ask for none: clap finds a fault in them, or the mode or the target is none of those that there are
+abbrev pub AreNoCommand : List Text → Type 0
+AreNoCommand words = command_in words ≡ None
+
+-- they ask for some command
+abbrev pub Takes : List Text → Type 0
+Takes words = (c : Command) × IsCommand words c
+
+-- clap reads these values in the words, and finds no fault in them
 pub record AreRows (words : List Text) (rows : List Row) : Type 0 where
-  pub app : App
-  pub is : IsApp app
   pub faultless : fault_of app words ≡ []
   pub are : rows ≡ matches_of app words
 
--- the words ask for this command
-pub record IsCommand (words : List Text) (command : Command) : Type 0 where
-  pub rows : List Row
-  pub read : AreRows words rows
-  pub is : command ≡ command_of rows
-
--- clap does not take the words: it finds a fault in them, so that they are not the words of a command of the same app
-pub record AreNoCommand (words : List Text) : Type 0 where
-  pub app : App
-  pub is : IsApp app
-  pub refused : takes app words ≡ false
-  pub faulty : fault_of app words ≢ []
-
--- clap takes the words
-abbrev pub Takes : List Text → Type 0
-Takes words = (app : App) → IsApp app → takes app words ≡ true
-
--- clap finds a fault in the words
-abbrev pub HasFault : List Text → Type 0
-HasFault words = (app : App) → IsApp app → fault_of app words ≢ []
+-- the numbers are in the ranges of their arguments
+pub record AreInRange (rows : List Row) : Type 0 where
+  pub steps_least : 1 ≤ number_of (one_of (codes "steps") rows)
+  pub steps_most : number_of (one_of (codes "steps") rows) ≤ 1000000000000
+  pub size_least : 256 ≤ number_of (one_of (codes "code") rows)
+  pub size_most : number_of (one_of (codes "code") rows) ≤ 67108864
 
 -- a command as it is held
 abbrev pub shown : Held → Command
@@ -115,6 +117,7 @@ shown c = record {
 
 -- its numbers are in their ranges, and its arguments begin with the file
 pub record IsInRange (c : Held) : Type 0 where
+  pub steps_least : 1 ≤ c.steps
   pub steps_most : c.steps ≤ 1000000000000
   pub size_least : 256 ≤ c.size
   pub size_most : c.size ≤ 67108864

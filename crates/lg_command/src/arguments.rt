@@ -2,35 +2,29 @@
 
 ghost use Rattle.std.specs.Prelude.{◌≡◌, IfOk, false};
 ghost use Rattle.clap.specs.Words.{app_of, rule_of};
-ghost use Rattle.lg_command.specs.Rules.{IsApp, IsModeRule, IsTargetRule, steps_rule, code_rule, seed_rule, stats_rule, file_rule, rest_rule};
+ghost use Rattle.lg_command.specs.Rules.{app, mode_rule, target_rule, steps_rule, code_rule, seed_rule, stats_rule, file_rule, rest_rule};
 
 use clap::{Arg, ArgAction, Command, value_parser};
 use std::alloc::{AllocError, Global};
 
-static MODES: [&str; 6] = ["run", "list", "mean", "gen", "back", "profile"];
-
-static TARGETS: [&str; 3] = ["x86_64", "aarch64", "riscv64"];
-
 fn mode_argument<'a>(alloc: Global) -> Arg<'a>
-    ensures rule { IsModeRule (rule_of result) }
+    ensures rule { rule_of result ≡ mode_rule }
     ensures local { result.global ≡ false }
 {
     Arg::new(alloc, "mode")
         .long("mode")
         .action(ArgAction::Set)
         .default_value("run")
-        .value_parser(MODES.as_slice())
 }
 
 fn target_argument<'a>(alloc: Global) -> Arg<'a>
-    ensures rule { IsTargetRule (rule_of result) }
+    ensures rule { rule_of result ≡ target_rule }
     ensures local { result.global ≡ false }
 {
     Arg::new(alloc, "target")
         .long("target")
         .action(ArgAction::Set)
         .default_value("x86_64")
-        .value_parser(TARGETS.as_slice())
 }
 
 fn steps_argument<'a>(alloc: Global) -> Arg<'a>
@@ -95,7 +89,7 @@ fn rest_argument<'a>(alloc: Global) -> Arg<'a>
 
 /// The command with its arguments.
 pub fn command<'a>(alloc: Global) -> Result<Command<'a>, AllocError>
-    ensures { IfOk result (λ c. IsApp (app_of c)) }
+    ensures { IfOk result (λ c. app_of c ≡ app) }
 {
     Command::new(alloc, "lightning")
         .disable_help_flag(true)

@@ -1,9 +1,9 @@
 // What each argument gives.
 
-ghost use Rattle.std.specs.Prelude.{◌≡◌, ◌∷◌, [], ◌++◌, ◌≤◌, IfOk, OnOk, map, option_map, unwrap_or, codes};
+ghost use Rattle.std.specs.Prelude.{◌≡◌, ◌∷◌, [], ◌++◌, IfOk, OnOk, map, option_map, option_and_then, unwrap_or, codes};
 ghost use Rattle.clap.specs.Words.{found_of, rows_of, first_of, one_of, all_of};
 ghost use Rattle.lg_base.specs.Arguments.{texts_of};
-ghost use Rattle.lg_command.specs.Commands.{mode_of, target_of, number_of, between, is_told, file_of};
+ghost use Rattle.lg_command.specs.Commands.{AreInRange, mode_of, target_of, number_of, is_told, file_of};
 
 use crate::command::Mode;
 use clap::ArgMatches;
@@ -12,73 +12,82 @@ use lg_base::target::Target;
 use std::alloc::Global;
 
 // The mode of a word.
-fn mode_named(word: Option<&str>) -> Mode
-    ensures { result ≡ mode_of (option_map (λ s. s.now) word.entry) }
+fn mode_named(word: &str) -> Option<Mode>
+    ensures { result ≡ mode_of word.now }
 {
     match word {
-        Some("list") => Mode::List,
-        Some("mean") => Mode::Mean,
-        Some("gen") => Mode::Gen,
-        Some("back") => Mode::Back,
-        Some("profile") => Mode::Profile,
-        _ => Mode::Run,
+        "run" => Some(Mode::Run),
+        "list" => Some(Mode::List),
+        "mean" => Some(Mode::Mean),
+        "gen" => Some(Mode::Gen),
+        "back" => Some(Mode::Back),
+        "profile" => Some(Mode::Profile),
+        _ => None,
     }
 }
 
-/// What is done.
-pub fn mode(matches: &ArgMatches<'_>) -> Mode
-    ensures { result ≡ mode_of (first_of (codes "mode") (rows_of (found_of matches.now))) }
+/// What is done, where it is one of the modes.
+pub fn mode(matches: &ArgMatches<'_>) -> Option<Mode>
+    ensures { result ≡ option_and_then mode_of (first_of (codes "mode") (rows_of (found_of matches.now))) }
 {
-    mode_named(matches.get_str("mode"))
+    match matches.get_str("mode") {
+        Some(word) => mode_named(word),
+        None => None,
+    }
 }
 
 // The target of a word.
-fn target_named(word: Option<&str>) -> Target
-    ensures { result ≡ target_of (option_map (λ s. s.now) word.entry) }
+fn target_named(word: &str) -> Option<Target>
+    ensures { result ≡ target_of word.now }
 {
     match word {
-        Some("riscv64") => Target::Riscv64,
-        Some("aarch64") => Target::Aarch64,
-        _ => Target::X86_64,
+        "x86_64" => Some(Target::X86_64),
+        "aarch64" => Some(Target::Aarch64),
+        "riscv64" => Some(Target::Riscv64),
+        _ => None,
     }
 }
 
-/// The processor that code is made for.
-pub fn target(matches: &ArgMatches<'_>) -> Target
-    ensures { result ≡ target_of (first_of (codes "target") (rows_of (found_of matches.now))) }
+/// The processor that code is made for, where it is one of the targets.
+pub fn target(matches: &ArgMatches<'_>) -> Option<Target>
+    ensures { result ≡ option_and_then target_of (first_of (codes "target") (rows_of (found_of matches.now))) }
 {
-    target_named(matches.get_str("target"))
+    match matches.get_str("target") {
+        Some(word) => target_named(word),
+        None => None,
+    }
 }
 
-// The number of an argument, and another where it has none.
-fn number(matches: &ArgMatches<'_>, id: &str, other: u64) -> u64
-    ensures { result ≡ number_of other (one_of id.now (rows_of (found_of matches.now))) }
+// The number of an argument, and 0 where it has none.
+fn number(matches: &ArgMatches<'_>, id: &str) -> u64
+    ensures { result ≡ number_of (one_of id.now (rows_of (found_of matches.now))) }
 {
     match matches.get_one::<u64>(id) {
         Some(number) => number,
-        None => other,
+        None => 0,
     }
 }
 
 /// The most steps of the run.
 pub fn steps(matches: &ArgMatches<'_>) -> u64
-    ensures { result ≡ between 1 1000000000000 (number_of 1000000000 (one_of (codes "steps") (rows_of (found_of matches.now)))) }
+    ensures { result ≡ number_of (one_of (codes "steps") (rows_of (found_of matches.now))) }
 {
-    number(matches, "steps", 1_000_000_000).clamp(1, 1_000_000_000_000)
+    number(matches, "steps")
 }
 
 /// The most bytes of the code.
 pub fn size(matches: &ArgMatches<'_>) -> u32
-    ensures { result ≡ between 256 67108864 (number_of 1048576 (one_of (codes "code") (rows_of (found_of matches.now)))) }
+    requires { AreInRange (rows_of (found_of matches.now)) }
+    ensures { result ≡ number_of (one_of (codes "code") (rows_of (found_of matches.now))) }
 {
-    number(matches, "code", 1_048_576).clamp(256, 67_108_864) as u32
+    number(matches, "code") as u32
 }
 
 /// The number from which the generator begins.
 pub fn seed(matches: &ArgMatches<'_>) -> u64
-    ensures { result ≡ number_of 1 (one_of (codes "seed") (rows_of (found_of matches.now))) }
+    ensures { result ≡ number_of (one_of (codes "seed") (rows_of (found_of matches.now))) }
 {
-    number(matches, "seed", 1)
+    number(matches, "seed")
 }
 
 // Whether a word is that of a flag that was given.

@@ -4,6 +4,7 @@
 mod arguments;
 mod command;
 mod getters;
+pub mod laws;
 mod matches;
 mod words;
 

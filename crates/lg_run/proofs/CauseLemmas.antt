@@ -4,7 +4,7 @@ use Rattle.std.specs.Prelude.{◌⊎◌}
 use Rattle.lg_asm.specs.Assembled.{Assembled}
 use Rattle.lg_base.specs.declared.fault.FaultKind.{FaultKind}
 use Rattle.lg_base.specs.declared.refusal.Refusal.{Refusal}
-use Rattle.lg_command.specs.Commands.{AreNoCommand, Command, HasFault, IsCommand}
+use Rattle.lg_command.specs.Commands.{AreNoCommand, Command, IsCommand}
 use Rattle.lg_command.specs.declared.command.Mode.{Mode}
 use Rattle.lg_command.specs.declared.command.Mode.TheVariants as mode
 use Rattle.lg_run.specs.Causes.{Causes, FaultCause, HasBack, HasCode, StepsOutCause, UndefinedCause}
@@ -88,10 +88,10 @@ module _ (words : List (List ℕ)) (texts : TextsChange) (out : SinkChange) (cod
   memory_of None h = h.0.still
   memory_of (Some c) h = h.1.says.0
 
-  -- no command was read where a fault is in the words
-  none_of : (asked : Option Command) (a : Answer) → HasFault words → AskedSays words asked texts out code steps a → (code ≡ None) × ((a ≡ Usage) ⊎ (a ≡ OutOfMemory))
-  none_of (Some c) a fault h = let read = h.0.read in absurd (fault read.app read.is read.faultless)
-  none_of None a fault h = (h.0.none, at a h.1)
+  -- no command was read where the words ask for none
+  none_of : (asked : Option Command) (a : Answer) → AreNoCommand words → AskedSays words asked texts out code steps a → (code ≡ None) × ((a ≡ Usage) ⊎ (a ≡ OutOfMemory))
+  none_of (Some c) a asks h = let both : None ≡ Some c = sym asks ∙ h.0 in cc
+  none_of None a asks h = (h.0.none, at a h.1)
     where
       at : (b : Answer) → NoCommandSays words b → (b ≡ Usage) ⊎ (b ≡ OutOfMemory)
       at Usage k = inl refl

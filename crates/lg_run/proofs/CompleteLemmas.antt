@@ -1,5 +1,5 @@
 -- Which answer comes, where no count rose.
-use Rattle.std.proofs.Common.{◌≡◌, ℕ, ◌+◌, ◌*◌, ◌-◌, ◌^◌, ◌<◌, ◌≤◌, true, false, inl, inr, List, Option, Some, None, IsSome, refl, sym, ap, ◌∙◌, subst, arith}
+use Rattle.std.proofs.Common.{◌≡◌, ℕ, ◌+◌, ◌*◌, ◌-◌, ◌^◌, ◌<◌, ◌≤◌, inl, inr, List, Option, Some, None, IsSome, refl, sym, ap, ◌∙◌, subst, arith}
 use Rattle.std.specs.Prelude.{◌⊎◌}
 use Rattle.lg_asm.specs.Assembled.{Assembled}
 use Rattle.lg_base.specs.Runs.{Status, Running, Bad}
@@ -270,13 +270,10 @@ read_not a texts out tells none is = none (subst (λ x. TellsReads x texts) is t
 write_not : (a : Answer) (texts : TextsChange) (out : SinkChange) → TellsFaults texts out a → (¬ Rose out.faults out.faults') → a ≡ WriteFault → ⊥
 write_not a texts out tells none is = none (subst (λ x. TellsWrites x out) is tells.writes)
 
--- words that clap takes are no usage
+-- words that ask for a command are no usage
 none_memory : (words : List (List ℕ)) (a : Answer) → Takes words → NoCommandSays words a → a ≡ OutOfMemory
 none_memory words OutOfMemory takes h = refl
-none_memory words Usage takes h = absurd (true_false (sym (takes h.app h.is) ∙ h.refused))
-  where
-    true_false : true ≡ false → ⊥
-    true_false e = cc
+none_memory words Usage takes h = absurd (none_some (sym h ∙ takes.1))
 none_memory words (Ended s) takes h = absurd h
 none_memory words Listed takes h = absurd h
 none_memory words (Undefined line) takes h = absurd h

@@ -4,7 +4,7 @@ use Rattle.lg_asm.specs.Assembled.{Assembled}
 use Rattle.lg_base.specs.Runs.{Bad}
 use Rattle.lg_base.specs.declared.fault.FaultKind.{FaultKind}
 use Rattle.lg_base.specs.declared.refusal.Refusal.{Refusal}
-use Rattle.lg_command.specs.Commands.{AreNoCommand, Command, HasFault, IsCommand}
+use Rattle.lg_command.specs.Commands.{AreNoCommand, Command, IsCommand}
 use Rattle.lg_command.specs.declared.command.Mode.{Mode}
 use Rattle.lg_command.specs.declared.command.Mode.TheVariants as mode
 use Rattle.lg_io.specs.Counts.{Rose}
@@ -66,8 +66,8 @@ UndefinedCause steps line c code unit =
 pub record Causes (words : List (List ℕ)) (texts : TextsChange) (out err : SinkChange) (done : Done) : Type 0 where
   -- Usage comes only for words that are no command
   pub usage : done.answer ≡ Usage → AreNoCommand words
-  -- and where a fault is found in the words, only it, want of memory, or a write fault of a line
-  pub no_command : HasFault words → (done.code ≡ None)
+  -- and for such words comes only it, want of memory, or a write fault of a line
+  pub no_command : AreNoCommand words → (done.code ≡ None)
       × ((done.answer ≡ Usage) ⊎ ((done.answer ≡ OutOfMemory) ⊎ ((done.answer ≡ WriteFault) × Rose err.faults err.faults')))
   pub refused : (refusal : Refusal) → done.answer ≡ Refused refusal → (c : Command) × IsCommand words c × IsRefusedCall c texts.held refusal
   -- a fault of the outside is told only where a count rose, and each that rose is told

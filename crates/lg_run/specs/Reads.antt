@@ -1,7 +1,8 @@
 -- Reading a text.
-use Rattle.std.specs.Prelude.{◌≡◌, ◌<◌, ℕ, List, Option, Result, Ok, Err, length}
+use Rattle.std.specs.Prelude.{◌≡◌, ◌⊎◌, ◌<◌, ◌≤◌, ◌+◌, ℕ, List, Option, Result, Ok, Err, length}
+use Rattle.std.specs.Io.KnownBytes.{Consumes}
 use Rattle.lg_io.specs.Counts.{Rose}
-use Rattle.lg_io.specs.NamedTexts.{NamedTexts}
+use Rattle.lg_io.specs.NamedTexts.{NamedTexts, Selects}
 use Rattle.lg_run.specs.Refused.{IsTextUnder, most_text}
 use Rattle.lg_run.specs.declared.source.ReadStop.{ReadStop}
 use Rattle.lg_run.specs.declared.source.ReadStop.TheVariants.{ReadFault, TooLong, OutOfMemory}
@@ -16,3 +17,15 @@ ReadTells before now (Ok text) = now ≡ before
 ReadTells before now (Err ReadFault) = Rose before now
 ReadTells before now (Err TooLong) = now ≡ before
 ReadTells before now (Err OutOfMemory) = now ≡ before
+
+-- how many bytes are read at a time
+abbrev pub most_piece : ℕ
+most_piece = 65536
+
+-- of what is left to be read bytes were taken from the front: at most as many as a text may have, and those of one piece
+abbrev pub ReadsFew : Option (List ℕ) → Option (List ℕ) → Type 0
+ReadsFew first left = (bytes : List ℕ) × Consumes first left bytes × (length bytes ≤ most_text + most_piece)
+
+-- nothing was selected and read, or the text of the name was selected, and so few bytes of it were read
+abbrev pub ReadsFewOf : Option NamedTexts → List ℕ → Option (List ℕ) → Option (List ℕ) → Type 0
+ReadsFewOf held name before left = (left ≡ before) ⊎ ((first : Option (List ℕ)) × Selects held first name × ReadsFew first left)

@@ -3,7 +3,7 @@
 ghost use Rattle.std.specs.Prelude.{◌≡◌, ◌≤◌, ◌<◌, true, length, IfOk, IfSome, Err};
 ghost use Rattle.std.specs.Io.KnownBytes.{Consumes, IsAtEnd};
 ghost use Rattle.lg_io.specs.NamedTexts.{IsHeld};
-ghost use Rattle.lg_run.specs.Reads.{IsLongText, ReadTells};
+ghost use Rattle.lg_run.specs.Reads.{IsLongText, ReadTells, ReadsFew, ReadsFewOf, most_piece};
 ghost use Rattle.lg_run.specs.Refused.{IsTextUnder, most_text};
 
 use lg_base::refusal::OutOfMemory;
@@ -36,12 +36,14 @@ fn piece(alloc: Global) -> Result<Vec<u8>, OutOfMemory>
 
 // Reads what is left of the selected text, through a piece of memory.
 fn read_rest<T: Texts>(alloc: Global, piece: &mut [u8], texts: &mut T) -> Result<Vec<u8>, ReadStop>
-    requires { 0 < length piece.old }
+    requires some { 0 < length piece.old }
+    requires few { length piece.old ≤ most_piece }
     ensures bytes { IfOk result (λ v. Consumes (T.left texts.old) (T.left texts.new) v.items × IsAtEnd (T.left texts.new)) }
     ensures small { IfOk result (λ v. length v.items ≤ most_text) }
     ensures long { result ≡ Err ReadStop.TooLong → IfSome (T.left texts.old) (λ left. most_text < length left) }
     ensures faults { ReadTells (T.faults texts.old) (T.faults texts.new) result }
     ensures sure { T.sure texts.old ≡ true → T.faults texts.new ≡ T.faults texts.old }
+    ensures few { ReadsFew (T.left texts.old) (T.left texts.new) }
 {
     let mut text = Vec::new(alloc);
     while text.len() <= MOST_TEXT {
@@ -60,13 +62,14 @@ fn read_rest<T: Texts>(alloc: Global, piece: &mut [u8], texts: &mut T) -> Result
 }
 
 /// The whole text of a name. A read fault comes exactly where a call of the source failed, and never of a sure source that holds the name; no other call is made
-/// behind it.
+/// behind it. Of the text at most 16,777,216 bytes and a piece of 65,536 are taken.
 pub fn read_text<T: Texts>(alloc: Global, name: &str, texts: &mut T) -> Result<Vec<u8>, ReadStop>
     ensures text { IfOk result (λ v. IsTextUnder (T.held texts.old) name.now v.items) }
     ensures small { IfOk result (λ v. length v.items ≤ most_text) }
     ensures long { result ≡ Err ReadStop.TooLong → IsLongText (T.held texts.old) name.now }
     ensures faults { ReadTells (T.faults texts.old) (T.faults texts.new) result }
     ensures sure { T.sure texts.old ≡ true → IsHeld (T.held texts.old) name.now → T.faults texts.new ≡ T.faults texts.old }
+    ensures few { ReadsFewOf (T.held texts.old) name.now (T.left texts.old) (T.left texts.new) }
 {
     let mut piece = match piece(alloc) {
         Ok(piece) => piece,

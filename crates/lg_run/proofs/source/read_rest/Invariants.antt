@@ -1,5 +1,6 @@
-use Rattle.std.proofs.Common.{◌≡◌, true, ◌-◌, ◌+◌, ◌<◌, length, vec_len}
+use Rattle.std.proofs.Common.{◌≡◌, true, ◌-◌, ◌+◌, ◌<◌, ◌≤◌, length, vec_len}
 use Rattle.std.specs.Io.KnownBytes.{Consumes}
+use Rattle.lg_run.specs.Reads.{most_piece}
 use Rattle.lg_run.specs.Refused.{most_text}
 use Rattle.lg_run.proofs.source.read_rest.Given as goal
 
@@ -7,6 +8,8 @@ abbrev pub invariant-loop-texts : goal.invariant-loop-texts
 invariant-loop-texts g l = record {
   read : Consumes (g.T.Texts.left l.fn.texts) (g.T.Texts.left l.texts) l.text.items;
   room : 0 < length l.piece;
+  piece : length l.piece ≤ most_piece;
+  few : length l.text.items ≤ most_text + most_piece;
   same : g.T.Texts.faults l.texts ≡ g.T.Texts.faults l.fn.texts;
   sure : g.T.Texts.sure l.fn.texts ≡ true → g.T.Texts.sure l.texts ≡ true;
 }
