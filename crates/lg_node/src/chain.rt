@@ -47,7 +47,8 @@ fn put_behind(next: &mut [Option<Label>], before: Label, label: Label)
 pub fn link(next: &mut [Option<Label>], ends: Option<Ends>, label: Label) -> Ends
     requires label { label.0 < length next.old }
     requires chain { (at : ℕ → Bool) × IsChain at next.old ends × (at label.0 ≡ false) }
-    ensures chain { (at more : ℕ → Bool) → IsChain at next.old ends → at label.0 ≡ false → IsJoined at more label.0 → IsChain more next.new (Some result) }
+    ensures chain { (at more : ℕ → Bool) → IsChain at next.old ends → at label.0 ≡ false → IsJoined at more label.0
+        → IsChain more next.new (Some result) }
     ensures others { (at : ℕ → Bool) → IsChain at next.old ends → at label.0 ≡ false → (k : ℕ) → k ≢ label.0 → at k ≡ false
         → slice_index_or next.new k None ≡ slice_index_or next.old k None }
 {

@@ -13,7 +13,8 @@ use std::alloc::Global;
 
 // Marks the label that an operand is.
 fn mark_operand(marks: &mut [bool], operand: Operand)
-    ensures { (label : ℕ) → label < length marks.old → slice_index_or marks.new label false ≡ (slice_index_or marks.old label false || is_label label operand) }
+    ensures { (label : ℕ) → label < length marks.old
+        → slice_index_or marks.new label false ≡ (slice_index_or marks.old label false || is_label label operand) }
 {
     if let Operand::Label(label) = operand {
         if (label.0 as usize) < marks.len() {
