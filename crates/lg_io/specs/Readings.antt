@@ -1,5 +1,5 @@
 -- How far the calls of a source have read.
-use Rattle.std.specs.Prelude.{◌≡◌, ◌⊎◌, ℕ, ◌==◌, Bool, true, false, ◌||◌, Result, Ok, Err, if◌then◌else◌}
+use Rattle.std.specs.Prelude.{◌≡◌, ◌⊎◌, ℕ, ◌==◌, Bool, false, ◌||◌, Result, Ok, Err, if◌then◌else◌}
 use Rattle.lg_io.specs.Counts.{next_count}
 use Rattle.lg_io.specs.declared.reading.Reading.{Reading}
 
