@@ -1,6 +1,6 @@
 // The operands of the instructions of all targets, and how a listing prints them.
 
-ghost use Rattle.std.specs.Prelude.{◌≡◌, ◌<◌, ◌≤◌, ◌+◌, ◌*◌, ◌^◌, ◌++◌, length};
+ghost use Rattle.std.specs.Prelude.{◌≡◌, ◌<◌, ◌≤◌, ◌+◌, ◌*◌, ◌^◌, ◌++◌, codes, length};
 ghost use Rattle.lg_list.specs.Texts.{decimal, signed_decimal, displacement, hex};
 ghost use Rattle.lg_list.specs.Operands.{register_name, x86_name, spelled, spelled_behind, text};
 
@@ -162,8 +162,26 @@ impl Line {
         }
     }
 
+    // Appends operands, each behind a comma. Up to two are written without a call.
+    #[inline(always)]
+    fn push_more(&mut self, operands: &[Operand])
+        requires room { length self.old + 51 * length operands.now ≤ 288 }
+        ensures value { self.new ≡ self.old ++ spelled_behind (codes ", ") operands.now }
+        ensures room { length self.new ≤ length self.old + 51 * length operands.now }
+    {
+        match operands {
+            [] => {}
+            [operand] => self.push_behind(b", ", *operand),
+            [operand, last] => {
+                self.push_behind(b", ", *operand);
+                self.push_behind(b", ", *last);
+            }
+            _ => self.push_operands(b", ", operands),
+        }
+    }
+
     /// Appends the text of an instruction: its name and its operands. Each operand adds at most 51 bytes with what stands before it, and the line
-    /// has at most 288 bytes behind. Up to three, as most instructions have, are written one after another without a call.
+    /// has at most 288 bytes behind. Up to three, as most instructions have, are written without a call.
     #[inline(always)]
     pub fn push_text(&mut self, name: &[u8], operands: &[Operand])
         requires { length self.old + length name.now + 51 * length operands.now ≤ 288 }
@@ -172,17 +190,11 @@ impl Line {
     {
         self.push(name);
         match operands {
-            [first] => self.push_behind(b" ", *first),
-            [first, second] => {
-                self.push_behind(b" ", *first);
-                self.push_behind(b", ", *second);
+            [] => {}
+            [operand, operands @ ..] => {
+                self.push_behind(b" ", *operand);
+                self.push_more(operands);
             }
-            [first, second, third] => {
-                self.push_behind(b" ", *first);
-                self.push_behind(b", ", *second);
-                self.push_behind(b", ", *third);
-            }
-            _ => self.push_operands(b" ", operands),
         }
     }
 }
