@@ -1,7 +1,7 @@
 -- Code that loads a number into a register.
-use Rattle.std.specs.Prelude.{◌≡◌, ◌≢◌, ℕ, ◌+◌, ◌-◌, ◌/◌, ◌%◌, ◌^◌, ◌<◌, ◌≤◌, nat_lt, Bool, true, if◌then◌else◌, ℤ, pos, negsuc, List, [], ◌∷◌, length}
+use Rattle.std.specs.Prelude.{◌≡◌, ◌≢◌, ℕ, zero, suc, ◌+◌, ◌-◌, ◌/◌, ◌%◌, ◌^◌, ◌==◌, ◌<◌, ◌≤◌, nat_lt, Bool, true, if◌then◌else◌, ℤ, pos, negsuc, List, [], ◌∷◌, ◌++◌, length}
 use Rattle.std.specs.List.{All}
-use Rattle.lg_base.specs.Words.{is_half}
+use Rattle.lg_base.specs.Words.{add_words, is_half}
 use Rattle.lg_rv.specs.Spelling.{IsInstr}
 use Rattle.lg_rv.specs.declared.instruction.Instr.{Instr}
 use Rattle.lg_rv.specs.declared.instruction.Instr.TheVariants.{Upper, Imm, Shift}
@@ -27,26 +27,39 @@ low_part v = if nat_lt (v % 4096) 2048 then pos (v % 4096) else negsuc (4095 - v
 abbrev pub short_code : ℕ → ℕ → List Instr
 short_code rd v = Imm Addi rd 0 (low_part v) ∷ []
 
+-- a number of 32 bits: its low 12 bits are added where they are not 0
 abbrev pub half_code : ℕ → ℕ → List Instr
-half_code rd v = Upper Lui rd (high_part v) ∷ Imm Addiw rd rd (low_part v) ∷ []
+half_code rd v = if v % 4096 == 0 then Upper Lui rd (high_part v) ∷ [] else Upper Lui rd (high_part v) ∷ Imm Addiw rd rd (low_part v) ∷ []
 
--- the high 32 bits, then the others from the top down, as many as fit an addend that is not negative
-abbrev pub long_code : ℕ → ℕ → List Instr
-long_code rd v =
-    Upper Lui rd (high_part (v / 2 ^ 32)) ∷ Imm Addiw rd rd (low_part (v / 2 ^ 32))
-    ∷ Shift Slli rd rd 11 ∷ Imm Addi rd rd (pos (v / 2 ^ 21 % 2 ^ 11))
-    ∷ Shift Slli rd rd 11 ∷ Imm Addi rd rd (pos (v / 2 ^ 10 % 2 ^ 11))
-    ∷ Shift Slli rd rd 10 ∷ Imm Addi rd rd (pos (v % 2 ^ 10)) ∷ []
+-- the number without its low 12 bits, which have a sign, 12 bits further down
+abbrev pub above : ℕ → ℕ
+above v = let sum = add_words v 2048 in if nat_lt sum (2 ^ 63) then sum / 4096 else sum / 4096 + (2 ^ 64 - 2 ^ 52)
+
+-- what was above goes up again, and the low 12 bits are added
+abbrev pub low_code : ℕ → ℕ → List Instr
+low_code rd v = if v % 4096 == 0 then Shift Slli rd rd 12 ∷ [] else Shift Slli rd rd 12 ∷ Imm Addi rd rd (low_part v) ∷ []
+
+-- a number of 12 or 32 bits, or what is above the low 12 bits, so n times, and these behind it
+abbrev pub wide_code : ℕ → ℕ → ℕ → List Instr
+wide_code zero rd v = half_code rd v
+wide_code (suc n) rd v = if is_short v then short_code rd v else if is_half v then half_code rd v else wide_code n rd (above v) ++ low_code rd v
+
+unfoldable pub long_code : ℕ → ℕ → List Instr
+long_code rd v = wide_code 2 rd (above v) ++ low_code rd v
 
 abbrev pub number_code : ℕ → ℕ → List Instr
 number_code rd v = if is_short v then short_code rd v else if is_half v then half_code rd v else long_code rd v
 
--- the code puts the number into the register and changes no other; it has at most 8 instructions
+-- the code puts the number into the register and changes no other; it has at most 8 instructions, and where the number has 12 bits one, where it has 32
+-- bits two, and without a sign four
 pub record LoadsNumber (rd v : ℕ) : Type 0 where
   pub computes : all_compute (number_code rd v) ≡ true
   pub value : (w : ℕ → ℕ) (r : ℕ) → computed (number_code rd v) w r ≡ put w rd v r
   pub some : 0 < length (number_code rd v)
   pub few : length (number_code rd v) ≤ 8
+  pub one : is_short v ≡ true → length (number_code rd v) ≤ 1
+  pub two : is_half v ≡ true → length (number_code rd v) ≤ 2
+  pub four : v < 2 ^ 32 → length (number_code rd v) ≤ 4
   pub fits : All IsInstr (number_code rd v)
   pub straight : All (λ i. is_straight i ≡ true) (number_code rd v)
 

@@ -5,6 +5,7 @@ use Rattle.lg_a64.specs.declared.instruction.BranchOp.TheVariants.{B, Bl}
 use Rattle.lg_a64.specs.declared.instruction.BranchRegOp.{BranchRegOp}
 use Rattle.lg_a64.specs.declared.instruction.BranchRegOp.TheVariants.{Br, Blr}
 use Rattle.lg_a64.specs.declared.instruction.Cond.{Cond}
+use Rattle.lg_a64.specs.declared.instruction.ImmOp.TheVariants.{Addsi, Subsi}
 use Rattle.lg_a64.specs.declared.instruction.Instr.{Instr}
 use Rattle.lg_a64.specs.declared.instruction.Instr.TheVariants as instr
 use Rattle.lg_a64.specs.declared.instruction.RegOp.TheVariants.{Orr}
@@ -31,10 +32,12 @@ use Rattle.lg_sel.specs.Stores.{a64_stores, is_free}
 use Rattle.lg_sel_nodes.specs.Immediates.{immediate}
 use Rattle.lg_sel_items.specs.declared.reach.Reach.{Reach}
 use Rattle.lg_sel_items.specs.declared.reach.Reach.TheVariants.{Short, Near, Far}
-use Rattle.lg_sela.proofs.Emissions.{NoneStores, Emits, none, append, more, instructions, plain, number, address, branch, branch_if, front, behind}
+use Rattle.lg_sela.proofs.Emissions.{NoneStores, Emits, none, append, more, either, instructions, plain, number, address, branch, branch_if, front, behind}
 use Rattle.lg_sela_control.specs.Alignments.{padding, idle, align_code}
-use Rattle.lg_sela_control.specs.Branches.{comparison, taken, turned}
-use Rattle.lg_sela_control.specs.ControlItems.{second_register, word_items, second_items, leads_items, branch_if_items, branch_items, sum_items, jump_items, call_items, result_items, ret_items, register_leap_items, leap_items, align_items, control_items}
+use Rattle.lg_base.specs.Words.{negated}
+use Rattle.lg_sela_values.specs.BinaryCode.{is_small}
+use Rattle.lg_sela_control.specs.Branches.{comparison, is_held, number_comparison, taken, turned}
+use Rattle.lg_sela_control.specs.ControlItems.{second_register, word_items, second_items, compared_items, comparing, leads_items, branch_if_items, branch_items, sum_items, jump_items, call_items, result_items, ret_items, register_leap_items, leap_items, align_items, control_items}
 use Rattle.lg_sela_control.specs.Prologs.{prolog_code}
 use Rattle.lg_sela_control.specs.RegisterLeaps.{register_leap_code}
 use Rattle.lg_sela_control.specs.Returns.{result, near_return, far_return, return_code}
@@ -47,6 +50,24 @@ use Rattle.lg_temp.specs.Abis.{register_of}
 comparison-none : (o : Condition) (a b : ℕ) → NoneStores (comparison o a b ∷ [])
 comparison-none condition.Ms a b = refl
 comparison-none o a b = refl
+
+held-none : (a v : ℕ) → NoneStores (number_comparison a v ∷ [])
+held-none a v = by (is_small v)
+  where
+    by : (b : Bool) → NoneStores ((if b then instr.Imm Subsi zero_register a v false else instr.Imm Addsi zero_register a (negated v) false) ∷ [])
+    by true = refl
+    by false = refl
+
+comparing-none : (o : Condition) (a : ℕ) (x : Operand) → NoneStores (comparing o a x ∷ [])
+comparing-none o a (operand.Number v) = by (is_held o v)
+  where
+    by : (b : Bool) → NoneStores ((if b then number_comparison a v else comparison o a link) ∷ [])
+    by true = held-none a v
+    by false = comparison-none o a link
+comparing-none o a (operand.Reg b) = comparison-none o a (register_of Aarch64 b)
+comparing-none o a (operand.Host name) = comparison-none o a link
+comparing-none o a (operand.Label l) = comparison-none o a link
+comparing-none o a (operand.Slot k) = comparison-none o a link
 
 sum-none : (o : BranchSumOp) (a b : ℕ) → NoneStores (sum_instruction o a b ∷ [])
 sum-none sum.OverflowAdd a b = refl
@@ -89,14 +110,20 @@ module _ (reach : Reach) (is : ℕ → Bool) where
   compared (operand.Label l) = word link (operand.Label l)
   compared (operand.Slot k) = word link (operand.Slot k)
 
+  put-compared : (o : Condition) (x : Operand) → Emits reach is 0 0 (compared_items o x)
+  put-compared o (operand.Number v) = either reach is 0 0 (is_held o v) [] (second_items (operand.Number v)) (none reach is 0 0) (compared (operand.Number v))
+  put-compared o (operand.Reg r) = compared (operand.Reg r)
+  put-compared o (operand.Host name) = compared (operand.Host name)
+  put-compared o (operand.Label l) = compared (operand.Label l)
+  put-compared o (operand.Slot k) = compared (operand.Slot k)
+
   branches : (sets : Instr) (holds : Cond) (l : Label) → NoneStores (sets ∷ []) → is l.0 ≡ true → Emits reach is 1 0 (branch_if_items reach sets holds l)
   branches sets holds l few h = front reach is 1 0 (sets ∷ []) (leads_items reach holds l) few (leads-emit reach is holds l h)
 
   branched : (o : Condition) (xs : List Operand) → AllPass is xs → Emits reach is 1 0 (branch_items reach o xs)
   branched o (operand.Label l ∷ operand.Reg a ∷ x ∷ []) h =
       let r : ℕ = register_of Aarch64 a in
-      let s : ℕ = second_register x in
-      append reach is 0 1 0 0 (second_items x) (branch_if_items reach (comparison o r s) (taken o) l) (compared x) (branches (comparison o r s) (taken o) l (comparison-none o r s) h.0)
+      append reach is 0 1 0 0 (compared_items o x) (branch_if_items reach (comparing o r x) (taken o) l) (put-compared o x) (branches (comparing o r x) (taken o) l (comparing-none o r x) h.0)
   branched o xs h = none reach is 1 0
 
   summed : (o : BranchSumOp) (xs : List Operand) → AllPass is xs → Emits reach is 1 0 (sum_items reach o xs)

@@ -1,12 +1,15 @@
 -- The items of loads, stores and nodes that read and pass arguments: a store and an argument that is passed store once.
 use Rattle.std.proofs.Common.{ℕ, ◌-◌, ◌/◌, ◌≤◌, Bool, true, false, [], ◌∷◌, ◌++◌, refl, arith}
 use Rattle.std.specs.Prelude.{nat_lt, slice_index, if◌then◌else◌}
-use Rattle.lg_a64.specs.declared.instruction.ImmOp.TheVariants.{Subi}
+use Rattle.lg_a64.specs.declared.instruction.ImmOp.TheVariants.{Addi, Subi}
+use Rattle.lg_a64.specs.declared.instruction.Instr.{Instr}
 use Rattle.lg_a64.specs.declared.instruction.Instr.TheVariants as instr
+use Rattle.lg_a64.specs.declared.instruction.UnscaledOp.TheVariants.{Ldur, Stur}
 use Rattle.lg_a64.specs.declared.instruction.RegOp.TheVariants as reg
 use Rattle.lg_a64.specs.declared.instruction.ScaledOp.TheVariants.{Str64}
 use Rattle.lg_base.specs.Conventions.{argument_registers}
 use Rattle.lg_base.specs.HostNames.{host_address}
+use Rattle.lg_base.specs.Words.{negated}
 use Rattle.lg_base.specs.declared.target.Target.TheVariants.{Aarch64}
 use Rattle.lg_carry_a64.specs.A64Rows.{frame_pointer, link, stack_pointer, zero_register}
 use Rattle.lg_carry_a64.specs.Numbers.{number_code}
@@ -26,20 +29,28 @@ use Rattle.lg_sel_memory.specs.Accesses.{Address, Base, At, Sum, Index, address_
 use Rattle.lg_sel_items.specs.declared.reach.Reach.{Reach}
 use Rattle.lg_sela.proofs.Emissions.{NoneStores, number-none, Emits, none, append, more, either, instructions, plain, number, address}
 use Rattle.lg_sela_items.specs.Items.{ones}
-use Rattle.lg_sela_memory.specs.Accesses.{register, load_row, store_row, Place, at_link, is_scaled, indexed, place_of, loading, storing, load_code, store_code}
-use Rattle.lg_sela_memory.specs.ArgumentCode.{home_distance, stack_count, argument_load, argument_code}
+use Rattle.lg_sela_memory.specs.Accesses.{register, load_row, store_row, Place, at_link, is_scaled, is_small, sum_code, indexed, place_of, loading, storing, is_unscaled, unscaled, is_word, word_load, load_at, store_at, load_code, store_code}
+use Rattle.lg_sela_memory.specs.ArgumentCode.{stack_count, home_load, argument_load, argument_code}
 use Rattle.lg_sela_memory.specs.PushCode.{into, stack_push, onto_stack, push_code}
 use Rattle.lg_sela_memory.specs.VariableArgumentCode.{next_argument_code}
 use Rattle.lg_operators.specs.Operators.{width, store_width}
 use Rattle.lg_temp.specs.Abis.{register_of}
 
 -- ---- instructions
+sum-none : (a v : ℕ) → NoneStores (sum_code a v)
+sum-none a v = by (is_small v) (is_small (negated v))
+  where
+    by : (b c : Bool) → NoneStores (if b then instr.Imm Addi link a v false ∷ [] else if c then instr.Imm Subi link a (negated v) false ∷ [] else number_code link v ++ instr.Reg reg.Add link a link ∷ [])
+    by true c = refl
+    by false true = refl
+    by false false = stores.none-append a64_stores (number_code link v) (instr.Reg reg.Add link a link ∷ []) (number-none link v) refl
+
 indexed-none : (bytes a v : ℕ) → NoneStores (indexed bytes a v).code
 indexed-none bytes a v = by (is_scaled bytes v)
   where
-    by : (b : Bool) → NoneStores (if b then record { code = []; base = a; count = v / bytes } else at_link (number_code link v ++ instr.Reg reg.Add link a link ∷ [])).code
+    by : (b : Bool) → NoneStores (if b then record { code = []; base = a; count = v / bytes } else at_link (sum_code a v)).code
     by true = refl
-    by false = stores.none-append a64_stores (number_code link v) (instr.Reg reg.Add link a link ∷ []) (number-none link v) refl
+    by false = sum-none a v
 
 place-none : (bytes : ℕ) (at : Address) → NoneStores (place_of bytes at).code
 place-none bytes (Base a) = refl
@@ -67,19 +78,44 @@ storing-one t v bytes at =
     let h = stores.among-append a64_stores p.code (instr.Scaled (store_row t) v p.base p.count ∷ []) in
     let g = place-none bytes at in let one = store-one t v p.base p.count in omega (arith, h, g, one)
 
+-- by the row that counts bytes, or else by other code
+unscaled-one : (v : ℕ) (at : Address) → stores.stores_among a64_stores (unscaled Stur v at) ≤ 1
+unscaled-one v (Index a n) = omega arith
+unscaled-one v at = omega arith
+
+word-none : (d : ℕ) (at : Address) → NoneStores (word_load d at)
+word-none d (Sum a b) = refl
+word-none d (Base a) = refl
+word-none d (At v) = refl
+word-none d (Index a v) = refl
+
+load-at-none : (t : ValueType) (d : ℕ) (at : Address) → NoneStores (load_at t d at)
+load-at-none t d at = stores.none-if a64_stores (is_word (width t) at) (word_load d at) (loading t d (place_of (width t) at)) (word-none d at) (loading-none t d (width t) at)
+
+store-at-one : (t : StoreType) (v : ℕ) (at : Address) → stores.stores_among a64_stores (store_at t v at) ≤ 1
+store-at-one t v at = by (is_unscaled (store_width t) at)
+  where
+    by : (b : Bool) → stores.stores_among a64_stores (if b then unscaled Stur v at else storing t v (place_of (store_width t) at)) ≤ 1
+    by true = unscaled-one v at
+    by false = storing-one t v (store_width t) at
+
+home-none : (t : ValueType) (rd k : ℕ) → NoneStores (home_load t rd k)
+home-none value_type.Long rd k = refl
+home-none t rd k = load-none t rd link 0
+
 argument-none : (t : ValueType) (rd k : ℕ) → NoneStores (argument_load t rd k)
 argument-none t rd k =
-    stores.none-if a64_stores (nat_lt k 8) (instr.Imm Subi link frame_pointer (home_distance k) false ∷ instr.Scaled (load_row t) rd link 0 ∷ [])
-    (instr.Scaled (load_row t) rd frame_pointer (stack_count t k) ∷ []) (load-none t rd link 0) (load-none t rd frame_pointer (stack_count t k))
+    stores.none-if a64_stores (nat_lt k 8) (home_load t rd k) (instr.Scaled (load_row t) rd frame_pointer (stack_count t k) ∷ []) (home-none t rd k)
+    (load-none t rd frame_pointer (stack_count t k))
 
 -- ---- items
 module _ (reach : Reach) (is : ℕ → Bool) where
   pub loads-emit : (t : ValueType) (at : Addressing) (n : Node) → Emits reach is 1 0 (ones (load_code t at n))
-  loads-emit t at n = plain reach is 1 (load_code t at n) (loading-none t (register (operand_at n 0)) (width t) (address_of at (operand_at n 1) (operand_at n 2)))
+  loads-emit t at n = plain reach is 1 (load_code t at n) (load-at-none t (register (operand_at n 0)) (address_of at (operand_at n 1) (operand_at n 2)))
 
   pub stores-emit : (t : StoreType) (at : Addressing) (n : Node) → Emits reach is 1 1 (ones (store_code t at n))
   stores-emit t at n =
-      instructions reach is 1 1 (store_code t at n) (storing-one t (register (operand_at n (stored_operand at))) (store_width t) (address_of at (operand_at n 0) (operand_at n 1)))
+      instructions reach is 1 1 (store_code t at n) (store-at-one t (register (operand_at n (stored_operand at))) (address_of at (operand_at n 0) (operand_at n 1)))
 
   pub arguments-emit : (t : ValueType) (n : Node) → Emits reach is 1 0 (ones (argument_code t n))
   arguments-emit t n = plain reach is 1 (argument_code t n)

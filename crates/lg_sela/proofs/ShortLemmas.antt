@@ -4,7 +4,7 @@ use Rattle.std.specs.Prelude.{◌==◌, pos, ◌+ℤ◌, ◌*ℤ◌, nat_le, nat
 use Rattle.std.proofs.lemmas.Int.{ints}
 use Rattle.lg_base.specs.HostNames.{host_address}
 use Rattle.lg_base.specs.Layout.{code_base}
-use Rattle.lg_base.specs.Words.{complement}
+use Rattle.lg_base.specs.Words.{complement, negated}
 use Rattle.lg_base.specs.declared.target.Target.TheVariants.{Aarch64}
 use Rattle.lg_buf.specs.Buffers.{Buffer, place_of}
 use Rattle.lg_buf.specs.Fixing.{Fits}
@@ -12,7 +12,7 @@ use Rattle.lg_buf.specs.declared.fixes.Fix.{Fix}
 use Rattle.lg_buf.specs.declared.fixes.FixKind.TheVariants.{A64Branch26, A64Cond19}
 use Rattle.lg_carry.specs.Blocks.{spellings}
 use Rattle.lg_carry.specs.FinalNodes.{Code}
-use Rattle.lg_carry_a64.specs.A64Rows.{link}
+use Rattle.lg_carry_a64.specs.A64Rows.{link, zero_register}
 use Rattle.lg_carry_a64.specs.Numbers.{quarter_code, positive_code, negative_code, number_code}
 use Rattle.lg_carry_a64.proofs.ComputerLemmas.{spellings-long}
 use Rattle.lg_op.specs.Forms.{admit, admits, forms_of, last_form}
@@ -31,6 +31,7 @@ use Rattle.lg_op.specs.declared.operand.Operand.{Operand}
 use Rattle.lg_op.specs.declared.operand.Operand.TheVariants as operand
 use Rattle.lg_a64.specs.Spelling.{IsInstr, spelling}
 use Rattle.lg_a64.specs.declared.instruction.Cond.{Cond}
+use Rattle.lg_a64.specs.declared.instruction.ImmOp.TheVariants.{Addsi, Subsi}
 use Rattle.lg_a64.specs.declared.instruction.Instr.{Instr}
 use Rattle.lg_a64.specs.declared.instruction.Instr.TheVariants as instr
 use Rattle.lg_a64.specs.declared.instruction.WideOp.TheVariants.{Movk}
@@ -45,11 +46,12 @@ use Rattle.lg_sel_items.proofs.ListLemmas.{each-append}
 use Rattle.lg_sel_items.specs.Reaches.{near_size, may_wait, Leads, LeadsTo, IsLeast, IsLeastAhead}
 use Rattle.lg_sel_items.specs.declared.reach.Reach.{Reach}
 use Rattle.lg_sel_items.specs.declared.reach.Reach.TheVariants.{Short, Near, Far}
-use Rattle.lg_sela_control.proofs.ControlLemmas.{second-is, branch-settled}
-use Rattle.lg_sela_control.specs.Branches.{comparison, taken, turned}
-use Rattle.lg_sela_control.specs.ControlItems.{second_register, leads_items, branch_if_items, branch_items, sum_items, control_items}
+use Rattle.lg_sela_control.proofs.ControlLemmas.{second-is, compared-is, branch-settled}
+use Rattle.lg_sela_values.specs.BinaryCode.{is_small}
+use Rattle.lg_sela_control.specs.Branches.{comparison, is_held, number_comparison, taken, turned}
+use Rattle.lg_sela_control.specs.ControlItems.{second_register, comparing, leads_items, branch_if_items, branch_items, sum_items, control_items}
 use Rattle.lg_sela_control.specs.SumBranches.{sum_instruction, sum_taken}
-use Rattle.lg_sela_control.specs.TwoWays.{second_code, leads_if}
+use Rattle.lg_sela_control.specs.TwoWays.{second_code, compared_code, leads_if}
 use Rattle.lg_sela_items.proofs.ItemLemmas.{words-ones, ones-append, fixes-append, fixes-ones}
 use Rattle.lg_sela_items.proofs.PatchLemmas.{are-holes}
 use Rattle.lg_sela_items.specs.Items.{a64_holes, words_between, IsItem, AreItems, bytes_in, settled, fixes_of, ones}
@@ -103,6 +105,35 @@ comparison-apart condition.Ms a b = (refl, tt)
 comparison-apart condition.Mc a b = (refl, tt)
 comparison-apart o a b = (refl, tt)
 
+compared-apart : (o : Condition) (x : Operand) → Each Apart (compared_code o x)
+compared-apart o (operand.Number v) = by (is_held o v)
+  where
+    by : (b : Bool) → Each Apart (if b then [] else number_code link v)
+    by true = tt
+    by false = number-apart link v
+compared-apart o (operand.Reg b) = tt
+compared-apart o (operand.Host name) = second-apart (operand.Host name)
+compared-apart o (operand.Label l) = tt
+compared-apart o (operand.Slot k) = tt
+
+held-apart : (a v : ℕ) → Each Apart (number_comparison a v ∷ [])
+held-apart a v = by (is_small v)
+  where
+    by : (b : Bool) → Each Apart ((if b then instr.Imm Subsi zero_register a v false else instr.Imm Addsi zero_register a (negated v) false) ∷ [])
+    by true = (refl, tt)
+    by false = (refl, tt)
+
+comparing-apart : (o : Condition) (a : ℕ) (x : Operand) → Each Apart (comparing o a x ∷ [])
+comparing-apart o a (operand.Number v) = by (is_held o v)
+  where
+    by : (b : Bool) → Each Apart ((if b then number_comparison a v else comparison o a link) ∷ [])
+    by true = held-apart a v
+    by false = comparison-apart o a link
+comparing-apart o a (operand.Reg b) = comparison-apart o a (register_of Aarch64 b)
+comparing-apart o a (operand.Host name) = comparison-apart o a link
+comparing-apart o a (operand.Label l) = comparison-apart o a link
+comparing-apart o a (operand.Slot k) = comparison-apart o a link
+
 sum-apart : (o : BranchSumOp) (a b : ℕ) → Each Apart (sum_instruction o a b ∷ [])
 sum-apart sum.OverflowAdd a b = (refl, tt)
 sum-apart o a b = (refl, tt)
@@ -143,14 +174,14 @@ record IsBranchTo (xs : List Operand) (items : Reach → List Item) : Type 0 whe
 
 branch-leads : (o : Condition) (last : LastOperand) (xs : List Operand) → admit (forms_of (op.Branch o last)) xs ≡ true → IsBranchTo xs (λ r. branch_items r o xs)
 branch-leads o last (operand.Label l ∷ operand.Reg a ∷ x ∷ []) admitted =
-    let sets : Instr = comparison o (register_of Aarch64 a) (second_register x) in record {
-      first = second_code x;
+    let sets : Instr = comparing o (register_of Aarch64 a) x in record {
+      first = compared_code o x;
       sets = sets;
-      apart = each-append Apart (second_code x) (sets ∷ []) (second-apart x) (comparison-apart o (register_of Aarch64 a) (second_register x));
+      apart = each-append Apart (compared_code o x) (sets ∷ []) (compared-apart o x) (comparing-apart o (register_of Aarch64 a) x);
       holds = taken o;
       label = l;
       names = refl;
-      are = λ r. ap (λ ys. ys ++ branch_if_items r sets (taken o) l) (second-is x);
+      are = λ r. ap (λ ys. ys ++ branch_if_items r sets (taken o) l) (compared-is o x);
     }
 branch-leads o last (operand.Label l ∷ operand.Reg a ∷ x ∷ y ∷ ys) admitted = absurd (never (admits (last_form last) x) admitted)
 branch-leads o last xs admitted = absurd (differ admitted)

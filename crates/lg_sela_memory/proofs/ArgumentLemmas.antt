@@ -1,8 +1,9 @@
 -- Reading an argument of the function.
 use Rattle.std.proofs.Common.{◌≡◌, ℕ, ◌+◌, ◌-◌, ◌*◌, ◌<◌, ◌≤◌, ◌^◌, Bool, true, false, List, [], ◌∷◌, refl, ap, ◌∙◌, subst, arith, length}
-use Rattle.std.specs.Prelude.{◌==◌, nat_lt, if◌then◌else◌}
+use Rattle.std.specs.Prelude.{◌==◌, nat_lt, pos, negsuc, if◌then◌else◌}
 use Rattle.lg_base.specs.Layout.{frame_pointer, home_word, stack_argument}
-use Rattle.lg_base.specs.Words.{add_words, sub_words}
+use Rattle.lg_base.specs.Fields.{word_of}
+use Rattle.lg_base.specs.Words.{add_words, sub_words, signed_view}
 use Rattle.lg_base.specs.declared.target.Target.TheVariants.{Aarch64}
 use Rattle.lg_op.specs.declared.op.ValueType.{ValueType}
 use Rattle.lg_op.specs.declared.op.ValueType.TheVariants as value_type
@@ -10,6 +11,7 @@ use Rattle.lg_operators.specs.Operators.{width, extended_by_type}
 use Rattle.lg_a64.specs.declared.instruction.Instr.{Instr}
 use Rattle.lg_a64.specs.declared.instruction.Instr.TheVariants as instr
 use Rattle.lg_a64.specs.declared.instruction.ImmOp.TheVariants.{Subi}
+use Rattle.lg_a64.specs.declared.instruction.UnscaledOp.TheVariants.{Ldur}
 use Rattle.lg_temp.specs.Abis.{register_of}
 use Rattle.lg_carry.specs.Processors.{Seen}
 use Rattle.lg_carry.specs.Spills.{Does, with_register}
@@ -24,9 +26,9 @@ use Rattle.lg_sel_memory.specs.Arguments.{ArgumentsDo, HasArgumentCode}
 use Rattle.lg_sel_memory.specs.Loads.{IsReadable}
 use Rattle.lg_sel_memory.proofs.BehindLemmas.{told, seen_behind, behind-computed}
 use Rattle.lg_sela_memory.specs.Accesses.{load_row}
-use Rattle.lg_sela_memory.specs.ArgumentCode.{home_distance, stack_count, a64_argument}
+use Rattle.lg_sela_memory.specs.ArgumentCode.{home_distance, stack_count, home_load, a64_argument}
 use Rattle.lg_sela_memory.proofs.EndLemmas.{off-scratch}
-use Rattle.lg_sela_memory.proofs.LoadLemmas.{load-does}
+use Rattle.lg_sela_memory.proofs.LoadLemmas.{load-does, word-does}
 use Rattle.lg_sela_memory.proofs.PlaceLemmas.{none-behind}
 
 -- ---- the argument's place, from FP
@@ -35,6 +37,16 @@ home-leads sp k few low high = omega (arith, few, low, high)
 
 home-small : (sp k : ℕ) → sp ≤ 0x40000000 → home_word (frame_pointer sp) k < 2 ^ 64
 home-small sp k high = omega (arith, high)
+
+home-added : (x k : ℕ) → x < 2 ^ 64 → k < 8 → add_words x (2 ^ 64 - home_distance k) ≡ sub_words x (home_distance k)
+home-added x k h few = omega (arith, h, few)
+
+home-view : (k : ℕ) → k < 8 → signed_view (2 ^ 64 - home_distance k) ≡ negsuc (home_distance k - 1)
+home-view k few = by (nat_lt (2 ^ 64 - home_distance k) (2 ^ 63)) refl
+  where
+    by : (b : Bool) → nat_lt (2 ^ 64 - home_distance k) (2 ^ 63) ≡ b → (if b then pos (2 ^ 64 - home_distance k) else negsuc (2 ^ 64 - 1 - (2 ^ 64 - home_distance k))) ≡ negsuc (home_distance k - 1)
+    by true e = absurd (grind (arith, e, few))
+    by false e = ap negsuc (let z : 2 ^ 64 - 1 - (2 ^ 64 - home_distance k) ≡ home_distance k - 1 = omega (arith, few) in z)
 
 stack-whole : (t : ValueType) (k : ℕ) → stack_count t k * width t ≡ 16 + 8 * (k - 8)
 stack-whole value_type.Char k = omega arith
@@ -68,12 +80,21 @@ module _ (code : List ℕ) (trash : ℕ) (t : ValueType) (s : Seen) (rd a v fp :
   from-stack : (k : ℕ) → add_words (s.registers 29) (16 + 8 * (k - 8)) ≡ a → Loads (instr.Scaled (load_row t) rd 29 (stack_count t k) ∷ [])
   from-stack k at = load-does code trash t s rd 29 (stack_count t k) a v fp (spoils a64_scratch []) small (ap (add_words (s.registers 29)) (stack-whole t k) ∙ at) readable lt
 
+-- from its home: a word by its row, others by way of the link
+home-does : (code : List ℕ) (trash : ℕ) (t : ValueType) (s : Seen) (rd a v fp : ℕ) → rd < 31 → IsReadable s fp a (width t) v → v < 256 ^ width t → (k : ℕ) → k < 8 → known s.flags ≡ s.flags → s.registers 29 < 2 ^ 64
+    → sub_words (s.registers 29) (home_distance k) ≡ a → a < 2 ^ 64
+    → Does (a64_rows code trash) (from_to s (with_register s.registers rd (extended_by_type t v)) s.bytes s.flags) (home_load t rd k) fp 0 (spoils a64_scratch [])
+home-does code trash value_type.Long s rd a v fp small readable lt k few same word at low =
+    subst (λ x. Does (a64_rows code trash) (from_to s (with_register s.registers rd v) s.bytes s.flags) (instr.Unscaled Ldur rd 29 x ∷ []) fp 0 (spoils a64_scratch [])) (home-view k few)
+    (word-does code trash s rd 29 (2 ^ 64 - home_distance k) a v fp (spoils a64_scratch []) small (omega arith) (home-added (s.registers 29) k word few ∙ at) readable)
+home-does code trash t s rd a v fp small readable lt k few same word at low = from-home code trash t s rd a v fp small readable lt k same at low
+
 pub arguments-do : (code : List ℕ) (trash : ℕ) → ArgumentsDo (a64_rows code trash) a64_scratch a64_argument
 arguments-do code trash frame t d k q a v named few f place even readable lt = by (nat_lt k 8) refl place
   where
     by : (b : Bool) → nat_lt k 8 ≡ b → (if b then home_word (frame_pointer (q.state.registers 31 + frame)) k else stack_argument (q.state.registers 31 + frame) (k - 8)) ≡ a
         → Does (a64_rows code trash) (from_to (a64_seen q) (with_register q.state.registers (register_of Aarch64 d) (extended_by_type t v)) q.state.bytes (nzcv q.state.flags))
-        (if b then instr.Imm Subi link 29 (home_distance k) false ∷ instr.Scaled (load_row t) (register_of Aarch64 d) link 0 ∷ [] else instr.Scaled (load_row t) (register_of Aarch64 d) 29 (stack_count t k) ∷ [])
+        (if b then home_load t (register_of Aarch64 d) k else instr.Scaled (load_row t) (register_of Aarch64 d) 29 (stack_count t k) ∷ [])
         (q.state.registers 29) 0 (spoils a64_scratch [])
     by true e at =
         let sp = q.state.registers 31 + frame in
@@ -81,7 +102,7 @@ arguments-do code trash frame t d k q a v named few f place even readable lt = b
         let low : 272 ≤ sp = (let l = f.large in omega (arith, l)) in
         let high : sp ≤ 0x40000000 = (let h = f.high in omega (arith, h)) in
         let small : register_of Aarch64 d < 31 = (let h = register-small d in omega (arith, h)) in
-        from-home code trash t (a64_seen q) (register_of Aarch64 d) a v (q.state.registers 29) small readable lt k refl (ap (λ p. sub_words p (home_distance k)) f.pointer ∙ home-leads sp k near low high ∙ at)
+        home-does code trash t (a64_seen q) (register_of Aarch64 d) a v (q.state.registers 29) small readable lt k near refl (f.seen.words 29) (ap (λ p. sub_words p (home_distance k)) f.pointer ∙ home-leads sp k near low high ∙ at)
         (let h = home-small sp k high in subst (λ z. z < 2 ^ 64) at h)
     by false e at =
         let sp = q.state.registers 31 + frame in
@@ -90,9 +111,13 @@ arguments-do code trash frame t d k q a v named few f place even readable lt = b
         let small : register_of Aarch64 d < 31 = (let h = register-small d in omega (arith, h)) in
         from-stack code trash t (a64_seen q) (register_of Aarch64 d) a v (q.state.registers 29) small readable lt k (ap (λ p. add_words p (16 + 8 * (k - 8))) f.pointer ∙ stack-leads sp k few low high ∙ at)
 
+home-some : (t : ValueType) (rd k : ℕ) → 0 < length (home_load t rd k)
+home-some value_type.Long rd k = omega arith
+home-some t rd k = omega arith
+
 pub has-argument-code : (code : List ℕ) (trash : ℕ) → HasArgumentCode (a64_rows code trash) a64_argument
 has-argument-code code trash frame t d k few = let long = spellings-long (a64_argument frame t d k) in let n = some (nat_lt k 8) in omega (arith, long, n)
   where
-    some : (b : Bool) → 0 < length (if b then instr.Imm Subi link 29 (home_distance k) false ∷ instr.Scaled (load_row t) (register_of Aarch64 d) link 0 ∷ [] else instr.Scaled (load_row t) (register_of Aarch64 d) 29 (stack_count t k) ∷ [])
-    some true = omega arith
+    some : (b : Bool) → 0 < length (if b then home_load t (register_of Aarch64 d) k else instr.Scaled (load_row t) (register_of Aarch64 d) 29 (stack_count t k) ∷ [])
+    some true = home-some t (register_of Aarch64 d) k
     some false = omega arith

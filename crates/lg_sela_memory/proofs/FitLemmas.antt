@@ -1,8 +1,9 @@
 -- The items of loads, stores and arguments: their numbers are in the ranges of their instructions, there are few, and each is followed by the next.
-use Rattle.std.proofs.Common.{◌≡◌, ℕ, zero, suc, ◌+◌, ◌-◌, ◌/◌, ◌<◌, ◌≤◌, Bool, true, false, List, [], ◌∷◌, ◌++◌, length, refl, arith, length-append}
+use Rattle.std.proofs.Common.{◌≡◌, ℕ, zero, suc, ◌+◌, ◌-◌, ◌/◌, ◌^◌, ◌<◌, ◌≤◌, Bool, true, false, List, [], ◌∷◌, ◌++◌, length, refl, arith, length-append}
 use Rattle.std.specs.Prelude.{nat_lt, pos, negsuc, ◌≤ℤ◌, slice_index, if◌then◌else◌}
 use Rattle.lg_base.specs.Conventions.{argument_registers}
 use Rattle.lg_base.specs.HostNames.{host_address}
+use Rattle.lg_base.specs.Words.{negated, signed_view}
 use Rattle.lg_base.specs.declared.target.Target.TheVariants.{Aarch64}
 use Rattle.lg_op.specs.declared.node.Node.{Node}
 use Rattle.lg_op.specs.declared.op.Addressing.{Addressing}
@@ -16,7 +17,8 @@ use Rattle.lg_a64.specs.declared.instruction.Instr.{Instr}
 use Rattle.lg_a64.specs.declared.instruction.Instr.TheVariants as instr
 use Rattle.lg_a64.specs.declared.instruction.ImmOp.TheVariants.{Addi, Subi}
 use Rattle.lg_a64.specs.declared.instruction.RegOp.TheVariants as row
-use Rattle.lg_a64.specs.declared.instruction.UnscaledOp.TheVariants.{Ldur}
+use Rattle.lg_a64.specs.declared.instruction.UnscaledOp.{UnscaledOp}
+use Rattle.lg_a64.specs.declared.instruction.UnscaledOp.TheVariants.{Ldur, Stur}
 use Rattle.lg_operators.specs.Operators.{width, store_width}
 use Rattle.lg_meaning.specs.Steps.{operand_at, stored_operand, slot}
 use Rattle.lg_temp.specs.Abis.{register_of}
@@ -34,8 +36,9 @@ use Rattle.lg_sela_items.specs.GoodItems.{Fine, IsGood, AreGood, IsGoodItem}
 use Rattle.lg_sela_items.specs.Items.{a64_holes, IsItem, StaysWithin, ones}
 use Rattle.lg_sela_items.proofs.GoodLemmas.{good-append, link-fine, number-good, ones-good, good-items-are-appendable}
 use Rattle.lg_sela_items.proofs.WithinLemmas.{portable}
-use Rattle.lg_sela_memory.specs.Accesses.{register, load_row, store_row, Place, at_register, at_link, is_scaled, indexed, place_of, load_code, store_code}
-use Rattle.lg_sela_memory.specs.ArgumentCode.{home_distance, stack_count, argument_load, argument_code}
+use Rattle.lg_sela_memory.specs.Accesses.{register, load_row, store_row, Place, at_register, at_link, is_scaled, is_small, sum_code, indexed, place_of, loading, storing, is_close, is_unscaled, unscaled, is_word, word_load, load_code, store_code}
+use Rattle.lg_sela_memory.specs.ArgumentCode.{home_distance, stack_count, home_load, argument_load, argument_code}
+use Rattle.lg_sela_memory.proofs.PlaceLemmas.{close_of}
 use Rattle.lg_sela_memory.specs.MemoryFits.{AreMemoryItems, MemoryItemsFit}
 use Rattle.lg_sela_memory.specs.PushCode.{into, stack_push, onto_stack, push_code}
 use Rattle.lg_sela_memory.specs.VariableArgumentCode.{direction_code, address_code, argument_offset, next_argument_load, next_argument_code}
@@ -59,16 +62,25 @@ at-link-good is h few = record { code = h; few = few; base = omega arith; count 
 sum-good : (a b : ℕ) → a < 32 → b < 32 → AreGood (instr.Reg row.Add link a b ∷ [])
 sum-good a b la lb = (((omega arith, la, lb), refl, refl), tt)
 
-indexed-good : (bytes a v : ℕ) → a < 32 → IsGoodPlace (indexed bytes a v)
-indexed-good bytes a v la = by (is_scaled bytes v) refl
+sum-code-good : (a v : ℕ) → a < 32 → IsGoodPlace (at_link (sum_code a v))
+sum-code-good a v la = by (is_small v) refl (is_small (negated v)) refl
   where
-    by : (b : Bool) → is_scaled bytes v ≡ b → IsGoodPlace (if b then record { code = []; base = a; count = v / bytes } else at_link (number_code link v ++ instr.Reg row.Add link a link ∷ []))
-    by true e = record { code = tt; few = omega arith; base = la; count = grind (arith, e) }
-    by false e =
+    by : (b : Bool) → is_small v ≡ b → (c : Bool) → is_small (negated v) ≡ c
+        → IsGoodPlace (at_link (if b then instr.Imm Addi link a v false ∷ [] else if c then instr.Imm Subi link a (negated v) false ∷ [] else number_code link v ++ instr.Reg row.Add link a link ∷ []))
+    by true e c k = at-link-good (instr.Imm Addi link a v false ∷ []) (((omega arith, la, grind (arith, e)), refl, refl), tt) (omega arith)
+    by false e true k = at-link-good (instr.Imm Subi link a (negated v) false ∷ []) (((omega arith, la, grind (arith, k)), refl, refl), tt) (omega arith)
+    by false e false k =
         let sum = instr.Reg row.Add link a link ∷ [] in
         let l = length-append (number_code link v) sum in
         let n = number-few link v in
         at-link-good (number_code link v ++ sum) (good-append (number_code link v) sum (number-good link v link-fine) (sum-good a link la (omega arith))) (omega (arith, l, n))
+
+indexed-good : (bytes a v : ℕ) → a < 32 → IsGoodPlace (indexed bytes a v)
+indexed-good bytes a v la = by (is_scaled bytes v) refl
+  where
+    by : (b : Bool) → is_scaled bytes v ≡ b → IsGoodPlace (if b then record { code = []; base = a; count = v / bytes } else at_link (sum_code a v))
+    by true e = record { code = tt; few = omega arith; base = la; count = grind (arith, e) }
+    by false e = sum-code-good a v la
 
 place-good : (bytes : ℕ) (a : Address) → IsGoodPlace (place_of bytes a)
 place-good bytes (Base a) = at-register-good (register_of Aarch64 a) (let s = register-small a in omega (arith, s))
@@ -93,6 +105,18 @@ store-row-good store_type.Short from base count h b c = ((h, b, c), tt, refl)
 store-row-good store_type.Int from base count h b c = ((h, b, c), tt, refl)
 store-row-good store_type.Long from base count h b c = ((h, b, c), tt, refl)
 
+-- a number of bytes that a row holds
+close-number : (v : ℕ) → is_close v ≡ true → (negsuc 255 ≤ℤ signed_view v) × (signed_view v ≤ℤ pos 255)
+close-number v near = by (nat_lt v (2 ^ 63)) refl
+  where
+    by : (b : Bool) → nat_lt v (2 ^ 63) ≡ b → (negsuc 255 ≤ℤ (if b then pos v else negsuc (2 ^ 64 - 1 - v))) × ((if b then pos v else negsuc (2 ^ 64 - 1 - v)) ≤ℤ pos 255)
+    by true h = (grind (arith, near, h), grind (arith, near, h))
+    by false h = (grind (arith, near, h), grind (arith, near, h))
+
+unscaled-row-good : (o : UnscaledOp) (r base v : ℕ) → Fine r → base < 32 → is_close v ≡ true → IsGood (instr.Unscaled o r base (signed_view v))
+unscaled-row-good Ldur r base v h b e = let n = close-number v e in ((h.0, b, n.0, n.1), h.1, refl)
+unscaled-row-good Stur r base v h b e = let n = close-number v e in ((h.0, b, n.0, n.1), tt, refl)
+
 -- ---- the code of nodes
 -- good instructions, of which there are at most so many
 record IsFitCode (most : ℕ) (is : List Instr) : Type 0 where
@@ -102,13 +126,30 @@ record IsFitCode (most : ℕ) (is : List Instr) : Type 0 where
 behind-place : (p : Place) (i : Instr) → IsGoodPlace p → IsGood i → IsFitCode 6 (p.code ++ i ∷ [])
 behind-place p i g h = let l = length-append p.code (i ∷ []) in let k = g.few in record { good = good-append p.code (i ∷ []) g.code (h, tt); few = omega (arith, l, k) }
 
+unscaled-fits : (o : UnscaledOp) (r bytes : ℕ) (at : Address) → Fine r → is_unscaled bytes at ≡ true → IsFitCode 6 (unscaled o r at)
+unscaled-fits o r bytes (Index a v) h e =
+    let s = register-small a in record { good = (unscaled-row-good o r (register_of Aarch64 a) v h (omega (arith, s)) (close_of bytes v e), tt); few = omega arith }
+unscaled-fits o r bytes at h e = record { good = tt; few = omega arith }
+
+word-fits : (r bytes : ℕ) (at : Address) → Fine r → is_word bytes at ≡ true → IsFitCode 6 (word_load r at)
+word-fits r bytes (Sum a b) h e = let s = register-small a in let k = register-small b in record { good = (((h.0, omega (arith, s), omega (arith, k)), h.1, refl), tt); few = omega arith }
+word-fits r bytes (Base a) h e = unscaled-fits Ldur r bytes (Base a) h e
+word-fits r bytes (At v) h e = unscaled-fits Ldur r bytes (At v) h e
+word-fits r bytes (Index a v) h e = unscaled-fits Ldur r bytes (Index a v) h e
+
+-- by a row of its own, or else by other code
+either-fits : (b : Bool) (xs ys : List Instr) → (b ≡ true → IsFitCode 6 xs) → IsFitCode 6 ys → IsFitCode 6 (if b then xs else ys)
+either-fits true xs ys h k = h refl
+either-fits false xs ys h k = k
+
 load-fits : (t : ValueType) (at : Addressing) (n : Node) → IsFitCode 6 (load_code t at n)
 load-fits t at n =
     let a = address_of at (operand_at n 1) (operand_at n 2) in
     let p = place_of (width t) a in
     let g = place-good (width t) a in
     let rd = register (operand_at n 0) in
-    behind-place p (instr.Scaled (load_row t) rd p.base p.count) g (load-row-good t rd p.base p.count (register-fine (operand_at n 0)) g.base g.count)
+    let f = register-fine (operand_at n 0) in
+    either-fits (is_word (width t) a) (word_load rd a) (loading t rd p) (word-fits rd (width t) a f) (behind-place p (instr.Scaled (load_row t) rd p.base p.count) g (load-row-good t rd p.base p.count f g.base g.count))
 
 store-fits : (t : StoreType) (at : Addressing) (n : Node) → IsFitCode 6 (store_code t at n)
 store-fits t at n =
@@ -116,7 +157,9 @@ store-fits t at n =
     let p = place_of (store_width t) a in
     let g = place-good (store_width t) a in
     let from = operand_at n (stored_operand at) in
-    behind-place p (instr.Scaled (store_row t) (register from) p.base p.count) g (store-row-good t (register from) p.base p.count (register-fine from).0 g.base g.count)
+    let f = register-fine from in
+    either-fits (is_unscaled (store_width t) a) (unscaled Stur (register from) a) (storing t (register from) p) (unscaled-fits Stur (register from) (store_width t) a f)
+    (behind-place p (instr.Scaled (store_row t) (register from) p.base p.count) g (store-row-good t (register from) p.base p.count f.0 g.base g.count))
 
 count-small : (t : ValueType) (k : ℕ) → k < 16 → stack_count t k < 4096
 count-small value_type.Char k few = omega (arith, few)
@@ -127,12 +170,19 @@ count-small value_type.Int k few = omega (arith, few)
 count-small value_type.UnsignedInt k few = omega (arith, few)
 count-small value_type.Long k few = omega (arith, few)
 
+home-number : (k : ℕ) → k < 8 → (negsuc 255 ≤ℤ negsuc (home_distance k - 1)) × (negsuc (home_distance k - 1) ≤ℤ pos 255)
+home-number k few = (grind (arith, few), grind (arith, few))
+
+home-fits : (t : ValueType) (rd k : ℕ) → Fine rd → k < 8 → IsFitCode 2 (home_load t rd k)
+home-fits value_type.Long rd k h few = let n = home-number k few in record { good = (((h.0, omega arith, n.0, n.1), h.1, refl), tt); few = omega arith }
+home-fits t rd k h few = record { good = (((omega arith, omega arith, omega (arith, few)), refl, refl), (load-row-good t rd link 0 h (omega arith) (omega arith), tt)); few = omega arith }
+
 argument-load-fits : (t : ValueType) (rd k : ℕ) → Fine rd → k < 16 → IsFitCode 2 (argument_load t rd k)
 argument-load-fits t rd k h few = by (nat_lt k 8) refl
   where
     by : (b : Bool) → nat_lt k 8 ≡ b
-        → IsFitCode 2 (if b then instr.Imm Subi link 29 (home_distance k) false ∷ instr.Scaled (load_row t) rd link 0 ∷ [] else instr.Scaled (load_row t) rd 29 (stack_count t k) ∷ [])
-    by true e = record { good = (((omega arith, omega arith, omega (arith, few)), refl, refl), (load-row-good t rd link 0 h (omega arith) (omega arith), tt)); few = omega arith }
+        → IsFitCode 2 (if b then home_load t rd k else instr.Scaled (load_row t) rd 29 (stack_count t k) ∷ [])
+    by true e = home-fits t rd k h (grind (arith, e))
     by false e = record { good = (load-row-good t rd 29 (stack_count t k) h (omega arith) (count-small t k few), tt); few = omega arith }
 
 argument-fits : (t : ValueType) (n : Node) → IsFitCode 2 (argument_code t n)

@@ -1,13 +1,17 @@
 -- Stores.
-use Rattle.std.proofs.Common.{◌≡◌, ℕ, ◌*◌, ◌<◌, Bool, true, List, [], ◌∷◌, refl, ap, ◌∙◌, arith, length-append}
+use Rattle.std.proofs.Common.{◌≡◌, ℕ, ◌*◌, ◌^◌, ◌<◌, Bool, true, false, List, [], ◌∷◌, refl, sym, ap, ◌∙◌, arith, length, length-append}
+use Rattle.std.specs.Prelude.{if◌then◌else◌}
 use Rattle.lg_base.specs.Spaces.{mapped, stored}
-use Rattle.lg_base.specs.Words.{add_words}
+use Rattle.lg_base.specs.Words.{add_words, signed_view}
 use Rattle.lg_base.specs.declared.target.Target.TheVariants.{Aarch64}
+use Rattle.lg_op.specs.declared.operand.Reg.{Reg}
 use Rattle.lg_op.specs.declared.op.StoreType.{StoreType}
 use Rattle.lg_op.specs.declared.op.StoreType.TheVariants as store_type
 use Rattle.lg_operators.specs.Operators.{store_width}
 use Rattle.lg_a64.specs.declared.instruction.Instr.TheVariants as instr
+use Rattle.lg_a64.specs.declared.instruction.UnscaledOp.TheVariants.{Stur}
 use Rattle.lg_cpu.specs.States.{CpuState, arrives}
+use Rattle.lg_cpu.specs.A64Step as step
 use Rattle.lg_cpu.specs.A64Step.{read, act}
 use Rattle.lg_temp.specs.Abis.{register_of}
 use Rattle.lg_carry.specs.Processors.{Seen}
@@ -20,11 +24,13 @@ use Rattle.lg_carry_a64.proofs.RegisterLemmas.{register-small, register-off-link
 use Rattle.lg_sel_nodes.specs.Straight.{spoils, from_to}
 use Rattle.lg_sel_nodes.proofs.ByteLemmas.{stored-same}
 use Rattle.lg_sel_values.proofs.ComputationLemmas.{pointwise}
-use Rattle.lg_sel_memory.specs.Stores.{IsWritable, StoresDo, HasStoreCode}
+use Rattle.lg_sel_memory.specs.Accesses.{Address, Base, At, Sum, Index}
+use Rattle.lg_sel_memory.specs.Stores.{IsWritable, StoreDoes, StoresDo, HasStoreCode}
 use Rattle.lg_sel_memory.proofs.BehindLemmas.{told, seen_behind, behind-computed}
-use Rattle.lg_sela_memory.specs.Accesses.{store_row, place_of, a64_store}
+use Rattle.lg_sela_memory.specs.Accesses.{store_row, place_of, storing, is_unscaled, unscaled, a64_store}
 use Rattle.lg_sela_memory.proofs.EndLemmas.{off-scratch, access-does}
-use Rattle.lg_sela_memory.proofs.PlaceLemmas.{placed}
+use Rattle.lg_sela_memory.proofs.LoadLemmas.{never, no-unscaled, unscaled-some}
+use Rattle.lg_sela_memory.proofs.PlaceLemmas.{placed, view-word}
 
 -- a row stores by its type, wherever the address lies
 store-act : (t : StoreType) (q : CpuState) (base from count a : ℕ) → add_words (q.registers base) (count * store_width t) ≡ a → mapped q.bytes a (store_width t) ≡ true
@@ -50,8 +56,41 @@ store-does code trash t s base from count a v fp T small at holds writable = acc
       bytes_are = λ y off. stored-same s.bytes q.bytes a (store_width t) v y (bytes y off);
     })
 
-pub stores-do : (code : List ℕ) (trash : ℕ) → StoresDo (a64_rows code trash) a64_scratch a64_store
-stores-do code trash frame t at b q a ok f address end writable off =
+-- the row of a word does so at a number of bytes behind a register
+word-act : (q : CpuState) (base from n a : ℕ) → n < 2 ^ 64 → add_words (q.registers base) n ≡ a → mapped q.bytes a 8 ≡ true
+    → act (instr.Unscaled Stur from base (signed_view n)) q ≡ arrives (add_words q.pc 4) q.registers q.flags (stored q.bytes a 8 (read q.registers from)) q.mark
+word-act q base from n a small at there =
+    ap (λ m. step.store_at q (add_words (q.registers base) m) 8 (read q.registers from)) (view-word n small) ∙ rw (at, there) refl
+
+word-does : (code : List ℕ) (trash : ℕ) (s : Seen) (base from n a v fp : ℕ) (T : ℕ → Bool) → from < 31 → n < 2 ^ 64 → add_words (s.registers base) n ≡ a → s.registers from ≡ v → IsWritable s fp a 8
+    → Does (a64_rows code trash) (from_to s s.registers (stored s.bytes a 8 v) s.flags) (instr.Unscaled Stur from base (signed_view n) ∷ []) fp 0 T
+word-does code trash s base from n a v fp T small word at holds writable = access-does code trash (instr.Unscaled Stur from base (signed_view n)) s s.registers (stored s.bytes a 8 v) fp T
+    (λ q registers bytes.
+    let g : q.registers ≡ s.registers = pointwise q.registers s.registers registers in
+    let value : read q.registers from ≡ v = read-is q.registers from small ∙ registers from ∙ holds in
+    record {
+      registers = q.registers;
+      bytes = stored q.bytes a 8 v;
+      effect = word-act q base from n a word (ap (λ h. add_words (h base) n) g ∙ at) (writable q.bytes bytes)
+          ∙ ap (λ z. arrives (add_words q.pc 4) q.registers q.flags (stored q.bytes a 8 z) q.mark) value;
+      registers_are = registers;
+      bytes_are = λ y off. stored-same s.bytes q.bytes a 8 v y (bytes y off);
+    })
+
+unscaled-do : (code : List ℕ) (trash frame : ℕ) (t : StoreType) (at : Address) (b : Reg) → is_unscaled (store_width t) at ≡ true
+    → StoreDoes (a64_rows code trash) a64_scratch [] frame t at b (unscaled Stur (register_of Aarch64 b) at)
+unscaled-do code trash frame store_type.Long (Index r n) b e q a ok f address end writable off =
+    let s = a64_seen q in
+    let rb = register_of Aarch64 b in
+    word-does code trash s (register_of Aarch64 r) rb n a (s.registers rb) (s.registers 29) (spoils a64_scratch []) (let h = register-small b in omega (arith, h)) ok address refl writable
+unscaled-do code trash frame store_type.Long (Base r) b e q a ok f address end writable off = absurd (never e)
+unscaled-do code trash frame store_type.Long (At n) b e q a ok f address end writable off = absurd (never e)
+unscaled-do code trash frame store_type.Long (Sum r x) b e q a ok f address end writable off = absurd (never e)
+unscaled-do code trash frame t at b e q a ok f address end writable off = absurd (never (sym (no-unscaled (store_width t) at refl) ∙ e))
+
+scaled-do : (code : List ℕ) (trash frame : ℕ) (t : StoreType) (at : Address) (b : Reg)
+    → StoreDoes (a64_rows code trash) a64_scratch [] frame t at b (storing t (register_of Aarch64 b) (place_of (store_width t) at))
+scaled-do code trash frame t at b q a ok f address end writable off =
     let p = place_of (store_width t) at in
     let s = a64_seen q in
     let fp = s.registers 29 in
@@ -66,8 +105,17 @@ stores-do code trash frame t at b q a ok f address end writable off =
     (λ y free. m.keeps y (off-scratch y free)) (λ y off. refl) m.flags
     (store-does code trash t mid p.base rb p.count a (s.registers rb) fp (spoils a64_scratch []) (let h = register-small b in omega (arith, h)) (m.makes ∙ address) (m.keeps rb (register-off-link b)) writable))
 
+pub stores-do : (code : List ℕ) (trash : ℕ) → StoresDo (a64_rows code trash) a64_scratch a64_store
+stores-do code trash frame t at b = by (is_unscaled (store_width t) at) refl
+  where
+    by : (c : Bool) → is_unscaled (store_width t) at ≡ c
+        → StoreDoes (a64_rows code trash) a64_scratch [] frame t at b (if c then unscaled Stur (register_of Aarch64 b) at else storing t (register_of Aarch64 b) (place_of (store_width t) at))
+    by true e = unscaled-do code trash frame t at b e
+    by false e = scaled-do code trash frame t at b
+
 pub has-store-code : (code : List ℕ) (trash : ℕ) → HasStoreCode (a64_rows code trash) a64_store
-has-store-code code trash frame t at b =
-    let p = place_of (store_width t) at in
-    let l = length-append p.code (instr.Scaled (store_row t) (register_of Aarch64 b) p.base p.count ∷ []) in
-    let long = spellings-long (a64_store frame t at b) in omega (arith, l, long)
+has-store-code code trash frame t at b = let n = some (is_unscaled (store_width t) at) refl in let long = spellings-long (a64_store frame t at b) in omega (arith, n, long)
+  where
+    some : (c : Bool) → is_unscaled (store_width t) at ≡ c → 0 < length (if c then unscaled Stur (register_of Aarch64 b) at else storing t (register_of Aarch64 b) (place_of (store_width t) at))
+    some true e = let n = unscaled-some Stur (register_of Aarch64 b) (store_width t) at e in omega (arith, n)
+    some false e = let p = place_of (store_width t) at in let l = length-append p.code (instr.Scaled (store_row t) (register_of Aarch64 b) p.base p.count ∷ []) in omega (arith, l)

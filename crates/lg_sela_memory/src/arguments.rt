@@ -3,7 +3,7 @@
 ghost use Rattle.std.specs.Prelude.{◌≡◌, ◌+◌, ◌<◌, ◌≤◌, []};
 ghost use Rattle.lg_sela_items.specs.declared.items.Item.TheVariants as item;
 ghost use Rattle.lg_sela_items.specs.Items.{ones, words_in};
-ghost use Rattle.lg_sela_memory.specs.ArgumentCode.{home_distance, stack_count, argument_load, argument_code};
+ghost use Rattle.lg_sela_memory.specs.ArgumentCode.{home_distance, stack_count, home_load, argument_load, argument_code};
 ghost use Rattle.lg_sela_memory.specs.PushCode.{into, stack_push, onto_stack, push_code};
 ghost use Rattle.lg_sela_memory.specs.VariableArgumentCode.{argument_offset, next_argument_code};
 
@@ -96,6 +96,26 @@ fn stack_count(t: ValueType, index: u32) -> u16
     ((16 + 8 * index.saturating_sub(8)) / width(t)) as u16
 }
 
+// An argument into a register from its home: a word by the row that counts bytes, others by way of the link. The number is below 8.
+fn put_home_load(t: ValueType, rd: u8, index: u32, items: &mut Items<Item>)
+    requires few { index < 8 }
+    requires empty { items.old ≡ [] }
+    ensures { items.new ≡ ones (home_load t rd index) }
+{
+    match t {
+        ValueType::Long => items.one(Instr::Unscaled {
+            op: UnscaledOp::Ldur,
+            rt: rd,
+            rn: FRAME_POINTER,
+            imm: -i32::from(home_distance(index)),
+        }),
+        _ => {
+            items.one(imm(ImmOp::Subi, LINK, FRAME_POINTER, home_distance(index)));
+            items.one(scaled(load_row(t), rd, LINK, 0));
+        }
+    }
+}
+
 // An argument into a register: from its home, or from the caller's stack word. The number is below 16.
 fn put_argument_load(t: ValueType, rd: u8, index: u32, items: &mut Items<Item>)
     requires few { index < 16 }
@@ -103,8 +123,7 @@ fn put_argument_load(t: ValueType, rd: u8, index: u32, items: &mut Items<Item>)
     ensures { items.new ≡ ones (argument_load t rd index) }
 {
     if index < 8 {
-        items.one(imm(ImmOp::Subi, LINK, FRAME_POINTER, home_distance(index)));
-        items.one(scaled(load_row(t), rd, LINK, 0));
+        put_home_load(t, rd, index, items);
     } else {
         items.one(scaled(load_row(t), rd, FRAME_POINTER, stack_count(t, index)));
     }

@@ -4,7 +4,7 @@ use Rattle.std.specs.Prelude.{if◌then◌else◌}
 use Rattle.std.specs.List.{All}
 use Rattle.std.proofs.lemmas.List.Elements.{All-head, All-tail}
 use Rattle.lg_base.specs.Words.{is_half}
-use Rattle.lg_carry_rv.specs.Numbers.{is_short, short_code, half_code, long_code, number_code}
+use Rattle.lg_carry_rv.specs.Numbers.{number_code}
 use Rattle.lg_carry_rv.specs.Destinations.{WritesWithin}
 use Rattle.lg_carry_rv.specs.RvRows.{is_straight}
 use Rattle.lg_carry_rv.proofs.NumberCodeLemmas.{number-fits}
@@ -17,6 +17,7 @@ use Rattle.lg_selr_items.specs.declared.items.Item.{Item}
 use Rattle.lg_selr_items.specs.declared.items.Item.TheVariants.{One, Branch, Jump, FarJump, Address}
 use Rattle.lg_selr_items.specs.Items.{rv_holes, settle, ones, IsItem, StaysWithin}
 use Rattle.lg_selr_items.specs.GoodItems.{Fine, IsGood, AreGood, IsGoodItem, GoodItemsAreAppendable}
+use Rattle.lg_selr_items.proofs.NumberLemmas.{number-each}
 use Rattle.lg_selr_items.proofs.WithinLemmas.{Within, number}
 
 -- ---- instructions
@@ -34,7 +35,7 @@ pub carry-fine : Fine 31
 carry-fine = (omega arith, refl)
 
 pub number-good : (rd v : ℕ) → Fine rd → AreGood (number_code rd v)
-number-good rd v h = all (number_code rd v) (number-fits rd v h.0) (number rd v h.1) (straight (is_short v) (is_half v))
+number-good rd v h = all (number_code rd v) (number-fits rd v h.0) (number rd v h.1) (number-each rd (λ i. is_straight i ≡ true) record { high = λ v. refl; half = λ v. refl; low = λ rs v. refl; up = refl } v)
   where
     Straight : List Instr → Type 0
     Straight is = Each (λ i. is_straight i ≡ true) is
@@ -42,11 +43,6 @@ number-good rd v h = all (number_code rd v) (number-fits rd v h.0) (number rd v 
     all : (is : List Instr) → All IsInstr is → Within is → Straight is → AreGood is
     all [] f w s = tt
     all (i ∷ is) f w s = ((All-head IsInstr i is f, w.0, s.0), all is (All-tail IsInstr i is f) w.1 s.1)
-
-    straight : (b c : Bool) → Straight (if b then short_code rd v else if c then half_code rd v else long_code rd v)
-    straight true c = (refl, tt)
-    straight false true = (refl, (refl, tt))
-    straight false false = (refl, (refl, (refl, (refl, (refl, (refl, (refl, (refl, tt))))))))
 
 -- ---- items
 fit : (x : Item) → IsGoodItem x → IsItem x

@@ -1,11 +1,9 @@
 -- Instructions and items that write no register that is outside of the conventions.
 use Rattle.std.proofs.Common.{◌≡◌, ℕ, Bool, true, false, List, ◌++◌, refl}
-use Rattle.std.specs.Prelude.{if◌then◌else◌}
 use Rattle.lg_base.specs.declared.target.Target.TheVariants.{Riscv64}
 use Rattle.lg_carry.specs.Outside.{is_outside}
 use Rattle.lg_carry_rv.specs.Destinations.{WritesWithin}
-use Rattle.lg_carry_rv.specs.Numbers.{is_short, short_code, half_code, long_code, number_code}
-use Rattle.lg_base.specs.Words.{is_half}
+use Rattle.lg_carry_rv.specs.Numbers.{number_code}
 use Rattle.lg_op.specs.declared.operand.Reg.{Reg}
 use Rattle.lg_op.specs.declared.operand.Reg.TheVariants.{R0, R1, R2, V0, V1, V2, Fp}
 use Rattle.lg_rv.specs.declared.instruction.Instr.{Instr}
@@ -14,6 +12,7 @@ use Rattle.lg_sel_items.specs.Holes.{Each}
 use Rattle.lg_selr_items.specs.declared.items.Item.{Item}
 use Rattle.lg_selr_items.specs.declared.items.Item.TheVariants.{One}
 use Rattle.lg_selr_items.specs.Items.{ones, StaysWithin, StayWithin}
+use Rattle.lg_selr_items.proofs.NumberLemmas.{number-each}
 use Rattle.lg_temp.specs.Abis.{register_of}
 
 -- ---- registers
@@ -43,9 +42,4 @@ pub stay-ones : (is : List Instr) → Within is → StayWithin (ones is)
 stay-ones = lists.each-ones StaysWithin One WritesWithin (λ i h. h)
 
 pub number : (rd v : ℕ) → In rd → Within (number_code rd v)
-number rd v h = by (is_short v) (is_half v)
-  where
-    by : (a b : Bool) → Within (if a then short_code rd v else if b then half_code rd v else long_code rd v)
-    by true b = (h, tt)
-    by false true = (h, (h, tt))
-    by false false = (h, (h, (h, (h, (h, (h, (h, (h, tt))))))))
+number rd v h = number-each rd WritesWithin record { high = λ v. h; half = λ v. h; low = λ rs v. h; up = h } v

@@ -13,6 +13,9 @@ use Rattle.lg_rv.specs.declared.instruction.ImmOp.TheVariants as imm
 use Rattle.lg_rv.specs.declared.instruction.RegOp.TheVariants as reg
 use Rattle.lg_rv.specs.declared.instruction.ShiftOp.TheVariants as shift
 use Rattle.lg_rv.specs.declared.instruction.StoreOp.TheVariants as row
+use Rattle.lg_base.specs.HostNames.{host_address}
+use Rattle.lg_op.specs.declared.operand.Operand.{Operand}
+use Rattle.lg_op.specs.declared.operand.Operand.TheVariants as operand
 use Rattle.lg_meaning.specs.Steps.{operand_at, stored_operand}
 use Rattle.lg_op.specs.declared.node.Node.{Node}
 use Rattle.lg_op.specs.declared.op.Addressing.{Addressing}
@@ -22,7 +25,8 @@ use Rattle.lg_selr_memory.proofs.AccessFitLemmas.{narrow, narrow-store}
 use Rattle.lg_selr_items.specs.declared.items.Item.{Item}
 use Rattle.lg_selr_items.specs.Items.{words_in, ones}
 use Rattle.lg_selr_memory.specs.Accesses.{link, register, at_link, near, indexed, is_low, absolute, is_whole, place_of, load_row, store_row, high_row, lower_bytes, higher_bytes, fork, slow_load, store_bytes, store_skip, slow_store, load_at, store_at, load_code, store_code}
-use Rattle.lg_selr_items.proofs.ItemLemmas.{words_append}
+use Rattle.lg_selr_items.proofs.ItemLemmas.{words_append, words-ones}
+use Rattle.lg_selr_memory.specs.PushCode.{into}
 use Rattle.lg_selr_values.proofs.EmissionLemmas.{words_more, number_few}
 use Rattle.lg_temp.specs.Abis.{register_of}
 use Rattle.lg_base.specs.declared.target.Target.TheVariants.{Riscv64}
@@ -120,3 +124,11 @@ store_words xs t at n u =
     let f = place_few (store_width t) a in
     let g = store_at_few (is_whole (store_width t) a) t (register (operand_at n (stored_operand at))) u p.base p.offset in
     omega (arith, w, l, f, g)
+
+-- ---- arguments
+pub into_few : (rd : ℕ) (x : Operand) → words_in (into rd x) ≤ 8
+into_few rd (operand.Reg r) = omega arith
+into_few rd (operand.Number v) = let w = words-ones (number_code rd v) in let f = number_few rd v in omega (arith, w, f)
+into_few rd (operand.Host name) = let w = words-ones (number_code rd (host_address name)) in let f = number_few rd (host_address name) in omega (arith, w, f)
+into_few rd (operand.Label l) = omega arith
+into_few rd (operand.Slot k) = omega arith

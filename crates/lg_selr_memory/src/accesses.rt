@@ -125,7 +125,7 @@ fn is_whole(width: u32, at: Addressing, first: Operand, second: Operand) -> bool
 }
 
 // The sum of a register and a number: what computes it is appended, at most 9 instructions, for which there is room.
-#[tactic(auto, using(lg_selr_values::proofs::EmissionLemmas::ones_twice, lg_selr_values::proofs::EmissionLemmas::number_words))]
+#[tactic(auto, using(lg_selr_values::proofs::EmissionLemmas::ones_twice, lg_selr_values::proofs::EmissionLemmas::number_few, lg_selr_values::proofs::EmissionLemmas::number_words))]
 fn put_indexed(width: u32, register: u8, value: u64, items: &mut Items<Item>) -> Base
     requires some { 0 < width }
     requires room { words_in items.old + 9 ≤ 64 }
@@ -149,6 +149,7 @@ fn put_indexed(width: u32, register: u8, value: u64, items: &mut Items<Item>) ->
 }
 
 // A number as an address: what computes it is appended, at most 8 instructions, for which there is room.
+#[tactic(auto, using(lg_selr_values::proofs::EmissionLemmas::number_few))]
 fn put_absolute(width: u32, value: u64, items: &mut Items<Item>) -> Base
     requires some { 0 < width }
     requires room { words_in items.old + 9 ≤ 64 }

@@ -1,6 +1,6 @@
 -- The code of the operations on two words computes them.
 use Rattle.std.proofs.Common.{◌≡◌, ◌≢◌, ℕ, ◌%◌, ◌^◌, ◌<◌, Bool, true, false, List, [], ◌∷◌, ◌++◌, Some, refl, ap, ◌∙◌, arith, length}
-use Rattle.std.specs.Prelude.{◌==◌, ◌||◌, not, if◌then◌else◌, bit_xor}
+use Rattle.std.specs.Prelude.{◌==◌, ◌||◌, not, if◌then◌else◌, pos, bit_and, bit_or, bit_xor}
 use Rattle.lg_base.specs.Fields.{word_of}
 use Rattle.lg_base.specs.Words.{add_words, sub_words, negated, shifted_left, shifted_right, shifted_right_signed, is_less, is_less_signed, word_of_test}
 use Rattle.lg_op.specs.declared.op.BinaryOp.{BinaryOp}
@@ -8,7 +8,7 @@ use Rattle.lg_op.specs.declared.op.BinaryOp.TheVariants as binary
 use Rattle.lg_operators.specs.Operators.{word_where, is_least_by_minus_one, binary_value, is_carried}
 use Rattle.lg_rv.specs.declared.instruction.Instr.{Instr}
 use Rattle.lg_rv.specs.declared.instruction.Instr.TheVariants.{Imm, Reg}
-use Rattle.lg_rv.specs.declared.instruction.ImmOp.TheVariants.{Addi}
+use Rattle.lg_rv.specs.declared.instruction.ImmOp.TheVariants.{Addi, Slti, Sltiu, Xori, Ori, Andi}
 use Rattle.lg_rv.specs.declared.instruction.RegOp.TheVariants as row
 use Rattle.lg_cpu.specs.HostSteps.{put}
 use Rattle.lg_cpu.specs.RvStep.{read}
@@ -17,7 +17,7 @@ use Rattle.lg_carry_rv.specs.Numbers.{is_short, low_part, number_code}
 use Rattle.lg_carry_rv.proofs.ComputationLemmas.{read-put, read-other, put-other, computed-append, all-compute-append}
 use Rattle.lg_carry_rv.proofs.NumberCodeLemmas.{short-word}
 use Rattle.lg_selr_values.proofs.LoadCodeLemmas.{read-small, puts, puts-again, some-same, LoadsWord, put-small, loads-number, longer}
-use Rattle.lg_selr_values.specs.BinaryCode.{register_code, is_addend, loaded_code, number_form_code}
+use Rattle.lg_selr_values.specs.BinaryCode.{register_code, is_addend, loaded_code, zero_or_loaded_code, equal_code, unequal_code, held_code, held_or_loaded_code, number_form_code}
 
 -- ---- words
 turned : (b : Bool) → bit_xor (word_of_test b) 1 ≡ word_of_test (not b)
@@ -29,6 +29,15 @@ difference-none a b h k = grind (arith, h, k)
 
 difference-some : (a b : ℕ) → a < 2 ^ 64 → b < 2 ^ 64 → word_of_test (is_less 0 (sub_words a b)) ≡ word_of_test (not (a == b))
 difference-some a b h k = grind (arith, h, k)
+
+none-below : (a v : ℕ) → (v == 0) ≡ true → word_of_test (is_less a 1) ≡ word_of_test (a == v)
+none-below a v h = grind (arith, h)
+
+some-above : (a v : ℕ) → (v == 0) ≡ true → word_of_test (is_less 0 a) ≡ word_of_test (not (a == v))
+some-above a v h = grind (arith, h)
+
+is-zero : (v : ℕ) → (v == 0) ≡ true → 0 ≡ v
+is-zero v h = grind (arith, h)
 
 add-negated : (a v : ℕ) → a < 2 ^ 64 → v < 2 ^ 64 → add_words a (negated v) ≡ sub_words a v
 add-negated a v h k = omega (arith, h, k)
@@ -155,13 +164,95 @@ module _ (d a v : ℕ) (some : d ≢ 0) (apart : a ≢ 1) (small : v < 2 ^ 64) (
   rsb-value true z near e = puts-again w d (sub_words 0 (read w a)) (λ t. add_words t (word_of (low_part v))) z some (ap (add_words (sub_words 0 (read w a))) (short-word v small (addend-short v small near)) ∙ negated-add (read w a) v (read-small w a words) small ∙ e)
   rsb-value false z far e = loaded binary.Rsb z refl (ap Some e)
 
+  -- a row that makes f of a word and the number
+  held-word : (f : ℕ → ℕ → ℕ) (z : ℕ) → is_addend v ≡ true → f (read w a) v ≡ z → put w d (f (read w a) (word_of (low_part v))) d ≡ z
+  held-word f z near e = puts w d _ z (ap (f (read w a)) (short-word v small (addend-short v small near)) ∙ e)
+
+  and-value : (b : Bool) (z : ℕ) → is_addend v ≡ b → bit_and (read w a) v ≡ z → computed (if b then Imm Andi d a (low_part v) ∷ [] else loaded_code binary.And d a v) w d ≡ z
+  and-value true z near e = held-word bit_and z near e
+  and-value false z far e = loaded binary.And z refl (ap Some e)
+
+  or-value : (b : Bool) (z : ℕ) → is_addend v ≡ b → bit_or (read w a) v ≡ z → computed (if b then Imm Ori d a (low_part v) ∷ [] else loaded_code binary.Or d a v) w d ≡ z
+  or-value true z near e = held-word bit_or z near e
+  or-value false z far e = loaded binary.Or z refl (ap Some e)
+
+  xor-value : (b : Bool) (z : ℕ) → is_addend v ≡ b → bit_xor (read w a) v ≡ z → computed (if b then Imm Xori d a (low_part v) ∷ [] else loaded_code binary.Xor d a v) w d ≡ z
+  xor-value true z near e = held-word bit_xor z near e
+  xor-value false z far e = loaded binary.Xor z refl (ap Some e)
+
+  less-value : (b : Bool) (z : ℕ) → is_addend v ≡ b → word_of_test (is_less_signed (read w a) v) ≡ z → computed (if b then Imm Slti d a (low_part v) ∷ [] else loaded_code binary.Lt d a v) w d ≡ z
+  less-value true z near e = held-word (λ x y. word_of_test (is_less_signed x y)) z near e
+  less-value false z far e = loaded binary.Lt z refl (ap Some e)
+
+  below-value : (b : Bool) (z : ℕ) → is_addend v ≡ b → word_of_test (is_less (read w a) v) ≡ z → computed (if b then Imm Sltiu d a (low_part v) ∷ [] else loaded_code binary.LtU d a v) w d ≡ z
+  below-value true z near e = held-word (λ x y. word_of_test (is_less x y)) z near e
+  below-value false z far e = loaded binary.LtU z refl (ap Some e)
+
+  -- what a test makes of the number is what it makes of the word in the row
+  held-turned : (f : ℕ → ℕ → Bool) (z : ℕ) → is_addend v ≡ true → word_of_test (not (f (read w a) v)) ≡ z → bit_xor (word_of_test (f (read w a) (word_of (low_part v)))) 1 ≡ z
+  held-turned f z near e = turned (f (read w a) (word_of (low_part v))) ∙ ap (λ y. word_of_test (not (f (read w a) y))) (short-word v small (addend-short v small near)) ∙ e
+
+  not-less-value : (b : Bool) (z : ℕ) → is_addend v ≡ b → word_of_test (not (is_less_signed (read w a) v)) ≡ z
+      → computed (if b then Imm Slti d a (low_part v) ∷ Imm Xori d d (pos 1) ∷ [] else loaded_code binary.Ge d a v) w d ≡ z
+  not-less-value true z near e = puts-again w d (word_of_test (is_less_signed (read w a) (word_of (low_part v)))) (λ t. bit_xor t 1) z some (held-turned is_less_signed z near e)
+  not-less-value false z far e = loaded binary.Ge z refl (ap Some e)
+
+  not-below-value : (b : Bool) (z : ℕ) → is_addend v ≡ b → word_of_test (not (is_less (read w a) v)) ≡ z
+      → computed (if b then Imm Sltiu d a (low_part v) ∷ Imm Xori d d (pos 1) ∷ [] else loaded_code binary.GeU d a v) w d ≡ z
+  not-below-value true z near e = puts-again w d (word_of_test (is_less (read w a) (word_of (low_part v)))) (λ t. bit_xor t 1) z some (held-turned is_less z near e)
+  not-below-value false z far e = loaded binary.GeU z refl (ap Some e)
+
+  -- the word less the number
+  differs : is_addend v ≡ true → add_words (read w a) (word_of (low_part (negated v))) ≡ sub_words (read w a) v
+  differs near = ap (add_words (read w a)) (short-word (negated v) (negated-small v) (addend-turned v small near)) ∙ add-negated (read w a) v (read-small w a words) small
+
+  equal-held : is_addend v ≡ true → (b : Bool) (z : ℕ) → (v == 0) ≡ b → word_of_test (read w a == v) ≡ z
+      → computed (if b then Imm Sltiu d a (pos 1) ∷ [] else Imm Addi d a (low_part (negated v)) ∷ Imm Sltiu d d (pos 1) ∷ []) w d ≡ z
+  equal-held near true z zero e = puts w d _ z (none-below (read w a) v zero ∙ e)
+  equal-held near false z other e =
+      let made = ap (λ t. word_of_test (is_less t 1)) (differs near) ∙ difference-none (read w a) v (read-small w a words) small ∙ e in
+      puts-again w d (add_words (read w a) (word_of (low_part (negated v)))) (λ t. word_of_test (is_less t 1)) z some made
+
+  equal-value : (b : Bool) (z : ℕ) → is_addend v ≡ b → word_of_test (read w a == v) ≡ z → computed (if b then equal_code d a v else loaded_code binary.Eq d a v) w d ≡ z
+  equal-value true z near e = equal-held near (v == 0) z refl e
+  equal-value false z far e = loaded binary.Eq z refl (ap Some e)
+
+  unequal-held : is_addend v ≡ true → (b : Bool) (z : ℕ) → (v == 0) ≡ b → word_of_test (not (read w a == v)) ≡ z
+      → computed (if b then Reg row.Sltu d 0 a ∷ [] else Imm Addi d a (low_part (negated v)) ∷ Reg row.Sltu d 0 d ∷ []) w d ≡ z
+  unequal-held near true z zero e = puts w d _ z (some-above (read w a) v zero ∙ e)
+  unequal-held near false z other e =
+      let made = ap (λ t. word_of_test (is_less 0 t)) (differs near) ∙ difference-some (read w a) v (read-small w a words) small ∙ e in
+      puts-again w d (add_words (read w a) (word_of (low_part (negated v)))) (λ t. word_of_test (is_less 0 t)) z some made
+
+  unequal-value : (b : Bool) (z : ℕ) → is_addend v ≡ b → word_of_test (not (read w a == v)) ≡ z → computed (if b then unequal_code d a v else loaded_code binary.Ne d a v) w d ≡ z
+  unequal-value true z near e = unequal-held near (v == 0) z refl e
+  unequal-value false z far e = loaded binary.Ne z refl (ap Some e)
+
+  -- x0 is the number 0
+  zero-value : (o : BinaryOp) (b : Bool) (z : ℕ) → (v == 0) ≡ b → is_carried o ≡ false → binary_value o (read w a) v ≡ Some z → computed (if b then register_code o d a 0 else loaded_code o d a v) w d ≡ z
+  zero-value o true z zero h e = register-value d a 0 some w words z o h (ap (binary_value o (read w a)) (is-zero v zero) ∙ e)
+  zero-value o false z other h e = loaded o z h e
+
   pub number-value : (o : BinaryOp) (z : ℕ) → is_carried o ≡ false → binary_value o (read w a) v ≡ Some z → computed (number_form_code o d a v) w d ≡ z
   number-value binary.Add z h e = add-value (is_addend v) z refl (some-same _ z e)
   number-value binary.Sub z h e = sub-value (is_addend v) z refl (some-same _ z e)
   number-value binary.Rsb z h e = rsb-value (is_addend v) z refl (some-same _ z e)
+  number-value binary.And z h e = and-value (is_addend v) z refl (some-same _ z e)
+  number-value binary.Or z h e = or-value (is_addend v) z refl (some-same _ z e)
+  number-value binary.Xor z h e = xor-value (is_addend v) z refl (some-same _ z e)
+  number-value binary.Lt z h e = less-value (is_addend v) z refl (some-same _ z e)
+  number-value binary.LtU z h e = below-value (is_addend v) z refl (some-same _ z e)
+  number-value binary.Ge z h e = not-less-value (is_addend v) z refl (some-same _ z e)
+  number-value binary.GeU z h e = not-below-value (is_addend v) z refl (some-same _ z e)
+  number-value binary.Eq z h e = equal-value (is_addend v) z refl (some-same _ z e)
+  number-value binary.Ne z h e = unequal-value (is_addend v) z refl (some-same _ z e)
   number-value binary.Lsh z h e = puts w d _ z (ap (shifted_left (read w a)) (twice-64 v) ∙ some-same _ z e)
   number-value binary.Rsh z h e = puts w d _ z (ap (shifted_right_signed (read w a)) (twice-64 v) ∙ some-same _ z e)
   number-value binary.RshU z h e = puts w d _ z (ap (shifted_right (read w a)) (twice-64 v) ∙ some-same _ z e)
+  number-value binary.Le z h e = zero-value binary.Le (v == 0) z refl h e
+  number-value binary.LeU z h e = zero-value binary.LeU (v == 0) z refl h e
+  number-value binary.Gt z h e = zero-value binary.Gt (v == 0) z refl h e
+  number-value binary.GtU z h e = zero-value binary.GtU (v == 0) z refl h e
   number-value binary.Addc z h e = cc
   number-value binary.Subc z h e = cc
   number-value binary.Addx z h e = cc
@@ -171,25 +262,63 @@ module _ (d a v : ℕ) (some : d ≢ 0) (apart : a ≢ 1) (small : v < 2 ^ 64) (
 loaded-other : (o : BinaryOp) (d a v : ℕ) (small : v < 2 ^ 64) (w : ℕ → ℕ) (r : ℕ) → r ≢ d → r ≢ 1 → computed (loaded_code o d a v) w r ≡ w r
 loaded-other o d a v small w r ne link = loaded-keeps (number_code 1 v) v (loads-number 1 v (λ n. absurd (omega (arith, n))) (omega arith) small) d a w o r ne link
 
+held-keeps : (o : BinaryOp) (d a v : ℕ) (w : ℕ → ℕ) (r : ℕ) → r ≢ d → computed (held_code o d a v) w r ≡ w r
+held-keeps binary.Add d a v w r ne = put-other w d _ r ne
+held-keeps binary.Sub d a v w r ne = put-other w d _ r ne
+held-keeps binary.And d a v w r ne = put-other w d _ r ne
+held-keeps binary.Or d a v w r ne = put-other w d _ r ne
+held-keeps binary.Xor d a v w r ne = put-other w d _ r ne
+held-keeps binary.Lt d a v w r ne = put-other w d _ r ne
+held-keeps binary.LtU d a v w r ne = put-other w d _ r ne
+held-keeps binary.Rsb d a v w r ne = put-other (put w d _) d _ r ne ∙ put-other w d _ r ne
+held-keeps binary.Ge d a v w r ne = put-other (put w d _) d _ r ne ∙ put-other w d _ r ne
+held-keeps binary.GeU d a v w r ne = put-other (put w d _) d _ r ne ∙ put-other w d _ r ne
+held-keeps binary.Eq d a v w r ne = by (v == 0)
+  where
+    by : (b : Bool) → computed (if b then Imm Sltiu d a (pos 1) ∷ [] else Imm Addi d a (low_part (negated v)) ∷ Imm Sltiu d d (pos 1) ∷ []) w r ≡ w r
+    by true = put-other w d _ r ne
+    by false = put-other (put w d _) d _ r ne ∙ put-other w d _ r ne
+held-keeps binary.Ne d a v w r ne = by (v == 0)
+  where
+    by : (b : Bool) → computed (if b then Reg row.Sltu d 0 a ∷ [] else Imm Addi d a (low_part (negated v)) ∷ Reg row.Sltu d 0 d ∷ []) w r ≡ w r
+    by true = put-other w d _ r ne
+    by false = put-other (put w d _) d _ r ne ∙ put-other w d _ r ne
+held-keeps o d a v w r ne = refl
+
+either-keeps : (o : BinaryOp) (d a v : ℕ) (small : v < 2 ^ 64) (w : ℕ → ℕ) (r : ℕ) → r ≢ d → r ≢ 1 → computed (held_or_loaded_code o d a v) w r ≡ w r
+either-keeps o d a v small w r ne link = by (is_addend v)
+  where
+    by : (b : Bool) → computed (if b then held_code o d a v else loaded_code o d a v) w r ≡ w r
+    by true = held-keeps o d a v w r ne
+    by false = loaded-other o d a v small w r ne link
+
+zero-keeps : (o : BinaryOp) (d a v : ℕ) (small : v < 2 ^ 64) (w : ℕ → ℕ) (r : ℕ) → r ≢ d → r ≢ 1 → computed (zero_or_loaded_code o d a v) w r ≡ w r
+zero-keeps o d a v small w r ne link = by (v == 0)
+  where
+    by : (b : Bool) → computed (if b then register_code o d a 0 else loaded_code o d a v) w r ≡ w r
+    by true = register-keeps o d a 0 w r ne
+    by false = loaded-other o d a v small w r ne link
+
 pub number-keeps : (o : BinaryOp) (d a v : ℕ) (small : v < 2 ^ 64) (w : ℕ → ℕ) (r : ℕ) → r ≢ d → r ≢ 1 → computed (number_form_code o d a v) w r ≡ w r
-number-keeps binary.Add d a v small w r ne link = by (is_addend v)
-  where
-    by : (b : Bool) → computed (if b then Imm Addi d a (low_part v) ∷ [] else loaded_code binary.Add d a v) w r ≡ w r
-    by true = put-other w d _ r ne
-    by false = loaded-other binary.Add d a v small w r ne link
-number-keeps binary.Sub d a v small w r ne link = by (is_addend v)
-  where
-    by : (b : Bool) → computed (if b then Imm Addi d a (low_part (negated v)) ∷ [] else loaded_code binary.Sub d a v) w r ≡ w r
-    by true = put-other w d _ r ne
-    by false = loaded-other binary.Sub d a v small w r ne link
-number-keeps binary.Rsb d a v small w r ne link = by (is_addend v)
-  where
-    by : (b : Bool) → computed (if b then Reg row.Sub d 0 a ∷ Imm Addi d d (low_part v) ∷ [] else loaded_code binary.Rsb d a v) w r ≡ w r
-    by true = put-other (put w d _) d _ r ne ∙ put-other w d _ r ne
-    by false = loaded-other binary.Rsb d a v small w r ne link
+number-keeps binary.Add d a v small w r ne link = either-keeps binary.Add d a v small w r ne link
+number-keeps binary.Sub d a v small w r ne link = either-keeps binary.Sub d a v small w r ne link
+number-keeps binary.Rsb d a v small w r ne link = either-keeps binary.Rsb d a v small w r ne link
+number-keeps binary.And d a v small w r ne link = either-keeps binary.And d a v small w r ne link
+number-keeps binary.Or d a v small w r ne link = either-keeps binary.Or d a v small w r ne link
+number-keeps binary.Xor d a v small w r ne link = either-keeps binary.Xor d a v small w r ne link
+number-keeps binary.Lt d a v small w r ne link = either-keeps binary.Lt d a v small w r ne link
+number-keeps binary.LtU d a v small w r ne link = either-keeps binary.LtU d a v small w r ne link
+number-keeps binary.Ge d a v small w r ne link = either-keeps binary.Ge d a v small w r ne link
+number-keeps binary.GeU d a v small w r ne link = either-keeps binary.GeU d a v small w r ne link
+number-keeps binary.Eq d a v small w r ne link = either-keeps binary.Eq d a v small w r ne link
+number-keeps binary.Ne d a v small w r ne link = either-keeps binary.Ne d a v small w r ne link
 number-keeps binary.Lsh d a v small w r ne link = put-other w d _ r ne
 number-keeps binary.Rsh d a v small w r ne link = put-other w d _ r ne
 number-keeps binary.RshU d a v small w r ne link = put-other w d _ r ne
+number-keeps binary.Le d a v small w r ne link = zero-keeps binary.Le d a v small w r ne link
+number-keeps binary.LeU d a v small w r ne link = zero-keeps binary.LeU d a v small w r ne link
+number-keeps binary.Gt d a v small w r ne link = zero-keeps binary.Gt d a v small w r ne link
+number-keeps binary.GtU d a v small w r ne link = zero-keeps binary.GtU d a v small w r ne link
 number-keeps o d a v small w r ne link = loaded-other o d a v small w r ne link
 
 loaded-computes : (o : BinaryOp) (d a v : ℕ) → v < 2 ^ 64 → all_compute (loaded_code o d a v) ≡ true
@@ -203,9 +332,22 @@ pub number-computes : (o : BinaryOp) (d a v : ℕ) → v < 2 ^ 64 → all_comput
 number-computes binary.Add d a v small = either-computes (is_addend v) _ _ refl (loaded-computes binary.Add d a v small)
 number-computes binary.Sub d a v small = either-computes (is_addend v) _ _ refl (loaded-computes binary.Sub d a v small)
 number-computes binary.Rsb d a v small = either-computes (is_addend v) _ _ refl (loaded-computes binary.Rsb d a v small)
+number-computes binary.And d a v small = either-computes (is_addend v) _ _ refl (loaded-computes binary.And d a v small)
+number-computes binary.Or d a v small = either-computes (is_addend v) _ _ refl (loaded-computes binary.Or d a v small)
+number-computes binary.Xor d a v small = either-computes (is_addend v) _ _ refl (loaded-computes binary.Xor d a v small)
+number-computes binary.Lt d a v small = either-computes (is_addend v) _ _ refl (loaded-computes binary.Lt d a v small)
+number-computes binary.LtU d a v small = either-computes (is_addend v) _ _ refl (loaded-computes binary.LtU d a v small)
+number-computes binary.Ge d a v small = either-computes (is_addend v) _ _ refl (loaded-computes binary.Ge d a v small)
+number-computes binary.GeU d a v small = either-computes (is_addend v) _ _ refl (loaded-computes binary.GeU d a v small)
+number-computes binary.Eq d a v small = either-computes (is_addend v) _ _ (either-computes (v == 0) _ _ refl refl) (loaded-computes binary.Eq d a v small)
+number-computes binary.Ne d a v small = either-computes (is_addend v) _ _ (either-computes (v == 0) _ _ refl refl) (loaded-computes binary.Ne d a v small)
 number-computes binary.Lsh d a v small = refl
 number-computes binary.Rsh d a v small = refl
 number-computes binary.RshU d a v small = refl
+number-computes binary.Le d a v small = either-computes (v == 0) _ _ (register-computes binary.Le d a 0) (loaded-computes binary.Le d a v small)
+number-computes binary.LeU d a v small = either-computes (v == 0) _ _ (register-computes binary.LeU d a 0) (loaded-computes binary.LeU d a v small)
+number-computes binary.Gt d a v small = either-computes (v == 0) _ _ (register-computes binary.Gt d a 0) (loaded-computes binary.Gt d a v small)
+number-computes binary.GtU d a v small = either-computes (v == 0) _ _ (register-computes binary.GtU d a 0) (loaded-computes binary.GtU d a v small)
 number-computes o d a v small = loaded-computes o d a v small
 
 loaded-some : (o : BinaryOp) (d a v : ℕ) → v < 2 ^ 64 → 0 < length (loaded_code o d a v)
@@ -219,7 +361,20 @@ pub number-some : (o : BinaryOp) (d a v : ℕ) → v < 2 ^ 64 → 0 < length (nu
 number-some binary.Add d a v small = either-some (is_addend v) _ _ (omega arith) (loaded-some binary.Add d a v small)
 number-some binary.Sub d a v small = either-some (is_addend v) _ _ (omega arith) (loaded-some binary.Sub d a v small)
 number-some binary.Rsb d a v small = either-some (is_addend v) _ _ (omega arith) (loaded-some binary.Rsb d a v small)
+number-some binary.And d a v small = either-some (is_addend v) _ _ (omega arith) (loaded-some binary.And d a v small)
+number-some binary.Or d a v small = either-some (is_addend v) _ _ (omega arith) (loaded-some binary.Or d a v small)
+number-some binary.Xor d a v small = either-some (is_addend v) _ _ (omega arith) (loaded-some binary.Xor d a v small)
+number-some binary.Lt d a v small = either-some (is_addend v) _ _ (omega arith) (loaded-some binary.Lt d a v small)
+number-some binary.LtU d a v small = either-some (is_addend v) _ _ (omega arith) (loaded-some binary.LtU d a v small)
+number-some binary.Ge d a v small = either-some (is_addend v) _ _ (omega arith) (loaded-some binary.Ge d a v small)
+number-some binary.GeU d a v small = either-some (is_addend v) _ _ (omega arith) (loaded-some binary.GeU d a v small)
+number-some binary.Eq d a v small = either-some (is_addend v) _ _ (either-some (v == 0) _ _ (omega arith) (omega arith)) (loaded-some binary.Eq d a v small)
+number-some binary.Ne d a v small = either-some (is_addend v) _ _ (either-some (v == 0) _ _ (omega arith) (omega arith)) (loaded-some binary.Ne d a v small)
 number-some binary.Lsh d a v small = omega arith
 number-some binary.Rsh d a v small = omega arith
 number-some binary.RshU d a v small = omega arith
+number-some binary.Le d a v small = either-some (v == 0) _ _ (omega arith) (loaded-some binary.Le d a v small)
+number-some binary.LeU d a v small = either-some (v == 0) _ _ (omega arith) (loaded-some binary.LeU d a v small)
+number-some binary.Gt d a v small = either-some (v == 0) _ _ (omega arith) (loaded-some binary.Gt d a v small)
+number-some binary.GtU d a v small = either-some (v == 0) _ _ (omega arith) (loaded-some binary.GtU d a v small)
 number-some o d a v small = loaded-some o d a v small

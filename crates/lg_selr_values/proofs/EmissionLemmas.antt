@@ -6,8 +6,8 @@ use Rattle.lg_rv.specs.declared.instruction.Instr.TheVariants.{Imm, Shift, Reg}
 use Rattle.lg_rv.specs.declared.instruction.ImmOp.TheVariants.{Andi}
 use Rattle.lg_rv.specs.declared.instruction.ShiftOp.TheVariants.{Slli, Srli}
 use Rattle.lg_rv.specs.declared.instruction.RegOp.TheVariants as row
-use Rattle.lg_carry_rv.specs.Numbers.{is_short, short_code, half_code, long_code, number_code}
-use Rattle.lg_base.specs.Words.{is_half}
+use Rattle.lg_carry_rv.specs.Numbers.{number_code}
+use Rattle.lg_carry_rv.proofs.NumberCodeLemmas as numbers
 use Rattle.lg_base.specs.HostNames.{host_address}
 use Rattle.lg_op.specs.declared.operand.Operand.{Operand}
 use Rattle.lg_op.specs.declared.operand.Operand.TheVariants as operand
@@ -21,12 +21,7 @@ pub words_more : (xs : List Item) (is : List Instr) → words_in (xs ++ ones is)
 words_more xs is = words_append xs (ones is) ∙ ap (λ n. words_in xs + n) (words-ones is)
 
 pub number_few : (rd v : ℕ) → length (number_code rd v) ≤ 8
-number_few rd v = by (is_short v) (is_half v)
-  where
-    by : (b c : Bool) → length (if b then short_code rd v else if c then half_code rd v else long_code rd v) ≤ 8
-    by true c = omega arith
-    by false true = omega arith
-    by false false = omega arith
+number_few rd v = numbers.number_few rd v
 
 pub ones_twice : (xs : List Item) (is js : List Instr) → (xs ++ ones is) ++ ones js ≡ xs ++ ones (is ++ js)
 ones_twice xs is js = append_assoc xs (ones is) (ones js) ∙ ap (λ ys. xs ++ ys) (sym (ones-append is js))

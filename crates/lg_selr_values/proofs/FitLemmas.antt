@@ -1,7 +1,7 @@
 -- The items of the nodes that compute values: their instructions are in range, write no register outside of the conventions, and each is followed by
 -- the next.
-use Rattle.std.proofs.Common.{ℕ, ◌%◌, ◌<◌, zero, suc, Bool, true, false, List, ◌++◌, refl, arith}
-use Rattle.std.specs.Prelude.{if◌then◌else◌, pos, negsuc, ◌≤ℤ◌}
+use Rattle.std.proofs.Common.{ℕ, ◌%◌, ◌<◌, zero, suc, Bool, true, false, List, [], ◌∷◌, ◌++◌, refl, arith}
+use Rattle.std.specs.Prelude.{◌==◌, if◌then◌else◌, pos, negsuc, ◌≤ℤ◌}
 use Rattle.lg_base.specs.HostNames.{host_address}
 use Rattle.lg_base.specs.Words.{negated}
 use Rattle.lg_base.specs.declared.target.Target.TheVariants.{Riscv64}
@@ -18,11 +18,12 @@ use Rattle.lg_op.specs.declared.operand.Operand.{Operand}
 use Rattle.lg_op.specs.declared.operand.Operand.TheVariants as operand
 use Rattle.lg_operators.specs.Operators.{is_carried}
 use Rattle.lg_rv.specs.Spelling.{IsInstr}
-use Rattle.lg_rv.specs.declared.instruction.ImmOp.TheVariants.{Addi}
+use Rattle.lg_rv.specs.declared.instruction.ImmOp.{ImmOp}
+use Rattle.lg_rv.specs.declared.instruction.ImmOp.TheVariants.{Addi, Slti, Sltiu, Xori, Ori, Andi}
 use Rattle.lg_temp.specs.Abis.{register_of}
 use Rattle.lg_carry_rv.proofs.NumberCodeLemmas.{low-small}
 use Rattle.lg_carry_rv.proofs.RegisterLemmas.{register-small}
-use Rattle.lg_selr_values.specs.BinaryCode.{register_code, is_addend, loaded_code, addend_code, sum_code, number_form_code}
+use Rattle.lg_selr_values.specs.BinaryCode.{register_code, is_addend, loaded_code, zero_or_loaded_code, equal_code, unequal_code, held_code, held_or_loaded_code, number_form_code}
 use Rattle.lg_selr_values.specs.CarriedCode.{carried_code}
 use Rattle.lg_sel_values.specs.ValueNodes.{extension}
 use Rattle.lg_selr_values.specs.UnaryCode.{more_bytes_code, swapped_code, unary_code, retval_code}
@@ -31,7 +32,8 @@ use Rattle.lg_sel_values.specs.Parts.{register_for, operand_in}
 use Rattle.lg_selr_values.specs.ValueItems.{load_items, binary_items, second_items, carried_items, wide_items, operation_items, register_in, body_items}
 use Rattle.lg_carry_rv.specs.Numbers.{low_part, number_code}
 use Rattle.lg_rv.specs.declared.instruction.Instr.{Instr}
-use Rattle.lg_rv.specs.declared.instruction.Instr.TheVariants.{Imm}
+use Rattle.lg_rv.specs.declared.instruction.Instr.TheVariants.{Imm, Reg}
+use Rattle.lg_rv.specs.declared.instruction.RegOp.TheVariants as row
 use Rattle.lg_sel_items.specs.Holes.{Each}
 use Rattle.lg_selr_items.specs.Items.{ones}
 use Rattle.lg_selr_items.specs.GoodItems.{Fine, AreGood, IsGoodItem}
@@ -45,8 +47,8 @@ small-number n h = (grind arith, grind (arith, h))
 imm-fits : (d a n : ℕ) → d < 32 → a < 32 → n < 2048 → (d < 32) × (a < 32) × (negsuc 2047 ≤ℤ pos n) × (pos n ≤ℤ pos 2047)
 imm-fits d a n h k lt = let s = small-number n lt in (h, k, s.0, s.1)
 
-low-fits : (d a v : ℕ) → d < 32 → a < 32 → IsInstr (Imm Addi d a (low_part v))
-low-fits d a v h k = let s = low-small v in (h, k, s.0, s.1)
+low-fits : (o : ImmOp) (d a v : ℕ) → d < 32 → a < 32 → IsInstr (Imm o d a (low_part v))
+low-fits o d a v h k = let s = low-small v in (h, k, s.0, s.1)
 
 pub register-good : (o : BinaryOp) (d a b : ℕ) → Fine d → a < 32 → b < 32 → AreGood (register_code o d a b)
 register-good binary.Rsb d a b h k l = (((h.0, l, k), h.1, refl), tt)
@@ -67,29 +69,72 @@ register-good o d a b h k l = (((h.0, k, l), h.1, refl), tt)
 loaded-good : (o : BinaryOp) (d a v : ℕ) → Fine d → a < 32 → AreGood (loaded_code o d a v)
 loaded-good o d a v h k = good-append (number_code 1 v) (register_code o d a 1) (number-good 1 v link-fine) (register-good o d a 1 h k (omega arith))
 
-addend-good : (o : BinaryOp) (d a v : ℕ) → Fine d → a < 32 → AreGood (addend_code o d a v)
-addend-good binary.Add d a v h k = ((low-fits d a v h.0 k, h.1, refl), tt)
-addend-good binary.Sub d a v h k = ((low-fits d a (negated v) h.0 k, h.1, refl), tt)
-addend-good binary.Rsb d a v h k = (((h.0, omega arith, k), h.1, refl), ((low-fits d d v h.0 h.0, h.1, refl), tt))
-addend-good o d a v h k = tt
-
-sum-good : (o : BinaryOp) (d a v : ℕ) → Fine d → a < 32 → AreGood (sum_code o d a v)
-sum-good o d a v h k = by (is_addend v)
+zero-good : (o : BinaryOp) (d a v : ℕ) → Fine d → a < 32 → AreGood (zero_or_loaded_code o d a v)
+zero-good o d a v h k = by (v == 0)
   where
-    by : (b : Bool) → AreGood (if b then addend_code o d a v else loaded_code o d a v)
-    by true = addend-good o d a v h k
+    by : (b : Bool) → AreGood (if b then register_code o d a 0 else loaded_code o d a v)
+    by true = register-good o d a 0 h k (omega arith)
+    by false = loaded-good o d a v h k
+
+equal-good : (d a v : ℕ) → Fine d → a < 32 → AreGood (equal_code d a v)
+equal-good d a v h k = by (v == 0)
+  where
+    by : (b : Bool) → AreGood (if b then Imm Sltiu d a (pos 1) ∷ [] else Imm Addi d a (low_part (negated v)) ∷ Imm Sltiu d d (pos 1) ∷ [])
+    by true = ((imm-fits d a 1 h.0 k (omega arith), h.1, refl), tt)
+    by false = ((low-fits Addi d a (negated v) h.0 k, h.1, refl), ((imm-fits d d 1 h.0 h.0 (omega arith), h.1, refl), tt))
+
+unequal-good : (d a v : ℕ) → Fine d → a < 32 → AreGood (unequal_code d a v)
+unequal-good d a v h k = by (v == 0)
+  where
+    by : (b : Bool) → AreGood (if b then Reg row.Sltu d 0 a ∷ [] else Imm Addi d a (low_part (negated v)) ∷ Reg row.Sltu d 0 d ∷ [])
+    by true = (((h.0, omega arith, k), h.1, refl), tt)
+    by false = ((low-fits Addi d a (negated v) h.0 k, h.1, refl), (((h.0, omega arith, h.0), h.1, refl), tt))
+
+held-good : (o : BinaryOp) (d a v : ℕ) → Fine d → a < 32 → AreGood (held_code o d a v)
+held-good binary.Add d a v h k = ((low-fits Addi d a v h.0 k, h.1, refl), tt)
+held-good binary.Sub d a v h k = ((low-fits Addi d a (negated v) h.0 k, h.1, refl), tt)
+held-good binary.Rsb d a v h k = (((h.0, omega arith, k), h.1, refl), ((low-fits Addi d d v h.0 h.0, h.1, refl), tt))
+held-good binary.And d a v h k = ((low-fits Andi d a v h.0 k, h.1, refl), tt)
+held-good binary.Or d a v h k = ((low-fits Ori d a v h.0 k, h.1, refl), tt)
+held-good binary.Xor d a v h k = ((low-fits Xori d a v h.0 k, h.1, refl), tt)
+held-good binary.Lt d a v h k = ((low-fits Slti d a v h.0 k, h.1, refl), tt)
+held-good binary.LtU d a v h k = ((low-fits Sltiu d a v h.0 k, h.1, refl), tt)
+held-good binary.Ge d a v h k = ((low-fits Slti d a v h.0 k, h.1, refl), ((imm-fits d d 1 h.0 h.0 (omega arith), h.1, refl), tt))
+held-good binary.GeU d a v h k = ((low-fits Sltiu d a v h.0 k, h.1, refl), ((imm-fits d d 1 h.0 h.0 (omega arith), h.1, refl), tt))
+held-good binary.Eq d a v h k = equal-good d a v h k
+held-good binary.Ne d a v h k = unequal-good d a v h k
+held-good o d a v h k = tt
+
+either-good : (o : BinaryOp) (d a v : ℕ) → Fine d → a < 32 → AreGood (held_or_loaded_code o d a v)
+either-good o d a v h k = by (is_addend v)
+  where
+    by : (b : Bool) → AreGood (if b then held_code o d a v else loaded_code o d a v)
+    by true = held-good o d a v h k
     by false = loaded-good o d a v h k
 
 shift-number : (v : ℕ) → v % 64 < 64
 shift-number v = omega arith
 
 form-good : (o : BinaryOp) (d a v : ℕ) → Fine d → a < 32 → AreGood (number_form_code o d a v)
-form-good binary.Add d a v h k = sum-good binary.Add d a v h k
-form-good binary.Sub d a v h k = sum-good binary.Sub d a v h k
-form-good binary.Rsb d a v h k = sum-good binary.Rsb d a v h k
+form-good binary.Add d a v h k = either-good binary.Add d a v h k
+form-good binary.Sub d a v h k = either-good binary.Sub d a v h k
+form-good binary.Rsb d a v h k = either-good binary.Rsb d a v h k
+form-good binary.And d a v h k = either-good binary.And d a v h k
+form-good binary.Or d a v h k = either-good binary.Or d a v h k
+form-good binary.Xor d a v h k = either-good binary.Xor d a v h k
+form-good binary.Lt d a v h k = either-good binary.Lt d a v h k
+form-good binary.LtU d a v h k = either-good binary.LtU d a v h k
+form-good binary.Ge d a v h k = either-good binary.Ge d a v h k
+form-good binary.GeU d a v h k = either-good binary.GeU d a v h k
+form-good binary.Eq d a v h k = either-good binary.Eq d a v h k
+form-good binary.Ne d a v h k = either-good binary.Ne d a v h k
 form-good binary.Lsh d a v h k = (((h.0, k, shift-number v, λ e. absurd (omega (arith, e))), h.1, refl), tt)
 form-good binary.Rsh d a v h k = (((h.0, k, shift-number v, λ e. absurd (omega (arith, e))), h.1, refl), tt)
 form-good binary.RshU d a v h k = (((h.0, k, shift-number v, λ e. absurd (omega (arith, e))), h.1, refl), tt)
+form-good binary.Le d a v h k = zero-good binary.Le d a v h k
+form-good binary.LeU d a v h k = zero-good binary.LeU d a v h k
+form-good binary.Gt d a v h k = zero-good binary.Gt d a v h k
+form-good binary.GtU d a v h k = zero-good binary.GtU d a v h k
 form-good o d a v h k = loaded-good o d a v h k
 
 more-bytes-good : (d n : ℕ) → Fine d → AreGood (more_bytes_code d n)

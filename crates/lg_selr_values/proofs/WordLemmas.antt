@@ -1,6 +1,6 @@
 -- How many instructions the items of a node are.
 use Rattle.std.proofs.Common.{ℕ, ◌+◌, ◌*◌, ◌≤◌, Bool, true, false, List, [], ◌∷◌, ◌++◌, arith, length, length-append}
-use Rattle.std.specs.Prelude.{if◌then◌else◌}
+use Rattle.std.specs.Prelude.{◌==◌, if◌then◌else◌, pos}
 use Rattle.lg_op.specs.declared.op.Op.{Op}
 use Rattle.lg_op.specs.declared.op.Op.TheVariants as op
 use Rattle.lg_op.specs.declared.op.BinaryOp.{BinaryOp}
@@ -14,19 +14,21 @@ use Rattle.lg_op.specs.declared.operand.Operand.{Operand}
 use Rattle.lg_op.specs.declared.operand.Operand.TheVariants as operand
 use Rattle.lg_operators.specs.Operators.{is_carried}
 use Rattle.lg_rv.specs.declared.instruction.Instr.{Instr}
-use Rattle.lg_rv.specs.declared.instruction.Instr.TheVariants.{Imm}
-use Rattle.lg_rv.specs.declared.instruction.ImmOp.TheVariants.{Ld}
+use Rattle.lg_rv.specs.declared.instruction.Instr.TheVariants.{Imm, Reg}
+use Rattle.lg_rv.specs.declared.instruction.ImmOp.TheVariants.{Addi, Sltiu, Ld}
+use Rattle.lg_rv.specs.declared.instruction.RegOp.TheVariants as row
 use Rattle.lg_temp.specs.declared.choice.Choice.{Choice}
 use Rattle.lg_temp.specs.declared.choice.Choice.TheVariants.{Free, Own, Spill}
 use Rattle.lg_base.specs.declared.target.Target.TheVariants.{Riscv64}
 use Rattle.lg_temp.specs.Abis.{register_of}
-use Rattle.lg_carry_rv.specs.Numbers.{number_code}
+use Rattle.lg_base.specs.Words.{negated}
+use Rattle.lg_carry_rv.specs.Numbers.{low_part, number_code}
 use Rattle.lg_carry_rv.specs.RvRows.{slot_offset}
 use Rattle.lg_selr_items.specs.declared.items.Item.{Item}
 use Rattle.lg_selr_items.specs.declared.items.Item.TheVariants.{One}
 use Rattle.lg_selr_items.specs.Items.{words_in, ones}
 use Rattle.lg_selr_items.proofs.ItemLemmas.{words_append, words-ones}
-use Rattle.lg_selr_values.specs.BinaryCode.{register_code, is_addend, loaded_code, addend_code, sum_code, number_form_code}
+use Rattle.lg_selr_values.specs.BinaryCode.{register_code, is_addend, loaded_code, zero_or_loaded_code, equal_code, unequal_code, held_code, held_or_loaded_code, number_form_code}
 use Rattle.lg_selr_values.specs.CarriedCode.{carried_code}
 use Rattle.lg_sel_values.specs.ValueNodes.{extension}
 use Rattle.lg_selr_values.specs.UnaryCode.{unary_code, retval_code}
@@ -42,24 +44,59 @@ register-few o d a b = omega arith
 loaded-few : (o : BinaryOp) (d a v : ℕ) → length (loaded_code o d a v) ≤ 10
 loaded-few o d a v = let l = length-append (number_code 1 v) (register_code o d a 1) in let n = number_few 1 v in let r = register-few o d a 1 in omega (arith, l, n, r)
 
-addend-few : (o : BinaryOp) (d a v : ℕ) → length (addend_code o d a v) ≤ 2
-addend-few binary.Add d a v = omega arith
-addend-few o d a v = omega arith
-
-sum-few : (o : BinaryOp) (d a v : ℕ) → length (sum_code o d a v) ≤ 10
-sum-few o d a v = by (is_addend v)
+zero-few : (o : BinaryOp) (d a v : ℕ) → length (zero_or_loaded_code o d a v) ≤ 10
+zero-few o d a v = by (v == 0)
   where
-    by : (b : Bool) → length (if b then addend_code o d a v else loaded_code o d a v) ≤ 10
-    by true = let n = addend-few o d a v in omega (arith, n)
+    by : (b : Bool) → length (if b then register_code o d a 0 else loaded_code o d a v) ≤ 10
+    by true = let n = register-few o d a 0 in omega (arith, n)
+    by false = loaded-few o d a v
+
+equal-few : (d a v : ℕ) → length (equal_code d a v) ≤ 2
+equal-few d a v = by (v == 0)
+  where
+    by : (b : Bool) → length (if b then Imm Sltiu d a (pos 1) ∷ [] else Imm Addi d a (low_part (negated v)) ∷ Imm Sltiu d d (pos 1) ∷ []) ≤ 2
+    by true = omega arith
+    by false = omega arith
+
+unequal-few : (d a v : ℕ) → length (unequal_code d a v) ≤ 2
+unequal-few d a v = by (v == 0)
+  where
+    by : (b : Bool) → length (if b then Reg row.Sltu d 0 a ∷ [] else Imm Addi d a (low_part (negated v)) ∷ Reg row.Sltu d 0 d ∷ []) ≤ 2
+    by true = omega arith
+    by false = omega arith
+
+held-few : (o : BinaryOp) (d a v : ℕ) → length (held_code o d a v) ≤ 2
+held-few binary.Eq d a v = equal-few d a v
+held-few binary.Ne d a v = unequal-few d a v
+held-few o d a v = omega arith
+
+either-few : (o : BinaryOp) (d a v : ℕ) → length (held_or_loaded_code o d a v) ≤ 10
+either-few o d a v = by (is_addend v)
+  where
+    by : (b : Bool) → length (if b then held_code o d a v else loaded_code o d a v) ≤ 10
+    by true = let n = held-few o d a v in omega (arith, n)
     by false = loaded-few o d a v
 
 number-form-few : (o : BinaryOp) (d a v : ℕ) → length (number_form_code o d a v) ≤ 10
-number-form-few binary.Add d a v = sum-few binary.Add d a v
-number-form-few binary.Sub d a v = sum-few binary.Sub d a v
-number-form-few binary.Rsb d a v = sum-few binary.Rsb d a v
+number-form-few binary.Add d a v = either-few binary.Add d a v
+number-form-few binary.Sub d a v = either-few binary.Sub d a v
+number-form-few binary.Rsb d a v = either-few binary.Rsb d a v
+number-form-few binary.And d a v = either-few binary.And d a v
+number-form-few binary.Or d a v = either-few binary.Or d a v
+number-form-few binary.Xor d a v = either-few binary.Xor d a v
+number-form-few binary.Lt d a v = either-few binary.Lt d a v
+number-form-few binary.LtU d a v = either-few binary.LtU d a v
+number-form-few binary.Ge d a v = either-few binary.Ge d a v
+number-form-few binary.GeU d a v = either-few binary.GeU d a v
+number-form-few binary.Eq d a v = either-few binary.Eq d a v
+number-form-few binary.Ne d a v = either-few binary.Ne d a v
 number-form-few binary.Lsh d a v = omega arith
 number-form-few binary.Rsh d a v = omega arith
 number-form-few binary.RshU d a v = omega arith
+number-form-few binary.Le d a v = zero-few binary.Le d a v
+number-form-few binary.LeU d a v = zero-few binary.LeU d a v
+number-form-few binary.Gt d a v = zero-few binary.Gt d a v
+number-form-few binary.GtU d a v = zero-few binary.GtU d a v
 number-form-few o d a v = loaded-few o d a v
 
 carried-few : (o : BinaryOp) (u d a : ℕ) → length (carried_code o u d a) ≤ 5

@@ -1,11 +1,11 @@
 -- The code of the operations on two words, from two registers or from a register and a number.
-use Rattle.std.specs.Prelude.{ℕ, ◌+◌, ◌%◌, ◌^◌, nat_lt, Bool, if◌then◌else◌, pos, List, [], ◌∷◌, ◌++◌}
+use Rattle.std.specs.Prelude.{ℕ, ◌+◌, ◌%◌, ◌^◌, ◌==◌, nat_lt, Bool, if◌then◌else◌, pos, List, [], ◌∷◌, ◌++◌}
 use Rattle.lg_base.specs.Words.{negated}
 use Rattle.lg_op.specs.declared.op.BinaryOp.{BinaryOp}
 use Rattle.lg_op.specs.declared.op.BinaryOp.TheVariants as binary
 use Rattle.lg_rv.specs.declared.instruction.Instr.{Instr}
 use Rattle.lg_rv.specs.declared.instruction.Instr.TheVariants.{Imm, Shift, Reg}
-use Rattle.lg_rv.specs.declared.instruction.ImmOp.TheVariants.{Addi, Sltiu, Xori}
+use Rattle.lg_rv.specs.declared.instruction.ImmOp.TheVariants.{Addi, Slti, Sltiu, Xori, Ori, Andi}
 use Rattle.lg_rv.specs.declared.instruction.ShiftOp.TheVariants.{Slli, Srli, Srai}
 use Rattle.lg_rv.specs.declared.instruction.RegOp.TheVariants as row
 use Rattle.lg_carry_rv.specs.Numbers.{low_part, number_code}
@@ -46,22 +46,55 @@ is_addend v = nat_lt ((v + 2047) % 2 ^ 64) 4095
 abbrev pub loaded_code : BinaryOp → ℕ → ℕ → ℕ → List Instr
 loaded_code o d a v = number_code 1 v ++ register_code o d a 1
 
--- d = a op v, where an instruction holds the number
-abbrev pub addend_code : BinaryOp → ℕ → ℕ → ℕ → List Instr
-addend_code binary.Add d a v = Imm Addi d a (low_part v) ∷ []
-addend_code binary.Sub d a v = Imm Addi d a (low_part (negated v)) ∷ []
-addend_code binary.Rsb d a v = Reg row.Sub d 0 a ∷ Imm Addi d d (low_part v) ∷ []
-addend_code o d a v = []
+-- for 0 stands x0
+abbrev pub zero_or_loaded_code : BinaryOp → ℕ → ℕ → ℕ → List Instr
+zero_or_loaded_code o d a v = if v == 0 then register_code o d a 0 else loaded_code o d a v
 
-abbrev pub sum_code : BinaryOp → ℕ → ℕ → ℕ → List Instr
-sum_code o d a v = if is_addend v then addend_code o d a v else loaded_code o d a v
+-- whether a is v, and whether it is not: by their difference, or by a itself where v is 0
+abbrev pub equal_code : ℕ → ℕ → ℕ → List Instr
+equal_code d a v = if v == 0 then Imm Sltiu d a (pos 1) ∷ [] else Imm Addi d a (low_part (negated v)) ∷ Imm Sltiu d d (pos 1) ∷ []
+
+abbrev pub unequal_code : ℕ → ℕ → ℕ → List Instr
+unequal_code d a v = if v == 0 then Reg row.Sltu d 0 a ∷ [] else Imm Addi d a (low_part (negated v)) ∷ Reg row.Sltu d 0 d ∷ []
+
+-- d = a op v, where an instruction holds the number or its negative
+abbrev pub held_code : BinaryOp → ℕ → ℕ → ℕ → List Instr
+held_code binary.Add d a v = Imm Addi d a (low_part v) ∷ []
+held_code binary.Sub d a v = Imm Addi d a (low_part (negated v)) ∷ []
+held_code binary.Rsb d a v = Reg row.Sub d 0 a ∷ Imm Addi d d (low_part v) ∷ []
+held_code binary.And d a v = Imm Andi d a (low_part v) ∷ []
+held_code binary.Or d a v = Imm Ori d a (low_part v) ∷ []
+held_code binary.Xor d a v = Imm Xori d a (low_part v) ∷ []
+held_code binary.Lt d a v = Imm Slti d a (low_part v) ∷ []
+held_code binary.LtU d a v = Imm Sltiu d a (low_part v) ∷ []
+held_code binary.Ge d a v = Imm Slti d a (low_part v) ∷ Imm Xori d d (pos 1) ∷ []
+held_code binary.GeU d a v = Imm Sltiu d a (low_part v) ∷ Imm Xori d d (pos 1) ∷ []
+held_code binary.Eq d a v = equal_code d a v
+held_code binary.Ne d a v = unequal_code d a v
+held_code o d a v = []
+
+abbrev pub held_or_loaded_code : BinaryOp → ℕ → ℕ → ℕ → List Instr
+held_or_loaded_code o d a v = if is_addend v then held_code o d a v else loaded_code o d a v
 
 -- d = a op v; a shift is by the number modulo 64
 abbrev pub number_form_code : BinaryOp → ℕ → ℕ → ℕ → List Instr
-number_form_code binary.Add d a v = sum_code binary.Add d a v
-number_form_code binary.Sub d a v = sum_code binary.Sub d a v
-number_form_code binary.Rsb d a v = sum_code binary.Rsb d a v
+number_form_code binary.Add d a v = held_or_loaded_code binary.Add d a v
+number_form_code binary.Sub d a v = held_or_loaded_code binary.Sub d a v
+number_form_code binary.Rsb d a v = held_or_loaded_code binary.Rsb d a v
+number_form_code binary.And d a v = held_or_loaded_code binary.And d a v
+number_form_code binary.Or d a v = held_or_loaded_code binary.Or d a v
+number_form_code binary.Xor d a v = held_or_loaded_code binary.Xor d a v
 number_form_code binary.Lsh d a v = Shift Slli d a (v % 64) ∷ []
 number_form_code binary.Rsh d a v = Shift Srai d a (v % 64) ∷ []
 number_form_code binary.RshU d a v = Shift Srli d a (v % 64) ∷ []
+number_form_code binary.Lt d a v = held_or_loaded_code binary.Lt d a v
+number_form_code binary.LtU d a v = held_or_loaded_code binary.LtU d a v
+number_form_code binary.Ge d a v = held_or_loaded_code binary.Ge d a v
+number_form_code binary.GeU d a v = held_or_loaded_code binary.GeU d a v
+number_form_code binary.Eq d a v = held_or_loaded_code binary.Eq d a v
+number_form_code binary.Ne d a v = held_or_loaded_code binary.Ne d a v
+number_form_code binary.Le d a v = zero_or_loaded_code binary.Le d a v
+number_form_code binary.LeU d a v = zero_or_loaded_code binary.LeU d a v
+number_form_code binary.Gt d a v = zero_or_loaded_code binary.Gt d a v
+number_form_code binary.GtU d a v = zero_or_loaded_code binary.GtU d a v
 number_form_code o d a v = loaded_code o d a v

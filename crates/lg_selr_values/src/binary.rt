@@ -2,7 +2,7 @@
 
 ghost use Rattle.std.specs.Prelude.{◌≡◌, ◌+◌, ◌≤◌, ◌++◌};
 ghost use Rattle.lg_selr_items.specs.Items.{ones, words_in};
-ghost use Rattle.lg_selr_values.specs.BinaryCode.{register_code, is_addend, loaded_code, addend_code, sum_code, number_form_code};
+ghost use Rattle.lg_selr_values.specs.BinaryCode.{register_code, is_addend, loaded_code, zero_or_loaded_code, equal_code, unequal_code, held_code, held_or_loaded_code, number_form_code};
 
 use lg_op::BinaryOp;
 use lg_rv::{ImmOp, RegOp, ShiftOp};
@@ -51,7 +51,7 @@ fn is_addend(value: u64) -> bool
 }
 
 // Appends the code of `d = a op value` over the link, at most 10 instructions, for which there is room.
-#[tactic(auto, using(crate::proofs::EmissionLemmas::ones_twice))]
+#[tactic(auto, using(crate::proofs::EmissionLemmas::number_few, crate::proofs::EmissionLemmas::ones_twice))]
 fn loaded_code(op: BinaryOp, d: u8, a: u8, value: u64, items: &mut Items<Item>)
     requires { words_in items.old + 10 ≤ 64 }
     ensures { items.new ≡ items.old ++ ones (loaded_code op d a value) }
@@ -60,29 +60,76 @@ fn loaded_code(op: BinaryOp, d: u8, a: u8, value: u64, items: &mut Items<Item>)
     register_code(op, d, a, LINK, items);
 }
 
-// Appends the code of a sum or difference with a number that an instruction holds. There is room for 2 instructions.
-fn addend_code(op: BinaryOp, d: u8, a: u8, value: u64, items: &mut Items<Item>)
-    requires { words_in items.old + 2 ≤ 64 }
-    ensures { items.new ≡ items.old ++ ones (addend_code op d a value) }
+// Appends the code of `d = a op value` over x0 where the number is 0, or else over the link: at most 10 instructions, for which there is room.
+fn zero_or_loaded_code(op: BinaryOp, d: u8, a: u8, value: u64, items: &mut Items<Item>)
+    requires { words_in items.old + 10 ≤ 64 }
+    ensures { items.new ≡ items.old ++ ones (zero_or_loaded_code op d a value) }
 {
+    if value == 0 {
+        register_code(op, d, a, ZERO, items);
+    } else {
+        loaded_code(op, d, a, value, items);
+    }
+}
+
+// Appends the code of `d = (a == value)`, where an instruction holds the negative of the number. There is room for 2 instructions.
+fn equal_code(d: u8, a: u8, value: u64, items: &mut Items<Item>)
+    requires { words_in items.old + 2 ≤ 64 }
+    ensures { items.new ≡ items.old ++ ones (equal_code d a value) }
+{
+    if value == 0 {
+        items.one(imm(ImmOp::Sltiu, d, a, 1));
+    } else {
+        let less = low_part(value.wrapping_neg());
+        items.all(&[imm(ImmOp::Addi, d, a, less), imm(ImmOp::Sltiu, d, d, 1)]);
+    }
+}
+
+// Appends the code of `d = (a != value)`, where an instruction holds the negative of the number. There is room for 2 instructions.
+fn unequal_code(d: u8, a: u8, value: u64, items: &mut Items<Item>)
+    requires { words_in items.old + 2 ≤ 64 }
+    ensures { items.new ≡ items.old ++ ones (unequal_code d a value) }
+{
+    if value == 0 {
+        items.one(row(RegOp::Sltu, d, ZERO, a));
+    } else {
+        let less = low_part(value.wrapping_neg());
+        items.all(&[imm(ImmOp::Addi, d, a, less), row(RegOp::Sltu, d, ZERO, d)]);
+    }
+}
+
+// Appends the code of `d = a op value` where an instruction holds the number or its negative. There is room for 2 instructions. Of an
+// operation that has no such instruction nothing is appended.
+fn held_code(op: BinaryOp, d: u8, a: u8, value: u64, items: &mut Items<Item>)
+    requires { words_in items.old + 2 ≤ 64 }
+    ensures { items.new ≡ items.old ++ ones (held_code op d a value) }
+{
+    let low = low_part(value);
     match op {
-        BinaryOp::Add => items.one(imm(ImmOp::Addi, d, a, low_part(value))),
+        BinaryOp::Add => items.one(imm(ImmOp::Addi, d, a, low)),
         BinaryOp::Sub => items.one(imm(ImmOp::Addi, d, a, low_part(value.wrapping_neg()))),
-        BinaryOp::Rsb => items.all(&[
-            row(RegOp::Sub, d, ZERO, a),
-            imm(ImmOp::Addi, d, d, low_part(value)),
-        ]),
+        BinaryOp::Rsb => items.all(&[row(RegOp::Sub, d, ZERO, a), imm(ImmOp::Addi, d, d, low)]),
+        BinaryOp::And => items.one(imm(ImmOp::Andi, d, a, low)),
+        BinaryOp::Or => items.one(imm(ImmOp::Ori, d, a, low)),
+        BinaryOp::Xor => items.one(imm(ImmOp::Xori, d, a, low)),
+        BinaryOp::Lt => items.one(imm(ImmOp::Slti, d, a, low)),
+        BinaryOp::LtU => items.one(imm(ImmOp::Sltiu, d, a, low)),
+        BinaryOp::Ge => items.all(&[imm(ImmOp::Slti, d, a, low), imm(ImmOp::Xori, d, d, 1)]),
+        BinaryOp::GeU => items.all(&[imm(ImmOp::Sltiu, d, a, low), imm(ImmOp::Xori, d, d, 1)]),
+        BinaryOp::Eq => equal_code(d, a, value, items),
+        BinaryOp::Ne => unequal_code(d, a, value, items),
         _ => {}
     }
 }
 
-// Appends the code of a sum or difference with a number, at most 10 instructions, for which there is room.
-fn sum_code(op: BinaryOp, d: u8, a: u8, value: u64, items: &mut Items<Item>)
+// Appends the code of `d = a op value` by an instruction that holds the number, or else over the link: at most 10 instructions, for which
+// there is room.
+fn held_or_loaded_code(op: BinaryOp, d: u8, a: u8, value: u64, items: &mut Items<Item>)
     requires { words_in items.old + 10 ≤ 64 }
-    ensures { items.new ≡ items.old ++ ones (sum_code op d a value) }
+    ensures { items.new ≡ items.old ++ ones (held_or_loaded_code op d a value) }
 {
     if is_addend(value) {
-        addend_code(op, d, a, value, items);
+        held_code(op, d, a, value, items);
     } else {
         loaded_code(op, d, a, value, items);
     }
@@ -95,10 +142,24 @@ pub fn number_form_code(op: BinaryOp, d: u8, a: u8, value: u64, items: &mut Item
     ensures { items.new ≡ items.old ++ ones (number_form_code op d a value) }
 {
     match op {
-        BinaryOp::Add | BinaryOp::Sub | BinaryOp::Rsb => sum_code(op, d, a, value, items),
+        BinaryOp::Add
+        | BinaryOp::Sub
+        | BinaryOp::Rsb
+        | BinaryOp::And
+        | BinaryOp::Or
+        | BinaryOp::Xor
+        | BinaryOp::Lt
+        | BinaryOp::LtU
+        | BinaryOp::Ge
+        | BinaryOp::GeU
+        | BinaryOp::Eq
+        | BinaryOp::Ne => held_or_loaded_code(op, d, a, value, items),
         BinaryOp::Lsh => items.one(shift(ShiftOp::Slli, d, a, (value % 64) as u8)),
         BinaryOp::Rsh => items.one(shift(ShiftOp::Srai, d, a, (value % 64) as u8)),
         BinaryOp::RshU => items.one(shift(ShiftOp::Srli, d, a, (value % 64) as u8)),
+        BinaryOp::Le | BinaryOp::LeU | BinaryOp::Gt | BinaryOp::GtU => zero_or_loaded_code(
+            op, d, a, value, items,
+        ),
         _ => loaded_code(op, d, a, value, items),
     }
 }

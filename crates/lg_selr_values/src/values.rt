@@ -31,6 +31,7 @@ fn register_for(operand: Operand) -> u8
 
 // Appends the code that puts the word of an immediate into a register: at most 8 instructions, for which there is room. Of a register
 // nothing is appended.
+#[tactic(auto, using(crate::proofs::EmissionLemmas::number_few))]
 fn load_items(rd: u8, x: Operand, items: &mut Items<Item>)
     requires { words_in items.old + 8 ≤ 64 }
     ensures { items.new ≡ items.old ++ load_items rd x }

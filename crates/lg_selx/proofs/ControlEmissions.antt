@@ -35,6 +35,7 @@ use Rattle.lg_selx_control.specs.SumBranches.{sum_row, sum_number, sum_taken, nu
 use Rattle.lg_selx_items.specs.declared.items.Item.TheVariants.{Jump}
 use Rattle.lg_selx_items.specs.declared.items.JumpKind.TheVariants.{Near}
 use Rattle.lg_selx_values.specs.Scratch.{again}
+use Rattle.lg_op.specs.declared.operand.Reg.TheVariants.{R0}
 use Rattle.lg_temp.specs.Abis.{register_of}
 use Rattle.lg_x86.specs.declared.instruction.Cond.{Cond}
 use Rattle.lg_x86.specs.declared.instruction.ImmOp.TheVariants.{Andi, Cmpi}
@@ -124,6 +125,7 @@ module _ (reach : Reach) (is : ℕ → Bool) where
   called xs h = none reach is 1 0
 
   result-emits : (x : Operand) → Passes is x → Emits reach is 1 0 (result_items x)
+  result-emits (operand.Reg R0) h = none reach is 1 0
   result-emits (operand.Reg a) h = plain reach is 1 (instr.RmReg Mov result (register_of X86_64 a) ∷ []) refl
   result-emits (operand.Label l) h = address reach is result l.0 h
   result-emits (operand.Number v) h = number reach is 1 result v

@@ -45,6 +45,7 @@ use Rattle.lg_selx_memory.specs.VariableArgumentCode.{next_argument_code}
 use Rattle.lg_selx_memory.proofs.FitLemmas.{memory-items-fit}
 use Rattle.lg_selx_values.proofs.ValueFitLemmas.{value-items-fit}
 use Rattle.lg_selx_values.specs.Scratch.{again}
+use Rattle.lg_op.specs.declared.operand.Reg.TheVariants.{R0}
 use Rattle.lg_temp.proofs.ChoiceLemmas.{choices-are-for}
 use Rattle.lg_temp.specs.Abis.{register_of}
 use Rattle.lg_temp.specs.Chosen.{around}
@@ -159,6 +160,7 @@ called-small (operand.Host name ∷ []) = few-small (call_items (operand.Host na
 called-small xs = none-small
 
 result-few : (x : Operand) → words_in (result_items x) ≤ 1
+result-few (operand.Reg R0) = omega arith
 result-few (operand.Reg a) = omega arith
 result-few (operand.Label l) = omega arith
 result-few (operand.Number v) = omega arith

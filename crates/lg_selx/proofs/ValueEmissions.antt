@@ -35,6 +35,9 @@ rows-keep : (frame : ℕ) → HoldsOfRows frame Keeps (λ v. ⊤)
 rows-keep frame = record {
   two = λ o rm reg f l. refl;
   half = λ o rm v f small e. refl;
+  near = λ reg base v f l small e. refl;
+  sum = λ reg base index f l k ne. refl;
+  turned = λ v small. tt;
   ext = λ o reg rm f l. refl;
   number = λ r v f small. number-keeps r v;
   zero = refl;
@@ -68,7 +71,7 @@ module _ (reach : Reach) (is : ℕ → Bool) (frame : ℕ) where
   load t (operand.Slot k) h = none reach is 1 0
 
   binary-emits : (o : BinaryOp) (d a : ℕ) (x : Operand) → Fine d → Fine a → Emits reach is 1 0 (binary_items o frame d a x)
-  binary-emits o d a (operand.Reg r) fd fa = of 7 (binary_code o frame d a (register_of X86_64 r)) (binary-made frame Keeps (λ v. ⊤) (rows-keep frame) o d a (register_of X86_64 r) fd fa (register-fine (operand.Reg r)))
+  binary-emits o d a (operand.Reg r) fd fa = of 7 (binary_code o frame d a (register_of X86_64 r)) (binary-made frame Keeps (λ v. ⊤) (rows-keep frame) o d a (register_of X86_64 r) fd fa (register-fine (operand.Reg r)) (register-portable r).no_stack)
   binary-emits o d a (operand.Number v) fd fa = of 6 (binary_number_code o frame d a v) (binary-number-made frame Keeps (λ v. ⊤) (rows-keep frame) d a v fd fa tt o)
   binary-emits o d a (operand.Host name) fd fa = of 6 (binary_number_code o frame d a (host_address name)) (binary-number-made frame Keeps (λ v. ⊤) (rows-keep frame) d a (host_address name) fd fa tt o)
   binary-emits o d a (operand.Label l) fd fa = none reach is 1 0

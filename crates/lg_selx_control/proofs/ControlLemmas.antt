@@ -42,6 +42,7 @@ use Rattle.lg_selx_control.specs.Returns.{return_code}
 use Rattle.lg_selx_control.specs.SumBranches.{before_sum_branch, sum_taken}
 use Rattle.lg_selx_control.specs.Targets.{x86_control}
 use Rattle.lg_selx_control.specs.TwoWays.{jump_if, branch_if}
+use Rattle.lg_op.specs.declared.operand.Reg.TheVariants.{R0}
 use Rattle.lg_selx_control.proofs.TargetLemmas.{is-target, has-places}
 
 -- ---- the instructions of items
@@ -90,6 +91,7 @@ module _ (r : Reach) (to : ℕ → ℕ) (frame at : ℕ) where
   register-calls xs = refl
 
   results : (x : Operand) → settled to at (result_items x ++ ones return_code) ≡ (x86_control r).ret frame (returned_of to x)
+  results (operand.Reg R0) = refl
   results (operand.Reg a) = refl
   results (operand.Number v) = refl
   results (operand.Host name) = refl

@@ -30,6 +30,7 @@ use Rattle.lg_x86.specs.declared.instruction.Instr.TheVariants as instr
 use Rattle.lg_x86.specs.declared.instruction.JumpNearOp.{JumpNearOp}
 use Rattle.lg_x86.specs.declared.instruction.JumpNearOp.TheVariants.{Jmp32, Call32}
 use Rattle.lg_x86.specs.declared.instruction.RmRegOp.TheVariants.{Mov}
+use Rattle.lg_op.specs.declared.operand.Reg.TheVariants.{R0}
 use Rattle.lg_temp.specs.Abis.{register_of}
 use Rattle.lg_carry.specs.Carries.{leaps}
 use Rattle.lg_carry_x86.specs.Numbers.{number_row}
@@ -246,6 +247,7 @@ module _ (r : Reach) (labels frame at : ℕ) (framed : frame < 0x40000000) where
 
   ret : (last : LastOperand) (xs : List Operand) → admit (forms_of (op.Control control.Ret last)) xs ≡ true → AreGiven labels xs
       → AreEmitted labels true (items-of (op.Control control.Ret last) xs)
+  ret last_operand.Register (operand.Reg R0 ∷ []) h v = returns
   ret last_operand.Register (operand.Reg a ∷ []) h v =
       in-front labels true (instr.RmReg Mov result (register_of X86_64 a) ∷ []) (ones return_code) ((omega arith, first-small a), tt) returns
   ret last_operand.Immediate (operand.Number x ∷ []) h v = number-ret x v.0

@@ -11,6 +11,7 @@ use Rattle.lg_base.specs.Spaces.{loaded}
 use Rattle.lg_base.specs.Words.{add_words}
 use Rattle.lg_base.specs.declared.flags.Flags.{Flags}
 use Rattle.lg_base.specs.declared.target.Target.TheVariants.{X86_64}
+use Rattle.lg_op.specs.declared.operand.Reg.TheVariants.{R0}
 use Rattle.lg_temp.specs.Abis.{register_of}
 use Rattle.lg_x86.specs.Spelling.{IsInstr}
 use Rattle.lg_x86.specs.declared.instruction.BareOp.TheVariants.{Ret}
@@ -48,6 +49,7 @@ record Results (r : Returned) (s : Scene) : Type 0 where
 
 results : (r : Returned) (s : Scene) → IsReturned r → Results r s
 results NoWord s ok = record { registers = s.registers; makes_it = refl; value = λ x e. cc; frame = refl; few = omega arith }
+results (OfRegister R0) s ok = record { registers = s.registers; makes_it = refl; value = λ x e. some-same (s.registers 0) x e; frame = refl; few = omega arith }
 results (OfRegister a) s ok = record {
   registers = put s.registers 0 (s.registers (register_of X86_64 a));
   makes_it = refl;

@@ -19,6 +19,7 @@ use Rattle.lg_op.specs.declared.operand.Operand.TheVariants as operand
 use Rattle.lg_op.specs.declared.operand.Reg.{Reg}
 use Rattle.lg_x86.specs.declared.instruction.ImmOp.TheVariants.{Andi, Cmpi}
 use Rattle.lg_x86.specs.declared.instruction.Instr.TheVariants as instr
+use Rattle.lg_op.specs.declared.operand.Reg.TheVariants.{R0}
 use Rattle.lg_temp.specs.Abis.{register_of}
 use Rattle.lg_carry_x86.specs.Destinations.{WritesWithin}
 use Rattle.lg_carry_x86.specs.Numbers.{number_row}
@@ -109,6 +110,7 @@ called (operand.Host name ∷ []) = stay-ones (host_code name) ((refl, tt), ((re
 called xs = tt
 
 results : (x : Operand) → StayWithin (result_items x)
+results (operand.Reg R0) = tt
 results (operand.Reg r) = ((refl, tt), tt)
 results (operand.Label l) = (refl, tt)
 results (operand.Number v) = (number result v refl, tt)

@@ -19,6 +19,7 @@ use Rattle.lg_x86.specs.declared.instruction.Instr.{Instr}
 use Rattle.lg_x86.specs.declared.instruction.Instr.TheVariants as instr
 use Rattle.lg_x86.specs.declared.instruction.JumpNearOp.TheVariants.{Jmp32, Call32}
 use Rattle.lg_x86.specs.declared.instruction.RmRegOp.TheVariants.{Mov}
+use Rattle.lg_op.specs.declared.operand.Reg.TheVariants.{R0}
 use Rattle.lg_temp.specs.Abis.{register_of}
 use Rattle.lg_carry_x86.specs.Numbers.{number_row}
 use Rattle.lg_sel_items.specs.declared.reach.Reach.{Reach}
@@ -71,6 +72,7 @@ word_items None = []
 word_items (Some v) = One (number_row result v) ∷ []
 
 abbrev pub result_items : Operand → List Item
+result_items (operand.Reg R0) = []
 result_items (operand.Reg a) = One (instr.RmReg Mov result (register_of X86_64 a)) ∷ []
 result_items (operand.Label l) = Address result l.0 ∷ []
 result_items x = word_items (immediate x)

@@ -8,6 +8,7 @@ use Rattle.lg_x86.specs.declared.instruction.Instr.{Instr}
 use Rattle.lg_x86.specs.declared.instruction.Instr.TheVariants as instr
 use Rattle.lg_x86.specs.declared.instruction.LoadOp.TheVariants.{Ld64, Lea}
 use Rattle.lg_x86.specs.declared.instruction.RmRegOp.TheVariants.{Mov}
+use Rattle.lg_op.specs.declared.operand.Reg.TheVariants.{R0}
 use Rattle.lg_temp.specs.Abis.{register_of}
 use Rattle.lg_carry_x86.specs.Numbers.{number_row}
 use Rattle.lg_sel_control.specs.Returns.{Returned, NoWord, OfRegister, OfNumber, OfLabel}
@@ -25,9 +26,10 @@ return_code = restore_code ++ (instr.Bare Ret ∷ [])
 abbrev pub result : ℕ
 result = result_register X86_64
 
--- the word that is returned is put there first: that of a register, a number, or the address of a label
+-- the word that is returned is put there first: that of a register, a number, or the address of a label; that of R0, for which rax stands, is there
 abbrev pub result_code : Returned → List Instr
 result_code NoWord = []
+result_code (OfRegister R0) = []
 result_code (OfRegister a) = instr.RmReg Mov result (register_of X86_64 a) ∷ []
 result_code (OfNumber v) = number_row result v ∷ []
 result_code (OfLabel address) = instr.Movi32 result address ∷ []

@@ -6,7 +6,7 @@ ghost use Rattle.lg_selx_control.specs.RegisterLeaps.{called};
 ghost use Rattle.lg_selx_items.specs.Items.{words_in};
 
 use crate::frames::put_return;
-use lg_op::{ControlOp, LastOperand, Operand};
+use lg_op::{ControlOp, LastOperand, Operand, Reg};
 use lg_sel_items::Items;
 use lg_selx_items::{Item, JumpKind, mov, put_number, register_of};
 use lg_x86::{Instr, JumpNearOp, JumpRegOp};
@@ -100,13 +100,14 @@ fn put_register_call(operands: &[Operand], items: &mut Items<Item>)
     }
 }
 
-// Puts the word of a result into its register.
+// Puts the word of a result into its register, which stands for R0.
 fn put_result(operand: Operand, items: &mut Items<Item>)
     requires { items.old ≡ [] }
     ensures items { items.new ≡ result_items operand }
     ensures few { words_in items.new ≤ 1 }
 {
     match operand {
+        Operand::Reg(Reg::R0) => {}
         Operand::Reg(reg) => items.one(mov(RESULT, register_of(reg))),
         Operand::Label(label) => items.push(Item::Address {
             reg: RESULT,

@@ -10,7 +10,7 @@ use Rattle.lg_op.specs.declared.op.BinaryOp.{BinaryOp}
 use Rattle.lg_op.specs.declared.op.BinaryOp.TheVariants as binary
 use Rattle.lg_operators.specs.Operators.{word_where, divides, binary_value, is_carried}
 use Rattle.lg_x86.specs.declared.instruction.Instr.{Instr}
-use Rattle.lg_x86.specs.declared.instruction.Instr.TheVariants.{RmReg, RegRm, Unary}
+use Rattle.lg_x86.specs.declared.instruction.Instr.TheVariants.{RmReg, RegRm, Lea2, Unary}
 use Rattle.lg_x86.specs.declared.instruction.RmRegOp.TheVariants as alu
 use Rattle.lg_x86.specs.declared.instruction.RegRmOp.TheVariants.{Imul, Ext8u}
 use Rattle.lg_x86.specs.declared.instruction.UnaryOp.{UnaryOp}
@@ -30,7 +30,7 @@ use Rattle.lg_sel_nodes.specs.Straight.{is_taken}
 use Rattle.lg_sel_values.specs.Computers.{Held}
 use Rattle.lg_selx_values.specs.WordLaws.{BinariesAreMade}
 use Rattle.lg_selx_values.specs.Scratch.{moved, again}
-use Rattle.lg_selx_values.specs.BinaryCode.{product, compared, shifted, divided, register_code}
+use Rattle.lg_selx_values.specs.BinaryCode.{commuting, added, product, compared, shifted, divided, register_code}
 use Rattle.lg_selx_values.specs.Needs.{spoils}
 use Rattle.lg_selx_values.specs.Words.{MakesWord}
 use Rattle.lg_selx_values.proofs.RegisterLemmas.{put-same, put-other, put-twice, equal, apart, moved-makes}
@@ -47,6 +47,14 @@ some-same x y e = cc
 -- the word that is made is this one
 pub as-word : (choices : List Choice) (body : List Instr) (d x z : ℕ) (q : Held) → MakesWord choices body d x q → x ≡ z → MakesWord choices body d z q
 as-word choices body d x z q s e = record { registers = s.registers; flags = s.flags; value = s.value ∙ e; keeps = s.keeps; makes_it = s.makes_it }
+
+-- ---- sums
+added-word : (choices : List Choice) (d a b : ℕ) (q : Held) → MakesWord choices (added d a b) d (add_words (q.registers a) (q.registers b)) q
+added-word choices d a b q = by ((d == a) || (d == b))
+  where
+    by : (k : Bool) → MakesWord choices (if k then commuting alu.Add d a b else Lea2 d a b ∷ []) d (add_words (q.registers a) (q.registers b)) q
+    by true = commuting-word choices alu.Add d a b false q refl refl (λ m n k. add-swap m n)
+    by false = put-word choices (Lea2 d a b ∷ []) d (add_words (q.registers a) (q.registers b)) q q.flags (λ bytes. refl)
 
 -- ---- products
 mul-swap : (a b : ℕ) → mul_words a b ≡ mul_words b a
@@ -245,7 +253,7 @@ module _ (choices : List Choice) (frame d a b : ℕ) (q : Held) (d5 : d ≢ 5) (
   y = q.registers b
 
   pub register-word : (o : BinaryOp) (z : ℕ) → is_carried o ≡ false → ((r : ℕ) → is_taken choices r ≡ false → r ≢ d → spoils o r ≡ false) → binary_value o x y ≡ Some z → MakesWord choices (register_code o frame d a b) d z q
-  register-word binary.Add z p l e = as-word choices (register_code binary.Add frame d a b) d (add_words x y) z q (commuting-word choices alu.Add d a b false q refl refl (λ m n k. add-swap m n)) (some-same _ z e)
+  register-word binary.Add z p l e = as-word choices (register_code binary.Add frame d a b) d (add_words x y) z q (added-word choices d a b q) (some-same _ z e)
   register-word binary.And z p l e = as-word choices (register_code binary.And frame d a b) d (bit_and x y) z q (commuting-word choices alu.And d a b false q refl refl (λ m n k. and_comm m n)) (some-same _ z e)
   register-word binary.Or z p l e = as-word choices (register_code binary.Or frame d a b) d (bit_or x y) z q (commuting-word choices alu.Or d a b false q refl refl (λ m n k. or_comm m n)) (some-same _ z e)
   register-word binary.Xor z p l e = as-word choices (register_code binary.Xor frame d a b) d (bit_xor x y) z q (commuting-word choices alu.Xor d a b false q refl refl (λ m n k. xor_comm m n)) (some-same _ z e)

@@ -18,8 +18,8 @@ use Rattle.lg_sel_nodes.specs.Straight.{is_taken}
 use Rattle.lg_sel_values.specs.Computers.{Held}
 use Rattle.lg_sel_values.specs.ValueNodes.{binary_node}
 use Rattle.lg_sel_values.proofs.ResultLemmas.{or-false}
-use Rattle.lg_base.specs.Words.{is_half}
-use Rattle.lg_selx_values.specs.BinaryCode.{number_form_code}
+use Rattle.lg_base.specs.Words.{is_half, negated}
+use Rattle.lg_selx_values.specs.BinaryCode.{is_near, number_form_code}
 use Rattle.lg_selx_values.specs.CarriedCode.{carried_number_code}
 use Rattle.lg_selx_values.specs.Needs.{value_needs}
 use Rattle.lg_selx_values.specs.NumberWords.{number_spoils}
@@ -56,8 +56,8 @@ needs-few binary.RemU = omega arith
 needs-few o = omega arith
 
 code-some : (o : BinaryOp) (frame d a v : ℕ) → is_carried o ≡ false → 0 < length (number_form_code o frame d a v)
-code-some binary.Add frame d a v p = some-either (is_half v) _ _ (some-moved d a _ (omega arith)) (some-moved d a _ (omega arith))
-code-some binary.Sub frame d a v p = some-either (is_half v) _ _ (some-moved d a _ (omega arith)) (some-moved d a _ (omega arith))
+code-some binary.Add frame d a v p = some-either (is_near d a v) _ _ (omega arith) (some-either (is_half v) _ _ (some-moved d a _ (omega arith)) (some-moved d a _ (omega arith)))
+code-some binary.Sub frame d a v p = some-either (is_near d a (negated v)) _ _ (omega arith) (some-either (is_half v) _ _ (some-moved d a _ (omega arith)) (some-moved d a _ (omega arith)))
 code-some binary.And frame d a v p = some-either (is_half v) _ _ (some-moved d a _ (omega arith)) (some-moved d a _ (omega arith))
 code-some binary.Or frame d a v p = some-either (is_half v) _ _ (some-moved d a _ (omega arith)) (some-moved d a _ (omega arith))
 code-some binary.Xor frame d a v p = some-either (is_half v) _ _ (some-moved d a _ (omega arith)) (some-moved d a _ (omega arith))

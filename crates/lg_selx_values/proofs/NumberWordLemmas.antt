@@ -15,7 +15,8 @@ use Rattle.lg_x86.specs.declared.instruction.ImmOp.{ImmOp}
 use Rattle.lg_x86.specs.declared.instruction.ImmOp.TheVariants as imm
 use Rattle.lg_base.specs.Flags.{carry_of}
 use Rattle.lg_x86.specs.declared.instruction.Instr.{Instr}
-use Rattle.lg_x86.specs.declared.instruction.Instr.TheVariants.{RmReg, Imm, RegRm, Unary, Shift, Set, Bare, Movi32}
+use Rattle.lg_x86.specs.declared.instruction.Instr.TheVariants.{RmReg, Imm, RegRm, Load, Unary, Shift, Set, Bare, Movi32}
+use Rattle.lg_x86.specs.declared.instruction.LoadOp.TheVariants.{Lea}
 use Rattle.lg_x86.specs.declared.instruction.RegRmOp.TheVariants.{Imul, Ext8u}
 use Rattle.lg_x86.specs.declared.instruction.RmRegOp.TheVariants as alu
 use Rattle.lg_x86.specs.declared.instruction.ShiftOp.{ShiftOp}
@@ -31,7 +32,7 @@ use Rattle.lg_carry_x86.specs.MakingNodes.{scene}
 use Rattle.lg_carry_x86.specs.Makings.{makes}
 use Rattle.lg_carry_x86.specs.Numbers.{number_row}
 use Rattle.lg_carry_x86.proofs.NumberCodeLemmas.{view-word, row-loads}
-use Rattle.lg_selx_values.specs.BinaryCode.{with_number, answer, compared_number, shifted_number, divided_number, number_form_code}
+use Rattle.lg_selx_values.specs.BinaryCode.{with_number, is_near, answer, compared_number, shifted_number, divided_number, number_form_code}
 use Rattle.lg_selx_values.specs.NumberWords.{number_spoils, NumbersAreMade}
 use Rattle.lg_selx_values.specs.Scratch.{moved, again}
 use Rattle.lg_selx_values.specs.Words.{MakesWord}
@@ -226,22 +227,41 @@ module _ (choices : List Choice) (frame r d a v : ℕ) (q : Held) (d5 : d ≢ 5)
         ∙ ap (λ o. option_and_then (makes tail) (sets_quotient (scene (put u2 2 0) q.flags bytes) o)) is;
   }
 
+-- ---- sums
+negated-small : (v : ℕ) → negated v < 2 ^ 64
+negated-small v = omega arith
+
+plus-negated : (m v : ℕ) → m < 2 ^ 64 → v < 2 ^ 64 → add_words m (negated v) ≡ sub_words m v
+plus-negated m v h k = omega (arith, h, k)
+
 -- ---- all operations
 module _ (choices : List Choice) (frame d a v : ℕ) (q : Held) (d5 : d ≢ 5) (d4 : d ≢ 4) (small : v < 2 ^ 64) (words : (r : ℕ) → q.registers r < 2 ^ 64) (pointer : add_words (q.registers 4) (frame - 16) ≡ q.registers 5) where
   abbrev m : ℕ
   m = q.registers a
 
+  rowed : (op : ImmOp) (x z : ℕ) → is_kept_by (alu_of op) ≡ false → carry_for (alu_of op) (carry_of q.flags) ≡ Some false → alu_value (alu_of op) m v 0 ≡ x → Some x ≡ Some z
+      → MakesWord choices (with_number op (alu_of op) frame d a v) d z q
+  rowed op x z kept given is e = as-word choices (with_number op (alu_of op) frame d a v) d _ z q (number-row-word op frame d a v false q kept given d5 d4 small pointer).word (is ∙ some-same x z e)
+
   row-word : (o : BinaryOp) (op : ImmOp) (x z : ℕ) → is_kept_by (alu_of op) ≡ false → carry_for (alu_of op) (carry_of q.flags) ≡ Some false → number_form_code o frame d a v ≡ with_number op (alu_of op) frame d a v → alu_value (alu_of op) m v 0 ≡ x → Some x ≡ Some z
       → MakesWord choices (number_form_code o frame d a v) d z q
-  row-word o op x z kept given same is e =
-      subst (λ body. MakesWord choices body d z q) (sym same) (as-word choices (with_number op (alu_of op) frame d a v) d _ z q (number-row-word op frame d a v false q kept given d5 d4 small pointer).word (is ∙ some-same x z e))
+  row-word o op x z kept given same is e = subst (λ body. MakesWord choices body d z q) (sym same) (rowed op x z kept given is e)
+
+  -- `lea`, where it makes the sum
+  near-word : (n : ℕ) → n < 2 ^ 64 → (rest : List Instr) (z : ℕ) → add_words m n ≡ z → MakesWord choices rest d z q → MakesWord choices (if is_near d a n then Load Lea d a (signed_view n) ∷ [] else rest) d z q
+  near-word n low rest z is other = by (is_near d a n)
+    where
+      by : (b : Bool) → MakesWord choices (if b then Load Lea d a (signed_view n) ∷ [] else rest) d z q
+      by true = put-word choices (Load Lea d a (signed_view n) ∷ []) d z q q.flags
+          (λ bytes. ap (λ x. Some (scene (put q.registers d (add_words m x)) q.flags bytes)) (view-word n low) ∙ ap (λ x. Some (scene (put q.registers d x) q.flags bytes)) is)
+      by false = other
 
   answered : (c : Cond) (t : Bool) (z : ℕ) → condition_holds c (difference_flags m v 0 (sub_words m v)) ≡ Some t → Some (word_of_test t) ≡ Some z → MakesWord choices (compared_number c frame d a v) d z q
   answered c t z is e = as-word choices (compared_number c frame d a v) d (word_of_test t) z q (answer-number frame d a v q d5 d4 small words pointer c t is) (some-same _ z e)
 
   pub number-word : (o : BinaryOp) (z : ℕ) → is_carried o ≡ false → ((r : ℕ) → is_taken choices r ≡ false → r ≢ d → number_spoils o r ≡ false) → binary_value o m v ≡ Some z → MakesWord choices (number_form_code o frame d a v) d z q
-  number-word binary.Add z p l e = row-word binary.Add imm.Addi (add_words m v) z refl refl refl refl e
-  number-word binary.Sub z p l e = row-word binary.Sub imm.Subi (sub_words m v) z refl refl refl refl e
+  number-word binary.Add z p l e = near-word v small (with_number imm.Addi alu.Add frame d a v) z (some-same _ z e) (rowed imm.Addi (add_words m v) z refl refl refl e)
+  number-word binary.Sub z p l e = near-word (negated v) (negated-small v) (with_number imm.Subi alu.Sub frame d a v) z (plus-negated m v (words a) small ∙ some-same _ z e) (rowed imm.Subi (sub_words m v) z refl refl refl e)
   number-word binary.And z p l e = row-word binary.And imm.Andi (bit_and m v) z refl refl refl refl e
   number-word binary.Or z p l e = row-word binary.Or imm.Ori (bit_or m v) z refl refl refl refl e
   number-word binary.Xor z p l e = row-word binary.Xor imm.Xori (bit_xor m v) z refl refl refl refl e

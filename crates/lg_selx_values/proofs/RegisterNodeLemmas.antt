@@ -115,7 +115,7 @@ some-either true xs ys h k = h
 some-either false xs ys h k = k
 
 code-some : (o : BinaryOp) (frame d a b : ℕ) → is_carried o ≡ false → 0 < length (register_code o frame d a b)
-code-some binary.Add frame d a b p = some-either (d == b) _ _ (omega arith) (some-moved d a _ (omega arith))
+code-some binary.Add frame d a b p = some-either ((d == a) || (d == b)) _ _ (some-either (d == b) _ _ (omega arith) (some-moved d a _ (omega arith))) (omega arith)
 code-some binary.And frame d a b p = some-either (d == b) _ _ (omega arith) (some-moved d a _ (omega arith))
 code-some binary.Or frame d a b p = some-either (d == b) _ _ (omega arith) (some-moved d a _ (omega arith))
 code-some binary.Xor frame d a b p = some-either (d == b) _ _ (omega arith) (some-moved d a _ (omega arith))

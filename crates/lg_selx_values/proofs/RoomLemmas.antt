@@ -20,6 +20,9 @@ rows-any : (frame : ℕ) → HoldsOfRows frame (λ i. ⊤) (λ v. ⊤)
 rows-any frame = record {
   two = λ o rm reg f l. tt;
   half = λ o rm v f small e. tt;
+  near = λ reg base v f l small e. tt;
+  sum = λ reg base index f l k ne. tt;
+  turned = λ v small. tt;
   ext = λ o reg rm f l. tt;
   number = λ r v f small. tt;
   zero = tt;

@@ -1,7 +1,8 @@
 -- What holds of the rows that the code of values is made of holds of all of it; and its instructions are few.
-use Rattle.std.proofs.Common.{◌≡◌, ℕ, ◌+◌, ◌-◌, ◌≤◌, ◌<◌, Bool, true, false, List, [], ◌∷◌, ◌++◌, length, length-append, refl, arith}
-use Rattle.std.specs.Prelude.{◌==◌, ◌%◌, if◌then◌else◌, pos}
-use Rattle.lg_base.specs.Words.{signed_view, is_half}
+use Rattle.std.proofs.Common.{◌≡◌, ◌≢◌, ℕ, ◌+◌, ◌-◌, ◌≤◌, ◌<◌, Bool, true, false, List, [], ◌∷◌, ◌++◌, length, length-append, refl, arith}
+use Rattle.std.specs.Prelude.{◌==◌, ◌||◌, not, ◌%◌, if◌then◌else◌, pos}
+use Rattle.std.proofs.lemmas.Bool.{and_parts}
+use Rattle.lg_base.specs.Words.{signed_view, is_half, negated}
 use Rattle.lg_op.specs.declared.op.BinaryOp.{BinaryOp}
 use Rattle.lg_op.specs.declared.op.BinaryOp.TheVariants as binary
 use Rattle.lg_op.specs.declared.op.UnaryOp.TheVariants as unary
@@ -16,7 +17,7 @@ use Rattle.lg_x86.specs.declared.instruction.Cond.{Cond}
 use Rattle.lg_x86.specs.declared.instruction.ImmOp.{ImmOp}
 use Rattle.lg_x86.specs.declared.instruction.ImmOp.TheVariants as imm
 use Rattle.lg_x86.specs.declared.instruction.Instr.{Instr}
-use Rattle.lg_x86.specs.declared.instruction.Instr.TheVariants.{RmReg, Imm, RegRm, Load, Movi32, Unary, Shift, Bswap, Set, Bare}
+use Rattle.lg_x86.specs.declared.instruction.Instr.TheVariants.{RmReg, Imm, RegRm, Load, Lea2, Movi32, Unary, Shift, Bswap, Set, Bare}
 use Rattle.lg_x86.specs.declared.instruction.LoadOp.TheVariants.{Lea}
 use Rattle.lg_x86.specs.declared.instruction.RegRmOp.{RegRmOp}
 use Rattle.lg_x86.specs.declared.instruction.RegRmOp.TheVariants as ext
@@ -30,7 +31,7 @@ use Rattle.lg_carry_x86.specs.Numbers.{number_row}
 use Rattle.lg_sel_items.specs.Holes.{Each}
 use Rattle.lg_sel_items.proofs.ListLemmas.{each-append}
 use Rattle.lg_selx_items.specs.GoodItems.{Fine}
-use Rattle.lg_selx_values.specs.BinaryCode.{ordered, commuting, difference, product, answer, compared, shifted, divided, cond_of, register_code, with_number, compared_number, shifted_number, divided_number, number_form_code}
+use Rattle.lg_selx_values.specs.BinaryCode.{ordered, commuting, added, difference, product, answer, compared, shifted, divided, cond_of, register_code, with_number, is_near, added_number, less_number, compared_number, shifted_number, divided_number, number_form_code}
 use Rattle.lg_selx_values.specs.CarriedCode.{taken_away, carried_register_code, carried_number_code}
 use Rattle.lg_selx_values.specs.Scratch.{moved, again}
 use Rattle.lg_selx_values.specs.UnaryCode.{unary_code, retval_code}
@@ -41,6 +42,9 @@ use Rattle.lg_selx_values.specs.WideCode.{results, wide_code, wide_number_code}
 pub record HoldsOfRows (frame : ℕ) (P : Instr → Type 0) (S : ℕ → Type 0) : Type 0 where
   pub two : (op : RmRegOp) (rm reg : ℕ) → Fine rm → reg < 16 → P (RmReg op rm reg)
   pub half : (op : ImmOp) (rm v : ℕ) → Fine rm → S v → is_half v ≡ true → P (Imm op rm (signed_view v))
+  pub near : (reg base v : ℕ) → Fine reg → base < 16 → S v → is_half v ≡ true → P (Load Lea reg base (signed_view v))
+  pub sum : (reg base index : ℕ) → Fine reg → base < 16 → index < 16 → index ≢ 4 → P (Lea2 reg base index)
+  pub turned : (v : ℕ) → S v → S (negated v)
   pub ext : (op : RegRmOp) (reg rm : ℕ) → Fine reg → rm < 16 → P (RegRm op reg rm)
   pub number : (r v : ℕ) → Fine r → S v → P (number_row r v)
   pub zero : P (Movi32 2 0)
@@ -110,6 +114,9 @@ module _ (frame : ℕ) (P : Instr → Type 0) (S : ℕ → Type 0) (h : HoldsOfR
     commuting-made : (op : RmRegOp) → Made 2 (commuting op d a b)
     commuting-made op = either 2 (d == b) (RmReg op d a ∷ []) (ordered op d a b) record { each = (h.two op d a fd fa.0, tt); few = omega arith } (ordered-made op)
 
+    added-made : b ≢ 4 → Made 2 (added d a b)
+    added-made b4 = either 2 ((d == a) || (d == b)) (commuting alu.Add d a b) (Lea2 d a b ∷ []) (commuting-made alu.Add) record { each = (h.sum d a b fd fa.0 fb.0 b4, tt); few = omega arith }
+
     difference-made : Made 2 (difference d a b)
     difference-made = either 2 (d == b) (RmReg alu.Sub d a ∷ Unary row.Neg d ∷ []) (ordered alu.Sub d a b) record { each = (h.two alu.Sub d a fd fa.0, (h.one row.Neg d fd, tt)); few = omega arith } (ordered-made alu.Sub)
 
@@ -151,25 +158,25 @@ module _ (frame : ℕ) (P : Instr → Type 0) (S : ℕ → Type 0) (h : HoldsOfR
     carried-made binary.Subx = wider 4 7 (taken_away alu.Sbb frame d a b) (omega arith) (taken-made alu.Sbb)
     carried-made o = record { each = tt; few = omega arith }
 
-  register-made : (o : BinaryOp) (d a b : ℕ) → Fine d → Fine a → Fine b → Made 7 (register_code o frame d a b)
-  register-made binary.Add d a b fd fa fb = wider 2 7 (commuting alu.Add d a b) (omega arith) (commuting-made d a b fd fa fb alu.Add)
-  register-made binary.Sub d a b fd fa fb = wider 2 7 (difference d a b) (omega arith) (difference-made d a b fd fa fb)
-  register-made binary.Rsb d a b fd fa fb = wider 2 7 (difference d b a) (omega arith) (difference-made d b a fd fb fa)
-  register-made binary.Mul d a b fd fa fb = wider 2 7 (product d a b) (omega arith) (product-made d a b fd fa fb)
-  register-made binary.And d a b fd fa fb = wider 2 7 (commuting alu.And d a b) (omega arith) (commuting-made d a b fd fa fb alu.And)
-  register-made binary.Or d a b fd fa fb = wider 2 7 (commuting alu.Or d a b) (omega arith) (commuting-made d a b fd fa fb alu.Or)
-  register-made binary.Xor d a b fd fa fb = wider 2 7 (commuting alu.Xor d a b) (omega arith) (commuting-made d a b fd fa fb alu.Xor)
-  register-made binary.Lsh d a b fd fa fb = wider 3 7 (shifted row.Shl d a b) (omega arith) (shifted-made d a b fd fa fb row.Shl)
-  register-made binary.Rsh d a b fd fa fb = wider 3 7 (shifted row.Sar d a b) (omega arith) (shifted-made d a b fd fa fb row.Sar)
-  register-made binary.RshU d a b fd fa fb = wider 3 7 (shifted row.Shr d a b) (omega arith) (shifted-made d a b fd fa fb row.Shr)
-  register-made binary.Div d a b fd fa fb = divided-made d a b fd fa fb true 0 (omega arith)
-  register-made binary.DivU d a b fd fa fb = divided-made d a b fd fa fb false 0 (omega arith)
-  register-made binary.Rem d a b fd fa fb = divided-made d a b fd fa fb true 2 (omega arith)
-  register-made binary.RemU d a b fd fa fb = divided-made d a b fd fa fb false 2 (omega arith)
-  register-made o d a b fd fa fb = wider 3 7 (compared (cond_of o) d a b) (omega arith) (compared-made d a b fd fa fb (cond_of o))
+  register-made : (o : BinaryOp) (d a b : ℕ) → Fine d → Fine a → Fine b → b ≢ 4 → Made 7 (register_code o frame d a b)
+  register-made binary.Add d a b fd fa fb b4 = wider 2 7 (added d a b) (omega arith) (added-made d a b fd fa fb b4)
+  register-made binary.Sub d a b fd fa fb b4 = wider 2 7 (difference d a b) (omega arith) (difference-made d a b fd fa fb)
+  register-made binary.Rsb d a b fd fa fb b4 = wider 2 7 (difference d b a) (omega arith) (difference-made d b a fd fb fa)
+  register-made binary.Mul d a b fd fa fb b4 = wider 2 7 (product d a b) (omega arith) (product-made d a b fd fa fb)
+  register-made binary.And d a b fd fa fb b4 = wider 2 7 (commuting alu.And d a b) (omega arith) (commuting-made d a b fd fa fb alu.And)
+  register-made binary.Or d a b fd fa fb b4 = wider 2 7 (commuting alu.Or d a b) (omega arith) (commuting-made d a b fd fa fb alu.Or)
+  register-made binary.Xor d a b fd fa fb b4 = wider 2 7 (commuting alu.Xor d a b) (omega arith) (commuting-made d a b fd fa fb alu.Xor)
+  register-made binary.Lsh d a b fd fa fb b4 = wider 3 7 (shifted row.Shl d a b) (omega arith) (shifted-made d a b fd fa fb row.Shl)
+  register-made binary.Rsh d a b fd fa fb b4 = wider 3 7 (shifted row.Sar d a b) (omega arith) (shifted-made d a b fd fa fb row.Sar)
+  register-made binary.RshU d a b fd fa fb b4 = wider 3 7 (shifted row.Shr d a b) (omega arith) (shifted-made d a b fd fa fb row.Shr)
+  register-made binary.Div d a b fd fa fb b4 = divided-made d a b fd fa fb true 0 (omega arith)
+  register-made binary.DivU d a b fd fa fb b4 = divided-made d a b fd fa fb false 0 (omega arith)
+  register-made binary.Rem d a b fd fa fb b4 = divided-made d a b fd fa fb true 2 (omega arith)
+  register-made binary.RemU d a b fd fa fb b4 = divided-made d a b fd fa fb false 2 (omega arith)
+  register-made o d a b fd fa fb b4 = wider 3 7 (compared (cond_of o) d a b) (omega arith) (compared-made d a b fd fa fb (cond_of o))
 
-  pub binary-made : (o : BinaryOp) (d a b : ℕ) → Fine d → Fine a → Fine b → Made 7 (binary_code o frame d a b)
-  binary-made o d a b fd fa fb = either 7 (is_carried o) (carried_register_code o frame d a b) (register_code o frame d a b) (carried-made d a b fd fa fb o) (register-made o d a b fd fa fb)
+  pub binary-made : (o : BinaryOp) (d a b : ℕ) → Fine d → Fine a → Fine b → b ≢ 4 → Made 7 (binary_code o frame d a b)
+  binary-made o d a b fd fa fb b4 = either 7 (is_carried o) (carried_register_code o frame d a b) (register_code o frame d a b) (carried-made d a b fd fa fb o) (register-made o d a b fd fa fb b4)
 
   -- ---- a register and a number
   module _ (d a v : ℕ) (fd : Fine d) (fa : Fine a) (small : S v) where
@@ -178,6 +185,14 @@ module _ (frame : ℕ) (P : Instr → Type 0) (S : ℕ → Type 0) (h : HoldsOfR
         halved 4 v (moved d a ++ Imm op d (signed_view v) ∷ []) (moved d a ++ (number_row 5 v ∷ (RmReg by d 5 ∷ again frame)))
         (λ e. wider 2 4 _ (omega arith) (behind 1 d a (Imm op d (signed_view v) ∷ []) fd fa.0 record { each = (h.half op d v fd small e, tt); few = omega arith }))
         (behind 3 d a (number_row 5 v ∷ (RmReg by d 5 ∷ again frame)) fd fa.0 record { each = (h.number 5 v rbp-fine small, (h.two by d 5 fd (omega arith), (h.again, tt))); few = omega arith })
+
+    -- `lea`, or else other code
+    near-made : (n : ℕ) → S n → (rest : List Instr) → Made 4 rest → Made 4 (if is_near d a n then Load Lea d a (signed_view n) ∷ [] else rest)
+    near-made n s rest k = by (is_near d a n) refl
+      where
+        by : (b : Bool) → is_near d a n ≡ b → Made 4 (if b then Load Lea d a (signed_view n) ∷ [] else rest)
+        by true e = record { each = (h.near d a n fd fa.0 s (and_parts (not (d == a)) (is_half n) e).1, tt); few = omega arith }
+        by false e = k
 
     compared-number-made : (c : Cond) → Made 6 (compared_number c frame d a v)
     compared-number-made c =
@@ -215,8 +230,10 @@ module _ (frame : ℕ) (P : Instr → Type 0) (S : ℕ → Type 0) (h : HoldsOfR
     plain op by = wider 4 6 (with_number op by frame d a v) (omega arith) (number-made d a v fd fa small op by)
 
     form-made : (o : BinaryOp) → Made 6 (number_form_code o frame d a v)
-    form-made binary.Add = plain imm.Addi alu.Add
-    form-made binary.Sub = plain imm.Subi alu.Sub
+    form-made binary.Add = wider 4 6 (added_number frame d a v) (omega arith) (near-made d a v fd fa small v small (with_number imm.Addi alu.Add frame d a v) (number-made d a v fd fa small imm.Addi alu.Add))
+    form-made binary.Sub =
+        wider 4 6 (less_number frame d a v) (omega arith)
+        (near-made d a v fd fa small (negated v) (h.turned v small) (with_number imm.Subi alu.Sub frame d a v) (number-made d a v fd fa small imm.Subi alu.Sub))
     form-made binary.And = plain imm.Andi alu.And
     form-made binary.Or = plain imm.Ori alu.Or
     form-made binary.Xor = plain imm.Xori alu.Xor

@@ -6,7 +6,7 @@ use Rattle.lg_x86.specs.Spelling.{spelling}
 use Rattle.lg_x86.specs.declared.instruction.BareOp.TheVariants as bare
 use Rattle.lg_x86.specs.declared.instruction.LoadOp.TheVariants as load
 use Rattle.lg_x86.specs.declared.instruction.Instr.{Instr}
-use Rattle.lg_x86.specs.declared.instruction.Instr.TheVariants.{RmReg, Imm, RegRm, Load, Movi32, Unary, Shift, Bswap, Set, Bare}
+use Rattle.lg_x86.specs.declared.instruction.Instr.TheVariants.{RmReg, Imm, RegRm, Load, Lea2, Movi32, Unary, Shift, Bswap, Set, Bare}
 use Rattle.lg_x86.proofs.SizeLemmas.{sized}
 use Rattle.lg_carry_x86.specs.Numbers.{number_row}
 use Rattle.lg_sel_items.specs.Holes.{Each}
@@ -26,6 +26,9 @@ pub rows-short : (frame : ℕ) → HoldsOfRows frame (λ i. length (spelling i) 
 rows-short frame = record {
   two = λ o rm reg f l. few (RmReg o rm reg);
   half = λ o rm v f small e. few (Imm o rm (signed_view v));
+  near = λ reg base v f l small e. few (Load load.Lea reg base (signed_view v));
+  sum = λ reg base index f l k ne. few (Lea2 reg base index);
+  turned = λ v small. tt;
   ext = λ o reg rm f l. few (RegRm o reg rm);
   number = λ r v f small. few (number_row r v);
   zero = few (Movi32 2 0);

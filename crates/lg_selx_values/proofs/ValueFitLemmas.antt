@@ -91,7 +91,7 @@ module _ (frame : ℕ) (Q : Item → Type 0) (S : ℕ → Type 0) (h : HoldsOfRo
   load-are t (operand.Slot k) f s = none
 
   binary-are : (o : BinaryOp) (d a : ℕ) (x : Operand) → Fine d → Fine a → Has S x → Are 8 (binary_items o frame d a x)
-  binary-are o d a (operand.Reg r) fd fa s = of 7 (binary_code o frame d a (register_of X86_64 r)) (omega arith) (binary-made frame P S h o d a (register_of X86_64 r) fd fa (register-fine (operand.Reg r)))
+  binary-are o d a (operand.Reg r) fd fa s = of 7 (binary_code o frame d a (register_of X86_64 r)) (omega arith) (binary-made frame P S h o d a (register_of X86_64 r) fd fa (register-fine (operand.Reg r)) (register-portable r).no_stack)
   binary-are o d a (operand.Number v) fd fa s = of 6 (binary_number_code o frame d a v) (omega arith) (binary-number-made frame P S h d a v fd fa s o)
   binary-are o d a (operand.Host name) fd fa s = of 6 (binary_number_code o frame d a (host_address name)) (omega arith) (binary-number-made frame P S h d a (host_address name) fd fa (hosts name) o)
   binary-are o d a (operand.Label l) fd fa s = none
@@ -139,6 +139,9 @@ rows-good : (frame : ℕ) → frame ≤ 65808 → HoldsOfRows frame IsGood (λ v
 rows-good frame high = record {
   two = λ o rm reg f l. ((f.0, l), (f.1, tt), refl);
   half = λ o rm v f small e. ((f.0, half-number v small e), (f.1, tt), refl);
+  near = λ reg base v f l small e. ((f.0, l, half-number v small e), (f.1, tt), refl);
+  sum = λ reg base index f l k ne. ((f.0, l, k, ne), (f.1, tt), refl);
+  turned = λ v small. omega arith;
   ext = λ o reg rm f l. ((f.0, l), (f.1, tt), refl);
   number = λ r v f small. number-good r v f small;
   zero = ((omega arith, omega arith), (refl, tt), refl);
@@ -207,6 +210,9 @@ rows-within : (frame : ℕ) → HoldsOfRows frame WritesWithin (λ v. ⊤)
 rows-within frame = record {
   two = λ o rm reg f l. (f.1, tt);
   half = λ o rm v f small e. (f.1, tt);
+  near = λ reg base v f l small e. (f.1, tt);
+  sum = λ reg base index f l k ne. (f.1, tt);
+  turned = λ v small. tt;
   ext = λ o reg rm f l. (f.1, tt);
   number = λ r v f small. number-within r v f.1;
   zero = (refl, tt);

@@ -1,15 +1,16 @@
 -- The code of the operations on two words, from two registers or from a register and a number.
-use Rattle.std.specs.Prelude.{ℕ, ◌%◌, ◌==◌, Bool, true, false, if◌then◌else◌, List, [], ◌∷◌, ◌++◌}
-use Rattle.lg_base.specs.Words.{signed_view, is_half}
+use Rattle.std.specs.Prelude.{ℕ, ◌%◌, ◌==◌, ◌&&◌, ◌||◌, not, Bool, true, false, if◌then◌else◌, List, [], ◌∷◌, ◌++◌}
+use Rattle.lg_base.specs.Words.{signed_view, is_half, negated}
 use Rattle.lg_op.specs.declared.op.BinaryOp.{BinaryOp}
 use Rattle.lg_op.specs.declared.op.BinaryOp.TheVariants as binary
 use Rattle.lg_x86.specs.declared.instruction.Instr.{Instr}
-use Rattle.lg_x86.specs.declared.instruction.Instr.TheVariants.{RmReg, Imm, RegRm, Movi32, Unary, Shift, Set, Bare}
+use Rattle.lg_x86.specs.declared.instruction.Instr.TheVariants.{RmReg, Imm, RegRm, Load, Lea2, Movi32, Unary, Shift, Set, Bare}
 use Rattle.lg_x86.specs.declared.instruction.RmRegOp.{RmRegOp}
 use Rattle.lg_x86.specs.declared.instruction.RmRegOp.TheVariants as alu
 use Rattle.lg_x86.specs.declared.instruction.ImmOp.{ImmOp}
 use Rattle.lg_x86.specs.declared.instruction.ImmOp.TheVariants as imm
 use Rattle.lg_x86.specs.declared.instruction.RegRmOp.TheVariants.{Imul, Ext8u}
+use Rattle.lg_x86.specs.declared.instruction.LoadOp.TheVariants.{Lea}
 use Rattle.lg_x86.specs.declared.instruction.UnaryOp.{UnaryOp}
 use Rattle.lg_x86.specs.declared.instruction.UnaryOp.TheVariants.{Neg, Div, Idiv, Shl, Shr, Sar}
 use Rattle.lg_x86.specs.declared.instruction.ShiftOp.{ShiftOp}
@@ -26,6 +27,10 @@ ordered op d a b = moved d a ++ RmReg op d b ∷ []
 
 abbrev pub commuting : RmRegOp → ℕ → ℕ → ℕ → List Instr
 commuting op d a b = if d == b then RmReg op d a ∷ [] else ordered op d a b
+
+-- d = a + b: where d is neither, `lea`, which no flag is asked of
+abbrev pub added : ℕ → ℕ → ℕ → List Instr
+added d a b = if (d == a) || (d == b) then commuting alu.Add d a b else Lea2 d a b ∷ []
 
 -- d = a - b: where d is b, 0 - (b - a)
 abbrev pub difference : ℕ → ℕ → ℕ → List Instr
@@ -65,7 +70,7 @@ cond_of o = cond.NotEqual
 
 -- d = a op b; the operations that set the carry stand in CarriedCode
 abbrev pub register_code : BinaryOp → ℕ → ℕ → ℕ → ℕ → List Instr
-register_code binary.Add frame d a b = commuting alu.Add d a b
+register_code binary.Add frame d a b = added d a b
 register_code binary.Sub frame d a b = difference d a b
 register_code binary.Rsb frame d a b = difference d b a
 register_code binary.Mul frame d a b = product d a b
@@ -87,6 +92,16 @@ with_number op alu frame d a v =
     if is_half v then moved d a ++ Imm op d (signed_view v) ∷ []
     else moved d a ++ (number_row 5 v ∷ (RmReg alu d 5 ∷ again frame))
 
+-- d = a + v and d = a - v: where d is another register and 32 bits hold what is added, `lea`
+abbrev pub is_near : ℕ → ℕ → ℕ → Bool
+is_near d a v = not (d == a) && is_half v
+
+abbrev pub added_number : ℕ → ℕ → ℕ → ℕ → List Instr
+added_number frame d a v = if is_near d a v then Load Lea d a (signed_view v) ∷ [] else with_number imm.Addi alu.Add frame d a v
+
+abbrev pub less_number : ℕ → ℕ → ℕ → ℕ → List Instr
+less_number frame d a v = if is_near d a (negated v) then Load Lea d a (signed_view (negated v)) ∷ [] else with_number imm.Subi alu.Sub frame d a v
+
 abbrev pub compared_number : Cond → ℕ → ℕ → ℕ → ℕ → List Instr
 compared_number c frame d a v =
     if is_half v then Imm imm.Cmpi a (signed_view v) ∷ answer c d
@@ -100,8 +115,8 @@ divided_number true frame r d a v = RmReg alu.Mov 0 a ∷ (number_row 5 v ∷ (B
 divided_number false frame r d a v = RmReg alu.Mov 0 a ∷ (number_row 5 v ∷ (Movi32 2 0 ∷ Unary Div 5 ∷ RmReg alu.Mov d r ∷ again frame))
 
 abbrev pub number_form_code : BinaryOp → ℕ → ℕ → ℕ → ℕ → List Instr
-number_form_code binary.Add frame d a v = with_number imm.Addi alu.Add frame d a v
-number_form_code binary.Sub frame d a v = with_number imm.Subi alu.Sub frame d a v
+number_form_code binary.Add frame d a v = added_number frame d a v
+number_form_code binary.Sub frame d a v = less_number frame d a v
 number_form_code binary.Rsb frame d a v = moved d a ++ (Unary Neg d ∷ with_number imm.Addi alu.Add frame d d v)
 number_form_code binary.Mul frame d a v = moved d a ++ (number_row 5 v ∷ (RegRm Imul d 5 ∷ again frame))
 number_form_code binary.And frame d a v = with_number imm.Andi alu.And frame d a v

@@ -2,7 +2,7 @@
 
 ghost use Rattle.std.specs.Prelude.{◌≡◌, ◌+◌, ◌≤◌, ◌++◌, ◌∷◌, true, false};
 ghost use Rattle.lg_selx_items.specs.Items.{ones, words_in};
-ghost use Rattle.lg_selx_values.specs.BinaryCode.{ordered, commuting, difference, product, compared, shifted, divided, cond_of, register_code, with_number, compared_number, shifted_number, divided_number, number_form_code};
+ghost use Rattle.lg_selx_values.specs.BinaryCode.{ordered, commuting, added, difference, product, compared, shifted, divided, cond_of, register_code, with_number, is_near, added_number, less_number, compared_number, shifted_number, divided_number, number_form_code};
 
 use crate::moves::{
     RAX, RCX, RDX, SCRATCH, again, behind_move, behind_number, ext, imm, moved, one, sign,
@@ -10,7 +10,7 @@ use crate::moves::{
 use lg_base::word::is_half;
 use lg_op::BinaryOp;
 use lg_sel_items::Items;
-use lg_selx_items::{Item, mov, row};
+use lg_selx_items::{Item, half_number, lea, mov, row};
 use lg_x86::{Cond, ImmOp, Instr, RegRmOp, RmRegOp, ShiftOp, UnaryOp};
 
 /// Appends the code of `d = a op b`, where `d` is not `b` or the order of the words does not matter: at most 2 instructions, for which there is
@@ -31,6 +31,22 @@ pub(crate) fn commuting(op: RmRegOp, d: u8, a: u8, b: u8, items: &mut Items<Item
         items.one(row(op, d, a));
     } else {
         ordered(op, d, a, b, items);
+    }
+}
+
+// Appends the code of `d = a + b`: at most 2 instructions, for which there is room. Where `d` is neither it is `lea`.
+fn added(d: u8, a: u8, b: u8, items: &mut Items<Item>)
+    requires { words_in items.old + 2 ≤ 64 }
+    ensures { items.new ≡ items.old ++ ones (added d a b) }
+{
+    if d == a || d == b {
+        commuting(RmRegOp::Add, d, a, b, items);
+    } else {
+        items.one(Instr::Lea2 {
+            reg: d,
+            base: a,
+            index: b,
+        });
     }
 }
 
@@ -152,7 +168,7 @@ pub(crate) fn register_code(op: BinaryOp, frame: u32, d: u8, a: u8, b: u8, items
     ensures { items.new ≡ items.old ++ ones (register_code op frame d a b) }
 {
     match op {
-        BinaryOp::Add => commuting(RmRegOp::Add, d, a, b, items),
+        BinaryOp::Add => added(d, a, b, items),
         BinaryOp::Sub => difference(d, a, b, items),
         BinaryOp::Rsb => difference(d, b, a, items),
         BinaryOp::Mul => product(d, a, b, items),
@@ -192,6 +208,42 @@ pub(crate) fn with_number(
     } else {
         moved(d, a, items);
         behind_number(SCRATCH, value, &[row(alu, d, SCRATCH), again(frame)], items);
+    }
+}
+
+// Whether `lea` makes the sum of `a` and a number for `d`: another register, and 32 bits.
+fn is_near(d: u8, a: u8, value: u64) -> bool
+    ensures { result ≡ is_near d a value }
+{
+    d != a && is_half(value)
+}
+
+// Appends the code of `d = a + value`: at most 4 instructions, for which there is room.
+fn added_number(frame: u32, d: u8, a: u8, value: u64, items: &mut Items<Item>)
+    requires low { 272 ≤ frame }
+    requires high { frame ≤ 65808 }
+    requires room { words_in items.old + 4 ≤ 64 }
+    ensures { items.new ≡ items.old ++ ones (added_number frame d a value) }
+{
+    if is_near(d, a, value) {
+        items.one(lea(d, a, half_number(value)));
+    } else {
+        with_number(ImmOp::Addi, RmRegOp::Add, frame, d, a, value, items);
+    }
+}
+
+// Appends the code of `d = a - value`: at most 4 instructions, for which there is room.
+fn less_number(frame: u32, d: u8, a: u8, value: u64, items: &mut Items<Item>)
+    requires low { 272 ≤ frame }
+    requires high { frame ≤ 65808 }
+    requires room { words_in items.old + 4 ≤ 64 }
+    ensures { items.new ≡ items.old ++ ones (less_number frame d a value) }
+{
+    let added = value.wrapping_neg();
+    if is_near(d, a, added) {
+        items.one(lea(d, a, half_number(added)));
+    } else {
+        with_number(ImmOp::Subi, RmRegOp::Sub, frame, d, a, value, items);
     }
 }
 
@@ -323,8 +375,8 @@ pub(crate) fn number_form_code(
     ensures { items.new ≡ items.old ++ ones (number_form_code op frame d a value) }
 {
     match op {
-        BinaryOp::Add => with_number(ImmOp::Addi, RmRegOp::Add, frame, d, a, value, items),
-        BinaryOp::Sub => with_number(ImmOp::Subi, RmRegOp::Sub, frame, d, a, value, items),
+        BinaryOp::Add => added_number(frame, d, a, value, items),
+        BinaryOp::Sub => less_number(frame, d, a, value, items),
         BinaryOp::Rsb => taken_from(frame, d, a, value, items),
         BinaryOp::Mul => product_number(frame, d, a, value, items),
         BinaryOp::And => with_number(ImmOp::Andi, RmRegOp::And, frame, d, a, value, items),
