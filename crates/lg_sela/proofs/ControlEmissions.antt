@@ -35,7 +35,8 @@ use Rattle.lg_sela.proofs.Emissions.{NoneStores, Emits, none, append, more, inst
 use Rattle.lg_sela_control.specs.Alignments.{padding, idle, align_code}
 use Rattle.lg_sela_control.specs.Branches.{comparison, taken, turned}
 use Rattle.lg_sela_control.specs.ControlItems.{second_register, word_items, second_items, leads_items, branch_if_items, branch_items, sum_items, jump_items, call_items, result_items, ret_items, register_leap_items, leap_items, align_items, control_items}
-use Rattle.lg_sela_control.specs.Prologs.{prolog_code}
+use Rattle.lg_sel_control.proofs.StoreLemmas.{stored-few}
+use Rattle.lg_sela_control.specs.Prologs.{stored_registers, store_word, fall_code, prolog_code}
 use Rattle.lg_sela_control.specs.RegisterLeaps.{register_leap_code}
 use Rattle.lg_sela_control.specs.Returns.{result, near_return, far_return, return_code}
 use Rattle.lg_sela_control.specs.SumBranches.{sum_instruction, sum_taken}
@@ -56,9 +57,12 @@ idle-none : (k : ℕ) → NoneStores (idle k)
 idle-none zero = refl
 idle-none (suc k) = idle-none k
 
--- a `prolog` stores 13 registers
-prolog-few : (frame : ℕ) → stores.stores_among a64_stores (prolog_code frame) ≤ 16
-prolog-few frame = omega arith
+-- a `prolog` stores at most 13 registers
+prolog-few : (frame homes : ℕ) → stores.stores_among a64_stores (prolog_code frame homes) ≤ 16
+prolog-few frame homes =
+    let h : stores.stores_among a64_stores (prolog_code frame homes) ≤ length (stored_registers homes) =
+    stores.among-stores a64_stores store_word (stored_registers homes) 0 (instr.Imm Addi frame_pointer stack_pointer 96 false ∷ fall_code (frame - 112)) refl in
+    let few = stored-few Aarch64 link homes in omega (arith, h, few)
 
 -- what leads to a label
 leads-emit : (reach : Reach) (is : ℕ → Bool) (holds : Cond) (l : Label) → is l.0 ≡ true → Emits reach is 1 0 (leads_items reach holds l)
@@ -148,19 +152,19 @@ module _ (reach : Reach) (is : ℕ → Bool) where
   aligned at (operand.Number n ∷ []) = plain reach is 1 (align_code at n) (idle-none (padding at n))
   aligned at xs = none reach is 1 0
 
-  pub controls-emit : (o : Op) (xs : List Operand) (frame at : ℕ) → is_free o ≡ false → AllPass is xs → Emits reach is 1 0 (control_items reach o xs frame at)
-  controls-emit (op.Branch o last) xs frame at other h = branched o xs h
-  controls-emit (op.BranchSum o last) xs frame at other h = summed o xs h
-  controls-emit (op.Control o last) xs frame at other h = leaps frame o last xs h
-  controls-emit (op.Plain plain_op.Prolog) xs frame at other h = cc
-  controls-emit (op.Plain plain_op.Epilog) xs frame at other h = plain reach is 1 (return_code frame) (return-none frame)
-  controls-emit (op.Plain plain_op.Ret) xs frame at other h = plain reach is 1 (return_code frame) (return-none frame)
-  controls-emit (op.Plain plain_op.Align) xs frame at other h = aligned at xs
-  controls-emit (op.Plain plain_op.Movi) xs frame at other h = none reach is 1 0
-  controls-emit (op.Plain o) xs frame at other h = none reach is 1 0
-  controls-emit o xs frame at other h = none reach is 1 0
+  pub controls-emit : (o : Op) (xs : List Operand) (frame homes at : ℕ) → is_free o ≡ false → AllPass is xs → Emits reach is 1 0 (control_items reach o xs frame homes at)
+  controls-emit (op.Branch o last) xs frame homes at other h = branched o xs h
+  controls-emit (op.BranchSum o last) xs frame homes at other h = summed o xs h
+  controls-emit (op.Control o last) xs frame homes at other h = leaps frame o last xs h
+  controls-emit (op.Plain plain_op.Prolog) xs frame homes at other h = cc
+  controls-emit (op.Plain plain_op.Epilog) xs frame homes at other h = plain reach is 1 (return_code frame) (return-none frame)
+  controls-emit (op.Plain plain_op.Ret) xs frame homes at other h = plain reach is 1 (return_code frame) (return-none frame)
+  controls-emit (op.Plain plain_op.Align) xs frame homes at other h = aligned at xs
+  controls-emit (op.Plain plain_op.Movi) xs frame homes at other h = none reach is 1 0
+  controls-emit (op.Plain o) xs frame homes at other h = none reach is 1 0
+  controls-emit o xs frame homes at other h = none reach is 1 0
 
   -- a `prolog` has no fix
-  pub prologs-emit : (o : Op) (xs : List Operand) (frame at : ℕ) → is_free o ≡ true → Emits reach is 1 16 (control_items reach o xs frame at)
-  prologs-emit (op.Plain plain_op.Prolog) xs frame at free = instructions reach is 1 16 (prolog_code frame) (prolog-few frame)
-  prologs-emit o xs frame at free = cc
+  pub prologs-emit : (o : Op) (xs : List Operand) (frame homes at : ℕ) → is_free o ≡ true → Emits reach is 1 16 (control_items reach o xs frame homes at)
+  prologs-emit (op.Plain plain_op.Prolog) xs frame homes at free = instructions reach is 1 16 (prolog_code frame homes) (prolog-few frame homes)
+  prologs-emit o xs frame homes at free = cc

@@ -39,6 +39,7 @@ use lg_temp::choice::{Choices, Staged};
 pub fn select(
     node: &Node,
     frame: u32,
+    homes: u32,
     choices: &Choices,
     live_after: RegSet,
     staged: Staged,
@@ -66,12 +67,12 @@ pub fn select(
     ensures ahead { IsTrue result → IsAheadWhenFinished Target.Aarch64 node.now buf.old buf.new }
     ensures instructions { IsTrue result → AreInstructionsWhenFinished Target.Aarch64 buf.old buf.new }
     ensures sparing { IsTrue result → IsSparingWhenFinished Target.Aarch64 node.now choices.now buf.old buf.new }
-    ensures carries { IsTrue result → IsCarriedWhenFinished Target.Aarch64 node.now frame (has live_after) staged.arguments buf.old buf.new }
+    ensures carries { IsTrue result → IsCarriedWhenFinished Target.Aarch64 node.now frame homes (has live_after) staged.arguments buf.old buf.new }
 {
     let operands = node.operands.as_slice();
     see_numbers(operands);
     let (_reach, items) = shortest_items(operands, buf, |reach| {
-        items_by(reach, node, frame, choices, live_after, &staged, buf)
+        items_by(reach, node, frame, homes, choices, live_after, &staged, buf)
     });
     append(&items, buf)
 }
