@@ -1,8 +1,7 @@
 -- A `prolog` makes the frame.
-use Rattle.std.proofs.Common.{◌≡◌, ℕ, zero, suc, ◌+◌, ◌-◌, ◌*◌, ◌^◌, ◌<◌, ◌≤◌, ◌⊎◌, inl, inr, Bool, true, false, List, [], ◌∷◌, ◌++◌, Option, Some, refl, sym, ap, ◌∙◌, subst, arith, length}
+use Rattle.std.proofs.Common.{◌≡◌, ℕ, zero, suc, ◌+◌, ◌-◌, ◌*◌, ◌^◌, ◌<◌, ◌≤◌, ◌⊎◌, inl, inr, true, List, [], ◌∷◌, ◌++◌, Option, Some, refl, sym, ap, ◌∙◌, subst, arith, length}
 use Rattle.std.specs.List.{list_all}
-use Rattle.std.specs.Prelude.{◌==◌, not, min, negsuc, slice_index, take, if◌then◌else◌}
-use Rattle.std.proofs.lemmas.Bool.{and_parts}
+use Rattle.std.specs.Prelude.{◌==◌, not, min, negsuc, slice_index, take}
 use Rattle.std.proofs.lemmas.List.{length-take}
 use Rattle.std.specs.Option.{option_and_then}
 use Rattle.lg_base.specs.Conventions.{argument_registers, portable_register}
@@ -33,7 +32,8 @@ use Rattle.lg_carry_x86.specs.X86Rows.{x86_processor, x86_rows, x86_seen}
 use Rattle.lg_sel_nodes.specs.Stretches.{StandsAt, behind}
 use Rattle.lg_sel_control.specs.Prologs.{Entrance, PrologsLead}
 use Rattle.lg_sel_control.proofs.EntranceLemmas.{taken-at}
-use Rattle.lg_sel_control.proofs.StoreLemmas.{word_below, with_stored, HasStack, mapped-below, stored-off, stored-word, take-all, stores-before}
+use Rattle.lg_sel_control.proofs.StoreLemmas.{word_below, with_stored, HasStack, mapped-below, stored-off, stored-word, take-all}
+use Rattle.lg_sel_control.proofs.StoreLemmas.{stores-before, stored-besides}
 use Rattle.lg_selx_control.specs.Prologs.{lowered, stored_registers, store_word, stores_below, prolog_code}
 use Rattle.lg_selx_control.proofs.SpareLemmas.{lower-is}
 use Rattle.lg_selx_control.proofs.StretchLemmas.{Made, stands-high, made-passed}
@@ -69,30 +69,9 @@ module _ (sp : ℕ) (low : 0x3FF00010 + 272 ≤ sp) (high : sp ≤ 0x40000000) w
       let is-there : mapped m (word_below sp 1) 8 ≡ true = mapped-below m sp 1 (omega arith) low high there in
       rw (address, is-there) refl
 
--- ---- none of them is FP, which is set before
-is-other : ℕ → Bool
-is-other r = not (r == 5)
-
-differs : (r : ℕ) → is-other r ≡ true → (r == 5) ≡ false
-unfolding is-other
-differs r h = grind (arith, h)
-
-arguments-are : list_all is-other (argument_registers X86_64) ≡ true
-unfolding is-other
-arguments-are = refl
-
-are-others : (homes : ℕ) → list_all is-other (stored_registers homes) ≡ true
-unfolding is-other
-are-others homes = take-all is-other (argument_registers X86_64) homes arguments-are
-
-stored-same : (w : ℕ → ℕ) (x sp : ℕ) (rs : List ℕ) (k : ℕ) (m : ℕ → Option ℕ) → list_all is-other rs ≡ true
-    → with_stored m (put w 5 x) sp rs k ≡ with_stored m w sp rs k
-stored-same w x sp [] k m h = refl
-stored-same w x sp (r ∷ rs) k m h =
-    let p = and_parts (is-other r) (list_all is-other rs) h in
-    let value : put w 5 x r ≡ w r = ap (λ b. if b then x else w r) (differs r p.0) in
-    ap (λ v. with_stored (stored m (word_below sp k) 8 v) (put w 5 x) sp rs (suc k)) value
-    ∙ stored-same w x sp rs (suc k) (stored m (word_below sp k) 8 (w r)) p.1
+-- none of them is FP, which is set before
+are-others : (homes : ℕ) → list_all (λ r. not (r == 5)) (stored_registers homes) ≡ true
+are-others homes = take-all (λ r. not (r == 5)) (argument_registers X86_64) homes refl
 
 -- ---- the code
 -- FP, and what is stored by it
@@ -127,7 +106,7 @@ module _ (size homes sp : ℕ) (w : ℕ → ℕ) (f : Flags) (m : ℕ → Option
       ∙ ap (λ x. makes rest (scene (put w 5 x) f m1)) (ap (λ x. add_words x (word_of (negsuc 7))) at ∙ first-address sp low top)
       ∙ stores-made sp low top (stored_registers homes) 2 (lowered size) (put w 5 (sp - 16)) f m1 (omega arith) few refl
       (λ j e. stored-there m (word_below sp 1) 8 (w 5) j (there j e))
-      ∙ ap (λ b. makes (lowered size) (scene (put w 5 (sp - 16)) f b)) (stored-same w (sp - 16) sp (stored_registers homes) 2 m1 (are-others homes))
+      ∙ ap (λ b. makes (lowered size) (scene (put w 5 (sp - 16)) f b)) (stored-besides w 5 (sp - 16) sp (stored_registers homes) 2 m1 (are-others homes))
       ∙ ap (λ x. Some (scene (put (put w 5 (sp - 16)) 4 x) f end_bytes)) (lower-is size sp large room top)
 
 -- ---- what is then in the frame

@@ -83,8 +83,9 @@ fn home_stores() -> [Instr; 6]
 // Appends the stores of a `prolog` by FP with so many homes.
 #[tactic(auto, using(lg_selx_items::proofs::ItemLemmas::words_append))]
 fn put_stores(homes: u32, items: &mut Items<Item>)
-    requires { words_in items.old ≤ 50 }
-    ensures { items.new ≡ items.old ++ ones (stores_below (stored_registers homes) 2) }
+    requires room { words_in items.old ≤ 50 }
+    ensures stored { items.new ≡ items.old ++ ones (stores_below (stored_registers homes) 2) }
+    ensures few { words_in items.new ≤ words_in items.old + 9 }
 {
     items.all(&saves());
     items.all(&home_stores()[..homes.min(6) as usize]);
