@@ -33,6 +33,7 @@ fn homes_of(list: &NodeList, first: u32, last: u32) -> u32
     requires within { last < length list.now.nodes }
     ensures { result ≡ homes_of (slice_range list.now.nodes first (last + 1)) }
 {
+    list.what_holds();
     let mut homes = 0;
     'nodes: for index in first..last + 1 {
         homes = homes.max(homes_by(&list.node(index)));
