@@ -1,16 +1,17 @@
 -- The items of the nodes that branch, jump, call and return, of `prolog`, `.align` and of those without code; none but those of a `prolog` store.
-use Rattle.std.proofs.Common.{◌≡◌, ℕ, zero, suc, ◌≤◌, Bool, true, false, List, [], ◌∷◌, refl, arith}
+use Rattle.std.proofs.Common.{◌≡◌, ℕ, zero, suc, ◌-◌, ◌≤◌, Bool, true, false, List, [], ◌∷◌, refl, arith, length}
 use Rattle.std.specs.Prelude.{pos, nat_lt, if◌then◌else◌}
 use Rattle.lg_a64.specs.declared.instruction.BranchOp.TheVariants.{B, Bl}
 use Rattle.lg_a64.specs.declared.instruction.BranchRegOp.{BranchRegOp}
 use Rattle.lg_a64.specs.declared.instruction.BranchRegOp.TheVariants.{Br, Blr}
 use Rattle.lg_a64.specs.declared.instruction.Cond.{Cond}
+use Rattle.lg_a64.specs.declared.instruction.ImmOp.TheVariants.{Addi}
 use Rattle.lg_a64.specs.declared.instruction.Instr.{Instr}
 use Rattle.lg_a64.specs.declared.instruction.Instr.TheVariants as instr
 use Rattle.lg_a64.specs.declared.instruction.RegOp.TheVariants.{Orr}
 use Rattle.lg_base.specs.HostNames.{host_address}
 use Rattle.lg_base.specs.declared.target.Target.TheVariants.{Aarch64}
-use Rattle.lg_carry_a64.specs.A64Rows.{link, zero_register}
+use Rattle.lg_carry_a64.specs.A64Rows.{link, zero_register, frame_pointer, stack_pointer}
 use Rattle.lg_op.specs.declared.op.BranchSumOp.{BranchSumOp}
 use Rattle.lg_op.specs.declared.op.BranchSumOp.TheVariants as sum
 use Rattle.lg_op.specs.declared.op.Condition.{Condition}

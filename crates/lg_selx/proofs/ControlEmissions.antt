@@ -92,7 +92,7 @@ idle-none : (k : ℕ) → NoneStores (idle k)
 idle-none zero = refl
 idle-none (suc k) = idle-none k
 
--- a `prolog` stores 10 registers
+-- a `prolog` stores at most 10 registers
 prolog-few : (frame homes : ℕ) → stores.stores_among x86_stores (prolog_code frame homes) ≤ 16
 prolog-few frame homes =
     let h = stores.among-stores x86_stores store_word (stored_registers homes) 2 (lowered frame) refl in
