@@ -64,13 +64,13 @@ abbrev Fit : ℕ → Reach → ℕ → List Item → Type 0
 Fit homes reach labels xs = fit.Fit Aarch64 needs (a64_families homes reach) IsItem NamesOneOf labels xs
 
 -- those of values
-values : (reach : Reach) (labels : ℕ) (n : Node) (live : Reg → Bool) (set : List Bool) (choices : List Choice) → AreFor (around Aarch64 n live set) (needs n.op) [] (needs n.op) choices → NameBelow labels n.operands → Fit homes reach labels (value_items n choices)
-values reach labels n live set choices are named =
+values : (homes : ℕ) (reach : Reach) (labels : ℕ) (n : Node) (live : Reg → Bool) (set : List Bool) (choices : List Choice) → AreFor (around Aarch64 n live set) (needs n.op) [] (needs n.op) choices → NameBelow labels n.operands → Fit homes reach labels (value_items n choices)
+values homes reach labels n live set choices are named =
     record { instrs = (value-items-fit n live set choices are).fit; names = value-items-name labels n choices named }
 
 families-fit : (homes : ℕ) (reach : Reach) (labels : ℕ) → fit.FamiliesFit Aarch64 needs (a64_families homes reach) IsItem NamesOneOf labels
 families-fit homes reach labels = record {
-  values = λ frame n live set choices sized is are named words. values reach labels n live set choices are named;
+  values = λ frame n live set choices sized is are named words. values homes reach labels n live set choices are named;
   loads = λ frame n t at live set choices sized e are words. record { instrs = (memory-items-fit.loads t at n).appendable.fit; names = memory-items-name.loads labels t at n };
   stores = λ frame n t at live set choices sized e are words. record { instrs = (memory-items-fit.stores t at n).appendable.fit; names = memory-items-name.stores labels t at n };
   next_arguments = λ n. record { instrs = (memory-items-fit.next_arguments n).appendable.fit; names = memory-items-name.next_arguments labels n };

@@ -22,7 +22,8 @@ use lg_temp::choice::{Choices, Staged};
 
 /// Appends the code of a node to a buffer, or answers false and changes nothing, which it does only where fewer than 256 bytes are free.
 ///
-/// `frame` is the size of the frame of the node's function in bytes, a multiple of 16 from 272 to 65,808. The choices are those of
+/// `frame` is the size of the frame of the node's function in bytes, a multiple of 16 from 272 to 65,808, and `homes` how many homes of register
+/// arguments a `prolog` stores, which are to be those that its function reads. The choices are those of
 /// `choose` for `needs` of the node, `live_after`, and a set of arguments that holds `staged`. At a `pushargr` or `pushargi` `staged` holds
 /// the arguments that were pushed before it, of which there are fewer than 16. The node has the operands of its operation; it names code
 /// labels of the buffer, and one in the place of an immediate only at `movi`, `pushargi` and `reti`. There is room for a fix. The buffer holds

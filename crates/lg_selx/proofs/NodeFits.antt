@@ -61,9 +61,9 @@ abbrev Fit : ℕ → Reach → ℕ → List Item → Type 0
 Fit homes reach labels xs = fit.Fit X86_64 needs (x86_families homes reach) IsItem NamesOneOf labels xs
 
 -- those of values
-values : (reach : Reach) (labels frame : ℕ) (n : Node) (live : Reg → Bool) (set : List Bool) (choices : List Choice) → IsFrame frame → AreFor (around X86_64 n live set) (value_needs n.op) [] (value_needs n.op) choices → NameBelow labels n.operands
+values : (homes : ℕ) (reach : Reach) (labels frame : ℕ) (n : Node) (live : Reg → Bool) (set : List Bool) (choices : List Choice) → IsFrame frame → AreFor (around X86_64 n live set) (value_needs n.op) [] (value_needs n.op) choices → NameBelow labels n.operands
     → HaveWords n.operands → Fit homes reach labels (value_items frame n choices)
-values reach labels frame n live set choices sized are named words = record {
+values homes reach labels frame n live set choices sized are named words = record {
   instrs = (value-items-fit frame n live set choices sized.low sized.high words are).fit;
   names = value-items-name labels frame n choices named;
 }
@@ -74,7 +74,7 @@ frame-small frame sized = let h = sized.high in omega (arith, h)
 
 families-fit : (homes : ℕ) (reach : Reach) (labels : ℕ) → fit.FamiliesFit X86_64 needs (x86_families homes reach) IsItem NamesOneOf labels
 families-fit homes reach labels = record {
-  values = λ frame n live set choices sized is are named words. values reach labels frame n live set choices sized (made-values n live set choices (value-is-none n.op is) are) named words;
+  values = λ frame n live set choices sized is are named words. values homes reach labels frame n live set choices sized (made-values n live set choices (value-is-none n.op is) are) named words;
   loads = λ frame n t at live set choices sized e are words. record { instrs = (memory-items-fit.loads frame t at n (frame-small frame sized) words).appendable.fit; names = memory-items-name.loads labels frame t at n };
   stores = λ frame n t at live set choices sized e are words. record {
     instrs = (memory-items-fit.stores t at n live set choices words (made-access n (op.Store t at) live set choices e are)).appendable.fit;
