@@ -39,6 +39,7 @@ use Rattle.lg_base.specs.declared.flags.Flags.{Flags}
 use Rattle.lg_base.specs.Flags.{carry_of}
 use Rattle.lg_carry.specs.AgreeInFrame.{StaysInFrame}
 use Rattle.lg_carry.specs.FinalNodes.{Code, is_inside}
+use Rattle.lg_carry.specs.Homes.{homes_at}
 use Rattle.lg_carry.specs.Places.{AreStacked}
 use Rattle.lg_carry.specs.Processors.{Seen}
 use Rattle.lg_carry.specs.Registers.{HoldsCarry, CarryIs}
@@ -66,6 +67,7 @@ use Rattle.lg_sel_nodes.specs.Stretches.{HasFrame}
 use Rattle.lg_node.specs.Labels.{is_inner}
 use Rattle.lg_sel_nodes.specs.Straight.{is_taken, spoils, HoldsRead, IsKept, from_to, StepsTo, ComputesNode, NeedWell, ComputingNodesCarry, PlainNodesCarry}
 use Rattle.lg_carry.proofs.PlaceLemmas.{nodes-stand-inside}
+use Rattle.lg_sel_nodes.proofs.HomesLemmas.{homes-same}
 use Rattle.lg_sel_nodes.proofs.RegisterLemmas.{stands-for, number-few, numbered-at, given}
 use Rattle.lg_sel_nodes.proofs.TemporaryLemmas.{IsTemporary, IsOffered, temporary, keep-taken, unspoilt, lost-taken, either}
 use Rattle.lg_sel_nodes.specs.Stretches.{StandsAt, behind, PassesIn}
@@ -209,7 +211,7 @@ module _ {Q I : Type 0} (R : Rows Q I) (scratch : ℕ → Bool) (fits : I → Ty
     is-fp = let high = stacked-high s.frame.sp s.callers tower.3 in frame-pointer (lowest s.frame) s.frame.size s.frame.sp tower.0 st.low (omega (arith, tower.1)) high.0 high.1
 
     fp-held : w (frame_register target) ≡ fp
-    fp-held = (settled target (is_inside c s.at) c.place (R.processor.seen q).bytes w s.frame s.callers _ inside st.frame).pointer
+    fp-held = (settled target (is_inside c s.at) c.place (R.processor.seen q).bytes w s.frame s.callers _ _ inside st.frame).pointer
 
     here : (R.processor.seen q).pc ≡ c.place i
     here = st.here ∙ ap c.place at
@@ -338,6 +340,9 @@ module _ {Q I : Type 0} (R : Rows Q I) (scratch : ℕ → Bool) (fits : I → Ty
           here = leaves.here ∙ sym k.next ∙ ap (λ j. c.place (j + 1)) (sym at) ∙ ap c.place (sym next);
           before = inside;
           behind = ap (is_inside c) next ∙ ap (λ j. is_inside c (j + 1)) at ∙ (shaped c.nodes t.well).next i place.entry place.home (ap is_epilog_at t.here ∙ no-epilog n.op falls);
+          homes = ap (homes_at c) next ∙ ap (λ j. homes_at c (j + 1)) at
+              ∙ homes-same c i n t i (i + 1) place.entry place.home (t.well.falls i place.entry place.home (ap is_epilog_at t.here ∙ no-epilog n.op falls)).0
+              ∙ sym (ap (homes_at c) at);
           frame = frame;
           callers = callers;
           pointer = kept-other (frame_register target) other-frame (unspoilt choices (is_taken choices) (frame_register target) frame-untaken);

@@ -1,17 +1,17 @@
 -- The items of the nodes that branch, jump, call and return, of `prolog`, `.align` and of those without code; none but those of a `prolog` store.
-use Rattle.std.proofs.Common.{◌≡◌, ℕ, zero, suc, ◌≤◌, Bool, true, false, List, [], ◌∷◌, refl, arith}
+use Rattle.std.proofs.Common.{◌≡◌, ℕ, zero, suc, ◌-◌, ◌≤◌, Bool, true, false, List, [], ◌∷◌, refl, arith, length}
 use Rattle.std.specs.Prelude.{pos, nat_lt, if◌then◌else◌}
 use Rattle.lg_a64.specs.declared.instruction.BranchOp.TheVariants.{B, Bl}
 use Rattle.lg_a64.specs.declared.instruction.BranchRegOp.{BranchRegOp}
 use Rattle.lg_a64.specs.declared.instruction.BranchRegOp.TheVariants.{Br, Blr}
 use Rattle.lg_a64.specs.declared.instruction.Cond.{Cond}
-use Rattle.lg_a64.specs.declared.instruction.ImmOp.TheVariants.{Addsi, Subsi}
+use Rattle.lg_a64.specs.declared.instruction.ImmOp.TheVariants.{Addsi, Subsi, Addi}
 use Rattle.lg_a64.specs.declared.instruction.Instr.{Instr}
 use Rattle.lg_a64.specs.declared.instruction.Instr.TheVariants as instr
 use Rattle.lg_a64.specs.declared.instruction.RegOp.TheVariants.{Orr}
 use Rattle.lg_base.specs.HostNames.{host_address}
 use Rattle.lg_base.specs.declared.target.Target.TheVariants.{Aarch64}
-use Rattle.lg_carry_a64.specs.A64Rows.{link, zero_register}
+use Rattle.lg_carry_a64.specs.A64Rows.{link, zero_register, frame_pointer, stack_pointer}
 use Rattle.lg_op.specs.declared.op.BranchSumOp.{BranchSumOp}
 use Rattle.lg_op.specs.declared.op.BranchSumOp.TheVariants as sum
 use Rattle.lg_op.specs.declared.op.Condition.{Condition}
@@ -38,7 +38,8 @@ use Rattle.lg_base.specs.Words.{negated}
 use Rattle.lg_sela_values.specs.BinaryCode.{is_small}
 use Rattle.lg_sela_control.specs.Branches.{comparison, is_held, number_comparison, taken, turned}
 use Rattle.lg_sela_control.specs.ControlItems.{second_register, word_items, second_items, compared_items, comparing, leads_items, branch_if_items, branch_items, sum_items, jump_items, call_items, result_items, ret_items, register_leap_items, leap_items, align_items, control_items}
-use Rattle.lg_sela_control.specs.Prologs.{prolog_code}
+use Rattle.lg_sela_control.specs.Prologs.{prolog_code, stored_registers, store_word, fall_code}
+use Rattle.lg_sel_control.proofs.StoreLemmas.{stored-few}
 use Rattle.lg_sela_control.specs.RegisterLeaps.{register_leap_code}
 use Rattle.lg_sela_control.specs.Returns.{result, near_return, far_return, return_code}
 use Rattle.lg_sela_control.specs.SumBranches.{sum_instruction, sum_taken}
@@ -77,9 +78,12 @@ idle-none : (k : ℕ) → NoneStores (idle k)
 idle-none zero = refl
 idle-none (suc k) = idle-none k
 
--- a `prolog` stores 13 registers
-prolog-few : (frame : ℕ) → stores.stores_among a64_stores (prolog_code frame) ≤ 16
-prolog-few frame = omega arith
+-- a `prolog` stores at most 13 registers
+prolog-few : (frame homes : ℕ) → stores.stores_among a64_stores (prolog_code frame homes) ≤ 16
+prolog-few frame homes =
+    let h : stores.stores_among a64_stores (prolog_code frame homes) ≤ length (stored_registers homes) =
+    stores.among-stores a64_stores store_word (stored_registers homes) 0 (instr.Imm Addi frame_pointer stack_pointer 96 false ∷ fall_code (frame - 112)) refl in
+    let few = stored-few Aarch64 link homes in omega (arith, h, few)
 
 -- what leads to a label
 leads-emit : (reach : Reach) (is : ℕ → Bool) (holds : Cond) (l : Label) → is l.0 ≡ true → Emits reach is 1 0 (leads_items reach holds l)
@@ -175,19 +179,19 @@ module _ (reach : Reach) (is : ℕ → Bool) where
   aligned at (operand.Number n ∷ []) = plain reach is 1 (align_code at n) (idle-none (padding at n))
   aligned at xs = none reach is 1 0
 
-  pub controls-emit : (o : Op) (xs : List Operand) (frame at : ℕ) → is_free o ≡ false → AllPass is xs → Emits reach is 1 0 (control_items reach o xs frame at)
-  controls-emit (op.Branch o last) xs frame at other h = branched o xs h
-  controls-emit (op.BranchSum o last) xs frame at other h = summed o xs h
-  controls-emit (op.Control o last) xs frame at other h = leaps frame o last xs h
-  controls-emit (op.Plain plain_op.Prolog) xs frame at other h = cc
-  controls-emit (op.Plain plain_op.Epilog) xs frame at other h = plain reach is 1 (return_code frame) (return-none frame)
-  controls-emit (op.Plain plain_op.Ret) xs frame at other h = plain reach is 1 (return_code frame) (return-none frame)
-  controls-emit (op.Plain plain_op.Align) xs frame at other h = aligned at xs
-  controls-emit (op.Plain plain_op.Movi) xs frame at other h = none reach is 1 0
-  controls-emit (op.Plain o) xs frame at other h = none reach is 1 0
-  controls-emit o xs frame at other h = none reach is 1 0
+  pub controls-emit : (o : Op) (xs : List Operand) (frame homes at : ℕ) → is_free o ≡ false → AllPass is xs → Emits reach is 1 0 (control_items reach o xs frame homes at)
+  controls-emit (op.Branch o last) xs frame homes at other h = branched o xs h
+  controls-emit (op.BranchSum o last) xs frame homes at other h = summed o xs h
+  controls-emit (op.Control o last) xs frame homes at other h = leaps frame o last xs h
+  controls-emit (op.Plain plain_op.Prolog) xs frame homes at other h = cc
+  controls-emit (op.Plain plain_op.Epilog) xs frame homes at other h = plain reach is 1 (return_code frame) (return-none frame)
+  controls-emit (op.Plain plain_op.Ret) xs frame homes at other h = plain reach is 1 (return_code frame) (return-none frame)
+  controls-emit (op.Plain plain_op.Align) xs frame homes at other h = aligned at xs
+  controls-emit (op.Plain plain_op.Movi) xs frame homes at other h = none reach is 1 0
+  controls-emit (op.Plain o) xs frame homes at other h = none reach is 1 0
+  controls-emit o xs frame homes at other h = none reach is 1 0
 
   -- a `prolog` has no fix
-  pub prologs-emit : (o : Op) (xs : List Operand) (frame at : ℕ) → is_free o ≡ true → Emits reach is 1 16 (control_items reach o xs frame at)
-  prologs-emit (op.Plain plain_op.Prolog) xs frame at free = instructions reach is 1 16 (prolog_code frame) (prolog-few frame)
-  prologs-emit o xs frame at free = cc
+  pub prologs-emit : (o : Op) (xs : List Operand) (frame homes at : ℕ) → is_free o ≡ true → Emits reach is 1 16 (control_items reach o xs frame homes at)
+  prologs-emit (op.Plain plain_op.Prolog) xs frame homes at free = instructions reach is 1 16 (prolog_code frame homes) (prolog-few frame homes)
+  prologs-emit o xs frame homes at free = cc

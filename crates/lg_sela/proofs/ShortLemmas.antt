@@ -237,7 +237,7 @@ module _ (old new : Buffer) (code : List ℕ) (c : Code) (i : ℕ) (f : IsFinish
         (become ∙ ap (λ z. front ++ z) same) k.apart leads (subst (λ p. has_form p (leap ∷ rest)) (sym starts) form)
 
   -- ---- back to a label that is bound
-  module _ (goal frame : ℕ) where
+  module _ (goal frame homes : ℕ) where
     does-of : (l : Label) (g : Fix) (gs : List Fix) → place_of old.labels l.0 ≡ Some goal → gs ≡ g ∷ [] → g.label ≡ record { 0 = l.0 } → Fits g.kind g.place goal → Each (Leads old) gs
     does-of l g gs bound is same fits =
         subst (Each (Leads old)) (sym is) (subst (LeadsTo old.size g) (sym (ap (λ m. place_of old.labels m.0) same ∙ bound)) fits, tt)
@@ -267,10 +267,10 @@ module _ (old new : Buffer) (code : List ℕ) (c : Code) (i : ℕ) (f : IsFinish
 
     -- what is known of the operands of a node with this reach
     abbrev IsKnown : Reach → Op → List Operand → Type 0
-    IsKnown r o xs = selection.IsKnown a64_holes IsItem old new to goal (λ s. control_items s o xs frame place) r o xs
+    IsKnown r o xs = selection.IsKnown a64_holes IsItem old new to goal (λ s. control_items s o xs frame homes place) r o xs
 
-    short : (r : Reach) (o : Op) (xs : List Operand) → IsKnown r o xs → (b : IsBranchTo xs (λ s. control_items s o xs frame place)) → IsLed (IsShortBranchIf goal)
-    short r o xs k b = let L = k.labels b.label b.names in branch-short r xs (λ s. control_items s o xs frame place) b k.appended k.fit L.0 L.1 k.least
+    short : (r : Reach) (o : Op) (xs : List Operand) → IsKnown r o xs → (b : IsBranchTo xs (λ s. control_items s o xs frame homes place)) → IsLed (IsShortBranchIf goal)
+    short r o xs k b = let L = k.labels b.label b.names in branch-short r xs (λ s. control_items s o xs frame homes place) b k.appended k.fit L.0 L.1 k.least
 
     pub node-short : (r : Reach) (o : Op) (xs : List Operand) (l : Label) → slice_get xs 0 ≡ Some (operand.Label l) → IsKnown r o xs → IsShort Aarch64 o goal place part
     node-short r (op.Branch o last) xs l first k = short r (op.Branch o last) xs k (branch-leads o last xs k.admitted)
@@ -297,15 +297,15 @@ module _ (old new : Buffer) (code : List ℕ) (c : Code) (i : ℕ) (f : IsFinish
   branch-ahead Far false e xs items k appended fit free least =
       branch-led xs items k (IsBranchIfAhead false) Far appended fit _ _ refl refl (turned k.holds, _, refl)
 
-  module _ (frame : ℕ) where
+  module _ (frame homes : ℕ) where
     abbrev IsKnownAhead : Reach → Op → List Operand → Type 0
-    IsKnownAhead r o xs = selection.IsKnownAhead a64_holes IsItem old new (λ s. control_items s o xs frame place) r o xs
+    IsKnownAhead r o xs = selection.IsKnownAhead a64_holes IsItem old new (λ s. control_items s o xs frame homes place) r o xs
 
     abbrev is_near : Bool
     is_near = nat_le old.size near_size
 
-    ahead : (r : Reach) (o : Op) (xs : List Operand) → IsKnownAhead r o xs → (b : IsBranchTo xs (λ s. control_items s o xs frame place)) → IsLed (IsBranchIfAhead is_near)
-    ahead r o xs k b = branch-ahead r is_near refl xs (λ s. control_items s o xs frame place) b k.appended k.fit (k.labels b.label b.names) k.least
+    ahead : (r : Reach) (o : Op) (xs : List Operand) → IsKnownAhead r o xs → (b : IsBranchTo xs (λ s. control_items s o xs frame homes place)) → IsLed (IsBranchIfAhead is_near)
+    ahead r o xs k b = branch-ahead r is_near refl xs (λ s. control_items s o xs frame homes place) b k.appended k.fit (k.labels b.label b.names) k.least
 
     pub node-ahead : (r : Reach) (o : Op) (xs : List Operand) (l : Label) → slice_get xs 0 ≡ Some (operand.Label l) → IsKnownAhead r o xs → IsAhead Aarch64 is_near o place part
     node-ahead r (op.Branch o last) xs l first k = ahead r (op.Branch o last) xs k (branch-leads o last xs k.admitted)

@@ -25,6 +25,7 @@ fn put_items(
     reach: Reach,
     node: &Node,
     frame: u32,
+    homes: u32,
     choices: &Choices,
     staged: &Staged,
     place: u32,
@@ -36,7 +37,7 @@ fn put_items(
     requires slots { HaveSlots choices.now }
     requires staged { is_pusharg node.now.op ≡ true → AreFirst staged.now.arguments }
     requires empty { items.old ≡ [] }
-    ensures { items.new ≡ node_items reach node.now frame choices.now staged.now.arguments place }
+    ensures { items.new ≡ node_items homes reach node.now frame choices.now staged.now.arguments place }
 {
     match node.op {
         Op::Binary(_, _)
@@ -49,7 +50,7 @@ fn put_items(
         Op::Getarg(t) => put_getarg(node, t, items),
         Op::Plain(PlainOp::VaArg) => put_next_argument(node, items),
         Op::Control(ControlOp::Pusharg, _) => put_argument(node, staged_count(staged), items),
-        _ => put_control(node, frame, place, reach, items),
+        _ => put_control(node, frame, homes, place, reach, items),
     }
 }
 
@@ -58,6 +59,7 @@ pub(crate) fn items_by(
     reach: Reach,
     node: &Node,
     frame: u32,
+    homes: u32,
     choices: &Choices,
     live_after: RegSet,
     staged: &Staged,
@@ -67,11 +69,11 @@ pub(crate) fn items_by(
     requires frame { IsFrame frame }
     requires choices { AreChosen node.now (has live_after) staged.now.arguments choices.now }
     requires staged { is_pusharg node.now.op ≡ true → AreFirst staged.now.arguments }
-    ensures items { result ≡ node_items reach node.now frame choices.now staged.now.arguments (length buf.now.bytes) }
+    ensures items { result ≡ node_items homes reach node.now frame choices.now staged.now.arguments (length buf.now.bytes) }
     ensures few { words_in result ≤ 64 }
 {
     let mut items = Items::new(buf.allocator());
-    put_items(reach, node, frame, choices, staged, buf.here(), &mut items);
+    put_items(reach, node, frame, homes, choices, staged, buf.here(), &mut items);
     // They are few.
     let _list = items.as_slice();
     items

@@ -22,7 +22,8 @@ use lg_temp::choice::{Choices, Staged};
 
 /// Appends the code of a node to a buffer, or answers false and changes nothing, which it does only where fewer than 256 bytes are free.
 ///
-/// `frame` is the size of the frame of the node's function in bytes, a multiple of 16 from 272 to 65,808. The choices are those of
+/// `frame` is the size of the frame of the node's function in bytes, a multiple of 16 from 272 to 65,808, and `homes` how many homes of register
+/// arguments a `prolog` stores, which are to be those that its function reads. The choices are those of
 /// `choose` for `needs` of the node, `live_after`, and a set of arguments that holds `staged`. At a `pushargr` or `pushargi` `staged` holds
 /// the arguments that were pushed before it, of which there are fewer than 16. The node has the operands of its operation; it names code
 /// labels of the buffer, and one in the place of an immediate only at `movi`, `pushargi` and `reti`. There is room for a fix. The buffer holds
@@ -39,6 +40,7 @@ use lg_temp::choice::{Choices, Staged};
 pub fn select(
     node: &Node,
     frame: u32,
+    homes: u32,
     choices: &Choices,
     live_after: RegSet,
     staged: Staged,
@@ -66,12 +68,12 @@ pub fn select(
     ensures ahead { IsTrue result → IsAheadWhenFinished Target.Aarch64 node.now buf.old buf.new }
     ensures instructions { IsTrue result → AreInstructionsWhenFinished Target.Aarch64 buf.old buf.new }
     ensures sparing { IsTrue result → IsSparingWhenFinished Target.Aarch64 node.now choices.now buf.old buf.new }
-    ensures carries { IsTrue result → IsCarriedWhenFinished Target.Aarch64 node.now frame (has live_after) staged.arguments buf.old buf.new }
+    ensures carries { IsTrue result → IsCarriedWhenFinished Target.Aarch64 node.now frame homes (has live_after) staged.arguments buf.old buf.new }
 {
     let operands = node.operands.as_slice();
     see_numbers(operands);
     let (_reach, items) = shortest_items(operands, buf, |reach| {
-        items_by(reach, node, frame, choices, live_after, &staged, buf)
+        items_by(reach, node, frame, homes, choices, live_after, &staged, buf)
     });
     append(&items, buf)
 }

@@ -28,7 +28,8 @@ use Rattle.lg_selx_control.specs.Alignments.{padding, idle, align_code}
 use Rattle.lg_selx_control.specs.Branches.{comparison, is_difference, taken, far_number, pointer_comparison, wide_comparison, word_comparison, before_branch}
 use Rattle.lg_selx_control.specs.ControlItems.{jump_kind, branch_if_items, branch_items, sum_items, jump_items, call_items, result_items, ret_items, register_jump_items, register_call_items, leap_items, align_items, control_items}
 use Rattle.lg_selx_control.specs.HostCalls.{host_code}
-use Rattle.lg_selx_control.specs.Prologs.{prolog_code}
+use Rattle.lg_selx_control.proofs.FitLemmas.{stored-few}
+use Rattle.lg_selx_control.specs.Prologs.{stored_registers, store_word, lowered, prolog_code}
 use Rattle.lg_selx_control.specs.RegisterLeaps.{register_jump_code, register_call_code}
 use Rattle.lg_selx_control.specs.Returns.{result, return_code}
 use Rattle.lg_selx_control.specs.SumBranches.{sum_row, sum_number, sum_taken, number_sum, before_sum_branch}
@@ -92,9 +93,11 @@ idle-none : (k : ℕ) → NoneStores (idle k)
 idle-none zero = refl
 idle-none (suc k) = idle-none k
 
--- a `prolog` stores 10 registers
-prolog-few : (frame : ℕ) → stores.stores_among x86_stores (prolog_code frame) ≤ 16
-prolog-few frame = omega arith
+-- a `prolog` stores at most 10 registers
+prolog-few : (frame homes : ℕ) → stores.stores_among x86_stores (prolog_code frame homes) ≤ 16
+prolog-few frame homes =
+    let h = stores.among-stores x86_stores store_word (stored_registers homes) 2 (lowered frame) refl in
+    let few = stored-few homes in omega (arith, h, few)
 
 -- the label of a jump is named
 kind-named : (reach : Reach) (is : ℕ → Bool) (holds : Cond) (l : Label) → is l.0 ≡ true → Names reach is (Jump (jump_kind reach holds) l.0)
@@ -158,19 +161,19 @@ module _ (reach : Reach) (is : ℕ → Bool) where
   aligned at (operand.Number n ∷ []) = plain reach is 1 (align_code at n) (idle-none (padding at n))
   aligned at xs = none reach is 1 0
 
-  pub controls-emit : (o : Op) (xs : List Operand) (frame at : ℕ) → is_free o ≡ false → AllPass is xs → Emits reach is 1 0 (control_items reach o xs frame at)
-  controls-emit (op.Branch o last) xs frame at other h = branched frame o xs h
-  controls-emit (op.BranchSum o last) xs frame at other h = summed frame o xs h
-  controls-emit (op.Control o last) xs frame at other h = leaps o last xs h
-  controls-emit (op.Plain plain_op.Prolog) xs frame at other h = cc
-  controls-emit (op.Plain plain_op.Epilog) xs frame at other h = plain reach is 1 return_code refl
-  controls-emit (op.Plain plain_op.Ret) xs frame at other h = plain reach is 1 return_code refl
-  controls-emit (op.Plain plain_op.Align) xs frame at other h = aligned at xs
-  controls-emit (op.Plain plain_op.Movi) xs frame at other h = none reach is 1 0
-  controls-emit (op.Plain o) xs frame at other h = none reach is 1 0
-  controls-emit o xs frame at other h = none reach is 1 0
+  pub controls-emit : (o : Op) (xs : List Operand) (frame homes at : ℕ) → is_free o ≡ false → AllPass is xs → Emits reach is 1 0 (control_items reach o xs frame homes at)
+  controls-emit (op.Branch o last) xs frame homes at other h = branched frame o xs h
+  controls-emit (op.BranchSum o last) xs frame homes at other h = summed frame o xs h
+  controls-emit (op.Control o last) xs frame homes at other h = leaps o last xs h
+  controls-emit (op.Plain plain_op.Prolog) xs frame homes at other h = cc
+  controls-emit (op.Plain plain_op.Epilog) xs frame homes at other h = plain reach is 1 return_code refl
+  controls-emit (op.Plain plain_op.Ret) xs frame homes at other h = plain reach is 1 return_code refl
+  controls-emit (op.Plain plain_op.Align) xs frame homes at other h = aligned at xs
+  controls-emit (op.Plain plain_op.Movi) xs frame homes at other h = none reach is 1 0
+  controls-emit (op.Plain o) xs frame homes at other h = none reach is 1 0
+  controls-emit o xs frame homes at other h = none reach is 1 0
 
   -- a `prolog` has no fix
-  pub prologs-emit : (o : Op) (xs : List Operand) (frame at : ℕ) → is_free o ≡ true → Emits reach is 1 16 (control_items reach o xs frame at)
-  prologs-emit (op.Plain plain_op.Prolog) xs frame at free = instructions reach is 1 16 (prolog_code frame) (prolog-few frame)
-  prologs-emit o xs frame at free = cc
+  pub prologs-emit : (o : Op) (xs : List Operand) (frame homes at : ℕ) → is_free o ≡ true → Emits reach is 1 16 (control_items reach o xs frame homes at)
+  prologs-emit (op.Plain plain_op.Prolog) xs frame homes at free = instructions reach is 1 16 (prolog_code frame homes) (prolog-few frame homes)
+  prologs-emit o xs frame homes at free = cc

@@ -35,7 +35,9 @@ use Rattle.lg_selx.specs.Selected.{needs, IsAsked}
 use Rattle.lg_selx_control.specs.Alignments.{padding, idle}
 use Rattle.lg_selx_control.specs.Branches.{comparison, is_difference, far_number, pointer_comparison, wide_comparison, word_comparison, before_branch}
 use Rattle.lg_selx_control.specs.ControlItems.{branch_items, sum_items, jump_items, call_items, result_items, ret_items, register_jump_items, register_call_items, leap_items, align_items, plain_items, control_items}
-use Rattle.lg_selx_control.specs.Prologs.{prolog_code}
+use Rattle.lg_sel_control.proofs.StoreLemmas.{stores-before}
+use Rattle.lg_selx_control.proofs.FitLemmas.{stored-few}
+use Rattle.lg_selx_control.specs.Prologs.{stored_registers, store_word, lowered, prolog_code}
 use Rattle.lg_selx_control.specs.Returns.{return_code}
 use Rattle.lg_selx_control.specs.SumBranches.{sum_row, sum_number, number_sum, before_sum_branch}
 use Rattle.lg_selx_items.proofs.ItemLemmas.{words_append, words-ones}
@@ -189,36 +191,41 @@ leaps-small control.Finish last_operand.Register xs = register-called-small xs
 leaps-small control.Ret last xs = returned-small xs
 leaps-small control.Pusharg last xs = none-small
 
-plain-small : (o : PlainOp) (xs : List Operand) (frame at : ℕ) → admit (forms_of (op.Plain o)) xs ≡ true → Small (plain_items o xs frame at)
-plain-small plain.Prolog xs frame at a = code-small (prolog_code frame) 12 (omega arith) (omega arith)
-plain-small plain.Epilog xs frame at a = code-small return_code 6 (omega arith) (omega arith)
-plain-small plain.Ret xs frame at a = code-small return_code 6 (omega arith) (omega arith)
-plain-small plain.Align xs frame at a = aligned-small at xs a
-plain-small o xs frame at a = none-small
+prolog-long : (frame homes : ℕ) → length (prolog_code frame homes) ≤ 12
+prolog-long frame homes =
+    let long = stores-before store_word (stored_registers homes) 2 (lowered frame) in
+    let few = stored-few homes in omega (arith, long, few)
 
-control-small : (reach : Reach) (o : Op) (xs : List Operand) (frame at : ℕ) → admit (forms_of o) xs ≡ true → Small (control_items reach o xs frame at)
-control-small reach (op.Branch o last) xs frame at a = branched-small reach frame o xs
-control-small reach (op.BranchSum o last) xs frame at a = summed-small reach frame o xs
-control-small reach (op.Control o last) xs frame at a = leaps-small o last xs
-control-small reach (op.Plain o) xs frame at a = plain-small o xs frame at a
-control-small reach o xs frame at a = none-small
+plain-small : (o : PlainOp) (xs : List Operand) (frame homes at : ℕ) → admit (forms_of (op.Plain o)) xs ≡ true → Small (plain_items o xs frame homes at)
+plain-small plain.Prolog xs frame homes at a = code-small (prolog_code frame homes) 12 (prolog-long frame homes) (omega arith)
+plain-small plain.Epilog xs frame homes at a = code-small return_code 6 (omega arith) (omega arith)
+plain-small plain.Ret xs frame homes at a = code-small return_code 6 (omega arith) (omega arith)
+plain-small plain.Align xs frame homes at a = aligned-small at xs a
+plain-small o xs frame homes at a = none-small
+
+control-small : (reach : Reach) (o : Op) (xs : List Operand) (frame homes at : ℕ) → admit (forms_of o) xs ≡ true → Small (control_items reach o xs frame homes at)
+control-small reach (op.Branch o last) xs frame homes at a = branched-small reach frame o xs
+control-small reach (op.BranchSum o last) xs frame homes at a = summed-small reach frame o xs
+control-small reach (op.Control o last) xs frame homes at a = leaps-small o last xs
+control-small reach (op.Plain o) xs frame homes at a = plain-small o xs frame homes at a
+control-small reach o xs frame homes at a = none-small
 
 -- ---- every node
-module _ (reach : Reach) (frame : ℕ) (sized : IsFrame frame) (live : Reg → Bool) (staged : List Bool) (choices : List Choice) (labels place : ℕ) where
+module _ (homes : ℕ) (reach : Reach) (frame : ℕ) (sized : IsFrame frame) (live : Reg → Bool) (staged : List Bool) (choices : List Choice) (labels place : ℕ) where
   abbrev IsSmall : Node → List Item → Type 0
   IsSmall n xs = IsAsked n live staged choices labels → Small xs
 
   near : frame < 0x40000000
   near = let h = sized.high in omega (arith, h)
 
-  values-small : (n : Node) → is_value n.op ≡ true → IsSmall n ((x86_families reach).values frame n choices)
+  values-small : (n : Node) → is_value n.op ≡ true → IsSmall n ((x86_families homes reach).values frame n choices)
   values-small n is k =
       let set = k.chosen.set in
       let are = made-values n live set choices (value-is-none n.op is) (choices-are-for (around X86_64 n live set) (needs n.op) choices k.chosen.chosen) in
       let fit = value-items-fit frame n live set choices sized.low sized.high k.words are in
       let s = fit.small in omega (arith, s)
 
-  families-small : HoldsOfFamilies (x86_families reach) IsSmall frame choices staged place
+  families-small : HoldsOfFamilies (x86_families homes reach) IsSmall frame choices staged place
   families-small = record {
     values = values-small;
     loads = λ n t at e k. few-small _ 4 (memory-items-fit.loads frame t at n near (has-words n k.words)).short (omega arith);
@@ -229,8 +236,8 @@ module _ (reach : Reach) (frame : ℕ) (sized : IsFrame frame) (live : Reg → B
     arguments = λ n t e k. few-small _ 1 (memory-items-fit.arguments frame t n near).short (omega arith);
     next_arguments = λ n e k. few-small (ones (next_argument_code n)) 8 (memory-items-fit.next_arguments n).short (omega arith);
     pushes = λ n last e k. few-small _ 3 (memory-items-fit.pushes frame (staged_count staged) n near (few-staged n live staged choices labels last k e) (has-words n k.words 0)).short (omega arith);
-    controls = λ n is k. control-small reach n.op n.operands frame place k.formed.forms;
+    controls = λ n is k. control-small reach n.op n.operands frame homes place k.formed.forms;
   }
 
-  pub items-small : (n : Node) → IsSmall n (node_items reach n frame choices staged place)
-  items-small = of-node (x86_families reach) IsSmall frame choices staged place families-small
+  pub items-small : (n : Node) → IsSmall n (node_items homes reach n frame choices staged place)
+  items-small = of-node (x86_families homes reach) IsSmall frame choices staged place families-small

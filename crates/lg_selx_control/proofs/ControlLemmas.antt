@@ -64,7 +64,7 @@ branch-settled r to at front c l =
     ∙ ap (λ b. front ++ settled to (at + length b) last) (blanks-ones front) ∙ ap (λ z. front ++ z) (jump-settled r to (at + length (spellings spelling front)) c l)
 
 -- ---- the items of a node are its code
-module _ (r : Reach) (to : ℕ → ℕ) (frame at : ℕ) where
+module _ (r : Reach) (to : ℕ → ℕ) (frame homes at : ℕ) where
   branches : (o : Condition) (xs : List Operand) → settled to at (branch_items r frame o xs) ≡ branch_of (x86_control r) to frame at o xs
   branches o (operand.Label l ∷ operand.Reg a ∷ x ∷ []) = branch-settled r to at (before_branch frame o a x) (taken o) l
   branches o xs = refl
@@ -116,12 +116,12 @@ module _ (r : Reach) (to : ℕ → ℕ) (frame at : ℕ) where
   alignments (operand.Number n ∷ []) = settled-ones to at (align_code at n)
   alignments xs = refl
 
-  plains : (o : PlainOp) (xs : List Operand) → settled to at (plain_items o xs frame at) ≡ plain_of (x86_control r) frame at o xs
-  plains plain.Prolog xs = settled-ones to at (prolog_code frame)
+  plains : (o : PlainOp) (xs : List Operand) → settled to at (plain_items o xs frame homes at) ≡ plain_of (x86_control r) frame homes at o xs
+  plains plain.Prolog xs = settled-ones to at (prolog_code frame homes)
   plains plain.Align xs = alignments xs
   plains o xs = refl
 
-  items-are-code : (o : Op) (xs : List Operand) → settled to at (control_items r o xs frame at) ≡ control_code (x86_control r) to frame at o xs
+  items-are-code : (o : Op) (xs : List Operand) → settled to at (control_items r o xs frame homes at) ≡ control_code (x86_control r) to frame homes at o xs
   items-are-code (op.Branch o last) xs = branches o xs
   items-are-code (op.BranchSum o last) xs = sum-branches o xs
   items-are-code (op.Control o last) xs = leaps o last xs
@@ -129,7 +129,7 @@ module _ (r : Reach) (to : ℕ → ℕ) (frame at : ℕ) where
   items-are-code o xs = refl
 
 pub control-nodes-carry : ControlNodesCarry
-control-nodes-carry r code trash c i n frame S h w v e is-frame t k =
-    let same = items-are-code r (slice_index c.addresses) frame (c.place i) n.op n.operands in
-    target_lemmas.control-nodes-carry (x86_rows code trash) x86_scratch IsInstr x86_ready (x86_control r) (is-target r code trash k.small k.bytes k.word) c i n frame S h
-    (has-places code trash c w) v e is-frame t (subst (IsNodeCode (x86_rows code trash) IsInstr c i) same k.node)
+control-nodes-carry r code trash c i n frame homes S h w v e is-frame is-homes t k =
+    let same = items-are-code r (slice_index c.addresses) frame homes (c.place i) n.op n.operands in
+    target_lemmas.control-nodes-carry (x86_rows code trash) x86_scratch IsInstr x86_ready (x86_control r) (is-target r code trash k.small k.bytes k.word) c i n frame homes S h
+    (has-places code trash c w) v e is-frame is-homes t (subst (IsNodeCode (x86_rows code trash) IsInstr c i) same k.node)

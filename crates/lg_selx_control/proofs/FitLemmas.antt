@@ -1,7 +1,10 @@
 -- The items of the nodes can be appended to a buffer.
 use Rattle.std.proofs.Common.{◌≡◌, ℕ, zero, suc, ◌+◌, ◌-◌, ◌*◌, ◌%◌, ◌^◌, ◌<◌, ◌≤◌, Bool, true, false, List, [], ◌∷◌, ◌++◌, refl, sym, ap, subst, arith, length}
 use Rattle.std.specs.Prelude.{◌==◌, ◌&&◌, if◌then◌else◌, negsuc, pos, nat_lt}
+use Rattle.std.specs.List.{list_all}
+use Rattle.std.proofs.lemmas.List.{length-take}
 use Rattle.std.proofs.lemmas.Bool.{and_parts}
+use Rattle.lg_base.specs.Conventions.{argument_registers}
 use Rattle.std.proofs.lemmas.Int.{ints}
 use Rattle.lg_base.specs.HostNames.{host_address}
 use Rattle.lg_base.specs.Words.{signed_view, is_half}
@@ -35,6 +38,7 @@ use Rattle.lg_temp.specs.Abis.{register_of}
 use Rattle.lg_carry.specs.Carries.{leaps}
 use Rattle.lg_carry_x86.specs.Numbers.{number_row}
 use Rattle.lg_carry_x86.proofs.NumberCodeLemmas.{half-number, row-loads}
+use Rattle.lg_sel_control.proofs.StoreLemmas.{take-all}
 use Rattle.lg_sel_control.proofs.ControlLemmas.{differ, never, never-sum, host-small}
 use Rattle.lg_selx_items.specs.declared.items.Item.{Item}
 use Rattle.lg_selx_items.specs.declared.items.Item.TheVariants.{One, Jump}
@@ -136,28 +140,32 @@ idle-fits : (k : ℕ) → AreItems (ones (idle k))
 idle-fits zero = tt
 idle-fits (suc k) = (tt, idle-fits k)
 
-all-below : List ℕ → Bool
-all-below [] = true
-all-below (r ∷ rs) = nat_lt r 16 && all-below rs
+abbrev all-below : List ℕ → Bool
+all-below rs = list_all (λ r. nat_lt r 16) rs
 
 below : (r : ℕ) → nat_lt r 16 ≡ true → r < 16
 below r h = grind (arith, h)
 
+stored-below : (homes : ℕ) → all-below (stored_registers homes) ≡ true
+stored-below homes = take-all (λ r. nat_lt r 16) (argument_registers X86_64) homes refl
+
+pub stored-few : (homes : ℕ) → length (stored_registers homes) ≤ 9
+stored-few homes = let e = length-take homes (argument_registers X86_64) in omega (arith, e)
+
 stores-fit : (rs : List ℕ) (k : ℕ) → all-below rs ≡ true → k + length rs ≤ 13 → AreItems (ones (stores_below rs k))
-unfolding all-below
 stores-fit [] k h few = tt
 stores-fit (r ∷ rs) k h few =
     let p = and_parts (nat_lt r 16) (all-below rs) h in
     ((omega arith, low-number (8 * k - 9) (omega (arith, few)), below r p.0), stores-fit rs (suc k) p.1 (omega (arith, few)))
 
-prolog-fits : (size : ℕ) → size < 0x40000000 → AreItems (ones (prolog_code size))
-unfolding all-below
-prolog-fits size h = (
+prolog-fits : (size homes : ℕ) → size < 0x40000000 → AreItems (ones (prolog_code size homes))
+prolog-fits size homes h = (
   (omega arith, low-number 7 (omega arith), omega arith),
   (
     (omega arith, omega arith, low-number 7 (omega arith)),
-    subst AreItems (sym (ones-append (stores_below stored_registers 2) (lowered size)))
-        (items-append (ones (stores_below stored_registers 2)) (ones (lowered size)) (stores-fit stored_registers 2 refl (omega arith)) (lowered-fits size h)),
+    subst AreItems (sym (ones-append (stores_below (stored_registers homes) 2) (lowered size)))
+        (items-append (ones (stores_below (stored_registers homes) 2)) (ones (lowered size))
+        (stores-fit (stored_registers homes) 2 (stored-below homes) (let few = stored-few homes in omega (arith, few))) (lowered-fits size h)),
   ),
 )
 
@@ -180,9 +188,9 @@ first-small : (a : Reg) → register_of X86_64 a < 16
 first-small a = (register-portable a).small
 
 -- ---- the nodes
-module _ (r : Reach) (labels frame at : ℕ) (framed : frame < 0x40000000) where
+module _ (r : Reach) (labels frame homes at : ℕ) (framed : frame < 0x40000000) where
   abbrev items-of : Op → List Operand → List Item
-  items-of o xs = control_items r o xs frame at
+  items-of o xs = control_items r o xs frame homes at
 
   before-fits : (o : Condition) (a : Reg) (x : Operand) → IsGiven labels x → AreItems (ones (before_branch frame o a x))
   before-fits o a (operand.Reg b) v = ((first-small a, first-small b), tt)
@@ -281,7 +289,7 @@ module _ (r : Reach) (labels frame at : ℕ) (framed : frame < 0x40000000) where
   by-op (op.Control control.Call last_operand.Immediate) xs c h v e = call xs h v
   by-op (op.Control control.Finish last_operand.Immediate) xs c h v e = call xs h v
   by-op (op.Control control.Ret last) xs c h v e = ret last xs h v
-  by-op (op.Plain plain.Prolog) xs c h v e = plain-emitted labels false (prolog_code frame) (prolog-fits frame framed) (λ z. absurd (differ z))
+  by-op (op.Plain plain.Prolog) xs c h v e = plain-emitted labels false (prolog_code frame homes) (prolog-fits frame homes framed) (λ z. absurd (differ z))
   by-op (op.Plain plain.Epilog) xs c h v e = plain-emitted labels true return_code return-fits (λ z. omega arith)
   by-op (op.Plain plain.Ret) xs c h v e = plain-emitted labels true return_code return-fits (λ z. omega arith)
   by-op (op.Plain plain.Align) xs c h v e = align xs h
@@ -293,4 +301,4 @@ module _ (r : Reach) (labels frame at : ℕ) (framed : frame < 0x40000000) where
   by-op o xs c h v e = absurd (differ c)
 
 pub control-items-fit : ControlItemsFit
-control-items-fit r n labels frame at framed c h v e = by-op r labels frame at framed n.op n.operands c h.forms v e
+control-items-fit r n labels frame homes at framed c h v e = by-op r labels frame homes at framed n.op n.operands c h.forms v e

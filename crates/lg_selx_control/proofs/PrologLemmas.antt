@@ -1,6 +1,8 @@
 -- A `prolog` makes the frame.
 use Rattle.std.proofs.Common.{◌≡◌, ℕ, zero, suc, ◌+◌, ◌-◌, ◌*◌, ◌^◌, ◌<◌, ◌≤◌, ◌⊎◌, inl, inr, true, List, [], ◌∷◌, ◌++◌, Option, Some, refl, sym, ap, ◌∙◌, subst, arith, length}
-use Rattle.std.specs.Prelude.{negsuc, slice_index}
+use Rattle.std.specs.List.{list_all}
+use Rattle.std.specs.Prelude.{◌==◌, not, min, negsuc, slice_index, take}
+use Rattle.std.proofs.lemmas.List.{length-take}
 use Rattle.std.specs.Option.{option_and_then}
 use Rattle.lg_base.specs.Conventions.{argument_registers, portable_register}
 use Rattle.lg_base.specs.Fields.{word_of}
@@ -29,7 +31,9 @@ use Rattle.lg_carry_x86.specs.Makings.{makes}
 use Rattle.lg_carry_x86.specs.X86Rows.{x86_processor, x86_rows, x86_seen}
 use Rattle.lg_sel_nodes.specs.Stretches.{StandsAt, behind}
 use Rattle.lg_sel_control.specs.Prologs.{Entrance, PrologsLead}
-use Rattle.lg_sel_control.proofs.StoreLemmas.{word_below, with_stored, HasStack, mapped-below, stored-off, stored-word}
+use Rattle.lg_sel_control.proofs.EntranceLemmas.{taken-at}
+use Rattle.lg_sel_control.proofs.StoreLemmas.{word_below, with_stored, HasStack, mapped-below, stored-off, stored-word, take-all}
+use Rattle.lg_sel_control.proofs.StoreLemmas.{stores-before, stored-besides}
 use Rattle.lg_selx_control.specs.Prologs.{lowered, stored_registers, store_word, stores_below, prolog_code}
 use Rattle.lg_selx_control.proofs.SpareLemmas.{lower-is}
 use Rattle.lg_selx_control.proofs.StretchLemmas.{Made, stands-high, made-passed}
@@ -65,12 +69,22 @@ module _ (sp : ℕ) (low : 0x3FF00010 + 272 ≤ sp) (high : sp ≤ 0x40000000) w
       let is-there : mapped m (word_below sp 1) 8 ≡ true = mapped-below m sp 1 (omega arith) low high there in
       rw (address, is-there) refl
 
+-- none of them is FP, which is set before
+are-others : (homes : ℕ) → list_all (λ r. not (r == 5)) (stored_registers homes) ≡ true
+are-others homes = take-all (λ r. not (r == 5)) (argument_registers X86_64) homes refl
+
 -- ---- the code
 -- FP, and what is stored by it
-abbrev all_stored : List ℕ
-all_stored = 5 ∷ stored_registers
+abbrev all_stored : ℕ → List ℕ
+all_stored homes = 5 ∷ stored_registers homes
 
-module _ (size sp : ℕ) (w : ℕ → ℕ) (f : Flags) (m : ℕ → Option ℕ) (large : 272 ≤ size) (room : least_frame + size ≤ sp) (top : sp ≤ stack_end)
+stored-are : (homes : ℕ) → length (all_stored homes) ≡ 4 + min homes 6
+stored-are homes = let e = length-take homes (argument_registers X86_64) in omega (arith, e)
+
+stored-few : (homes : ℕ) → length (all_stored homes) ≤ 10
+stored-few homes = let e = stored-are homes in omega (arith, e)
+
+module _ (size homes sp : ℕ) (w : ℕ → ℕ) (f : Flags) (m : ℕ → Option ℕ) (large : 272 ≤ size) (room : least_frame + size ≤ sp) (top : sp ≤ stack_end)
     (at : w 4 ≡ sp - 8) (there : HasStack m) where
   low : 0x3FF00010 + 272 ≤ sp
   low = omega (arith, room, large)
@@ -79,28 +93,32 @@ module _ (size sp : ℕ) (w : ℕ → ℕ) (f : Flags) (m : ℕ → Option ℕ) 
   end_registers = put (put w 5 (sp - 16)) 4 (sp - size)
 
   abbrev end_bytes : ℕ → Option ℕ
-  end_bytes = with_stored m w sp all_stored 1
+  end_bytes = with_stored m w sp (all_stored homes) 1
 
-  prolog-makes : makes (prolog_code size) (scene w f m) ≡ Some (scene end_registers f end_bytes)
+  few : 2 + length (stored_registers homes) ≤ 13
+  few = let most = stored-few homes in omega (arith, most)
+
+  prolog-makes : makes (prolog_code size homes) (scene w f m) ≡ Some (scene end_registers f end_bytes)
   prolog-makes =
-      let rest : List Instr = stores_below stored_registers 2 ++ lowered size in
+      let rest : List Instr = stores_below (stored_registers homes) 2 ++ lowered size in
       let m1 : ℕ → Option ℕ = stored m (word_below sp 1) 8 (w 5) in
       ap (option_and_then (makes (instr.Load Lea 5 4 (negsuc 7) ∷ rest))) (first-made sp low top w f m at there)
       ∙ ap (λ x. makes rest (scene (put w 5 x) f m1)) (ap (λ x. add_words x (word_of (negsuc 7))) at ∙ first-address sp low top)
-      ∙ stores-made sp low top stored_registers 2 (lowered size) (put w 5 (sp - 16)) f m1 (omega arith) (omega arith) refl
+      ∙ stores-made sp low top (stored_registers homes) 2 (lowered size) (put w 5 (sp - 16)) f m1 (omega arith) few refl
       (λ j e. stored-there m (word_below sp 1) 8 (w 5) j (there j e))
+      ∙ ap (λ b. makes (lowered size) (scene (put w 5 (sp - 16)) f b)) (stored-besides w 5 (sp - 16) sp (stored_registers homes) 2 m1 (are-others homes))
       ∙ ap (λ x. Some (scene (put (put w 5 (sp - 16)) 4 x) f end_bytes)) (lower-is size sp large room top)
 
 -- ---- what is then in the frame
 module _ (code : List ℕ) (trash : ℕ) (small : length code ≤ most_code) (bytes-small : AreBytes code) (trash-word : trash < 2 ^ 64)
-    (size from sp : ℕ) (q : Run CpuState) (seen : IsSeen (x86_seen q)) (large : 272 ≤ size) (room : least_frame + size ≤ sp) (top : sp ≤ stack_end)
-    (at : q.state.registers 4 ≡ sp - 8) (k : StandsAt (x86_rows code trash) IsInstr from (prolog_code size)) (runs : status_of q.progress ≡ Running)
+    (size homes from sp : ℕ) (q : Run CpuState) (seen : IsSeen (x86_seen q)) (large : 272 ≤ size) (room : least_frame + size ≤ sp) (top : sp ≤ stack_end)
+    (at : q.state.registers 4 ≡ sp - 8) (k : StandsAt (x86_rows code trash) IsInstr from (prolog_code size homes)) (runs : status_of q.progress ≡ Running)
     (here : q.state.pc ≡ from) where
   abbrev v : ℕ → ℕ
   v = q.state.registers
 
   abbrev b : ℕ → Option ℕ
-  b = with_stored q.state.bytes v sp all_stored 1
+  b = with_stored q.state.bytes v sp (all_stored homes) 1
 
   abbrev W : ℕ → ℕ
   W = put (put v 5 (sp - 16)) 4 (sp - size)
@@ -108,10 +126,13 @@ module _ (code : List ℕ) (trash : ℕ) (small : length code ≤ most_code) (by
   room-is : 0x3FF00010 + 272 ≤ sp
   room-is = omega (arith, room, large)
 
-  done-it : Made code trash small bytes-small trash-word from (prolog_code size) (scene W q.state.flags b) q
-  done-it = made-passed code trash small bytes-small trash-word from (prolog_code size) q (scene W q.state.flags b) k
-      (prolog-makes size sp v q.state.flags q.state.bytes large room top at (λ j e. seen.stack j e)) runs here
-      (stands-high code trash small bytes-small trash-word from (prolog_code size) (omega arith) k)
+  abbrev all : List Instr
+  all = prolog_code size homes
+
+  done-it : Made code trash small bytes-small trash-word from all (scene W q.state.flags b) q
+  done-it = made-passed code trash small bytes-small trash-word from all q (scene W q.state.flags b) k
+      (prolog-makes size homes sp v q.state.flags q.state.bytes large room top at (λ j e. seen.stack j e)) runs here
+      (stands-high code trash small bytes-small trash-word from all (omega arith) k)
 
   registers-are : done-it.end.state.registers ≡ W
   registers-are = ap (λ (s : Scene). s.registers) done-it.scene
@@ -119,12 +140,15 @@ module _ (code : List ℕ) (trash : ℕ) (small : length code ≤ most_code) (by
   bytes-are : done-it.end.state.bytes ≡ b
   bytes-are = ap (λ (s : Scene). s.bytes) done-it.scene
 
-  word-is : (j : ℕ) → j < 10 → HasWord b (word_below sp (1 + j)) (v (slice_index all_stored j))
-  word-is j lt = stored-word sp room-is all_stored 1 j q.state.bytes v (omega arith) seen.words (omega (arith, lt))
+  few-stored : 1 + length (all_stored homes) ≤ 13
+  few-stored = let most = stored-few homes in omega (arith, most)
+
+  word-is : (j : ℕ) → j < 4 + min homes 6 → HasWord b (word_below sp (1 + j)) (v (slice_index (all_stored homes) j))
+  word-is j lt = let long = stored-are homes in stored-word sp room-is (all_stored homes) 1 j q.state.bytes v few-stored seen.words (omega (arith, lt, long))
 
   off : (a : ℕ) → (a + 88 < sp) ⊎ (sp ≤ a + 8) → b a ≡ q.state.bytes a
-  off a (inl h) = stored-off sp room-is all_stored 1 q.state.bytes v a (omega arith) (inl (omega (arith, h)))
-  off a (inr h) = stored-off sp room-is all_stored 1 q.state.bytes v a (omega arith) (inr (omega (arith, h)))
+  off a (inl h) = let most = stored-few homes in stored-off sp room-is (all_stored homes) 1 q.state.bytes v a few-stored (inl (omega (arith, h, most)))
+  off a (inr h) = stored-off sp room-is (all_stored homes) 1 q.state.bytes v a few-stored (inr (omega (arith, h)))
 
   outside : (a : ℕ) → (a + 144 < sp) ⊎ (sp ≤ a) → b a ≡ q.state.bytes a
   outside a (inl h) = off a (inl (omega (arith, h)))
@@ -142,15 +166,17 @@ module _ (code : List ℕ) (trash : ℕ) (small : length code ≤ most_code) (by
   saved-is (suc (suc zero)) lt = subst (λ a. HasWord b a (v 14)) (omega (arith, room-is)) (word-is 3 (omega arith))
   saved-is (suc (suc (suc j))) lt = absurd (omega (arith, lt))
 
-  home-is : (j : ℕ) → j < length (argument_registers X86_64)
+  home-stored : (j : ℕ) → j < homes → slice_index (all_stored homes) (4 + j) ≡ slice_index (argument_registers X86_64) j
+  home-stored j read =
+      let e : suc (suc (suc (suc j))) ≡ 4 + j = omega arith in
+      subst (λ i. slice_index (all_stored homes) i ≡ slice_index (take homes (argument_registers X86_64)) j) e refl
+      ∙ taken-at (argument_registers X86_64) homes j read
+
+  home-is : (j : ℕ) → j < homes → j < length (argument_registers X86_64)
       → HasWord b (home_word (frame_pointer sp) j) (v (slice_index (argument_registers X86_64) j))
-  home-is zero lt = subst (λ a. HasWord b a (v 7)) (omega (arith, room-is)) (word-is 4 (omega arith))
-  home-is (suc zero) lt = subst (λ a. HasWord b a (v 6)) (omega (arith, room-is)) (word-is 5 (omega arith))
-  home-is (suc (suc zero)) lt = subst (λ a. HasWord b a (v 2)) (omega (arith, room-is)) (word-is 6 (omega arith))
-  home-is (suc (suc (suc zero))) lt = subst (λ a. HasWord b a (v 1)) (omega (arith, room-is)) (word-is 7 (omega arith))
-  home-is (suc (suc (suc (suc zero)))) lt = subst (λ a. HasWord b a (v 8)) (omega (arith, room-is)) (word-is 8 (omega arith))
-  home-is (suc (suc (suc (suc (suc zero))))) lt = subst (λ a. HasWord b a (v 9)) (omega (arith, room-is)) (word-is 9 (omega arith))
-  home-is (suc (suc (suc (suc (suc (suc j)))))) lt = absurd (omega (arith, lt))
+  home-is j read lt =
+      subst (λ a. HasWord b a (v (slice_index (argument_registers X86_64) j))) (omega (arith, room-is, lt))
+      (subst (λ r. HasWord b (word_below sp (1 + (4 + j))) (v r)) (home-stored j read) (word-is (4 + j) (omega (arith, read, lt))))
 
   portable-is : (r : ℕ) → r < 6 → W (portable_register X86_64 r) ≡ v (portable_register X86_64 r)
   portable-is zero lt = refl
@@ -171,19 +197,24 @@ module _ (code : List ℕ) (trash : ℕ) (small : length code ≤ most_code) (by
   argument-is (suc (suc (suc (suc (suc zero))))) lt = refl
   argument-is (suc (suc (suc (suc (suc (suc j)))))) lt = absurd (omega (arith, lt))
 
-  pub enters : Entrance (x86_processor code trash) from (behind (x86_rows code trash) from (prolog_code size)) sp size q
+  all-long : length all ≡ 6 + min homes 6
+  all-long =
+      let e = stores-before store_word (stored_registers homes) 2 (lowered size) in
+      let long = stored-are homes in omega (arith, e, long)
+
+  pub enters : Entrance (x86_processor code trash) from (behind (x86_rows code trash) from all) sp size homes q
   enters = record {
     end = done-it.end;
-    steps = length (prolog_code size);
+    steps = length all;
     passes = done-it.passes;
-    few = omega arith;
+    few = omega (arith, all-long);
     some = omega arith;
     runs = done-it.runs;
     here = done-it.here;
     back = λ address h. has (return_word sp) address (return-stays address h);
     caller = has (frame_pointer sp) (v 5) (word-is 0 (omega arith));
     saved = λ j lt. has (saved_word (frame_pointer sp) j) (v (portable_register X86_64 (j + 3))) (saved-is j lt);
-    homes = λ j lt. has (home_word (frame_pointer sp) j) (v (slice_index (argument_registers X86_64) j)) (home-is j lt);
+    homes = λ j read lt. has (home_word (frame_pointer sp) j) (v (slice_index (argument_registers X86_64) j)) (home-is j read lt);
     pointer = ap (λ g. g 5) registers-are;
     stack_is = ap (λ g. g 4) registers-are;
     portable = λ r lt. ap (λ g. g (portable_register X86_64 r)) registers-are ∙ portable-is r lt;
@@ -193,5 +224,5 @@ module _ (code : List ℕ) (trash : ℕ) (small : length code ≤ most_code) (by
   }
 
 pub prologs-lead : (code : List ℕ) (trash : ℕ) → length code ≤ most_code → AreBytes code → trash < 2 ^ 64 → PrologsLead (x86_rows code trash) IsInstr prolog_code
-prologs-lead code trash small bytes word frame from stack q seen large room top even is k runs at =
-    enters code trash small bytes word frame from stack q seen large room top is k runs at
+prologs-lead code trash small bytes word frame homes from stack q seen large room top even is k runs at =
+    enters code trash small bytes word frame homes from stack q seen large room top is k runs at

@@ -155,22 +155,25 @@ below : (rs : List ℕ) (k : ℕ) → Within (stores_below rs k)
 below [] k = tt
 below (r ∷ rs) k = (tt, below rs (suc k))
 
-begins : (frame : ℕ) → Within (prolog_code frame)
-begins frame = (tt, ((refl, tt), join (stores_below stored_registers 2) (lowered frame) (below stored_registers 2) ((refl, tt), tt)))
+begins : (frame homes : ℕ) → Within (prolog_code frame homes)
+begins frame homes = (
+  tt,
+  ((refl, tt), join (stores_below (stored_registers homes) 2) (lowered frame) (below (stored_registers homes) 2) ((refl, tt), tt)),
+)
 
-plainly : (o : PlainOp) (xs : List Operand) (frame at : ℕ) → StayWithin (plain_items o xs frame at)
-plainly plain.Prolog xs frame at = stay-ones (prolog_code frame) (begins frame)
-plainly plain.Epilog xs frame at = returns
-plainly plain.Ret xs frame at = returns
-plainly plain.Align xs frame at = aligned at xs
-plainly o xs frame at = tt
+plainly : (o : PlainOp) (xs : List Operand) (frame homes at : ℕ) → StayWithin (plain_items o xs frame homes at)
+plainly plain.Prolog xs frame homes at = stay-ones (prolog_code frame homes) (begins frame homes)
+plainly plain.Epilog xs frame homes at = returns
+plainly plain.Ret xs frame homes at = returns
+plainly plain.Align xs frame homes at = aligned at xs
+plainly o xs frame homes at = tt
 
-stay : (r : Reach) (o : Op) (xs : List Operand) (frame at : ℕ) → StayWithin (control_items r o xs frame at)
-stay r (op.Branch o last) xs frame at = branched r frame o xs
-stay r (op.BranchSum o last) xs frame at = summed r frame o xs
-stay r (op.Control o last) xs frame at = leaps o last xs
-stay r (op.Plain o) xs frame at = plainly o xs frame at
-stay r o xs frame at = tt
+stay : (r : Reach) (o : Op) (xs : List Operand) (frame homes at : ℕ) → StayWithin (control_items r o xs frame homes at)
+stay r (op.Branch o last) xs frame homes at = branched r frame o xs
+stay r (op.BranchSum o last) xs frame homes at = summed r frame o xs
+stay r (op.Control o last) xs frame homes at = leaps o last xs
+stay r (op.Plain o) xs frame homes at = plainly o xs frame homes at
+stay r o xs frame homes at = tt
 
 pub control-items-stay : ControlItemsStay
-control-items-stay r n frame at = stay r n.op n.operands frame at
+control-items-stay r n frame homes at = stay r n.op n.operands frame homes at

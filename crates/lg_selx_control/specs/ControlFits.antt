@@ -14,8 +14,10 @@ AreEmitted count leaping xs = good_items.AreEmitted x86_holes IsItem NamesOneOf 
 
 -- in a frame whose size is a number of 31 bits
 abbrev pub ControlItemsFit : Type 0
-ControlItemsFit = (r : Reach) (n : Node) (labels frame at : ℕ) → frame < 0x40000000 → IsFit AreEmitted n labels (control_items r n.op n.operands frame at)
+ControlItemsFit =
+    (r : Reach) (n : Node) (labels frame homes at : ℕ) → frame < 0x40000000
+    → IsFit AreEmitted n labels (control_items r n.op n.operands frame homes at)
 
 -- the items write no register that is outside of the conventions
 abbrev pub ControlItemsStay : Type 0
-ControlItemsStay = (r : Reach) (n : Node) (frame at : ℕ) → StayWithin (control_items r n.op n.operands frame at)
+ControlItemsStay = (r : Reach) (n : Node) (frame homes at : ℕ) → StayWithin (control_items r n.op n.operands frame homes at)

@@ -105,20 +105,21 @@ abbrev pub align_items : ℕ → List Operand → List Item
 align_items at (operand.Number n ∷ []) = ones (align_code at n)
 align_items at xs = []
 
-abbrev pub plain_items : PlainOp → List Operand → ℕ → ℕ → List Item
-plain_items plain.Prolog xs frame at = ones (prolog_code frame)
-plain_items plain.Epilog xs frame at = ones return_code
-plain_items plain.Ret xs frame at = ones return_code
-plain_items plain.Align xs frame at = align_items at xs
-plain_items o xs frame at = []
+abbrev pub plain_items : PlainOp → List Operand → ℕ → ℕ → ℕ → List Item
+plain_items plain.Prolog xs frame homes at = ones (prolog_code frame homes)
+plain_items plain.Epilog xs frame homes at = ones return_code
+plain_items plain.Ret xs frame homes at = ones return_code
+plain_items plain.Align xs frame homes at = align_items at xs
+plain_items o xs frame homes at = []
 
--- ---- of a node in a function with a frame of so many bytes, whose code begins at an address, or a place of the buffer, and has a reach
-abbrev pub control_items : Reach → Op → List Operand → ℕ → ℕ → List Item
-control_items r (op.Branch o last) xs frame at = branch_items r frame o xs
-control_items r (op.BranchSum o last) xs frame at = sum_items r frame o xs
-control_items r (op.Control o last) xs frame at = leap_items o last xs
-control_items r (op.Plain o) xs frame at = plain_items o xs frame at
-control_items r o xs frame at = []
+-- ---- of a node in a function with a frame of so many bytes and so many homes that are read, whose code begins at an address, or a place of the buffer,
+-- and has a reach
+abbrev pub control_items : Reach → Op → List Operand → ℕ → ℕ → ℕ → List Item
+control_items r (op.Branch o last) xs frame homes at = branch_items r frame o xs
+control_items r (op.BranchSum o last) xs frame homes at = sum_items r frame o xs
+control_items r (op.Control o last) xs frame homes at = leap_items o last xs
+control_items r (op.Plain o) xs frame homes at = plain_items o xs frame homes at
+control_items r o xs frame homes at = []
 
 -- the operations whose nodes have these items
 abbrev pub is_control : Op → Bool

@@ -3,6 +3,7 @@ use Rattle.std.specs.Prelude.{◌≡◌, ℕ, Bool, true, false, List, slice_ind
 use Rattle.lg_op.specs.declared.node.Node.{Node}
 use Rattle.lg_op.specs.declared.operand.Operand.{Operand}
 use Rattle.lg_carry.specs.FinalNodes.{Code}
+use Rattle.lg_carry.specs.Homes.{IsHomesOf}
 use Rattle.lg_carry.specs.NodeCode.{CarriesNode}
 use Rattle.lg_carry.specs.TextNodes.{IsInText, IsFrameOf, HasPlaces}
 use Rattle.lg_carry_x86.specs.X86Rows.{x86_processor}
@@ -19,7 +20,7 @@ ends_in_label xs = target_control.ends_in_label xs
 
 abbrev pub ControlNodesCarry : Type 0
 ControlNodesCarry =
-    (r : Reach) (code : List ℕ) (trash : ℕ) (c : Code) (i : ℕ) (n : Node) (frame : ℕ) (S : ℕ → Bool) → is_control n.op ≡ true → HasPlaces 1 c
-    → AreWords c.addresses n.operands → ends_in_label n.operands ≡ false → IsFrameOf c i frame → IsInText c i n
-    → StandsInCode code trash c i (settled (slice_index c.addresses) (c.place i) (control_items r n.op n.operands frame (c.place i)))
+    (r : Reach) (code : List ℕ) (trash : ℕ) (c : Code) (i : ℕ) (n : Node) (frame homes : ℕ) (S : ℕ → Bool) → is_control n.op ≡ true → HasPlaces 1 c
+    → AreWords c.addresses n.operands → ends_in_label n.operands ≡ false → IsFrameOf c i frame → IsHomesOf c i homes → IsInText c i n
+    → StandsInCode code trash c i (settled (slice_index c.addresses) (c.place i) (control_items r n.op n.operands frame homes (c.place i)))
     → CarriesNode (x86_processor code trash) c i n S

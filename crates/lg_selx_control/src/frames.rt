@@ -1,10 +1,12 @@
 // Functions that begin and return, and places at a multiple.
 
-ghost use Rattle.std.specs.Prelude.{◌≡◌, ◌+◌, ◌<◌, ◌≤◌, true, [], ◌∷◌, ◌++◌};
+ghost use Rattle.std.specs.Prelude.{◌≡◌, ◌+◌, ◌<◌, ◌≤◌, true, negsuc, [], ◌∷◌, ◌++◌};
+ghost use Rattle.lg_base.specs.Conventions.{argument_registers};
+ghost use Rattle.lg_base.specs.declared.target.Target.TheVariants.{X86_64};
 ghost use Rattle.lg_op.specs.Forms.{admit, plain_forms};
 ghost use Rattle.lg_op.specs.declared.form.Form.TheVariants as form;
 ghost use Rattle.lg_selx_control.specs.ControlItems.{align_items, plain_items};
-ghost use Rattle.lg_selx_control.specs.Prologs.{lower, prolog_code};
+ghost use Rattle.lg_selx_control.specs.Prologs.{stored_registers, stores_below, lower, prolog_code};
 ghost use Rattle.lg_x86.specs.declared.instruction.LoadOp.TheVariants.{Lea};
 ghost use Rattle.lg_selx_control.specs.Returns.{return_code};
 ghost use Rattle.lg_selx_items.specs.Items.{words_in, ones};
@@ -43,27 +45,63 @@ fn lowered(size: u32) -> Instr
     lea(STACK_POINTER, FRAME_POINTER, -((size - 17) as i32) - 1)
 }
 
-// What a `prolog` does: the caller's FP goes below the return address, and FP points there; V0, V1, V2 and the arguments in rdi, rsi, rdx, rcx, r8 and
-// r9 go below, and the stack pointer falls.
-fn prolog_code(size: u32) -> [Instr; 12]
-    requires some { 272 ≤ size }
-    requires small { size < 0x4000_0000 }
-    ensures { result ≡ prolog_code size }
+// What each `prolog` does first: the caller's FP goes below the return address, and FP points there.
+fn pointed() -> [Instr; 2]
+    ensures { result ≡ Instr.Store (StoreOp.St64) 4 (negsuc 7) 5 ∷ Instr.Load Lea 5 4 (negsuc 7) ∷ [] }
 {
     [
         store(STACK_POINTER, -8, FRAME_POINTER),
         lea(FRAME_POINTER, STACK_POINTER, -8),
+    ]
+}
+
+// And what it stores by FP: V0, V1 and V2.
+fn saves() -> [Instr; 3]
+    ensures { result ≡ stores_below (stored_registers 0) 2 }
+{
+    [
         store(FRAME_POINTER, -8, V0),
         store(FRAME_POINTER, -16, V1),
         store(FRAME_POINTER, -24, V2),
+    ]
+}
+
+// The stores of the arguments in rdi, rsi, rdx, rcx, r8 and r9 into their homes.
+fn home_stores() -> [Instr; 6]
+    ensures { result ≡ stores_below (argument_registers X86_64) 5 }
+{
+    [
         store(FRAME_POINTER, -32, 7),
         store(FRAME_POINTER, -40, 6),
         store(FRAME_POINTER, -48, 2),
         store(FRAME_POINTER, -56, 1),
         store(FRAME_POINTER, -64, 8),
         store(FRAME_POINTER, -72, 9),
-        lowered(size),
     ]
+}
+
+// Appends the stores of a `prolog` by FP with so many homes.
+#[tactic(auto, using(lg_selx_items::proofs::ItemLemmas::words_append))]
+fn put_stores(homes: u32, items: &mut Items<Item>)
+    requires room { words_in items.old ≤ 50 }
+    ensures stored { items.new ≡ items.old ++ ones (stores_below (stored_registers homes) 2) }
+    ensures few { words_in items.new ≤ words_in items.old + 9 }
+{
+    items.all(&saves());
+    items.all(&home_stores()[..homes.min(6) as usize]);
+}
+
+// Appends the code of a `prolog` with so many homes to none.
+#[tactic(auto, using(lg_selx_items::proofs::ItemLemmas::words_append))]
+fn put_prolog(size: u32, homes: u32, items: &mut Items<Item>)
+    requires empty { items.old ≡ [] }
+    requires some { 272 ≤ size }
+    requires small { size < 0x4000_0000 }
+    ensures { items.new ≡ ones (prolog_code size homes) }
+{
+    items.all(&pointed());
+    put_stores(homes, items);
+    items.one(lowered(size));
 }
 
 // A word of the frame is loaded by FP.
@@ -121,6 +159,7 @@ pub(crate) fn put_plain(
     op: PlainOp,
     operands: &[Operand],
     frame: u32,
+    homes: u32,
     place: u32,
     items: &mut Items<Item>,
 )
@@ -128,10 +167,10 @@ pub(crate) fn put_plain(
     requires formed { admit (plain_forms op) operands.now ≡ true }
     requires some { 272 ≤ frame }
     requires small { frame < 0x4000_0000 }
-    ensures { items.new ≡ plain_items op operands.now frame place }
+    ensures { items.new ≡ plain_items op operands.now frame homes place }
 {
     match op {
-        PlainOp::Prolog => items.all(&prolog_code(frame)),
+        PlainOp::Prolog => put_prolog(frame, homes, items),
         PlainOp::Epilog | PlainOp::Ret => put_return(items),
         PlainOp::Align => put_align(place, operands, items),
         _ => {}
