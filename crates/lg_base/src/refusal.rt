@@ -1,7 +1,7 @@
 // Why a text is refused, and want of memory.
 
 ghost use Rattle.std.specs.Prelude.{◌≡◌};
-ghost use Rattle.lg_base.specs.Refusals.{number_of_kind, name_of_kind};
+ghost use Rattle.lg_base.specs.Refusals.{number_of_kind, name_of_kind, sentence_of_kind};
 
 use std::alloc::{AllocError, AllocFailed};
 use thiserror::Error;
@@ -173,6 +173,67 @@ impl RefusalKind {
             RefusalKind::BadMacro => "BadMacro",
             RefusalKind::ExpandTooMuch => "ExpandTooMuch",
             RefusalKind::BadListing => "BadListing",
+        }
+    }
+
+    /// The sentence that explains the kind: what the line is refused for, and what is often meant.
+    pub fn sentence(self) -> &'static str
+        ensures { result.now ≡ sentence_of_kind self }
+    {
+        match self {
+            RefusalKind::BadToken => {
+                "no token begins here; operands have no commas, comments are // and /* */"
+            }
+            RefusalKind::UnknownName => {
+                "a word is no statement here: it is misspelt, a label without its colon, or a macro that is not defined, or it stands in the wrong part"
+            }
+            RefusalKind::FloatRefused => {
+                "there is no floating point; a name with a part f or d behind a _ is taken for it"
+            }
+            RefusalKind::BadOperand => {
+                "an operand is missing, or is none that its place takes; registers are %r0 %r1 %r2 %v0 %v1 %v2 %fp, and %fp is never written"
+            }
+            RefusalKind::BadExpr => {
+                "an expression has no value; words have none there, and each of its operands is worked out"
+            }
+            RefusalKind::LabelTwice => "a label, or a name of the function, is made a second time",
+            RefusalKind::LabelMissing => "a label is named that stands nowhere",
+            RefusalKind::NotInFunction => {
+                "an instruction stands outside of every function, which go from a prolog to an epilog"
+            }
+            RefusalKind::FunctionOpen => {
+                "a function has no epilog before the next prolog or the end of the text"
+            }
+            RefusalKind::TargetOutside => {
+                "a jump leaves its function, a call goes to no prolog, or a code label stands as a number where movi, pushargi and reti alone take one"
+            }
+            RefusalKind::BadCall => {
+                "pushes and a finish stand behind a prepare, with no branch, jump, other call, return or label between; one ellipsis, and the args in front of it"
+            }
+            RefusalKind::TooManyArgs => "a function or a call has more than 16 arguments",
+            RefusalKind::NoSuchArg => {
+                "no arg and no allocai of the function makes this name before"
+            }
+            RefusalKind::UnknownHost => "there is no such host function",
+            RefusalKind::DataFull => {
+                "the data are more than .data says; a string has a zero byte too"
+            }
+            RefusalKind::TextTooLong => "the text has more than 16777216 bytes",
+            RefusalKind::TooManyNodes => "the text has more than 1048576 instructions",
+            RefusalKind::CodeFull => "the code has no room in the size that --code gives",
+            RefusalKind::FrameTooBig => "the locals of a function are more than 65536 bytes",
+            RefusalKind::NoCode => "the text has no prolog, so no function",
+            RefusalKind::ArgsTooLong => "the words of the command are more than 1048576 bytes",
+            RefusalKind::BadDirective => {
+                "a directive is none of define, undef, ifdef, ifndef, if, else and endif, or not of its form, or a condition is not ended"
+            }
+            RefusalKind::BadMacro => {
+                "a call of a macro is not closed, or has more or fewer arguments than the macro has parameters"
+            }
+            RefusalKind::ExpandTooMuch => {
+                "macros give more than 16777216 bytes, or call one another more than 200 levels deep"
+            }
+            RefusalKind::BadListing => "a line is not as a listing has it",
         }
     }
 }
