@@ -43,7 +43,9 @@ use Rattle.lg_meaning.specs.Steps.{Outcome, Goes, Ends, Undefined, Text, need, w
 use Rattle.lg_meaning.specs.Texts.{text, step, step_at}
 use Rattle.lg_meaning.specs.Fits.{Fits, RunsIn, IsTopOf}
 use Rattle.lg_meaning.specs.Laws.{IsFormedAt, IsWhy}
-use Rattle.lg_meaning.specs.Reasons.{where_so, where_none, given, first, register, cannot_divide, cannot_divide_widely, outside, Called, OfHost, OfText, called_by_name, called_at, finds_no_room, is_undefined, is_not_allowed, why_of, why}
+use Rattle.lg_meaning.specs.Reasons.{where_so, where_none, given, first, register, cannot_divide, cannot_divide_widely, outside, called_by_name, called_at, finds_no_room, is_undefined, is_not_allowed, why_of, why}
+use Rattle.lg_meaning.specs.declared.reason.Called.{Called}
+use Rattle.lg_meaning.specs.declared.reason.Called.TheVariants.{OfHost, OfText}
 use Rattle.lg_meaning.specs.declared.reason.Reason.{Reason}
 use Rattle.lg_meaning.specs.declared.reason.Reason.TheVariants.{Unset, NoCarry, NoQuotient, Outside, Unwritten, NoLabel, NoFunction, NoRoom, NoResult, NoArgument, NotAllowed, NoVariable}
 

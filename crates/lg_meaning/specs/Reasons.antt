@@ -24,7 +24,6 @@ use Rattle.lg_op.specs.declared.op.PlainOp.{PlainOp}
 use Rattle.lg_op.specs.declared.op.PlainOp.TheVariants as plain
 use Rattle.lg_op.specs.declared.op.LastOperand.{LastOperand}
 use Rattle.lg_op.specs.declared.op.LastOperand.TheVariants as last_operand
-use Rattle.lg_node.specs.declared.function.Function.{Function}
 use Rattle.lg_node.specs.Functions.{frame_of}
 use Rattle.lg_node.specs.Nodes.{LabelledNodes}
 use Rattle.lg_node.specs.Shapes.{TextShape}
@@ -33,6 +32,8 @@ use Rattle.lg_operators.specs.Operators.{is_least_by_minus_one, is_carried, carr
 use Rattle.lg_meaning.specs.States.{State, value, is_open}
 use Rattle.lg_meaning.specs.Steps.{Text, operand_at, is_indexed, address, stored_operand, jump_target, node_of_label, entry_target, function_here, is_marked, slot}
 use Rattle.lg_meaning.specs.Texts.{text}
+use Rattle.lg_meaning.specs.declared.reason.Called.{Called}
+use Rattle.lg_meaning.specs.declared.reason.Called.TheVariants.{OfHost, OfText}
 use Rattle.lg_meaning.specs.declared.reason.Reason.{Reason}
 use Rattle.lg_meaning.specs.declared.reason.Reason.TheVariants.{Unset, NoCarry, NoQuotient, Outside, Unwritten, NoLabel, NoFunction, NoRoom, NoResult, NoArgument, NotAllowed, NoVariable}
 
@@ -92,8 +93,12 @@ abbrev pub register : Operand → Reg
 register (operand.Reg r) = r
 register x = Fp
 
+-- the first of the operands at some places that is one
+abbrev pub unset_among : List ℕ → Node → State → List ℕ → Option Reason
+unset_among A n s places = first (map (λ i. where_none (value A s (operand_at n i)) (Unset (register (operand_at n i)))) places)
+
 abbrev pub row_1 : Text → Node → Op → State → Option Reason
-row_1 t n o s = first (map (λ i. where_none (value t.addresses s (operand_at n i)) (Unset (register (operand_at n i)))) (operands_read o))
+row_1 t n o s = unset_among t.addresses n s (operands_read o)
 
 -- ---- 2: `addx` or `subx` finds no carry of its kind
 abbrev pub row_2 : Op → State → Option Reason
@@ -137,17 +142,12 @@ row_7 t n (op.Control control.Jmp last_operand.Register) s = given (value t.addr
 row_7 t n o s = None
 
 -- ---- 8, 9 and 12: calls
--- what is called: a host function, or a function of the text
-pub data Called : Type 0 where
-  OfHost : HostName → Called
-  OfText : Function → Called
-
--- by the name of a host function or the label of a node
+-- what is called by the name of a host function or the label of a node
 abbrev pub called_by_name : Text → Operand → Option Called
 called_by_name t (operand.Host name) = Some (OfHost name)
 called_by_name t x = option_map OfText (function_here t.functions (node_of_label t.places x))
 
--- by a word: the address of a host function, or of a label at a `prolog`
+-- and by a word: the address of a host function, or of a label at a `prolog`
 abbrev pub called_at : Text → ℕ → Option HostName → Option Called
 called_at t w (Some name) = Some (OfHost name)
 called_at t w None = option_map OfText (option_and_then (function_here t.functions) (entry_target t w))
@@ -156,16 +156,23 @@ abbrev pub called_here : Text → Node → LastOperand → State → Option Call
 called_here t n last_operand.Immediate s = called_by_name t (operand_at n 0)
 called_here t n last_operand.Register s = option_and_then (λ w. called_at t w (host_by_address w)) (value t.addresses s (operand_at n 0))
 
--- what a node calls, with which arguments, and where to
-abbrev pub called_from : Text → Node → Op → State → Option (Option Called × List ℕ)
-called_from t n (op.Control control.Call last) s = Some (called_here t n last s, [])
-called_from t n (op.Control control.Finish last) s = Some (called_here t n last s, s.pushed)
-called_from t n o s = None
+-- the last operand of a call, and the arguments that it passes
+abbrev pub call_of : Op → Option LastOperand
+call_of (op.Control control.Call last) = Some last
+call_of (op.Control control.Finish last) = Some last
+call_of o = None
+
+abbrev pub passed_by : Op → State → List ℕ
+passed_by (op.Control control.Finish last) s = s.pushed
+passed_by o s = []
+
+-- what a node calls, if anything
+abbrev pub called_from : Text → Node → Op → State → Option Called
+called_from t n o s = option_and_then (λ last. called_here t n last s) (call_of o)
 
 -- 8: a call goes to no label at a `prolog` and to no host function
 abbrev pub row_8 : Text → Node → Op → State → Option Reason
-row_8 t n o s =
-    given (called_from t n o s) (λ call. given (value t.addresses s (operand_at n 0)) (λ w. where_none call.0 (NoFunction w)))
+row_8 t n o s = given (call_of o) (λ last. given (value t.addresses s (operand_at n 0)) (λ w. where_none (called_here t n last s) (NoFunction w)))
 
 -- 9: it finds the stack full: the frame would begin below 0x3FF00010
 abbrev pub finds_no_room : State → Called → Option Reason
@@ -173,7 +180,7 @@ finds_no_room s (OfHost name) = None
 finds_no_room s (OfText f) = where_so (not (nat_le (0x3FF00010 + frame_of f) (s.frame.sp - s.frame.size))) (NoRoom (frame_of f))
 
 abbrev pub row_9 : Text → Node → Op → State → Option Reason
-row_9 t n o s = given (called_from t n o s) (λ call. given call.0 (finds_no_room s))
+row_9 t n o s = given (called_from t n o s) (finds_no_room s)
 
 -- 12: a host function is called with arguments that it does not allow
 abbrev pub is_undefined : Host → Bool
@@ -187,7 +194,7 @@ is_not_allowed s args (OfHost name) =
 is_not_allowed s args (OfText f) = None
 
 abbrev pub row_12 : Text → Node → Op → State → Option Reason
-row_12 t n o s = given (called_from t n o s) (λ call. given call.0 (is_not_allowed s call.1))
+row_12 t n o s = given (called_from t n o s) (is_not_allowed s (passed_by o s))
 
 -- ---- 10: a `retval` does not stand directly behind a call that gave a result
 abbrev pub row_10 : Op → State → Option Reason

@@ -4,7 +4,16 @@ ghost use Rattle.std.specs.Prelude.{◌≡◌};
 ghost use Rattle.lg_meaning.specs.Reasons.{item_of};
 
 use lg_base::host_name::HostName;
-use lg_node::Reg;
+use lg_node::{Function, Reg};
+
+/// What a node calls.
+#[derive(Clone, Copy, Debug, PartialEq, Eq)]
+pub enum Called {
+    /// A host function.
+    OfHost(HostName),
+    /// A function of the text.
+    OfText(Function),
+}
 
 /// A row of the table of undefined steps that holds of a state at its node, with its values.
 #[derive(Clone, Copy, Debug, PartialEq, Eq)]
