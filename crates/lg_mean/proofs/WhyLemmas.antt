@@ -1,5 +1,5 @@
 -- Where a step is undefined and its node calls a host function, that does not allow its arguments.
-use Rattle.std.proofs.Common.{◌≡◌, ℕ, Bool, true, false, List, [], Option, Some, None, refl, sym, ap, ◌∙◌, subst}
+use Rattle.std.proofs.Common.{◌≡◌, ℕ, true, List, [], Option, Some, None, refl, sym, ap, ◌∙◌}
 use Rattle.std.specs.Option.{option_and_then, option_map}
 use Rattle.lg_base.specs.HostNames.{host_by_address}
 use Rattle.lg_base.specs.declared.host_name.HostName.{HostName}
@@ -15,11 +15,10 @@ use Rattle.lg_op.specs.declared.op.LastOperand.{LastOperand}
 use Rattle.lg_op.specs.declared.op.LastOperand.TheVariants as last_operand
 use Rattle.lg_node.specs.declared.function.Function.{Function}
 use Rattle.lg_meaning.specs.States.{State, value, is_open}
-use Rattle.lg_meaning.specs.Steps.{Outcome, Undefined, Text, need, operand_at, node_step, node_of_label, function_here, entry_target, call_step, call_host, call_named, call_operand, host_end, is_marked}
-use Rattle.lg_meaning.specs.Reasons.{where_so, given, called_by_name, called_at, called_here, called_from, is_undefined, is_not_allowed, row_12}
+use Rattle.lg_meaning.specs.Steps.{Undefined, Text, need, operand_at, node_step, node_of_label, function_here, entry_target, call_step, call_host, call_named, call_operand, host_end, is_marked}
+use Rattle.lg_meaning.specs.Reasons.{given, called_by_name, called_at, called_here, called_from, is_undefined, is_not_allowed, row_12}
 use Rattle.lg_meaning.specs.declared.reason.Called.{Called}
 use Rattle.lg_meaning.specs.declared.reason.Called.TheVariants.{OfHost, OfText}
-use Rattle.lg_meaning.specs.declared.reason.Reason.{Reason}
 use Rattle.lg_meaning.specs.declared.reason.Reason.TheVariants.{NotAllowed}
 use Rattle.lg_mean.specs.Says.{not_allowed}
 

@@ -1,6 +1,6 @@
 -- A step is undefined exactly where the table has a reason.
-use Rattle.std.proofs.Common.{◌≡◌, ℕ, ◌+◌, ◌-◌, ◌<◌, Bool, true, false, not, List, [], ◌∷◌, Option, Some, None, refl, sym, ap, ◌∙◌, subst}
-use Rattle.std.specs.Prelude.{◌==◌, ◌&&◌, ◌||◌, nat_le, if◌then◌else◌, is_none, slice_get, slice_index, slice_index_or}
+use Rattle.std.proofs.Common.{◌≡◌, ℕ, ◌+◌, ◌-◌, Bool, true, false, not, List, [], ◌∷◌, Option, Some, None, refl, sym, ap, subst}
+use Rattle.std.specs.Prelude.{◌==◌, ◌||◌, nat_le, if◌then◌else◌, is_none, slice_get, slice_index, slice_index_or}
 use Rattle.std.specs.Option.{option_and_then, option_map}
 use Rattle.lg_base.specs.HostNames.{host_address, host_by_address}
 use Rattle.lg_base.specs.Spaces.{loaded}
@@ -37,10 +37,10 @@ use Rattle.lg_node.specs.Shapes.{TextShape, IsShapeOf}
 use Rattle.lg_node.proofs.FunctionLaws.{node_within}
 use Rattle.lg_node.proofs.WellShaped.{well_shaped}
 use Rattle.lg_cells.specs.Memories.{writable}
-use Rattle.lg_operators.specs.Operators.{binary_value, is_carried, carry_in, is_least_by_minus_one, wide_value, word_where, pair_where, width, store_width, extended_by_type}
+use Rattle.lg_operators.specs.Operators.{binary_value, is_carried, carry_in, is_least_by_minus_one, wide_value, word_where, pair_where, width, store_width}
 use Rattle.lg_meaning.specs.States.{Frame, State, value, is_open}
-use Rattle.lg_meaning.specs.Steps.{Outcome, Goes, Ends, Undefined, Text, need, when, is_indexed, quiet, on, to, on_with_carry, with_reg, operand_at, operate, node_step, carried_to, jump_target, read, load_to, store_to, back_to, leave, host_end, call_host, is_marked, call_node, call_operand, call_named, call_word, enter, entry_target, node_of_label, function_here, slot}
-use Rattle.lg_meaning.specs.Texts.{text, step, step_at}
+use Rattle.lg_meaning.specs.Steps.{Outcome, Undefined, Text, need, when, is_indexed, quiet, operand_at, operate, node_step, jump_target, load_to, store_to, back_to, host_end, call_host, is_marked, call_node, call_operand, call_named, call_word, enter, entry_target, node_of_label, function_here, slot}
+use Rattle.lg_meaning.specs.Texts.{text, step}
 use Rattle.lg_meaning.specs.Fits.{Fits, RunsIn, IsTopOf}
 use Rattle.lg_meaning.specs.Laws.{IsFormedAt, IsWhy}
 use Rattle.lg_meaning.specs.Reasons.{where_so, where_none, given, first, register, cannot_divide, cannot_divide_widely, outside, called_by_name, called_at, finds_no_room, is_undefined, is_not_allowed, why_of, why}

@@ -1,4 +1,4 @@
-use Rattle.std.proofs.Common.{◌≡◌, ℕ, ap, sym, ◌∙◌, length, subst, Some}
+use Rattle.std.proofs.Common.{◌≡◌, ap, sym, ◌∙◌, length, Some}
 use Rattle.std.specs.Prelude.{slice_get}
 use Rattle.lg_meaning.specs.Reasons.{why_of}
 use Rattle.lg_node.specs.ShapeLaws.{IsWellShaped}
