@@ -10,7 +10,6 @@ use Rattle.std.proofs.lemmas.List.Elements.{All-head, All-tail, All-nil, All-con
 use Rattle.lg_base.specs.declared.target.Target.{Target}
 use Rattle.lg_rv.specs.Spelling as rv_spelling
 use Rattle.lg_a64.specs.Spelling as a64_spelling
-use Rattle.lg_x86.proofs.SizeLemmas.{sized}
 use Rattle.lg_x86.proofs.ByteLemmas as x86_bytes
 use Rattle.lg_list.specs.declared.instruction.Instruction.{Instruction}
 use Rattle.lg_list.specs.declared.instruction.Instruction.TheVariants as instruction
@@ -73,11 +72,6 @@ pub spelling-bytes : (i : Instruction) (t : Target) → IsOf t i → All (λ b. 
 spelling-bytes (instruction.X86_64 i) t of = x86_bytes.spelling-bytes i of.1
 spelling-bytes (instruction.Aarch64 i) t of = four-bytes (a64_spelling.word_of i)
 spelling-bytes (instruction.Riscv64 i) t of = four-bytes (rv_spelling.word_of i)
-
-pub spelling-short : (i : Instruction) → length (spelling i) ≤ 16
-spelling-short (instruction.X86_64 i) = omega (arith, (sized i).short)
-spelling-short (instruction.Aarch64 i) = omega arith
-spelling-short (instruction.Riscv64 i) = omega arith
 
 regroup : (a b c d more : List ℕ) → (a ++ b ++ c ++ d) ++ more ≡ a ++ (b ++ (c ++ (d ++ more)))
 regroup a b c d more = simp append_assoc

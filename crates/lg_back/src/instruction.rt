@@ -25,8 +25,8 @@ pub fn read_instruction(
     ensures none { IfNone result ((i : Instruction) → ¬ HasLine target at text.now (Code i)) }
 {
     let bytes = read_hex(behind(text, 10))?;
-    let (instruction, _) = decode(target, bytes.as_slice())?;
-    instruction.write_line(at, line);
+    let (instruction, length) = decode(target, bytes.as_slice())?;
+    instruction.write_line(at, &bytes.as_slice()[..length as usize], line);
     let line = line.as_slice();
     if text.starts_with(line) {
         Some((bytes, line.len()))

@@ -4,6 +4,7 @@ pub mod MemorySinks
 pub mod MemoryTexts
 pub mod NamedTexts
 pub mod Radixes
+pub mod Readings
 pub mod Rests
 pub mod SinkChanges
 pub mod StandardSinks

@@ -6,6 +6,7 @@ pub mod digits;
 pub mod memory_sink;
 pub mod memory_texts;
 mod named_text;
+pub mod reading;
 pub mod sink;
 pub mod standard;
 pub mod texts;

@@ -1,14 +1,16 @@
 // Texts in memory.
 
-ghost use Rattle.std.specs.Prelude.{◌≡◌, ◌==◌, ◌<◌, ◌≤◌, ℕ, [], ◌∷◌, ◌++◌, ◌-◌, length, min, take, drop, Some, None, MatchOption, IfOk, OnOk, OnErr};
+ghost use Rattle.std.specs.Prelude.{◌≡◌, ◌==◌, ◌<◌, ◌≤◌, ℕ, [], ◌∷◌, ◌++◌, ◌-◌, length, min, take, drop, Some, None, MatchOption, IfOk, OnOk, OnErr, is_ok};
 ghost use Rattle.std.specs.Io.KnownBytes.{ReadConsumes};
 ghost use Rattle.lg_io.specs.Counts.{HasCause};
 ghost use Rattle.lg_io.specs.NamedTexts.{text_under, ReadsSurely, Selects, SelectsSurely};
+ghost use Rattle.lg_io.specs.Readings.{behind_read, behind_select, finds_nothing, unread};
 ghost use Rattle.lg_io.specs.Rests.{rest_of, IsPlaceOf};
-ghost use Rattle.lg_io.specs.MemoryTexts.{select_answer, after_select, read_answer, read_into, after_read};
+ghost use Rattle.lg_io.specs.MemoryTexts.{select_answer, after_select, read_answer, read_into, after_read, untouched};
 
 use crate::calls::FailingCalls;
 use crate::named_text::NamedText;
+use crate::reading::Reading;
 use crate::texts::{TextFault, Texts};
 use lg_base::refusal::OutOfMemory;
 use std::alloc::Global;
@@ -21,6 +23,7 @@ pub struct MemoryTexts {
     texts: Vec<NamedText>,
     selected: Option<usize>,
     offset: usize,
+    reading: Reading,
     calls: FailingCalls,
 }
 
@@ -32,7 +35,7 @@ impl Model for MemoryTexts {
 
     ghost Value = { TextsState };
 
-    ghost view = { λ texts. record { held = texts.texts.items; left = rest_of texts.texts.items texts.selected texts.offset; calls = texts.calls } };
+    ghost view = { λ texts. record { held = texts.texts.items; left = rest_of texts.texts.items texts.selected texts.offset; reading = texts.reading; calls = texts.calls } };
 
     ghost invariant = { λ texts. ForSome texts.selected (λ place. place < vec_len texts.texts) };
 }
@@ -66,13 +69,14 @@ fn copy_from(text: &[u8], offset: usize, into: &mut [u8]) -> usize
 impl MemoryTexts {
     /// No texts. The k-th call, selecting and reading counted together from 1, fails where k is in the list.
     pub fn new(alloc: Global, fail_at: &[u64]) -> Result<MemoryTexts, OutOfMemory>
-        ensures { IfOk result (λ texts. texts ≡ record { held = []; left = []; calls = record { fail_at = fail_at.now; made = 0; faults = 0 } }) }
+        ensures { IfOk result (λ texts. texts ≡ untouched fail_at.now) }
     {
         Ok(MemoryTexts {
             alloc,
             texts: Vec::new(alloc),
             selected: None,
             offset: 0,
+            reading: Reading::new(),
             calls: FailingCalls::new(alloc, fail_at)?,
         })
     }
@@ -104,12 +108,15 @@ impl Texts for MemoryTexts {
 
     ghost sure = { λ texts. length texts.calls.fail_at == 0 };
 
+    ghost reading = { λ texts. texts.reading };
+
     /// Selects the first text of a name.
     fn select(&mut self, name: &str) -> Result<(), TextFault>
         ensures held { Some self.new.held ≡ Some self.old.held }
         ensures left { OnOk result (Selects (Some self.old.held) (Some self.new.left) name.now) }
         ensures err { OnErr result (Some self.new.left ≡ Some self.old.left) }
         ensures sure { SelectsSurely (length self.old.calls.fail_at == 0) (length self.new.calls.fail_at == 0) (Some self.old.held) name.now result }
+        ensures reading { self.new.reading ≡ behind_select self.old.reading (is_ok result) }
         ensures cause { HasCause self.old.calls.faults self.new.calls.faults result }
         ensures answer { result ≡ select_answer self.old name.now }
         ensures after { self.new ≡ after_select self.old name.now }
@@ -118,12 +125,14 @@ impl Texts for MemoryTexts {
         match place_of(self.texts.as_slice(), name) {
             Some(place) if !fails => {
                 self.calls.count(false);
+                self.reading.select(true);
                 self.selected = Some(place);
                 self.offset = 0;
                 Ok(())
             }
             _ => {
                 self.calls.count(true);
+                self.reading.select(false);
                 Err(TextFault::Failed)
             }
         }
@@ -135,6 +144,7 @@ impl Texts for MemoryTexts {
         ensures bound { IfOk result (λ n. n ≤ length into.old) }
         ensures bytes { ReadConsumes (Some self.old.left) (Some self.new.left) result into.new }
         ensures sure { ReadsSurely (length self.old.calls.fail_at == 0) (length self.new.calls.fail_at == 0) result }
+        ensures reading { self.new.reading ≡ behind_read self.old.reading (finds_nothing result) }
         ensures cause { HasCause self.old.calls.faults self.new.calls.faults result }
         ensures answer { result ≡ read_answer self.old into.old }
         ensures after { self.new ≡ after_read self.old into.old }
@@ -143,13 +153,16 @@ impl Texts for MemoryTexts {
         let fails = self.calls.fails_next();
         self.calls.count(fails);
         if fails {
+            self.reading.read(false);
             return Err(TextFault::Failed);
         }
         let Some(place) = self.selected else {
+            self.reading.read(true);
             return Ok(0);
         };
         let count = copy_from(self.texts[place].text(), self.offset, into);
         self.offset += count;
+        self.reading.read(count == 0);
         Ok(count)
     }
 }

@@ -5,9 +5,11 @@ ghost use Rattle.std.specs.Str.{bytes_eq};
 ghost use Rattle.std.specs.Io.KnownBytes.{WriteAppends, ReadConsumes};
 ghost use Rattle.lg_io.specs.Counts.{HasCause, next_count};
 ghost use Rattle.lg_io.specs.NamedTexts.{NamedTexts, ReadsSurely, Selects, SelectsSurely};
+ghost use Rattle.lg_io.specs.Readings.{behind_read, behind_select, finds_nothing, unread};
 ghost use Rattle.lg_io.specs.StandardSinks.{source_under};
 ghost use Rattle.lg_io.specs.StandardSinks.Source.{NoText};
 
+use crate::reading::Reading;
 use crate::sink::{Sink, SinkFault};
 use crate::texts::{TextFault, Texts};
 use std::fs;
@@ -82,6 +84,7 @@ enum Selected<F: Drop, I: Drop> {
 pub struct StdTexts<'a, R: Files + Input> {
     rt: &'a R,
     selected: Selected<R::File, R::Reader>,
+    reading: Reading,
     faults: u64,
 }
 
@@ -90,17 +93,18 @@ impl<'a, R: Files + Input> Model for StdTexts<'a, R> {
 
     ghost Value = { ReaderState };
 
-    ghost view = { λ texts. seen_texts R.File.remaining R.Reader.remaining texts.selected texts.faults };
+    ghost view = { λ texts. seen_texts R.File.remaining R.Reader.remaining texts.selected texts.reading texts.faults };
 }
 
 impl<'a, R: Files + Input> StdTexts<'a, R> {
     /// No text is selected.
     pub fn new(rt: &'a R) -> StdTexts<'a, R>
-        ensures { result ≡ record { left = Some []; source = NoText; faults = 0 } }
+        ensures { result ≡ record { left = Some []; source = NoText; reading = unread; faults = 0 } }
     {
         StdTexts {
             rt,
             selected: Selected::Nothing,
+            reading: Reading::new(),
             faults: 0,
         }
     }
@@ -122,12 +126,15 @@ impl<'a, R: Files + Input> Texts for StdTexts<'a, R> {
 
     ghost sure = { λ _. false };
 
+    ghost reading = { λ texts. texts.reading };
+
     /// Opens the file of that name, or takes the standard input for `-`, which never fails.
     fn select(&mut self, name: &str) -> Result<(), TextFault>
         ensures held { ◌≡◌ {A = Option NamedTexts} None None }
         ensures left { OnOk result (Selects None self.new.left name.now) }
         ensures err { OnErr result (self.new.left ≡ self.old.left) }
         ensures sure { SelectsSurely false false None name.now result }
+        ensures reading { self.new.reading ≡ behind_select self.old.reading (is_ok result) }
         ensures source { self.new.source ≡ (if is_ok result then source_under name.now else self.old.source) }
         ensures input { bytes_eq name.now (codes "-") ≡ true → is_ok result ≡ true }
         ensures cause { HasCause self.old.faults self.new.faults result }
@@ -135,14 +142,17 @@ impl<'a, R: Files + Input> Texts for StdTexts<'a, R> {
     {
         if name == "-" {
             self.selected = Selected::Input(self.rt.reader());
+            self.reading.select(true);
             return Ok(());
         }
         match fs::open(self.rt, name) {
             Ok(file) => {
                 self.selected = Selected::File(file);
+                self.reading.select(true);
                 Ok(())
             }
             Err(_) => {
+                self.reading.select(false);
                 self.faults = self.faults.saturating_add(1);
                 Err(TextFault::Failed)
             }
@@ -155,6 +165,7 @@ impl<'a, R: Files + Input> Texts for StdTexts<'a, R> {
         ensures bound { IfOk result (λ n. n ≤ length into.old) }
         ensures bytes { ReadConsumes self.old.left self.new.left result into.new }
         ensures sure { ReadsSurely false false result }
+        ensures reading { self.new.reading ≡ behind_read self.old.reading (finds_nothing result) }
         ensures source { self.new.source ≡ self.old.source }
         ensures nothing { self.old.source ≡ NoText → result ≡ Ok 0 }
         ensures cause { HasCause self.old.faults self.new.faults result }
@@ -166,8 +177,12 @@ impl<'a, R: Files + Input> Texts for StdTexts<'a, R> {
             Selected::Input(input) => input.read(into),
         };
         match answer {
-            Ok(count) => Ok(count),
+            Ok(count) => {
+                self.reading.read(count == 0);
+                Ok(count)
+            }
             Err(_) => {
+                self.reading.read(false);
                 self.faults = self.faults.saturating_add(1);
                 Err(TextFault::Failed)
             }

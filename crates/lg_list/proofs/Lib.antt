@@ -1,5 +1,6 @@
 pub mod SpellingLemmas
 pub mod BackLemmas
+pub mod DigitLemmas
 pub mod ListingLemmas
 pub mod TextLemmas
 pub mod WriteLemmas

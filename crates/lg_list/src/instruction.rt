@@ -7,7 +7,6 @@ ghost use Rattle.lg_list.specs.Lines.{instruction_line};
 
 use crate::line::Line;
 use crate::{aarch64, riscv64, x86_64};
-use lg_base::piece::Piece;
 use lg_base::target::Target;
 
 /// An instruction of one of the targets.
@@ -22,17 +21,6 @@ pub enum Instruction {
 }
 
 impl Instruction {
-    fn encode(&self) -> Piece
-        requires { IsInstruction self.now }
-        ensures { result ≡ spelling self.now }
-    {
-        match self {
-            Instruction::X86_64(instr) => lg_x86::encode(instr),
-            Instruction::Aarch64(instr) => lg_a64::encode(instr),
-            Instruction::Riscv64(instr) => lg_rv::encode(instr),
-        }
-    }
-
     /// Appends the text of the instruction at an address.
     fn push_text(&self, at: u32, line: &mut Line)
         requires { length line.old ≤ 52 }
@@ -46,16 +34,15 @@ impl Instruction {
         }
     }
 
-    /// Puts the line of the instruction at an address in the place of what a line has.
-    pub fn write_line(&self, at: u32, line: &mut Line)
-        requires { IsInstruction self.now }
+    /// Puts the line of the instruction at an address in the place of what a line has. Its bytes are given.
+    pub fn write_line(&self, at: u32, bytes: &[u8], line: &mut Line)
+        requires { bytes.now ≡ spelling self.now }
         ensures { line.new ≡ instruction_line at self.now }
     {
         line.clear();
         line.push_hex(&at.to_be_bytes());
         line.push(b"  ");
-        let spelling = self.encode();
-        line.push_hex(spelling.as_slice());
+        line.push_hex(bytes);
         line.push(b"  ");
         self.push_text(at, line);
         line.push(b"\n");

@@ -72,9 +72,10 @@ fn write_instructions<O: Sink>(
         match decode(target, &bytes[done..]) {
             None => return Ok(()),
             Some((instruction, length)) => {
-                instruction.write_line(at + done as u32, line);
+                let end = done + length as usize;
+                instruction.write_line(at + done as u32, &bytes[done..end], line);
                 match write_all(out, line.as_slice()) {
-                    Ok(()) => done += length as usize,
+                    Ok(()) => done = end,
                     Err(fault) => return Err(fault),
                 }
             }

@@ -1,6 +1,6 @@
 // The operands of the instructions of all targets, and how a listing prints them.
 
-ghost use Rattle.std.specs.Prelude.{◌≡◌, ◌<◌, ◌≤◌, ◌+◌, ◌*◌, ◌^◌, ◌++◌, length};
+ghost use Rattle.std.specs.Prelude.{◌≡◌, ◌<◌, ◌≤◌, ◌+◌, ◌*◌, ◌^◌, ◌++◌, codes, length};
 ghost use Rattle.lg_list.specs.Texts.{decimal, signed_decimal, displacement, hex};
 ghost use Rattle.lg_list.specs.Operands.{register_name, x86_name, spelled, spelled_behind, text};
 
@@ -38,6 +38,7 @@ pub enum Operand {
 
 impl Line {
     /// Appends a register's name.
+    #[inline(always)]
     pub fn push_register(&mut self, register: Register)
         requires { length self.old + 23 ≤ 288 }
         ensures value { self.new ≡ self.old ++ register_name register }
@@ -55,6 +56,7 @@ impl Line {
     }
 
     /// Appends a signed number in decimal digits.
+    #[inline(always)]
     pub fn push_signed(&mut self, number: i64)
         requires { length self.old + 23 ≤ 288 }
         ensures value { self.new ≡ self.old ++ signed_decimal number }
@@ -67,6 +69,7 @@ impl Line {
     }
 
     /// Appends a displacement, with its sign.
+    #[inline(always)]
     pub fn push_displacement(&mut self, number: i64)
         requires { length self.old + 23 ≤ 288 }
         ensures value { self.new ≡ self.old ++ displacement number }
@@ -81,6 +84,7 @@ impl Line {
     }
 
     /// Appends an operand.
+    #[inline(always)]
     pub fn push_operand(&mut self, operand: Operand)
         requires { length self.old + 49 ≤ 288 }
         ensures value { self.new ≡ self.old ++ spelled operand }
@@ -96,6 +100,7 @@ impl Line {
         }
     }
 
+    #[inline(always)]
     fn push_memory(&mut self, base: Register, displacement: i64)
         requires { length self.old + 49 ≤ 288 }
         ensures value { self.new ≡ self.old ++ spelled (Operand.Memory base displacement) }
@@ -119,6 +124,7 @@ impl Line {
         self.push(b"]");
     }
 
+    #[inline(always)]
     fn push_target(&mut self, address: u32)
         requires { length self.old + 49 ≤ 288 }
         ensures value { self.new ≡ self.old ++ spelled (Operand.Target address) }
@@ -126,6 +132,18 @@ impl Line {
     {
         self.push(b"0x");
         self.push_hex(&address.to_be_bytes());
+    }
+
+    // Appends an operand behind what stands before it.
+    #[inline(always)]
+    fn push_behind(&mut self, before: &[u8], operand: Operand)
+        requires before { length before.now ≤ 2 }
+        requires room { length self.old + 51 ≤ 288 }
+        ensures value { self.new ≡ self.old ++ before.now ++ spelled operand }
+        ensures room { length self.new ≤ length self.old + 51 }
+    {
+        self.push(before);
+        self.push_operand(operand);
     }
 
     // Appends operands, each behind a comma but the first, which these bytes stand before.
@@ -138,22 +156,46 @@ impl Line {
         match operands {
             [] => {}
             [operand, operands @ ..] => {
-                self.push(before);
-                self.push_operand(*operand);
+                self.push_behind(before, *operand);
                 self.push_operands(b", ", operands);
             }
         }
     }
 
+    // Appends operands, each behind a comma. Up to two are written without a call.
+    #[inline(always)]
+    fn push_more(&mut self, operands: &[Operand])
+        requires room { length self.old + 51 * length operands.now ≤ 288 }
+        ensures value { self.new ≡ self.old ++ spelled_behind (codes ", ") operands.now }
+        ensures room { length self.new ≤ length self.old + 51 * length operands.now }
+    {
+        match operands {
+            [] => {}
+            [operand] => self.push_behind(b", ", *operand),
+            [operand, last] => {
+                self.push_behind(b", ", *operand);
+                self.push_behind(b", ", *last);
+            }
+            _ => self.push_operands(b", ", operands),
+        }
+    }
+
     /// Appends the text of an instruction: its name and its operands. Each operand adds at most 51 bytes with what stands before it, and the line
-    /// has at most 288 bytes behind.
+    /// has at most 288 bytes behind. Up to three, as most instructions have, are written without a call.
+    #[inline(always)]
     pub fn push_text(&mut self, name: &[u8], operands: &[Operand])
         requires { length self.old + length name.now + 51 * length operands.now ≤ 288 }
         ensures value { self.new ≡ self.old ++ text name.now operands.now }
         ensures room { length self.new ≤ length self.old + length name.now + 51 * length operands.now }
     {
         self.push(name);
-        self.push_operands(b" ", operands);
+        match operands {
+            [] => {}
+            [operand, operands @ ..] => {
+                self.push_behind(b" ", *operand);
+                self.push_more(operands);
+            }
+        }
     }
 }
 

@@ -28,6 +28,7 @@ pub mod StepLemmas
 pub mod TargetLemmas
 pub mod ThreadRunLemmas
 pub mod ThreadedLemmas
+pub mod ThreadedNodeLemmas
 pub mod TidyLemmas
 pub mod TwiceLemmas
 pub mod WholeLemmas

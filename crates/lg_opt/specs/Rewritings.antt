@@ -1,5 +1,5 @@
 -- What rewritten nodes are to the nodes that they were rewritten from.
-use Rattle.std.specs.Prelude.{◌≡◌, ◌⊎◌, ◌↔◌, ℕ, ◌<◌, ◌≤◌, Bool, true, false, List, [], Option, Some, None, length, replicate, slice_get, slice_index, slice_index_or}
+use Rattle.std.specs.Prelude.{◌≡◌, ◌⊎◌, ◌↔◌, ℕ, ◌<◌, ◌≤◌, Bool, true, false, List, [], Option, Some, None, length, drop, replicate, slice_get, slice_index, slice_index_or}
 use Rattle.lg_op.specs.declared.node.Node.{Node}
 use Rattle.lg_op.specs.declared.op.Op.{Op}
 use Rattle.lg_op.specs.declared.operand.Label.{Label}
@@ -30,6 +30,16 @@ IsSameNode old n = n ≡ old
 -- or it is a branch or jump with another label as its target
 abbrev pub IsThreadedNode : Node → Node → Type 0
 IsThreadedNode old n = (n ≡ old) ⊎ ((has_target old.op ≡ true) × (y : Label) × (n ≡ retargeted (Some y) old))
+
+-- of a node and another the operation and the line are the same, and all operands but the first
+pub record IsAlikeButForTarget (old n : Node) : Type 0 where
+  pub op : n.op ≡ old.op
+  pub line : n.line ≡ old.line
+  pub others : drop 1 n.operands ≡ drop 1 old.operands
+
+-- so it is where jumps are threaded: nothing of a node changes but its target
+abbrev pub ThreadedNodesStay : Type 0
+ThreadedNodesStay = (old n : Node) → IsThreadedNode old n → IsAlikeButForTarget old n
 
 -- every node is there but for those of these operations
 abbrev pub KeepsOthers : (Op → Bool) → LabelledNodes → List ℕ → Type 0

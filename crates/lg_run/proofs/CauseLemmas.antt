@@ -11,7 +11,7 @@ use Rattle.lg_run.specs.Causes.{Causes, FaultCause, HasBack, HasCode, StepsOutCa
 use Rattle.lg_io.specs.NamedTexts.{IsHeld}
 use Rattle.lg_io.specs.SinkChanges.{SinkChange, Took}
 use Rattle.lg_run.specs.Changes.{TextsChange, TellsReads, TellsWrites}
-use Rattle.lg_run.specs.Refused.{IsRefusedCall}
+use Rattle.lg_run.specs.Refused.{ArgumentsFit, IsRefusedCall}
 use Rattle.lg_run.specs.Runs.{HasRun, HasMeant}
 use Rattle.lg_run.specs.Calls.{Says}
 use Rattle.lg_run.specs.Says.{AskedSays, IsCodeOf, IsStill, IsUntouched, ModeSays, NoCommandSays, Ran, ReadsFile, ReportSays, RunsCode, WroteBack, code_meaning, code_run, lines_of, listing_of}
@@ -80,9 +80,9 @@ module _ (words : List (List ℕ)) (texts : TextsChange) (out : SinkChange) (cod
   refused_of None r h = absurd h.1
   refused_of (Some c) r h = ((c, h.0, h.1.says.1), h.1.says.0)
 
-  read_of : (asked : Option Command) → AskedSays words asked texts out code steps ReadFault → IsUntouched code steps out × ((c : Command) × IsCommand words c × ReadsFile c.mode)
+  read_of : (asked : Option Command) → AskedSays words asked texts out code steps ReadFault → IsUntouched code steps out × ((c : Command) × IsCommand words c × ReadsFile c.mode × ArgumentsFit c)
   read_of None h = absurd h.1
-  read_of (Some c) h = (h.1.says.0, (c, h.0, h.1.says.1))
+  read_of (Some c) h = (h.1.says.0, (c, h.0, h.1.says.1, h.1.says.2))
 
   memory_of : (asked : Option Command) → AskedSays words asked texts out code steps OutOfMemory → IsStill steps out
   memory_of None h = h.0.still

@@ -14,7 +14,7 @@ use Rattle.lg_meaning.specs.Texts.{line_at}
 use Rattle.lg_node.specs.declared.unit.Unit.{Unit as TextUnit}
 use Rattle.lg_io.specs.SinkChanges.{SinkChange, Took}
 use Rattle.lg_run.specs.Changes.{TextsChange}
-use Rattle.lg_run.specs.Refused.{IsRefusedCall}
+use Rattle.lg_run.specs.Refused.{ArgumentsFit, IsRefusedCall}
 use Rattle.lg_run.specs.Runs.{HasMeant, HasRun}
 use Rattle.lg_run.specs.Says.{IsCodeOf, IsStill, IsUntouched, ReadsFile, RunsCode, WroteBack, code_meaning, code_run, listing_of}
 use Rattle.lg_run.specs.declared.answer.Answer.TheVariants.{Listed, Undefined, Refused, Usage, ReadFault, WriteFault, StepsOut, Fault, OutOfMemory}
@@ -70,8 +70,8 @@ pub record Causes (words : List (List ℕ)) (texts : TextsChange) (out err : Sin
   pub no_command : AreNoCommand words → (done.code ≡ None)
       × ((done.answer ≡ Usage) ⊎ ((done.answer ≡ OutOfMemory) ⊎ ((done.answer ≡ WriteFault) × Rose err.faults err.faults')))
   pub refused : (refusal : Refusal) → done.answer ≡ Refused refusal → (c : Command) × IsCommand words c × IsRefusedCall c texts.held refusal
-  -- a fault of the outside is told only where a count rose, and each that rose is told
-  pub read_fault : done.answer ≡ ReadFault → Rose texts.faults texts.faults' × ((c : Command) × IsCommand words c × ReadsFile c.mode)
+  -- a fault of the outside is told only where a count rose, and each that rose is told; a file is read only where the arguments fit
+  pub read_fault : done.answer ≡ ReadFault → Rose texts.faults texts.faults' × ((c : Command) × IsCommand words c × ReadsFile c.mode × ArgumentsFit c)
   pub write_fault : done.answer ≡ WriteFault → Rose out.faults out.faults' ⊎ Rose err.faults err.faults'
   pub read_told : texts.faults < texts.faults' → (done.answer ≡ ReadFault) ⊎ ((done.answer ≡ WriteFault) × Rose err.faults err.faults')
   -- and none is brought about: of a sure source that holds the file that the words ask for no call failed

@@ -3,6 +3,7 @@
 ghost use Rattle.std.specs.Prelude.{◌≡◌, ◌≤◌, length, None};
 ghost use Rattle.lg_command.specs.Commands.{shown};
 ghost use Rattle.lg_command.specs.declared.command.Mode.TheVariants as modes;
+ghost use Rattle.lg_io.specs.Readings.{IsReadOnce};
 ghost use Rattle.lg_io.specs.SinkChanges.{on_sink};
 ghost use Rattle.lg_run.specs.Changes.{TellsWrites, on_texts};
 ghost use Rattle.lg_run.specs.Refused.{ArgumentsFit, most_text};
@@ -55,7 +56,8 @@ pub fn do_back<T: Texts, O: Sink>(
 ) -> Done
     requires mode { command.now.mode ≡ modes.Back }
     requires fits { ArgumentsFit (shown command.now) }
-    ensures { WorkDone (shown command.now) (on_texts T.held T.faults T.sure texts.old texts.new) (on_sink O.taken O.faults out.old out.new) result }
+    ensures says { WorkDone (shown command.now) (on_texts T.held T.faults T.sure texts.old texts.new) (on_sink O.taken O.faults out.old out.new) result }
+    ensures once { IsReadOnce (T.reading texts.old) (T.reading texts.new) }
 {
     match read_text(alloc, command.file, texts) {
         Ok(read) => do_listing(alloc, command, &read, out),

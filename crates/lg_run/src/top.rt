@@ -4,6 +4,7 @@ ghost use Rattle.std.specs.Prelude.{◌≡◌, [], ◌++◌, Some};
 ghost use Rattle.lg_base.specs.Arguments.{texts_of};
 ghost use Rattle.lg_command.specs.Commands.{shown};
 ghost use Rattle.lg_run.specs.Causes.{Causes};
+ghost use Rattle.lg_io.specs.Readings.{IsReadOnce};
 ghost use Rattle.lg_io.specs.SinkChanges.{WroteTo, on_sink};
 ghost use Rattle.lg_run.specs.Changes.{on_texts};
 ghost use Rattle.lg_run.specs.Lines.{line_of};
@@ -83,10 +84,11 @@ fn answer<T: Texts, O: Sink, E: Sink>(
     out: &mut O,
     err: &mut E,
 ) -> Done
-    ensures { let texts_change = on_texts T.held T.faults T.sure texts.old texts.new in
+    ensures says { let texts_change = on_texts T.held T.faults T.sure texts.old texts.new in
         let out_change = on_sink O.taken O.faults out.old out.new in
         let err_change = on_sink E.taken E.faults err.old err.new in
         Says (texts_of words.now.items) texts_change out_change err_change result }
+    ensures once { IsReadOnce (T.reading texts.old) (T.reading texts.new) }
 {
     match read_words(alloc, words) {
         Ok(command) => {
@@ -108,7 +110,8 @@ fn answer<T: Texts, O: Sink, E: Sink>(
 /// code's labels, for at most so many steps as the command says; or, with `--mode list`, writes the code's listing; or, with `--mode back`, reads the file's
 /// text as a listing, and writes the bytes that it is of; or, with `--mode profile`, runs the code, and then the meaning, and tells how many steps of both
 /// belong to each line. What the run writes, the listing and these bytes go to `out`, and the table of a profile, the statistics and the line of every answer
-/// but an end to `err`. All memory is taken before the first step and before the first line.
+/// but an end to `err`. All memory is taken before the first step and before the first line. At most one text is selected, once, and it is read from its start on
+/// and not again where a read found its end.
 pub fn lightning<T: Texts, O: Sink, E: Sink>(
     alloc: Global,
     words: &Vec<String>,
@@ -124,6 +127,7 @@ pub fn lightning<T: Texts, O: Sink, E: Sink>(
         let out_change = on_sink O.taken O.faults out.old out.new in
         let err_change = on_sink E.taken E.faults err.old err.new in
         Causes (texts_of words.now.items) texts_change out_change err_change result }
+    ensures once { IsReadOnce (T.reading texts.old) (T.reading texts.new) }
 {
     answer(alloc, words, texts, out, err)
 }

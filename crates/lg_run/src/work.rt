@@ -12,6 +12,7 @@ ghost use Rattle.lg_node.specs.Labels.{taken_labels};
 ghost use Rattle.lg_node.specs.Shapes.{IsChecked};
 ghost use Rattle.lg_tst.specs.Answers.{IsWhole};
 ghost use Rattle.lg_io.specs.NamedTexts.{NamedTexts};
+ghost use Rattle.lg_io.specs.Readings.{IsReadOnce};
 ghost use Rattle.lg_io.specs.SinkChanges.{on_sink};
 ghost use Rattle.lg_run.specs.Changes.{TellsWrites, TextsChange, on_texts};
 ghost use Rattle.lg_dead.specs.Rewritten.{AreFinal};
@@ -303,6 +304,7 @@ fn do_file<T: Texts, O: Sink>(
     requires args_size { length args.now ≤ most_args }
     ensures says { WorkDone (shown command.now) (on_texts T.held T.faults T.sure texts.old texts.new) (on_sink O.taken O.faults out.old out.new) result.done }
     ensures told { WorkTells (shown command.now) (T.held texts.old) result }
+    ensures once { IsReadOnce (T.reading texts.old) (T.reading texts.new) }
 {
     match read_text(alloc, command.file, texts) {
         Ok(read) => do_read(alloc, command, args, &read, out),
@@ -340,6 +342,7 @@ pub fn work<T: Texts, O: Sink>(
     requires { IsInRange command.now }
     ensures says { WorkDone (shown command.now) (on_texts T.held T.faults T.sure texts.old texts.new) (on_sink O.taken O.faults out.old out.new) result.done }
     ensures told { WorkTells (shown command.now) (T.held texts.old) result }
+    ensures once { IsReadOnce (T.reading texts.old) (T.reading texts.new) }
 {
     let args = match args_image(alloc, &command.arguments) {
         Ok(args) => args,

@@ -3,7 +3,7 @@
 ghost use Rattle.std.specs.Prelude.{◌≡◌, ◌+◌, ◌-◌, ◌*◌, ◌<◌, ◌≤◌, pos, [], ◌∷◌, ◌++◌, length};
 ghost use Rattle.lg_selr_items.specs.Items.{ones, words_in};
 ghost use Rattle.lg_sel_memory.specs.Accesses.{address_of};
-ghost use Rattle.lg_selr_memory.specs.Accesses.{load_row, store_row, high_row, at_register, is_frame, is_whole, near, indexed, absolute, place_of, lower_bytes, higher_bytes, tester, slow_load, halves, store_bytes, slow_store, store_skip, load_at, store_at, load_code, store_code, load_items, store_items};
+ghost use Rattle.lg_selr_memory.specs.Accesses.{load_row, store_row, high_row, at_register, is_frame, is_whole, near, indexed, absolute, place_of, lower_bytes, higher_bytes, tester, test_code, slow_load, halves, store_bytes, slow_store, store_skip, load_at, store_at, load_code, store_code, load_items, store_items};
 ghost use Rattle.lg_sel_values.specs.Parts.{HaveSlots};
 
 use crate::operands::register;
@@ -241,7 +241,7 @@ fn put_test(u: u8, base: u8, width: u32, skip: i32, items: &mut Items<Item>)
     requires some { 0 < width }
     requires few { width ≤ 8 }
     requires room { words_in items.old + 2 ≤ 64 }
-    ensures { items.new ≡ items.old ++ ones (Instr.Imm (ImmOp.Andi) (tester u base) base (pos (width - 1)) ∷ Instr.Branch (BranchOp.Beq) (tester u base) 0 skip ∷ []) }
+    ensures { items.new ≡ items.old ++ ones (test_code u base width skip) }
 {
     let test = tester(u, base);
     items.all(&[

@@ -4,7 +4,7 @@
 // cases agree, or the first case that differs.
 
 mod ends;
-mod family;
+pub mod family;
 mod text;
 
 use family::{FamilyOutcome, family_outcome};

@@ -1,8 +1,8 @@
 // What calls of the program come to. Each part has a folder of `data` with its cases: `code` compares the code of texts with their meaning, `cases` has texts
 // with what they write and how they end, `reaches` how long code is that leads to labels, `examples` the texts of the folder `examples`, which the mode
-// `profile` runs too, `modes` statistics, listings and the generator's texts, `any_text` takes any bytes for a text, and `back` reads listings back; `edges`
-// has what stands in no table. `targets.txt` has a target a line. Prints what each part found. The status is 0 exactly where the code of all cases agrees
-// with their meaning.
+// `profile` runs too, `modes` statistics, listings and the generator's texts, `any_text` takes any bytes for a text, `back` reads listings back, and `disturbed`
+// runs code on a stack that is disturbed between any two instructions; `edges` has what stands in no table. `targets.txt` has a target a line. Prints what each
+// part found. The status is 0 exactly where the code of all cases agrees with their meaning.
 #![tactic(auto)]
 
 ghost use Rattle.std.specs.Prelude.{◌≡◌};
@@ -14,6 +14,7 @@ mod back;
 mod call;
 mod cases;
 mod code;
+mod disturbed;
 mod edges;
 mod examples;
 mod form;
@@ -27,6 +28,7 @@ use any_text::change_texts;
 use back::read_listings;
 use cases::make_cases;
 use code::compare_families;
+use disturbed::disturb_stacks;
 use edges::try_edges;
 use examples::run_examples;
 use modes::make_calls;
@@ -50,6 +52,7 @@ fn main(rt: HostRuntime) -> io::Result<ExitCode> {
     try_edges(&rt)?;
     run_examples(&rt, targets.as_str())?;
     profile_examples(&rt, targets.as_str())?;
+    disturb_stacks(&rt, targets.as_str())?;
     make_calls(&rt, targets.as_str())?;
     change_texts(&rt)?;
     read_listings(&rt, targets.as_str())?;

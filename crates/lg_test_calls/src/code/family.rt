@@ -81,6 +81,22 @@ fn compared(alloc: Global, runs: &BothRuns, cases: &str) -> Result<FamilyOutcome
     )?))
 }
 
+// The file of a family by its name.
+fn family_file(rt: &(impl Files + AllocGlobal), name: &str) -> io::Result<String> {
+    fs::read_to_string(rt, format!(in rt.alloc(); "code/{name}.txt")?)
+}
+
+// The cases of a family's file: the lines behind the first.
+fn cases_in(file: &str) -> &str {
+    file.split_once('\n').unwrap_or(("", "")).1
+}
+
+/// The text of a family by its name, with this beginning.
+pub fn family_text(rt: &(impl Files + AllocGlobal), head: &str, name: &str) -> io::Result<String> {
+    let file = family_file(rt, name)?;
+    Ok(text_of(rt.alloc(), head, cases_in(file.as_str()))?)
+}
+
 /// The outcome of a family by its name, on a target, whose texts have this beginning.
 pub fn family_outcome(
     rt: &(impl Files + AllocGlobal),
@@ -89,8 +105,8 @@ pub fn family_outcome(
     name: &str,
 ) -> io::Result<FamilyOutcome> {
     let alloc = rt.alloc();
-    let file = fs::read_to_string(rt, format!(in alloc; "code/{name}.txt")?)?;
-    let (_, cases) = file.as_str().split_once('\n').unwrap_or(("", ""));
+    let file = family_file(rt, name)?;
+    let cases = cases_in(file.as_str());
     let text = text_of(alloc, head, cases)?;
     match run_both(alloc, target, text.as_str().as_bytes()) {
         Ok(runs) => Ok(compared(alloc, &runs, cases)?),

@@ -1,5 +1,6 @@
-use Rattle.std.proofs.Common.{◌≡◌, true, ◌-◌, ◌+◌, ◌<◌, ◌≤◌, length, vec_len}
+use Rattle.std.proofs.Common.{◌≡◌, false, true, ◌-◌, ◌+◌, ◌<◌, ◌≤◌, length, vec_len}
 use Rattle.std.specs.Io.KnownBytes.{Consumes}
+use Rattle.lg_io.specs.Readings.{IsReadOn}
 use Rattle.lg_run.specs.Reads.{most_piece}
 use Rattle.lg_run.specs.Refused.{most_text}
 use Rattle.lg_run.proofs.source.read_rest.Given as goal
@@ -12,6 +13,8 @@ invariant-loop-texts g l = record {
   few : length l.text.items ≤ most_text + most_piece;
   same : g.T.Texts.faults l.texts ≡ g.T.Texts.faults l.fn.texts;
   sure : g.T.Texts.sure l.fn.texts ≡ true → g.T.Texts.sure l.texts ≡ true;
+  before : (g.T.Texts.reading l.fn.texts).at_end ≡ false → (g.T.Texts.reading l.texts).at_end ≡ false;
+  on : (g.T.Texts.reading l.fn.texts).at_end ≡ false → IsReadOn (g.T.Texts.reading l.fn.texts) (g.T.Texts.reading l.texts);
 }
 
 abbrev pub decreases-loop-texts : goal.decreases-loop-texts

@@ -3,6 +3,7 @@ use Rattle.lg_run.proofs.top.lightning.Goals as goal
 
 pub returns : goal.returns
 returns g c = record {
-  says = c.answer.ensures;
-  causes = causes _ _ _ _ _ c.answer.ensures;
+  says = c.answer.ensures.says;
+  causes = causes _ _ _ _ _ c.answer.ensures.says;
+  once = c.answer.ensures.once;
 }
