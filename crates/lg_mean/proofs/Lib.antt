@@ -10,3 +10,4 @@ pub mod RunLemmas
 pub mod StepLemmas
 pub mod SuitLemmas
 pub mod TableLemmas
+mod WhyLemmas

@@ -13,6 +13,10 @@ use Rattle.lg_op.specs.declared.op.PlainOp.TheVariants as plain
 use Rattle.lg_node.specs.declared.function.Function.{Function}
 use Rattle.lg_node.specs.Functions.{frame_of}
 use Rattle.lg_cells.specs.Memories.{without}
+use Rattle.lg_meaning.specs.declared.reason.Called.{Called}
+use Rattle.lg_meaning.specs.declared.reason.Called.TheVariants.{OfHost, OfText}
+use Rattle.lg_meaning.specs.declared.reason.Reason.{Reason}
+use Rattle.lg_meaning.specs.declared.reason.Reason.TheVariants.{NotAllowed}
 use Rattle.lg_meaning.specs.States.{Frame, State}
 use Rattle.lg_meaning.specs.Steps.{Outcome, Goes, Ends, Undefined, operand_at, function_here}
 use Rattle.lg_mean.specs.declared.mean_step.MeanStep.{MeanStep}
@@ -93,3 +97,13 @@ stays (op.Control control.Ret last) = false
 stays (op.Plain plain.Epilog) = false
 stays (op.Plain plain.Ret) = false
 stays o = true
+
+-- a function that is called has at most 65,536 bytes of locals
+abbrev pub IsSmall : Called → Type 0
+IsSmall (OfHost name) = Unit {0}
+IsSmall (OfText f) = f.locals ≤ 65536
+
+-- the reason of a call whose step is undefined, where a host function is called
+abbrev pub not_allowed : Called → Option Reason
+not_allowed (OfHost name) = Some (NotAllowed name)
+not_allowed (OfText f) = None

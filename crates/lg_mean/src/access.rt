@@ -14,7 +14,7 @@ use lg_node::{Addressing, Node, Operand, StoreType, ValueType};
 use lg_operators::operators;
 
 // Whether an address is the sum of two operands.
-fn is_indexed(addressing: Addressing) -> bool
+pub(crate) fn is_indexed(addressing: Addressing) -> bool
     ensures { result ≡ is_indexed addressing }
 {
     matches!(
@@ -33,7 +33,7 @@ fn stored_operand(addressing: Addressing) -> usize
 
 impl Machine {
     // The address of an access.
-    fn address(
+    pub(crate) fn address(
         &self,
         addressing: Addressing,
         node: &Node,

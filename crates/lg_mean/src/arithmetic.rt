@@ -231,7 +231,7 @@ impl Machine {
     }
 
     // The argument of a number.
-    fn argument(&self, index: u64) -> Option<u64>
+    pub(crate) fn argument(&self, index: u64) -> Option<u64>
         ensures value { result ≡ slice_get (state_of self.now).frame.args index }
         ensures few { IfSome result (λ word. index < 16) }
     {

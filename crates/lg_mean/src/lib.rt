@@ -17,3 +17,4 @@ mod program;
 pub mod run;
 mod start;
 mod step;
+mod why;

@@ -124,7 +124,7 @@ impl Machine {
     }
 
     // What a register holds.
-    fn reg(&self, register: Reg) -> Option<u64>
+    pub(crate) fn reg(&self, register: Reg) -> Option<u64>
         ensures { result ≡ reg (state_of self.now) register }
     {
         match register {

@@ -5,7 +5,10 @@ ghost use Rattle.std.specs.Io.KnownBytes.{Appends};
 ghost use Rattle.lg_base.specs.Arguments.{most_args};
 ghost use Rattle.lg_node.specs.Shapes.{IsShapeOf};
 ghost use Rattle.lg_meaning.specs.Fits.{Fits};
+ghost use Rattle.lg_meaning.specs.Reasons.{why};
 ghost use Rattle.lg_meaning.specs.Starts.{start_state};
+ghost use Rattle.lg_meaning.specs.States.{reg};
+ghost use Rattle.lg_meaning.specs.Steps.{Undefined};
 ghost use Rattle.lg_meaning.specs.Texts.{step, line_at};
 ghost use Rattle.lg_mean.specs.Machines.{state_of};
 ghost use Rattle.lg_mean.specs.Programs.{IsTableOf};
@@ -20,8 +23,9 @@ use lg_base::image::ArgImage;
 use lg_base::refusal::OutOfMemory;
 use lg_io::sink::Sink;
 use lg_meaning::laws::{starts_fit, steps_keep_the_fit};
+use lg_meaning::reason::Reason;
 use lg_node::laws::accepted_nodes_are_well_shaped;
-use lg_node::{LabelAddresses, Shape, Unit};
+use lg_node::{LabelAddresses, Reg, Shape, Unit};
 use std::alloc::Global;
 use std::marker::Model;
 
@@ -118,6 +122,28 @@ impl Portable {
         ensures { result ≡ (state_of self.now.machine).at }
     {
         self.machine.place()
+    }
+
+    /// Why the next step is undefined, which it is: the first row of the table of undefined steps that holds of the state. The state is one of a
+    /// run of this text, as for `step`.
+    pub fn why(&self, unit: &Unit, shape: &Shape) -> Option<Reason>
+        requires made { IsTableOf unit.now.nodes shape.now self.now.labels }
+        requires fits { Fits unit.now.nodes shape.now (state_of self.now.machine) }
+        requires undefined { step unit.now.nodes shape.now self.now.labels.addresses (state_of self.now.machine) ≡ Undefined }
+        ensures { result ≡ why unit.now.nodes shape.now self.now.labels.addresses (state_of self.now.machine) }
+    {
+        accepted_nodes_are_well_shaped();
+        unit.nodes.what_holds();
+        let node = unit.nodes.node(self.machine.place());
+        let program = Program::new(&unit.nodes, shape, &self.labels);
+        self.machine.why(&node, &program)
+    }
+
+    /// What a register holds, where it is defined.
+    pub fn register(&self, register: Reg) -> Option<u64>
+        ensures { result ≡ reg (state_of self.now.machine) register }
+    {
+        self.machine.reg(register)
     }
 
     /// How many steps went or ended.

@@ -18,3 +18,4 @@ pub mod ReachLemmas
 pub mod StackLemmas
 pub mod StartLemmas
 pub mod StayLemmas
+pub mod WhyLemmas

@@ -1,5 +1,5 @@
 -- What holds of the portable meaning: laws for the crates that hold its state and follow its runs.
-use Rattle.std.specs.Prelude.{◌≡◌, ℕ, ◌+◌, ◌*◌, ◌<◌, ◌≤◌, true, false, List, Some, length, slice_get}
+use Rattle.std.specs.Prelude.{◌≡◌, ℕ, ◌+◌, ◌*◌, ◌<◌, ◌≤◌, true, false, List, Option, Some, None, IsSome, length, slice_get}
 use Rattle.std.specs.List.{All}
 use Rattle.lg_base.specs.Arguments.{most_args}
 use Rattle.lg_base.specs.Runs.{IsMachine, EndsSilently}
@@ -10,10 +10,12 @@ use Rattle.lg_node.specs.Functions.{home, is_prolog_at}
 use Rattle.lg_node.specs.Shapes.{TextShape, IsShapeOf}
 use Rattle.lg_cells.specs.Memories.{writable}
 use Rattle.lg_meaning.specs.States.{State, is_open}
-use Rattle.lg_meaning.specs.Steps.{Goes}
+use Rattle.lg_meaning.specs.Steps.{Outcome, Goes, Ends, Undefined}
 use Rattle.lg_meaning.specs.Texts.{step}
 use Rattle.lg_meaning.specs.Addresses.{AreAddresses, AreWithin, plain_addresses}
 use Rattle.lg_meaning.specs.Fits.{Fits, FitsWell, IsRunning, IsBeginning}
+use Rattle.lg_meaning.specs.Reasons.{why}
+use Rattle.lg_meaning.specs.declared.reason.Reason.{Reason}
 use Rattle.lg_meaning.specs.Parts.{Grows, HoldsParts, LiesInOnePart}
 use Rattle.lg_meaning.specs.Stacks.{HasSmallParts, OpensLocalsAlone}
 use Rattle.lg_meaning.specs.Starts.{start_state}
@@ -74,6 +76,18 @@ MeansAreMachines = (l : LabelledNodes) (shape : TextShape) (addresses : List ℕ
 abbrev pub StepsAreMeans : Type 0
 StepsAreMeans = (l : LabelledNodes) (shape : TextShape) (addresses : List ℕ) (start s : State) (out : List ℕ) (k : ℕ)
     → mean_from l shape addresses start k ≡ run_at s out → mean_from l shape addresses start (k + 1) ≡ behind (run_at s out) (step l shape addresses s)
+
+-- ---- undefined steps
+-- there is a reason exactly where a step is undefined
+abbrev pub IsWhy : Outcome → Option Reason → Type 0
+IsWhy (Goes t bytes) reason = reason ≡ None
+IsWhy (Ends status) reason = reason ≡ None
+IsWhy Undefined reason = IsSome reason
+
+-- a step of a state that fits is undefined exactly where a row of the table of undefined steps holds
+abbrev pub StepsAreUndefinedByTheTable : Type 0
+StepsAreUndefinedByTheTable = (l : LabelledNodes) (shape : TextShape) (addresses : List ℕ) (s : State)
+    → IsShapeOf l shape → IsFormedAt l s.at → Fits l shape s → IsWhy (step l shape addresses s) (why l shape addresses s)
 
 -- ---- addresses
 -- the plain addresses are addresses of the labels, over code of at least 256 bytes for each node

@@ -4,6 +4,7 @@ pub mod Laws
 pub mod Means
 pub mod Parts
 pub mod Reaching
+pub mod Reasons
 pub mod Stacks
 pub mod Starts
 pub mod States

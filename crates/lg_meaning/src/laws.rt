@@ -2,7 +2,7 @@
 // contracts are the laws.
 
 ghost use Rattle.lg_meaning.specs.Reaching.{StepsReachSuccessors, TakenLabelsAreSuccessors};
-ghost use Rattle.lg_meaning.specs.Laws.{StartsFit, StepsKeepFit, MeansFit, FramesAreOfFunctions, StepsGrow, MeansHoldParts, FitsOpensLocals, AccessesLieInOnePart, MeansAreMachines, StepsAreMeans, PlainAddressesAre};
+ghost use Rattle.lg_meaning.specs.Laws.{StartsFit, StepsKeepFit, MeansFit, FramesAreOfFunctions, StepsGrow, MeansHoldParts, FitsOpensLocals, AccessesLieInOnePart, MeansAreMachines, StepsAreMeans, StepsAreUndefinedByTheTable, PlainAddressesAre};
 
 use lg_node::laws::{accepted_nodes_are_well_shaped, accepted_nodes_have_functions};
 
@@ -78,6 +78,12 @@ pub fn meanings_are_machines()
 /// Where a run stands after k steps and goes on, its next step leads to where it stands after k + 1 steps.
 pub fn steps_are_those_of_the_meaning()
     ensures { StepsAreMeans }
+{}
+
+/// Why a step is undefined: in a state that fits the shape of an accepted text, the step of its node is undefined exactly where a row of the
+/// table of undefined steps holds, whatever the addresses of the labels are.
+pub fn steps_are_undefined_by_the_table()
+    ensures { StepsAreUndefinedByTheTable }
 {}
 
 /// 0x10000000 + 256 i for a label at node i and the byte's address for a data label are addresses of the labels of a text, over
