@@ -73,7 +73,16 @@ pub(crate) fn items_by(
     ensures few { words_in result ≤ 64 }
 {
     let mut items = Items::new(buf.allocator());
-    put_items(reach, node, frame, homes, choices, staged, buf.here(), &mut items);
+    put_items(
+        reach,
+        node,
+        frame,
+        homes,
+        choices,
+        staged,
+        buf.here(),
+        &mut items,
+    );
     // They are few.
     let _list = items.as_slice();
     items
