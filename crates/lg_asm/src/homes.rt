@@ -1,6 +1,6 @@
 // How many homes of register arguments functions read.
 
-ghost use Rattle.std.specs.Prelude.{◌≡◌, ◌+◌, ◌<◌, ◌≤◌, length, slice_range};
+ghost use Rattle.std.specs.Prelude.{◌≡◌, ◌+◌, ◌<◌, ◌≤◌, max, length, slice_range};
 ghost use Rattle.lg_asm.specs.Lowered.{stored_homes};
 ghost use Rattle.lg_carry.specs.Homes.{homes_to, homes_by, homes_of};
 ghost use Rattle.lg_node.specs.Shapes.{IsShapeOf};
@@ -27,6 +27,13 @@ fn homes_by(node: &Node) -> u32
     }
 }
 
+// The larger of two numbers.
+fn larger(a: u32, b: u32) -> u32
+    ensures { result ≡ max a b }
+{
+    if a < b { b } else { a }
+}
+
 // Those that nodes read, from one to another one, both included.
 fn homes_of(list: &NodeList, first: u32, last: u32) -> u32
     requires order { first ≤ last }
@@ -36,7 +43,7 @@ fn homes_of(list: &NodeList, first: u32, last: u32) -> u32
     list.what_holds();
     let mut homes = 0;
     'nodes: for index in first..last + 1 {
-        homes = homes.max(homes_by(&list.node(index)));
+        homes = larger(homes, homes_by(&list.node(index)));
     }
     homes
 }
