@@ -9,7 +9,7 @@ mod run;
 
 use crate::call::words_of;
 use crate::code::family::family_text;
-use code::made;
+use code::make;
 use lg_base::refusal::Stop;
 use lg_base::target::Target;
 use lg_tally::count;
@@ -51,7 +51,7 @@ fn is_alike(alloc: Global, target: &str, text: &[u8], words: &Vec<String>) -> Re
     requires { 0 < length words.now.items }
 {
     let (target, stack) = target_of(target);
-    let made = made(alloc, text, target)?;
+    let made = make(alloc, text, target)?;
     runs_alike(alloc, &made, words, stack)
 }
 

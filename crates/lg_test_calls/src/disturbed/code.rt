@@ -25,7 +25,7 @@ pub struct Made {
 }
 
 // The code of an expanded text.
-fn made_of(alloc: Global, text: &[u8], target: Target) -> Result<Made, Stop>
+fn make_of(alloc: Global, text: &[u8], target: Target) -> Result<Made, Stop>
     requires { length text.now ≤ 16777216 }
     ensures { IfOk result CanRun }
 {
@@ -36,7 +36,7 @@ fn made_of(alloc: Global, text: &[u8], target: Target) -> Result<Made, Stop>
 }
 
 /// Expands, reads, checks and assembles a text of at most 16,777,216 bytes.
-pub fn made(alloc: Global, text: &[u8], target: Target) -> Result<Made, Stop>
+pub fn make(alloc: Global, text: &[u8], target: Target) -> Result<Made, Stop>
     ensures { IfOk result CanRun }
 {
     if text.len() > MOST_TEXT {
@@ -46,5 +46,5 @@ pub fn made(alloc: Global, text: &[u8], target: Target) -> Result<Made, Stop>
         }));
     }
     let expanded = expand(alloc, text)?;
-    made_of(alloc, expanded.as_bytes(), target)
+    make_of(alloc, expanded.as_bytes(), target)
 }

@@ -76,7 +76,7 @@ fn run(cpu: &mut Cpu, stack: Stack, disturbs: bool, out: &mut MemorySink) -> Cpu
 }
 
 // Runs code from a new processor on, whose stack is disturbed or not.
-fn ran(
+fn run_anew(
     alloc: Global,
     made: &Made,
     args: &ArgImage,
@@ -113,7 +113,7 @@ pub fn runs_alike(
     requires stack { stack.pointer < 32 }
 {
     let args = args_image(alloc, words)?;
-    let still = ran(alloc, made, &args, stack, false)?;
-    let disturbed = ran(alloc, made, &args, stack, true)?;
+    let still = run_anew(alloc, made, &args, stack, false)?;
+    let disturbed = run_anew(alloc, made, &args, stack, true)?;
     Ok(still.end == disturbed.end && still.out.bytes() == disturbed.out.bytes())
 }
