@@ -1,12 +1,12 @@
-// From a text to code.
+// From an expression to code.
 
 ghost use Rattle.std.specs.Prelude.{IfOk};
 ghost use Rattle.expression_program.specs.Compiled.{CanRun};
 
-use crate::failure::Failure;
 use lg_asm::{Code, assemble};
+use lg_base::refusal::Stop;
 use lg_base::target::Target;
-use lg_expression::{read, unit_of};
+use lg_expression::{Expression, unit_of};
 use lg_node::{Unit, check};
 use std::alloc::Global;
 
@@ -21,11 +21,10 @@ pub struct Compiled {
 }
 
 /// Compiles an expression: its nodes, in a list; their check, which gives the shape that the assembler wants; and their code.
-pub fn compile(alloc: Global, target: Target, text: &[u8]) -> Result<Compiled, Failure>
+pub fn compile(alloc: Global, target: Target, expression: &Expression) -> Result<Compiled, Stop>
     ensures { IfOk result CanRun }
 {
-    let expression = read(alloc, text)?;
-    let unit = unit_of(alloc, &expression)?;
+    let unit = unit_of(alloc, expression)?;
     let shape = check(alloc, &unit)?;
     let code = assemble(alloc, &unit, &shape, target, MOST_CODE)?;
     Ok(Compiled { unit, code })

@@ -6,15 +6,15 @@
 ghost use Rattle.expression_program.specs.Compiled.{CanRun};
 
 mod compile;
-mod failure;
 mod run;
 
 use compile::{Compiled, compile};
-use failure::Failure;
+use lg_asm::Code;
+use lg_base::refusal::Stop;
 use lg_base::target::Target;
 use lg_cpu::answer::CpuStep;
+use lg_expression::{Expression, ReadError, read};
 use lg_io::standard::StdSink;
-use lg_list::list::list;
 use run::{Ran, run};
 use std::{fs, io};
 
@@ -24,12 +24,16 @@ const TARGETS: [(Target, &str); 3] = [
     (Target::Riscv64, "riscv64"),
 ];
 
+// Prints why a text is no expression.
+fn print_error(rt: &HostRuntime, error: ReadError) -> io::Result<()> {
+    println!(rt; "  {error}")
+}
+
 // Prints why there is no code, or no run.
-fn print_failure(rt: &HostRuntime, failure: Failure) -> io::Result<()> {
-    match failure {
-        Failure::Read(error) => println!(rt; "  {error}"),
-        Failure::Refused(refusal) => println!(rt; "  refused {}", refusal.kind.number()),
-        Failure::OutOfMemory => println!(rt; "  out of memory"),
+fn print_stop(rt: &HostRuntime, stop: Stop) -> io::Result<()> {
+    match stop {
+        Stop::Refused(refusal) => println!(rt; "  refused {}", refusal.kind.number()),
+        Stop::OutOfMemory => println!(rt; "  out of memory"),
     }
 }
 
@@ -49,23 +53,27 @@ fn run_all(rt: &HostRuntime, compiled: &Compiled, arguments: &str) -> io::Result
     for argument in arguments.split(' ') {
         match run(rt.alloc(), compiled, argument) {
             Ok(ran) => print_ran(rt, argument, &ran)?,
-            Err(failure) => print_failure(rt, failure)?,
+            Err(stop) => print_stop(rt, stop)?,
         }
     }
     Ok(())
 }
 
 // Compiles an expression for a target, and runs its code.
-fn run_on(rt: &HostRuntime, target: Target, expression: &str, arguments: &str) -> io::Result<()> {
-    match compile(rt.alloc(), target, expression.as_bytes()) {
+fn run_on(
+    rt: &HostRuntime,
+    target: Target,
+    expression: &Expression,
+    arguments: &str,
+) -> io::Result<()> {
+    match compile(rt.alloc(), target, expression) {
         Ok(compiled) => run_all(rt, &compiled, arguments),
-        Err(failure) => print_failure(rt, failure),
+        Err(stop) => print_stop(rt, stop),
     }
 }
 
 // Compiles an expression for each target, and runs its code.
-fn run_line(rt: &HostRuntime, expression: &str, arguments: &str) -> io::Result<()> {
-    println!(rt; "{expression}")?;
+fn run_everywhere(rt: &HostRuntime, expression: &Expression, arguments: &str) -> io::Result<()> {
     for (target, name) in TARGETS {
         println!(rt; "  {name}")?;
         run_on(rt, target, expression, arguments)?;
@@ -73,38 +81,41 @@ fn run_line(rt: &HostRuntime, expression: &str, arguments: &str) -> io::Result<(
     Ok(())
 }
 
+// Reads an expression, and runs it on each target.
+fn run_line(rt: &HostRuntime, text: &str, arguments: &str) -> io::Result<()> {
+    println!(rt; "{text}")?;
+    match read(rt.alloc(), text.as_bytes()) {
+        Ok(expression) => run_everywhere(rt, &expression, arguments),
+        Err(error) => print_error(rt, error),
+    }
+}
+
 // Compiles and runs the expressions of lines.
 fn run_lines(rt: &HostRuntime, lines: &str) -> io::Result<()> {
     for line in lines.lines() {
-        let (expression, arguments) = line.split_once('\t').unwrap_or((line, "0"));
-        run_line(rt, expression, arguments)?;
+        let (text, arguments) = line.split_once('\t').unwrap_or((line, "0"));
+        run_line(rt, text, arguments)?;
     }
     Ok(())
 }
 
 // Writes the listing of code.
-fn print_listing(rt: &HostRuntime, compiled: &Compiled) -> io::Result<()> {
-    let code = &compiled.code;
+fn print_listing(rt: &HostRuntime, code: &Code) -> io::Result<()> {
     let mut out = StdSink::new(rt.stdout());
-    let written = list(
-        code.target(),
-        code.bytes(),
-        code.nodes(),
-        code.places(),
-        code.labels(),
-        &mut out,
-    );
-    match written {
+    match code.list(&mut out) {
         Ok(()) => Ok(()),
         Err(_) => Err(io::Error::from(io::ErrorKind::WriteZero)),
     }
 }
 
 // Compiles an expression, and writes the listing of its code.
-fn list_one(rt: &HostRuntime, expression: &str) -> io::Result<()> {
-    match compile(rt.alloc(), Target::X86_64, expression.as_bytes()) {
-        Ok(compiled) => print_listing(rt, &compiled),
-        Err(failure) => print_failure(rt, failure),
+fn list_one(rt: &HostRuntime, text: &str) -> io::Result<()> {
+    match read(rt.alloc(), text.as_bytes()) {
+        Ok(expression) => match compile(rt.alloc(), Target::X86_64, &expression) {
+            Ok(compiled) => print_listing(rt, &compiled.code),
+            Err(stop) => print_stop(rt, stop),
+        },
+        Err(error) => print_error(rt, error),
     }
 }
 

@@ -5,10 +5,9 @@ ghost use Rattle.lg_base.specs.Arguments.{most_args};
 ghost use Rattle.expression_program.specs.Compiled.{CanRun};
 
 use crate::compile::Compiled;
-use crate::failure::Failure;
 use lg_base::args::args_image;
 use lg_base::image::ArgImage;
-use lg_base::refusal::OutOfMemory;
+use lg_base::refusal::{OutOfMemory, Stop};
 use lg_cpu::answer::CpuStep;
 use lg_cpu::cpu::Cpu;
 use lg_io::memory_sink::MemorySink;
@@ -41,11 +40,11 @@ fn words_of(alloc: Global, argument: &str) -> Result<Vec<String>, OutOfMemory>
 }
 
 // The argument part of a run.
-fn args_of(alloc: Global, argument: &str) -> Result<ArgImage, Failure>
+fn args_of(alloc: Global, argument: &str) -> Result<ArgImage, Stop>
     ensures { IfOk result (λ args. length args ≤ most_args) }
 {
     let words = words_of(alloc, argument)?;
-    Ok(args_image(alloc, &words)?)
+    args_image(alloc, &words)
 }
 
 // Runs code with these arguments, from a new processor on, and gives the last step's answer.
@@ -54,7 +53,7 @@ fn run_with(
     compiled: &Compiled,
     args: &ArgImage,
     out: &mut MemorySink,
-) -> Result<CpuStep, Failure>
+) -> Result<CpuStep, Stop>
     requires code { CanRun compiled.now }
     requires args { length args.now ≤ most_args }
 {
@@ -71,7 +70,7 @@ fn run_with(
 }
 
 /// Runs code with an argument.
-pub fn run(alloc: Global, compiled: &Compiled, argument: &str) -> Result<Ran, Failure>
+pub fn run(alloc: Global, compiled: &Compiled, argument: &str) -> Result<Ran, Stop>
     requires { CanRun compiled.now }
 {
     let args = args_of(alloc, argument)?;

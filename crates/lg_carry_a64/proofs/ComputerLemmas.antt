@@ -1,4 +1,7 @@
 -- AArch64 is a processor with instructions that only compute.
+use Rattle.lg_carry_a64.specs.Touched.{touched}
+use Rattle.lg_carry.proofs.BlockLemmas.{nothing-off}
+use Rattle.lg_carry.specs.Processors.{IsOff}
 use Rattle.std.proofs.Common.{◌≡◌, ◌≢◌, ℕ, ◌*◌, ◌<◌, Bool, true, false, List, [], ◌∷◌, Option, Some, refl, ap, ◌∙◌, arith, length}
 use Rattle.std.specs.Prelude.{not}
 use Rattle.lg_base.specs.Words.{add_words}
@@ -17,7 +20,7 @@ use Rattle.lg_a64.specs.declared.instruction.Instr.TheVariants.{Reg, Imm, Wide, 
 use Rattle.lg_cpu.specs.A64Operators.{reg_value, reg_flags, imm_number, imm_flags, csinc_value, condition_holds}
 use Rattle.lg_cpu.specs.A64Step.{read, write, act}
 use Rattle.lg_cpu.specs.States.{CpuState}
-use Rattle.lg_cpu.specs.Steps.{Effect, after, arrived, status_of}
+use Rattle.lg_cpu.specs.Steps.{Effect, after, arrived, status_of, Run}
 use Rattle.lg_operators.specs.declared.carry.Carry.{Carry}
 use Rattle.lg_operators.specs.declared.carry.Carry.TheVariants as carry
 use Rattle.lg_temp.specs.declared.choice.Choice.{Choice}
@@ -27,7 +30,7 @@ use Rattle.lg_sel_nodes.specs.Straight.{is_taken}
 use Rattle.lg_sel_values.specs.Computers.{Held}
 use Rattle.lg_sel_values.specs.Values.{StandsForNone, ComputesInto}
 use Rattle.lg_carry_a64.specs.A64Computers.{a64_scratch, a64_computer, InstructionsCompute}
-use Rattle.lg_carry_a64.specs.A64Rows.{link, nzcv, a64_does, is_straight}
+use Rattle.lg_carry_a64.specs.A64Rows.{link, nzcv, a64_does, is_straight, a64_above}
 use Rattle.lg_carry_a64.specs.Computations.{computes, all_compute, holding, carry_or_false, known, computed_by, computed}
 use Rattle.lg_carry_a64.proofs.RowLemmas.{went}
 use Rattle.lg_carry_a64.proofs.SlotLemmas.{pc-next, goes-on}
@@ -97,11 +100,22 @@ computes-straight (BranchIf cond words) h = cc
 computes-straight (BranchReg op rn) h = cc
 computes-straight i h = refl
 
+-- it touches nothing
+computes-off : (hidden : ℕ → Bool) (i : Instr) (w : ℕ → ℕ) → computes i ≡ true → IsOff hidden (touched i w)
+computes-off hidden (Scaled op rt rn imm) w h = cc
+computes-off hidden (Ldrx rt rn rm) w h = cc
+computes-off hidden (Unscaled op rt rn imm) w h = cc
+computes-off hidden i w h = nothing-off hidden
+
+pub computes-above : (i : Instr) (q : Run CpuState) → computes i ≡ true → a64_above i q
+computes-above i q h = computes-off _ i q.state.registers h
+
 pub is-computer : InstructionsCompute
 is-computer code trash i q h runs low high =
     let e : a64_does i q ≡ after q (act i q.state) = went q (act i q.state) runs in
     let m = makes i q.state h in
     record {
+      above = computes-above i q h;
       runs = ap (λ s. status_of s.progress) e ∙ ap status_of m.progress ∙ goes-on q.state.pc low (omega (arith, high));
       behind = ap (λ s. s.state.pc) e ∙ m.pc ∙ pc-next q.state.pc (omega (arith, high));
       holds = ap (λ s. holding s.state.registers (nzcv s.state.flags)) e ∙ (λ j. holding (m.registers j) (m.flags j));

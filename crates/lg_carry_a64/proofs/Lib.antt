@@ -7,3 +7,4 @@ pub mod OutsideLemmas
 pub mod RegisterLemmas
 pub mod RowLemmas
 pub mod SlotLemmas
+pub mod TouchLemmas

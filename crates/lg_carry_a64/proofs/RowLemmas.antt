@@ -1,4 +1,8 @@
 -- The instructions are rows of a processor.
+use Rattle.lg_carry_a64.specs.Touched.{touched_by}
+use Rattle.lg_base.proofs.WordFrontLemmas.{word_again}
+use Rattle.lg_a64.proofs.AgainLemmas.{read_again, word_fits}
+use Rattle.lg_a64.specs.Reading.{instr_of, front_of}
 use Rattle.std.proofs.Common.{◌≡◌, ℕ, ◌+◌, ◌%◌, ◌<◌, true, ◌++◌, refl, sym, ap, ◌∙◌, arith, append-nil, subst, length-append, ◌≤◌, ◌^◌, length, drop, ◌-◌, List}
 use Rattle.std.specs.Prelude.{◌==◌}
 use Rattle.std.proofs.lemmas.List.{length-drop}
@@ -6,7 +10,7 @@ use Rattle.lg_base.specs.Layout.{code_base, most_code}
 use Rattle.lg_base.specs.Runs.{Running, Ended, Bad}
 use Rattle.lg_base.specs.Words.{add_words}
 use Rattle.lg_a64.specs.declared.instruction.Instr.{Instr}
-use Rattle.lg_a64.specs.Spelling.{spelling, IsInstr}
+use Rattle.lg_a64.specs.Spelling.{spelling, IsInstr, word_of}
 use Rattle.lg_cpu.specs.Steps.{Progress, Goes, EndedWith, Faulted, Effect, Run, after, on_going, status_of}
 use Rattle.lg_cpu.specs.States.{CpuState}
 use Rattle.lg_cpu.specs.A64Step.{act, effect}
@@ -85,6 +89,7 @@ are-rows code trash small bytes word = record {
   long = λ i ok. omega arith;
   places = λ pc i ok h. place pc h;
   executes = λ r i more ok running low at stands. ap (λ e. on_going r.progress (after r e) r) (a64-stands-executed code more trash r.state i ok low (aligned r.state.pc at) stands);
+  touches_are = λ r i more ok low at stands. ap (λ o. touched_by o r.state.registers) (ap front_of stands ∙ word_again instr_of word_of IsInstr read_again word_fits i more ok);
   silent = λ r i ok. silent r i;
   follows = λ r i ok h low running. follows r i h low running;
   keeps = λ r i more ok running low at stands h. keeps code trash small bytes word r i more ok running low at stands h;

@@ -1,5 +1,8 @@
 -- `stur` saves a register in a spill slot, and `ldur` restores it.
-use Rattle.std.proofs.Common.{◌≡◌, ◌≢◌, ℕ, ◌+◌, ◌<◌, ◌≤◌, true, false, refl, ap, ◌∙◌, arith}
+use Rattle.lg_base.specs.declared.target.Target.TheVariants.{Aarch64}
+use Rattle.lg_carry.proofs.BelowLemmas.{not-below}
+use Rattle.lg_carry.specs.Processors.{IsOff, is_below}
+use Rattle.std.proofs.Common.{◌≡◌, ◌≢◌, ℕ, ◌+◌, ◌<◌, ◌≤◌, true, false, refl, ap, ◌∙◌, arith, inr}
 use Rattle.std.specs.Prelude.{◌==◌, is_some, if◌then◌else◌}
 use Rattle.lg_base.specs.Fields.{word_of}
 use Rattle.lg_base.specs.Layout.{stop_address, code_base, most_code, spill_word}
@@ -56,21 +59,31 @@ restore-act q r k fp w can few f at held =
     let some = saved-some r can in
     rw address (ap (loads q r 8 false) held ∙ ap (λ b. computes q (λ x. if b then q.registers x else put q.registers r w x) q.flags) some)
 
+-- the word of a slot lies above the stack pointer
+slot-above : (w : ℕ → ℕ) (k fp : ℕ) → k < 5 → IsFramePointer fp → w 31 + 128 ≤ fp → w 29 ≡ fp
+    → IsOff (is_below Aarch64 (w 31)) record { from = add_words (w 29) (word_of (slot_offset k)); width = 8 }
+slot-above w k fp few f low at a le lt =
+    let address : add_words (w 29) (word_of (slot_offset k)) ≡ spill_word fp k = ap (λ x. add_words x (word_of (slot_offset k))) at ∙ slot-address fp k few f.low f.high in
+    let h = f.low in
+    not-below Aarch64 (w 31) a (inr (omega (arith, le, address, low, few, h)))
+
 pub are-spills : InstructionsAreSpills
 are-spills code trash = record {
   apart = λ r can. saved-apart r can;
-  saves = λ q r k fp can few f running room at slots.
+  saves = λ q r k fp can few f running room low at slots.
       let e : a64_does (Unscaled Stur r 29 (slot_offset k)) q ≡ after q (arrives (add_words q.state.pc 4) q.state.registers q.state.flags (stored q.state.bytes (spill_word fp k) 8 (q.state.registers r)) q.state.mark) = went q _ running ∙ ap (after q) (save-act q.state r k fp can few f at slots) in
       record {
+        above = slot-above q.state.registers k fp few f low at;
         runs = ap (λ s. status_of s.progress) e ∙ goes-on q.state.pc room.low (omega (arith, room.high));
         behind = ap (λ s. s.state.pc) e ∙ pc-next q.state.pc (omega (arith, room.high));
         registers = λ x. ap (λ s. s.state.registers x) e;
         bytes = λ a. ap (λ s. s.state.bytes a) e;
         marks = (ap (λ s. s.state.mark) e, ap (λ s. nzcv s.state.flags) e);
       };
-  restores = λ q r k fp w can few f running room at held.
+  restores = λ q r k fp w can few f running room low at held.
       let e : a64_does (Unscaled Ldur r 29 (slot_offset k)) q ≡ after q (computes q.state (put q.state.registers r w) q.state.flags) = went q _ running ∙ ap (after q) (restore-act q.state r k fp w can few f at held) in
       record {
+        above = slot-above q.state.registers k fp few f low at;
         runs = ap (λ s. status_of s.progress) e ∙ goes-on q.state.pc room.low (omega (arith, room.high));
         behind = ap (λ s. s.state.pc) e ∙ pc-next q.state.pc (omega (arith, room.high));
         registers = λ x. ap (λ s. s.state.registers x) e;

@@ -14,9 +14,10 @@ use Rattle.lg_cpu.specs.Steps.{Run, stepped, machine}
 use Rattle.lg_cpu.specs.States.{CpuState}
 use Rattle.lg_base.specs.Flags.{negative_flag, zero_flag, carry_flag, overflow_flag}
 use Rattle.lg_cpu.specs.A64Step.{act, effect}
-use Rattle.lg_carry.specs.Processors.{Seen, Processor}
+use Rattle.lg_carry.specs.Processors.{Seen, Processor, IsOff, is_below}
 use Rattle.lg_carry.specs.Rows.{Rows, AreRows}
 use Rattle.lg_carry.specs.Spills.{AreSpills}
+use Rattle.lg_carry_a64.specs.Touched.{touched, touched_at}
 
 -- ---- registers
 -- FP, x29
@@ -43,7 +44,7 @@ abbrev pub a64_seen : Run CpuState → Seen
 a64_seen r = record { pc = r.state.pc; registers = r.state.registers; bytes = r.state.bytes; mark = r.state.mark; flags = nzcv r.state.flags }
 
 abbrev pub a64_processor : List ℕ → ℕ → Processor (Run CpuState)
-a64_processor code trash = record { target = Aarch64; machine = machine (effect code trash); seen = a64_seen }
+a64_processor code trash = record { target = Aarch64; machine = machine (effect code trash); seen = a64_seen; touches = touched_at code }
 
 -- jumps and branches need not go on to the next instruction
 abbrev pub is_straight : Instr → Bool
@@ -55,6 +56,13 @@ is_straight i = true
 -- what an instruction does to a run that goes on
 abbrev pub a64_does : Instr → Run CpuState → Run CpuState
 a64_does i = stepped (act i)
+
+-- an instruction touches nothing below the stack pointer and its zone
+abbrev pub acts_above : Instr → CpuState → Type 0
+acts_above i s = IsOff (is_below Aarch64 (s.registers 31)) (touched i s.registers)
+
+abbrev pub a64_above : Instr → Run CpuState → Type 0
+a64_above i r = acts_above i r.state
 
 -- the offset of a spill slot from FP
 abbrev pub slot_offset : ℕ → ℤ
@@ -73,6 +81,7 @@ a64_rows code trash = record {
   spelling = spelling;
   is_straight = is_straight;
   does = a64_does;
+  touches = touched;
   can_save = can_save;
   save = λ r k. Unscaled Stur r frame_pointer (slot_offset k);
   restore = λ r k. Unscaled Ldur r frame_pointer (slot_offset k);

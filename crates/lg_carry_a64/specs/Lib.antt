@@ -4,3 +4,5 @@ pub mod Computations
 pub mod Destinations
 pub mod Numbers
 pub mod Places
+pub mod Touched
+pub mod Touches

@@ -4,6 +4,7 @@ ghost use Rattle.lg_carry_a64.specs.A64Computers.{InstructionsAreIsa, Instructio
 ghost use Rattle.lg_carry_a64.specs.A64Rows.{InstructionsAreRows, InstructionsAreSpills};
 ghost use Rattle.lg_carry_a64.specs.Destinations.{InstructionsStay};
 ghost use Rattle.lg_carry_a64.specs.Numbers.{NumbersAreLoaded};
+ghost use Rattle.lg_carry_a64.specs.Touches.{StepsLeave, StepsOverlook, StepsAreAlike, StatesArePatched};
 
 /// The instruction whose spelling stands at the program counter is executed, and the next one follows.
 pub fn instructions_are_rows()
@@ -33,4 +34,24 @@ pub fn instructions_compute()
 /// At most 4 instructions load any number into a register, and change no other, and no flag.
 pub fn numbers_are_loaded()
     ensures { NumbersAreLoaded }
+{}
+
+/// A step that is no host function's goes in one way whatever stands where it touches nothing, and leaves that as it was.
+pub fn steps_leave()
+    ensures { StepsLeave }
+{}
+
+/// So one that touches nothing below the stack pointer overlooks what stands there.
+pub fn steps_overlook()
+    ensures { StepsOverlook }
+{}
+
+/// A step leads from what looks the same to what looks the same, a host function's too.
+pub fn steps_are_alike()
+    ensures { StepsAreAlike }
+{}
+
+/// There is a state with any other bytes.
+pub fn states_are_patched()
+    ensures { StatesArePatched }
 {}

@@ -1,4 +1,7 @@
 -- Instructions that only compute: what they do, and lists of them.
+use Rattle.lg_carry_rv.specs.Touched.{load_width, touched}
+use Rattle.lg_carry.proofs.BlockLemmas.{nothing-off}
+use Rattle.lg_carry.specs.Processors.{IsOff}
 use Rattle.std.proofs.Common.{◌≡◌, ◌≢◌, ℕ, ◌+◌, ◌*◌, Bool, true, false, List, [], ◌∷◌, ◌++◌, refl, ap, ◌∙◌, arith, length, append-nil}
 use Rattle.std.specs.Prelude.{◌==◌, ◌&&◌, if◌then◌else◌}
 use Rattle.lg_base.specs.Runs.{Running}
@@ -9,12 +12,12 @@ use Rattle.lg_rv.specs.declared.instruction.Instr.TheVariants.{Upper, Jal, Branc
 use Rattle.lg_rv.specs.declared.instruction.UpperOp.TheVariants.{Lui, Auipc}
 use Rattle.lg_rv.specs.declared.instruction.ImmOp.{ImmOp}
 use Rattle.lg_rv.specs.declared.instruction.ImmOp.TheVariants.{Addi, Slti, Sltiu, Xori, Ori, Andi, Addiw}
-use Rattle.lg_cpu.specs.Steps.{after, status_of}
+use Rattle.lg_cpu.specs.Steps.{after, status_of, Run}
 use Rattle.lg_cpu.specs.HostSteps.{put}
 use Rattle.lg_cpu.specs.States.{CpuState}
 use Rattle.lg_cpu.specs.RvStep.{read, goes, sets, imm_effect, act}
 use Rattle.lg_carry.specs.Blocks.{spellings}
-use Rattle.lg_carry_rv.specs.RvRows.{rv_does, is_straight}
+use Rattle.lg_carry_rv.specs.RvRows.{rv_does, is_straight, rv_above}
 use Rattle.lg_carry_rv.specs.Computations.{imm_computes, imm_value, computes, all_compute, computed_by, computed, ComputationsRun}
 use Rattle.lg_carry_rv.proofs.RowLemmas.{went}
 use Rattle.lg_carry_rv.proofs.SlotLemmas.{pc-next, goes-on}
@@ -103,6 +106,29 @@ computes-straight (Shift op rd rs1 amount) h = refl
 computes-straight (Store op rs1 rs2 imm) h = cc
 computes-straight (Reg op rd rs1 rs2) h = refl
 
+-- it touches nothing
+imm-off : (hidden : ℕ → Bool) (op : ImmOp) (from : ℕ) → imm_computes op ≡ true → IsOff hidden record { from = from; width = load_width op }
+imm-off hidden Addi from h = λ a le lt. absurd (omega (arith, le, lt))
+imm-off hidden Slti from h = λ a le lt. absurd (omega (arith, le, lt))
+imm-off hidden Sltiu from h = λ a le lt. absurd (omega (arith, le, lt))
+imm-off hidden Xori from h = λ a le lt. absurd (omega (arith, le, lt))
+imm-off hidden Ori from h = λ a le lt. absurd (omega (arith, le, lt))
+imm-off hidden Andi from h = λ a le lt. absurd (omega (arith, le, lt))
+imm-off hidden Addiw from h = λ a le lt. absurd (omega (arith, le, lt))
+imm-off hidden o from h = cc
+
+computes-off : (hidden : ℕ → Bool) (i : Instr) (w : ℕ → ℕ) → computes i ≡ true → IsOff hidden (touched i w)
+computes-off hidden (Upper op rd imm) w h = nothing-off hidden
+computes-off hidden (Jal rd offset) w h = nothing-off hidden
+computes-off hidden (Branch op rs1 rs2 offset) w h = nothing-off hidden
+computes-off hidden (Imm op rd rs1 imm) w h = imm-off hidden op _ h
+computes-off hidden (Shift op rd rs1 amount) w h = nothing-off hidden
+computes-off hidden (Store op rs1 rs2 imm) w h = cc
+computes-off hidden (Reg op rd rs1 rs2) w h = nothing-off hidden
+
+pub computes-above : (i : Instr) (q : Run CpuState) → computes i ≡ true → rv_above i q
+computes-above i q h = computes-off _ i q.state.registers h
+
 -- ---- the run
 pub computations-run : ComputationsRun
 computations-run [] q h runs low high = record { through = tt; runs = runs; behind = omega arith; registers = λ r. refl; bytes = λ a. refl; mark = refl; out = refl }
@@ -113,7 +139,7 @@ computations-run (i ∷ is) q h runs low high =
     let goes : status_of (rv_does i q).progress ≡ Running = ap (λ s. status_of s.progress) e ∙ goes-on q.state.pc low (omega (arith, high)) in
     let m = computations-run is (rv_does i q) b.1 goes (omega (arith, low, pc)) (omega (arith, high, pc)) in
     record {
-      through = (runs, m.through);
+      through = (runs, computes-above i q b.0, m.through);
       runs = m.runs;
       behind = m.behind ∙ omega (arith, pc);
       registers = λ r. m.registers r ∙ ap (λ s. computed is s.state.registers r) e;

@@ -19,7 +19,7 @@ use Rattle.lg_sel_values.specs.Values.{StandsForNone, ComputesInto, KeepsCarry}
 use Rattle.lg_carry_rv.specs.RvComputers.{rv_scratch, held_by, rv_computer, InstructionsCompute}
 use Rattle.lg_carry_rv.specs.RvRows.{rv_does}
 use Rattle.lg_carry_rv.specs.Computations.{all_compute, computed_by, computed}
-use Rattle.lg_carry_rv.proofs.ComputationLemmas.{computes-act, spellings-long}
+use Rattle.lg_carry_rv.proofs.ComputationLemmas.{computes-act, spellings-long, computes-above}
 use Rattle.lg_carry_rv.proofs.RowLemmas.{went}
 use Rattle.lg_carry_rv.proofs.SlotLemmas.{pc-next, goes-on}
 
@@ -30,6 +30,7 @@ pub is-computer : InstructionsCompute
 is-computer code trash i q h runs low high =
     let e : rv_does i q ≡ after q (goes (add_words q.state.pc 4) (computed_by i q.state.registers) q.state.bytes q.state.mark) = went q (act i q.state) runs ∙ ap (after q) (computes-act i q.state h) in
     record {
+      above = computes-above i q h;
       runs = ap (λ s. status_of s.progress) e ∙ goes-on q.state.pc low (omega (arith, high));
       behind = ap (λ s. s.state.pc) e ∙ pc-next q.state.pc (omega (arith, high));
       holds = ap (λ s. bare s.state.registers) e;

@@ -15,6 +15,16 @@ register-nonzero V1 = λ e. absurd (omega (arith, e))
 register-nonzero V2 = λ e. absurd (omega (arith, e))
 register-nonzero Fp = λ e. absurd (omega (arith, e))
 
+-- nor the stack pointer
+pub register-no-stack : (d : Reg) → register_of Riscv64 d ≢ 2
+register-no-stack R0 = λ e. absurd (omega (arith, e))
+register-no-stack R1 = λ e. absurd (omega (arith, e))
+register-no-stack R2 = λ e. absurd (omega (arith, e))
+register-no-stack V0 = λ e. absurd (omega (arith, e))
+register-no-stack V1 = λ e. absurd (omega (arith, e))
+register-no-stack V2 = λ e. absurd (omega (arith, e))
+register-no-stack Fp = λ e. absurd (omega (arith, e))
+
 -- neither the link nor the carry
 pub register-apart : (d : Reg) → (register_of Riscv64 d ≢ 1) × (register_of Riscv64 d ≢ 31)
 register-apart R0 = (λ e. absurd (omega (arith, e)), λ e. absurd (omega (arith, e)))

@@ -1,5 +1,8 @@
 -- `sd` saves a register in a spill slot, and `ld` restores it.
-use Rattle.std.proofs.Common.{◌≡◌, ◌≢◌, ℕ, ◌+◌, ◌%◌, ◌<◌, ◌≤◌, true, false, refl, ap, ◌∙◌, arith}
+use Rattle.lg_base.specs.declared.target.Target.TheVariants.{Riscv64}
+use Rattle.lg_carry.proofs.BelowLemmas.{not-below}
+use Rattle.lg_carry.specs.Processors.{IsOff, is_below}
+use Rattle.std.proofs.Common.{◌≡◌, ◌≢◌, ℕ, ◌+◌, ◌%◌, ◌<◌, ◌≤◌, true, false, refl, ap, ◌∙◌, arith, inr}
 use Rattle.std.specs.Prelude.{◌==◌, is_some, if◌then◌else◌}
 use Rattle.lg_base.specs.Fields.{word_of}
 use Rattle.lg_base.specs.Layout.{stop_address, code_base, most_code, spill_word}
@@ -60,21 +63,31 @@ restore-act q r k fp w few f at held =
     let even = slot-aligned fp k few f.low f.aligned in
     rw (address, even) (ap (loads q r 8 false) held)
 
+-- the word of a slot lies above the stack pointer
+slot-above : (w : ℕ → ℕ) (k fp : ℕ) → k < 5 → IsFramePointer fp → w 2 + 128 ≤ fp → w 8 ≡ fp
+    → IsOff (is_below Riscv64 (w 2)) record { from = add_words (w 8) (word_of (slot_offset k)); width = 8 }
+slot-above w k fp few f low at a le lt =
+    let address : add_words (w 8) (word_of (slot_offset k)) ≡ spill_word fp k = ap (λ x. add_words x (word_of (slot_offset k))) at ∙ slot-address fp k few f.low f.high in
+    let h = f.low in
+    not-below Riscv64 (w 2) a (inr (omega (arith, le, address, low, few, h)))
+
 pub are-spills : InstructionsAreSpills
 are-spills code trash = record {
   apart = λ r can. saved-apart r can;
-  saves = λ q r k fp can few f running room at slots.
+  saves = λ q r k fp can few f running room low at slots.
       let e : rv_does (Store Sd 8 r (slot_offset k)) q ≡ after q (goes (add_words q.state.pc 4) q.state.registers (stored q.state.bytes (spill_word fp k) 8 (q.state.registers r)) q.state.mark) = went q _ running ∙ ap (after q) (save-act q.state r k fp can few f at slots) in
       record {
+        above = slot-above q.state.registers k fp few f low at;
         runs = ap (λ s. status_of s.progress) e ∙ goes-on q.state.pc room.low (omega (arith, room.high));
         behind = ap (λ s. s.state.pc) e ∙ pc-next q.state.pc (omega (arith, room.high));
         registers = λ x. ap (λ s. s.state.registers x) e;
         bytes = λ a. ap (λ s. s.state.bytes a) e;
         marks = (ap (λ s. s.state.mark) e, refl);
       };
-  restores = λ q r k fp w can few f running room at held.
+  restores = λ q r k fp w can few f running room low at held.
       let e : rv_does (Imm Ld r 8 (slot_offset k)) q ≡ after q (sets q.state r w) = went q _ running ∙ ap (after q) (restore-act q.state r k fp w few f at held) in
       record {
+        above = slot-above q.state.registers k fp few f low at;
         runs = ap (λ s. status_of s.progress) e ∙ goes-on q.state.pc room.low (omega (arith, room.high));
         behind = ap (λ s. s.state.pc) e ∙ pc-next q.state.pc (omega (arith, room.high));
         registers = λ x. ap (λ s. s.state.registers x) e;

@@ -17,7 +17,7 @@ use Rattle.lg_cpu.specs.States.{CpuState}
 use Rattle.lg_cpu.specs.RvStep.{read}
 use Rattle.lg_carry.specs.Blocks.{done, GoesThrough}
 use Rattle.lg_sel_values.specs.Computers as computer
-use Rattle.lg_carry_rv.specs.RvRows.{rv_does}
+use Rattle.lg_carry_rv.specs.RvRows.{rv_does, rv_above}
 
 -- the rows with a number that load nothing and do not jump
 abbrev pub imm_computes : ImmOp → Bool
@@ -67,7 +67,7 @@ computed (i ∷ is) w = computed is (computed_by i w)
 
 -- a list of them goes through from a run, and leaves its registers so; all else stays, and the program counter is behind them
 pub record RunsComputations (is : List Instr) (q : Run CpuState) : Type 0 where
-  pub through : GoesThrough rv_does (λ (r : Run CpuState). status_of r.progress) is q
+  pub through : GoesThrough rv_does (λ (r : Run CpuState). status_of r.progress) rv_above is q
   pub runs : status_of (done rv_does is q).progress ≡ Running
   pub behind : (done rv_does is q).state.pc ≡ q.state.pc + 4 * length is
   pub registers : (r : ℕ) → (done rv_does is q).state.registers r ≡ computed is q.state.registers r

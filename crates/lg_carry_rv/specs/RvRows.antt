@@ -11,9 +11,10 @@ use Rattle.lg_cpu.specs.Steps.{Run, stepped, machine}
 use Rattle.lg_cpu.specs.States.{CpuState}
 use Rattle.lg_cpu.specs.RvStep.{act, effect}
 use Rattle.lg_base.specs.declared.flags.Flags.TheVariants.{NoFlags}
-use Rattle.lg_carry.specs.Processors.{Seen, Processor}
+use Rattle.lg_carry.specs.Processors.{Seen, Processor, IsOff, is_below}
 use Rattle.lg_carry.specs.Rows.{Rows, AreRows}
 use Rattle.lg_carry.specs.Spills.{AreSpills}
+use Rattle.lg_carry_rv.specs.Touched.{touched, touched_at}
 use Rattle.lg_cpu.specs.Laws.{AreBytes}
 
 -- the carry is in a register, so there is no flag
@@ -21,7 +22,7 @@ abbrev pub rv_seen : Run CpuState → Seen
 rv_seen r = record { pc = r.state.pc; registers = r.state.registers; bytes = r.state.bytes; mark = r.state.mark; flags = NoFlags }
 
 abbrev pub rv_processor : List ℕ → ℕ → Processor (Run CpuState)
-rv_processor code trash = record { target = Riscv64; machine = machine (effect code trash); seen = rv_seen }
+rv_processor code trash = record { target = Riscv64; machine = machine (effect code trash); seen = rv_seen; touches = touched_at code }
 
 -- jumps and branches need not go on to the next instruction
 abbrev pub is_straight : Instr → Bool
@@ -33,6 +34,13 @@ is_straight i = true
 -- what an instruction does to a run that goes on
 abbrev pub rv_does : Instr → Run CpuState → Run CpuState
 rv_does i = stepped (act i)
+
+-- an instruction touches nothing below the stack pointer and its zone
+abbrev pub acts_above : Instr → CpuState → Type 0
+acts_above i s = IsOff (is_below Riscv64 (s.registers 2)) (touched i s.registers)
+
+abbrev pub rv_above : Instr → Run CpuState → Type 0
+rv_above i r = acts_above i r.state
 
 -- the offset of a spill slot from FP
 abbrev pub slot_offset : ℕ → ℤ
@@ -51,6 +59,7 @@ rv_rows code trash = record {
   spelling = spelling;
   is_straight = is_straight;
   does = rv_does;
+  touches = touched;
   can_save = can_save;
   save = λ r k. Store Sd 8 r (slot_offset k);
   restore = λ r k. Imm Ld r 8 (slot_offset k);

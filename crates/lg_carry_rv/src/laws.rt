@@ -5,6 +5,7 @@ ghost use Rattle.lg_carry_rv.specs.Destinations.{InstructionsStay};
 ghost use Rattle.lg_carry_rv.specs.Numbers.{NumbersAreLoaded};
 ghost use Rattle.lg_carry_rv.specs.RvComputers.{InstructionsAreIsa, InstructionsCompute};
 ghost use Rattle.lg_carry_rv.specs.RvRows.{InstructionsAreRows, InstructionsAreSpills};
+ghost use Rattle.lg_carry_rv.specs.Touches.{StepsLeave, StepsOverlook, StepsAreAlike, StatesArePatched};
 
 /// The instruction whose spelling stands at the program counter is executed, and the next one follows.
 pub fn instructions_are_rows()
@@ -39,4 +40,24 @@ pub fn computations_run()
 /// At most 8 instructions load any number into a register, and change no other.
 pub fn numbers_are_loaded()
     ensures { NumbersAreLoaded }
+{}
+
+/// A step that is no host function's goes in one way whatever stands where it touches nothing, and leaves that as it was.
+pub fn steps_leave()
+    ensures { StepsLeave }
+{}
+
+/// So one that touches nothing below the stack pointer overlooks what stands there.
+pub fn steps_overlook()
+    ensures { StepsOverlook }
+{}
+
+/// A step leads from what looks the same to what looks the same, a host function's too.
+pub fn steps_are_alike()
+    ensures { StepsAreAlike }
+{}
+
+/// There is a state with any other bytes.
+pub fn states_are_patched()
+    ensures { StatesArePatched }
 {}

@@ -1,4 +1,5 @@
 -- x86-64 is a processor with instructions that only compute.
+use Rattle.lg_carry_x86.specs.Makings.{is_still}
 use Rattle.std.proofs.Common.{◌≡◌, ℕ, true, Some, refl, ap, ◌∙◌, length}
 use Rattle.lg_base.specs.Words.{add_words}
 use Rattle.lg_x86.specs.Spelling.{spelling}
@@ -18,7 +19,7 @@ use Rattle.lg_carry_x86.specs.MakingNodes.{scene}
 use Rattle.lg_carry_x86.specs.X86Computers.{reads_no_carry, divides_not, computes, bare, held_of, held_by, InstructionsCompute}
 use Rattle.lg_carry_x86.specs.X86Rows.{x86_does}
 use Rattle.lg_carry_x86.proofs.ActLemmas.{straight-does}
-use Rattle.lg_carry_x86.proofs.MakingLemmas.{makes-straight}
+use Rattle.lg_carry_x86.proofs.MakingLemmas.{makes-straight, still-off}
 use Rattle.lg_carry_x86.proofs.RowLemmas.{went}
 use Rattle.lg_carry_x86.proofs.SlotLemmas.{pc-next, goes-on}
 
@@ -70,6 +71,22 @@ computes-made (Bare Cqo) s h = refl
 computes-made (Bare Nop) s h = refl
 computes-made i s h = cc
 
+pub computes-still : (i : Instr) → computes i ≡ true → is_still i ≡ true
+computes-still (RmReg op rm reg) h = refl
+computes-still (Imm op rm imm) h = refl
+computes-still (RegRm op reg rm) h = refl
+computes-still (Load Lea reg base disp) h = refl
+computes-still (Lea2 reg base index) h = refl
+computes-still (Movi32 reg imm) h = refl
+computes-still (Movs32 rm imm) h = refl
+computes-still (Movi64 reg imm) h = refl
+computes-still (Unary op rm) h = refl
+computes-still (Shift op rm count) h = refl
+computes-still (Bswap reg) h = refl
+computes-still (Bare Cqo) h = refl
+computes-still (Bare Nop) h = refl
+computes-still i h = cc
+
 pub is-computer : InstructionsCompute
 is-computer code trash i q h runs low high =
     let n : ℕ = length (spelling i) in
@@ -79,6 +96,7 @@ is-computer code trash i q h runs low high =
     let e : x86_does i q ≡ after q (goes (add_words q.state.pc n) t q.state.mark) =
     went q (act i n q.state) runs ∙ ap (after q) (straight-does i (add_words q.state.pc n) q.state (makes-straight i s t m) ∙ ap (goes_with q.state (add_words q.state.pc n) (fault_of i)) m) in
     record {
+      above = still-off _ i q.state.registers (computes-still i h);
       runs = ap (λ r. status_of r.progress) e ∙ goes-on q.state.pc n low high;
       behind = ap (λ r. r.state.pc) e ∙ pc-next q.state.pc n high;
       holds = ap (λ r. holding (scene_of r.state)) e;

@@ -7,3 +7,4 @@ pub mod NumberCodeLemmas
 pub mod OutsideLemmas
 pub mod RowLemmas
 pub mod SlotLemmas
+pub mod TouchLemmas

@@ -1,5 +1,5 @@
 -- A node whose code makes registers and flags is one whose code goes straight on.
-use Rattle.std.proofs.Common.{◌≡◌, ℕ, ◌⊎◌, inl, inr, List, Some, ap, ◌∙◌}
+use Rattle.std.proofs.Common.{◌≡◌, ℕ, ◌⊎◌, inl, inr, List, Some, ap, ◌∙◌, None}
 use Rattle.lg_base.specs.Layout.{frame_pointer}
 use Rattle.lg_base.specs.declared.target.Target.TheVariants.{X86_64}
 use Rattle.lg_op.specs.declared.node.Node.{Node}
@@ -17,7 +17,7 @@ use Rattle.lg_carry_x86.specs.MakingNodes.{scene, StepsBy, MakesNode, MakingNode
 use Rattle.lg_carry_x86.specs.Makings.{makes}
 use Rattle.lg_carry_x86.specs.X86Computers.{x86_scratch}
 use Rattle.lg_carry_x86.specs.X86Rows.{x86_rows}
-use Rattle.lg_carry_x86.proofs.MakingLemmas.{makings-run}
+use Rattle.lg_carry_x86.proofs.MakingLemmas.{makings-run, still-above, makings-still}
 
 module _ (code : List ℕ) (trash : ℕ) (c : Code) (i : ℕ) (n : Node) (frame : ℕ) (choices : List Choice) (body : List Instr) (m : MakesNode c i n frame choices body) where
   does : (s : State) (q : Seen) → HoldsRead X86_64 n frame s q → (p : StepsBy c n choices body s q)
@@ -25,8 +25,8 @@ module _ (code : List ℕ) (trash : ℕ) (c : Code) (i : ℕ) (n : Node) (frame 
   does s q h p u looks room =
       let same : scene_of u.state ≡ scene q.registers q.flags u.state.bytes = λ j. scene (λ r. looks.has_registers r j) (looks.has_flags j) u.state.bytes in
       let from : makes body (scene_of u.state) ≡ Some (scene p.end p.flags u.state.bytes) =
-      ap (makes body) same ∙ p.makes_it u.state.bytes record { is = λ a b e. looks.has_bytes a (h.off_slots a b e) ∙ h.memory.is a b e } in
-      let r = makings-run body u (scene p.end p.flags u.state.bytes) from looks.runs room.low room.high in
+      ap (makes body) same ∙ p.makes_it u.state.bytes in
+      let r = makings-run body u (scene p.end p.flags u.state.bytes) from (still-above body (scene_of u.state) (makings-still body q.registers q.flags (scene p.end p.flags (λ a. None)) (p.makes_it (λ a. None)))) looks.runs room.low room.high in
       record {
         through = r.through;
         runs = r.runs;

@@ -1,4 +1,6 @@
 -- The instructions are rows of a processor.
+use Rattle.lg_carry_x86.specs.Touched.{touched_by}
+use Rattle.lg_x86.proofs.CheckedLemmas.{checked_again}
 use Rattle.std.proofs.Common.{◌≡◌, ℕ, ◌+◌, ◌-◌, ◌<◌, ◌≤◌, ◌^◌, true, List, ◌++◌, length, drop, Option, Some, None, refl, sym, ap, ◌∙◌, arith, subst, append-nil, length-append}
 use Rattle.std.proofs.lemmas.List.{length-drop}
 use Rattle.lg_base.specs.Layout.{code_base, most_code}
@@ -86,6 +88,7 @@ are-rows code trash small bytes word = record {
   long = λ i ok. (sized i).some;
   places = λ pc i ok h. refl;
   executes = λ r i more ok running low at stands. ap (λ e. on_going r.progress (after r e) r) (x86-stands-executed code more trash r.state i ok low stands);
+  touches_are = λ r i more ok low at stands. ap (λ o. touched_by o r.state.registers) (checked_again (drop (r.state.pc - code_base) code) i more ok stands);
   silent = λ r i ok. silent r i;
   follows = λ r i ok h low running. follows r i h low running;
   keeps = λ r i more ok running low at stands h. keeps code trash small bytes word r i more ok running low stands h;

@@ -1,5 +1,8 @@
 -- A store saves a register in a spill slot, and a load restores it.
-use Rattle.std.proofs.Common.{◌≡◌, ◌≢◌, ℕ, ◌+◌, ◌<◌, ◌≤◌, true, false, [], ◌++◌, length, Some, refl, ap, ◌∙◌, arith, append-nil}
+use Rattle.lg_base.specs.declared.target.Target.TheVariants.{X86_64}
+use Rattle.lg_carry.proofs.BelowLemmas.{not-below}
+use Rattle.lg_carry.specs.Processors.{IsOff, is_below}
+use Rattle.std.proofs.Common.{◌≡◌, ◌≢◌, ℕ, ◌+◌, ◌<◌, ◌≤◌, true, false, [], ◌++◌, length, Some, refl, ap, ◌∙◌, arith, append-nil, inr}
 use Rattle.std.specs.Prelude.{◌==◌, is_some}
 use Rattle.lg_base.specs.Fields.{word_of}
 use Rattle.lg_base.specs.Layout.{stop_address, code_base, most_code, spill_word}
@@ -21,6 +24,10 @@ use Rattle.lg_carry.specs.Spills.{IsFramePointer, in_slots}
 use Rattle.lg_carry_x86.specs.MakingNodes.{scene}
 use Rattle.lg_carry_x86.specs.X86Rows.{x86_does, slot_offset, can_save, InstructionsAreSpills}
 use Rattle.lg_carry_x86.proofs.RowLemmas.{went}
+
+-- what lies in the zone counts
+pub in-zone : (stack a : ℕ) → stack ≤ a + 128 → is_below X86_64 stack a ≡ false
+in-zone stack a h = grind (arith, h)
 
 slot-address : (fp k : ℕ) → k < 5 → 0x3FF00000 + 256 ≤ fp → fp + 16 ≤ 0x40000000 → add_words fp (word_of (slot_offset k)) ≡ spill_word fp k
 slot-address fp k few low high = grind (arith, few, low, high)
@@ -55,29 +62,39 @@ restore-made s r k fp w few f at held =
     let address : add_words (s.registers 5) (word_of (slot_offset k)) ≡ spill_word fp k = ap (λ x. add_words x (word_of (slot_offset k))) at ∙ slot-address fp k few f.low f.high in
     ap (λ x. sets_loaded Ld64 r s (loaded s.bytes x 8)) address ∙ ap (sets_loaded Ld64 r s) held
 
+-- the word of a slot lies above the stack pointer
+slot-above : (w : ℕ → ℕ) (k fp : ℕ) → k < 5 → IsFramePointer fp → w 4 + 128 ≤ fp → w 5 ≡ fp
+    → IsOff (is_below X86_64 (w 4)) record { from = add_words (w 5) (word_of (slot_offset k)); width = 8 }
+slot-above w k fp few f low at a le lt =
+    let address : add_words (w 5) (word_of (slot_offset k)) ≡ spill_word fp k = ap (λ x. add_words x (word_of (slot_offset k))) at ∙ slot-address fp k few f.low f.high in
+    let h = f.low in
+    not-below X86_64 (w 4) a (inr (omega (arith, le, address, low, few, h)))
+
 pub are-spills : InstructionsAreSpills
 are-spills code trash = record {
   apart = λ r can. saved-apart r can;
-  saves = λ q r k fp can few f running room at slots.
+  saves = λ q r k fp can few f running room low at slots.
       let i : Instr = Store St64 5 (slot_offset k) r in
       let n : ℕ = length (spelling i) in
       let l : length (spelling i ++ []) ≡ n = ap length (append-nil (spelling i)) in
       let e : x86_does i q ≡ after q (goes (add_words q.state.pc n) (scene q.state.registers q.state.flags (stored q.state.bytes (spill_word fp k) 8 (q.state.registers r))) q.state.mark) =
       went q (act i n q.state) running ∙ ap (λ o. after q (goes_with q.state (add_words q.state.pc n) Memory o)) (save-made (scene_of q.state) r k fp few f at slots) in
       record {
+        above = slot-above q.state.registers k fp few f low at;
         runs = ap (λ s. status_of s.progress) e ∙ goes-on q.state.pc n room.low (omega (arith, room.high, l));
         behind = ap (λ s. s.state.pc) e ∙ pc-next q.state.pc n (omega (arith, room.high, l)) ∙ omega (arith, l);
         registers = λ x. ap (λ s. s.state.registers x) e;
         bytes = λ a. ap (λ s. s.state.bytes a) e;
         marks = (ap (λ s. s.state.mark) e, ap (λ s. s.state.flags) e);
       };
-  restores = λ q r k fp w can few f running room at held.
+  restores = λ q r k fp w can few f running room low at held.
       let i : Instr = Load Ld64 r 5 (slot_offset k) in
       let n : ℕ = length (spelling i) in
       let l : length (spelling i ++ []) ≡ n = ap length (append-nil (spelling i)) in
       let e : x86_does i q ≡ after q (goes (add_words q.state.pc n) (scene (put q.state.registers r w) q.state.flags q.state.bytes) q.state.mark) =
       went q (act i n q.state) running ∙ ap (λ o. after q (goes_with q.state (add_words q.state.pc n) Memory o)) (restore-made (scene_of q.state) r k fp w few f at held) in
       record {
+        above = slot-above q.state.registers k fp few f low at;
         runs = ap (λ s. status_of s.progress) e ∙ goes-on q.state.pc n room.low (omega (arith, room.high, l));
         behind = ap (λ s. s.state.pc) e ∙ pc-next q.state.pc n (omega (arith, room.high, l)) ∙ omega (arith, l);
         registers = λ x. ap (λ s. s.state.registers x) e;

@@ -14,7 +14,6 @@ use Rattle.lg_temp.specs.declared.choice.Choice.{Choice}
 use Rattle.lg_carry.specs.Blocks.{spellings}
 use Rattle.lg_carry.specs.FinalNodes.{Code}
 use Rattle.lg_carry.specs.Processors.{Seen}
-use Rattle.lg_carry.specs.Stands.{HasMemory}
 use Rattle.lg_sel_nodes.specs.Straight.{GoesOn, HoldsRead, HoldsWritten, IsKept, ComputesNode}
 use Rattle.lg_carry_x86.specs.Makings.{makes}
 use Rattle.lg_carry_x86.specs.X86Computers.{x86_scratch}
@@ -24,14 +23,14 @@ use Rattle.lg_carry_x86.specs.X86Rows.{x86_rows}
 abbrev pub scene : (ℕ → ℕ) → Flags → (ℕ → Option ℕ) → Scene
 scene registers flags bytes = record { registers = registers; flags = flags; bytes = bytes }
 
--- from state s the step goes to a state whose words the code makes, over any memory that has the portable one, and this stays
+-- from state s the step goes to a state whose words the code makes, over any memory, and this stays
 pub record StepsBy (c : Code) (n : Node) (choices : List Choice) (body : List Instr) (s : State) (q : Seen) : Type 0 where
   pub to : State
   pub goes : step c.nodes c.shape c.addresses s ≡ Goes to []
   pub on : GoesOn s to
   pub end : ℕ → ℕ
   pub flags : Flags
-  pub makes_it : (bytes : ℕ → Option ℕ) → HasMemory s bytes → makes body (scene q.registers q.flags bytes) ≡ Some (scene end flags bytes)
+  pub makes_it : (bytes : ℕ → Option ℕ) → makes body (scene q.registers q.flags bytes) ≡ Some (scene end flags bytes)
   pub keeps : (x : ℕ) → IsKept X86_64 x86_scratch n choices x → end x ≡ q.registers x
   pub holds : HoldsWritten X86_64 n s to end flags
 

@@ -12,15 +12,16 @@ use Rattle.lg_cpu.specs.Laws.{AreBytes}
 use Rattle.lg_cpu.specs.States.{CpuState}
 use Rattle.lg_cpu.specs.Steps.{Run, stepped, machine}
 use Rattle.lg_cpu.specs.X86Step.{act, effect}
-use Rattle.lg_carry.specs.Processors.{Seen, Processor}
+use Rattle.lg_carry.specs.Processors.{Seen, Processor, IsOff, is_below}
 use Rattle.lg_carry.specs.Rows.{Rows, AreRows}
 use Rattle.lg_carry.specs.Spills.{AreSpills}
+use Rattle.lg_carry_x86.specs.Touched.{touched, touched_at}
 
 abbrev pub x86_seen : Run CpuState → Seen
 x86_seen r = record { pc = r.state.pc; registers = r.state.registers; bytes = r.state.bytes; mark = r.state.mark; flags = r.state.flags }
 
 abbrev pub x86_processor : List ℕ → ℕ → Processor (Run CpuState)
-x86_processor code trash = record { target = X86_64; machine = machine (effect code trash); seen = x86_seen }
+x86_processor code trash = record { target = X86_64; machine = machine (effect code trash); seen = x86_seen; touches = touched_at code }
 
 -- jumps, calls and returns need not go on to the next instruction
 abbrev pub is_straight : Instr → Bool
@@ -35,6 +36,13 @@ is_straight i = true
 -- what an instruction does to a run that goes on
 abbrev pub x86_does : Instr → Run CpuState → Run CpuState
 x86_does i = stepped (act i (length (spelling i)))
+
+-- an instruction touches nothing below the stack pointer and its zone
+abbrev pub acts_above : Instr → CpuState → Type 0
+acts_above i s = IsOff (is_below X86_64 (s.registers 4)) (touched i s.registers)
+
+abbrev pub x86_above : Instr → Run CpuState → Type 0
+x86_above i r = acts_above i r.state
 
 -- the displacement of a spill slot from FP, rbp
 abbrev pub slot_offset : ℕ → ℤ
@@ -53,6 +61,7 @@ x86_rows code trash = record {
   spelling = spelling;
   is_straight = is_straight;
   does = x86_does;
+  touches = touched;
   can_save = can_save;
   save = λ r k. Store St64 5 (slot_offset k) r;
   restore = λ r k. Load Ld64 r 5 (slot_offset k);

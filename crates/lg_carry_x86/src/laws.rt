@@ -4,6 +4,7 @@ ghost use Rattle.lg_carry_x86.specs.Destinations.{InstructionsStay};
 ghost use Rattle.lg_carry_x86.specs.MakingNodes.{MakingNodesCompute};
 ghost use Rattle.lg_carry_x86.specs.Makings.{MakingsRun};
 ghost use Rattle.lg_carry_x86.specs.Numbers.{NumbersAreLoaded};
+ghost use Rattle.lg_carry_x86.specs.Touches.{StepsLeave, StepsOverlook, StepsAreAlike, StatesArePatched};
 ghost use Rattle.lg_carry_x86.specs.X86Computers.{InstructionsAreIsa, InstructionsCompute};
 ghost use Rattle.lg_carry_x86.specs.X86Rows.{InstructionsAreRows, InstructionsAreSpills};
 
@@ -45,4 +46,24 @@ pub fn numbers_are_loaded()
 /// A node is computed by code that makes the registers and flags of the portable step, also where it reads the memory or makes FP again.
 pub fn making_nodes_compute()
     ensures { MakingNodesCompute }
+{}
+
+/// A step that is no host function's goes in one way whatever stands where it touches nothing, and leaves that as it was.
+pub fn steps_leave()
+    ensures { StepsLeave }
+{}
+
+/// So one that touches nothing below the stack pointer overlooks what stands there.
+pub fn steps_overlook()
+    ensures { StepsOverlook }
+{}
+
+/// A step leads from what looks the same to what looks the same, a host function's too.
+pub fn steps_are_alike()
+    ensures { StepsAreAlike }
+{}
+
+/// There is a state with any other bytes.
+pub fn states_are_patched()
+    ensures { StatesArePatched }
 {}

@@ -28,7 +28,8 @@ pub record Command : Type 0 where
 abbrev pub mode_of : Text → Option Mode
 mode_of t = if bytes_eq t (codes "run") then Some mode.Run else (if bytes_eq t (codes "list") then Some mode.List
     else (if bytes_eq t (codes "mean") then Some mode.Mean else (if bytes_eq t (codes "gen") then Some mode.Gen
-    else (if bytes_eq t (codes "back") then Some mode.Back else (if bytes_eq t (codes "profile") then Some mode.Profile else None)))))
+    else (if bytes_eq t (codes "back") then Some mode.Back else (if bytes_eq t (codes "profile") then Some mode.Profile
+    else (if bytes_eq t (codes "explain") then Some mode.Explain else None))))))
 
 abbrev pub target_of : Text → Option Target
 target_of t = if bytes_eq t (codes "x86_64") then Some target.X86_64 else (if bytes_eq t (codes "aarch64") then Some target.Aarch64

@@ -17,6 +17,8 @@ pub enum Mode {
     Back,
     /// Its code runs, and then its portable meaning, and the steps of both are told line by line.
     Profile,
+    /// Its portable meaning runs as with `Mean`, and where the text is refused or a step is undefined more is told.
+    Explain,
 }
 
 /// What the words of the command ask for.

@@ -22,6 +22,7 @@ fn mode_named(word: &str) -> Option<Mode>
         "gen" => Some(Mode::Gen),
         "back" => Some(Mode::Back),
         "profile" => Some(Mode::Profile),
+        "explain" => Some(Mode::Explain),
         _ => None,
     }
 }

@@ -33,12 +33,13 @@ use Rattle.lg_near.specs.Near as near
 use Rattle.lg_liveness.specs.Definitions.{defines}
 use Rattle.lg_near.specs.Needs.{AreNeeds, AreNear}
 use Rattle.lg_near.proofs.NeedLemmas.{near-steps}
+use Rattle.lg_rewritten.specs.Rewritten.{memory_in}
 use Rattle.lg_opt.specs.Paired.{Pair, Dropped, RestsAt, AreStepped}
 use Rattle.lg_opt.specs.Remaining.{new_number, rewritten, no_targets, origins, may_go, IsRewriting}
 use Rattle.lg_opt.specs.Renumbered.{over, Meets, IsRewritten}
 use Rattle.lg_opt.specs.Rewritings.{RunIsDropped}
 use Rattle.lg_opt.proofs.DropLemmas.{start-over}
-use Rattle.lg_opt.proofs.DropRunLemmas.{drops}
+use Rattle.lg_opt.proofs.DropRunLemmas.{drops, drops-look}
 use Rattle.lg_opt.proofs.KeepLemmas.{keeps}
 use Rattle.lg_opt.proofs.MovedLemmas.{stands, label-moved}
 use Rattle.lg_opt.proofs.RemainingLemmas.{number-zero, number-goes}
@@ -312,6 +313,9 @@ module _ (l : LabelledNodes) (shape new_shape : TextShape) (stays : ℕ → Bool
             to = nu;
             drops = drops p stays nu Good R (λ s k r. ap (λ (y : State). y.at) r.2.is ∙ r.2.lands ∙ ap nu (same-at s r.0 r.1)) stepped gone-calm (start_state image args) (start_state image args)
                 (mean_fits l shape A is (well_shaped l is.accepted) (has_functions l is.accepted) formed image args) start;
+            memory = drops-look p stays nu Good R (λ s k r. ap (λ (y : State). y.at) r.2.is ∙ r.2.lands ∙ ap nu (same-at s r.0 r.1)) stepped gone-calm (start_state image args) (start_state image args)
+                (mean_fits l shape A is (well_shaped l is.accepted) (has_functions l is.accepted) formed image args) start
+                (λ s k r. ap memory_in r.2.is ∙ ap memory_in r.1.is);
             leaps = leaps-stay;
           },
           numbered l stays no_targets,

@@ -41,13 +41,14 @@ use Rattle.lg_meaning.proofs.MeanLemmas.{always, formed_at, start_fits_well}
 use Rattle.lg_meaning.proofs.Outcomes.{on_result}
 use Rattle.lg_carry.specs.Carries.{leaps, leaps_at}
 use Rattle.lg_carry.proofs.FallLemmas.{nodes-fall}
+use Rattle.lg_rewritten.specs.Rewritten.{memory_in}
 use Rattle.lg_opt.specs.Paired.{Pair, AreStepped}
 use Rattle.lg_opt.specs.Renumbered.{over, Alike, Meets, Renumbers, IsRewritten}
 use Rattle.lg_opt.specs.Remaining.{origins}
 use Rattle.lg_opt.specs.Rewritings.{RunIsDropped}
 use Rattle.lg_opt.proofs.ArrivalLemmas.{Arrives, leap-arrives}
 use Rattle.lg_opt.proofs.DropLemmas.{start-over}
-use Rattle.lg_opt.proofs.DropRunLemmas.{drops}
+use Rattle.lg_opt.proofs.DropRunLemmas.{drops, drops-look}
 use Rattle.lg_opt.proofs.KeepLemmas.{keeps, other-word}
 use Rattle.lg_opt.proofs.MoveLemmas.{held}
 use Rattle.lg_opt.proofs.OriginLemmas.{all-numbered}
@@ -498,6 +499,8 @@ module _ (l m : LabelledNodes) (shape new_shape : TextShape) (A : List ℕ) (is 
           stays = λ i. true;
           to = stay-put;
           drops = drops p (λ i. true) stay-put Good (Alike stay-put Lands) (λ s k a. ap (λ (x : State). x.at) a.is ∙ a.lands) stepped (λ i e. absurd (never e)) (start_state image args) (start_state image args) (all-good image args) start;
+          memory = drops-look p (λ i. true) stay-put Good (Alike stay-put Lands) (λ s k a. ap (λ (x : State). x.at) a.is ∙ a.lands) stepped (λ i e. absurd (never e)) (start_state image args) (start_state image args) (all-good image args) start
+              (λ s k a. ap memory_in a.is);
           leaps = leaps-stay;
         },
         all-numbered l,

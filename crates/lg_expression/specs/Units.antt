@@ -18,6 +18,7 @@ use Rattle.lg_op.specs.declared.node.Node.{Node}
 use Rattle.lg_node.specs.declared.place.Place.TheVariants as place
 use Rattle.lg_node.specs.declared.unit.Unit.{Unit}
 use Rattle.lg_node.specs.Nodes.{LabelledNodes}
+use Rattle.lg_node.specs.Unused.{numbered}
 use Rattle.lg_meaning.specs.Addresses.{IsBound}
 use Rattle.lg_expression.specs.declared.step.Step.{Step}
 use Rattle.lg_expression.specs.declared.step.Step.TheVariants.{Number, Argument, Negate, Operation}
@@ -100,13 +101,12 @@ tail format =
 abbrev pub start : LabelledNodes
 start = record { nodes = []; words = []; places = [] }
 
--- its one label is bound at the first byte of the data part
+-- its one label, which has a word of its own, is bound at the first byte of the data part
+abbrev pub start_with_format : LabelledNodes
+start_with_format = record { nodes = []; words = numbered 0 ∷ []; places = Some (place.Image 0) ∷ [] }
+
 abbrev pub unit_nodes : List Step → LabelledNodes
-unit_nodes steps = record {
-  nodes = head ++ (nodes_of 0 steps ++ tail (record { 0 = 0 }));
-  words = codes "format" ∷ [];
-  places = Some (place.Image 0) ∷ [];
-}
+unit_nodes steps = put_nodes start_with_format (head ++ (nodes_of 0 steps ++ tail (record { 0 = 0 })))
 
 -- the data part: a format, ended by a zero byte
 abbrev pub format : List ℕ

@@ -5,7 +5,7 @@ ghost use Rattle.lg_op.specs.Nodes.{InForm};
 ghost use Rattle.lg_node.specs.Nodes.{with_node};
 ghost use Rattle.lg_expression.specs.Steps.{finds};
 ghost use Rattle.lg_expression.specs.declared.step.Step.TheVariants.{Operation};
-ghost use Rattle.lg_expression.specs.Units.{AreInside, aside, format, head, node, nodes_of, put_nodes, start, step_nodes, tail, unit_nodes, waiting};
+ghost use Rattle.lg_expression.specs.Units.{AreInside, aside, format, head, node, nodes_of, put_nodes, start, start_with_format, step_nodes, tail, unit_nodes, waiting};
 
 use crate::expression::{Expression, behind};
 use crate::step::Step;
@@ -181,13 +181,23 @@ fn put_tail(nodes: &mut NodeList, format: Label) -> Result<(), OutOfMemory>
     Ok(())
 }
 
-// The nodes of a unit, and their one label, which is bound at the first byte of the data part.
+// The one label of a unit, which is bound at the first byte of the data part.
+fn put_format(nodes: &mut NodeList) -> Result<Label, OutOfMemory>
+    requires { nodes.old ≡ start }
+    ensures label { IfOk result (λ label. label.0 ≡ 0) }
+    ensures nodes { OnOk result (nodes.new ≡ start_with_format) }
+{
+    let label = nodes.fresh()?;
+    let _ = nodes.bind(label, Place::Image(0));
+    Ok(label)
+}
+
+// The nodes of a unit.
 fn put_unit(nodes: &mut NodeList, expression: &Expression) -> Result<(), OutOfMemory>
     requires { nodes.old ≡ start }
     ensures { OnOk result (nodes.new ≡ unit_nodes expression.now) }
 {
-    let label = nodes.label(b"format")?;
-    let _ = nodes.bind(label, Place::Image(0));
+    let label = put_format(nodes)?;
     put_head(nodes)?;
     put_expression(nodes, expression)?;
     put_tail(nodes, label)?;

@@ -1,1 +1,2 @@
+pub mod LocalLemmas
 mod MeaningLemmas

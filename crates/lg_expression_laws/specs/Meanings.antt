@@ -1,11 +1,14 @@
 -- The portable meaning of the nodes of steps.
 use Rattle.std.specs.Prelude.{◌≡◌, ℕ, ◌+◌, ◌-◌, ◌*◌, ◌^◌, ◌<◌, ◌≤◌, true, List, [], ◌∷◌, length, Some, slice_get}
+use Rattle.lg_base.specs.Layout.{frame_pointer}
 use Rattle.lg_base.specs.Spaces.{loaded}
+use Rattle.lg_base.specs.Words.{add_words}
 use Rattle.lg_op.specs.declared.node.Node.{Node}
+use Rattle.lg_node.specs.Locals.{offset_below}
 use Rattle.lg_node.specs.Nodes.{LabelledNodes}
 use Rattle.lg_node.specs.Shapes.{TextShape}
 use Rattle.lg_meaning.specs.Means.{mean_from, run_at}
-use Rattle.lg_meaning.specs.States.{State}
+use Rattle.lg_meaning.specs.States.{Frame, State, in_locals}
 use Rattle.lg_expression.specs.Steps.{is_whole}
 use Rattle.lg_expression.specs.Units.{nodes_of}
 use Rattle.lg_expression.specs.declared.step.Step.{Step}
@@ -56,3 +59,10 @@ NodesWorkExpressionsOut =
     → StandAt l s.at (nodes_of (length before) steps) → AreWordSteps steps → is_whole (length before) steps ≡ true → length before ≤ 32
     → Holds x before s → behind_steps x steps before ≡ Some after
     → Comes l shape addresses s (length (nodes_of (length before) steps)) x after
+
+-- each byte of a local that takes so many bytes, behind others that take some, is among the locals of a frame that has room for them: by its offset from FP, which
+-- points 16 below the stack pointer at the call
+abbrev pub LocalsLieInTheFrame : Type 0
+LocalsLieInTheFrame =
+    (f : Frame) (before bytes k : ℕ) → before + bytes ≤ f.locals → f.locals + 144 ≤ f.sp → f.sp < 2 ^ 64 → k < bytes
+    → in_locals f (add_words (frame_pointer f.sp) (offset_below (before + bytes)) + k) ≡ true

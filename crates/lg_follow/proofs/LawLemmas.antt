@@ -2,7 +2,7 @@
 use Rattle.std.proofs.Common.{ℕ, Bool}
 use Rattle.lg_base.specs.Runs.{Machine, IsMachine, EndsSilently}
 use Rattle.lg_follow.specs.Laws.{DropsJoin, DropsAndThreadsAreFollowed, ThreadingTurns, FollowedRunsAgree}
-use Rattle.lg_follow.proofs.DropLemmas.{joined, follows-joined, turns-joined}
+use Rattle.lg_follow.proofs.DropLemmas.{joined, follows-joined, looks-joined, turns-joined}
 use Rattle.lg_follow.proofs.FollowLemmas.{followed-agree}
 use Rattle.lg_follow.proofs.ThreadLemmas.{threading-turns}
 use Rattle.lg_follow.proofs.TwiceLemmas.{drops-twice}
@@ -12,12 +12,15 @@ module _ {P M N : Type 0} (old : Machine P) (middle : Machine M) (new : Machine 
   drops-joined last p m n j1 j2 stays1 stays2 to1 to2 one two f =
       drops-twice old middle new p m n at place last stays1 stays2 to1 to2 j1 j2 is one two f.leaps f.falls f.dropped
 
-  pub followed : (loud : N → Bool) → DropsAndThreadsAreFollowed old middle new at place loud
-  followed loud p m n j1 j2 stays jump leap to drops threads quiet = record {
-    j = joined old middle new p m n at place stays to j1 j2 is drops jump leap loud threads quiet;
-    follows = follows-joined old middle new p m n at place stays to j1 j2 is drops jump leap loud threads quiet;
-    turns = turns-joined old middle new p m n at place stays to j1 j2 is drops jump leap loud threads quiet;
-  }
+  pub followed : {A : Type 0} (loud : N → Bool) (look : P → A) (view : M → A) (see : N → A) → DropsAndThreadsAreFollowed old middle new at place loud look view see
+  followed loud look view see p m n j1 j2 stays jump leap to drops threads quiet calm one two = (
+    record {
+      j = joined old middle new p m n at place stays to j1 j2 is drops jump leap loud threads quiet;
+      follows = follows-joined old middle new p m n at place stays to j1 j2 is drops jump leap loud threads quiet;
+      turns = turns-joined old middle new p m n at place stays to j1 j2 is drops jump leap loud threads quiet;
+    },
+    looks-joined old middle new p m n at place stays to j1 j2 is drops jump leap loud threads quiet look view see calm one two,
+  )
 
 module _ {P N : Type 0} (old : Machine P) (new : Machine N) (at : P → ℕ) (loud : N → Bool) (is : IsMachine old) where
   pub turned : (place : N → ℕ) → ThreadingTurns old new at place loud

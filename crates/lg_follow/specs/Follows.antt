@@ -10,6 +10,10 @@ pub record Follows {P N : Type 0} (old : Machine P) (new : Machine N) (p : P) (n
   pub status : (k : ℕ) → old.status (iter old.step k p) ≢ Bad → new.status (iter new.step (j k) n) ≡ old.status (iter old.step k p)
   pub out : (k : ℕ) → old.status (iter old.step k p) ≢ Bad → new.out (iter new.step (j k) n) ≡ old.out (iter old.step k p)
 
+-- what is looked at of the new run is what is looked at of the old one, while that is not undefined
+abbrev pub LooksAlike : {P N A : Type 0} → Machine P → Machine N → P → N → (ℕ → ℕ) → (P → A) → (N → A) → Type 0
+LooksAlike old new p n j look see = (k : ℕ) → old.status (iter old.step k p) ≢ Bad → see (iter new.step (j k) n) ≡ look (iter old.step k p)
+
 -- at step k of the old run, the new run makes a step from a loud state; loud are those at a branch, jump, call or return
 abbrev pub IsLoudAt : {N : Type 0} → Machine N → N → (ℕ → ℕ) → (N → Bool) → ℕ → Type 0
 IsLoudAt new n j loud k = (j (suc k) ≡ suc (j k)) × (loud (iter new.step (j k) n) ≡ true)

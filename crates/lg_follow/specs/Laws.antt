@@ -1,8 +1,8 @@
 -- What holds of runs of rewritten nodes.
-use Rattle.std.specs.Prelude.{◌≡◌, ℕ, suc, ◌<◌, ◌&&◌, Bool, false}
+use Rattle.std.specs.Prelude.{◌≡◌, ℕ, suc, ◌<◌, ◌&&◌, Bool, true, false}
 use Rattle.lg_base.specs.Runs.{Running, Machine, iter}
 use Rattle.lg_temp.specs.Agrees.{AgreesAt}
-use Rattle.lg_follow.specs.Follows.{Turns, IsFollowed}
+use Rattle.lg_follow.specs.Follows.{Follows, LooksAlike, Turns, IsFollowed}
 use Rattle.lg_follow.specs.Drops.{Drops, Threads, Threading, JumpsQuietly}
 use Rattle.lg_follow.specs.Loud.{StandsAlike, CarriesLoud}
 
@@ -21,12 +21,22 @@ DropsJoin {P} {M} {N} old middle new at place last =
     → FallsThrough old p at (λ i. stays1 i && stays2 (to1 i))
     → Drops old new p n (λ k. j2 (j1 k)) at last (λ i. stays1 i && stays2 (to1 i)) (λ i. to2 (to1 i))
 
--- nodes dropped, and then jumps threaded: the last run follows the first, and turns with it
-abbrev pub DropsAndThreadsAreFollowed : {P M N : Type 0} → Machine P → Machine M → Machine N → (P → ℕ) → (M → ℕ) → (N → Bool) → Type 0
-DropsAndThreadsAreFollowed {P} {M} {N} old middle new at place loud =
+-- runs that look alike, one behind the other, look alike
+abbrev pub LooksJoin : {P M N A : Type 0} → Machine P → Machine M → Machine N → (P → A) → (M → A) → (N → A) → Type 0
+LooksJoin {P} {M} {N} old middle new look view see =
+    (p : P) (m : M) (n : N) (j1 j2 : ℕ → ℕ) → Follows old middle p m j1 → LooksAlike old middle p m j1 look view → LooksAlike middle new m n j2 view see
+    → LooksAlike old new p n (λ k. j2 (j1 k)) look see
+
+-- nodes dropped, and then jumps threaded: the last run follows the first, and turns with it; and it looks as the first does, where both others do and
+-- jumps change nothing that is looked at
+abbrev pub DropsAndThreadsAreFollowed : {P M N A : Type 0} → Machine P → Machine M → Machine N → (P → ℕ) → (M → ℕ) → (N → Bool)
+    → (P → A) → (M → A) → (N → A) → Type 0
+DropsAndThreadsAreFollowed {P} {M} {N} old middle new at place loud look view see =
     (p : P) (m : M) (n : N) (j1 j2 : ℕ → ℕ) (stays jump leap : ℕ → Bool) (to : ℕ → ℕ)
     → Drops old middle p m j1 at place stays to → Threads middle new m n j2 place jump leap loud → JumpsQuietly middle place jump
-    → IsFollowed old new p n at loud
+    → ((x : M) → jump (place x) ≡ true → view (middle.step x) ≡ view x)
+    → LooksAlike old middle p m j1 look view → LooksAlike middle new m n j2 view see
+    → (followed : IsFollowed old new p n at loud) × LooksAlike old new p n followed.j look see
 
 -- what threading brings step by step makes it turn
 abbrev pub ThreadingTurns : {P N : Type 0} → Machine P → Machine N → (P → ℕ) → (N → ℕ) → (N → Bool) → Type 0

@@ -2,7 +2,7 @@
 
 ghost use Rattle.std.specs.Prelude.{ℕ, Bool};
 ghost use Rattle.lg_base.specs.Runs.{Machine, IsMachine, EndsSilently};
-ghost use Rattle.lg_follow.specs.Laws.{DropsJoin, DropsAndThreadsAreFollowed, ThreadingTurns, FollowedRunsAgree};
+ghost use Rattle.lg_follow.specs.Laws.{DropsJoin, LooksJoin, DropsAndThreadsAreFollowed, ThreadingTurns, FollowedRunsAgree};
 
 /// The runs of nodes, of the nodes that they were rewritten to, and of those that these were rewritten to.
 pub trait Rewriting {
@@ -36,6 +36,18 @@ pub trait Rewriting {
     /// Whether a state of the third run stands at a branch, jump, call or return.
     ghost loud: { Self.New → Bool };
 
+    /// What is looked at of a state.
+    type Look;
+
+    /// What is looked at of the first run.
+    ghost look: { Self.Old → Self.Look };
+
+    /// What is looked at of the second run.
+    ghost view: { Self.Middle → Self.Look };
+
+    /// What is looked at of the third run.
+    ghost see: { Self.New → Self.Look };
+
     /// The first run is one of a machine.
     ghost old_is: { IsMachine old };
 }
@@ -45,9 +57,14 @@ pub fn drops_join<R: Rewriting>()
     ensures { DropsJoin R.old R.middle R.new R.at R.place R.last }
 {}
 
-/// Where nodes are dropped and then jumps are threaded, the last run follows the first, and turns with it.
+/// Runs that look alike, one behind the other, look alike.
+pub fn looks_join<R: Rewriting>()
+    ensures { LooksJoin R.old R.middle R.new R.look R.view R.see }
+{}
+
+/// Where nodes are dropped and then jumps are threaded, the last run follows the first, and turns with it, and it looks as the first does.
 pub fn drops_and_threads_are_followed<R: Rewriting>()
-    ensures { DropsAndThreadsAreFollowed R.old R.middle R.new R.at R.place R.loud }
+    ensures { DropsAndThreadsAreFollowed R.old R.middle R.new R.at R.place R.loud R.look R.view R.see }
 {}
 
 /// The runs of nodes, of the nodes that they were rewritten to, and of the code of these.

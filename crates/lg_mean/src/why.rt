@@ -144,7 +144,8 @@ impl Machine {
     fn unset(&self, node: &Node, place: usize, labels: &[u64]) -> Option<Reason>
         requires known { AreKnown (length labels.now) node.now }
         requires place { place < 4 }
-        ensures { result ≡ where_none (value labels.now (state_of self.now) (operand_at node.now place)) (Reason.Unset (register (operand_at node.now place))) }
+        ensures { let read = operand_at node.now place in
+            result ≡ where_none (value labels.now (state_of self.now) read) (Reason.Unset (register read)) }
     {
         let operand = operand(node, place);
         match self.value(labels, operand) {

@@ -9,5 +9,6 @@ pub mod NodeListLemmas
 pub mod NumberLaws
 pub mod SuccessorLaws
 pub mod TableLemmas
+pub mod UnusedLemmas
 pub mod WalkLemmas
 pub mod WellShaped

@@ -1,5 +1,6 @@
 -- What is kept of a list of nodes and of its labels as they grow.
-use Rattle.std.proofs.Common.{◌≡◌, ℕ, ◌+◌, Bool, true, false, not, ◌||◌, cond, if◌then◌else◌, List, [], ◌∷◌, ◌++◌, Option, Some, None, refl, ap, ◌∙◌, nat_lt, length, length-append, map, position}
+use Rattle.std.proofs.Common.{◌≡◌, ◌⊎◌, inl, inr, ℕ, ◌+◌, ◌<◌, ◌≤◌, Bool, true, false, not, ◌||◌, cond, if◌then◌else◌, List, [], ◌∷◌, ◌++◌, Option, Some, None, refl, ap, subst, ◌∙◌, nat_lt, length, length-append, map, position, arith}
+use Rattle.std.proofs.lemmas.Bool.{cases_lt}
 use Rattle.std.specs.List.{All, list_any, position_or_len}
 use Rattle.std.specs.Str.{bytes_eq}
 use Rattle.std.proofs.lemmas.List.Elements.{All-push}
@@ -42,3 +43,11 @@ module _ {K : Type 0} (bytes_of : K → List ℕ) (q : List ℕ) where
 
   pub mentioned-new : (ks : List K) (nodes : List Node) (places : List (Option Place)) → list_any (λ x. bytes_eq q (bytes_of x)) ks ≡ false → mentioned record { nodes = nodes; words = map bytes_of ks; places = places } q ≡ record { nodes = nodes; words = map bytes_of ks ++ q ∷ []; places = places ++ None ∷ [] }
   mentioned-new ks nodes places absent = rw (any-map ks, absent) refl
+
+-- what holds of a number and of all before it holds of all before the next
+pub up_to : (P : ℕ → Type 0) (n : ℕ) → ((k : ℕ) → k < n → P k) → P n → (k : ℕ) → k < n + 1 → P k
+up_to P n below at k h = by (cases_lt k n)
+  where
+    by : (k < n) ⊎ (n ≤ k) → P k
+    by (inl less) = below k less
+    by (inr more) = subst P (omega (arith, more, h)) at

@@ -2,6 +2,7 @@ pub mod Chains
 pub mod Checks
 pub mod Functions
 pub mod Labels
+pub mod Locals
 pub mod NodeLists
 pub mod NextLabels
 pub mod Nodes
@@ -10,4 +11,5 @@ pub mod ShapeLaws
 pub mod ShapeTables
 pub mod Shapes
 pub mod Tables
+pub mod Unused
 pub mod Walks

@@ -8,6 +8,7 @@ mod function;
 mod label_addresses;
 mod labels;
 pub mod laws;
+mod locals;
 mod node_list;
 mod place;
 mod preparation;
@@ -17,6 +18,7 @@ mod shape;
 mod tables;
 mod taken;
 mod unit;
+mod unused;
 mod walk;
 
 pub use checks::{check, reshape};
@@ -26,6 +28,7 @@ pub use lg_op::{
     Addressing, BinaryOp, BranchSumOp, Condition, ControlOp, Form, Label, LastOperand, Node, Op,
     Operand, Operands, PlainOp, Reg, StoreType, UnaryOp, ValueType, WideOp,
 };
+pub use locals::{Local, Locals};
 pub use node_list::NodeList;
 pub use place::Place;
 pub use shape::Shape;

@@ -6,9 +6,11 @@ ghost use Rattle.lg_node.specs.Labels.{is_at, place_of};
 ghost use Rattle.lg_node.specs.NextLabels.{NextAt, NoneAt};
 ghost use Rattle.lg_op.specs.Nodes.{InForm};
 ghost use Rattle.lg_node.specs.Nodes.{IsWithin, MayStand, with_node, mentioned, number_of, with_place, is_word};
+ghost use Rattle.lg_node.specs.Unused.{IsUnused, is_mentioned, numbered, with_label};
 
 use crate::bindings::Bindings;
 use crate::place::Place;
+use crate::unused::numbered;
 use indexmap::IndexSet;
 use lg_base::refusal::OutOfMemory;
 use lg_op::{Label, Node};
@@ -124,6 +126,41 @@ impl NodeList {
                 self.bindings.drop_label();
                 return Err(OutOfMemory);
             }
+        }
+    }
+
+    // Whether a label has this word.
+    fn has_word(&self, word: &[u8]) -> bool
+        ensures { result ≡ is_mentioned self.now.words word.now }
+    {
+        self.words.contains(word)
+    }
+
+    // The first number, from the count of labels on, whose word no label has.
+    fn unused(&self) -> Option<u32>
+        ensures { IfSome result (λ number. IsUnused self.now.words number) }
+    {
+        for number in self.labels()..u32::MAX {
+            if !self.has_word(&numbered(number)) {
+                return Some(number);
+            }
+        }
+        None
+    }
+
+    /// A label with a word of its own: `_` and ten digits, those of the first number, from the count of labels on, whose word no label has. It is a
+    /// new label, which is not bound; `label` gives it to those alone who ask for exactly this word. A text can write such a word as well, so the list
+    /// of a text's nodes may have some of them, which are passed over. There are fewer than 2^32 - 1 labels. At Err nothing changes; it comes also
+    /// where no number below 2^32 - 1 is left, which more than 2^31 labels would have to use up.
+    pub fn fresh(&mut self) -> Result<Label, OutOfMemory>
+        requires room { length self.old.words < 2 ^ 32 - 1 }
+        ensures number { IfOk result (λ l. l.0 ≡ length self.old.words) }
+        ensures ok { OnOk result ((n : ℕ) × IsUnused self.old.words n × (self.new ≡ with_label self.old (numbered n))) }
+        ensures err { OnErr result (self.new ≡ self.old) }
+    {
+        match self.unused() {
+            Some(number) => self.label(&numbered(number)),
+            None => Err(OutOfMemory),
         }
     }
 

@@ -32,6 +32,7 @@ use Rattle.lg_meaning.proofs.MeanLemmas.{always, formed_at, start_fits_well}
 use Rattle.lg_meaning.proofs.Outcomes.{on_result}
 use Rattle.lg_carry.specs.Carries.{leaps, leaps_at}
 use Rattle.lg_carry.proofs.FallLemmas.{nodes-fall}
+use Rattle.lg_rewritten.specs.Rewritten.{memory_in}
 use Rattle.lg_opt.specs.Moves.{Move, move_of, move_at, no_sources, is_idle, behind_node, behind_at, sources_before, stays}
 use Rattle.lg_opt.specs.Paired.{Pair, Dropped, RestsAt, AreStepped}
 use Rattle.lg_opt.specs.Remaining.{new_number, rewritten, no_targets, origins, may_go, IsRewriting}
@@ -46,7 +47,7 @@ use Rattle.lg_opt.proofs.TidyLemmas.{move-is}
 use Rattle.lg_opt.proofs.HoldLemmas.{sources-on}
 use Rattle.lg_opt.proofs.OriginLemmas.{numbered}
 use Rattle.lg_opt.proofs.StepLemmas.{steps-meet}
-use Rattle.lg_opt.proofs.DropRunLemmas.{drops}
+use Rattle.lg_opt.proofs.DropRunLemmas.{drops, drops-look}
 
 -- a register that is written is not FP
 pub not-fp : (n : Node) (k : Move) → InForm n → move_of n.op n.operands ≡ Some k → k.into ≢ Fp
@@ -249,6 +250,8 @@ module _ (l : LabelledNodes) where
               stays = stays l;
               to = nu;
               drops = drops p (stays l) nu Good (Dropped nu) (λ s k a. ap (λ (x : State). x.at) a.is ∙ a.lands) stepped drops-calm (start_state image args) (start_state image args) (all-good image args) start;
+              memory = drops-look p (stays l) nu Good (Dropped nu) (λ s k a. ap (λ (x : State). x.at) a.is ∙ a.lands) stepped drops-calm (start_state image args) (start_state image args) (all-good image args) start
+                  (λ s k a. ap memory_in a.is);
               leaps = leaps-stay;
             },
             numbered l (stays l) no_targets,

@@ -9,9 +9,10 @@ use Rattle.lg_meaning.specs.States.{State}
 use Rattle.lg_meaning.specs.Steps.{Outcome, Goes, Ends, Undefined}
 use Rattle.lg_meaning.specs.Means.{Run, run_at, behind, run_step, machine, mean_from}
 use Rattle.lg_follow.specs.Drops.{Drops}
-use Rattle.lg_rewritten.specs.Rewritten.{at}
+use Rattle.lg_follow.specs.Follows.{LooksAlike}
+use Rattle.lg_rewritten.specs.Rewritten.{at, memory_in, memory_of}
 use Rattle.lg_opt.specs.Paired.{Pair, old_step, moves_made, AreStepped}
-use Rattle.lg_opt.proofs.RunLemmas.{goes, stays, stays-bad, moved-on, rested, runs-alike, runs-follow}
+use Rattle.lg_opt.proofs.RunLemmas.{going-fine, goes, stays, stays-bad, moved-on, rested, runs-alike, runs-follow, runs-look}
 
 module _ (p : Pair) (keeps : ℕ → Bool) (number : ℕ → ℕ) (Good : State → Type 0) (R : State → State → Type 0) (places : (s m : State) → R s m → m.at ≡ number s.at) (step-ok : AreStepped p Good R (λ s m. keeps s.at)) (calm : (i : ℕ) → keeps i ≡ false → leaps_at (slice_get p.old.nodes i) ≡ false)
     (s0 m0 : State) (good : (k : ℕ) → Good (mean_from p.old p.old_shape p.addresses s0 k).state) (alike : R s0 m0) where
@@ -20,9 +21,6 @@ module _ (p : Pair) (keeps : ℕ → Bool) (number : ℕ → ℕ) (Good : State 
 
   abbrev j1 : ℕ → ℕ
   j1 k = moves_made p (λ s m. keeps s.at) s0 m0 k
-
-  bad : Bad ≡ Running → ⊥
-  bad e = cc
 
   before : (k : ℕ) → (o-at (suc k)).status ≡ Running → (o-at k).status ≡ Running
   before k run = by (o-at k).status refl
@@ -54,6 +52,11 @@ module _ (p : Pair) (keeps : ℕ → Bool) (number : ℕ → ℕ) (Good : State 
     follows = runs-follow p Good R (λ s m. keeps s.at) step-ok s0 m0 good alike;
     steps = λ k run e. moved-on p Good R (λ s m. keeps s.at) step-ok s0 m0 good alike k e;
     rests = λ k run e. rested p Good R (λ s m. keeps s.at) step-ok s0 m0 good alike k e;
-    here = λ k run. let a = (runs-alike p Good R (λ s m. keeps s.at) step-ok s0 m0 good alike k (λ b. bad (sym b ∙ run))).states run in places _ _ a;
+    here = λ k run. let a = (runs-alike p Good R (λ s m. keeps s.at) step-ok s0 m0 good alike k (going-fine run)).states (going-fine run) in places _ _ a;
     falls = falls;
   }
+
+  -- and they have one memory, where states that stand for each other have
+  pub drops-look : ((s m : State) → R s m → memory_in m ≡ memory_in s)
+      → LooksAlike (machine p.old p.old_shape p.addresses) (machine p.new p.new_shape p.addresses) (run_at s0 []) (run_at m0 []) (moves_made p (λ s m. keeps s.at) s0 m0) memory_of memory_of
+  drops-look same = runs-look p Good R (λ s m. keeps s.at) step-ok s0 m0 good alike memory_in same

@@ -19,17 +19,18 @@ use Rattle.lg_node.specs.Shapes.{TextShape}
 use Rattle.lg_meaning.specs.Texts.{text, step_at, step}
 use Rattle.lg_meaning.specs.Means.{Run, run_at, behind, run_step, machine, mean_from}
 use Rattle.lg_meaning.proofs.MeanLemmas.{means_are_machines}
-use Rattle.lg_follow.specs.Follows.{IsLoudAt}
+use Rattle.lg_follow.specs.Follows.{LooksAlike, IsLoudAt}
 use Rattle.lg_follow.specs.Drops.{Threading, Threads}
 use Rattle.lg_follow.proofs.ThreadLemmas.{threading-turns}
 use Rattle.lg_follow.proofs.TimeLemmas.{went-on}
+use Rattle.lg_rewritten.specs.Rewritten.{memory_in, memory_of}
 use Rattle.lg_temp.proofs.Steps.{iter-suc}
 use Rattle.lg_opt.specs.Renumbered.{over, Alike, Meets}
 use Rattle.lg_opt.specs.Paired.{Pair, old_step, new_step, moves_made, RestsAt, AreStepped}
 use Rattle.lg_opt.specs.Hops.{is_jump, is_jump_at, jump_at, hop_of, hop}
 use Rattle.lg_opt.specs.Threads.{Threaded, Lands, IsThreadedBy, moves}
 use Rattle.lg_opt.proofs.StepLemmas.{steps-meet}
-use Rattle.lg_opt.proofs.RunLemmas.{RunsAlike, goes, moved-on, rested, runs-alike, runs-follow}
+use Rattle.lg_opt.proofs.RunLemmas.{RunsAlike, goes, moved-on, rested, runs-alike, runs-follow, runs-look}
 
 no : true ≡ false → ⊥
 no e = cc
@@ -175,7 +176,7 @@ module _ (p : Pair) (h : Threaded) (th : IsThreadedBy p h) where
     stands k run = runs-alike p Inside R (moves p.old h) stepped s0 m0 good alike k (not-bad (o-at k).status run)
 
     states : (k : ℕ) → (o-at k).status ≡ Running → R (o-at k).state (n-at (j k)).state
-    states k run = (stands k run).states run
+    states k run = (stands k run).states (not-bad (o-at k).status run)
 
     going : (k : ℕ) → (o-at k).status ≡ Running → (n-at (j k)).status ≡ Running
     going k run = (stands k run).status ∙ run
@@ -317,3 +318,7 @@ module _ (p : Pair) (h : Threaded) (th : IsThreadedBy p h) where
       steps = threading.steps;
       kinds = threading.kinds;
     }
+
+    -- and it has the memory of the old one
+    pub threads-look : LooksAlike (machine p.old p.old_shape p.addresses) (machine p.new p.new_shape p.addresses) (run_at s0 []) (run_at m0 []) (moves_made p (moves p.old h) s0 m0) memory_of memory_of
+    threads-look = runs-look p Inside R (moves p.old h) stepped s0 m0 good alike memory_in (λ s m a. ap memory_in a.is)

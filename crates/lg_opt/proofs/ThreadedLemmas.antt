@@ -31,7 +31,7 @@ use Rattle.lg_opt.proofs.RenumberLemmas.{renumbers}
 use Rattle.lg_opt.proofs.GoalLemmas.{lead-on, ends-on, lead-there, turns-on, dropped-number, one-less}
 use Rattle.lg_opt.proofs.TargetLemmas.{jump-there, jump-targets, jumps-within, lead-rests, goal-is, others-stay, threads-rewrite, same-node, target-moved}
 use Rattle.lg_opt.proofs.DropLemmas.{start-over}
-use Rattle.lg_opt.proofs.ThreadRunLemmas.{threads}
+use Rattle.lg_opt.proofs.ThreadRunLemmas.{threads, threads-look}
 
 no : true ≡ false → ⊥
 no e = cc
@@ -143,5 +143,7 @@ module _ (l : LabelledNodes) (shape : TextShape) (is : IsShapeOf l shape) (forme
       record {
         j = _;
         threads = threads p h by-threads (start_state image args) (start_state image args)
+            (λ k. (mean_fits l shape A is (well_shaped l is.accepted) (has_functions l is.accepted) formed image args k).fits.inside) start;
+        memory = threads-look p h by-threads (start_state image args) (start_state image args)
             (λ k. (mean_fits l shape A is (well_shaped l is.accepted) (has_functions l is.accepted) formed image args k).fits.inside) start;
       }

@@ -6,7 +6,7 @@ use Rattle.lg_meaning.specs.Means.{run_at, machine}
 use Rattle.lg_meaning.specs.Starts.{start_state}
 use Rattle.lg_carry.specs.Carries.{leaps_at}
 use Rattle.lg_follow.specs.Drops.{Drops, Threads}
-use Rattle.lg_rewritten.specs.Rewritten.{at, is_loud, MeaningIsFollowed}
+use Rattle.lg_rewritten.specs.Rewritten.{at, is_loud, RemembersAlike, MeaningIsFollowed}
 use Rattle.lg_opt.specs.Hops.{jump_at}
 
 -- the run of the new nodes steps where the old one stands at a node that stays; each branch, jump, call or return stays, as one of them
@@ -16,6 +16,7 @@ pub record AreDropped (l : LabelledNodes) (shape : TextShape) (m : LabelledNodes
   pub to : ℕ → ℕ
   pub drops : Drops (machine l shape addresses) (machine m new_shape addresses) (run_at (start_state image args) []) (run_at (start_state image args) [])
       j at at stays to
+  pub memory : RemembersAlike l shape m new_shape addresses image args j
   pub leaps : (i : ℕ) → leaps_at (slice_get l.nodes i) ≡ true → (stays i ≡ true) × (leaps_at (slice_get m.nodes (to i)) ≡ true)
 
 -- the run of the new nodes follows that of the old ones and turns with it, and steps at each node that is no jump
@@ -23,6 +24,7 @@ pub record AreThreaded (l : LabelledNodes) (shape : TextShape) (m : LabelledNode
   pub j : ℕ → ℕ
   pub threads : Threads (machine l shape addresses) (machine m new_shape addresses) (run_at (start_state image args) []) (run_at (start_state image args) [])
       j at (jump_at l) (λ i. leaps_at (slice_get l.nodes i)) (is_loud m)
+  pub memory : RemembersAlike l shape m new_shape addresses image args j
 
 -- nodes dropped twice are dropped
 abbrev pub DroppedTwiceAreDropped : Type 0

@@ -14,7 +14,7 @@ use Rattle.lg_run.specs.Changes.{TextsChange, TellsReads, TellsWrites}
 use Rattle.lg_run.specs.Refused.{ArgumentsFit, IsRefusedCall}
 use Rattle.lg_run.specs.Runs.{HasRun, HasMeant}
 use Rattle.lg_run.specs.Calls.{Says}
-use Rattle.lg_run.specs.Says.{AskedSays, IsCodeOf, IsStill, IsUntouched, ModeSays, NoCommandSays, Ran, ReadsFile, ReportSays, RunsCode, WroteBack, code_meaning, code_run, lines_of, listing_of}
+use Rattle.lg_run.specs.Says.{AskedSays, IsCodeOf, IsStill, IsUntouched, ModeSays, NoCommandSays, Ran, ReadsFile, ReportSays, RunsCode, RunsMeaning, WroteBack, code_meaning, code_run, lines_of, listing_of}
 use Rattle.lg_run.specs.declared.answer.Answer.{Answer}
 use Rattle.lg_run.specs.declared.answer.Answer.TheVariants.{Ended, Listed, Undefined, Refused, Usage, ReadFault, WriteFault, StepsOut, Fault, OutOfMemory}
 use Rattle.lg_run.specs.declared.answer.Done.{Done}
@@ -116,6 +116,7 @@ module _ (words : List (List ℕ)) (texts : TextsChange) (out : SinkChange) (cod
   steps_cause c mode.Back ran made says = absurd says
   steps_cause c mode.Profile ran made says =
       let going = subst (HasRun (code_run c ran made.unit)) says.0 says.1 in (going, lasts c texts.held ran made c.steps going)
+  steps_cause c mode.Explain ran made says = subst (HasMeant (code_meaning c ran made.unit)) says.0 says.1
 
   fault_cause : (c : Command) (m : Mode) (ran : Assembled) (made : IsCodeOf c texts.held ran) (kind : FaultKind) (pc : ℕ) → c.mode ≡ m → ModeSays m c ran made.unit steps out (Fault kind pc) → FaultCause steps c ran made.unit
   fault_cause c mode.Run ran made kind pc is says = (subst RunsCode (sym is) tt, undefined_at c texts.held ran made steps kind says.2)
@@ -124,14 +125,16 @@ module _ (words : List (List ℕ)) (texts : TextsChange) (out : SinkChange) (cod
   fault_cause c mode.Mean ran made kind pc is says = absurd says
   fault_cause c mode.Back ran made kind pc is says = absurd says
   fault_cause c mode.Profile ran made kind pc is says = (subst RunsCode (sym is) tt, undefined_at c texts.held ran made steps kind says.2)
+  fault_cause c mode.Explain ran made kind pc is says = absurd says
 
   undefined_cause : (c : Command) (m : Mode) (ran : Assembled) (made : IsCodeOf c texts.held ran) (line : ℕ) → c.mode ≡ m → ModeSays m c ran made.unit steps out (Undefined line) → UndefinedCause steps line c ran made.unit
   undefined_cause c mode.Run ran made line is says = absurd says
   undefined_cause c mode.List ran made line is says = absurd says
   undefined_cause c mode.Gen ran made line is says = absurd says
-  undefined_cause c mode.Mean ran made line is says = (is, says.0, says.1, says.2, says.3)
+  undefined_cause c mode.Mean ran made line is says = (subst RunsMeaning (sym is) tt, says.0, says.1, says.2, says.3)
   undefined_cause c mode.Back ran made line is says = absurd says
   undefined_cause c mode.Profile ran made line is says = absurd says
+  undefined_cause c mode.Explain ran made line is says = (subst RunsMeaning (sym is) tt, says.0, says.1, says.2, says.3)
 
   abbrev Lists : Type 0
   Lists = HasCode words texts.held code (λ c ran unit. (c.mode ≡ mode.List) × Took out (listing_of ran))
@@ -143,6 +146,7 @@ module _ (words : List (List ℕ)) (texts : TextsChange) (out : SinkChange) (cod
   listed_cause c mode.Mean ran made is says = absurd says
   listed_cause c mode.Back ran made is says = absurd says
   listed_cause c mode.Profile ran made is says = absurd says
+  listed_cause c mode.Explain ran made is says = absurd says
 
   listed_by : (c : Command) → IsCommand words c → Ran c texts.held code steps out Listed ⊎ WroteBack c texts.held code steps out Listed → Lists ⊎ HasBack words texts.held code steps out
   listed_by c asked (inl r) = inl (record { command = c; asked = asked; ran = r.ran; is = r.is; made = r.made; here = listed_cause c c.mode r.ran r.made refl r.says })
@@ -215,4 +219,4 @@ causes words texts out err done s = record {
 }
   where
     here : (a : Answer) → done.answer ≡ a → (WriteFault ≡ a → ⊥) → AskedSays words s.asked texts out done.code done.steps a
-    here a is other = subst (AskedSays words s.asked texts out done.code done.steps) (inner_is (s.table ++ lines_of s.asked done.code done.steps s.inner) err s.inner done.answer a s.report is other) s.says
+    here a is other = subst (AskedSays words s.asked texts out done.code done.steps) (inner_is (s.table ++ (lines_of s.asked done.code done.steps s.inner ++ s.explained)) err s.inner done.answer a s.report is other) s.says

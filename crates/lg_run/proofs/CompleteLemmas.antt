@@ -44,13 +44,8 @@ memory_of_run c code unit = record {
   sound = λ sound kind pc e. cc (e);
 }
 
-memory_in : (m : Mode) (c : Command) (held : Option NamedTexts) (text : List ℕ) (code : Assembled) (unit : TextUnit) → IsTextIn m c held text → IsCompleteIn m c code unit OutOfMemory
-memory_in mode.Run c held text code unit given = memory_of_run c code unit
-memory_in mode.List c held text code unit given = inr refl
-memory_in mode.Gen c held text code unit given = memory_of_run c code unit
-memory_in mode.Back c held text code unit given = absurd given
-memory_in mode.Profile c held text code unit given = memory_of_run c code unit
-memory_in mode.Mean c held text code unit given = record {
+memory_of_mean : (c : Command) (code : Assembled) (unit : TextUnit) → IsCompleteMean c code unit OutOfMemory
+memory_of_mean c code unit = record {
   stands = memory_meaning (code_meaning c code unit c.steps).status;
   ends = λ m status time is. inr refl;
   only = λ status e. absurd (no e);
@@ -58,6 +53,15 @@ memory_in mode.Mean c held text code unit given = record {
   where
     no : {s : ℕ} → OutOfMemory ≡ Ended s → ⊥
     no e = cc
+
+memory_in : (m : Mode) (c : Command) (held : Option NamedTexts) (text : List ℕ) (code : Assembled) (unit : TextUnit) → IsTextIn m c held text → IsCompleteIn m c code unit OutOfMemory
+memory_in mode.Run c held text code unit given = memory_of_run c code unit
+memory_in mode.List c held text code unit given = inr refl
+memory_in mode.Gen c held text code unit given = memory_of_run c code unit
+memory_in mode.Back c held text code unit given = absurd given
+memory_in mode.Profile c held text code unit given = memory_of_run c code unit
+memory_in mode.Mean c held text code unit given = memory_of_mean c code unit
+memory_in mode.Explain c held text code unit given = memory_of_mean c code unit
 
 -- ---- runs
 ended_goes : {s : ℕ} → EndedWith s ≡ Goes → ⊥
@@ -172,6 +176,7 @@ module _ (c : Command) (held : Option NamedTexts) (code : Assembled) (made : IsC
   complete_in mode.Mean steps out a says other = complete_mean steps out a says other
   complete_in mode.Back steps out a says other = absurd says
   complete_in mode.Profile steps out a says other = complete_run steps out a says other
+  complete_in mode.Explain steps out a says other = complete_mean steps out a says other
 
 -- ---- the command's answer
 module _ (c : Command) (told : NamedTexts) (out : SinkChange) (code : Option Assembled) (steps : ℕ) where

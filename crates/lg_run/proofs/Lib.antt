@@ -1,6 +1,7 @@
 pub mod AgreementLemmas
 pub mod CauseLemmas
 pub mod CompleteLemmas
+pub mod ExplainLemmas
 pub mod MeanLemmas
 pub mod OverLemmas
 pub mod ReadLemmas
@@ -8,6 +9,7 @@ pub mod ProfileLemmas
 pub mod RefusedLemmas
 pub mod RunLemmas
 pub mod SameLemmas
+pub mod StuckLemmas
 pub mod WorkLemmas
 pub mod ListLemmas
 pub mod BackLemmas

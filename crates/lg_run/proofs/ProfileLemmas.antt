@@ -36,15 +36,13 @@ use Rattle.lg_prof.specs.Spent.{code_line, has_run, is_fault, is_going, spent, t
 use Rattle.lg_prof.proofs.SpentLemmas.{line_of_node, spent_same}
 use Rattle.lg_prof.proofs.SumLemmas.{all_are_made}
 use Rattle.lg_prof.proofs.TableLemmas.{line_is}
-use Rattle.lg_run.specs.ProfileStarts.{AreTallied, IsStartOf, TalliesFor, WorkTells}
+use Rattle.lg_run.specs.ProfileStarts.{AreTallied, IsStartOf, TalliesFor}
 use Rattle.lg_run.specs.Profiles.{IsProfileOf, ProfilesAddUp, TableFor, TableIn, is_profile, is_run_end, meant_at, spent_at, table_of, tells_table}
 use Rattle.lg_run.specs.Runs.{HasRun, RunSays}
 use Rattle.lg_run.specs.Says.{IsCodeOf, code_meaning, code_run, trash_word}
 use Rattle.lg_run.specs.declared.answer.Answer.{Answer}
 use Rattle.lg_run.specs.declared.answer.Answer.TheVariants.{Ended, Listed, Undefined, Refused, Usage, ReadFault, WriteFault, StepsOut, Fault, OutOfMemory}
-use Rattle.lg_run.specs.declared.answer.Done.{Done}
 use Rattle.lg_run.specs.declared.profile.Start.{Start}
-use Rattle.lg_run.specs.declared.profile.Worked.{Worked}
 use Rattle.lg_run.specs.Work.{StartSays}
 use Rattle.lg_run.proofs.OverLemmas as over
 use Rattle.lg_run.proofs.RunLemmas.{goes}
@@ -88,10 +86,9 @@ not_told m a is = ap (λ b. is_profile m && b) is ∙ at (is_profile m)
     at false = refl
 
 -- nothing is told with other answers
-pub stopped_tells : (c : Command) (held : Option NamedTexts) (w : Worked) (d : Done) (a : Answer) → w.done ≡ d → w.tally ≡ None → d.answer ≡ a → is_run_end a ≡ false → WorkTells c held w
-stopped_tells c held w d a done none is other =
-    let end : is_run_end w.done.answer ≡ false = ap (λ x. is_run_end x.answer) done ∙ ap is_run_end is ∙ other in
-    subst (λ b. TableIn b c held w.done.code w.done.steps (table_of w.tally)) (sym (not_told c.mode w.done.answer end)) (ap table_of none)
+pub no_table : (c : Command) (held : Option NamedTexts) (code : Option Assembled) (steps : ℕ) (a : Answer) (tally : Option (List Counts)) → is_run_end a ≡ false → tally ≡ None
+    → TableIn (tells_table c.mode a) c held code steps (table_of tally)
+no_table c held code steps a tally other none = subst (λ b. TableIn b c held code steps (table_of tally)) (sym (not_told c.mode a other)) (ap table_of none)
 
 -- what ran says of the call
 pub profile_started : (c : Command) (code : Assembled) (unit : TextUnit) (out : SinkChange) (steps : ℕ) (a : Answer) → RunSays (code_run c code unit) c.steps steps out a

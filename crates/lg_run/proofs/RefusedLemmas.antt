@@ -110,6 +110,7 @@ in_once mode.Mean c told r q a b = under_once c told r q a b
 in_once mode.Gen c told r q a b = text_once c (made c.seed) r q a b
 in_once mode.Back c told r q a b = back_once c told r q a b
 in_once mode.Profile c told r q a b = under_once c told r q a b
+in_once mode.Explain c told r q a b = under_once c told r q a b
 
 pub call_once : (c : Command) (told : NamedTexts) (r q : Refusal) → IsRefusedCall c (Some told) r → IsRefusedCall c (Some told) q → r ≡ q
 call_once c told r q (inl a) (inl b) = a.0 ∙ sym b.0
@@ -128,6 +129,7 @@ module _ (c : Command) (told : NamedTexts) (text : List ℕ) (unit : TextUnit) (
   in_for_room mode.Gen given a = text_for_room c text unit r is accepted (subst (λ t. IsRefusedText c t r) (sym given) a)
   in_for_room mode.Back given a = absurd given
   in_for_room mode.Profile given a = under_for_room given a
+  in_for_room mode.Explain given a = under_for_room given a
 
   -- a call on a text whose unit is accepted
   pub call_for_room : ArgumentsFit c → IsTextIn c.mode c (Some told) text → IsRefusedCall c (Some told) r → (r ≡ code_full) × MayBeFull (length unit.nodes.nodes) c.size
@@ -159,6 +161,7 @@ text_same mode.Mean c told text other a b = same_under c told text other a b
 text_same mode.Gen c told text other a b = a ∙ sym b
 text_same mode.Back c told text other a b = absurd a
 text_same mode.Profile c told text other a b = same_under c told text other a b
+text_same mode.Explain c told text other a b = same_under c told text other a b
 
 -- ---- what is known of parts, and of the command
 module _ (c : Command) (held : Option NamedTexts) (r : Refusal) where
@@ -170,6 +173,7 @@ module _ (c : Command) (held : Option NamedTexts) (r : Refusal) where
   read_refused mode.Gen read file under refused = absurd file
   read_refused mode.Back read file under refused = absurd file
   read_refused mode.Profile read file under refused = (read, under, refused)
+  read_refused mode.Explain read file under refused = (read, under, refused)
 
   under_refused : (text : List ℕ) → IsExpandedUnder held c.file text → IsRefusedText c text r → IsRefusedUnder c held r
   under_refused text given refused = (given.0, given.1, inr (given.2.0, subst (λ e. IsRefusedExpansion c e r) (sym given.2.1) refused))
@@ -181,6 +185,7 @@ module _ (c : Command) (held : Option NamedTexts) (r : Refusal) where
   text_refused mode.Gen text given refused = subst (λ t. IsRefusedText c t r) given refused
   text_refused mode.Back text given refused = absurd given
   text_refused mode.Profile text given refused = under_refused text given refused
+  text_refused mode.Explain text given refused = under_refused text given refused
 
 pub text_in : (m : Mode) (c : Command) (held : Option NamedTexts) (read text : List ℕ) → ExpandsFile m → IsTextUnder held c.file read → Expands read text → IsTextIn m c held text
 text_in mode.Run c held read text file under expands = (read, under, expands)
@@ -189,6 +194,7 @@ text_in mode.Mean c held read text file under expands = (read, under, expands)
 text_in mode.Gen c held read text file under expands = absurd file
 text_in mode.Back c held read text file under expands = absurd file
 text_in mode.Profile c held read text file under expands = (read, under, expands)
+text_in mode.Explain c held read text file under expands = (read, under, expands)
 
 -- the file is read where it is expanded, and code is made of it
 pub file_reads : (m : Mode) → ExpandsFile m → ReadsFile m
@@ -198,6 +204,7 @@ file_reads mode.Mean file = file
 file_reads mode.Gen file = absurd file
 file_reads mode.Back file = absurd file
 file_reads mode.Profile file = file
+file_reads mode.Explain file = file
 
 pub file_wanted : (m : Mode) → ExpandsFile m → WantsCode m
 file_wanted mode.Run file = file
@@ -206,3 +213,4 @@ file_wanted mode.Mean file = file
 file_wanted mode.Gen file = absurd file
 file_wanted mode.Back file = absurd file
 file_wanted mode.Profile file = file
+file_wanted mode.Explain file = file

@@ -64,6 +64,19 @@ module _ (c : Command) (code : Assembled) (unit : TextUnit) (out : SinkChange) (
   made_started (Fault kind pc) h = h
   made_started OutOfMemory h = h
 
+  -- the meaning that is explained runs as any
+  pub explain_started : (a : Answer) → StartSays mode.Mean c code unit out steps a → StartSays mode.Explain c code unit out steps a
+  explain_started (Ended status) h = h
+  explain_started Listed h = h
+  explain_started (Undefined line) h = h
+  explain_started (Refused refusal) h = h
+  explain_started Usage h = h
+  explain_started ReadFault h = h
+  explain_started WriteFault h = h
+  explain_started StepsOut h = h
+  explain_started (Fault kind pc) h = h
+  explain_started OutOfMemory h = h
+
   no_refusal : (m : Mode) (r : Refusal) → ModeSays m c code unit steps out (Refused r) → ⊥
   no_refusal mode.Run r h = h
   no_refusal mode.List r h = h
@@ -71,6 +84,7 @@ module _ (c : Command) (code : Assembled) (unit : TextUnit) (out : SinkChange) (
   no_refusal mode.Mean r h = h
   no_refusal mode.Back r h = h
   no_refusal mode.Profile r h = h
+  no_refusal mode.Explain r h = h
 
   no_usage : (m : Mode) → ModeSays m c code unit steps out Usage → ⊥
   no_usage mode.Run h = h
@@ -79,6 +93,7 @@ module _ (c : Command) (code : Assembled) (unit : TextUnit) (out : SinkChange) (
   no_usage mode.Mean h = h
   no_usage mode.Back h = h
   no_usage mode.Profile h = h
+  no_usage mode.Explain h = h
 
   no_read : (m : Mode) → ModeSays m c code unit steps out ReadFault → ⊥
   no_read mode.Run h = h
@@ -87,6 +102,7 @@ module _ (c : Command) (code : Assembled) (unit : TextUnit) (out : SinkChange) (
   no_read mode.Mean h = h
   no_read mode.Back h = h
   no_read mode.Profile h = h
+  no_read mode.Explain h = h
 
   -- a run tells no fault of texts
   pub run_reads : (m : Mode) (a : Answer) → StartSays m c code unit out steps a → TellsNoRead a

@@ -16,7 +16,7 @@ use Rattle.lg_io.specs.SinkChanges.{SinkChange, Took}
 use Rattle.lg_run.specs.Changes.{TextsChange}
 use Rattle.lg_run.specs.Refused.{ArgumentsFit, IsRefusedCall}
 use Rattle.lg_run.specs.Runs.{HasMeant, HasRun}
-use Rattle.lg_run.specs.Says.{IsCodeOf, IsStill, IsUntouched, ReadsFile, RunsCode, WroteBack, code_meaning, code_run, listing_of}
+use Rattle.lg_run.specs.Says.{IsCodeOf, IsStill, IsUntouched, ReadsFile, RunsCode, RunsMeaning, WroteBack, code_meaning, code_run, listing_of}
 use Rattle.lg_run.specs.declared.answer.Answer.TheVariants.{Listed, Undefined, Refused, Usage, ReadFault, WriteFault, StepsOut, Fault, OutOfMemory}
 use Rattle.lg_run.specs.declared.answer.Done.{Done}
 
@@ -52,6 +52,7 @@ StepsOutCause mode.Gen c code unit = HasRun (code_run c code unit) c.steps × La
 StepsOutCause mode.Mean c code unit = HasMeant (code_meaning c code unit) c.steps
 StepsOutCause mode.Back c code unit = ⊥
 StepsOutCause mode.Profile c code unit = HasRun (code_run c code unit) c.steps × Lasts (length unit.nodes.nodes) c.steps (code_meaning c code unit)
+StepsOutCause mode.Explain c code unit = HasMeant (code_meaning c code unit) c.steps
 
 -- the run of code faulted behind so many steps
 abbrev pub FaultCause : (steps : ℕ) → Command → Assembled → TextUnit → Type 0
@@ -60,7 +61,7 @@ FaultCause steps c code unit = RunsCode c.mode × IsUndefinedWithin ((steps + 2)
 -- the step of the meaning behind so many is the first that is undefined, at this line
 abbrev pub UndefinedCause : (steps line : ℕ) → Command → Assembled → TextUnit → Type 0
 UndefinedCause steps line c code unit =
-    (c.mode ≡ mode.Mean) × (steps < c.steps) × HasMeant (code_meaning c code unit) steps × ((code_meaning c code unit (steps + 1)).status ≡ Bad)
+    RunsMeaning c.mode × (steps < c.steps) × HasMeant (code_meaning c code unit) steps × ((code_meaning c code unit (steps + 1)).status ≡ Bad)
     × (line ≡ line_at unit.nodes (code_meaning c code unit steps).state)
 
 pub record Causes (words : List (List ℕ)) (texts : TextsChange) (out err : SinkChange) (done : Done) : Type 0 where

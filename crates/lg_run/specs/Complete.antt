@@ -63,6 +63,7 @@ IsCompleteIn mode.Gen c code unit a = IsCompleteRun c code unit a
 IsCompleteIn mode.Mean c code unit a = IsCompleteMean c code unit a
 IsCompleteIn mode.Back c code unit a = ⊥
 IsCompleteIn mode.Profile c code unit a = IsCompleteRun c code unit a
+IsCompleteIn mode.Explain c code unit a = IsCompleteMean c code unit a
 
 -- the command's text has this unit, which is accepted and whose code has room
 pub record IsFit (c : Command) (told : NamedTexts) (unit : TextUnit) : Type 0 where

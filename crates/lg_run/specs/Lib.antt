@@ -2,6 +2,8 @@ pub mod Calls
 pub mod Causes
 pub mod Changes
 pub mod Complete
+pub mod Explained
+pub mod Explanations
 pub mod Lines
 pub mod Means
 pub mod ProfileStarts

@@ -17,6 +17,7 @@ use Rattle.lg_prof.specs.Tallies.{AreBelow, ran_at, spent_at}
 use Rattle.lg_prof.specs.declared.tally.Counts.{Counts}
 use Rattle.lg_prof.specs.Counts.{count}
 use Rattle.lg_prof.specs.Spent.{spent, table_line}
+use Rattle.lg_run.specs.Explanations.{StuckFor, StuckIn, tells_stuck}
 use Rattle.lg_run.specs.Profiles.{TableFor, TableIn, table_of, tells_table}
 use Rattle.lg_run.specs.Refused.{IsTextIn, IsTextUnder, IsUnitOf}
 use Rattle.lg_run.specs.Says.{trash_word}
@@ -53,13 +54,17 @@ abbrev pub TalliesFor : Bool → TextUnit → TextShape → Start → (most step
 TalliesFor false unit shape s most steps tally = tally ≡ None
 TalliesFor true unit shape s most steps tally = (t : List Counts) × (tally ≡ Some t) × AreTallied unit shape s most steps t
 
--- the table that is told of code that ran
+-- the table, and where a step of the meaning is undefined, that are told of code that ran
 abbrev pub RanTells : Command → Assembled → TextUnit → Profiled → Type 0
-RanTells c code unit p = TableFor (tells_table c.mode p.ran.answer) c code unit p.ran.steps (table_of p.tally)
+RanTells c code unit p =
+    TableFor (tells_table c.mode p.ran.answer) c code unit p.ran.steps (table_of p.tally)
+    × StuckFor (tells_stuck c.mode p.ran.answer) c code unit p.ran.steps p.stuck
 
 -- and of what was done with a command's text, with any text that has a unit, and with what stands under the name of the file
 abbrev pub WorkTells : Command → Option NamedTexts → Worked → Type 0
-WorkTells c held w = TableIn (tells_table c.mode w.done.answer) c held w.done.code w.done.steps (table_of w.tally)
+WorkTells c held w =
+    TableIn (tells_table c.mode w.done.answer) c held w.done.code w.done.steps (table_of w.tally)
+    × StuckIn (tells_stuck c.mode w.done.answer) c held w.done.code w.done.steps w.stuck
 
 abbrev pub TextTells : Command → List ℕ → Worked → Type 0
 TextTells c text w = (held : Option NamedTexts) → IsTextIn c.mode c held text → WorkTells c held w

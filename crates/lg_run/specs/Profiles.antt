@@ -55,6 +55,7 @@ is_profile mode.Mean = false
 is_profile mode.Gen = false
 is_profile mode.Back = false
 is_profile mode.Profile = true
+is_profile mode.Explain = false
 
 -- a table is told with these answers, in the mode `profile`
 abbrev pub tells_table : Mode → Answer → Bool

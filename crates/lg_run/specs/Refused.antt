@@ -91,6 +91,7 @@ IsTextIn mode.Mean c held text = IsExpandedUnder held c.file text
 IsTextIn mode.Gen c held text = text ≡ made c.seed
 IsTextIn mode.Back c held text = ⊥
 IsTextIn mode.Profile c held text = IsExpandedUnder held c.file text
+IsTextIn mode.Explain c held text = IsExpandedUnder held c.file text
 
 -- the words of the arguments fit the argument part
 abbrev pub ArgumentsFit : Command → Type 0
@@ -112,6 +113,7 @@ IsRefusedIn mode.Mean c held refusal = IsRefusedUnder c held refusal
 IsRefusedIn mode.Gen c held refusal = IsRefusedText c (made c.seed) refusal
 IsRefusedIn mode.Back c held refusal = IsRefusedBack c held refusal
 IsRefusedIn mode.Profile c held refusal = IsRefusedUnder c held refusal
+IsRefusedIn mode.Explain c held refusal = IsRefusedUnder c held refusal
 
 -- the arguments are too long, or they fit and the text is refused
 abbrev pub IsRefusedCall : Command → Option NamedTexts → Refusal → Type 0

@@ -42,6 +42,17 @@ RunsCode mode.Mean = ⊥
 RunsCode mode.Gen = ⊤
 RunsCode mode.Back = ⊥
 RunsCode mode.Profile = ⊤
+RunsCode mode.Explain = ⊥
+
+-- those in which the meaning runs
+abbrev pub RunsMeaning : Mode → Type 0
+RunsMeaning mode.Run = ⊥
+RunsMeaning mode.List = ⊥
+RunsMeaning mode.Mean = ⊤
+RunsMeaning mode.Gen = ⊥
+RunsMeaning mode.Back = ⊥
+RunsMeaning mode.Profile = ⊥
+RunsMeaning mode.Explain = ⊤
 
 -- those in which code is made
 abbrev pub WantsCode : Mode → Type 0
@@ -51,6 +62,7 @@ WantsCode mode.Mean = ⊤
 WantsCode mode.Gen = ⊤
 WantsCode mode.Back = ⊥
 WantsCode mode.Profile = ⊤
+WantsCode mode.Explain = ⊤
 
 -- those in which a file is read
 abbrev pub ReadsFile : Mode → Type 0
@@ -60,6 +72,11 @@ ReadsFile mode.Mean = ⊤
 ReadsFile mode.Gen = ⊥
 ReadsFile mode.Back = ⊤
 ReadsFile mode.Profile = ⊤
+ReadsFile mode.Explain = ⊤
+
+-- the words ask for no command that reads its file: where one is read in the mode, the arguments do not fit
+abbrev pub AskForNoFile : List (List ℕ) → Type 0
+AskForNoFile words = (c : Command) → IsCommand words c → ReadsFile c.mode → ArgumentsFit c → ⊥
 
 -- to be expanded
 abbrev pub ExpandsFile : Mode → Type 0
@@ -69,6 +86,7 @@ ExpandsFile mode.Mean = ⊤
 ExpandsFile mode.Gen = ⊥
 ExpandsFile mode.Back = ⊥
 ExpandsFile mode.Profile = ⊤
+ExpandsFile mode.Explain = ⊤
 
 -- ---- code
 
@@ -119,6 +137,7 @@ ModeSays mode.Gen c code unit steps out answer = RunSays (code_run c code unit) 
 ModeSays mode.Mean c code unit steps out answer = MeanSays unit.nodes (code_meaning c code unit) c.steps steps out answer
 ModeSays mode.Back c code unit steps out answer = ⊥
 ModeSays mode.Profile c code unit steps out answer = RunSays (code_run c code unit) c.steps steps out answer
+ModeSays mode.Explain c code unit steps out answer = MeanSays unit.nodes (code_meaning c code unit) c.steps steps out answer
 
 -- there is code, and it, or its meaning, ran so, or was listed so
 pub record Ran (c : Command) (held : Option NamedTexts) (code : Option Assembled) (steps : ℕ) (out : SinkChange) (answer : Answer) : Type 0 where
@@ -207,6 +226,7 @@ name_in mode.Mean c = c.file
 name_in mode.Gen c = codes "gen"
 name_in mode.Back c = c.file
 name_in mode.Profile c = c.file
+name_in mode.Explain c = c.file
 
 -- the lines on err: the statistics, and the line of the answer
 abbrev pub lines_of : Option Command → Option Assembled → (steps : ℕ) → Answer → List ℕ

@@ -15,8 +15,8 @@ use lg_mean::portable::Portable;
 use lg_mean::run::RunEnd;
 use lg_node::{Shape, Unit};
 
-// The answer of a run of the portable machine.
-fn answer_of(end: RunEnd) -> Answer
+/// The answer of a run of the portable machine.
+pub fn answer_of(end: RunEnd) -> Answer
     ensures { result ≡ answer_of end }
 {
     match end {

@@ -31,6 +31,7 @@ use lg_base::refusal::OutOfMemory;
 use lg_command::Command;
 use lg_cpu::answer::CpuStep;
 use lg_cpu::cpu::Cpu;
+use lg_explain::stop::StuckAt;
 use lg_io::sink::{Sink, SinkFault};
 use lg_mean::portable::Portable;
 use lg_prof::code::run_counted;
@@ -39,32 +40,51 @@ use lg_prof::meaning::count_meaning;
 use lg_prof::{LineTable, Tally};
 use std::alloc::Global;
 
-/// What ran, and the numbers of the lines, where they are told.
+/// What ran, and what is told of it besides.
 #[derive(Drop)]
 pub struct Profiled {
+    /// What the run came to.
     pub ran: Ran,
+    /// The numbers of the lines, in the mode `profile`.
     pub tally: Option<Tally>,
+    /// Where a step of the meaning is undefined, in the mode `explain`.
+    pub stuck: Option<StuckAt>,
 }
 
-/// What was done, and the numbers of the lines, where they are told.
+/// What was done, and what is told of it besides.
 #[derive(Drop)]
 pub struct Worked {
+    /// What was done.
     pub done: Done,
+    /// The numbers of the lines, in the mode `profile`.
     pub tally: Option<Tally>,
+    /// Where a step of the meaning is undefined, in the mode `explain`.
+    pub stuck: Option<StuckAt>,
+    /// What was read and expanded, where that was done.
+    pub read: Option<Vec<u8>>,
 }
 
-// What ran, with no numbers.
-fn untold_run(ran: Ran) -> Profiled
-    ensures { (result.ran ≡ ran) × (result.tally ≡ None) }
+/// What ran, and nothing besides.
+pub fn untold_run(ran: Ran) -> Profiled
+    ensures { (result.ran ≡ ran) × (result.tally ≡ None) × (result.stuck ≡ None) }
 {
-    Profiled { ran, tally: None }
+    Profiled {
+        ran,
+        tally: None,
+        stuck: None,
+    }
 }
 
-/// What was done, with no numbers.
+/// What was done, and nothing besides.
 pub fn untold(done: Done) -> Worked
-    ensures { (result.done ≡ done) × (result.tally ≡ None) }
+    ensures { (result.done ≡ done) × (result.tally ≡ None) × (result.stuck ≡ None) × (result.read ≡ None) }
 {
-    Worked { done, tally: None }
+    Worked {
+        done,
+        tally: None,
+        stuck: None,
+        read: None,
+    }
 }
 
 /// Writes the numbers of the lines, where there are some.
@@ -190,6 +210,7 @@ fn run_start<O: Sink>(start: Start, most: u64, text: &Accepted, out: &mut O) -> 
     ensures says { RunSays (run_from (shown start.cpu)) most result.ran.steps (on_sink O.taken O.faults out.old out.new) result.ran.answer }
     ensures writes { TellsWrites result.ran.answer (on_sink O.taken O.faults out.old out.new) }
     ensures told { TalliesFor (is_run_end result.ran.answer) text.now.unit text.now.shape start most result.ran.steps result.tally }
+    ensures stuck { result.stuck ≡ None }
 {
     let Start {
         lines,
@@ -205,6 +226,7 @@ fn run_start<O: Sink>(start: Start, most: u64, text: &Accepted, out: &mut O) -> 
     Profiled {
         ran,
         tally: Some(tally),
+        stuck: None,
     }
 }
 

@@ -7,12 +7,14 @@ ghost use Rattle.lg_run.specs.Causes.{Causes};
 ghost use Rattle.lg_io.specs.Readings.{IsReadOnce};
 ghost use Rattle.lg_io.specs.SinkChanges.{WroteTo, on_sink};
 ghost use Rattle.lg_run.specs.Changes.{on_texts};
+ghost use Rattle.lg_run.specs.Explanations.{explained_of};
 ghost use Rattle.lg_run.specs.Lines.{line_of};
 ghost use Rattle.lg_run.specs.Profiles.{table_of};
 ghost use Rattle.lg_run.specs.Calls.{Says};
-ghost use Rattle.lg_run.specs.Says.{ReportSays, lines_of, name_in};
+ghost use Rattle.lg_run.specs.Says.{AskForNoFile, ReportSays, lines_of, name_in};
 
 use crate::answer::{Answer, Done};
+use crate::explain::write_explained;
 use crate::lines::{write_line, write_lines};
 use crate::profile::{Worked, write_table};
 use crate::work::{without_code, work};
@@ -27,7 +29,9 @@ fn name_in<'a>(command: &Command<'a>) -> &'a str
 {
     match command.mode {
         Mode::Gen => "gen",
-        Mode::Run | Mode::List | Mode::Mean | Mode::Back | Mode::Profile => command.file,
+        Mode::Run | Mode::List | Mode::Mean | Mode::Back | Mode::Profile | Mode::Explain => {
+            command.file
+        }
     }
 }
 
@@ -41,25 +45,45 @@ pub fn report_words<E: Sink>(answer: Answer, err: &mut E) -> Answer
     }
 }
 
-// Writes the lines of what was done for a command: the table of a profile, the statistics, where they are asked for, and the line of the answer.
+// Writes the lines of an answer to a command: the statistics, where they are asked for, and the line of the answer.
+fn write_answer<E: Sink>(command: &Command<'_>, done: &Done, err: &mut E) -> Result<(), SinkFault>
+    ensures { let lines = lines_of (Some (shown command.now)) done.now.code done.now.steps done.now.answer in
+        WroteTo (on_sink E.taken E.faults err.old err.new) result lines }
+{
+    write_lines(
+        command.stats,
+        name_in(command),
+        &done.code,
+        done.answer,
+        done.steps,
+        err,
+    )
+}
+
+// Writes them, and behind them what explains the answer.
+fn write_told<E: Sink>(command: &Command<'_>, worked: &Worked, err: &mut E) -> Result<(), SinkFault>
+    ensures { let lines = lines_of (Some (shown command.now)) worked.now.done.code worked.now.done.steps worked.now.done.answer in
+        let explained = explained_of command.now.mode command.now.file.now worked.now in
+        WroteTo (on_sink E.taken E.faults err.old err.new) result (lines ++ explained) }
+{
+    match write_answer(command, &worked.done, err) {
+        Ok(()) => write_explained(command.mode, command.file, worked, err),
+        Err(fault) => Err(fault),
+    }
+}
+
+// Writes the lines of what was done for a command: the table of a profile, the lines of the answer, and what explains it.
 fn write_report<E: Sink>(
     command: &Command<'_>,
     worked: &Worked,
     err: &mut E,
 ) -> Result<(), SinkFault>
     ensures { let lines = lines_of (Some (shown command.now)) worked.now.done.code worked.now.done.steps worked.now.done.answer in
-        WroteTo (on_sink E.taken E.faults err.old err.new) result (table_of worked.now.tally ++ lines) }
+        let explained = explained_of command.now.mode command.now.file.now worked.now in
+        WroteTo (on_sink E.taken E.faults err.old err.new) result (table_of worked.now.tally ++ (lines ++ explained)) }
 {
-    let done = &worked.done;
     match write_table(&worked.tally, err) {
-        Ok(()) => write_lines(
-            command.stats,
-            name_in(command),
-            &done.code,
-            done.answer,
-            done.steps,
-            err,
-        ),
+        Ok(()) => write_told(command, worked, err),
         Err(fault) => Err(fault),
     }
 }
@@ -68,7 +92,8 @@ fn write_report<E: Sink>(
 /// answer is a write fault.
 pub fn report<E: Sink>(command: &Command<'_>, worked: &Worked, err: &mut E) -> Answer
     ensures { let lines = lines_of (Some (shown command.now)) worked.now.done.code worked.now.done.steps worked.now.done.answer in
-        ReportSays (table_of worked.now.tally ++ lines) (on_sink E.taken E.faults err.old err.new) worked.now.done.answer result }
+        let explained = explained_of command.now.mode command.now.file.now worked.now in
+        ReportSays (table_of worked.now.tally ++ (lines ++ explained)) (on_sink E.taken E.faults err.old err.new) worked.now.done.answer result }
 {
     match write_report(command, worked, err) {
         Ok(()) => worked.done.answer,
@@ -89,6 +114,7 @@ fn answer<T: Texts, O: Sink, E: Sink>(
         let err_change = on_sink E.taken E.faults err.old err.new in
         Says (texts_of words.now.items) texts_change out_change err_change result }
     ensures once { IsReadOnce (T.reading texts.old) (T.reading texts.new) }
+    ensures unread { AskForNoFile (texts_of words.now.items) → T.reading texts.new ≡ T.reading texts.old }
 {
     match read_words(alloc, words) {
         Ok(command) => {
@@ -109,8 +135,9 @@ fn answer<T: Texts, O: Sink, E: Sink>(
 /// for the command's target, and runs the code on a model of the processor, or, with `--mode mean`, the unit's portable meaning over the addresses of the
 /// code's labels, for at most so many steps as the command says; or, with `--mode list`, writes the code's listing; or, with `--mode back`, reads the file's
 /// text as a listing, and writes the bytes that it is of; or, with `--mode profile`, runs the code, and then the meaning, and tells how many steps of both
-/// belong to each line. What the run writes, the listing and these bytes go to `out`, and the table of a profile, the statistics and the line of every answer
-/// but an end to `err`. All memory is taken before the first step and before the first line. At most one text is selected, once, and it is read from its start on
+/// belong to each line; or, with `--mode explain`, runs the meaning as with `mean`, and tells why the text is refused or a step is undefined. What the run
+/// writes, the listing and these bytes go to `out`, and the table of a profile, the statistics, the line of every answer but an end and what explains it to
+/// `err`. All memory is taken before the first step and before the first line. At most one text is selected, once, and it is read from its start on
 /// and not again where a read found its end.
 pub fn lightning<T: Texts, O: Sink, E: Sink>(
     alloc: Global,
@@ -128,6 +155,7 @@ pub fn lightning<T: Texts, O: Sink, E: Sink>(
         let err_change = on_sink E.taken E.faults err.old err.new in
         Causes (texts_of words.now.items) texts_change out_change err_change result }
     ensures once { IsReadOnce (T.reading texts.old) (T.reading texts.new) }
+    ensures unread { AskForNoFile (texts_of words.now.items) → T.reading texts.new ≡ T.reading texts.old }
 {
     answer(alloc, words, texts, out, err)
 }

@@ -1,6 +1,6 @@
 // What is done with the text that a command names.
 
-ghost use Rattle.std.specs.Prelude.{◌≡◌, ◌≤◌, Ok, Err, length, IfOk, None, Option, false};
+ghost use Rattle.std.specs.Prelude.{◌≡◌, ◌≤◌, Ok, Err, length, IfOk, Some, None, Option, false};
 ghost use Rattle.lg_base.specs.Arguments.{args_of, most_args, texts_of};
 ghost use Rattle.lg_base.specs.declared.refusal.Refusal.{Refusal};
 ghost use Rattle.lg_base.specs.declared.refusal.Stop.{Stop};
@@ -16,14 +16,16 @@ ghost use Rattle.lg_io.specs.Readings.{IsReadOnce};
 ghost use Rattle.lg_io.specs.SinkChanges.{on_sink};
 ghost use Rattle.lg_run.specs.Changes.{TellsWrites, TextsChange, on_texts};
 ghost use Rattle.lg_dead.specs.Rewritten.{AreFinal};
+ghost use Rattle.lg_run.specs.Explanations.{ReadExplains, WorkExplains, is_undefined};
 ghost use Rattle.lg_run.specs.ProfileStarts.{RanTells, ReadTold, TextTells, UnitTells, WorkTells};
 ghost use Rattle.lg_run.specs.Profiles.{is_run_end};
-ghost use Rattle.lg_run.specs.Refused.{IsRefusedAccepted, most_text};
-ghost use Rattle.lg_run.specs.Says.{ExpandsFile, WantsCode};
+ghost use Rattle.lg_run.specs.Refused.{ArgumentsFit, IsRefusedAccepted, most_text};
+ghost use Rattle.lg_run.specs.Says.{ExpandsFile, ReadsFile, WantsCode};
 ghost use Rattle.lg_run.specs.Work.{RanSays, ReadDone, TellsNoRead, TextDone, UnitDone, WorkDone};
 
 use crate::answer::{Answer, Done};
 use crate::back::do_back;
+use crate::explain::run_explain;
 use crate::listing::list_code;
 use crate::mean::run_meaning;
 use crate::profile::{Profiled, Worked, run_profile, untold};
@@ -72,6 +74,7 @@ pub fn stopped(stop: Stop) -> Answer
     ensures refused { (r : Refusal) → stop ≡ Stop.Refused r → result ≡ Answer.Refused r }
     ensures memory { stop ≡ Stop.OutOfMemory → result ≡ Answer.OutOfMemory }
     ensures end { is_run_end result ≡ false }
+    ensures defined { is_undefined result ≡ false }
 {
     match stop {
         Stop::Refused(refusal) => Answer::Refused(refusal),
@@ -158,7 +161,7 @@ fn run_mean<O: Sink>(
     }
 }
 
-// Runs code, or in the mode `mean` its meaning, or in the mode `list` writes its listing.
+// Runs code, or in the modes `mean` and `explain` its meaning, or in the mode `list` writes its listing.
 fn run_mode<O: Sink>(
     alloc: Global,
     command: &Command<'_>,
@@ -185,17 +188,21 @@ fn run_mode<O: Sink>(
         Mode::Run | Mode::Gen => Profiled {
             ran: run_code(alloc, command, args, text, code, out),
             tally: None,
+            stuck: None,
         },
         Mode::List => Profiled {
             ran: list_code(command, text, code, out),
             tally: None,
+            stuck: None,
         },
         Mode::Mean => Profiled {
             ran: run_mean(alloc, command, args, text, code, out),
             tally: None,
+            stuck: None,
         },
         Mode::Back => unreachable!(),
         Mode::Profile => run_profile(alloc, command, args, text, code, out),
+        Mode::Explain => run_explain(alloc, command, args, text, code, out),
     }
 }
 
@@ -236,6 +243,8 @@ fn do_unit<O: Sink>(
                     steps: profiled.ran.steps,
                 },
                 tally: profiled.tally,
+                stuck: profiled.stuck,
+                read: None,
             }
         }
         Err(stop) => untold(without_code(stopped(stop))),
@@ -290,6 +299,60 @@ fn do_read<O: Sink>(
     }
 }
 
+// What was done with what was read, which is kept.
+fn keep(worked: Worked, read: Vec<u8>) -> Worked
+    ensures done { result.done ≡ worked.done }
+    ensures tally { result.tally ≡ worked.tally }
+    ensures stuck { result.stuck ≡ worked.stuck }
+    ensures read { result.read ≡ Some read }
+{
+    let Worked {
+        done,
+        tally,
+        stuck,
+        ..
+    } = worked;
+    Worked {
+        done,
+        tally,
+        stuck,
+        read: Some(read),
+    }
+}
+
+// Expands what was read, does what is asked for, and keeps what was read.
+fn do_kept<O: Sink>(
+    alloc: Global,
+    command: &Command<'_>,
+    args: &ArgImage,
+    read: Vec<u8>,
+    out: &mut O,
+) -> Worked
+    requires file { ExpandsFile command.now.mode }
+    requires range { IsInRange command.now }
+    requires args { args.now ≡ args_of (texts_of command.now.arguments.items) }
+    requires args_size { length args.now ≤ most_args }
+    requires short { length read.items ≤ most_text }
+    ensures says { ReadDone (shown command.now) read.items (on_sink O.taken O.faults out.old out.new) result.done }
+    ensures told { ReadTold (shown command.now) read.items result }
+    ensures explains { ReadExplains (shown command.now) read.items result }
+    ensures writes { TellsWrites result.done.answer (on_sink O.taken O.faults out.old out.new) }
+    ensures reads { TellsNoRead result.done.answer }
+{
+    let worked = do_read(alloc, command, args, &read, out);
+    keep(worked, read)
+}
+
+// A file that is expanded is read, and the arguments fit.
+fn see_file(command: &Command<'_>, args: &ArgImage)
+    requires file { ExpandsFile command.now.mode }
+    requires args { args.now ≡ args_of (texts_of command.now.arguments.items) }
+    requires args_size { length args.now ≤ most_args }
+    ensures { (ReadsFile command.now.mode → ArgumentsFit (shown command.now) → ⊥) → ⊥ }
+{
+    let (_, _) = (command, args);
+}
+
 // Reads what stands under the name of a command's file, and does what is asked for.
 fn do_file<T: Texts, O: Sink>(
     alloc: Global,
@@ -304,10 +367,13 @@ fn do_file<T: Texts, O: Sink>(
     requires args_size { length args.now ≤ most_args }
     ensures says { WorkDone (shown command.now) (on_texts T.held T.faults T.sure texts.old texts.new) (on_sink O.taken O.faults out.old out.new) result.done }
     ensures told { WorkTells (shown command.now) (T.held texts.old) result }
+    ensures explains { WorkExplains (shown command.now) (T.held texts.old) result }
     ensures once { IsReadOnce (T.reading texts.old) (T.reading texts.new) }
+    ensures unread { (ReadsFile command.now.mode → ArgumentsFit (shown command.now) → ⊥) → T.reading texts.new ≡ T.reading texts.old }
 {
+    see_file(command, args);
     match read_text(alloc, command.file, texts) {
-        Ok(read) => do_read(alloc, command, args, &read, out),
+        Ok(read) => do_kept(alloc, command, args, read, out),
         Err(ReadStop::ReadFault) => untold(without_code(Answer::ReadFault)),
         Err(ReadStop::TooLong) => untold(without_code(Answer::Refused(refusal(
             RefusalKind::TextTooLong,
@@ -324,6 +390,7 @@ fn do_made<O: Sink>(alloc: Global, command: &Command<'_>, args: &ArgImage, out: 
     requires args_size { length args.now ≤ most_args }
     ensures says { (t : TextsChange) → t.faults' ≡ t.faults → WorkDone (shown command.now) t (on_sink O.taken O.faults out.old out.new) result.done }
     ensures told { (held : Option NamedTexts) → WorkTells (shown command.now) held result }
+    ensures explains { (held : Option NamedTexts) → WorkExplains (shown command.now) held result }
 {
     match made(alloc, command.seed) {
         Ok(text) => do_text(alloc, command, args, text.as_slice(), out),
@@ -342,7 +409,9 @@ pub fn work<T: Texts, O: Sink>(
     requires { IsInRange command.now }
     ensures says { WorkDone (shown command.now) (on_texts T.held T.faults T.sure texts.old texts.new) (on_sink O.taken O.faults out.old out.new) result.done }
     ensures told { WorkTells (shown command.now) (T.held texts.old) result }
+    ensures explains { WorkExplains (shown command.now) (T.held texts.old) result }
     ensures once { IsReadOnce (T.reading texts.old) (T.reading texts.new) }
+    ensures unread { (ReadsFile command.now.mode → ArgumentsFit (shown command.now) → ⊥) → T.reading texts.new ≡ T.reading texts.old }
 {
     let args = match args_image(alloc, &command.arguments) {
         Ok(args) => args,
@@ -351,7 +420,7 @@ pub fn work<T: Texts, O: Sink>(
     match command.mode {
         Mode::Gen => do_made(alloc, command, &args, out),
         Mode::Back => untold(do_back(alloc, command, texts, out)),
-        Mode::Run | Mode::List | Mode::Mean | Mode::Profile => do_file(
+        Mode::Run | Mode::List | Mode::Mean | Mode::Profile | Mode::Explain => do_file(
             alloc, command, &args, texts, out,
         ),
     }

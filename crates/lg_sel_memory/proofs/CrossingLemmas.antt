@@ -3,7 +3,7 @@ use Rattle.std.proofs.Common.{◌≡◌, ◌≢◌, ℕ, zero, suc, ◌+◌, ◌
 use Rattle.std.specs.Prelude.{◌==◌, ◌&&◌, not, is_some, if◌then◌else◌}
 use Rattle.std.specs.List.{All}
 use Rattle.std.proofs.lemmas.Bool.{cases_eq, cases_lt}
-use Rattle.lg_base.specs.Conventions.{frame_register}
+use Rattle.lg_base.specs.Conventions.{frame_register, stack_register}
 use Rattle.lg_base.specs.Layout.{spill_word, code_base, most_code}
 use Rattle.lg_base.specs.Runs.{Running, iter}
 use Rattle.lg_base.specs.Spaces.{stored}
@@ -13,7 +13,7 @@ use Rattle.lg_temp.specs.declared.choice.Choice.TheVariants.{Free, Own, Spill}
 use Rattle.lg_carry.specs.Registers.{HasWord}
 use Rattle.lg_carry.specs.Rows.{Rows, AreRows}
 use Rattle.lg_carry.specs.Processors.{Processor}
-use Rattle.lg_carry.specs.Blocks.{done, spellings, IsBlock, GoesThrough, StaysOutside}
+use Rattle.lg_carry.specs.Blocks.{done, spellings, IsBlock, GoesThrough, StaysOutside, IsAbove}
 use Rattle.lg_carry.specs.Spills.{IsFramePointer, in_slots, in_first_slots, IsSaved, with_register, IsRestored, AreSpills, Looks, Leaves, Work, Does, wrapped, AreInOrder, spilled, lost, KeepSpilled, KeepsFrame}
 use Rattle.lg_carry.proofs.BlockLemmas.{behind as behind-front}
 use Rattle.lg_carry.proofs.SpillLemmas.{stored-there, lost-none}
@@ -29,6 +29,7 @@ passes-within P low high low' high' steps q u le ge h = record {
   leads = h.leads;
   inside = λ j lt. let i = h.inside j lt in (omega (arith, le, i.0), omega (arith, ge, i.1));
   outside = h.outside;
+  above = h.above;
   silent = h.silent;
   keeps = h.keeps;
 }
@@ -114,7 +115,7 @@ part-stands R fits ok from front part back k =
 -- ---- a part of code that stands somewhere
 module _ {Q I : Type 0} (R : Rows Q I) (fits : I → Type 0) (ok : AreRows R fits) where
   pub piece-passes : (from : ℕ) (code front part back : List I) (q : Q) → code ≡ front ++ (part ++ back) → StandsAt R fits from code → (R.processor.seen q).pc ≡ behind R from front → IsBlock R.is_straight part
-      → GoesThrough R.does R.processor.machine.status part q → PassesIn R.processor from (behind R from code) (length part) q (done R.does part q)
+      → GoesThrough R.does R.processor.machine.status (IsAbove R) part q → PassesIn R.processor from (behind R from code) (length part) q (done R.does part q)
   piece-passes from code front part back q e k at block through =
       subst (λ z. PassesIn R.processor from (behind R from z) (length part) q (done R.does part q)) (sym e)
       (part-passes R fits ok from front part back q (subst (StandsAt R fits from) e k) at block through)
@@ -179,7 +180,7 @@ module _ {Q I : Type 0} (R : Rows Q I) (fits : I → Type 0) (ok : AreRows R fit
     q2 = R.does b q1
 
     pass2 : PassesIn R.processor from (behind R from code) (length front + 1) q q2
-    pass2 = passages-join R.processor from (behind R from code) (length front) 1 q q1 q2 pass1 (piece-passes from code front (b ∷ []) (slow ++ (j ∷ fast)) q1 refl k here1 tt (a.runs, tt))
+    pass2 = passages-join R.processor from (behind R from code) (length front) 1 q q1 q2 pass1 (piece-passes from code front (b ∷ []) (slow ++ (j ∷ fast)) q1 refl k here1 tt (a.runs, l.above, tt))
 
     looks2 : Looks R fp V w.bytes w.mark w.flags q2
     looks2 = record {
@@ -249,7 +250,7 @@ module _ {Q I : Type 0} (R : Rows Q I) (fits : I → Type 0) (ok : AreRows R fit
           end = q4;
           steps = length front + 1 + length slow + 1;
           few = omega (arith, lengths);
-          passes = passages-join R.processor from (behind R from code) (length front + 1 + length slow) 1 q q3 q4 pass3 (piece-passes from code (before ++ slow) (j ∷ []) fast q3 last k here3 tt (f.runs, tt));
+          passes = passages-join R.processor from (behind R from code) (length front + 1 + length slow) 1 q q3 q4 pass3 (piece-passes from code (before ++ slow) (j ∷ []) fast q3 last k here3 tt (f.runs, u.above, tt));
           runs = u.runs;
           here = u.here ∙ omega (arith, here3, sizes, s, t, v);
           registers = λ r free. u.registers r ∙ f.registers r free;
@@ -295,16 +296,16 @@ other T r x e ne = by (T x) (x == r) refl refl e
 
 module _ {Q I : Type 0} (R : Rows Q I) (fits : I → Type 0) (rows : AreRows R fits) (ok : AreSpills R) where
   around : (w : Work) (code : List I) (r k fp : ℕ) (T : ℕ → Bool) → IsFramePointer fp → ((x : ℕ) → w.registers x < 2 ^ 64) → k < 5 → R.can_save r ≡ true → w.end_registers r ≡ w.registers r
-      → KeepsFrame w T (frame_register R.processor.target) fp → CrossesCode R fits w code fp (k + 1) T → CrossesCode R fits w (R.save r k ∷ (code ++ R.restore r k ∷ [])) fp k (λ x. T x && not (x == r))
+      → KeepsFrame w T (frame_register R.processor.target) (stack_register R.processor.target) fp → CrossesCode R fits w code fp (k + 1) T → CrossesCode R fits w (R.save r k ∷ (code ++ R.restore r k ∷ [])) fp k (λ x. T x && not (x == r))
   around w code r k fp T f words few can same keeps crosses q from looks stands high at = record {
     end = q3;
     steps = 1 + e.steps + 1;
     few = let l = length-append code (R.restore r k ∷ []) in let m = e.few in omega (arith, l, m);
     passes = passages-join R.processor from (behind R from (R.save r k ∷ (code ++ R.restore r k ∷ []))) (1 + e.steps) 1 q q2 q3
         (passages-join R.processor from (behind R from (R.save r k ∷ (code ++ R.restore r k ∷ []))) 1 e.steps q q1 q2
-        (piece-passes R fits rows from (R.save r k ∷ (code ++ R.restore r k ∷ [])) [] (R.save r k ∷ []) (code ++ R.restore r k ∷ []) q refl stands (at ∙ omega arith) tt (looks.runs, tt))
+        (piece-passes R fits rows from (R.save r k ∷ (code ++ R.restore r k ∷ [])) [] (R.save r k ∷ []) (code ++ R.restore r k ∷ []) q refl stands (at ∙ omega arith) tt (looks.runs, s.above, tt))
         (passes-within R.processor (behind R from (R.save r k ∷ [])) (behind R (behind R from (R.save r k ∷ [])) code) from (behind R from (R.save r k ∷ (code ++ R.restore r k ∷ []))) e.steps q1 q2 (omega arith) (omega (arith, first, after)) e.passes))
-        (piece-passes R fits rows from (R.save r k ∷ (code ++ R.restore r k ∷ [])) (R.save r k ∷ code) (R.restore r k ∷ []) [] q2 refl stands here2 tt (e.runs, tt));
+        (piece-passes R fits rows from (R.save r k ∷ (code ++ R.restore r k ∷ [])) (R.save r k ∷ code) (R.restore r k ∷ []) [] q2 refl stands here2 tt (e.runs, x.above, tt));
     runs = x.runs;
     here = x.behind ∙ omega (arith, here2, first, after, fronts);
     registers = back;
@@ -333,7 +334,7 @@ module _ {Q I : Type 0} (R : Rows Q I) (fits : I → Type 0) (rows : AreRows R f
       q1 = R.does (R.save r k) q
 
       s : IsSaved R r k fp q q1
-      s = ok.saves q r k fp can few f looks.runs record { low = omega (arith, at, stands.low); high = omega (arith, at, high, first) } (looks.has_registers (frame_register R.processor.target) ∙ keeps.before) looks.has_slots
+      s = ok.saves q r k fp can few f looks.runs record { low = omega (arith, at, stands.low); high = omega (arith, at, high, first) } (let z = looks.has_registers (stack_register R.processor.target) in let y = keeps.room_before in omega (arith, z, y)) (looks.has_registers (frame_register R.processor.target) ∙ keeps.before) looks.has_slots
 
       looks1 : Looks R fp w.registers w.bytes w.mark w.flags q1
       looks1 = record {
@@ -366,7 +367,7 @@ module _ {Q I : Type 0} (R : Rows Q I) (fits : I → Type 0) (rows : AreRows R f
           (loaded-stored (R.processor.seen q).bytes (spill_word fp k) 8 value (let v = words r in let h = looks.has_registers r in omega (arith, v, h)))
 
       x : IsRestored R r k value q2 q3
-      x = ok.restores q2 r k fp value can few f e.runs record { low = omega (arith, here2, stands.low); high = omega (arith, here2, high, first, after, fronts) } (e.registers (frame_register R.processor.target) keeps.unspoiled ∙ keeps.behind) held
+      x = ok.restores q2 r k fp value can few f e.runs record { low = omega (arith, here2, stands.low); high = omega (arith, here2, high, first, after, fronts) } (let z = e.registers (stack_register R.processor.target) keeps.stack_unspoiled in let y = keeps.room_behind in omega (arith, z, y)) (e.registers (frame_register R.processor.target) keeps.unspoiled ∙ keeps.behind) held
 
       back : (y : ℕ) → (T y && not (y == r)) ≡ false → (R.processor.seen q3).registers y ≡ w.end_registers y
       back y keep = ⊎_elim (λ (z : y ≡ r). x.registers y ∙ (let h : with_register (R.processor.seen q2).registers r value y ≡ value = grind (arith, z) in h) ∙ looks.has_registers r ∙ sym same ∙ ap w.end_registers (sym z)) (λ (ne : y ≢ r). x.registers y ∙ (let h : with_register (R.processor.seen q2).registers r value y ≡ (R.processor.seen q2).registers y = grind (arith, ne) in h) ∙ e.registers y (other T r y keep ne)) (cases_eq y r)
@@ -378,7 +379,7 @@ module _ {Q I : Type 0} (R : Rows Q I) (fits : I → Type 0) (rows : AreRows R f
   below (Spill x k ∷ choices) n h = omega (arith, below choices (n + 1) h.2)
 
   pub saves-cross : (choices : List Choice) (w : Work) (body : List I) (fp n : ℕ) (T : ℕ → Bool) → IsFramePointer fp → ((r : ℕ) → w.registers r < 2 ^ 64) → AreInOrder R n choices
-      → KeepSpilled choices w.end_registers w.registers → KeepsFrame w T (frame_register R.processor.target) fp → CrossesCode R fits w body fp (n + spilled choices) T → CrossesCode R fits w (wrapped R choices body) fp n (lost choices T)
+      → KeepSpilled choices w.end_registers w.registers → KeepsFrame w T (frame_register R.processor.target) (stack_register R.processor.target) fp → CrossesCode R fits w body fp (n + spilled choices) T → CrossesCode R fits w (wrapped R choices body) fp n (lost choices T)
   saves-cross [] w body fp n T f words order keep frame crosses = subst (λ m. CrossesCode R fits w body fp m T) (let z : n + 0 ≡ n = omega arith in z) crosses
   saves-cross (Free x ∷ choices) w body fp n T f words order keep frame crosses = saves-cross choices w body fp n T f words order keep frame crosses
   saves-cross (Own x ∷ choices) w body fp n T f words order keep frame crosses = saves-cross choices w body fp n T f words order keep frame crosses
@@ -386,5 +387,5 @@ module _ {Q I : Type 0} (R : Rows Q I) (fits : I → Type 0) (rows : AreRows R f
       let z : n + (spilled choices + 1) ≡ n + 1 + spilled choices = omega arith in
       let b : n < 5 = omega (arith, below choices (n + 1) order.2) in
       let inner = saves-cross choices w body fp (n + 1) T f words order.2 keep.1 frame (subst (λ m. CrossesCode R fits w body fp m T) z crosses) in
-      let outer = around w (wrapped R choices body) x n fp (lost choices T) f words b order.1 keep.0 record { before = frame.before; behind = frame.behind; unspoiled = lost-none R ok choices T (frame_register R.processor.target) frame.unspoiled } inner in
+      let outer = around w (wrapped R choices body) x n fp (lost choices T) f words b order.1 keep.0 record { before = frame.before; behind = frame.behind; unspoiled = lost-none R ok choices T (frame_register R.processor.target) frame.unspoiled; room_before = frame.room_before; room_behind = frame.room_behind; stack_unspoiled = lost-none R ok choices T (stack_register R.processor.target) frame.stack_unspoiled } inner in
       subst (λ m. CrossesCode R fits w (R.save x m ∷ (wrapped R choices body ++ R.restore x m ∷ [])) fp n (lost (Spill x k ∷ choices) T)) (sym order.0) outer

@@ -259,8 +259,8 @@ module _ {Q I : Type 0} (R : Rows Q I) (scratch : ℕ → Bool) (fits : I → Ty
       let a = address_of at (operand_at n 1) (operand_at n 2) in
       crossed-carries R scratch fits isa c i n frame S [] (code frame t d a) (ap stands_inside e) (ap leaps e) x is-frame k.code
       (loads-compute c i n t at frame [] (code frame t d a) (some frame t d a) e none words x
-      (λ q b v ne ok f address end readable lt. straight-crosses R fits isa.rows (from_to (R.processor.seen q) (with_register (R.processor.seen q).registers (register_of R.processor.target d) (extended_by_type t v)) (R.processor.seen q).bytes (R.processor.seen q).flags) (code frame t d a)
-      ((R.processor.seen q).registers (frame_register R.processor.target)) 0 (spoils scratch []) k.block (lead frame t d a q b v ne ok f address end readable lt)))
+      (λ q b v ne ok f address end readable safe lt. straight-crosses R fits isa.rows (from_to (R.processor.seen q) (with_register (R.processor.seen q).registers (register_of R.processor.target d) (extended_by_type t v)) (R.processor.seen q).bytes (R.processor.seen q).flags) (code frame t d a)
+      ((R.processor.seen q).registers (frame_register R.processor.target)) 0 (spoils scratch []) k.block (lead frame t d a q b v ne ok f address end readable safe lt)))
       (none-harmless R scratch fits isa c i n S)
 
   pub stores-carry : (code : StoreCode I) → StoresDo R scratch code → HasStoreCode R code → StoresCarry R fits code
@@ -268,8 +268,8 @@ module _ {Q I : Type 0} (R : Rows Q I) (scratch : ℕ → Bool) (fits : I → Ty
       let a = address_of at (operand_at n 0) (operand_at n 1) in
       let b = named (operand_at n (stored_operand at)) in
       stores-go c i n t at frame is-frame S [] (code frame t a b) (some frame t a b) e none words x (none-harmless R scratch fits isa c i n S)
-      (λ q y ok f address end writable off. straight-crosses R fits isa.rows (from_to (R.processor.seen q) (R.processor.seen q).registers (stored (R.processor.seen q).bytes y (store_width t) ((R.processor.seen q).registers (register_of R.processor.target b))) (R.processor.seen q).flags) (code frame t a b)
-      ((R.processor.seen q).registers (frame_register R.processor.target)) 0 (spoils scratch []) k.block (lead frame t a b q y ok f address end writable off)) k.code
+      (λ q y ok f address end writable safe off. straight-crosses R fits isa.rows (from_to (R.processor.seen q) (R.processor.seen q).registers (stored (R.processor.seen q).bytes y (store_width t) ((R.processor.seen q).registers (register_of R.processor.target b))) (R.processor.seen q).flags) (code frame t a b)
+      ((R.processor.seen q).registers (frame_register R.processor.target)) 0 (spoils scratch []) k.block (lead frame t a b q y ok f address end writable safe off)) k.code
 
   -- ---- with temporaries
   pub loads-with-temporaries-carry : LoadsWithTemporariesCarry R scratch fits
@@ -291,5 +291,5 @@ module _ {Q I : Type 0} (R : Rows Q I) (scratch : ℕ → Bool) (fits : I → Ty
   straight-stores-with-temporaries-carry c i n t at frame live staged needs choices body e none words well few chosen pushes x is-frame k some lead =
       let b = named (operand_at n (stored_operand at)) in
       stores-with-temporaries-carry c i n t at frame live staged needs choices body e none words well few chosen pushes x is-frame k.code some
-      (λ q y ok f address end writable off. straight-crosses R fits isa.rows (from_to (R.processor.seen q) (R.processor.seen q).registers (stored (R.processor.seen q).bytes y (store_width t) ((R.processor.seen q).registers (register_of R.processor.target b))) (R.processor.seen q).flags) body
-      ((R.processor.seen q).registers (frame_register R.processor.target)) (spilled choices) (spoils scratch choices) (block-within R choices body k.block) (lead q y ok f address end writable off))
+      (λ q y ok f address end writable safe off. straight-crosses R fits isa.rows (from_to (R.processor.seen q) (R.processor.seen q).registers (stored (R.processor.seen q).bytes y (store_width t) ((R.processor.seen q).registers (register_of R.processor.target b))) (R.processor.seen q).flags) body
+      ((R.processor.seen q).registers (frame_register R.processor.target)) (spilled choices) (spoils scratch choices) (block-within R choices body k.block) (lead q y ok f address end writable safe off))

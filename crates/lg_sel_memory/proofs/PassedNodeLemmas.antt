@@ -1,4 +1,5 @@
 -- Nodes whose code is crossed and goes on to the next node: how it leads there, and that it is carried.
+use Rattle.lg_carry.proofs.BelowLemmas.{not-below}
 use Rattle.std.proofs.Common.{◌≡◌, ◌≢◌, ℕ, ◌+◌, ◌-◌, ◌%◌, ◌<◌, ◌≤◌, ◌⊎◌, ⊎_elim, inl, inr, Bool, true, false, List, [], ◌∷◌, ◌++◌, Option, Some, None, refl, sym, ap, ◌∙◌, subst, arith, length, drop, length-append, append-nil, zero-add}
 use Rattle.std.specs.Prelude.{◌||◌, ◌&&◌, not, slice_get, slice_index, slice_index_or, if◌then◌else◌}
 use Rattle.std.proofs.lemmas.List.{length-drop}
@@ -41,7 +42,7 @@ use Rattle.lg_carry.specs.AgreeInFrame.{StaysInFrame}
 use Rattle.lg_carry.specs.FinalNodes.{Code, is_inside}
 use Rattle.lg_carry.specs.Homes.{homes_at}
 use Rattle.lg_carry.specs.Places.{AreStacked}
-use Rattle.lg_carry.specs.Processors.{Seen}
+use Rattle.lg_carry.specs.Processors.{Seen, is_below, stack_of}
 use Rattle.lg_carry.specs.Registers.{HoldsCarry, CarryIs}
 use Rattle.lg_carry.specs.Rows.{Rows}
 use Rattle.lg_carry.specs.Stands.{lowest, StatesAgree, Stands}
@@ -59,7 +60,7 @@ use Rattle.lg_carry.proofs.NodeBlockLemmas.{node-blocks-lead}
 use Rattle.lg_carry.proofs.TextShapeLemmas.{inner, shaped}
 use Rattle.lg_carry.proofs.SpillLemmas.{saves-restore}
 use Rattle.lg_carry.proofs.SpillChoiceLemmas.{choices-in-order}
-use Rattle.lg_carry.proofs.StackLemmas.{stacked-running, stacked-high, slot-where, open-where, locals-off, within-where, or-cases}
+use Rattle.lg_carry.proofs.StackLemmas.{stacked-running, stacked-high, slot-where, open-where, locals-off, within-where, or-cases, locals-above}
 use Rattle.lg_carry.proofs.TemporariesApartLemmas.{none-stood-for, none-staged, tried-spare}
 use Rattle.lg_sel_nodes.specs.Isas.{IsIsa}
 use Rattle.lg_carry.specs.TextNodes.{IsInText, IsFrameOf, IsBehindProlog, stands_inside}
@@ -213,6 +214,12 @@ module _ {Q I : Type 0} (R : Rows Q I) (scratch : ℕ → Bool) (fits : I → Ty
     fp-held : w (frame_register target) ≡ fp
     fp-held = (settled target (is_inside c s.at) c.place (R.processor.seen q).bytes w s.frame s.callers _ _ inside st.frame).pointer
 
+    -- the slots lie above the stack pointer
+    slots-room : w (stack_register target) + 128 ≤ fp
+    slots-room =
+        let at = (settled target (is_inside c s.at) c.place (R.processor.seen q).bytes w s.frame s.callers _ _ inside st.frame).stack in
+        omega (arith, at, tower.0, tower.1)
+
     here : (R.processor.seen q).pc ≡ c.place i
     here = st.here ∙ ap c.place at
 
@@ -241,6 +248,17 @@ module _ {Q I : Type 0} (R : Rows Q I) (scratch : ℕ → Bool) (fits : I → Ty
         by (inl l) = omega (arith, l)
         by (inr l) = locals-below-end (lowest s.frame) (s.frame ∷ s.callers) a tower l
 
+    -- and at or above the stack pointer, where it lies in the stack part
+    pub open-above : (a : ℕ) → is_open s a ≡ true → is_below target (stack_of target (R.processor.seen q)) a ≡ false
+    open-above a may = not-below target (w (stack_register target)) a (by (open-where s (R.processor.seen q).bytes a st.parts (omega (arith, st.mark, st.seen.high)) may))
+      where
+        at-end : w (stack_register target) ≡ lowest s.frame
+        at-end = (settled target (is_inside c s.at) c.place (R.processor.seen q).bytes w s.frame s.callers _ _ inside st.frame).stack
+
+        by : (a < 0x30400000) ⊎ (in_any_locals (s.frame ∷ s.callers) a ≡ true) → (a < 0x3FF00000) ⊎ (w (stack_register target) ≤ a)
+        by (inl l) = inl (omega (arith, l))
+        by (inr l) = let z = locals-above (lowest s.frame) (s.frame ∷ s.callers) a tower l in let e = at-end in inr (omega (arith, z, e))
+
     -- the words that the node reads
     pub read-before : (frame : ℕ) → IsFrameOf c i frame → HoldsRead target n frame s (R.processor.seen q)
     read-before frame is-frame = record {
@@ -252,6 +270,7 @@ module _ {Q I : Type 0} (R : Rows Q I) (scratch : ℕ → Bool) (fits : I → Ty
       pointer = fp-held;
       off_slots = λ a b e. open-off a (st.fits.memory a b e);
       below = λ a b e. open-below a (st.fits.memory a b e);
+      above = λ a b e. open-above a (st.fits.memory a b e);
     }
 
     -- ---- the body leaves these registers and bytes and this flag
@@ -293,7 +312,7 @@ module _ {Q I : Type 0} (R : Rows Q I) (scratch : ℕ → Bool) (fits : I → Ty
 
       pub leaves : Crosses R (c.place i) (behind R (c.place i) is) (length is) fp 0 left M (R.processor.seen q).mark flag (lost choices T) q
       leaves = saves-cross R fits isa.rows isa.spills choices (from_to (R.processor.seen q) left M flag) body fp 0 T is-fp st.seen.words h.in_order (keep-taken choices left w left-taken)
-          record { before = fp-held; behind = left-other (frame_register target) other-frame ∙ fp-held; unspoiled = ap (λ b. b || scratch (frame_register target)) frame-untaken ∙ other-frame.kept }
+          record { before = fp-held; behind = left-other (frame_register target) other-frame ∙ fp-held; unspoiled = ap (λ b. b || scratch (frame_register target)) frame-untaken ∙ other-frame.kept; room_before = slots-room; room_behind = (let z = left-other (stack_register target) other-stack in let y = slots-room in omega (arith, z, y)); stack_unspoiled = ap (λ b. b || scratch (stack_register target)) stack-untaken ∙ other-stack.kept }
           does-left q (c.place i)
           record { runs = runs; has_registers = λ r. refl; has_bytes = λ p off. refl; has_slots = λ p on. st.seen.stack p (in-stack fp p is-fp.low is-fp.high on); has_mark = refl; has_flags = refl }
           record { low = k.low; place = k.place; more = k.more; stands = k.stands; fit = k.fit; outside = k.outside } (let z = room.high in omega (arith, z, here)) here
@@ -306,6 +325,7 @@ module _ {Q I : Type 0} (R : Rows Q I) (scratch : ℕ → Bool) (fits : I → Ty
         leads = leaves.passes.leads;
         inside = λ j lt. let z = leaves.passes.inside j lt in (z.0, omega (arith, z.1, k.next));
         outside = leaves.passes.outside;
+        above = leaves.passes.above;
         silent = leaves.passes.silent;
         keeps = leaves.passes.keeps;
       }

@@ -8,7 +8,7 @@ use Rattle.lg_meaning.specs.States.{State}
 use Rattle.lg_meaning.specs.Steps.{Undefined}
 use Rattle.lg_meaning.specs.Texts.{step}
 use Rattle.lg_temp.specs.declared.choice.Choice.{Choice}
-use Rattle.lg_carry.specs.Blocks.{spellings, done, GoesThrough}
+use Rattle.lg_carry.specs.Blocks.{spellings, done, GoesThrough, IsAbove}
 use Rattle.lg_carry.specs.FinalNodes.{Code}
 use Rattle.lg_carry.specs.Processors.{Seen}
 use Rattle.lg_carry.specs.Spills.{Does, spilled}
@@ -31,7 +31,7 @@ spelled-cons spelling i is = length-append (spelling i) (spellings spelling is)
 
 -- a list of them goes through from a state, and leaves what it computes; memory stays, and the program counter is behind them
 pub record RunsThrough {Q I : Type 0} (M : Computer Q I) (is : List I) (q : Q) : Type 0 where
-  pub through : GoesThrough M.rows.does M.rows.processor.machine.status is q
+  pub through : GoesThrough M.rows.does M.rows.processor.machine.status (IsAbove M.rows) is q
   pub runs : M.rows.processor.machine.status (done M.rows.does is q) ≡ Running
   pub behind : (M.rows.processor.seen (done M.rows.does is q)).pc ≡ (M.rows.processor.seen q).pc + length (spellings M.rows.spelling is)
   pub holds : held M (done M.rows.does is q) ≡ computed M.computed_by is (held M q)
@@ -48,7 +48,7 @@ module _ {Q I : Type 0} (M : Computer Q I) (ok : IsComputer M) where
       let one : Computes M i q (M.rows.does i q) = ok i q b.0 runs low (omega (arith, high, long)) in
       let m = computations-run is (M.rows.does i q) b.1 one.runs (omega (arith, low, one.behind)) (omega (arith, high, long, one.behind)) in
       record {
-        through = (runs, m.through);
+        through = (runs, one.above, m.through);
         runs = m.runs;
         behind = omega (arith, m.behind, one.behind, long);
         holds = m.holds ∙ ap (computed M.computed_by is) one.holds;

@@ -17,7 +17,7 @@ use Rattle.lg_base.specs.Flags.{carry_of}
 use Rattle.lg_carry.specs.FinalNodes.{Code}
 use Rattle.lg_carry.specs.Registers.{HoldsCarry, HoldsResult}
 use Rattle.lg_carry.specs.Rows.{Rows}
-use Rattle.lg_carry.specs.Blocks.{spellings}
+use Rattle.lg_carry.specs.Blocks.{spellings, IsAbove}
 use Rattle.lg_sel_nodes.specs.Straight.{IsKept, GoesOn, HoldsWritten, ComputesNode}
 
 -- what instructions compute with
@@ -36,6 +36,7 @@ held M q = record { registers = (M.rows.processor.seen q).registers; flags = (M.
 
 -- the run goes on behind the instruction; it made this of what was held, and nothing else changed
 pub record Computes {Q I : Type 0} (M : Computer Q I) (i : I) (q q' : Q) : Type 0 where
+  pub above : IsAbove M.rows i q
   pub runs : M.rows.processor.machine.status q' ≡ Running
   pub behind : (M.rows.processor.seen q').pc ≡ (M.rows.processor.seen q).pc + length (M.rows.spelling i)
   pub holds : held M q' ≡ M.computed_by i (held M q)

@@ -1,4 +1,5 @@
 -- Reading an argument of the function.
+use Rattle.lg_sel_memory.specs.Accesses.{LiesAbove}
 use Rattle.std.proofs.Common.{◌≡◌, ℕ, ◌+◌, ◌-◌, ◌*◌, ◌<◌, ◌≤◌, ◌^◌, Bool, true, false, List, [], ◌∷◌, refl, ap, ◌∙◌, subst, arith, length}
 use Rattle.std.specs.Prelude.{◌==◌, nat_lt, pos, negsuc, if◌then◌else◌}
 use Rattle.lg_base.specs.Layout.{frame_pointer, home_word, stack_argument}
@@ -61,7 +62,7 @@ stack-leads : (sp k : ℕ) → k < 16 → 272 ≤ sp → sp ≤ 0x40000000 → a
 stack-leads sp k few low high = omega (arith, few, low, high)
 
 -- ---- the two codes
-module _ (code : List ℕ) (trash : ℕ) (t : ValueType) (s : Seen) (rd a v fp : ℕ) (small : rd < 31) (readable : IsReadable s fp a (width t) v) (lt : v < 256 ^ width t) where
+module _ (code : List ℕ) (trash : ℕ) (t : ValueType) (s : Seen) (rd a v fp : ℕ) (small : rd < 31) (readable : IsReadable s fp a (width t) v) (safe : LiesAbove Aarch64 (s.registers 31) a (width t)) (lt : v < 256 ^ width t) where
   abbrev Loads : List Instr → Type 0
   Loads is = Does (a64_rows code trash) (from_to s (with_register s.registers rd (extended_by_type t v)) s.bytes s.flags) is fp 0 (spoils a64_scratch [])
 
@@ -75,22 +76,22 @@ module _ (code : List ℕ) (trash : ℕ) (t : ValueType) (s : Seen) (rd a v fp :
       behind-computed M (is-computer code trash) (y ∷ []) (x ∷ []) s (with_register s.registers rd (extended_by_type t v)) s.bytes s.flags fp 0 (spoils a64_scratch []) (omega arith) refl
       (told (a64_rows code trash) mid (with_register mid.registers rd (extended_by_type t v)) (with_register s.registers rd (extended_by_type t v)) s.bytes s.bytes mid.flags s.flags (x ∷ []) fp 0 (spoils a64_scratch [])
       (λ r free. ap (λ z. if r == rd then extended_by_type t v else z) (put-other s.registers link h r (off-scratch r free))) (λ r off. refl) same
-      (load-does code trash t mid rd link 0 a v fp (spoils a64_scratch []) small (ap (λ z. add_words z (0 * width t)) (put-same s.registers link h ∙ at) ∙ none-behind (width t) a low) readable lt))
+      (load-does code trash t mid rd link 0 a v fp (spoils a64_scratch []) small (ap (λ z. add_words z (0 * width t)) (put-same s.registers link h ∙ at) ∙ none-behind (width t) a low) readable (s.registers 31) (put-other s.registers link h 31 (λ e. absurd (omega (arith, e)))) safe lt))
 
   from-stack : (k : ℕ) → add_words (s.registers 29) (16 + 8 * (k - 8)) ≡ a → Loads (instr.Scaled (load_row t) rd 29 (stack_count t k) ∷ [])
-  from-stack k at = load-does code trash t s rd 29 (stack_count t k) a v fp (spoils a64_scratch []) small (ap (add_words (s.registers 29)) (stack-whole t k) ∙ at) readable lt
+  from-stack k at = load-does code trash t s rd 29 (stack_count t k) a v fp (spoils a64_scratch []) small (ap (add_words (s.registers 29)) (stack-whole t k) ∙ at) readable (s.registers 31) refl safe lt
 
 -- from its home: a word by its row, others by way of the link
-home-does : (code : List ℕ) (trash : ℕ) (t : ValueType) (s : Seen) (rd a v fp : ℕ) → rd < 31 → IsReadable s fp a (width t) v → v < 256 ^ width t → (k : ℕ) → k < 8 → known s.flags ≡ s.flags → s.registers 29 < 2 ^ 64
+home-does : (code : List ℕ) (trash : ℕ) (t : ValueType) (s : Seen) (rd a v fp : ℕ) → rd < 31 → IsReadable s fp a (width t) v → LiesAbove Aarch64 (s.registers 31) a (width t) → v < 256 ^ width t → (k : ℕ) → k < 8 → known s.flags ≡ s.flags → s.registers 29 < 2 ^ 64
     → sub_words (s.registers 29) (home_distance k) ≡ a → a < 2 ^ 64
     → Does (a64_rows code trash) (from_to s (with_register s.registers rd (extended_by_type t v)) s.bytes s.flags) (home_load t rd k) fp 0 (spoils a64_scratch [])
-home-does code trash value_type.Long s rd a v fp small readable lt k few same word at low =
+home-does code trash value_type.Long s rd a v fp small readable safe lt k few same word at low =
     subst (λ x. Does (a64_rows code trash) (from_to s (with_register s.registers rd v) s.bytes s.flags) (instr.Unscaled Ldur rd 29 x ∷ []) fp 0 (spoils a64_scratch [])) (home-view k few)
-    (word-does code trash s rd 29 (2 ^ 64 - home_distance k) a v fp (spoils a64_scratch []) small (omega arith) (home-added (s.registers 29) k word few ∙ at) readable)
-home-does code trash t s rd a v fp small readable lt k few same word at low = from-home code trash t s rd a v fp small readable lt k same at low
+    (word-does code trash s rd 29 (2 ^ 64 - home_distance k) a v fp (spoils a64_scratch []) small (omega arith) (home-added (s.registers 29) k word few ∙ at) readable safe)
+home-does code trash t s rd a v fp small readable safe lt k few same word at low = from-home code trash t s rd a v fp small readable safe lt k same at low
 
 pub arguments-do : (code : List ℕ) (trash : ℕ) → ArgumentsDo (a64_rows code trash) a64_scratch a64_argument
-arguments-do code trash frame t d k q a v named few f place even readable lt = by (nat_lt k 8) refl place
+arguments-do code trash frame t d k q a v named few f place even readable safe lt = by (nat_lt k 8) refl place
   where
     by : (b : Bool) → nat_lt k 8 ≡ b → (if b then home_word (frame_pointer (q.state.registers 31 + frame)) k else stack_argument (q.state.registers 31 + frame) (k - 8)) ≡ a
         → Does (a64_rows code trash) (from_to (a64_seen q) (with_register q.state.registers (register_of Aarch64 d) (extended_by_type t v)) q.state.bytes (nzcv q.state.flags))
@@ -102,14 +103,14 @@ arguments-do code trash frame t d k q a v named few f place even readable lt = b
         let low : 272 ≤ sp = (let l = f.large in omega (arith, l)) in
         let high : sp ≤ 0x40000000 = (let h = f.high in omega (arith, h)) in
         let small : register_of Aarch64 d < 31 = (let h = register-small d in omega (arith, h)) in
-        home-does code trash t (a64_seen q) (register_of Aarch64 d) a v (q.state.registers 29) small readable lt k near refl (f.seen.words 29) (ap (λ p. sub_words p (home_distance k)) f.pointer ∙ home-leads sp k near low high ∙ at)
+        home-does code trash t (a64_seen q) (register_of Aarch64 d) a v (q.state.registers 29) small readable safe lt k near refl (f.seen.words 29) (ap (λ p. sub_words p (home_distance k)) f.pointer ∙ home-leads sp k near low high ∙ at)
         (let h = home-small sp k high in subst (λ z. z < 2 ^ 64) at h)
     by false e at =
         let sp = q.state.registers 31 + frame in
         let low : 272 ≤ sp = (let l = f.large in omega (arith, l)) in
         let high : sp ≤ 0x40000000 = (let h = f.high in omega (arith, h)) in
         let small : register_of Aarch64 d < 31 = (let h = register-small d in omega (arith, h)) in
-        from-stack code trash t (a64_seen q) (register_of Aarch64 d) a v (q.state.registers 29) small readable lt k (ap (λ p. add_words p (16 + 8 * (k - 8))) f.pointer ∙ stack-leads sp k few low high ∙ at)
+        from-stack code trash t (a64_seen q) (register_of Aarch64 d) a v (q.state.registers 29) small readable safe lt k (ap (λ p. add_words p (16 + 8 * (k - 8))) f.pointer ∙ stack-leads sp k few low high ∙ at)
 
 home-some : (t : ValueType) (rd k : ℕ) → 0 < length (home_load t rd k)
 home-some value_type.Long rd k = omega arith

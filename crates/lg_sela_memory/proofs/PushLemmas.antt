@@ -1,5 +1,7 @@
 -- Passing an argument of a call.
-use Rattle.std.proofs.Common.{◌≡◌, ◌≢◌, ℕ, zero, suc, ◌+◌, ◌-◌, ◌*◌, ◌^◌, ◌<◌, Bool, true, false, List, [], ◌∷◌, ◌++◌, refl, sym, ap, ◌∙◌, subst, arith, length, length-append}
+use Rattle.lg_carry.proofs.BelowLemmas.{not-below}
+use Rattle.lg_sel_memory.specs.Accesses.{LiesAbove}
+use Rattle.std.proofs.Common.{◌≡◌, ◌≢◌, ℕ, zero, suc, ◌+◌, ◌-◌, ◌*◌, ◌^◌, ◌<◌, Bool, true, false, List, [], ◌∷◌, ◌++◌, refl, sym, ap, ◌∙◌, subst, arith, length, length-append, inr, ◌≤◌}
 use Rattle.std.specs.Prelude.{Option, nat_lt, if◌then◌else◌, slice_index}
 use Rattle.lg_base.specs.Conventions.{argument_registers}
 use Rattle.lg_base.specs.HostNames.{host_address}
@@ -91,6 +93,9 @@ module _ (code : List ℕ) (trash : ℕ) (q : Run CpuState) (fp : ℕ) where
     abbrev a : ℕ
     a = stack_argument (w 31) (j - 8)
 
+    safe : LiesAbove Aarch64 (w 31) a 8
+    safe y le lt = not-below Aarch64 (w 31) y (inr (omega (arith, le)))
+
     address : add_words (w 31) ((j - 8) * 8) ≡ a
     address = let high = f.high in omega (arith, few, high)
 
@@ -102,7 +107,7 @@ module _ (code : List ℕ) (trash : ℕ) (q : Run CpuState) (fp : ℕ) where
         let B = stored s.bytes a 8 v in
         behind-computed M (is-computer code trash) pre (x ∷ []) s w B s.flags fp 0 (spoils a64_scratch []) (omega arith) p.computes
         (told (a64_rows code trash) mid mid.registers w B B mid.flags s.flags (x ∷ []) fp 0 (spoils a64_scratch []) (λ y free. p.keeps y (off-scratch y free)) (λ y off. refl) p.flags
-        (store-does code trash store_type.Long mid 31 from (j - 8) a v fp (spoils a64_scratch []) small (ap (λ z. add_words z ((j - 8) * 8)) (p.keeps 31 (λ z. absurd (omega (arith, z)))) ∙ address) p.holds writable))
+        (store-does code trash store_type.Long mid 31 from (j - 8) a v fp (spoils a64_scratch []) small (ap (λ z. add_words z ((j - 8) * 8)) (p.keeps 31 (λ z. absurd (omega (arith, z)))) ∙ address) p.holds writable (w 31) (p.keeps 31 (λ z. absurd (omega (arith, z)))) safe))
 
     linked : (to : ℕ → ℕ) (from : ℕ) (x : Operand) → IsPassed Aarch64 w to x v → Leaves w (stored s.bytes a 8 v) (settled to from (into link x ++ stack_push j link ∷ []))
     linked to from x p =

@@ -1,4 +1,5 @@
 -- Reading the next variable argument of the function.
+use Rattle.lg_sel_memory.specs.Accesses.{LiesAbove}
 use Rattle.std.proofs.Common.{◌≡◌, ◌≢◌, ℕ, zero, suc, ◌+◌, ◌-◌, ◌<◌, ◌≤◌, Bool, true, false, List, [], ◌∷◌, ◌++◌, Some, refl, sym, ap, ◌∙◌, arith}
 use Rattle.std.specs.Prelude.{◌==◌, nat_lt, if◌then◌else◌}
 use Rattle.lg_base.specs.Fields.{word_of}
@@ -36,7 +37,7 @@ use Rattle.lg_sel_memory.specs.Loads.{IsReadable}
 use Rattle.lg_sel_memory.specs.VariableArguments.{NextArgumentsDo, HasNextArgumentCode}
 use Rattle.lg_sel_memory.proofs.BehindLemmas.{told, seen_behind, behind-computed}
 use Rattle.lg_sela_memory.specs.VariableArgumentCode.{direction_code, address_code, argument_offset, next_argument_load, a64_next_argument}
-use Rattle.lg_sela_memory.proofs.EndLemmas.{off-scratch, access-does}
+use Rattle.lg_sela_memory.proofs.EndLemmas.{off-scratch, access-does, span-above}
 
 -- ---- words
 -- what the link gets of a number
@@ -155,6 +156,11 @@ module _ (w : ℕ → ℕ) (f : Flags) (d s k : ℕ) (a : Apart d s) (holds : w 
   address-is : (computed (computing d s) (holding w f)).registers d ≡ above (w 29) k
   address-is = ap (λ h. h.registers d) computes-so ∙ put-other u5 s (add_words k 1) d a.apart ∙ put-same u4 d (above (w 29) k)
 
+  -- any other register stays
+  off-both : (r : ℕ) → r ≢ d → r ≢ s → r ≢ link → (computed (computing d s) (holding w f)).registers r ≡ w r
+  off-both r nd ns nl =
+      ap (λ h. h.registers r) computes-so ∙ put-other u5 s (add_words k 1) r ns ∙ put-other u4 d (above (w 29) k) r nd ∙ put-other u3 d (sub_words k 1) r nd ∙ off r nl
+
   -- and what is left behind that
   left : (v n r : ℕ) → add_words k 1 ≡ n → r ≢ link → with_register (computed (computing d s) (holding w f)).registers d v r ≡ with_register (with_register w d v) s n r
   left v n r e ne = ap (λ h. with_register h.registers d v r) computes-so ∙ by (r == d) refl (r == s) refl
@@ -172,11 +178,13 @@ load-act : (q : CpuState) (d a v : ℕ) → add_words (q.registers d) (word_of a
 load-act q d a v at e = rw at (ap (loads q d 8 false) e)
 
 load-does : (code : List ℕ) (trash : ℕ) (s : Seen) (d a v fp : ℕ) (T : ℕ → Bool) → d < 31 → add_words (s.registers d) (word_of argument_offset) ≡ a → IsReadable s fp a 8 v
+    → (sp : ℕ) → s.registers 31 ≡ sp → LiesAbove Aarch64 sp a 8
     → Does (a64_rows code trash) (from_to s (with_register s.registers d v) s.bytes s.flags) (Unscaled Ldur d d argument_offset ∷ []) fp 0 T
-load-does code trash s d a v fp T small at readable = access-does code trash (Unscaled Ldur d d argument_offset) s (with_register s.registers d v) s.bytes fp T
+load-does code trash s d a v fp T small at readable sp low safe = access-does code trash (Unscaled Ldur d d argument_offset) s (with_register s.registers d v) s.bytes fp T
     (λ q registers bytes.
     let g : q.registers ≡ s.registers = pointwise q.registers s.registers registers in
     record {
+      above = span-above q.registers s.registers (λ u. add_words (u d) (word_of argument_offset)) a 8 sp g low at safe;
       registers = write q.registers d v;
       bytes = q.bytes;
       effect = load-act q d a v (ap (λ h. add_words (h d) (word_of argument_offset)) g ∙ at) (readable q.bytes bytes);
@@ -208,9 +216,12 @@ apart-registers d s nd ns ne = record {
 }
 
 module _ (code : List ℕ) (trash : ℕ) (s : Seen) (rd rs k a v fp : ℕ) (x : Apart rd rs) (few : k < 16) (holds : s.registers rs ≡ k) (at : add_words (above (s.registers 29) k) (word_of argument_offset) ≡ a)
-    (readable : IsReadable s fp a 8 v) where
+    (readable : IsReadable s fp a 8 v) (safe : LiesAbove Aarch64 (s.registers 31) a 8) where
   abbrev mid : Seen
   mid = seen_behind (a64_computer code trash) (computing rd rs) s
+
+  stack-kept : mid.registers 31 ≡ s.registers 31
+  stack-kept = off-both s.registers s.flags rd rs k x holds 31 (λ e. let h = x.d_small in absurd (omega (arith, e, h))) (λ e. let h = x.s_small in absurd (omega (arith, e, h))) (λ e. absurd (omega (arith, e)))
 
   load-behind : Does (a64_rows code trash) (from_to s (with_register (with_register s.registers rd v) rs (k + 1)) s.bytes mid.flags) (next_argument_load rd rs) fp 0 (spoils a64_scratch [])
   load-behind =
@@ -221,10 +232,10 @@ module _ (code : List ℕ) (trash : ℕ) (s : Seen) (rd rs k a v fp : ℕ) (x : 
       (told (a64_rows code trash) mid (with_register mid.registers rd v) to s.bytes s.bytes mid.flags mid.flags (l ∷ []) fp 0 (spoils a64_scratch [])
       (λ r free. left s.registers s.flags rd rs k x holds v (k + 1) r (next-small k few) (off-scratch r free)) (λ r off. refl) refl
       (load-does code trash mid rd a v fp (spoils a64_scratch []) small
-      (ap (λ z. add_words z (word_of argument_offset)) (address-is s.registers s.flags rd rs k x holds) ∙ at) readable))
+      (ap (λ z. add_words z (word_of argument_offset)) (address-is s.registers s.flags rd rs k x holds) ∙ at) readable (s.registers 31) stack-kept safe))
 
 pub next-arguments-do : (code : List ℕ) (trash : ℕ) → NextArgumentsDo (a64_rows code trash) a64_scratch a64_next_argument
-next-arguments-do code trash frame d s q k a v nd ns ne few f holds at even readable lt =
+next-arguments-do code trash frame d s q k a v nd ns ne few f holds at even readable safe lt =
     let rd = register_of Aarch64 d in
     let rs = register_of Aarch64 s in
     let sp = q.state.registers 31 + frame in
@@ -233,7 +244,7 @@ next-arguments-do code trash frame d s q k a v nd ns ne few f holds at even read
     record {
       flags = (seen_behind (a64_computer code trash) (computing rd rs) (a64_seen q)).flags;
       does = load-behind code trash (a64_seen q) rd rs k a v (q.state.registers 29) (apart-registers d s nd ns ne) few holds
-          (ap (λ p. add_words (above p k) (word_of argument_offset)) f.pointer ∙ leads sp k few low high ∙ at) readable;
+          (ap (λ p. add_words (above p k) (word_of argument_offset)) f.pointer ∙ leads sp k few low high ∙ at) readable safe;
     }
 
 pub has-next-argument-code : (code : List ℕ) (trash : ℕ) → HasNextArgumentCode (a64_rows code trash) a64_next_argument

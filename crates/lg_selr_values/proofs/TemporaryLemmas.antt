@@ -25,6 +25,7 @@ abbrev pub IsOf : Node → Reg → Type 0
 IsOf n r = r ≢ Fp → (is_written n r ≡ true) ⊎ (is_read n r ≡ true)
 
 pub record IsTemporary (n : Node) (choices : List Choice) (u : ℕ) : Type 0 where
+  pub stack : u ≢ 2
   pub nonzero : u ≢ 0
   pub link : u ≢ 1
   pub taken : is_taken choices u ≡ true
@@ -61,7 +62,7 @@ module _ (n : Node) (u : ℕ) where
   tried-apart live staged choices m taken =
       let own = either (stands_in Riscv64 (is_read n) u) (stands_in Riscv64 (is_written n) u) m.own in
       let spare = tried-spare Riscv64 u m.tried in
-      record { nonzero = some u (tried-saved u m.tried); link = λ e. spare.link 1 refl (sym e); taken = taken; apart = λ r of. apart-from r spare.pointer own.0 own.1 of }
+      record { stack = λ e. spare.stack (sym e); nonzero = some u (tried-saved u m.tried); link = λ e. spare.link 1 refl (sym e); taken = taken; apart = λ r of. apart-from r spare.pointer own.0 own.1 of }
 
 -- the register of the choice for a need that is any
 pub temporary-apart : (n : Node) (live : Reg → Bool) (staged : List Bool) (choices : List Choice) → AreFor (around Riscv64 n live staged) (Any ∷ []) [] (Any ∷ []) choices → IsTemporary n choices (first_taken choices)

@@ -1,13 +1,15 @@
 -- `.align` walks to a multiple.
 use Rattle.std.proofs.Common.{◌≡◌, ℕ, zero, suc, ◌+◌, ◌%◌, ◌^◌, ◌<◌, ◌≤◌, ◌⊎◌, ⊎_elim, true, false, List, Some, refl, sym, ap, ◌∙◌, subst, arith, length}
+use Rattle.std.specs.List.{list_all}
 use Rattle.lg_base.specs.Layout.{most_code}
 use Rattle.lg_op.specs.Forms.{is_alignment}
 use Rattle.lg_x86.specs.Spelling.{IsInstr, spelling}
 use Rattle.lg_cpu.specs.Laws.{AreBytes}
 use Rattle.lg_cpu.specs.X86Step.{Scene, scene_of}
 use Rattle.lg_carry.specs.Blocks.{spellings}
-use Rattle.lg_carry_x86.specs.Makings.{makes}
+use Rattle.lg_carry_x86.specs.Makings.{makes, is_still}
 use Rattle.lg_carry_x86.specs.X86Rows.{x86_processor, x86_rows}
+use Rattle.lg_carry_x86.proofs.MakingLemmas.{still-above}
 use Rattle.lg_sel_nodes.specs.Stretches.{behind}
 use Rattle.lg_sel_control.specs.Walks.{AlignmentsWalk}
 use Rattle.lg_sel_control.proofs.IdleLemmas.{idle-length}
@@ -45,6 +47,11 @@ idle-makes : (k : ℕ) (s : Scene) → makes (idle k) s ≡ Some s
 idle-makes zero s = refl
 idle-makes (suc k) s = idle-makes k s
 
+-- and touch nothing
+idle-still : (k : ℕ) → list_all is_still (idle k) ≡ true
+idle-still zero = refl
+idle-still (suc k) = idle-still k
+
 -- ---- they walk
 module _ (code : List ℕ) (trash : ℕ) (small : length code ≤ most_code) (bytes : AreBytes code) (word : trash < 2 ^ 64) where
   pub alignments-walk : AlignmentsWalk (x86_rows code trash) IsInstr align_code
@@ -53,7 +60,8 @@ module _ (code : List ℕ) (trash : ℕ) (small : length code ≤ most_code) (by
       let size = idle-length no_op count in
       let spelled = idle-bytes count in
       let m : Made code trash small bytes word from (align_code from n) (scene_of q.state) q =
-      made-passed code trash small bytes word from (align_code from n) q (scene_of q.state) k (idle-makes count (scene_of q.state)) runs at next.high in
+      made-passed code trash small bytes word from (align_code from n) q (scene_of q.state) k (idle-makes count (scene_of q.state))
+      (still-above (idle count) (scene_of q.state) (idle-still count)) runs at next.high in
       walked (x86_processor code trash) (λ x. false) (λ x e. cc) from (behind (x86_rows code trash) from (align_code from n))
       (behind (x86_rows code trash) from (align_code from n)) (length (align_code from n)) q m.end m.passes
       (let p = (padded from n ok).1 in omega (arith, size, p)) (λ lt. omega (arith, lt, spelled, size)) m.runs m.here

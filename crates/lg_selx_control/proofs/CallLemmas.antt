@@ -1,5 +1,6 @@
 -- Calls on x86-64 push the address behind them.
-use Rattle.std.proofs.Common.{◌≡◌, ◌≢◌, ℕ, zero, suc, ◌+◌, ◌-◌, ◌^◌, ◌<◌, ◌≤◌, ◌⊎◌, true, false, List, [], ◌∷◌, ◌++◌, Some, None, refl, ap, ◌∙◌, arith, length}
+use Rattle.std.proofs.Common.{◌≡◌, ◌≢◌, ℕ, zero, suc, ◌+◌, ◌-◌, ◌^◌, ◌<◌, ◌≤◌, ◌⊎◌, true, false, List, [], ◌∷◌, ◌++◌, Some, None, refl, sym, ap, ◌∙◌, subst, arith, length}
+use Rattle.std.specs.List.{list_all}
 use Rattle.std.specs.Prelude.{pos, ◌-ℤ◌, slice_index, if◌then◌else◌}
 use Rattle.lg_base.specs.Conventions.{argument_registers, portable_register}
 use Rattle.lg_base.specs.HostNames.{host_address}
@@ -28,8 +29,12 @@ use Rattle.lg_cpu.specs.Steps.{Run, Effect, after, arrived, status_of}
 use Rattle.lg_cpu.specs.X86Step.{scene_of, goes, goes_with, pushes, takes_al, does}
 use Rattle.lg_temp.specs.Abis.{register_of}
 use Rattle.lg_carry_x86.specs.MakingNodes.{scene}
-use Rattle.lg_carry_x86.specs.Makings.{makes}
+use Rattle.lg_carry.specs.Processors.{IsOff, is_below}
+use Rattle.lg_carry_x86.proofs.SlotLemmas.{in-zone}
+use Rattle.lg_carry_x86.specs.Makings.{makes, is_still}
+use Rattle.lg_carry_x86.specs.Touched.{touched, beneath}
 use Rattle.lg_carry_x86.specs.X86Rows.{x86_processor, x86_rows, x86_seen}
+use Rattle.lg_carry_x86.proofs.MakingLemmas.{still-above}
 use Rattle.lg_sel_nodes.specs.Leaps.{CallsLead, HostCallsLead}
 use Rattle.lg_sel_nodes.specs.Stretches.{HasFrame, StandsAt, behind, Arrival}
 use Rattle.lg_sel_control.specs.RegisterLeaps.{RegisterCallsLead, RegisterHostCallsLead}
@@ -110,11 +115,19 @@ module _ (code : List ℕ) (trash : ℕ) (small : length code ≤ most_code) (by
   kept-argument (suc (suc (suc (suc (suc zero))))) lt = kept 9 (λ z. cc) (λ z. cc) (λ z. cc)
   kept-argument (suc (suc (suc (suc (suc (suc j)))))) lt = absurd (omega (arith, lt))
 
-  pub call-arrival : does x high last ≡ goes_with last to Memory (pushes high (scene_of last)) → Arrival (x86_processor code trash) from high sp high to q
-  call-arrival acts = record {
+  -- the word that is pushed lies in the zone below the stack pointer
+  pushes-above : touched x W ≡ beneath W → IsOff (is_below X86_64 (W 4)) (touched x W)
+  pushes-above touches =
+      let lower = same 4 (λ z. cc) (λ z. cc) in
+      let word : sub_words (W 4) 8 ≡ sp - 8 = ap (λ z. sub_words z 8) lower ∙ eight-below sp f.low stack-top in
+      subst (IsOff (is_below X86_64 (W 4))) (sym touches) (λ a le lt. in-zone (W 4) a (omega (arith, le, word, lower)))
+
+  pub call-arrival : list_all is_still front ≡ true → touched x W ≡ beneath W → does x high last ≡ goes_with last to Memory (pushes high (scene_of last)) → Arrival (x86_processor code trash) from high sp high to q
+  call-arrival still touches acts = record {
     end = after (front_run code trash small bytes word from front x q (scene W q.state.flags q.state.bytes) k made runs at) e;
     steps = length front + 1;
-    passes = front-passed code trash small bytes word from front x q (scene W q.state.flags q.state.bytes) k made runs at e (acts ∙ is-pushed);
+    passes = front-passed code trash small bytes word from front x q (scene W q.state.flags q.state.bytes) k made runs at
+        (still-above front (scene_of q.state) still) (pushes-above touches) e (acts ∙ is-pushed);
     few = omega (arith, few);
     some = omega arith;
     runs = there;
@@ -138,7 +151,7 @@ module _ (code : List ℕ) (trash : ℕ) (small : length code ≤ most_code) (by
       let top = front-top code trash small bytes word from [] x q (scene_of q.state) k refl runs at in
       let last : CpuState = front_state code trash small bytes word from [] x q (scene_of q.state) k refl runs at in
       let t = there.high in
-      call-arrival code trash small bytes word from to frame [] x q.state.registers q f k refl (omega arith) runs at (runs-there to there.low) (λ z n m. refl)
+      call-arrival code trash small bytes word from to frame [] x q.state.registers q f k refl (omega arith) runs at (runs-there to there.low) (λ z n m. refl) refl refl
       (ap (λ y. goes_with last y Memory (pushes high (scene_of last))) (leads-there high (from + 5) to (omega arith) (omega (arith, top)) (omega (arith, t))))
 
   -- of the word in r11, with al = 0
@@ -160,7 +173,7 @@ module _ (code : List ℕ) (trash : ℕ) (small : length code ≤ most_code) (by
       let high : ℕ = behind (x86_rows code trash) from (register_call_code frame a) in
       let last : CpuState = front_state code trash small bytes word from front x q (scene W q.state.flags q.state.bytes) k refl runs at in
       call-arrival code trash small bytes word from to frame front x W q f k refl (omega arith) runs at there
-      (λ z n m. moves-keep q.state.registers (q.state.registers (register_of X86_64 a)) z n m)
+      (λ z n m. moves-keep q.state.registers (q.state.registers (register_of X86_64 a)) z n m) refl refl
       (ap (λ y. goes_with last y Memory (pushes high (scene_of last))) is)
 
   pub register-calls-lead : RegisterCallsLead (x86_rows code trash) IsInstr register_call_code
@@ -186,7 +199,7 @@ module _ (code : List ℕ) (trash : ℕ) (small : length code ≤ most_code) (by
       let W : ℕ → ℕ = behind_moves q.state.registers (host_address name) in
       let front : List Instr = instr.Movi32 11 (host_address name) ∷ (instr.Movi32 0 0 ∷ []) in
       call-arrival code trash small bytes word from (host_address name) frame front (instr.JumpReg Callr 11) W q f k refl (omega arith) runs at
-      (entry-runs name) (λ z n m. moves-keep q.state.registers (host_address name) z n m) refl
+      (entry-runs name) (λ z n m. moves-keep q.state.registers (host_address name) z n m) refl refl refl
 
   pub host-calls-lead : HostCallsLead (x86_rows code trash) x86_ready IsInstr host_code
   unfolding host-arrival call-arrival

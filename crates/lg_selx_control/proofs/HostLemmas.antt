@@ -99,6 +99,9 @@ module _ (code : List ℕ) (trash : ℕ) (small : length code ≤ most_code) (by
           high = is-sound.mark;
         };
     exits = λ q name stack back status arr e.
-        let z = answered q name stack back (Exits status) arr e in
-        (ap (λ (r : Run CpuState). status_of r.progress) z, ap (λ (r : Run CpuState). r.out) z ∙ append-nil q.out);
+        let z = answered q name stack back (Exits status) arr e in (
+          ap (λ (r : Run CpuState). status_of r.progress) z,
+          ap (λ (r : Run CpuState). r.out) z ∙ append-nil q.out,
+          record { bytes = λ a lt. ap (λ (r : Run CpuState). r.state.bytes a) z; mark = ap (λ (r : Run CpuState). r.state.mark) z },
+        );
   }

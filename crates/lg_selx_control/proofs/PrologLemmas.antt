@@ -27,7 +27,10 @@ use Rattle.lg_carry.specs.Registers.{HasWord}
 use Rattle.lg_carry.proofs.SpillLemmas.{stored-there}
 use Rattle.lg_carry.proofs.WordLemmas.{word-kept}
 use Rattle.lg_carry_x86.specs.MakingNodes.{scene}
-use Rattle.lg_carry_x86.specs.Makings.{makes}
+use Rattle.lg_carry_x86.proofs.SlotLemmas.{in-zone}
+use Rattle.lg_carry.proofs.BlockLemmas.{no-width}
+use Rattle.lg_carry_x86.specs.Makings.{makes, is_still, AreAbove}
+use Rattle.lg_carry_x86.proofs.MakingLemmas.{still-above, above-first}
 use Rattle.lg_carry_x86.specs.X86Rows.{x86_processor, x86_rows, x86_seen}
 use Rattle.lg_sel_nodes.specs.Stretches.{StandsAt, behind}
 use Rattle.lg_sel_control.specs.Prologs.{Entrance, PrologsLead}
@@ -69,6 +72,19 @@ module _ (sp : ℕ) (low : 0x3FF00010 + 272 ≤ sp) (high : sp ≤ 0x40000000) w
       let is-there : mapped m (word_below sp 1) 8 ≡ true = mapped-below m sp 1 (omega arith) low high there in
       rw (address, is-there) refl
 
+  -- no store lies further below the stack pointer than the zone
+  stores-above : (rs : List ℕ) (k : ℕ) (rest : List Instr) (w : ℕ → ℕ) (f : Flags) (m : ℕ → Option ℕ) → 2 ≤ k → k + length rs ≤ 13 → w 5 ≡ sp - 16 → w 4 ≡ sp - 8
+      → HasStack m → list_all is_still rest ≡ true → AreAbove (stores_below rs k ++ rest) (scene w f m)
+  stores-above [] k rest w f m some few at top there still = still-above rest (scene w f m) still
+  stores-above (r ∷ rs) k rest w f m some few at top there still =
+      let address : add_words (w 5) (word_of (negsuc (8 * k - 9))) ≡ word_below sp k =
+      ap (λ x. add_words x (word_of (negsuc (8 * k - 9)))) at ∙ store-address sp k some (omega (arith, few)) low high in
+      above-first (store_word r k) (stores_below rs (suc k) ++ rest) (scene w f m) (scene w f (stored m (word_below sp k) 8 (w r)))
+      (store-made r k w f m some (omega (arith, few)) at there)
+      (λ a le lt. in-zone (w 4) a (omega (arith, le, address, top, few, low)))
+      (stores-above rs (suc k) rest w f (stored m (word_below sp k) 8 (w r)) (omega (arith, some)) (omega (arith, few)) at top
+      (λ j e. stored-there m (word_below sp k) 8 (w r) j (there j e)) still)
+
 -- none of them is FP, which is set before
 are-others : (homes : ℕ) → list_all (λ r. not (r == 5)) (stored_registers homes) ≡ true
 are-others homes = take-all (λ r. not (r == 5)) (argument_registers X86_64) homes refl
@@ -109,6 +125,17 @@ module _ (size homes sp : ℕ) (w : ℕ → ℕ) (f : Flags) (m : ℕ → Option
       ∙ ap (λ b. makes (lowered size) (scene (put w 5 (sp - 16)) f b)) (stored-besides w 5 (sp - 16) sp (stored_registers homes) 2 m1 (are-others homes))
       ∙ ap (λ x. Some (scene (put (put w 5 (sp - 16)) 4 x) f end_bytes)) (lower-is size sp large room top)
 
+  prolog-above : AreAbove (prolog_code size homes) (scene w f m)
+  prolog-above =
+      let m1 : ℕ → Option ℕ = stored m (word_below sp 1) 8 (w 5) in
+      let address : add_words (w 4) (word_of (negsuc 7)) ≡ sp - 16 = ap (λ x. add_words x (word_of (negsuc 7))) at ∙ first-address sp low top in
+      above-first (instr.Store St64 4 (negsuc 7) 5) (instr.Load Lea 5 4 (negsuc 7) ∷ (stores_below (stored_registers homes) 2 ++ lowered size))
+      (scene w f m) (scene w f m1) (first-made sp low top w f m at there) (λ a le lt. in-zone (w 4) a (omega (arith, le, address, at)))
+      (above-first (instr.Load Lea 5 4 (negsuc 7)) (stores_below (stored_registers homes) 2 ++ lowered size) (scene w f m1) (scene (put w 5 (sp - 16)) f m1)
+      (ap (λ x. Some (scene (put w 5 x) f m1)) address) (no-width _ _)
+      (stores-above sp low top (stored_registers homes) 2 (lowered size) (put w 5 (sp - 16)) f m1 (omega arith) few refl at
+      (λ j e. stored-there m (word_below sp 1) 8 (w 5) j (there j e)) refl))
+
 -- ---- what is then in the frame
 module _ (code : List ℕ) (trash : ℕ) (small : length code ≤ most_code) (bytes-small : AreBytes code) (trash-word : trash < 2 ^ 64)
     (size homes from sp : ℕ) (q : Run CpuState) (seen : IsSeen (x86_seen q)) (large : 272 ≤ size) (room : least_frame + size ≤ sp) (top : sp ≤ stack_end)
@@ -131,7 +158,8 @@ module _ (code : List ℕ) (trash : ℕ) (small : length code ≤ most_code) (by
 
   done-it : Made code trash small bytes-small trash-word from all (scene W q.state.flags b) q
   done-it = made-passed code trash small bytes-small trash-word from all q (scene W q.state.flags b) k
-      (prolog-makes size homes sp v q.state.flags q.state.bytes large room top at (λ j e. seen.stack j e)) runs here
+      (prolog-makes size homes sp v q.state.flags q.state.bytes large room top at (λ j e. seen.stack j e))
+      (prolog-above size homes sp v q.state.flags q.state.bytes large room top at (λ j e. seen.stack j e)) runs here
       (stands-high code trash small bytes-small trash-word from all (omega arith) k)
 
   registers-are : done-it.end.state.registers ≡ W

@@ -1,5 +1,5 @@
 -- Returns leave their frame.
-use Rattle.std.proofs.Common.{◌≡◌, ℕ, zero, suc, ◌+◌, ◌-◌, ◌^◌, ◌<◌, ◌≤◌, List, [], ◌∷◌, ◌++◌, Option, Some, refl, ap, ◌∙◌, subst, arith, length}
+use Rattle.std.proofs.Common.{◌≡◌, ℕ, zero, suc, ◌+◌, ◌-◌, ◌^◌, ◌<◌, ◌≤◌, List, [], ◌∷◌, ◌++◌, Option, Some, None, refl, ap, ◌∙◌, subst, arith, length}
 use Rattle.std.proofs.Common.{append_assoc, length-append}
 use Rattle.std.specs.Prelude.{ℤ, pos, negsuc}
 use Rattle.std.specs.Option.{option_and_then}
@@ -25,9 +25,12 @@ use Rattle.lg_cpu.specs.Steps.{Run, Effect, after, status_of}
 use Rattle.lg_cpu.specs.X86Step.{Scene, scene_of, made, sets_loaded, returns}
 use Rattle.lg_carry.specs.Registers.{HasWord}
 use Rattle.lg_carry_x86.specs.MakingNodes.{scene}
-use Rattle.lg_carry_x86.specs.Makings.{makes}
+use Rattle.lg_carry.specs.Processors.{IsOff, is_below}
+use Rattle.lg_carry_x86.proofs.SlotLemmas.{in-zone}
+use Rattle.lg_carry.proofs.BlockLemmas.{no-width}
+use Rattle.lg_carry_x86.specs.Makings.{makes, AreAbove}
 use Rattle.lg_carry_x86.specs.X86Rows.{x86_processor, x86_rows, x86_seen}
-use Rattle.lg_carry_x86.proofs.MakingLemmas.{makes-append}
+use Rattle.lg_carry_x86.proofs.MakingLemmas.{makes-append, makings-still, still-above, above-append, above-first}
 use Rattle.lg_carry_x86.proofs.NumberCodeLemmas.{row-loads}
 use Rattle.lg_sel_nodes.specs.Stretches.{HasFrame, StandsAt, behind, PassesIn}
 use Rattle.lg_sel_control.specs.Returns.{Returned, NoWord, OfRegister, OfNumber, OfLabel, returned_word, IsReturned, Departure, ReturnsLead}
@@ -45,16 +48,18 @@ record Results (r : Returned) (s : Scene) : Type 0 where
   makes_it : makes (result_code r) s ≡ Some (scene registers s.flags s.bytes)
   value : (x : ℕ) → returned_word X86_64 s.registers r ≡ Some x → registers 0 ≡ x
   frame : registers 5 ≡ s.registers 5
+  stack : registers 4 ≡ s.registers 4
   few : length (result_code r) ≤ 1
 
 results : (r : Returned) (s : Scene) → IsReturned r → Results r s
-results NoWord s ok = record { registers = s.registers; makes_it = refl; value = λ x e. cc; frame = refl; few = omega arith }
-results (OfRegister R0) s ok = record { registers = s.registers; makes_it = refl; value = λ x e. some-same (s.registers 0) x e; frame = refl; few = omega arith }
+results NoWord s ok = record { registers = s.registers; makes_it = refl; value = λ x e. cc; frame = refl; stack = refl; few = omega arith }
+results (OfRegister R0) s ok = record { registers = s.registers; makes_it = refl; value = λ x e. some-same (s.registers 0) x e; frame = refl; stack = refl; few = omega arith }
 results (OfRegister a) s ok = record {
   registers = put s.registers 0 (s.registers (register_of X86_64 a));
   makes_it = refl;
   value = λ x e. some-same (s.registers (register_of X86_64 a)) x e;
   frame = refl;
+  stack = refl;
   few = omega arith;
 }
 results (OfNumber v) s ok = record {
@@ -62,6 +67,7 @@ results (OfNumber v) s ok = record {
   makes_it = ap (option_and_then (makes [])) ((row-loads 0 v (omega arith) ok).value s);
   value = λ x e. some-same v x e;
   frame = refl;
+  stack = refl;
   few = omega arith;
 }
 results (OfLabel address) s ok = record {
@@ -69,6 +75,7 @@ results (OfLabel address) s ok = record {
   makes_it = refl;
   value = λ x e. some-same address x e;
   frame = refl;
+  stack = refl;
   few = omega arith;
 }
 
@@ -78,6 +85,11 @@ load-made : (s : Scene) (d fp address x : ℕ) (offset : ℤ) → s.registers 5 
     → made (instr.Load Ld64 d 5 offset) s ≡ Some (scene (put s.registers d x) s.flags s.bytes)
 load-made s d fp address x offset at e held =
     ap (λ z. sets_loaded Ld64 d s (loaded s.bytes z 8)) (ap (λ y. add_words y (word_of offset)) at ∙ e) ∙ ap (sets_loaded Ld64 d s) held
+
+-- of a word that lies no further below the stack pointer than the zone
+load-above : (w : ℕ → ℕ) (address : ℕ) (offset : ℤ) → add_words (w 5) (word_of offset) ≡ address → w 4 ≤ address + 128
+    → IsOff (is_below X86_64 (w 4)) record { from = add_words (w 5) (word_of offset); width = 8 }
+load-above w address offset at low a le lt = in-zone (w 4) a (omega (arith, le, at, low))
 
 below-return : (sp : ℕ) → 0x3FF00010 + 272 ≤ sp → sp ≤ 0x40000000 → add_words (sp - 16) 8 ≡ sp - 8
 below-return sp low high = grind (arith, low, high)
@@ -123,6 +135,26 @@ module _ (w : ℕ → ℕ) (f : Flags) (m : ℕ → Option ℕ) (sp : ℕ) (low 
       ∙ ap (option_and_then (makes [])) (load-made (scene w4 f m) 5 fp fp _ (pos 0) pointer (pointer-address sp low high)
       (stack-word m fp there (omega (arith, low)) (omega (arith, high))))
 
+  -- none of them lies further below the stack pointer than the zone
+  pub restores-above : w 4 + 272 ≤ sp → AreAbove restore_code (scene w f m)
+  restores-above size =
+      let first = ap (λ y. add_words y (word_of (negsuc 7))) pointer ∙ saved-address sp 0 (omega arith) low high in
+      let second = ap (λ y. add_words y (word_of (negsuc 15))) pointer ∙ saved-address sp 1 (omega arith) low high in
+      let third = ap (λ y. add_words y (word_of (negsuc 23))) pointer ∙ saved-address sp 2 (omega arith) low high in
+      let last = ap (λ y. add_words y (word_of (pos 0))) pointer ∙ pointer-address sp low high in
+      above-first (instr.Load Ld64 3 5 (negsuc 7)) (instr.Load Ld64 13 5 (negsuc 15) ∷ (instr.Load Ld64 14 5 (negsuc 23) ∷ (instr.Load Lea 4 5 (pos 8) ∷ (instr.Load Ld64 5 5 (pos 0) ∷ []))))
+      (scene w f m) (scene w1 f m) (load-made (scene w f m) 3 fp (saved_word fp 0) _ (negsuc 7) pointer (saved-address sp 0 (omega arith) low high) (saved 0 (omega arith)))
+      (load-above w (saved_word fp 0) (negsuc 7) first (omega (arith, size)))
+      (above-first (instr.Load Ld64 13 5 (negsuc 15)) (instr.Load Ld64 14 5 (negsuc 23) ∷ (instr.Load Lea 4 5 (pos 8) ∷ (instr.Load Ld64 5 5 (pos 0) ∷ [])))
+      (scene w1 f m) (scene w2 f m) (load-made (scene w1 f m) 13 fp (saved_word fp 1) _ (negsuc 15) pointer (saved-address sp 1 (omega arith) low high) (saved 1 (omega arith)))
+      (load-above w1 (saved_word fp 1) (negsuc 15) second (omega (arith, size)))
+      (above-first (instr.Load Ld64 14 5 (negsuc 23)) (instr.Load Lea 4 5 (pos 8) ∷ (instr.Load Ld64 5 5 (pos 0) ∷ []))
+      (scene w2 f m) (scene w3 f m) (load-made (scene w2 f m) 14 fp (saved_word fp 2) _ (negsuc 23) pointer (saved-address sp 2 (omega arith) low high) (saved 2 (omega arith)))
+      (load-above w2 (saved_word fp 2) (negsuc 23) third (omega (arith, size)))
+      (above-first (instr.Load Lea 4 5 (pos 8)) (instr.Load Ld64 5 5 (pos 0) ∷ []) (scene w3 f m) (scene w4 f m)
+      (ap (λ x. Some (scene (put w3 4 x) f m)) (ap (λ y. add_words y 8) moved ∙ below-return sp low high))
+      (no-width _ _) (load-above w4 fp (pos 0) last (omega (arith, low)), λ t e. tt))))
+
 -- ---- the return
 module _ (code : List ℕ) (trash : ℕ) (small : length code ≤ most_code) (bytes : AreBytes code) (word : trash < 2 ^ 64)
     (frame from back : ℕ) (r : Returned) (q : Run CpuState) (ok : IsReturned r) (f : HasFrame X86_64 frame (x86_seen q))
@@ -154,6 +186,15 @@ module _ (code : List ℕ) (trash : ℕ) (small : length code ≤ most_code) (by
   made-all = makes-append (result_code r) restore_code (scene_of q.state) (scene made-result.registers q.state.flags m) (scene w q.state.flags m)
       made-result.makes_it (restores made-result.registers q.state.flags m sp low-frame f.high pointer-is f.seen.stack)
 
+  above-all : AreAbove front (scene_of q.state)
+  above-all =
+      let bare = results r (scene q.state.registers q.state.flags (λ a. None)) ok in
+      above-append (result_code r) restore_code (scene_of q.state) (scene made-result.registers q.state.flags m) made-result.makes_it
+      (still-above (result_code r) (scene_of q.state)
+      (makings-still (result_code r) q.state.registers q.state.flags (scene bare.registers q.state.flags (λ a. None)) bare.makes_it))
+      (restores-above made-result.registers q.state.flags m sp low-frame f.high pointer-is f.seen.stack
+      (let s = made-result.stack in let l = f.large in omega (arith, s, l)))
+
   abbrev high : ℕ
   high = behind (x86_rows code trash) from (front ++ (instr.Bare Ret ∷ []))
 
@@ -167,7 +208,8 @@ module _ (code : List ℕ) (trash : ℕ) (small : length code ≤ most_code) (by
   u = after (front_run code trash small bytes word from front (instr.Bare Ret) q (scene w q.state.flags m) k made-all runs at) e
 
   pass : PassesIn (x86_processor code trash) from high (length front + 1) q u
-  pass = front-passed code trash small bytes word from front (instr.Bare Ret) q (scene w q.state.flags m) k made-all runs at e (ap (returns last) held)
+  pass = front-passed code trash small bytes word from front (instr.Bare Ret) q (scene w q.state.flags m) k made-all runs at above-all
+      (λ a le lt. in-zone (sp - 8) a (omega (arith, le))) e (ap (returns last) held)
 
   -- the words of the frame come back
   is-left : IsLeft (x86_processor code trash) sp back (returned_word X86_64 q.state.registers r) q u

@@ -1,5 +1,5 @@
 -- Instructions of x86-64 that stand in the code, and runs over them.
-use Rattle.std.proofs.Common.{◌≡◌, ℕ, ◌+◌, ◌^◌, ◌<◌, ◌≤◌, List, [], ◌∷◌, ◌++◌, Some, sym, ap, ◌∙◌, arith, length, append-nil, length-append}
+use Rattle.std.proofs.Common.{◌≡◌, ℕ, ◌+◌, ◌^◌, ◌<◌, ◌≤◌, List, [], ◌∷◌, ◌++◌, Some, sym, ap, ◌∙◌, subst, arith, length, append-nil, length-append}
 use Rattle.lg_base.specs.Layout.{code_base, most_code}
 use Rattle.lg_base.specs.Runs.{Running}
 use Rattle.lg_base.specs.Words.{add_words}
@@ -12,8 +12,8 @@ use Rattle.lg_cpu.specs.Steps.{Run, Effect, after, status_of}
 use Rattle.lg_cpu.specs.X86Step.{Scene, scene_of, does, act}
 use Rattle.lg_carry.specs.Blocks.{spellings, done}
 use Rattle.lg_carry.specs.Rows.{AreRows}
-use Rattle.lg_carry_x86.specs.Makings.{makes, RunsMakings}
-use Rattle.lg_carry_x86.specs.X86Rows.{x86_processor, x86_rows, x86_does}
+use Rattle.lg_carry_x86.specs.Makings.{makes, AreAbove, RunsMakings}
+use Rattle.lg_carry_x86.specs.X86Rows.{x86_processor, x86_rows, x86_does, acts_above}
 use Rattle.lg_carry_x86.proofs.MakingLemmas.{makes-block, makings-run}
 use Rattle.lg_carry_x86.proofs.RowLemmas.{are-rows, went}
 use Rattle.lg_carry_x86.proofs.SlotLemmas.{pc-next}
@@ -59,18 +59,20 @@ module _ (code : List ℕ) (trash : ℕ) (small : length code ≤ most_code) (by
     abbrev pub front_run : Run CpuState
     front_run = done x86_does front q
 
-    pub front-ran : RunsMakings front q t
-    front-ran = let l = k.low in let s = front-size in let h = front-top in makings-run front q t made runs (omega (arith, l, at)) (omega (arith, s, h, at))
+    pub front-ran : AreAbove front (scene_of q.state) → RunsMakings front q t
+    front-ran above =
+        let l = k.low in let s = front-size in let h = front-top in makings-run front q t made above runs (omega (arith, l, at)) (omega (arith, s, h, at))
 
     -- the state before that one
     abbrev pub front_state : CpuState
     front_state = state_of (from + length (spellings spelling front)) t q.state.mark
 
-    pub front-behind : front_run.state.pc ≡ from + length (spellings spelling front)
-    front-behind = front-ran.behind ∙ ap (λ n. n + length (spellings spelling front)) at
+    pub front-behind : AreAbove front (scene_of q.state) → front_run.state.pc ≡ from + length (spellings spelling front)
+    front-behind above = (front-ran above).behind ∙ ap (λ n. n + length (spellings spelling front)) at
 
-    pub front-left : front_run.state ≡ front_state
-    front-left = same-state front_run.state (from + length (spellings spelling front)) t q.state.mark front-behind front-ran.scene front-ran.mark
+    pub front-left : AreAbove front (scene_of q.state) → front_run.state ≡ front_state
+    front-left above =
+        let r = front-ran above in same-state front_run.state (from + length (spellings spelling front)) t q.state.mark (front-behind above) r.scene r.mark
 
     pub front-next : add_words (from + length (spellings spelling front)) (length (spelling x)) ≡ front_high
     front-next =
@@ -78,15 +80,16 @@ module _ (code : List ℕ) (trash : ℕ) (small : length code ≤ most_code) (by
         pc-next (from + length (spellings spelling front)) (length (spelling x)) (omega (arith, s, h)) ∙ sym s
 
     -- all are passed, by what that one does
-    pub front-passed : (e : Effect CpuState) → does x front_high front_state ≡ e
+    pub front-passed : AreAbove front (scene_of q.state) → acts_above x front_state → (e : Effect CpuState) → does x front_high front_state ≡ e
         → PassesIn (x86_processor code trash) from front_high (length front + 1) q (after front_run e)
-    front-passed e is =
+    front-passed above here e is =
         passages-join (x86_processor code trash) from front_high (length front) 1 q front_run (after front_run e)
         (part-passes (x86_rows code trash) IsInstr rows from [] front (x ∷ []) q k (at ∙ omega arith) (makes-block front (scene_of q.state) t made)
-        front-ran.through)
-        (stretches.one-passed (x86_rows code trash) IsInstr rows from front x [] front_run (after front_run e) k front-ran.runs front-behind
-        (went front_run (act x (length (spelling x)) front_run.state) front-ran.runs
-        ∙ ap (after front_run) (ap (act x (length (spelling x))) front-left ∙ ap (λ pc. does x pc front_state) front-next ∙ is)))
+        (front-ran above).through)
+        (stretches.one-passed (x86_rows code trash) IsInstr rows from front x [] front_run (after front_run e) k (front-ran above).runs
+        (subst (acts_above x) (sym (front-left above)) here) (front-behind above)
+        (went front_run (act x (length (spelling x)) front_run.state) (front-ran above).runs
+        ∙ ap (after front_run) (ap (act x (length (spelling x))) (front-left above) ∙ ap (λ pc. does x pc front_state) front-next ∙ is)))
 
   -- ---- instructions that make a scene, and no other
   pub record Made (from : ℕ) (is : List Instr) (t : Scene) (q : Run CpuState) : Type 0 where
@@ -98,11 +101,11 @@ module _ (code : List ℕ) (trash : ℕ) (small : length code ≤ most_code) (by
     pub mark : end.state.mark ≡ q.state.mark
 
   pub made-passed : (from : ℕ) (is : List Instr) (q : Run CpuState) (t : Scene) → StandsAt (x86_rows code trash) IsInstr from is
-      → makes is (scene_of q.state) ≡ Some t → status_of q.progress ≡ Running → q.state.pc ≡ from
+      → makes is (scene_of q.state) ≡ Some t → AreAbove is (scene_of q.state) → status_of q.progress ≡ Running → q.state.pc ≡ from
       → behind (x86_rows code trash) from is ≤ code_base + most_code → Made from is t q
-  made-passed from is q t k made runs at room =
+  made-passed from is q t k made above runs at room =
       let l = k.low in
-      let ran = makings-run is q t made runs (omega (arith, l, at)) (omega (arith, room, at)) in record {
+      let ran = makings-run is q t made above runs (omega (arith, l, at)) (omega (arith, room, at)) in record {
         end = done x86_does is q;
         passes = stretches.all-passed (x86_rows code trash) IsInstr rows from is q (done x86_does is q) k at (makes-block is (scene_of q.state) t made)
             ran.through (λ j. done x86_does is q);

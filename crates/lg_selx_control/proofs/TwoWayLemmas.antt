@@ -1,5 +1,6 @@
 -- A jump on a condition leads to two ways: to its label, or behind itself.
 use Rattle.std.proofs.Common.{◌≡◌, ℕ, ◌+◌, ◌^◌, ◌<◌, ◌≤◌, Bool, true, false, List, Some, refl, sym, ap, ◌∙◌, subst, arith, length}
+use Rattle.std.specs.List.{list_all}
 use Rattle.std.specs.Prelude.{pos, ◌-ℤ◌, if◌then◌else◌}
 use Rattle.lg_base.specs.Fields.{word_of}
 use Rattle.lg_base.specs.Layout.{code_base, most_code}
@@ -15,8 +16,10 @@ use Rattle.lg_cpu.specs.X86Operators.{condition_holds}
 use Rattle.lg_cpu.specs.X86Step.{Scene, scene_of, goes_where, does}
 use Rattle.lg_carry.specs.Blocks.{spellings}
 use Rattle.lg_carry_x86.specs.MakingNodes.{scene}
+use Rattle.lg_carry_x86.specs.Makings.{is_still}
 use Rattle.lg_carry_x86.specs.X86Computers.{x86_scratch}
 use Rattle.lg_carry_x86.specs.X86Rows.{x86_processor, x86_rows}
+use Rattle.lg_carry_x86.proofs.MakingLemmas.{still-off, still-above}
 use Rattle.lg_sel_nodes.specs.Leaps.{IsThere}
 use Rattle.lg_sel_nodes.specs.Stretches.{StandsAt, behind, Way}
 use Rattle.lg_sel_control.proofs.ChainLemmas.{runs-there}
@@ -44,12 +47,18 @@ jump-does Short c at to next q = refl
 jump-does Near c at to next q = refl
 jump-does Far c at to next q = refl
 
+-- it touches nothing
+jump-still : (r : Reach) (c : Cond) (at to : ℕ) → is_still (jump_if r c at to) ≡ true
+jump-still Short c at to = refl
+jump-still Near c at to = refl
+jump-still Far c at to = refl
+
 -- the jump, where what stands before it tells whether it is taken
 module _ (code : List ℕ) (trash : ℕ) (small : length code ≤ most_code) (bytes : AreBytes code) (word : trash < 2 ^ 64)
     (r : Reach) (front : List Instr) (c : Cond) (from to : ℕ) (q : Run CpuState) (k : StandsAt (x86_rows code trash) IsInstr from (branch_if r front c from to))
     (runs : status_of q.progress ≡ Running) (at : q.state.pc ≡ from) (goes-there : Bool) (there : goes-there ≡ true → IsThere (x86_rows code trash).is_place to)
     (next : IsThere (x86_rows code trash).is_place (behind (x86_rows code trash) from (branch_if r front c from to)))
-    (W : ℕ → ℕ) (m : Tells front c W goes-there (scene_of q.state)) where
+    (W : ℕ → ℕ) (m : Tells front c W goes-there (scene_of q.state)) (still : list_all is_still front ≡ true) where
   abbrev size : ℕ
   size = length (spellings spelling front)
 
@@ -82,7 +91,8 @@ module _ (code : List ℕ) (trash : ℕ) (small : length code ≤ most_code) (by
       let few = m.few in record {
         end = after (front_run code trash small bytes word from front jump q t k m.makes_it runs at) e;
         steps = length front + 1;
-        passes = front-passed code trash small bytes word from front jump q t k m.makes_it runs at e acts;
+        passes = front-passed code trash small bytes word from front jump q t k m.makes_it runs at
+            (still-above front (scene_of q.state) still) (still-off _ jump last.registers (jump-still r c (from + size) to)) e acts;
         few = omega (arith, few);
         some = omega arith;
         runs = runs-there target low;

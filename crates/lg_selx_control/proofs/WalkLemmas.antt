@@ -16,6 +16,7 @@ use Rattle.lg_cpu.specs.States.{CpuState, goes_on}
 use Rattle.lg_cpu.specs.Steps.{Effect, after}
 use Rattle.lg_cpu.specs.X86Step.{scene_of}
 use Rattle.lg_temp.specs.Abis.{register_of}
+use Rattle.lg_carry.proofs.BlockLemmas.{nothing-off}
 use Rattle.lg_carry_x86.specs.X86Rows.{x86_processor, x86_rows}
 use Rattle.lg_sel_nodes.specs.Stretches.{behind}
 use Rattle.lg_sel_control.specs.RegisterLeaps.{RegisterJumpsWalk}
@@ -44,7 +45,7 @@ module _ (code : List ℕ) (trash : ℕ) (small : length code ≤ most_code) (by
       let e : Effect CpuState = goes_on (front_state code trash small bytes word from [] jump q (scene_of q.state) k refl runs at) to in
       let leads = leads-there high (from + 5) to (omega arith) (omega (arith, top)) (omega (arith, t)) in
       walked (x86_processor code trash) (λ x. false) (λ x e. cc) from high to 1 q (after q e)
-      (front-passed code trash small bytes word from [] jump q (scene_of q.state) k refl runs at e
+      (front-passed code trash small bytes word from [] jump q (scene_of q.state) k refl runs at tt (nothing-off _) e
       (ap (goes_on (front_state code trash small bytes word from [] jump q (scene_of q.state) k refl runs at)) leads))
       (omega arith) (λ lt. omega arith) (runs-there to there.low) refl (λ x off. refl) refl refl
 
@@ -54,6 +55,6 @@ module _ (code : List ℕ) (trash : ℕ) (small : length code ≤ most_code) (by
       let high : ℕ = behind (x86_rows code trash) from (register_jump_code frame a) in
       let e : Effect CpuState = goes_on (front_state code trash small bytes word from [] jump q (scene_of q.state) k refl runs at) to in
       walked (x86_processor code trash) (λ x. false) (λ x e. cc) from high to 1 q (after q e)
-      (front-passed code trash small bytes word from [] jump q (scene_of q.state) k refl runs at e
+      (front-passed code trash small bytes word from [] jump q (scene_of q.state) k refl runs at tt (nothing-off _) e
       (ap (goes_on (front_state code trash small bytes word from [] jump q (scene_of q.state) k refl runs at)) is))
       (omega arith) (λ lt. omega arith) (runs-there to there.low) refl (λ x off. refl) refl refl

@@ -1,6 +1,7 @@
 -- Passing an argument of a call.
-use Rattle.std.proofs.Common.{◌≡◌, ◌≢◌, ℕ, zero, suc, ◌-◌, ◌*◌, ◌<◌, Bool, true, false, List, [], ◌∷◌, ◌++◌, Option, refl, sym, ap, ◌∙◌, subst, arith, length}
+use Rattle.std.proofs.Common.{◌≡◌, ◌≢◌, ℕ, zero, suc, ◌-◌, ◌*◌, ◌<◌, ◌≤◌, Bool, true, false, List, [], ◌∷◌, ◌++◌, inr, Option, None, refl, sym, ap, ◌∙◌, subst, arith, length}
 use Rattle.std.specs.Prelude.{nat_lt, if◌then◌else◌, slice_index, pos}
+use Rattle.std.specs.List.{list_all}
 use Rattle.std.specs.Option.{option_and_then}
 use Rattle.lg_base.specs.Conventions.{argument_registers}
 use Rattle.lg_base.specs.HostNames.{host_address}
@@ -24,14 +25,16 @@ use Rattle.lg_carry.specs.Blocks.{spellings}
 use Rattle.lg_carry.specs.Processors.{Seen}
 use Rattle.lg_carry.specs.Spills.{Does, with_register}
 use Rattle.lg_carry_x86.specs.MakingNodes.{scene}
-use Rattle.lg_carry_x86.specs.Makings.{makes}
+use Rattle.lg_carry.proofs.BelowLemmas.{not-below}
+use Rattle.lg_carry_x86.specs.Makings.{makes, is_still}
 use Rattle.lg_carry_x86.specs.Numbers.{number_row}
 use Rattle.lg_carry_x86.specs.X86Computers.{x86_scratch}
 use Rattle.lg_carry_x86.specs.X86Rows.{x86_rows, x86_seen}
-use Rattle.lg_carry_x86.proofs.MakingLemmas.{makes-append}
+use Rattle.lg_carry_x86.proofs.MakingLemmas.{makes-append, makings-still, still-above, above-append, above-first}
 use Rattle.lg_sel_nodes.specs.Straight.{spoils, from_to}
 use Rattle.lg_sel_nodes.specs.Stretches.{HasFrame}
 use Rattle.lg_sel_nodes.proofs.ByteLemmas.{stored-same}
+use Rattle.lg_sel_memory.specs.Accesses.{LiesAbove}
 use Rattle.lg_sel_memory.specs.Pushes.{IsPassed, PushesDo, HasPushCode}
 use Rattle.lg_sel_memory.specs.Stores.{IsWritable}
 use Rattle.lg_sel_memory.proofs.ReadLemmas.{same-some}
@@ -41,7 +44,7 @@ use Rattle.lg_selx_items.proofs.ItemLemmas.{settled-append}
 use Rattle.lg_selx_values.specs.Scratch.{again}
 use Rattle.lg_selx_control.proofs.SpareLemmas.{framed, pointer-again}
 use Rattle.lg_selx_memory.specs.PushCode.{into, stack_push, onto_stack, x86_push}
-use Rattle.lg_selx_memory.proofs.EndLemmas.{makes-does, some-spelled}
+use Rattle.lg_selx_memory.proofs.EndLemmas.{makes-does, access-above, some-spelled}
 use Rattle.lg_selx_memory.proofs.PutLemmas.{operand-put}
 use Rattle.lg_selx_memory.proofs.StoreLemmas.{store-made}
 
@@ -65,11 +68,21 @@ module _ (code : List ℕ) (trash : ℕ) (q : Run CpuState) where
   abbrev Leaves : (ℕ → ℕ) → (ℕ → Option ℕ) → List Instr → Type 0
   Leaves W M is = Does (x86_rows code trash) (from_to s W M s.flags) is (w 5) 0 (spoils x86_scratch [])
 
+  -- what puts an operand into a register touches nothing
+  into-still : (to : ℕ → ℕ) (from rd : ℕ) (x : Operand) (v : ℕ) → rd < 16 → IsPassed X86_64 w to x v → list_all is_still (settled to from (into rd x)) ≡ true
+  into-still to from rd x v small p =
+      makings-still (settled to from (into rd x)) w s.flags (scene (put w rd v) s.flags (λ y. None)) (operand-put w s.flags (λ y. None) rd small x to from v p)
+
   -- ---- into a register
   into-does : (to : ℕ → ℕ) (from rd : ℕ) (x : Operand) (v : ℕ) → rd < 16 → IsPassed X86_64 w to x v → Leaves (with_register w rd v) s.bytes (settled to from (into rd x))
   into-does to from rd x v small p =
       makes-does code trash (settled to from (into rd x)) s (with_register w rd v) s.bytes s.flags (w 5) (spoils x86_scratch [])
-      (λ bytes same. record { end = bytes; makes_it = operand-put w s.flags bytes rd small x to from v p; bytes_are = same })
+      (λ bytes same. record {
+        end = bytes;
+        above = still-above (settled to from (into rd x)) (scene w s.flags bytes) (into-still to from rd x v small p);
+        makes_it = operand-put w s.flags bytes rd small x to from v p;
+        bytes_are = same;
+      })
 
   -- ---- into a stack word
   module _ (frame j : ℕ) (few : j < 16) (f : HasFrame X86_64 frame s) (v : ℕ) (writable : IsWritable s (w 5) (stack_argument (w 4) (j - 6)) 8) where
@@ -79,11 +92,15 @@ module _ (code : List ℕ) (trash : ℕ) (q : Run CpuState) where
     address : add_words (w 4) (8 * (j - 6)) ≡ a
     address = let high = f.high in omega (arith, few, high)
 
+    safe : LiesAbove X86_64 (w 4) a 8
+    safe y le lt = not-below X86_64 (w 4) y (inr (omega (arith, le)))
+
     register-does : (r : ℕ) → w r ≡ v → Leaves w (stored s.bytes a 8 v) (instr.Store St64 4 (pos (8 * (j - 6))) r ∷ [])
     register-does r holds =
         makes-does code trash (instr.Store St64 4 (pos (8 * (j - 6))) r ∷ []) s w (stored s.bytes a 8 v) s.flags (w 5) (spoils x86_scratch [])
         (λ bytes same. record {
           end = stored bytes a 8 v;
+          above = (access-above w 4 (pos (8 * (j - 6))) a 8 (w 4) 8 refl address refl safe, λ z e. tt);
           makes_it = ap (option_and_then (makes []))
               (store-made store_type.Long (scene w s.flags bytes) 4 (pos (8 * (j - 6))) r a v address (writable bytes same) holds);
           bytes_are = λ y off. stored-same s.bytes bytes a 8 v y (same y off);
@@ -99,6 +116,13 @@ module _ (code : List ℕ) (trash : ℕ) (q : Run CpuState) where
         (makes-does code trash (settled to from (into 5 x) ++ stores) s w (stored s.bytes a 8 v) s.flags (w 5) (spoils x86_scratch [])
         (λ bytes same. record {
           end = stored bytes a 8 v;
+          above = above-append (settled to from (into 5 x)) stores (scene w s.flags bytes) (scene (put w 5 v) s.flags bytes)
+              (operand-put w s.flags bytes 5 (omega arith) x to from v p)
+              (still-above (settled to from (into 5 x)) (scene w s.flags bytes) (into-still to from 5 x v (omega arith) p))
+              (above-first (instr.Store St64 4 (pos (8 * (j - 6))) 5) (again frame) (scene (put w 5 v) s.flags bytes) (scene (put w 5 v) s.flags (stored bytes a 8 v))
+              (store-made store_type.Long (scene (put w 5 v) s.flags bytes) 4 (pos (8 * (j - 6))) 5 a v address (writable bytes same) refl)
+              (access-above (put w 5 v) 4 (pos (8 * (j - 6))) a 8 (w 4) 8 refl address refl safe)
+              (still-above (again frame) (scene (put w 5 v) s.flags (stored bytes a 8 v)) refl));
           makes_it = makes-append (settled to from (into 5 x)) stores (scene w s.flags bytes) (scene (put w 5 v) s.flags bytes)
               (scene w s.flags (stored bytes a 8 v)) (operand-put w s.flags bytes 5 (omega arith) x to from v p)
               (ap (option_and_then (makes (again frame)))

@@ -1,5 +1,5 @@
 -- Stores.
-use Rattle.std.proofs.Common.{◌≡◌, ◌≢◌, ℕ, ◌+◌, ◌-◌, ◌<◌, ◌≤◌, ⊎_elim, inl, inr, Bool, true, false, Option, Some, refl, sym, ap, ◌∙◌, arith, subst, List, [], ◌∷◌, length}
+use Rattle.std.proofs.Common.{◌≡◌, ◌≢◌, ℕ, ◌+◌, ◌-◌, ◌<◌, ◌≤◌, ⊎_elim, inl, inr, Bool, true, false, Option, Some, None, refl, sym, ap, ◌∙◌, arith, subst, List, [], ◌∷◌, length}
 use Rattle.std.specs.Prelude.{ℤ, pos, ◌||◌}
 use Rattle.std.specs.Option.{option_and_then}
 use Rattle.std.proofs.lemmas.Bool.{cases_lt}
@@ -18,6 +18,7 @@ use Rattle.lg_operators.specs.Operators.{store_width}
 use Rattle.lg_x86.specs.Spelling.{spelling}
 use Rattle.lg_x86.specs.declared.instruction.Instr.TheVariants as instr
 use Rattle.lg_cpu.specs.HostSteps.{put}
+use Rattle.lg_cpu.specs.X86Step as x86
 use Rattle.lg_cpu.specs.X86Step.{Scene, made}
 use Rattle.lg_temp.specs.Abis.{register_of}
 use Rattle.lg_temp.specs.declared.choice.Choice.{Choice}
@@ -27,7 +28,7 @@ use Rattle.lg_carry_x86.specs.MakingNodes.{scene}
 use Rattle.lg_carry_x86.specs.Makings.{makes}
 use Rattle.lg_carry_x86.specs.X86Computers.{x86_scratch}
 use Rattle.lg_carry_x86.specs.X86Rows.{x86_rows, x86_seen}
-use Rattle.lg_carry_x86.proofs.MakingLemmas.{makes-append}
+use Rattle.lg_carry_x86.proofs.MakingLemmas.{makes-append, makings-still, still-above, above-append}
 use Rattle.lg_sel_nodes.specs.Straight.{spoils}
 use Rattle.lg_sel_nodes.proofs.ByteLemmas.{stored-same}
 use Rattle.lg_sel_memory.specs.Accesses.{Address, Base, address_of}
@@ -36,7 +37,7 @@ use Rattle.lg_sel_memory.specs.Stores.{IsOffSlots, StoreDoes}
 use Rattle.lg_sel_memory.proofs.BehindLemmas.{more-slots}
 use Rattle.lg_selx_values.proofs.RegisterLemmas.{put-other}
 use Rattle.lg_selx_memory.specs.Accesses.{store_row, place_of, store_from}
-use Rattle.lg_selx_memory.proofs.EndLemmas.{makes-leads, some-spelled}
+use Rattle.lg_selx_memory.proofs.EndLemmas.{makes-leads, access-above, some-spelled}
 use Rattle.lg_selx_memory.proofs.PlaceLemmas.{none-behind, placed}
 use Rattle.lg_selx_memory.proofs.TemporaryLemmas.{IsSpare, is_computed}
 
@@ -48,6 +49,12 @@ store-made store_type.Char s base disp from a v at there holds = rw (at, there, 
 store-made store_type.Short s base disp from a v at there holds = rw (at, there, holds) refl
 store-made store_type.Int s base disp from a v at there holds = rw (at, there, holds) refl
 store-made store_type.Long s base disp from a v at there holds = rw (at, there, holds) refl
+
+pub store-wide : (t : StoreType) → x86.store_width (store_row t) ≡ store_width t
+store-wide store_type.Char = refl
+store-wide store_type.Short = refl
+store-wide store_type.Int = refl
+store-wide store_type.Long = refl
 
 -- ---- the slots
 -- a store off the slots keeps them
@@ -74,7 +81,7 @@ module _ (code : List ℕ) (trash : ℕ) (choices : List Choice) (u frame : ℕ)
 
   -- at a register
   at-register : (r : Reg) → StoresAt (Base r)
-  at-register r q a ok f address end writable off =
+  at-register r q a ok f address end writable safe off =
       let s = x86_seen q in
       let w = q.state.registers in
       let wide : ℕ = store_width t in
@@ -83,6 +90,8 @@ module _ (code : List ℕ) (trash : ℕ) (choices : List Choice) (u frame : ℕ)
       (λ bytes same. record {
         registers = w;
         end = stored bytes a wide (w rb);
+        above =
+            (access-above w rr (pos 0) a wide (w 4) (x86.store_width (store_row t)) refl (none-behind (w rr) (f.seen.words rr) ∙ address) (store-wide t) safe, λ z e. tt);
         makes_it = ap (option_and_then (makes []))
             (store-made t (scene w s.flags bytes) rr (pos 0) rb a (w rb) (none-behind (w rr) (f.seen.words rr) ∙ address) (writable bytes same) refl);
         registers_are = λ x free. refl;
@@ -92,7 +101,7 @@ module _ (code : List ℕ) (trash : ℕ) (choices : List Choice) (u frame : ℕ)
 
   -- where the address is computed
   by-temporary : (at : Address) → IsSpare u at rb choices → StoresAt at
-  by-temporary at k q a ok f address end writable off =
+  by-temporary at k q a ok f address end writable safe off =
       let s = x86_seen q in
       let w = q.state.registers in
       let wide : ℕ = store_width t in
@@ -104,6 +113,9 @@ module _ (code : List ℕ) (trash : ℕ) (choices : List Choice) (u frame : ℕ)
       (λ bytes same. record {
         registers = W;
         end = stored bytes a wide (w rb);
+        above = above-append p.code (x ∷ []) (scene w s.flags bytes) (scene W s.flags bytes) (h.makes_it s.flags bytes)
+            (still-above p.code (scene w s.flags bytes) (makings-still p.code w s.flags (scene W s.flags (λ y. None)) (h.makes_it s.flags (λ y. None))))
+            (access-above W p.base p.disp a wide (w 4) (x86.store_width (store_row t)) (put-other w u h.word 4 k.stack) (h.address ∙ address) (store-wide t) safe, λ z e. tt);
         makes_it = makes-append p.code (x ∷ []) (scene w s.flags bytes) (scene W s.flags bytes)
             (scene W s.flags (stored bytes a wide (w rb))) (h.makes_it s.flags bytes)
             (ap (option_and_then (makes []))

@@ -65,6 +65,7 @@ IsOf n r = r ≢ Fp → is_read n r ≡ true
 record IsTemporary (n : Node) (choices : List Choice) (u : ℕ) : Type 0 where
   fine : Fine u
   taken : is_taken choices u ≡ true
+  stack : 4 ≢ u
   apart : (r : Reg) → IsOf n r → register_of X86_64 r ≢ u
 
 either : (b c : Bool) → (b || c) ≡ false → (b ≡ false) × (c ≡ false)
@@ -93,7 +94,7 @@ module _ (n : Node) (u : ℕ) where
   tried-apart live staged choices m taken =
       let own = either (stands_in X86_64 (is_read n) u) (stands_in X86_64 (is_written n) u) m.own in
       let spare = tried-spare X86_64 u m.tried in
-      record { fine = tried-fine u m.tried; taken = taken; apart = λ r of. apart-from r spare.pointer own.0 of }
+      record { fine = tried-fine u m.tried; taken = taken; stack = spare.stack; apart = λ r of. apart-from r spare.pointer own.0 of }
 
 temporary-apart : (n : Node) (live : Reg → Bool) (staged : List Bool) (choices : List Choice) → AreFor (around X86_64 n live staged) (Any ∷ []) [] (Any ∷ []) choices
     → IsTemporary n choices (first_taken choices)
@@ -182,6 +183,7 @@ reads-registers addressing.RegisterImmediate xs e none =
 pub record IsSpare (u : ℕ) (at : Address) (from : ℕ) (choices : List Choice) : Type 0 where
   pub few : u < 16
   pub free : indexes u at ≡ false
+  pub stack : 4 ≢ u
   pub apart_from : from ≢ u
   pub taken : is_taken choices u ≡ true
 
@@ -210,6 +212,7 @@ spare-for n t at live staged choices e formed none are computed =
     let of : (r : Reg) → Reads at n.operands r → IsOf n r = λ r reads ne. ap (λ o. names access.Read (forms_of o) n.operands r) e ∙ reads ne in
     record {
       few = m.fine.0;
+      stack = m.stack;
       free = free-of (first_taken choices) (address_of at (operand_at n 0) (operand_at n 1)) (λ r v is. m.apart r (of r (k.indexed r v is)));
       apart_from = m.apart (named (operand_at n (stored_operand at))) (of (named (operand_at n (stored_operand at))) k.stored);
       taken = m.taken;

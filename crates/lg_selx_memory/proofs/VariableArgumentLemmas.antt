@@ -22,15 +22,17 @@ use Rattle.lg_cpu.specs.X86Step.{made}
 use Rattle.lg_temp.specs.Abis.{register_of}
 use Rattle.lg_carry.specs.Spills.{with_register}
 use Rattle.lg_carry_x86.specs.MakingNodes.{scene}
-use Rattle.lg_carry_x86.specs.Makings.{makes}
+use Rattle.lg_carry_x86.specs.Makings.{makes, AreAbove}
 use Rattle.lg_carry_x86.specs.X86Computers.{x86_scratch}
 use Rattle.lg_carry_x86.specs.X86Rows.{x86_rows, x86_seen}
+use Rattle.lg_carry_x86.proofs.MakingLemmas.{makes-append, still-above, above-append, above-first}
+use Rattle.lg_sel_memory.specs.Accesses.{LiesAbove}
 use Rattle.lg_sel_nodes.specs.Straight.{spoils}
 use Rattle.lg_sel_memory.specs.VariableArguments.{NextArgumentsDo, HasNextArgumentCode}
 use Rattle.lg_sel_values.proofs.TwoResultLemmas.{registers-apart}
-use Rattle.lg_selx_values.proofs.RegisterLemmas.{put-same, put-other, put-twice, register-not-frame}
+use Rattle.lg_selx_values.proofs.RegisterLemmas.{put-same, put-other, put-twice, register-portable, register-not-frame}
 use Rattle.lg_selx_memory.specs.VariableArgumentCode.{next_code, x86_next_argument}
-use Rattle.lg_selx_memory.proofs.EndLemmas.{makes-does, some-spelled}
+use Rattle.lg_selx_memory.proofs.EndLemmas.{makes-does, access-above, some-spelled}
 use Rattle.lg_selx_memory.proofs.LoadLemmas.{load-made}
 
 -- ---- the argument's place
@@ -114,37 +116,77 @@ module _ (w : ℕ → ℕ) (f : Flags) (m : ℕ → Option ℕ) (rd rs k : ℕ) 
       ap (λ z. Some (scene (put u rs (add_words z 1)) (sum_flags z 1 0 (add_words z 1)) m)) (number v)
       ∙ ap (λ z. Some (scene (put u rs z) (sum_flags k 1 0 z) m)) (next-number k few)
 
-  pub next-made : (v : ℕ) → k < 16 → loaded m (reached (side k) k (w 5)) 8 ≡ Some v → v < 2 ^ 64
-      → makes (next_code rd rs) (scene w f m) ≡ Some (scene (put (put w rd v) rs (k + 1)) (sum_flags k 1 0 (k + 1)) m)
-  next-made v few holds small =
-      let low : ℕ = add_words k (word_of (negsuc 5)) in
-      let sign : ℕ = shifted_right_signed low 63 in
-      let words : ℕ = mul_words (side k) k in
-      let away : ℕ = shifted_left words 3 in
-      let place : ℕ = add_words away (w 5) in
-      let f2 : Flags = shift_flags Sari f low 63 in
-      let f3 : Flags = alu_flags Or f2 sign 1 0 in
-      let f4 : Flags = product_flags (needs_high_signed (side k) k) in
-      let f5 : Flags = shift_flags Shli f4 words 3 in
-      let f6 : Flags = alu_flags Add f5 away (w 5) 0 in
-      let c7 : List Instr = instr.Imm Addi rs (pos 1) ∷ [] in
-      let c6 : List Instr = instr.Load Ld64 rd rd (negsuc 31) ∷ c7 in
-      let c5 : List Instr = instr.RmReg Add rd 5 ∷ c6 in
+  -- ---- up to the load, nothing is touched
+  abbrev low_word : ℕ
+  low_word = add_words k (word_of (negsuc 5))
+
+  abbrev sign : ℕ
+  sign = shifted_right_signed low_word 63
+
+  abbrev words : ℕ
+  words = mul_words (side k) k
+
+  abbrev away : ℕ
+  away = shifted_left words 3
+
+  abbrev place : ℕ
+  place = add_words away (w 5)
+
+  abbrev f2 : Flags
+  f2 = shift_flags Sari f low_word 63
+
+  abbrev f3 : Flags
+  f3 = alu_flags Or f2 sign 1 0
+
+  abbrev f4 : Flags
+  f4 = product_flags (needs_high_signed (side k) k)
+
+  abbrev f5 : Flags
+  f5 = shift_flags Shli f4 words 3
+
+  abbrev f6 : Flags
+  f6 = alu_flags Add f5 away (w 5) 0
+
+  abbrev front : List Instr
+  front =
+      instr.Load Lea rd rs (negsuc 5) ∷ (instr.Shift Sari rd 63 ∷ (instr.Imm Ori rd (pos 1) ∷ (instr.RegRm Imul rd rs ∷ (instr.Shift Shli rd 3 ∷ (instr.RmReg Add rd 5 ∷ [])))))
+
+  front-made : makes front (scene w f m) ≡ Some (scene (put w rd place) f6 m)
+  front-made =
+      let c5 : List Instr = instr.RmReg Add rd 5 ∷ [] in
       let c4 : List Instr = instr.Shift Shli rd 3 ∷ c5 in
       let c3 : List Instr = instr.RegRm Imul rd rs ∷ c4 in
       let c2 : List Instr = instr.Imm Ori rd (pos 1) ∷ c3 in
       let c1 : List Instr = instr.Shift Sari rd 63 ∷ c2 in
       ap (option_and_then (makes c1)) lowered
-      ∙ ap (option_and_then (makes c2)) (step (λ z. shifted_right_signed z 63) (λ z. shift_flags Sari f z 63) low)
+      ∙ ap (option_and_then (makes c2)) (step (λ z. shifted_right_signed z 63) (λ z. shift_flags Sari f z 63) low_word)
       ∙ ap (option_and_then (makes c3)) (step (λ z. bit_or z 1) (λ z. alu_flags Or f2 z 1 0) sign)
       ∙ ap (option_and_then (makes c4)) (times (side k) f3)
       ∙ ap (option_and_then (makes c5)) (step (λ z. shifted_left z 3) (λ z. shift_flags Shli f4 z 3) words)
-      ∙ ap (option_and_then (makes c6)) (from-pointer away f5)
-      ∙ ap (option_and_then (makes c7)) (read place v f6 holds small)
-      ∙ ap (option_and_then (makes [])) (raised v f6 few)
+      ∙ ap (option_and_then (makes [])) (from-pointer away f5)
+
+  abbrev back : List Instr
+  back = instr.Load Ld64 rd rd (negsuc 31) ∷ (instr.Imm Addi rs (pos 1) ∷ [])
+
+  -- ---- and then the word
+  module _ (v : ℕ) (few : k < 16) (holds : loaded m (reached (side k) k (w 5)) 8 ≡ Some v) (small : v < 2 ^ 64) where
+    pub next-made : makes (next_code rd rs) (scene w f m) ≡ Some (scene (put (put w rd v) rs (k + 1)) (sum_flags k 1 0 (k + 1)) m)
+    next-made =
+        makes-append front back (scene w f m) (scene (put w rd place) f6 m) (scene (put (put w rd v) rs (k + 1)) (sum_flags k 1 0 (k + 1)) m) front-made
+        (ap (option_and_then (makes (instr.Imm Addi rs (pos 1) ∷ []))) (read place v f6 holds small)
+        ∙ ap (option_and_then (makes [])) (raised v f6 few))
+
+    pub next-above : (a : ℕ) → reached (side k) k (w 5) ≡ a → 4 ≢ rd → LiesAbove X86_64 (w 4) a 8 → AreAbove (next_code rd rs) (scene w f m)
+    next-above a at stack safe =
+        above-append front back (scene w f m) (scene (put w rd place) f6 m) front-made (still-above front (scene w f m) refl)
+        (above-first (instr.Load Ld64 rd rd (negsuc 31)) (instr.Imm Addi rs (pos 1) ∷ []) (scene (put w rd place) f6 m) (scene (put w rd v) f6 m)
+        (read place v f6 holds small)
+        (access-above (put w rd place) rd (negsuc 31) a 8 (w 4) 8 (put-other w rd place 4 stack)
+        (ap (λ z. add_words z (word_of (negsuc 31))) (put-same w rd place) ∙ at) refl safe)
+        (still-above (instr.Imm Addi rs (pos 1) ∷ []) (scene (put w rd v) f6 m) refl))
 
 pub next-arguments-do : (code : List ℕ) (trash : ℕ) → NextArgumentsDo (x86_rows code trash) x86_scratch x86_next_argument
-next-arguments-do code trash frame d s q k a v named kept apart few f number place even readable lt =
+next-arguments-do code trash frame d s q k a v named kept apart few f number place even readable safe lt =
     let t = x86_seen q in
     let w = q.state.registers in
     let sp = w 4 + frame in
@@ -158,6 +200,8 @@ next-arguments-do code trash frame d s q k a v named kept apart few f number pla
       does = makes-does code trash (x86_next_argument d s) t (with_register (with_register w rd v) rs (k + 1)) t.bytes (sum_flags k 1 0 (k + 1)) (w 5) (spoils x86_scratch [])
           (λ bytes same. record {
             end = bytes;
+            above = next-above w t.flags bytes rd rs k (register-not-frame d named) (λ e. registers-apart X86_64 d s named kept apart (sym e)) number v few
+                (ap (λ x. loaded bytes x 8) leads ∙ readable bytes same) lt a leads (λ e. (register-portable d).no_stack (sym e)) safe;
             makes_it = next-made w t.flags bytes rd rs k (register-not-frame d named) (λ e. registers-apart X86_64 d s named kept apart (sym e)) number v few
                 (ap (λ x. loaded bytes x 8) leads ∙ readable bytes same) lt;
             bytes_are = same;

@@ -94,7 +94,7 @@ module _ (c : Code) (i frame : ℕ) (o : BinaryOp) (last : LastOperand) (d a : R
             on = record { at = refl; frame = refl; callers = refl; pushed = refl; mem = refl; mark = refl; data_size = refl; args_size = refl; answer = refl };
             end = m.registers;
             flags = m.flags;
-            makes_it = λ bytes mem. m.makes_it bytes;
+            makes_it = λ bytes. m.makes_it bytes;
             keeps = λ r k. m.keeps r (kept-apart X86_64 n d named writes x86_scratch choices r k) k.taken;
             holds = holds-one X86_64 n d named writes s (on (with_reg s (operand.Reg d) g.v)) g.v record { registers = m.registers; flags = m.flags } refl m.value tt;
           }
@@ -124,7 +124,7 @@ module _ (c : Code) (i frame : ℕ) (o : BinaryOp) (last : LastOperand) (d a : R
             on = record { at = refl; frame = refl; callers = refl; pushed = refl; mem = refl; mark = refl; data_size = refl; args_size = refl; answer = refl };
             end = m.word.registers;
             flags = m.word.flags;
-            makes_it = λ bytes mem. m.word.makes_it bytes;
+            makes_it = λ bytes. m.word.makes_it bytes;
             keeps = λ r k. m.word.keeps r (kept-apart X86_64 n d named writes x86_scratch choices r k) refl;
             holds = holds-one X86_64 n d named writes s (reached s g.x g.y g.v) (carried_value o g.x g.y (bit_word g.v)) record { registers = m.word.registers; flags = m.word.flags } refl m.word.value m.holds;
           }

@@ -82,7 +82,7 @@ module _ (c : Code) (i frame : ℕ) (o : WideOp) (last : LastOperand) (d e a : R
             on = record { at = refl; frame = refl; callers = refl; pushed = refl; mem = refl; mark = refl; data_size = refl; args_size = refl; answer = refl };
             end = m.registers;
             flags = m.flags;
-            makes_it = λ bytes mem. m.makes_it bytes;
+            makes_it = λ bytes. m.makes_it bytes;
             keeps = λ r k. m.keeps r (k.written d nd (writes-first X86_64 n d e nd ne apart writes)) (k.written e ne (writes-second X86_64 n d e nd ne apart writes)) k.taken;
             holds = record { written = two.0; others = two.1; carry = tt };
           }

@@ -4,3 +4,4 @@ pub mod Arounds
 pub mod Carries
 pub mod Choices
 pub mod Chosen
+pub mod Paces

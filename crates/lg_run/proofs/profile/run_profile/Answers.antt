@@ -8,6 +8,7 @@ use Rattle.lg_cpu.specs.Steps.{Run}
 use Rattle.lg_io.specs.SinkChanges.{on_sink}
 use Rattle.lg_mean.specs.Machines.{state_of}
 use Rattle.lg_meaning.specs.Means as means
+use Rattle.lg_run.specs.Explanations.{StuckFor, tells_stuck}
 use Rattle.lg_run.specs.ProfileStarts.{IsStartOf}
 use Rattle.lg_run.specs.Profiles.{TableFor, is_run_end, table_of}
 use Rattle.lg_run.specs.Runs.{RunSays}
@@ -49,6 +50,8 @@ returns-in-Ok-clause-told g c =
     let meant : means.mean_from unit.nodes shape s.machine.labels.addresses (state_of s.machine.machine) ≡ code_meaning command code unit =
     λ i n. means.mean_from unit.nodes (shape_is unit.nodes shape c.requires.checked i) (e.addresses i) (e.state i) n in
     let ran = c.run_start.result.ran in
-    let lines = table_of c.run_start.result.tally in
-    subst (λ b. TableFor b command code unit ran.steps lines) (sym (told_in_profile command.mode ran.answer c.requires.profile))
-    (told command code unit shape s command.steps e c.target.ensures.code.ordered.long c.tables_have_the_lines.ensures runs meant refl (is_run_end ran.answer) ran.steps c.run_start.result.tally c.run_start.ensures.told)
+    let lines = table_of c.run_start.result.tally in (
+      subst (λ b. TableFor b command code unit ran.steps lines) (sym (told_in_profile command.mode ran.answer c.requires.profile))
+          (told command code unit shape s command.steps e c.target.ensures.code.ordered.long c.tables_have_the_lines.ensures runs meant refl (is_run_end ran.answer) ran.steps c.run_start.result.tally c.run_start.ensures.told),
+      subst (λ m. StuckFor (tells_stuck m ran.answer) command code unit ran.steps c.run_start.result.stuck) (sym c.requires.profile) c.run_start.ensures.stuck,
+    )

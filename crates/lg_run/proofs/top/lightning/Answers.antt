@@ -6,4 +6,5 @@ returns g c = record {
   says = c.answer.ensures.says;
   causes = causes _ _ _ _ _ c.answer.ensures.says;
   once = c.answer.ensures.once;
+  unread = c.answer.ensures.unread;
 }

@@ -5,11 +5,13 @@ use Rattle.lg_cpu.specs.Laws.{AreBytes}
 use Rattle.lg_io.specs.NamedTexts.{NamedTexts}
 use Rattle.lg_io.specs.SinkChanges.{on_sink}
 use Rattle.std.specs.Prelude.{List, ℕ, Option}
+use Rattle.lg_run.specs.Explanations.{tells_stuck}
 use Rattle.lg_run.specs.Profiles.{table_of, tells_table}
 use Rattle.lg_run.specs.Refused.{IsRefusedAs, IsTextIn, IsUnitOf}
 use Rattle.lg_run.specs.Says.{IsCodeOf}
 use Rattle.lg_run.specs.Work.{DoneSays}
-use Rattle.lg_run.proofs.ProfileLemmas.{run_tells, stopped_tells}
+use Rattle.lg_run.proofs.ExplainLemmas.{stopped_tells, stuck_tells}
+use Rattle.lg_run.proofs.ProfileLemmas.{run_tells}
 use Rattle.lg_run.proofs.RefusedLemmas.{text_refused}
 use Rattle.lg_run.proofs.WorkLemmas.{run_answers, stopped_says}
 use Rattle.lg_run.proofs.work.do_unit.Goals as goal
@@ -36,10 +38,10 @@ returns-in-Ok-clause-says g c = λ text is held under.
 
 pub returns-in-Ok-clause-told : goal.returns-in-Ok-clause-told
 returns-in-Ok-clause-told g c = λ text is held under.
-    let made = c.in-Ok.ensures in
     let command = shown c.args.command.now in
     let p = c.run_mode-profiled.result in
-    run_tells command held c.in-Ok.code (record {
+    let ran = c.in-Ok.ensures in
+    let made : IsCodeOf command held c.in-Ok.code = record {
       text = text;
       given = under;
       unit = c.args.text.now.unit;
@@ -47,13 +49,16 @@ returns-in-Ok-clause-told g c = λ text is held under.
       accepted = c.requires.checked.0.accepted;
       fits = subst (λ a. length a ≤ most_args) c.requires.args c.requires.args_size;
       bytes = subst AreBytes (c.as_slice.ensures.value ∙ c.requires.args) c.see_bytes.ensures;
-      target = made.target;
-      size_is = made.size_is;
-      taken = made.taken;
-      rewritten = made.rewritten;
-      size = made.size;
-      agrees = made.agrees;
-    }) (tells_table command.mode p.ran.answer) p.ran.steps (table_of p.tally) c.run_mode-profiled.ensures.told
+      target = ran.target;
+      size_is = ran.size_is;
+      taken = ran.taken;
+      rewritten = ran.rewritten;
+      size = ran.size;
+      agrees = ran.agrees;
+    } in (
+      run_tells command held c.in-Ok.code made (tells_table command.mode p.ran.answer) p.ran.steps (table_of p.tally) c.run_mode-profiled.ensures.told.0,
+      stuck_tells command held c.in-Ok.code made (tells_stuck command.mode p.ran.answer) p.ran.steps p.stuck c.run_mode-profiled.ensures.told.1,
+    )
 
 pub returns-in-Err-clause-says : goal.returns-in-Err-clause-says
 returns-in-Err-clause-says g c = λ text is held under.
@@ -71,4 +76,5 @@ returns-in-Err-clause-says g c = λ text is held under.
 
 pub returns-in-Err-clause-told : goal.returns-in-Err-clause-told
 returns-in-Err-clause-told g c = λ text is held under.
-    stopped_tells (shown c.args.command.now) held c.untold.result c.without_code.result c.stopped.result c.untold.ensures.0 c.untold.ensures.1 c.without_code.ensures.0 c.stopped.ensures.end
+    let u = c.untold.ensures in
+    stopped_tells (shown c.args.command.now) held c.untold.result c.without_code.result c.stopped.result u.0 u.1 u.2 c.without_code.ensures.0 c.stopped.ensures.end c.stopped.ensures.defined
