@@ -2,7 +2,7 @@
 """Refuses memory to the program, one allocation at a time, fails each of its reads and writes in turn, and lets each move one byte alone.
 
 Usage: python3 tools/edges/fail.py, at the top of the repository, where the program is built (`./lightning` builds it) and cc is on the machine.
-Two texts, every mode, every target. A run without memory says so and has written nothing; one that cannot read or write says that, and has written the
+Two texts, every mode, every target, and in the mode `explain` a third with a step that is undefined. A run without memory says so and has written nothing; one that cannot read or write says that, and has written the
 beginning of what it would have written; a short read or write changes nothing. Prints a line for each text, mode and target.
 """
 import os
@@ -14,6 +14,15 @@ PROGRAM = "crates/lightning_program/out/lightning_program"
 PRESSURE = """.data 32 fmt: .c "%d %d %d %d %d %d %d %d %d %d\\n" .code prolog arg $argc getarg %r0 $argc addi %r1 %r0 1 addi %r2 %r0 2 addi %v0 %r0 3 addi %v1 %r0 4
 addi %v2 %r0 46 prepare pushargi fmt ellipsis pushargi 10 pushargi 20 pushargi 30 pushargi 40 pushargi 50 remr %v2 %v2 %v1
 pushargr %r0 pushargr %r1 pushargr %r2 pushargr %v0 pushargr %v2 finishi @printf ret epilog
+"""
+
+# a step that is undefined, so that the mode `explain` has lines to write
+STUCK = """.code
+    prolog
+    movi %v0 7
+    movr %v1 %r2
+    ret
+    epilog
 """
 
 
@@ -38,12 +47,14 @@ def counted(words, preload, name, own, is_right):
 
 def main():
     with tempfile.TemporaryDirectory() as room:
-        preload, pressure = f"{room}/refuse.so", f"{room}/pressure.tst"
+        preload, pressure, stuck = f"{room}/refuse.so", f"{room}/pressure.tst", f"{room}/stuck.tst"
         subprocess.run(["cc", "-O1", "-shared", "-fPIC", "-o", preload, "tools/edges/refuse.c", "-ldl"], check=True)
         with open(pressure, "w", encoding="utf-8") as file:
             file.write(PRESSURE)
-        for mode in ("run", "list", "mean", "gen", "back"):
-            for text in ("examples/nfibs.tst", pressure):
+        with open(stuck, "w", encoding="utf-8") as file:
+            file.write(STUCK)
+        for mode in ("run", "list", "mean", "gen", "back", "profile", "explain"):
+            for text in ("examples/nfibs.tst", pressure) + ((stuck,) if mode == "explain" else ()):
                 for target in ("x86_64", "aarch64", "riscv64"):
                     given = text
                     if mode == "back":
