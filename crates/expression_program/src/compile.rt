@@ -4,8 +4,7 @@ ghost use Rattle.std.specs.Prelude.{IfOk};
 ghost use Rattle.expression_program.specs.Compiled.{CanRun};
 
 use lg_asm::{Code, assemble};
-use lg_base::refusal::Stop;
-use lg_base::target::Target;
+use lg_base::{Stop, Target};
 use lg_expression::{Expression, unit_of};
 use lg_node::{Unit, check};
 use std::alloc::Global;

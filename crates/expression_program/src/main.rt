@@ -10,11 +10,10 @@ mod run;
 
 use compile::{Compiled, compile};
 use lg_asm::Code;
-use lg_base::refusal::Stop;
-use lg_base::target::Target;
-use lg_cpu::answer::CpuStep;
+use lg_base::{Stop, Target};
+use lg_cpu::CpuStep;
 use lg_expression::{Expression, ReadError, read};
-use lg_io::standard::StdSink;
+use lg_io::StdSink;
 use run::{Ran, run};
 use std::{fs, io};
 

@@ -5,12 +5,9 @@ ghost use Rattle.lg_base.specs.Arguments.{most_args};
 ghost use Rattle.expression_program.specs.Compiled.{CanRun};
 
 use crate::compile::Compiled;
-use lg_base::args::args_image;
-use lg_base::image::ArgImage;
-use lg_base::refusal::{OutOfMemory, Stop};
-use lg_cpu::answer::CpuStep;
-use lg_cpu::cpu::Cpu;
-use lg_io::memory_sink::MemorySink;
+use lg_base::{ArgImage, OutOfMemory, Stop, args_image};
+use lg_cpu::{Cpu, CpuStep};
+use lg_io::MemorySink;
 use std::alloc::Global;
 
 // What registers hold at first. Code runs the same whatever it is.

@@ -15,7 +15,7 @@ use crate::instruction::{
     UnscaledOp, WideOp,
 };
 use crate::rows::{BRANCH_IF, CSINC, LDRX, NOP};
-use lg_base::field::Field;
+use lg_base::Field;
 use lg_base::number::from_bits;
 use lg_base::word::word_in_front;
 

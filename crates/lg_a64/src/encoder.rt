@@ -11,8 +11,8 @@ use crate::instruction::{
     UnscaledOp, WideOp,
 };
 use crate::rows::{BRANCH_IF, CSINC, LDRX, NOP};
+use lg_base::Piece;
 use lg_base::number::to_bits;
-use lg_base::piece::Piece;
 
 /// The bytes of an instruction whose numbers are in its row's ranges: 4 bytes, little-endian.
 pub fn encode(instr: &Instr) -> Piece

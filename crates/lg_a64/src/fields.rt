@@ -1,6 +1,6 @@
 // The fields of a word, by their names in the Arm Architecture Reference Manual.
 
-use lg_base::field::Field;
+use lg_base::Field;
 
 /// rd, or rt of a load or store: bits 0 to 4.
 pub(crate) type Rd = Field<0, 5>;

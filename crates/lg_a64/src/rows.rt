@@ -10,7 +10,7 @@ use crate::instruction::{
     BitfieldOp, BranchOp, BranchRegOp, Cond, ImmOp, Instr, MulAddOp, RegOp, ReverseOp, ScaledOp,
     UnscaledOp, WideOp,
 };
-use lg_base::piece::Piece;
+use lg_base::Piece;
 
 // the rows that stand alone
 pub(crate) const CSINC: u32 = 0x9a80_0400;

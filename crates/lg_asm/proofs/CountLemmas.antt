@@ -10,7 +10,7 @@ use Rattle.lg_node.specs.Checks.{IsAccepted}
 use Rattle.lg_node.specs.Nodes.{LabelledNodes}
 use Rattle.lg_node.specs.Preparations.{prepared_before, pushed}
 use Rattle.lg_op.specs.declared.node.Node.{Node}
-use Rattle.lg_liveness.specs.Liveness.{LiveSets}
+use Rattle.lg_live.specs.Liveness.{LiveSets}
 use Rattle.lg_temp.specs.Chosen.{spills}
 use Rattle.lg_temp.specs.declared.choice.Choice.{Choice}
 use Rattle.lg_temp.specs.declared.choice.Choice.TheVariants.{Free, Own, Spill}

@@ -12,7 +12,7 @@ use Rattle.lg_carry.specs.Stands.{Stands}
 use Rattle.lg_sel.specs.Targets.{processor_of}
 use Rattle.lg_cpu.specs.Laws.{AreBytes}
 use Rattle.lg_cpu.specs.Targets.{run_from}
-use Rattle.lg_liveness.specs.Liveness.{LiveSets, AreLive}
+use Rattle.lg_live.specs.Liveness.{LiveSets, AreLive}
 use Rattle.lg_meaning.specs.Addresses.{AreAddresses}
 use Rattle.lg_meaning.specs.Starts.{start_state}
 use Rattle.lg_meaning.specs.States.{Frame}

@@ -5,7 +5,7 @@ use Rattle.lg_base.specs.declared.target.Target.{Target}
 use Rattle.lg_base.specs.declared.target.Target.TheVariants.{X86_64, Aarch64, Riscv64}
 use Rattle.lg_live.specs.RegSets.{has}
 use Rattle.lg_live.specs.declared.reg_set.RegSet.{RegSet}
-use Rattle.lg_liveness.specs.Liveness.{LiveSets}
+use Rattle.lg_live.specs.Liveness.{LiveSets}
 use Rattle.lg_node.specs.Preparations.{pushed}
 use Rattle.lg_op.specs.declared.node.Node.{Node}
 use Rattle.lg_op.specs.declared.op.Op.{Op}

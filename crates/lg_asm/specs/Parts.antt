@@ -2,7 +2,7 @@
 use Rattle.std.specs.Prelude.{ℕ, List}
 use Rattle.lg_base.specs.declared.target.Target.{Target}
 use Rattle.lg_asm.specs.Assembled.{Assembled}
-use Rattle.lg_liveness.specs.Liveness.{LiveSets}
+use Rattle.lg_live.specs.Liveness.{LiveSets}
 use Rattle.lg_asm.specs.declared.counts.Counts.{Counts}
 use Rattle.lg_asm.specs.declared.parts.TextBytes.{TextBytes}
 use Rattle.lg_opt.specs.declared.rewritten.Rewritten.{Rewritten}

@@ -9,13 +9,11 @@ ghost use Rattle.lg_node.specs.Checks.{IsAccepted};
 
 use crate::node::{first, pushed_behind};
 use crate::target::{chosen, needs};
-use lg_base::refusal::OutOfMemory;
-use lg_base::target::Target;
-use lg_live::reg_set::RegSet;
-use lg_liveness::live::Live;
+use lg_base::{OutOfMemory, Target};
+use lg_live::{Live, RegSet};
 use lg_node::NodeList;
 use lg_op::Node;
-use lg_temp::choice::{Choice, Choices};
+use lg_temp::{Choice, Choices};
 use std::alloc::Global;
 
 /// The registers that are live behind a node.

@@ -5,9 +5,9 @@ ghost use Rattle.lg_asm.specs.Lowered.{stored_homes};
 ghost use Rattle.lg_carry.specs.Homes.{homes_to, homes_by, homes_of};
 ghost use Rattle.lg_node.specs.Shapes.{IsShapeOf};
 
+use lg_carry::memory::operands::{operand, slot};
 use lg_node::{NodeList, Shape};
 use lg_op::{Node, Op, PlainOp};
-use lg_sel_memory::operands::{operand, slot};
 
 // Those up to that of an argument; a function has no more than 16 arguments.
 fn homes_to(argument: u32) -> u32

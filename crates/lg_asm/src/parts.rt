@@ -6,15 +6,13 @@ ghost use Rattle.lg_asm.specs.Assembled.{IsRefusedFor};
 ghost use Rattle.lg_asm.specs.Lowered.{IsGiven};
 ghost use Rattle.lg_base.specs.Layout.{most_code};
 ghost use Rattle.lg_base.specs.declared.target.Target.{Target};
-ghost use Rattle.lg_liveness.specs.Liveness.{AreLive};
+ghost use Rattle.lg_live.specs.Liveness.{AreLive};
 ghost use Rattle.lg_node.specs.Shapes.{IsShapeOf};
 
 use crate::lowering::lower;
-use lg_base::code::{CodeBytes, Places};
-use lg_base::refusal::{Refusal, RefusalKind, Stop};
-use lg_base::target::Target;
+use lg_base::{CodeBytes, Places, Refusal, RefusalKind, Stop, Target};
 use lg_buf::CodeBuf;
-use lg_liveness::live::Live;
+use lg_live::Live;
 use lg_node::{NodeList, Shape};
 use std::alloc::Global;
 

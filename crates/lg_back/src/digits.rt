@@ -5,7 +5,7 @@ ghost use Rattle.lg_list.specs.Texts.{decimal};
 ghost use Rattle.lg_back.specs.Words.{until, first_word, second_word};
 ghost use Rattle.lg_back.specs.Digits.{digit_value, byte_value, hex_front};
 
-use lg_base::piece::Piece;
+use lg_base::Piece;
 
 /// What stands behind so many bytes of a text: nothing where it has fewer.
 pub fn behind(text: &[u8], count: usize) -> &[u8]

@@ -12,10 +12,9 @@ ghost use Rattle.lg_back.specs.Reading.{HasLine, HasNoLine, HasNodeLine, HasLabe
 
 use crate::digits::{behind, comment_words, read_decimal, until};
 use crate::instruction::read_instruction;
-use lg_base::piece::Piece;
-use lg_base::target::Target;
 use lg_base::word_bytes::{is_word_byte, is_word_start};
-use lg_list::line::Line;
+use lg_base::{Piece, Target};
+use lg_list::Line;
 use lg_list::lines::write_node_line;
 use lg_node::Op;
 

@@ -6,7 +6,7 @@ ghost use Rattle.lg_list.specs.Lines.{first_line, target_word};
 ghost use Rattle.lg_back.specs.Reading.{HasHead};
 
 use crate::digits::{comment_words, read_decimal};
-use lg_base::target::Target;
+use lg_base::Target;
 use lg_list::lines::first_line;
 
 // The most bytes of code.

@@ -8,10 +8,9 @@ ghost use Rattle.lg_list.specs.declared.instruction.Instruction.{Instruction};
 ghost use Rattle.lg_back.specs.Reading.{HasLine, HasCodeLine};
 
 use crate::digits::{behind, read_hex};
-use lg_base::piece::Piece;
-use lg_base::target::Target;
+use lg_base::{Piece, Target};
+use lg_list::Line;
 use lg_list::instruction::decode;
-use lg_list::line::Line;
 
 /// The bytes of the instruction whose line at an address a text begins with, and the length of the line. The line to compare with is written into one that
 /// is given; what it has is not looked at.

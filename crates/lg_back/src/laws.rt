@@ -8,9 +8,7 @@ ghost use Rattle.lg_back.specs.Answers.{GivesBack};
 ghost use Rattle.lg_back.specs.Refused.{IsBadListing};
 
 use crate::reader::{Back, read_back};
-use lg_base::code::{CodeBytes, Places};
-use lg_base::refusal::Stop;
-use lg_base::target::Target;
+use lg_base::{CodeBytes, Places, Stop, Target};
 use lg_list::laws::listing_reads_back;
 use lg_node::{LabelAddresses, NodeList};
 use std::alloc::Global;

@@ -10,10 +10,8 @@ ghost use Rattle.lg_back.specs.Refused.{IsBadListing};
 
 use crate::entry::read_entry;
 use crate::head::{Head, read_head};
-use lg_base::code::CodeBytes;
-use lg_base::refusal::{Refusal, RefusalKind, Stop};
-use lg_base::target::Target;
-use lg_list::line::Line;
+use lg_base::{CodeBytes, Refusal, RefusalKind, Stop, Target};
+use lg_list::Line;
 use std::alloc::Global;
 
 // The address of the first byte of the code.

@@ -18,3 +18,16 @@ pub mod target;
 pub mod wide;
 pub mod word;
 pub mod word_bytes;
+
+pub use args::args_image;
+pub use code::{CodeBytes, Origin, Places};
+pub use fault::FaultKind;
+pub use field::Field;
+pub use flags::Flags;
+pub use host_name::HostName;
+pub use image::{ArgImage, DataImage};
+pub use memory::Memory;
+pub use piece::Piece;
+pub use refusal::{OutOfMemory, Refusal, RefusalKind, Stop};
+pub use space::Space;
+pub use target::Target;

@@ -1,8 +1,8 @@
 // The memory of a run.
 
-ghost use Rattle.std.specs.Prelude.{◌≡◌, ℕ, ◌+◌, ◌-◌, ◌^◌, ◌<◌, ◌≤◌, ◌⊎◌, ◌↔◌, length, slice_index, false, IfOk, IsSome, IsTrue, if◌then◌else◌};
+ghost use Rattle.std.specs.Prelude.{◌≡◌, ℕ, ◌+◌, ◌-◌, ◌^◌, ◌<◌, ◌≤◌, ◌⊎◌, ◌↔◌, length, slice_index, true, false, IfOk, IsSome, IsTrue, if◌then◌else◌};
 ghost use Rattle.lg_base.specs.Spaces.{number_at, written, loaded, mapped, stored};
-ghost use Rattle.lg_base.specs.Parts.{byte_at, lies_in, LiesInOnePart, IsZeroed};
+ghost use Rattle.lg_base.specs.Parts.{byte_at, lies_in, LiesInOnePart, IsSized, IsZeroed};
 
 use crate::refusal::OutOfMemory;
 use crate::space::Space;
@@ -82,6 +82,23 @@ fn write_number(bytes: &mut [u8], at: usize, width: u32, value: u64)
     }
 }
 
+// Puts these bytes, which are no more than there are, in place of all.
+fn set_bytes(bytes: &mut Vec<u8>, list: &[u8])
+    requires { length list.now ≤ length bytes.old.items }
+    ensures { bytes.new.items ≡ list.now }
+{
+    bytes.truncate(list.len());
+    bytes.copy_from_slice(list);
+}
+
+// Makes every byte 0.
+fn clear_bytes(bytes: &mut [u8])
+    ensures len { length bytes.new ≡ length bytes.old }
+    ensures zero { slice_index bytes.new ≡ (λ _. 0) }
+{
+    bytes.fill(0);
+}
+
 impl Memory {
     /// A memory with data and arguments parts of these lengths, at most 16,777,216 and 1,048,576 bytes,
     /// in which every byte is 0.
@@ -117,6 +134,27 @@ impl Memory {
             heap: zeros(alloc, 0x40_0000)?,
             stack: zeros(alloc, 0x10_0000)?,
         })
+    }
+
+    /// Puts these bytes in place of the data and argument parts, and 0 in every other byte, as
+    /// `with_parts` makes it, and takes no memory. False exactly where one of them is longer than the
+    /// part is now, and then nothing changes. A shorter one makes its part so long.
+    pub fn again(&mut self, image: &[u8], args: &[u8]) -> bool
+        ensures done { IsTrue result ↔ ((length image.now ≤ length self.old.data_part) × (length args.now ≤ length self.old.args_part)) }
+        ensures sized { IsSized self.old }
+        ensures zeroed { result ≡ true → IsZeroed self.new }
+        ensures data { result ≡ true → self.new.data_part ≡ image.now }
+        ensures args { result ≡ true → self.new.args_part ≡ args.now }
+        ensures unchanged { result ≡ false → self.new ≡ self.old }
+    {
+        if image.len() > self.data.len() || args.len() > self.args.len() {
+            return false;
+        }
+        set_bytes(&mut self.data, image);
+        set_bytes(&mut self.args, args);
+        clear_bytes(&mut self.heap);
+        clear_bytes(&mut self.stack);
+        true
     }
 
     /// The number in `width` bytes from an address on, the lowest byte first. None exactly where not all

@@ -1,10 +1,9 @@
 // Calls of the program over a loop of five instructions.
 
 use crate::meaning::TEXT;
-use lg_base::refusal::{OutOfMemory, Stop};
-use lg_io::memory_sink::MemorySink;
-use lg_io::memory_texts::MemoryTexts;
-use lg_run::top::lightning;
+use lg_base::{OutOfMemory, Stop};
+use lg_io::{MemorySink, MemoryTexts};
+use lg_run::lightning;
 use std::alloc::Global;
 
 // The words of a call.

@@ -1,6 +1,6 @@
 // Texts that the preprocessor expands.
 
-use lg_base::refusal::{OutOfMemory, Stop};
+use lg_base::{OutOfMemory, Stop};
 use lg_pre::expand;
 use std::alloc::Global;
 

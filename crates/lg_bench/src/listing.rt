@@ -7,12 +7,9 @@ ghost use Rattle.lg_list.specs.Listing.{Placed};
 ghost use Rattle.lg_op.specs.Nodes.{InForm};
 
 use lg_back::read_back;
-use lg_base::code::{CodeBytes, Places};
-use lg_base::refusal::{OutOfMemory, Stop};
-use lg_base::target::Target;
-use lg_io::memory_sink::MemorySink;
-use lg_io::sink::{Sink, SinkFault};
-use lg_list::list::list;
+use lg_base::{CodeBytes, OutOfMemory, Places, Stop, Target};
+use lg_io::{MemorySink, Sink, SinkFault};
+use lg_list::list;
 use lg_node::{LabelAddresses, Node, NodeList, Op, Operands, PlainOp};
 use std::alloc::Global;
 

@@ -3,7 +3,7 @@
 ghost use Rattle.std.specs.Prelude.{◌≡◌, ◌≤◌, length, true};
 ghost use Rattle.lg_base.specs.WordBytes.{is_word_byte};
 
-use lg_base::refusal::{OutOfMemory, Stop};
+use lg_base::{OutOfMemory, Stop};
 use lg_node::{Label, Node, NodeList, Op, Operand, Operands, Place, Reg, Unit};
 use lg_tst::parse;
 use std::alloc::Global;

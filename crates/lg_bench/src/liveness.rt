@@ -3,8 +3,8 @@
 ghost use Rattle.lg_node.specs.Shapes.{IsShapeOf};
 
 use crate::lists::{Flow, unit};
-use lg_base::refusal::{OutOfMemory, Stop};
-use lg_liveness::live::Live;
+use lg_base::{OutOfMemory, Stop};
+use lg_live::Live;
 use lg_node::{Reg, Shape, Unit, check};
 use std::alloc::Global;
 

@@ -22,8 +22,7 @@ mod texts;
 
 use calls::call;
 use expansion::{Lines, expand_lines};
-use lg_base::refusal::Stop;
-use lg_base::target::Target;
+use lg_base::{Stop, Target};
 use listing::{read_listing, write_listing};
 use lists::Flow;
 use liveness::find;

@@ -2,11 +2,10 @@
 
 ghost use Rattle.std.specs.Prelude.{◌≤◌, length};
 
-use lg_base::image::ArgImage;
-use lg_base::refusal::Stop;
-use lg_io::memory_sink::MemorySink;
+use lg_base::{ArgImage, Stop};
+use lg_io::MemorySink;
+use lg_mean::Portable;
 use lg_mean::addresses::plain_addresses;
-use lg_mean::portable::Portable;
 use lg_node::{Unit, check};
 use lg_tst::parse;
 use std::alloc::Global;

@@ -1,6 +1,6 @@
 // Bytes that are emitted into the buffer for code, piece by piece.
 
-use lg_base::refusal::Stop;
+use lg_base::Stop;
 use lg_buf::CodeBuf;
 use std::alloc::Global;
 

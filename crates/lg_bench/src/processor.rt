@@ -3,12 +3,9 @@
 ghost use Rattle.std.specs.Prelude.{◌≡◌, ◌≤◌, length, IfOk};
 ghost use Rattle.lg_cpu.specs.Machines.{shown};
 
-use lg_base::code::CodeBytes;
-use lg_base::image::{ArgImage, DataImage};
-use lg_base::refusal::{OutOfMemory, Stop};
-use lg_base::target::Target;
-use lg_cpu::cpu::Cpu;
-use lg_io::memory_sink::MemorySink;
+use lg_base::{ArgImage, CodeBytes, DataImage, OutOfMemory, Stop, Target};
+use lg_cpu::Cpu;
+use lg_io::MemorySink;
 use std::alloc::Global;
 
 // add r8, 1; add r9, r8; xor r10, r9; cmp r10, r9; jmp8 to the first

@@ -3,7 +3,7 @@
 ghost use Rattle.lg_node.specs.Shapes.{IsShapeOf};
 
 use crate::lists::{Flow, unit};
-use lg_base::refusal::{OutOfMemory, Stop};
+use lg_base::{OutOfMemory, Stop};
 use lg_dead::{drop_dead, fold, rewrite};
 use lg_node::{Shape, Unit, check};
 use std::alloc::Global;

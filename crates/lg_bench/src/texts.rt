@@ -4,8 +4,7 @@ ghost use Rattle.std.specs.Prelude.{◌≤◌, length, IfOk};
 ghost use Rattle.lg_tst.specs.Answers.{IsWhole};
 
 use lg_asm::assemble;
-use lg_base::refusal::{OutOfMemory, Refusal, RefusalKind, Stop};
-use lg_base::target::Target;
+use lg_base::{OutOfMemory, Refusal, RefusalKind, Stop, Target};
 use lg_node::{Unit, check};
 use lg_tst::parse;
 use std::alloc::Global;

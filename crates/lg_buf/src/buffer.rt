@@ -9,8 +9,7 @@ ghost use Rattle.lg_buf.specs.Buffers.{AreApart, AreDone, EndsWithin, IsReady, p
 use crate::fixes::{CodeLabel, Fix, FixKind};
 use crate::patches;
 use crate::store::Store;
-use lg_base::code::{CodeBytes, Places};
-use lg_base::refusal::OutOfMemory;
+use lg_base::{CodeBytes, OutOfMemory, Places};
 use std::alloc::Global;
 use std::marker::Model;
 

@@ -5,9 +5,7 @@ ghost use Rattle.lg_base.specs.WordFronts.{word_at};
 ghost use Rattle.lg_buf.specs.Stores.{ChangesOnly};
 
 use crate::region::{Lease, Region};
-use lg_base::code::CodeBytes;
-use lg_base::field::Field;
-use lg_base::refusal::OutOfMemory;
+use lg_base::{CodeBytes, Field, OutOfMemory};
 use std::alloc::Global;
 use std::marker::Model;
 

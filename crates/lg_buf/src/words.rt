@@ -7,7 +7,7 @@ ghost use Rattle.lg_buf.specs.FixFields.{branch_rest, cond_rest, move_rest};
 ghost use Rattle.lg_buf.specs.Fixing.{IsWithin, Fits};
 
 use crate::fixes::FixKind;
-use lg_base::field::Field;
+use lg_base::Field;
 
 /// The bits of the distance as a signed number of `half + half` values, of which it is one.
 pub(crate) fn distance(half: u64, from: u64, to: u32) -> u32

@@ -3,7 +3,7 @@
 ghost use Rattle.std.specs.Prelude.{◌≡◌, ◌+◌, ◌≤◌, ◌<◌, length, slice_index, IfOk};
 ghost use Rattle.lg_cells.specs.Cells.{byte_in, is_room, cell_of, with_cells, with_bytes};
 
-use lg_base::refusal::OutOfMemory;
+use lg_base::OutOfMemory;
 use std::alloc::Global;
 
 /// What stands at an address.

@@ -1,6 +1,6 @@
 // What words ask for.
 
-use lg_base::target::Target;
+use lg_base::Target;
 
 /// What is done with a text.
 #[derive(Clone, Copy, Debug, PartialEq, Eq)]

@@ -7,8 +7,7 @@ ghost use Rattle.lg_command.specs.Commands.{AreInRange, mode_of, target_of, numb
 
 use crate::command::Mode;
 use clap::ArgMatches;
-use lg_base::refusal::OutOfMemory;
-use lg_base::target::Target;
+use lg_base::{OutOfMemory, Target};
 use std::alloc::Global;
 
 // The mode of a word.

@@ -18,10 +18,9 @@ use self::operators::{
 use crate::answer::CpuStep;
 use crate::board::{Board, CODE, STOP};
 use lg_a64::{BranchOp, BranchRegOp, ImmOp, Instr, RegOp, ScaledOp, UnscaledOp, decode};
-use lg_base::fault::FaultKind;
-use lg_base::flags::Flags;
 use lg_base::number::sign_extended;
 use lg_base::wide::sign_part;
+use lg_base::{FaultKind, Flags};
 
 /// The program counter, the registers with the stack pointer, 31, the flags, and what the processor works on.
 #[derive(Drop)]

@@ -1,6 +1,6 @@
 // The answers of steps.
 
-use lg_base::fault::FaultKind;
+use lg_base::FaultKind;
 
 /// What one step comes to.
 #[derive(Clone, Copy, Debug, PartialEq, Eq)]

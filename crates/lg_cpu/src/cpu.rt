@@ -12,14 +12,9 @@ use crate::board::Board;
 use crate::processor::Processor;
 use crate::series::Advanced;
 use lg_base::args::argument_count;
-use lg_base::code::CodeBytes;
-use lg_base::flags::Flags;
-use lg_base::image::{ArgImage, DataImage};
-use lg_base::memory::Memory;
-use lg_base::refusal::OutOfMemory;
-use lg_base::target::Target;
-use lg_host::heap_mark::HeapMark;
-use lg_io::sink::Sink;
+use lg_base::{ArgImage, CodeBytes, DataImage, Flags, Memory, OutOfMemory, Target};
+use lg_host::HeapMark;
+use lg_io::Sink;
 use std::alloc::Global;
 
 /// A processor with its memory and its code, before or behind any number of steps.

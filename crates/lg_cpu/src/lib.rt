@@ -11,3 +11,6 @@ mod processor;
 mod riscv64;
 mod series;
 mod x86_64;
+
+pub use answer::CpuStep;
+pub use cpu::Cpu;

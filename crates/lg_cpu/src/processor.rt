@@ -8,10 +8,8 @@ use crate::board::Board;
 use crate::riscv64::Riscv64;
 use crate::series::{Advanced, advance};
 use crate::x86_64::X86_64;
-use lg_base::code::CodeBytes;
-use lg_base::flags::Flags;
-use lg_base::target::Target;
-use lg_io::sink::Sink;
+use lg_base::{CodeBytes, Flags, Target};
+use lg_io::Sink;
 
 /// A processor with what it works on.
 #[derive(Drop)]

@@ -10,7 +10,7 @@ mod start;
 use self::operators::{is_taken, reg_value, shift_value};
 use crate::answer::CpuStep;
 use crate::board::{Board, CODE, STOP};
-use lg_base::fault::FaultKind;
+use lg_base::FaultKind;
 use lg_base::number::sign_extended;
 use lg_base::wide::sign_part;
 use lg_base::word::sign_extend_32;

@@ -9,7 +9,7 @@ use crate::aarch64::Aarch64;
 use crate::answer::CpuStep;
 use crate::riscv64::Riscv64;
 use crate::x86_64::X86_64;
-use lg_io::sink::Sink;
+use lg_io::Sink;
 
 /// A processor that takes steps.
 pub trait Stepping {

@@ -19,10 +19,9 @@ use self::operators::{
 };
 use crate::answer::CpuStep;
 use crate::board::{Board, CODE, STOP};
-use lg_base::fault::FaultKind;
-use lg_base::flags::Flags;
 use lg_base::number::sign_extended;
 use lg_base::wide::{div_wide_u, div_wide_words, mul_high_u, sign_part, swap_bytes};
+use lg_base::{FaultKind, Flags};
 use lg_x86::{
     BareOp, Cond, Instr, JumpNearOp, JumpRegOp, LoadOp, RegRmOp, RmRegOp, ShiftOp, StackOp,
     StoreOp, UnaryOp, decode,

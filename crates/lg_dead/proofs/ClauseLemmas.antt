@@ -10,7 +10,7 @@ use Rattle.lg_opt.specs.Rewritings.{IsOrigin, IsSameNode, KeepsOthers, KeepsLabe
 use Rattle.lg_opt.proofs.MovedLemmas.{new-count}
 use Rattle.lg_opt.proofs.OriginLemmas.{origin-is, keeps-others, keeps-labels, carries-addresses}
 use Rattle.lg_opt.proofs.RemainingLemmas.{number-most}
-use Rattle.lg_liveness.specs.Definitions.{defines}
+use Rattle.lg_live.specs.Definitions.{defines}
 use Rattle.lg_dead.specs.Known.{HasNoFolds}
 use Rattle.lg_dead.specs.Dropping.{IsDroppedTo}
 use Rattle.lg_dead.specs.Dead.{AllAreOfUse, stays}

@@ -11,9 +11,9 @@ use Rattle.lg_op.specs.declared.operand.Operand.{Operand}
 use Rattle.lg_op.specs.declared.operand.Reg.{Reg}
 use Rattle.lg_op.specs.declared.operand.Reg.TheVariants.{R0, R1, R2, V0, V1, V2, Fp}
 use Rattle.lg_live.specs.Uses.{is_written}
-use Rattle.lg_operators.specs.declared.carry.Carry.{Carry}
-use Rattle.lg_operators.specs.declared.carry.Carry.TheVariants as carry
-use Rattle.lg_operators.specs.Operators.{is_carried, binary_value, wide_value, unary_value, keeps_carry, width, extended_by_type}
+use Rattle.lg_op.specs.declared.carry.Carry.{Carry}
+use Rattle.lg_op.specs.declared.carry.Carry.TheVariants as carry
+use Rattle.lg_op.specs.Operators.{is_carried, binary_value, wide_value, unary_value, keeps_carry, width, extended_by_type}
 use Rattle.lg_node.specs.Functions.{functions}
 use Rattle.lg_node.specs.Nodes.{LabelledNodes}
 use Rattle.lg_node.specs.Shapes.{TextShape, IsShapeOf, IsSuccessor, GoesBy, Way, Next, way_of}
@@ -28,12 +28,12 @@ use Rattle.lg_meaning.specs.Steps.{Outcome, Goes, Ends, Undefined, Text, need, q
 use Rattle.lg_meaning.specs.Texts.{text, step_at, step}
 use Rattle.lg_meaning.proofs.MeanLemmas.{formed_at, mean_fits}
 use Rattle.lg_carry.specs.Carries.{leaps, leaps_at}
-use Rattle.lg_near.specs.Near.{Holds, word_of, SavesAlike, FramesAlike, Near}
-use Rattle.lg_near.specs.Near as near
-use Rattle.lg_liveness.specs.Definitions.{defines}
-use Rattle.lg_near.specs.Needs.{AreNeeds, AreNear}
-use Rattle.lg_near.proofs.NeedLemmas.{near-steps}
-use Rattle.lg_rewritten.specs.Rewritten.{memory_in}
+use Rattle.lg_dead.specs.Near.{Holds, word_of, SavesAlike, FramesAlike, Near}
+use Rattle.lg_dead.specs.Near as near
+use Rattle.lg_live.specs.Definitions.{defines}
+use Rattle.lg_dead.specs.Needs.{AreNeeds, AreNear}
+use Rattle.lg_dead.proofs.NeedLemmas.{near-steps}
+use Rattle.lg_opt.specs.Rewritten.{memory_in}
 use Rattle.lg_opt.specs.Paired.{Pair, Dropped, RestsAt, AreStepped}
 use Rattle.lg_opt.specs.Remaining.{new_number, rewritten, no_targets, origins, may_go, IsRewriting}
 use Rattle.lg_opt.specs.Renumbered.{over, Meets, IsRewritten}

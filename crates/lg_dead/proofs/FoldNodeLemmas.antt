@@ -16,7 +16,7 @@ use Rattle.lg_op.specs.declared.form.Form.TheVariants as form
 use Rattle.lg_op.specs.declared.operand.Operand.{Operand}
 use Rattle.lg_op.specs.declared.operand.Operand.TheVariants as operand
 use Rattle.lg_op.specs.declared.operand.Reg.{Reg}
-use Rattle.lg_operators.specs.Operators.{is_carried, binary_value, unary_value}
+use Rattle.lg_op.specs.Operators.{is_carried, binary_value, unary_value}
 use Rattle.lg_dead.specs.Known.{number_in, both_known, made, last_known, as_movi, as_immediate, folded_by, folded, can_be_folded}
 
 module _ (known : Reg → Option ℕ) where

@@ -21,9 +21,9 @@ use Rattle.lg_op.specs.declared.operand.Reg.{Reg}
 use Rattle.lg_op.specs.declared.operand.Reg.TheVariants.{R0, R1, R2, V0, V1, V2, Fp}
 use Rattle.lg_live.specs.Registers.{is_same}
 use Rattle.lg_live.specs.Uses.{is_register, is_call, is_written}
-use Rattle.lg_operators.specs.declared.carry.Carry.{Carry}
-use Rattle.lg_operators.specs.declared.carry.Carry.TheVariants as carry
-use Rattle.lg_operators.specs.Operators.{binary_value, unary_value, keeps_carry, holds}
+use Rattle.lg_op.specs.declared.carry.Carry.{Carry}
+use Rattle.lg_op.specs.declared.carry.Carry.TheVariants as carry
+use Rattle.lg_op.specs.Operators.{binary_value, unary_value, keeps_carry, holds}
 use Rattle.lg_node.specs.Labels.{is_labelled}
 use Rattle.lg_node.specs.Nodes.{LabelledNodes}
 use Rattle.lg_node.specs.Shapes.{TextShape, IsShapeOf}
@@ -41,7 +41,7 @@ use Rattle.lg_meaning.proofs.MeanLemmas.{always, formed_at, start_fits_well}
 use Rattle.lg_meaning.proofs.Outcomes.{on_result}
 use Rattle.lg_carry.specs.Carries.{leaps, leaps_at}
 use Rattle.lg_carry.proofs.FallLemmas.{nodes-fall}
-use Rattle.lg_rewritten.specs.Rewritten.{memory_in}
+use Rattle.lg_opt.specs.Rewritten.{memory_in}
 use Rattle.lg_opt.specs.Paired.{Pair, AreStepped}
 use Rattle.lg_opt.specs.Renumbered.{over, Alike, Meets, Renumbers, IsRewritten}
 use Rattle.lg_opt.specs.Remaining.{origins}

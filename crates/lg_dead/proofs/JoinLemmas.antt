@@ -9,14 +9,14 @@ use Rattle.lg_op.specs.declared.operand.Operand.{Operand}
 use Rattle.lg_op.specs.declared.operand.Reg.{Reg}
 use Rattle.lg_node.specs.Nodes.{LabelledNodes}
 use Rattle.lg_node.proofs.FunctionLaws.{node_within}
-use Rattle.lg_liveness.specs.Definitions.{defines}
+use Rattle.lg_live.specs.Definitions.{defines}
 use Rattle.lg_opt.specs.Hops.{is_jump}
 use Rattle.lg_opt.specs.Moves.{is_movr}
 use Rattle.lg_opt.specs.Rewritings.{IsOrigin, IsSameNode, KeepsOthers, KeepsLabels}
 use Rattle.lg_opt.proofs.ClauseLemmas.{Joined, origins-join}
 use Rattle.lg_dead.specs.Folds.{IsFoldedNode, IsFoldedTo, ComesFolded}
 use Rattle.lg_dead.specs.Known.{number_in, both_known, made, last_known, with_immediate, folded_by, folded, known_before}
-use Rattle.lg_operators.specs.Operators.{is_carried, binary_value}
+use Rattle.lg_op.specs.Operators.{is_carried, binary_value}
 use Rattle.lg_dead.specs.Rewritten.{is_droppable}
 
 pub origin-weaker : (R S : Node → Node → Type 0) (l m : LabelledNodes) (origin : List ℕ) → ((old n : Node) → R old n → S old n) → IsOrigin R l m origin → IsOrigin S l m origin

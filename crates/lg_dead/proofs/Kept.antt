@@ -7,7 +7,7 @@ use Rattle.lg_op.specs.declared.operand.Reg.{Reg}
 use Rattle.lg_node.specs.Checks.{IsAccepted}
 use Rattle.lg_node.specs.Nodes.{LabelledNodes}
 use Rattle.lg_node.specs.Shapes.{TextShape, IsShapeOf}
-use Rattle.lg_near.specs.Needs.{AreNeeds}
+use Rattle.lg_dead.specs.Needs.{AreNeeds}
 use Rattle.lg_opt.specs.Goals as goals
 use Rattle.lg_opt.specs.Moves as moves
 use Rattle.lg_opt.specs.Remaining.{rewritten, no_targets}

@@ -21,7 +21,7 @@ use Rattle.lg_op.specs.declared.operand.Reg.TheVariants.{R0, R1, R2, V0, V1, V2,
 use Rattle.lg_live.specs.Registers.{is_same}
 use Rattle.lg_live.specs.declared.uses.Access.TheVariants as access
 use Rattle.lg_live.specs.Uses.{is_register, names, is_read, is_written}
-use Rattle.lg_operators.specs.Operators.{binary_value, unary_value}
+use Rattle.lg_op.specs.Operators.{binary_value, unary_value}
 use Rattle.lg_carry.specs.Carries.{leaps}
 use Rattle.lg_node.specs.Labels.{is_labelled}
 use Rattle.lg_node.specs.Nodes.{LabelledNodes}

@@ -11,6 +11,8 @@ pub mod Kept
 pub mod KnownKeepLemmas
 pub mod KnownLemmas
 pub mod MovesKeepLemmas
+pub mod NearLemmas
+pub mod NeedLemmas
 pub mod NeededLemmas
 pub mod NoFoldLemmas
 pub mod StayingLemmas

@@ -28,7 +28,7 @@ use Rattle.lg_node.specs.Shapes.{TextShape, IsShapeOf, IsSuccessor, GoesBy, Way,
 use Rattle.lg_node.proofs.SuccessorLaws.{has_functions}
 use Rattle.lg_node.proofs.WellShaped.{well_shaped}
 use Rattle.lg_meaning.proofs.MeanLemmas.{formed_at}
-use Rattle.lg_liveness.specs.Definitions.{defines}
+use Rattle.lg_live.specs.Definitions.{defines}
 use Rattle.lg_opt.specs.Moves.{Move, move_of, no_sources, is_equal, is_source, is_idle, unless_written, behind_other, behind_move, behind_node, behind_at, sources_before}
 use Rattle.lg_opt.specs.Moves as moves
 use Rattle.lg_opt.specs.Remaining.{new_number, rewritten, no_targets}
@@ -40,8 +40,8 @@ use Rattle.lg_opt.proofs.RemainingLemmas.{number-goes}
 use Rattle.lg_opt.proofs.TidyLemmas.{move-is}
 use Rattle.lg_dead.specs.Dead.{AllAreOfUse, HasNoDeadButMoves}
 use Rattle.lg_opt.specs.Moves.{is_movr}
-use Rattle.lg_liveness.specs.Needs.{IsNeeded}
-use Rattle.lg_liveness.specs.Needs as needed
+use Rattle.lg_live.specs.Needs.{IsNeeded}
+use Rattle.lg_live.specs.Needs as needed
 use Rattle.lg_dead.proofs.NeededLemmas.{successor-moved, needed-inside, needed-live, next-only}
 
 no : true ≡ false → ⊥

@@ -14,18 +14,18 @@ use Rattle.lg_node.specs.Checks.{IsAccepted}
 use Rattle.lg_node.specs.Nodes.{LabelledNodes}
 use Rattle.lg_node.specs.Shapes.{TextShape, IsSuccessor, GoesBy, Way, Next, Jump, Either, Taken, Leave, way_of, target_of}
 use Rattle.lg_live.specs.Uses.{is_read, is_written}
-use Rattle.lg_liveness.specs.Liveness.{IsLive, IsLiveBehind}
-use Rattle.lg_liveness.specs.Liveness as live
-use Rattle.lg_liveness.specs.Definitions.{defines}
-use Rattle.lg_near.specs.Needs.{AreNeeds}
+use Rattle.lg_live.specs.Liveness.{IsLive, IsLiveBehind}
+use Rattle.lg_live.specs.Liveness as live
+use Rattle.lg_live.specs.Definitions.{defines}
+use Rattle.lg_dead.specs.Needs.{AreNeeds}
 use Rattle.lg_opt.specs.Remaining.{new_number, moved_place, rewritten, no_targets, IsRewriting}
 use Rattle.lg_opt.proofs.AcceptLemmas.{inside-moved, entry-stays}
 use Rattle.lg_opt.proofs.MovedLemmas.{comes-from, new-count, stands, place-moved}
 use Rattle.lg_opt.proofs.RemainingLemmas.{number-stays, number-goes, number-lt}
 use Rattle.lg_opt.proofs.ShapeLemmas.{home-moved}
 use Rattle.lg_dead.specs.Dead.{AllAreOfUse, HasNoDead, any_needed, stays_at, stays, AreExact}
-use Rattle.lg_liveness.specs.Needs.{IsNeeded}
-use Rattle.lg_liveness.specs.Needs as needed
+use Rattle.lg_live.specs.Needs.{IsNeeded}
+use Rattle.lg_live.specs.Needs as needed
 use Rattle.lg_dead.proofs.DeadRunLemmas.{next-by-defining}
 
 no : true ≡ false → ⊥

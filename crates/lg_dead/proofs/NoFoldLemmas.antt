@@ -23,12 +23,12 @@ use Rattle.lg_carry.specs.Carries.{leaps}
 use Rattle.lg_node.specs.Labels.{is_labelled}
 use Rattle.lg_node.specs.Nodes.{LabelledNodes}
 use Rattle.lg_node.specs.Shapes.{TextShape, IsSuccessor, GoesBy, Way, Next, way_of}
-use Rattle.lg_liveness.specs.Definitions.{defines}
-use Rattle.lg_near.specs.Needs.{AreNeeds}
+use Rattle.lg_live.specs.Definitions.{defines}
+use Rattle.lg_dead.specs.Needs.{AreNeeds}
 use Rattle.lg_live.specs.Registers.{is_same}
 use Rattle.lg_node.specs.Checks.{IsAccepted}
 use Rattle.lg_node.specs.ShapeLaws.{has_target}
-use Rattle.lg_operators.specs.Operators.{unary_value}
+use Rattle.lg_op.specs.Operators.{unary_value}
 use Rattle.lg_opt.specs.Goals.{goal_node}
 use Rattle.lg_opt.specs.Goals as goals
 use Rattle.lg_opt.specs.Moves.{Move, move_of, no_sources, is_equal, is_source, is_idle, unless_written, behind_other, behind_move, behind_node, behind_at, sources_before}

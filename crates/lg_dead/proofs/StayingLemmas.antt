@@ -13,9 +13,9 @@ use Rattle.lg_op.specs.declared.operand.Reg.TheVariants.{R0, R1, R2, V0, V1, V2,
 use Rattle.lg_live.specs.RegSets.{has}
 use Rattle.lg_live.specs.declared.reg_set.RegSet.{RegSet}
 use Rattle.lg_live.specs.Uses.{is_written}
-use Rattle.lg_liveness.specs.Definitions.{defines}
-use Rattle.lg_liveness.specs.Graphs.{any_register}
-use Rattle.lg_liveness.specs.Needs.{AreNeeded}
+use Rattle.lg_live.specs.Definitions.{defines}
+use Rattle.lg_live.specs.Graphs.{any_register}
+use Rattle.lg_live.specs.Needs.{AreNeeded}
 use Rattle.lg_node.specs.Nodes.{LabelledNodes}
 use Rattle.lg_node.specs.Shapes.{TextShape}
 use Rattle.lg_opt.specs.Rewritings.{marked}

@@ -22,8 +22,8 @@ use Rattle.lg_op.specs.declared.operand.Reg.{Reg}
 use Rattle.lg_live.specs.declared.uses.Access.{Access}
 use Rattle.lg_live.specs.declared.uses.Access.TheVariants as access
 use Rattle.lg_live.specs.Uses.{is_for, is_register, names, is_call, is_read, is_written}
-use Rattle.lg_liveness.specs.Liveness.{IsLive, IsLiveBehind}
-use Rattle.lg_liveness.specs.Liveness as live
+use Rattle.lg_live.specs.Liveness.{IsLive, IsLiveBehind}
+use Rattle.lg_live.specs.Liveness as live
 use Rattle.lg_node.specs.declared.place.Place.{Place}
 use Rattle.lg_node.specs.declared.place.Place.TheVariants as place
 use Rattle.lg_node.specs.Labels.{place_of}
@@ -31,7 +31,7 @@ use Rattle.lg_node.specs.Nodes.{LabelledNodes}
 use Rattle.lg_node.specs.ShapeLaws.{has_target}
 use Rattle.lg_node.specs.Shapes.{TextShape, IsShapeOf, IsSuccessor, IsTarget, GoesBy, Way, Next, Jump, Either, Taken, Leave, way_of, target_of}
 use Rattle.lg_meaning.specs.Steps.{operand_at, node_in, node_of_label}
-use Rattle.lg_liveness.specs.Definitions.{defines}
+use Rattle.lg_live.specs.Definitions.{defines}
 use Rattle.lg_opt.specs.Goals.{lead, turns, goal_node}
 use Rattle.lg_opt.specs.Goals as goals
 use Rattle.lg_opt.specs.Hops.{is_jump, is_jump_at, jump_at, hop, hop_of}

@@ -7,10 +7,10 @@ use Rattle.lg_node.specs.Shapes.{TextShape, IsSuccessor}
 use Rattle.lg_live.specs.RegSets.{has}
 use Rattle.lg_live.specs.declared.reg_set.RegSet.{RegSet}
 use Rattle.lg_live.specs.Uses.{is_written}
-use Rattle.lg_liveness.specs.Graphs.{any_register}
-use Rattle.lg_liveness.specs.Liveness.{IsLiveBehind}
-use Rattle.lg_liveness.specs.Definitions.{defines}
-use Rattle.lg_liveness.specs.Needs.{IsNeeded}
+use Rattle.lg_live.specs.Graphs.{any_register}
+use Rattle.lg_live.specs.Liveness.{IsLiveBehind}
+use Rattle.lg_live.specs.Definitions.{defines}
+use Rattle.lg_live.specs.Needs.{IsNeeded}
 use Rattle.lg_opt.specs.Moves.{is_movr}
 
 -- a node writes a register that is needed behind it

@@ -13,7 +13,7 @@ use Rattle.lg_op.specs.declared.operand.Operand.TheVariants as operand
 use Rattle.lg_op.specs.declared.operand.Reg.{Reg}
 use Rattle.lg_live.specs.Registers.{is_same}
 use Rattle.lg_live.specs.Uses.{is_written}
-use Rattle.lg_operators.specs.Operators.{is_carried, binary_value, unary_value}
+use Rattle.lg_op.specs.Operators.{is_carried, binary_value, unary_value}
 use Rattle.lg_carry.specs.Carries.{leaps}
 use Rattle.lg_node.specs.Nodes.{LabelledNodes}
 use Rattle.lg_node.specs.Labels.{is_labelled}

@@ -3,5 +3,7 @@ pub mod Dropping
 pub mod Folds
 pub mod Known
 pub mod Lists
+pub mod Near
+pub mod Needs
 pub mod Rewritten
 pub mod Tables

@@ -4,7 +4,7 @@ use Rattle.lg_op.specs.declared.node.Node.{Node}
 use Rattle.lg_op.specs.declared.op.Op.{Op}
 use Rattle.lg_node.specs.Nodes.{LabelledNodes}
 use Rattle.lg_node.specs.Shapes.{TextShape, IsShapeOf}
-use Rattle.lg_liveness.specs.Definitions.{defines}
+use Rattle.lg_live.specs.Definitions.{defines}
 use Rattle.lg_meaning.specs.Addresses.{AreAddresses}
 use Rattle.lg_opt.specs.Hops.{is_jump}
 use Rattle.lg_opt.specs.Rewritings.{IsOrigin, IsThreadedNode, IsTidy, KeepsOthers, KeepsLabels}

@@ -1,7 +1,7 @@
 // Definitions that nothing needs are dropped.
 
 ghost use Rattle.std.specs.Prelude.{◌≡◌, ◌≤◌, length, IfOk};
-ghost use Rattle.lg_liveness.specs.Definitions.{defines};
+ghost use Rattle.lg_live.specs.Definitions.{defines};
 ghost use Rattle.lg_node.specs.Shapes.{IsShapeOf};
 ghost use Rattle.lg_opt.specs.Rewritings.{IsOrigin, IsSameNode, KeepsOthers, KeepsLabels, CarriesAddresses, RunsAreDropped};
 ghost use Rattle.lg_dead.specs.Known.{HasNoFolds};
@@ -9,8 +9,8 @@ ghost use Rattle.lg_dead.specs.Dead.{AllAreOfUse};
 ghost use Rattle.lg_dead.specs.Dropping.{IsDroppedTo};
 
 use crate::staying::staying;
-use lg_base::refusal::OutOfMemory;
-use lg_liveness::needs::needs;
+use lg_base::OutOfMemory;
+use lg_live::needs::needs;
 use lg_node::{NodeList, Shape};
 use lg_opt::Rewritten;
 use lg_opt::rebuilding::rebuilt;

@@ -4,13 +4,13 @@ ghost use Rattle.std.specs.Prelude.{◌≡◌, if◌then◌else◌, None};
 ghost use Rattle.lg_op.specs.declared.op.LastOperand.{LastOperand};
 ghost use Rattle.lg_op.specs.declared.op.Op.TheVariants as variant;
 ghost use Rattle.lg_op.specs.Nodes.{InForm};
-ghost use Rattle.lg_operators.specs.Operators.{is_carried, binary_value};
+ghost use Rattle.lg_op.specs.Operators.{is_carried, binary_value};
 ghost use Rattle.lg_dead.specs.Known.{both_known, made, last_known, as_movi, as_immediate, with_immediate, with_third, folded};
 ghost use Rattle.lg_dead.specs.Tables.{known_of};
 
 use crate::known::Known;
+use lg_op::operators::{binary, is_carried, unary};
 use lg_op::{BinaryOp, LastOperand, Node, Op, Operand, Operands, PlainOp, UnaryOp};
-use lg_operators::operators::{binary, is_carried, unary};
 
 // The word of two words that are known.
 fn made_of_two(op: BinaryOp, a: Option<u64>, b: Option<u64>) -> Option<u64>

@@ -9,8 +9,7 @@ ghost use Rattle.lg_live.specs.Uses.{is_written};
 ghost use Rattle.lg_dead.specs.Known.{number_in, known_behind, moved_number, or_else};
 ghost use Rattle.lg_dead.specs.Tables.{known_of};
 
-use lg_live::reg_set::RegSet;
-use lg_live::uses::writes;
+use lg_live::{RegSet, writes};
 use lg_op::{Node, Op, Operand, PlainOp, Reg};
 
 /// Of each register the number that it is known to hold.

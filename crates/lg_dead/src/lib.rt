@@ -7,6 +7,7 @@ mod folding;
 mod known;
 pub mod laws;
 mod list;
+pub mod near_laws;
 mod rewriting;
 mod staying;
 

@@ -13,7 +13,7 @@ ghost use Rattle.lg_dead.specs.Tables.{known_of};
 
 use crate::folding::folded;
 use crate::known::Known;
-use lg_base::refusal::OutOfMemory;
+use lg_base::OutOfMemory;
 use lg_node::{Label, Node, NodeList, Shape};
 use lg_opt::Rewritten;
 use lg_opt::labels::{is_labelled, labels_at};

@@ -11,8 +11,7 @@ ghost use Rattle.lg_dead.specs.Rewritten.{is_droppable, AreFinal, RunsRest};
 
 use crate::dropping::drop_dead;
 use crate::list::fold;
-use lg_base::code::Origin;
-use lg_base::refusal::OutOfMemory;
+use lg_base::{Origin, OutOfMemory};
 use lg_node::{NodeList, Shape};
 use lg_opt::{Rewritten, drop_moves, thread};
 use std::alloc::Global;

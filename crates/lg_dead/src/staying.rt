@@ -6,11 +6,10 @@ ghost use Rattle.lg_live.specs.RegSets.{has};
 ghost use Rattle.lg_dead.specs.Dead.{stays_at, needs_in};
 ghost use Rattle.lg_dead.specs.Dropping.{AreStays};
 
-use lg_base::refusal::OutOfMemory;
-use lg_live::reg_set::RegSet;
-use lg_live::uses::writes;
-use lg_liveness::definitions::defines;
-use lg_liveness::sets::meets;
+use lg_base::OutOfMemory;
+use lg_live::definitions::defines;
+use lg_live::sets::meets;
+use lg_live::{RegSet, writes};
 use lg_node::{Node, NodeList};
 use std::alloc::Global;
 

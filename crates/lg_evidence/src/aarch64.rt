@@ -4,7 +4,7 @@ ghost use Rattle.std.specs.Prelude.{pos, ◌≤ℤ◌};
 
 use crate::table::{Found, Table, spoken};
 use lg_a64::{Instr, ScaledOp, decode, encode};
-use lg_base::piece::Piece;
+use lg_base::Piece;
 use std::alloc::{AllocError, Global};
 
 /// A64.

@@ -1,7 +1,7 @@
 // The lines of the evidence on runs: columns with tabs between them, and lists of items with blanks between them.
 
 use crate::vector::digit;
-use lg_base::target::Target;
+use lg_base::Target;
 use std::alloc::{AllocError, Global};
 
 /// A line of a file on single steps: STEPS, TEXT, HEX, IN, OUT, HOW.

@@ -5,7 +5,7 @@ ghost use Rattle.lg_evidence.specs.Found.{IsAsWanted};
 
 use crate::table::{Found, Table};
 use crate::vector::{bytes_of, parse_refused, parse_spelled};
-use lg_base::piece::Piece;
+use lg_base::Piece;
 use lg_tally::{Counts, Outcome};
 use std::alloc::{AllocError, Global};
 use std::rt::Files;

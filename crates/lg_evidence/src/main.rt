@@ -17,7 +17,7 @@ mod x86_64;
 
 use aarch64::Aarch64;
 use check::{check_refused, check_spelled};
-use lg_base::target::Target;
+use lg_base::Target;
 use programs::check_programs;
 use riscv64::Riscv64;
 use std::io;

@@ -3,9 +3,8 @@
 use crate::case::{code_of, parse_program};
 use crate::processor::{processor, run, sink};
 use crate::steps::name_of;
-use lg_base::target::Target;
-use lg_cpu::answer::CpuStep;
-use lg_cpu::cpu::Cpu;
+use lg_base::Target;
+use lg_cpu::{Cpu, CpuStep};
 use lg_tally::{Counts, Outcome};
 use std::alloc::{AllocError, Global};
 use std::rt::Files;

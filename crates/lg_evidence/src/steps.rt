@@ -2,12 +2,9 @@
 
 use crate::case::{Case, Item, code_of, parse_case, parse_item};
 use crate::processor::{CODE, TRASH, processor, run, sink};
-use lg_base::code::CodeBytes;
-use lg_base::flags::Flags;
-use lg_base::target::Target;
-use lg_cpu::answer::CpuStep;
-use lg_cpu::cpu::Cpu;
-use lg_io::memory_sink::MemorySink;
+use lg_base::{CodeBytes, Flags, Target};
+use lg_cpu::{Cpu, CpuStep};
+use lg_io::MemorySink;
 use lg_tally::{Counts, Outcome};
 use std::alloc::{AllocError, Global};
 use std::rt::Files;

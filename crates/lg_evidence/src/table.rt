@@ -3,7 +3,7 @@
 ghost use Rattle.std.specs.Prelude.{IfOk, IfSome};
 ghost use Rattle.lg_evidence.specs.Found.{StandsInFront};
 
-use lg_base::piece::Piece;
+use lg_base::Piece;
 use std::alloc::{AllocError, Global};
 use std::str;
 

@@ -3,7 +3,7 @@
 ghost use Rattle.std.specs.Prelude.{◌≡◌, ◌<◌, IfSome};
 ghost use Rattle.lg_evidence.specs.Hex.{hex_digit, hex_text};
 
-use lg_base::piece::Piece;
+use lg_base::Piece;
 
 /// A line of a file on encodings: TEXT, HEX, HOW, OPS.
 #[derive(Drop)]

@@ -8,9 +8,8 @@ ghost use Rattle.lg_tst.specs.Words.{register_word};
 
 use crate::line::{Shown, line_in};
 use crate::stop::StuckAt;
-use lg_base::refusal::Refusal;
-use lg_io::digits::{Digits, Radix};
-use lg_io::sink::{Sink, SinkFault, write_parts};
+use lg_base::Refusal;
+use lg_io::{Digits, Radix, Sink, SinkFault, write_parts};
 use lg_meaning::reason::Reason;
 use lg_node::Reg;
 

@@ -8,7 +8,7 @@ ghost use Rattle.lg_meaning.specs.Fits.{Fits};
 ghost use Rattle.lg_meaning.specs.Steps.{Undefined};
 ghost use Rattle.lg_meaning.specs.Texts.{step};
 
-use lg_mean::portable::Portable;
+use lg_mean::Portable;
 use lg_meaning::laws::steps_are_undefined_by_the_table;
 use lg_meaning::reason::Reason;
 use lg_node::laws::accepted_nodes_are_well_shaped;

@@ -1,3 +1,5 @@
+mod MeaningLemmas
 mod NodeLemmas
 mod ReadLemmas
 mod SpelledLemmas
+pub mod LocalLemmas

@@ -4,6 +4,7 @@
 
 mod expression;
 pub mod laws;
+pub mod meaning_laws;
 mod reading;
 mod step;
 mod unit;

@@ -9,9 +9,7 @@ ghost use Rattle.lg_expression.specs.Units.{AreInside, aside, format, head, node
 
 use crate::expression::{Expression, behind};
 use crate::step::Step;
-use lg_base::host_name::HostName;
-use lg_base::image::DataImage;
-use lg_base::refusal::OutOfMemory;
+use lg_base::{DataImage, HostName, OutOfMemory};
 use lg_node::{
     Addressing, BinaryOp, ControlOp, Label, LastOperand, Node, NodeList, Op, Operand, Operands,
     Place, PlainOp, Reg, StoreType, UnaryOp, Unit, ValueType,

@@ -6,7 +6,7 @@ ghost use Rattle.lg_host.specs.Host.{memory, Reserves, MemSays, malloc, calloc, 
 use crate::blocks::{can_get_all, can_put_all, copy, fill, is_addressed, overlaps};
 use crate::heap_mark::HeapMark;
 use crate::host_end::HostEnd;
-use lg_base::space::Space;
+use lg_base::Space;
 
 // Hands out so many bytes of the heap, where they fit.
 fn reserve<S: Space>(size: u64, mem: &mut S, heap: &mut HeapMark) -> Option<u64>

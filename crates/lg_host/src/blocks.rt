@@ -4,7 +4,7 @@ ghost use Rattle.std.specs.Prelude.{◌≡◌, ◌≤◌, ◌+◌, ◌^◌, ℕ,
 ghost use Rattle.lg_base.specs.Spaces.{mapped};
 ghost use Rattle.lg_host.specs.Blocks.{over, copied, filled, can_write, is_addressed, overlaps};
 
-use lg_base::space::Space;
+use lg_base::Space;
 
 /// Whether so many bytes from an address on have addresses.
 pub fn is_addressed(from: u64, count: u64) -> bool

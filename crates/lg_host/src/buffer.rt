@@ -4,7 +4,7 @@ ghost use Rattle.std.specs.Prelude.{◌≡◌, ◌<◌, ◌≤◌, ◌==◌, ℕ
 ghost use Rattle.lg_io.specs.Wrote.{Wrote};
 ghost use Rattle.lg_host.specs.Output.{Passed, output};
 
-use lg_io::sink::{Sink, SinkFault, write_all};
+use lg_io::{Sink, SinkFault, write_all};
 use std::marker::Model;
 
 /// A few bytes on their way to a sink, so that it is not written to byte by byte.

@@ -9,10 +9,9 @@ use crate::buffer::Buffer;
 use crate::format::{Kind, Size, Style};
 use crate::parts::{Part, put_parts};
 use crate::strings::string_end;
-use lg_base::space::Space;
+use lg_base::Space;
 use lg_base::word::SIGN_BIT;
-use lg_io::digits::{Digits, Radix};
-use lg_io::sink::{Sink, SinkFault};
+use lg_io::{Digits, Radix, Sink, SinkFault};
 
 // Passes on pieces whose length is known.
 fn put<S: Space, O: Sink>(

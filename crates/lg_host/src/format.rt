@@ -1,6 +1,6 @@
 // The format of `printf`: what is read of it, byte by byte.
 
-use lg_io::digits::Radix;
+use lg_io::Radix;
 
 /// The flags and the width of a conversion.
 #[derive(Clone, Copy)]

@@ -4,7 +4,7 @@ ghost use Rattle.std.specs.Prelude.{◌≡◌, ℕ, ◌≤◌};
 ghost use Rattle.lg_host.specs.Formats.{number_letter, any_letter, without_zeros, at_length, at_width, at_flags, next_of, is_plain};
 
 use crate::format::{Kind, Next, Reading, Size, Style};
-use lg_io::digits::Radix;
+use lg_io::Radix;
 
 // d i u x X o, which take a length.
 fn number_letter(style: Style, size: Size, byte: u8) -> Next

@@ -4,7 +4,7 @@
 mod allocation;
 mod blocks;
 mod buffer;
-pub mod call;
+pub mod calling;
 mod conversions;
 pub mod format;
 mod format_place;
@@ -17,3 +17,7 @@ mod output;
 mod parts;
 mod print;
 mod strings;
+
+pub use calling::call;
+pub use heap_mark::HeapMark;
+pub use host_end::HostEnd;

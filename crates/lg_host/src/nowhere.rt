@@ -2,7 +2,7 @@
 
 ghost use Rattle.std.specs.Prelude.{ℕ, None};
 
-use lg_io::sink::{Sink, SinkFault};
+use lg_io::{Sink, SinkFault};
 
 /// Nothing is written, and no write fails.
 #[derive(Clone, Copy)]

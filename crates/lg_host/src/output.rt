@@ -13,8 +13,8 @@ use crate::nowhere::Nowhere;
 use crate::parts::{Part, write_parts};
 use crate::print::print;
 use crate::strings::string_end;
-use lg_base::space::Space;
-use lg_io::sink::{Sink, write_all};
+use lg_base::Space;
+use lg_io::{Sink, write_all};
 
 // The number of bytes as an int.
 fn int_answer(count: u64) -> u64

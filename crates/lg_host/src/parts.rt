@@ -5,8 +5,8 @@ ghost use Rattle.lg_io.specs.Wrote.{Wrote};
 ghost use Rattle.lg_host.specs.Output.{Passed, output, bytes_from, part_bytes, parts_bytes};
 
 use crate::buffer::Buffer;
-use lg_base::space::Space;
-use lg_io::sink::{Sink, SinkFault};
+use lg_base::Space;
+use lg_io::{Sink, SinkFault};
 
 /// A piece of output.
 #[derive(Clone, Copy)]

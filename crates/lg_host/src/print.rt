@@ -12,8 +12,8 @@ use crate::conversions::convert;
 use crate::format::{Kind, Next, Reading, Style};
 use crate::format_place::FormatPlace;
 use crate::letters::{is_plain, next};
-use lg_base::space::Space;
-use lg_io::sink::{Sink, SinkFault};
+use lg_base::Space;
+use lg_io::{Sink, SinkFault};
 
 // What one byte of a format does.
 fn step<S: Space, O: Sink>(

@@ -5,7 +5,7 @@ ghost use Rattle.std.specs.Option.{option_map};
 ghost use Rattle.lg_host.specs.Runs.{run};
 ghost use Rattle.lg_host.specs.Strings.{string_in, compared, number_in, signed_in, atoi_in, int_word, is_space};
 
-use lg_base::space::Space;
+use lg_base::Space;
 
 /// The address of the zero byte that ends the string at an address; None where a byte before it can't be read.
 pub fn string_end<S: Space>(mem: &S, from: u64) -> Option<u64>

@@ -3,7 +3,7 @@
 ghost use Rattle.std.specs.Prelude.{◌≡◌, ◌≤◌, IfOk};
 ghost use Rattle.lg_io.specs.Calls.{fails_next, counted};
 
-use lg_base::refusal::OutOfMemory;
+use lg_base::OutOfMemory;
 use std::alloc::Global;
 use std::marker::Model;
 

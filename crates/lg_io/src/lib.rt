@@ -10,3 +10,11 @@ pub mod reading;
 pub mod sink;
 pub mod standard;
 pub mod texts;
+
+pub use digits::{Digits, Radix};
+pub use memory_sink::MemorySink;
+pub use memory_texts::MemoryTexts;
+pub use reading::Reading;
+pub use sink::{Sink, SinkFault, write_all, write_parts};
+pub use standard::{StdSink, StdTexts};
+pub use texts::{TextFault, Texts};

@@ -7,7 +7,7 @@ ghost use Rattle.lg_io.specs.MemorySinks.{write_answer, after_write};
 
 use crate::calls::FailingCalls;
 use crate::sink::{Sink, SinkFault};
-use lg_base::refusal::OutOfMemory;
+use lg_base::OutOfMemory;
 use std::alloc::Global;
 use std::marker::Model;
 

@@ -12,7 +12,7 @@ use crate::calls::FailingCalls;
 use crate::named_text::NamedText;
 use crate::reading::Reading;
 use crate::texts::{TextFault, Texts};
-use lg_base::refusal::OutOfMemory;
+use lg_base::OutOfMemory;
 use std::alloc::Global;
 use std::marker::Model;
 

@@ -1,3 +1,6 @@
+mod FrontCases
+mod GapLemmas
+mod WordLemmas
 pub mod BlankLemmas
 pub mod ByteLemmas
 pub mod CompleteLemmas

@@ -4,7 +4,9 @@ pub mod Escapes
 pub mod ExpressionTokens
 pub mod Expressions
 pub mod Fronts
+pub mod Gaps
 pub mod Numbers
 pub mod Operators
 pub mod Tokens
 pub mod Trees
+pub mod Words

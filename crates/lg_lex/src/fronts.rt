@@ -11,7 +11,7 @@ use crate::escapes::{character, string_len};
 use crate::expressions::expression;
 use crate::numbers::number;
 use crate::token::TokenKind;
-use lg_base::refusal::RefusalKind;
+use lg_base::RefusalKind;
 use lg_base::word_bytes::is_word_start;
 
 /// What stands at the front of a text.

@@ -8,7 +8,7 @@ use crate::bytes::{ahead, behind};
 use crate::fronts::{Front, front_of};
 use crate::place::{Place, first_place, passed};
 use crate::token::Token;
-use lg_base::refusal::Refusal;
+use lg_base::Refusal;
 use std::marker::Model;
 
 /// The tokens of a text, read one after the other. It takes no memory.

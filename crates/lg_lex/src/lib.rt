@@ -11,6 +11,7 @@ mod numbers;
 mod operators;
 mod place;
 mod token;
+pub mod token_laws;
 
 pub use escapes::string_bytes;
 pub use lexer::Lexer;

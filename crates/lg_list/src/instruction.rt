@@ -7,7 +7,7 @@ ghost use Rattle.lg_list.specs.Lines.{instruction_line};
 
 use crate::line::Line;
 use crate::{aarch64, riscv64, x86_64};
-use lg_base::target::Target;
+use lg_base::Target;
 
 /// An instruction of one of the targets.
 #[derive(Clone, Copy, PartialEq, Eq, Debug)]

@@ -5,8 +5,7 @@ ghost use Rattle.std.specs.List.{All};
 ghost use Rattle.lg_list.specs.Listing.{listing};
 ghost use Rattle.lg_list.specs.Back.{Back, IsListable};
 
-use lg_base::code::{CodeBytes, Places};
-use lg_base::target::Target;
+use lg_base::{CodeBytes, Places, Target};
 use lg_node::{LabelAddresses, NodeList};
 
 /// The listing of code, read back, gives the target and the bytes. The call changes nothing: its contract is the law.

@@ -1,3 +1,10 @@
+pub mod Chains
+pub mod Definitions
+pub mod Graphs
+pub mod Liveness
+pub mod Needs
+pub mod Points
 pub mod RegSets
 pub mod Registers
+pub mod Searches
 pub mod Uses

@@ -1,7 +1,7 @@
 -- How the portable state is held: frames with their words in arrays, and memory in cells.
 use Rattle.std.specs.Prelude.{◌≡◌, ◌≤◌, ◌⊎◌, ℕ, ◌+◌, Bool, Option, None, List, [], ◌∷◌, take, map, reverse, slice_index_or, vec_capacity}
 use Rattle.lg_cells.specs.Memories.{Marked, byte_at, room_at}
-use Rattle.lg_operators.specs.declared.carry.Carry.{Carry}
+use Rattle.lg_op.specs.declared.carry.Carry.{Carry}
 use Rattle.lg_mean.specs.declared.frame.KeptFrame.{KeptFrame}
 use Rattle.lg_mean.specs.declared.machine.Machine.TheInside.{Inside}
 use Rattle.lg_meaning.specs.States.{Frame, State, is_part}

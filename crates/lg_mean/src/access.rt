@@ -4,14 +4,14 @@ ghost use Rattle.std.specs.Prelude.{◌≡◌, ◌<◌, ◌≤◌, ◌-◌, ◌+
 ghost use Rattle.lg_base.specs.Spaces.{loaded, stored};
 ghost use Rattle.lg_cells.specs.Memories.{writable};
 ghost use Rattle.lg_meaning.specs.States.{is_open};
-ghost use Rattle.lg_operators.specs.Operators.{width, store_width};
+ghost use Rattle.lg_op.specs.Operators.{width, store_width};
 ghost use Rattle.lg_meaning.specs.Steps.{read, load_to, store_to, load_step, store_step, address, sum_value, is_indexed, stored_operand, on_with_carry, quiet};
 ghost use Rattle.lg_mean.specs.Machines.{state_of};
 ghost use Rattle.lg_mean.specs.Says.{AreKnown, Does};
 
 use crate::machine::{Machine, operand};
 use lg_node::{Addressing, Node, Operand, StoreType, ValueType};
-use lg_operators::operators;
+use lg_op::operators;
 
 // Whether an address is the sum of two operands.
 pub(crate) fn is_indexed(addressing: Addressing) -> bool

@@ -4,7 +4,7 @@ ghost use Rattle.std.specs.Prelude.{◌≡◌, ◌*◌, ◌<◌, ◌^◌, length
 ghost use Rattle.lg_node.specs.Nodes.{MayStand};
 ghost use Rattle.lg_meaning.specs.Addresses.{AreAddresses, plain_address, plain_addresses};
 
-use lg_base::refusal::OutOfMemory;
+use lg_base::OutOfMemory;
 use lg_meaning::laws::plain_addresses_are_addresses;
 use lg_node::{Label, LabelAddresses, NodeList, Place};
 use std::alloc::Global;

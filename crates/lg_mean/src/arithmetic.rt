@@ -1,7 +1,7 @@
 // Arithmetic, branches and jumps of the portable machine. Each method answers whether the step is defined.
 
 ghost use Rattle.std.specs.Prelude.{◌≡◌, ◌<◌, ◌-◌, ◌^◌, ◌∷◌, [], ℕ, length, slice_get, IfSome, Bool, true, false, if◌then◌else◌};
-ghost use Rattle.lg_operators.specs.Operators.{binary_value, is_carried};
+ghost use Rattle.lg_op.specs.Operators.{binary_value, is_carried};
 ghost use Rattle.lg_meaning.specs.Steps.{binary_step, carried_step, carried_to, wide_step, unary_step, movi_step, branch, branch_step, branch_sum_step, jump_step, retval_step, getarg_step, va_start_step, va_arg_step, va_end_step, quiet, on};
 ghost use Rattle.lg_mean.specs.Machines.{state_of};
 ghost use Rattle.lg_mean.specs.Programs.{text_of};
@@ -12,8 +12,8 @@ use crate::program::Program;
 use lg_node::{
     BinaryOp, BranchSumOp, Condition, Node, NodeList, Operand, UnaryOp, ValueType, WideOp,
 };
-use lg_operators::carry::Carry;
-use lg_operators::operators;
+use lg_op::carry::Carry;
+use lg_op::operators;
 
 impl Machine {
     // O1 = O2 op O3.

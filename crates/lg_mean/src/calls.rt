@@ -13,7 +13,7 @@ ghost use Rattle.lg_mean.specs.Says.{AreKnown, Does, Returns, WentUp, HasBegun, 
 use crate::frame::KeptFrame;
 use crate::machine::{Machine, operand};
 use lg_node::{Function, Node};
-use lg_operators::carry::Carry;
+use lg_op::carry::Carry;
 
 // The bytes of a function's frame.
 pub(crate) fn frame_size(function: Function) -> u32

@@ -10,10 +10,9 @@ ghost use Rattle.lg_mean.specs.Says.{Steps, KeepsCount};
 
 use crate::machine::Machine;
 use crate::mean_step::MeanStep;
-use lg_base::host_name::HostName;
-use lg_host::call::call;
-use lg_host::host_end::HostEnd;
-use lg_io::sink::Sink;
+use lg_base::HostName;
+use lg_host::{HostEnd, call};
+use lg_io::Sink;
 
 // Whether a call is variadic.
 fn is_marked(variadic: Option<bool>) -> bool

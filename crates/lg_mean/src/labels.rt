@@ -11,7 +11,7 @@ ghost use Rattle.lg_mean.specs.Programs.{pair_eq, is_jump_key, jump_entry, entry
 
 use crate::functions::{begins, function_here};
 use indexmap::IndexMap;
-use lg_base::refusal::OutOfMemory;
+use lg_base::OutOfMemory;
 use lg_node::laws::accepted_nodes_have_functions;
 use lg_node::{Function, Label, LabelAddresses, NodeList, Place, Shape};
 use std::alloc::Global;

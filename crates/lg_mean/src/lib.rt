@@ -18,3 +18,7 @@ pub mod run;
 mod start;
 mod step;
 mod why;
+
+pub use mean_step::MeanStep;
+pub use portable::Portable;
+pub use run::RunEnd;

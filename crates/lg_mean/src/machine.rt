@@ -10,9 +10,9 @@ ghost use Rattle.lg_mean.specs.Says.{IsKnown};
 
 use crate::frame::KeptFrame;
 use lg_cells::CellMemory;
-use lg_host::heap_mark::HeapMark;
+use lg_host::HeapMark;
 use lg_node::{Node, NodeList, Operand, Place, Reg};
-use lg_operators::carry::Carry;
+use lg_op::carry::Carry;
 use std::marker::Model;
 
 /// The state of the portable machine.

@@ -10,7 +10,7 @@ ghost use Rattle.lg_mean.specs.Runs.{ComesTo, KeepsCountBehind, over_behind};
 
 use crate::mean_step::MeanStep;
 use crate::portable::Portable;
-use lg_io::sink::Sink;
+use lg_io::Sink;
 use lg_meaning::laws::steps_are_those_of_the_meaning;
 use lg_node::{Shape, Unit};
 

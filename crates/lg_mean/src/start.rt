@@ -7,11 +7,11 @@ ghost use Rattle.lg_mean.specs.Machines.{state_of, frame_in};
 
 use crate::frame::KeptFrame;
 use crate::machine::Machine;
+use lg_base::OutOfMemory;
 use lg_base::args::argument_count;
-use lg_base::refusal::OutOfMemory;
 use lg_cells::CellMemory;
-use lg_host::heap_mark::HeapMark;
-use lg_operators::carry::Carry;
+use lg_host::HeapMark;
+use lg_op::carry::Carry;
 use std::alloc::Global;
 
 // The most frames of a run: each but the entry's has at least 272 bytes of the 1,048,560 below the stack's end.

@@ -14,8 +14,8 @@ use crate::functions::function_here;
 use crate::machine::{Machine, node_of_label, operand};
 use crate::mean_step::MeanStep;
 use crate::program::Program;
-use lg_base::host_name::HostName;
-use lg_io::sink::Sink;
+use lg_base::HostName;
+use lg_io::Sink;
 use lg_node::{ControlOp, Function, LastOperand, Node, Op, Operand, PlainOp};
 
 // The answer of a step that neither ends the run nor writes.

@@ -7,7 +7,7 @@ ghost use Rattle.lg_base.specs.Spaces.{loaded};
 ghost use Rattle.lg_meaning.specs.States.{value};
 ghost use Rattle.lg_meaning.specs.Steps.{Undefined, function_here, node_step, operand_at, stored_operand};
 ghost use Rattle.lg_meaning.specs.Reasons.{address_reads, call_of, called_at, called_by_name, called_from, called_here, cannot_divide, cannot_divide_widely, control_reads, finds_no_room, first, outside, plain_reads, register, row_1, row_2, row_4, row_6, row_7, row_8, row_9, row_10, row_11, row_12, row_13, unset_among, where_none, where_so, why_of};
-ghost use Rattle.lg_operators.specs.Operators.{is_least_by_minus_one, width};
+ghost use Rattle.lg_op.specs.Operators.{is_least_by_minus_one, width};
 ghost use Rattle.lg_mean.specs.Machines.{state_of};
 ghost use Rattle.lg_mean.specs.Programs.{text_of};
 ghost use Rattle.lg_mean.specs.Says.{AreKnown, IsKnown, IsSmall, not_allowed};
@@ -17,13 +17,13 @@ use crate::calls::frame_size;
 use crate::functions::function_here;
 use crate::machine::{Machine, node_of_label, operand, slot};
 use crate::program::Program;
-use lg_base::host_name::HostName;
+use lg_base::HostName;
 use lg_meaning::reason::{Called, Reason};
 use lg_node::{
     Addressing, BinaryOp, ControlOp, LastOperand, Node, Op, Operand, PlainOp, Reg, ValueType,
     WideOp,
 };
-use lg_operators::operators;
+use lg_op::operators;
 
 // The first of some rows that holds.
 fn first(rows: &[Option<Reason>]) -> Option<Reason>

@@ -10,8 +10,8 @@ use Rattle.lg_op.specs.declared.op.Op.TheVariants as op
 use Rattle.lg_op.specs.declared.op.UnaryOp.{UnaryOp}
 use Rattle.lg_op.specs.declared.op.ValueType.{ValueType}
 use Rattle.lg_op.specs.declared.op.WideOp.{WideOp}
-use Rattle.lg_operators.specs.declared.carry.Carry.{Carry}
-use Rattle.lg_operators.specs.Operators.{is_carried, keeps_carry, binary_value, unary_value, carry_in, wide_value, width}
+use Rattle.lg_op.specs.declared.carry.Carry.{Carry}
+use Rattle.lg_op.specs.Operators.{is_carried, keeps_carry, binary_value, unary_value, carry_in, wide_value, width}
 use Rattle.lg_meaning.specs.States.{State, value}
 use Rattle.lg_meaning.specs.Steps.{Outcome, Text, slot, operand_at, on, on_with_carry, with_reg, operate, binary_step, carried_step, wide_step, unary_step, movi_step, read, address, load_step, retval_step, getarg_step, va_start_step, va_arg_step, va_end_step, node_step}
 use Rattle.lg_meaning.proofs.Outcomes.{OnGoes, need_on}

@@ -28,7 +28,7 @@ use Rattle.lg_node.specs.Nodes.{LabelledNodes}
 use Rattle.lg_node.specs.Functions.{home, frame_of}
 use Rattle.lg_node.specs.Shapes.{TextShape}
 use Rattle.lg_node.specs.ShapeLaws.{IsWellShaped}
-use Rattle.lg_operators.specs.Operators.{store_width}
+use Rattle.lg_op.specs.Operators.{store_width}
 use Rattle.lg_meaning.specs.States.{Frame, State, value, is_open}
 use Rattle.lg_meaning.specs.Steps.{Outcome, Goes, Text, operand_at, va_start_step, va_arg_step, va_end_step, on, begun, prolog_step, back_to, host_end, call_host, is_marked, call_node, call_operand, entry_target, call_named, call_step, function_here, branch_step, branch_sum_step, jump_target, jump_step, push_step, store_to, store_step, stored_operand, address, wide_step, unary_step, movi_step, load_step, retval_step, getarg_step, node_step}
 use Rattle.lg_meaning.specs.Texts.{text, step_at, step}

@@ -19,7 +19,7 @@ use Rattle.lg_node.specs.Functions.{open_before, is_prolog, is_prolog_node, is_e
 use Rattle.lg_node.specs.Checks.{is_begun, may_stand_outside, end_refusal_of, IsAccepted}
 use Rattle.lg_node.specs.Shapes.{TextShape, IsShapeOf}
 use Rattle.lg_node.specs.ShapeLaws.{IsWellShaped, HasFunctions}
-use Rattle.lg_operators.specs.Operators.{holds, branch_sum_value, branch_sum_goes}
+use Rattle.lg_op.specs.Operators.{holds, branch_sum_value, branch_sum_goes}
 use Rattle.lg_meaning.specs.States.{State, value}
 use Rattle.lg_meaning.specs.Steps.{Outcome, Goes, operand_at, on, to, with_reg, quiet, branch_step, branch_sum_step, node_of_label, load_step, unary_step, movi_step, wide_step, retval_step, getarg_step, va_start_step, va_arg_step, va_end_step, node_step}
 use Rattle.lg_meaning.specs.Texts.{text, step_at, step}

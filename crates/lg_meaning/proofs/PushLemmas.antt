@@ -12,7 +12,7 @@ use Rattle.lg_node.specs.declared.preparation.Preparation.{Preparation}
 use Rattle.lg_node.specs.Preparations.{prepared_behind, prepared_before, pushed_of, variadic_of}
 use Rattle.lg_node.specs.Shapes.{TextShape}
 use Rattle.lg_cells.specs.Memories.{writable}
-use Rattle.lg_operators.specs.Operators.{store_width}
+use Rattle.lg_op.specs.Operators.{store_width}
 use Rattle.lg_meaning.specs.States.{State, value, is_open}
 use Rattle.lg_meaning.specs.Steps.{operand_at, on, prepare_step, ellipsis_step, marked, push_step, store_to, store_step, stored_operand, address}
 use Rattle.lg_meaning.specs.Fits.{FitsWell}

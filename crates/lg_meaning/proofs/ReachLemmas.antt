@@ -34,7 +34,7 @@ use Rattle.lg_node.proofs.SuccessorLaws.{has_functions}
 use Rattle.lg_node.proofs.WellShaped.{well_shaped as accepted_well_shaped}
 use Rattle.lg_meaning.specs.States.{State, value, is_open}
 use Rattle.lg_meaning.specs.Steps.{Outcome, operand_at, va_start_step, va_arg_step, va_end_step, node_of_label, node_in, branch, function_here, is_behind, is_target, jump_target, jump_step, host_end, call_host, is_marked, call_node, call_operand, call_named, call_step, entry_target, store_step, stored_operand, address, push_step, prolog_step, node_step, with_reg, quiet, on, on_with_carry, started, called, prepare_step, ellipsis_step, wide_step, unary_step, movi_step, load_step, retval_step, getarg_step}
-use Rattle.lg_operators.specs.Operators.{store_width, holds, branch_sum_value, branch_sum_goes}
+use Rattle.lg_op.specs.Operators.{store_width, holds, branch_sum_value, branch_sum_goes}
 use Rattle.lg_meaning.specs.Texts.{text, step_at}
 use Rattle.lg_meaning.proofs.FallLemmas.{Falls, binary_node_falls, wide_falls, unary_falls, movi_falls, load_falls, retval_falls, getarg_falls, va_start_falls, va_arg_falls, va_end_falls}
 use Rattle.lg_meaning.proofs.FunctionFacts.{function_at_home}

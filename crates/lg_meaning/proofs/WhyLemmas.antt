@@ -37,7 +37,7 @@ use Rattle.lg_node.specs.Shapes.{TextShape, IsShapeOf}
 use Rattle.lg_node.proofs.FunctionLaws.{node_within}
 use Rattle.lg_node.proofs.WellShaped.{well_shaped}
 use Rattle.lg_cells.specs.Memories.{writable}
-use Rattle.lg_operators.specs.Operators.{binary_value, is_carried, carry_in, is_least_by_minus_one, wide_value, word_where, pair_where, width, store_width}
+use Rattle.lg_op.specs.Operators.{binary_value, is_carried, carry_in, is_least_by_minus_one, wide_value, word_where, pair_where, width, store_width}
 use Rattle.lg_meaning.specs.States.{Frame, State, value, is_open}
 use Rattle.lg_meaning.specs.Steps.{Outcome, Undefined, Text, need, when, is_indexed, quiet, operand_at, operate, node_step, jump_target, load_to, store_to, back_to, host_end, call_host, is_marked, call_node, call_operand, call_named, call_word, enter, entry_target, node_of_label, function_here, slot}
 use Rattle.lg_meaning.specs.Texts.{text, step}

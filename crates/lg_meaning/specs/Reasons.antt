@@ -28,7 +28,7 @@ use Rattle.lg_node.specs.Functions.{frame_of}
 use Rattle.lg_node.specs.Nodes.{LabelledNodes}
 use Rattle.lg_node.specs.Shapes.{TextShape}
 use Rattle.lg_cells.specs.Memories.{writable}
-use Rattle.lg_operators.specs.Operators.{is_least_by_minus_one, is_carried, carry_in, width, store_width}
+use Rattle.lg_op.specs.Operators.{is_least_by_minus_one, is_carried, carry_in, width, store_width}
 use Rattle.lg_meaning.specs.States.{State, value, is_open}
 use Rattle.lg_meaning.specs.Steps.{Text, operand_at, is_indexed, address, stored_operand, jump_target, node_of_label, entry_target, function_here, is_marked, slot}
 use Rattle.lg_meaning.specs.Texts.{text}

@@ -4,7 +4,7 @@ use Rattle.lg_base.specs.Parts.{args_base, heap_base}
 use Rattle.lg_base.specs.Layout.{stack_end}
 use Rattle.lg_base.specs.Arguments.{argument_count}
 use Rattle.lg_cells.specs.Memories.{first_bytes}
-use Rattle.lg_operators.specs.declared.carry.Carry.TheVariants as carry
+use Rattle.lg_op.specs.declared.carry.Carry.TheVariants as carry
 use Rattle.lg_meaning.specs.States.{Frame, State}
 
 -- the frame of the entry: its stack pointer is the end of the stack, and its two arguments are the number of strings of the argument

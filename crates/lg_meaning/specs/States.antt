@@ -7,7 +7,7 @@ use Rattle.lg_op.specs.declared.operand.Reg.TheVariants.{R0, R1, R2, V0, V1, V2,
 use Rattle.lg_op.specs.declared.operand.Operand.{Operand}
 use Rattle.lg_op.specs.declared.operand.Operand.TheVariants as operand
 use Rattle.lg_cells.specs.Cells.{within}
-use Rattle.lg_operators.specs.declared.carry.Carry.{Carry}
+use Rattle.lg_op.specs.declared.carry.Carry.{Carry}
 
 -- a frame: the stack pointer at its call, the node of return, the arguments, the caller's registers, and the sizes of the frame and of
 -- its locals, which its `prolog` gives

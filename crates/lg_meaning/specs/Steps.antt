@@ -33,9 +33,9 @@ use Rattle.lg_node.specs.declared.place.Place.TheVariants as place
 use Rattle.lg_node.specs.Functions.{function_of, frame_of}
 use Rattle.lg_node.specs.Labels.{place_of}
 use Rattle.lg_cells.specs.Memories.{without, writable}
-use Rattle.lg_operators.specs.declared.carry.Carry.{Carry}
-use Rattle.lg_operators.specs.declared.carry.Carry.TheVariants as carry
-use Rattle.lg_operators.specs.Operators.{binary_value, is_carried, carry_in, carried_value, carried_out, holds, branch_sum_value, branch_sum_goes, wide_value, unary_value, keeps_carry, width, extended_by_type, store_width}
+use Rattle.lg_op.specs.declared.carry.Carry.{Carry}
+use Rattle.lg_op.specs.declared.carry.Carry.TheVariants as carry
+use Rattle.lg_op.specs.Operators.{binary_value, is_carried, carry_in, carried_value, carried_out, holds, branch_sum_value, branch_sum_goes, wide_value, unary_value, keeps_carry, width, extended_by_type, store_width}
 use Rattle.lg_meaning.specs.States.{Frame, State, value, named, is_open}
 
 -- what a step does: it goes to a state and writes bytes, ends the run with a status, or is undefined

@@ -3,7 +3,7 @@
 ghost use Rattle.std.specs.Prelude.{◌≡◌};
 ghost use Rattle.lg_meaning.specs.Reasons.{item_of};
 
-use lg_base::host_name::HostName;
+use lg_base::HostName;
 use lg_node::{Function, Reg};
 
 /// What a node calls.

@@ -1,12 +1,14 @@
 pub mod AcceptedLaws
 pub mod BindingLemmas
 pub mod ChainLemmas
+pub mod EndedLemmas
 pub mod FunctionLaws
 pub mod FunctionLemmas
 pub mod LimitLemmas
 pub mod MarkLemmas
 pub mod NodeListLemmas
 pub mod NumberLaws
+pub mod RunLemmas
 pub mod SuccessorLaws
 pub mod TableLemmas
 pub mod UnusedLemmas

@@ -1,10 +1,11 @@
 pub mod Chains
 pub mod Checks
+pub mod FunctionRuns
 pub mod Functions
 pub mod Labels
 pub mod Locals
-pub mod NodeLists
 pub mod NextLabels
+pub mod NodeLists
 pub mod Nodes
 pub mod Preparations
 pub mod ShapeLaws

@@ -8,7 +8,7 @@ ghost use Rattle.lg_node.specs.NextLabels.{NextAt, NoneAt};
 
 use crate::chain::{Ends, link};
 use crate::place::Place;
-use lg_base::refusal::OutOfMemory;
+use lg_base::OutOfMemory;
 use lg_op::Label;
 use std::alloc::Global;
 use std::marker::Model;

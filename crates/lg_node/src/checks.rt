@@ -17,7 +17,7 @@ use crate::tables::Tables;
 use crate::taken::taken_labels;
 use crate::unit::Unit;
 use crate::walk::Walk;
-use lg_base::refusal::{OutOfMemory, Refusal, RefusalKind, Stop};
+use lg_base::{OutOfMemory, Refusal, RefusalKind, Stop};
 use lg_op::Node;
 use std::alloc::Global;
 

@@ -1,10 +1,11 @@
-//! The nodes of a text with its labels, and the text as a unit.
+//! The nodes of a text with its labels, the text as a unit, and laws of its functions.
 #![tactic(auto)]
 
 mod bindings;
 mod chain;
 mod checks;
 mod function;
+pub mod function_laws;
 mod label_addresses;
 mod labels;
 pub mod laws;

@@ -12,7 +12,7 @@ use crate::bindings::Bindings;
 use crate::place::Place;
 use crate::unused::numbered;
 use indexmap::IndexSet;
-use lg_base::refusal::OutOfMemory;
+use lg_base::OutOfMemory;
 use lg_op::{Label, Node};
 use std::alloc::Global;
 use std::marker::Model;

@@ -11,7 +11,7 @@ ghost use Rattle.lg_node.specs.Tables.{number_in, AreRanges};
 use crate::function::Function;
 use crate::node_list::NodeList;
 use crate::walk::{Walk, home_of, is_epilog, local_size};
-use lg_base::refusal::OutOfMemory;
+use lg_base::OutOfMemory;
 use lg_op::Node;
 use std::alloc::Global;
 

@@ -13,7 +13,7 @@ use crate::node_list::NodeList;
 use crate::preparation::Preparation;
 use crate::tables::Tables;
 use crate::walk::{Walk, is_arg, is_prolog, local_size};
-use lg_base::refusal::RefusalKind;
+use lg_base::RefusalKind;
 use lg_op::{ControlOp, Form, LastOperand, Node, Op, Operand, PlainOp};
 
 // Whether an operand is a label that nothing binds.

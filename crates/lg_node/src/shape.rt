@@ -8,7 +8,7 @@ ghost use Rattle.lg_node.specs.Functions.{function_of, frame_of};
 
 use crate::function::Function;
 use crate::ranges::Ranges;
-use lg_base::refusal::OutOfMemory;
+use lg_base::OutOfMemory;
 use lg_op::Label;
 use std::alloc::Global;
 use std::marker::Model;

@@ -7,7 +7,7 @@ ghost use Rattle.lg_node.specs.Tables.{AreHomes, AreMarks, AreTables};
 use crate::node_list::NodeList;
 use crate::place::Place;
 use crate::walk::{home_of, open_behind};
-use lg_base::refusal::OutOfMemory;
+use lg_base::OutOfMemory;
 use lg_op::Label;
 use std::alloc::Global;
 

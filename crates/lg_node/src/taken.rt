@@ -7,7 +7,7 @@ ghost use Rattle.lg_node.specs.Tables.{AreHomes, AreNamed};
 
 use crate::labels::{is_inside_some, takes_address};
 use crate::node_list::NodeList;
-use lg_base::refusal::OutOfMemory;
+use lg_base::OutOfMemory;
 use lg_op::{Label, Node, Operand};
 use std::alloc::Global;
 

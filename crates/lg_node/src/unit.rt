@@ -1,7 +1,7 @@
 // A text that has been read.
 
 use crate::node_list::NodeList;
-use lg_base::image::DataImage;
+use lg_base::DataImage;
 
 /// A text that has been read: its nodes with their labels, and the bytes of its data part, of which there are at most 16,777,216.
 #[derive(Drop)]

@@ -1,11 +1,14 @@
-//! The instructions of a text: operations with their names, operands and their forms, and nodes.
+//! The instructions of a text: operations with their names, operands and their forms, nodes, and what the operations make of words:
+//! the arithmetic of the portable meaning.
 #![tactic(auto)]
 
+pub mod carry;
 pub mod form;
 mod names;
 pub mod node;
 pub mod op;
 pub mod operand;
+pub mod operators;
 
 pub use form::Form;
 pub use node::Node;

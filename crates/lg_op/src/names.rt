@@ -7,7 +7,7 @@ use crate::op::{
     Addressing, BinaryOp, BranchSumOp, Condition, ControlOp, LastOperand, Op, PlainOp, StoreType,
     UnaryOp, ValueType, WideOp,
 };
-use lg_base::piece::Piece;
+use lg_base::Piece;
 
 // The letters of the name before the operand letter.
 fn binary_stem(op: BinaryOp) -> &'static [u8]

@@ -2,7 +2,7 @@
 
 ghost use Rattle.std.specs.Prelude.{◌≡◌, ◌<◌, ◌≤◌, ◌+◌, [], ◌∷◌, ◌++◌, length};
 
-use lg_base::host_name::HostName;
+use lg_base::HostName;
 use std::marker::Model;
 
 /// A register of the portable machine.

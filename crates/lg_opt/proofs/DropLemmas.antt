@@ -11,7 +11,7 @@ use Rattle.lg_op.specs.declared.op.ControlOp.TheVariants as control
 use Rattle.lg_op.specs.declared.op.UnaryOp.TheVariants as unary
 use Rattle.lg_op.specs.declared.operand.Operand.TheVariants as operand
 use Rattle.lg_op.specs.declared.operand.Reg.TheVariants.{Fp}
-use Rattle.lg_operators.specs.declared.carry.Carry.TheVariants as carry
+use Rattle.lg_op.specs.declared.carry.Carry.TheVariants as carry
 use Rattle.lg_node.specs.Functions.{functions}
 use Rattle.lg_node.specs.Labels.{is_labelled}
 use Rattle.lg_node.specs.Nodes.{LabelledNodes}
@@ -32,7 +32,7 @@ use Rattle.lg_meaning.proofs.MeanLemmas.{always, formed_at, start_fits_well}
 use Rattle.lg_meaning.proofs.Outcomes.{on_result}
 use Rattle.lg_carry.specs.Carries.{leaps, leaps_at}
 use Rattle.lg_carry.proofs.FallLemmas.{nodes-fall}
-use Rattle.lg_rewritten.specs.Rewritten.{memory_in}
+use Rattle.lg_opt.specs.Rewritten.{memory_in}
 use Rattle.lg_opt.specs.Moves.{Move, move_of, move_at, no_sources, is_idle, behind_node, behind_at, sources_before, stays}
 use Rattle.lg_opt.specs.Paired.{Pair, Dropped, RestsAt, AreStepped}
 use Rattle.lg_opt.specs.Remaining.{new_number, rewritten, no_targets, origins, may_go, IsRewriting}

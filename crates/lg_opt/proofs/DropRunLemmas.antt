@@ -8,9 +8,9 @@ use Rattle.lg_carry.proofs.FallLemmas.{nodes-fall}
 use Rattle.lg_meaning.specs.States.{State}
 use Rattle.lg_meaning.specs.Steps.{Outcome, Goes, Ends, Undefined}
 use Rattle.lg_meaning.specs.Means.{Run, run_at, behind, run_step, machine, mean_from}
-use Rattle.lg_follow.specs.Drops.{Drops}
-use Rattle.lg_follow.specs.Follows.{LooksAlike}
-use Rattle.lg_rewritten.specs.Rewritten.{at, memory_in, memory_of}
+use Rattle.lg_opt.specs.Drops.{Drops}
+use Rattle.lg_opt.specs.Follows.{LooksAlike}
+use Rattle.lg_opt.specs.Rewritten.{at, memory_in, memory_of}
 use Rattle.lg_opt.specs.Paired.{Pair, old_step, moves_made, AreStepped}
 use Rattle.lg_opt.proofs.RunLemmas.{going-fine, goes, stays, stays-bad, moved-on, rested, runs-alike, runs-follow, runs-look}
 

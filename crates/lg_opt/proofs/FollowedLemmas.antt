@@ -9,9 +9,9 @@ use Rattle.lg_meaning.specs.Means.{Run, behind, run_at, run_step, machine}
 use Rattle.lg_meaning.specs.Starts.{start_state}
 use Rattle.lg_meaning.specs.Texts.{step}
 use Rattle.lg_meaning.proofs.MeanLemmas.{means_are_machines}
-use Rattle.lg_follow.specs.Drops.{JumpsQuietly}
-use Rattle.lg_follow.proofs.LawLemmas.{followed}
-use Rattle.lg_rewritten.specs.Rewritten.{at, is_loud, memory_of}
+use Rattle.lg_opt.specs.Drops.{JumpsQuietly}
+use Rattle.lg_opt.proofs.LawLemmas.{followed}
+use Rattle.lg_opt.specs.Rewritten.{at, is_loud, memory_of}
 use Rattle.lg_opt.specs.Hops.{jump_at}
 use Rattle.lg_opt.specs.Runs.{DroppedAndThreadedAreFollowed}
 use Rattle.lg_opt.proofs.RunLemmas.{goes, stays, stays-bad}

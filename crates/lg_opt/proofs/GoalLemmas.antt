@@ -7,7 +7,7 @@ use Rattle.lg_temp.proofs.Steps.{iter-zero, iter-suc, iter-first}
 use Rattle.lg_op.specs.declared.node.Node.{Node}
 use Rattle.lg_node.specs.Nodes.{LabelledNodes}
 use Rattle.lg_meaning.specs.Steps.{operand_at, node_of_label}
-use Rattle.lg_follow.proofs.Pigeons.{first_loud, loud}
+use Rattle.lg_opt.proofs.Pigeons.{first_loud, loud}
 use Rattle.lg_opt.specs.Remaining.{new_number}
 use Rattle.lg_opt.specs.Hops.{is_jump_at, jump_at, hop_of, hop, IsLead, AreLeads, JumpsWithin}
 use Rattle.lg_opt.specs.Goals.{lead, turns, jumps_from, goal_node, is_dropped, next_stays, stays, IsEnd, AreEnds}

@@ -13,7 +13,7 @@ use Rattle.lg_node.specs.Checks.{IsAccepted}
 use Rattle.lg_node.specs.Nodes.{LabelledNodes}
 use Rattle.lg_node.specs.ShapeLaws.{has_target}
 use Rattle.lg_node.proofs.FunctionLaws.{node_within}
-use Rattle.lg_follow.proofs.Pigeons.{loud}
+use Rattle.lg_opt.proofs.Pigeons.{loud}
 use Rattle.lg_meaning.specs.Steps.{operand_at, node_of_label}
 use Rattle.lg_opt.specs.Goals.{lead, turns, goal_node, is_dropped, next_stays, stays}
 use Rattle.lg_opt.specs.Hops.{is_jump, is_jump_at, jump_at, hop_of, hop, ComesTwice, HasNoIdleJumps}

@@ -19,7 +19,7 @@ use Rattle.lg_node.specs.Nodes.{LabelledNodes}
 use Rattle.lg_node.specs.ShapeLaws.{has_target}
 use Rattle.lg_node.proofs.FunctionLaws.{node_within}
 use Rattle.lg_meaning.specs.Steps.{operand_at, node_in, node_of_label}
-use Rattle.lg_follow.proofs.TimeLemmas.{Rises, crossing}
+use Rattle.lg_opt.proofs.TimeLemmas.{Rises, crossing}
 use Rattle.lg_opt.specs.Remaining.{new_number, moved_place, with_first, retargeted, rewritten}
 use Rattle.lg_opt.proofs.RemainingLemmas.{number-zero, number-stays, number-goes, length-remaining, get-remaining}
 

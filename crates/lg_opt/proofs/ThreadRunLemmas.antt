@@ -19,11 +19,11 @@ use Rattle.lg_node.specs.Shapes.{TextShape}
 use Rattle.lg_meaning.specs.Texts.{text, step_at, step}
 use Rattle.lg_meaning.specs.Means.{Run, run_at, behind, run_step, machine, mean_from}
 use Rattle.lg_meaning.proofs.MeanLemmas.{means_are_machines}
-use Rattle.lg_follow.specs.Follows.{LooksAlike, IsLoudAt}
-use Rattle.lg_follow.specs.Drops.{Threading, Threads}
-use Rattle.lg_follow.proofs.ThreadLemmas.{threading-turns}
-use Rattle.lg_follow.proofs.TimeLemmas.{went-on}
-use Rattle.lg_rewritten.specs.Rewritten.{memory_in, memory_of}
+use Rattle.lg_opt.specs.Follows.{LooksAlike, IsLoudAt}
+use Rattle.lg_opt.specs.Drops.{Threading, Threads}
+use Rattle.lg_opt.proofs.ThreadLemmas.{threading-turns}
+use Rattle.lg_opt.proofs.TimeLemmas.{went-on}
+use Rattle.lg_opt.specs.Rewritten.{memory_in, memory_of}
 use Rattle.lg_temp.proofs.Steps.{iter-suc}
 use Rattle.lg_opt.specs.Renumbered.{over, Alike, Meets}
 use Rattle.lg_opt.specs.Paired.{Pair, old_step, new_step, moves_made, RestsAt, AreStepped}

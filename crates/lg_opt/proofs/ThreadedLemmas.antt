@@ -6,7 +6,7 @@ use Rattle.std.proofs.lemmas.Option.{slice_get_within}
 use Rattle.lg_op.specs.Nodes.{InForm}
 use Rattle.lg_op.specs.declared.node.Node.{Node}
 use Rattle.lg_op.specs.declared.operand.Label.{Label}
-use Rattle.lg_operators.specs.declared.carry.Carry.TheVariants as carry
+use Rattle.lg_op.specs.declared.carry.Carry.TheVariants as carry
 use Rattle.lg_node.specs.Functions.{functions}
 use Rattle.lg_node.specs.Nodes.{LabelledNodes}
 use Rattle.lg_node.specs.Shapes.{TextShape, IsShapeOf}

@@ -8,7 +8,7 @@ use Rattle.lg_node.specs.Nodes.{LabelledNodes}
 use Rattle.lg_node.specs.ShapeLaws.{has_target}
 use Rattle.lg_node.specs.Shapes.{TextShape, IsShapeOf}
 use Rattle.lg_meaning.specs.Addresses.{IsBound, AreAddresses}
-use Rattle.lg_rewritten.specs.Rewritten.{MeaningIsFollowed}
+use Rattle.lg_opt.specs.Rewritten.{MeaningIsFollowed}
 use Rattle.lg_opt.specs.Goals as goals
 use Rattle.lg_opt.specs.Hops.{HasNoIdleJumps}
 use Rattle.lg_opt.specs.Moves.{HasNoIdleMoves}

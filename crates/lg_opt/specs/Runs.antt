@@ -5,8 +5,8 @@ use Rattle.lg_node.specs.Shapes.{TextShape}
 use Rattle.lg_meaning.specs.Means.{run_at, machine}
 use Rattle.lg_meaning.specs.Starts.{start_state}
 use Rattle.lg_carry.specs.Carries.{leaps_at}
-use Rattle.lg_follow.specs.Drops.{Drops, Threads}
-use Rattle.lg_rewritten.specs.Rewritten.{at, is_loud, RemembersAlike, MeaningIsFollowed}
+use Rattle.lg_opt.specs.Drops.{Drops, Threads}
+use Rattle.lg_opt.specs.Rewritten.{at, is_loud, RemembersAlike, MeaningIsFollowed}
 use Rattle.lg_opt.specs.Hops.{jump_at}
 
 -- the run of the new nodes steps where the old one stands at a node that stays; each branch, jump, call or return stays, as one of them

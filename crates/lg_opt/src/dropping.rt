@@ -9,7 +9,7 @@ use crate::labels::labels_at;
 use crate::moves::staying;
 use crate::rebuilding::rebuilt;
 use crate::rewritten::{Rewritten, finished};
-use lg_base::refusal::OutOfMemory;
+use lg_base::OutOfMemory;
 use lg_node::{NodeList, Shape};
 use std::alloc::Global;
 

@@ -5,7 +5,7 @@ ghost use Rattle.lg_node.specs.Nodes.{LabelledNodes};
 ghost use Rattle.lg_opt.specs.Hops.{AreHops, AreLeads, AreWithin, JumpsWithin, hop, is_jump};
 ghost use Rattle.lg_opt.specs.Targets.{target_node};
 
-use lg_base::refusal::OutOfMemory;
+use lg_base::OutOfMemory;
 use lg_node::{ControlOp, LastOperand, Node, NodeList, Op, Operand, Place};
 use std::alloc::Global;
 

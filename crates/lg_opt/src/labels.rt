@@ -5,7 +5,7 @@ ghost use Rattle.lg_node.specs.Labels.{is_at, is_labelled};
 ghost use Rattle.lg_node.specs.Nodes.{LabelledNodes};
 ghost use Rattle.lg_opt.specs.Targets.{AreLabelsAt};
 
-use lg_base::refusal::OutOfMemory;
+use lg_base::OutOfMemory;
 use lg_node::{Label, NodeList, Place};
 use std::alloc::Global;
 

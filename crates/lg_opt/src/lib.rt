@@ -1,14 +1,17 @@
-//! The rewrites of a text's nodes: moves that do nothing and jumps to jumps are taken out.
+//! The rewrites of a text's nodes: moves that do nothing and jumps to jumps are taken out; and when runs of rewritten nodes follow those
+//! of the nodes that they were rewritten from.
 #![tactic(auto)]
 
 mod dropping;
 mod drops;
+pub mod follow_laws;
 mod hops;
 pub mod labels;
 pub mod laws;
 pub mod moves;
 pub mod rebuilding;
 pub mod rewritten;
+pub mod rewritten_laws;
 mod sources;
 mod targets;
 mod threading;

@@ -9,7 +9,7 @@ ghost use Rattle.lg_opt.specs.Targets.{AreLabelsAt};
 
 use crate::labels::is_labelled;
 use crate::sources::{Sources, move_of};
-use lg_base::refusal::OutOfMemory;
+use lg_base::OutOfMemory;
 use lg_node::{ControlOp, Label, Node, NodeList, Op, PlainOp};
 use std::alloc::Global;
 

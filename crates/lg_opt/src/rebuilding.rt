@@ -10,8 +10,7 @@ ghost use Rattle.lg_node.specs.ShapeLaws.{has_target};
 ghost use Rattle.lg_opt.specs.Remaining.{new_number, moved_place, with_first, retargeted, rewritten, origins};
 ghost use Rattle.lg_opt.specs.Rewritings.{marked, target_in, TargetsAreOfJumps, unbound};
 
-use lg_base::code::Origin;
-use lg_base::refusal::OutOfMemory;
+use lg_base::{Origin, OutOfMemory};
 use lg_node::{Label, Node, NodeList, Operand, Operands, Place};
 use std::alloc::Global;
 

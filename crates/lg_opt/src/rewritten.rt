@@ -7,8 +7,7 @@ ghost use Rattle.lg_opt.specs.Remaining.{origins};
 ghost use Rattle.lg_opt.specs.Rewritings.{marked};
 
 use crate::rebuilding::origin;
-use lg_base::code::Origin;
-use lg_base::refusal::OutOfMemory;
+use lg_base::{Origin, OutOfMemory};
 use lg_node::{NodeList, Shape, reshape};
 use std::alloc::Global;
 

@@ -9,7 +9,7 @@ ghost use Rattle.lg_opt.specs.Rewritings.{target_in};
 ghost use Rattle.lg_opt.specs.Targets.{AreLabelsAt, AreTargets, IsTargetAt};
 
 use crate::hops::{is_jump, target_node};
-use lg_base::refusal::OutOfMemory;
+use lg_base::OutOfMemory;
 use lg_node::{ControlOp, Label, LastOperand, NodeList, Op};
 use std::alloc::Global;
 

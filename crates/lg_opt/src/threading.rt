@@ -12,7 +12,7 @@ use crate::labels::labels_at;
 use crate::rebuilding::rebuilt;
 use crate::rewritten::{Rewritten, finished};
 use crate::targets::targets;
-use lg_base::refusal::OutOfMemory;
+use lg_base::OutOfMemory;
 use lg_node::{NodeList, Shape};
 use std::alloc::Global;
 

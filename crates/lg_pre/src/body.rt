@@ -9,7 +9,7 @@ use crate::macros::Mark;
 use crate::marks::Marks;
 use crate::pieces::{PieceKind, Pieces};
 use crate::plain_text::PlainText;
-use lg_base::refusal::OutOfMemory;
+use lg_base::OutOfMemory;
 use std::alloc::Global;
 
 /// A body as far as it was read: its pieces with their marks, the white space behind them that a `##` takes away, whether a `##` stands

@@ -7,7 +7,7 @@ ghost use Rattle.lg_pre.specs.Macros.{CountsAs};
 use crate::directive::Directive;
 use crate::macros::refused;
 use crate::pieces::Pieces;
-use lg_base::refusal::{RefusalKind, Stop};
+use lg_base::{RefusalKind, Stop};
 use std::alloc::Global;
 use std::marker::Model;
 

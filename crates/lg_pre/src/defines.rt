@@ -13,7 +13,7 @@ use crate::body::{Body, body_of, size_of};
 use crate::macros::Macro;
 use crate::pieces::{PieceKind, Pieces};
 use crate::plain_text::PlainText;
-use lg_base::refusal::OutOfMemory;
+use lg_base::OutOfMemory;
 use std::alloc::Global;
 
 // Whether a line feed comes first between two places.

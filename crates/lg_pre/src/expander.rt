@@ -20,7 +20,7 @@ use crate::pieces::Pieces;
 use crate::plain_text::PlainText;
 use crate::questions::asks;
 use crate::text::{line_len, mark_in, text_pieces};
-use lg_base::refusal::{OutOfMemory, RefusalKind, Stop};
+use lg_base::{OutOfMemory, RefusalKind, Stop};
 use std::alloc::Global;
 
 /// What a text has come to: macros, open conditions, the lines that wait for the next directive, bytes given, and the sum of replacements.

@@ -4,7 +4,7 @@ ghost use Rattle.std.specs.Prelude.{◌≡◌, ◌<◌, ◌++◌, ◌∷◌, [],
 ghost use Rattle.lg_pre.specs.Marks.{glue_last};
 
 use crate::macros::Mark;
-use lg_base::refusal::OutOfMemory;
+use lg_base::OutOfMemory;
 use std::alloc::Global;
 use std::marker::Model;
 

@@ -6,7 +6,7 @@ ghost use Rattle.lg_pre.specs.Text.{is_comment, feeds_of, text_pieces, ends_with
 
 use crate::cutting::front_of;
 use crate::pieces::{PieceKind, Pieces};
-use lg_base::refusal::OutOfMemory;
+use lg_base::OutOfMemory;
 use lg_lex::bytes::{ahead, behind};
 use std::alloc::Global;
 

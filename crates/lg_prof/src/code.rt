@@ -7,9 +7,8 @@ ghost use Rattle.lg_prof.specs.Tallies.{ran_at, spent_at};
 ghost use Rattle.lg_prof.specs.Spent.{spent, table_line};
 
 use crate::{LineTable, Tally};
-use lg_cpu::answer::CpuStep;
-use lg_cpu::cpu::Cpu;
-use lg_io::sink::Sink;
+use lg_cpu::{Cpu, CpuStep};
+use lg_io::Sink;
 
 // The address of the first byte of the code.
 const CODE_BASE: u64 = 0x1000_0000;

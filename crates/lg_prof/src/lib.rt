@@ -10,7 +10,9 @@ mod nowhere;
 mod places;
 mod tally;
 
+pub use code::run_counted;
 pub use line_table::LineTable;
+pub use meaning::count_meaning;
 pub use nowhere::Nowhere;
 pub use places::node_at;
 pub use tally::Tally;

@@ -3,8 +3,7 @@
 ghost use Rattle.std.specs.Prelude.{◌≡◌, ◌<◌, ◌≤◌, ℕ, IfOk, OnOk, Some, length, slice_get};
 ghost use Rattle.lg_prof.specs.Places.{AreLines, ArePlaced};
 
-use lg_base::code::Places;
-use lg_base::refusal::OutOfMemory;
+use lg_base::{OutOfMemory, Places};
 use lg_node::NodeList;
 use std::alloc::Global;
 use std::marker::Model;

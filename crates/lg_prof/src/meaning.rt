@@ -9,8 +9,7 @@ ghost use Rattle.lg_prof.specs.Tallies.{AreBelow, ran_at, spent_at};
 ghost use Rattle.lg_prof.specs.Counts.{count};
 
 use crate::{Nowhere, Tally};
-use lg_mean::mean_step::MeanStep;
-use lg_mean::portable::Portable;
+use lg_mean::{MeanStep, Portable};
 use lg_meaning::laws::steps_are_those_of_the_meaning;
 use lg_node::{Shape, Unit};
 

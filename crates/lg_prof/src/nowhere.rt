@@ -4,7 +4,7 @@ ghost use Rattle.std.specs.Prelude.{◌≡◌, ◌<◌, ◌≤◌, None, length,
 ghost use Rattle.std.specs.Io.KnownBytes.{WriteAppends};
 ghost use Rattle.lg_io.specs.Counts.{HasCause};
 
-use lg_io::sink::{Sink, SinkFault};
+use lg_io::{Sink, SinkFault};
 
 /// Takes every byte, never fails and keeps nothing.
 #[derive(Clone, Copy, Debug, PartialEq, Eq)]

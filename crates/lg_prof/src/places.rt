@@ -3,7 +3,7 @@
 ghost use Rattle.std.specs.Prelude.{◌≡◌, ◌<◌, ◌≤◌, ℕ, IfSome, IfNone};
 ghost use Rattle.lg_prof.specs.Places.{Holds, NeverFall};
 
-use lg_base::code::Places;
+use lg_base::Places;
 
 /// The node whose bytes hold a place of the code, and None exactly where none does. No place of the list is below the one before it.
 pub fn node_at(places: &Places, place: u32) -> Option<u32>

@@ -5,9 +5,8 @@ ghost use Rattle.lg_io.specs.Wrote.{Wrote};
 ghost use Rattle.lg_prof.specs.Tables.{table, told_line, numbers_line};
 ghost use Rattle.lg_prof.specs.Tallies.{AreBelow, one_more, ran_at, spent_at};
 
-use lg_base::refusal::OutOfMemory;
-use lg_io::digits::{Digits, Radix};
-use lg_io::sink::{Sink, SinkFault, write_parts};
+use lg_base::OutOfMemory;
+use lg_io::{Digits, Radix, Sink, SinkFault, write_parts};
 use lg_node::NodeList;
 use std::alloc::Global;
 use std::marker::Model;

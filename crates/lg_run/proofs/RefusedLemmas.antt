@@ -14,7 +14,7 @@ use Rattle.lg_node.specs.Nodes.{LabelledNodes}
 use Rattle.lg_node.specs.Checks.{IsAccepted, IsRefused, refusal_at}
 use Rattle.lg_node.specs.declared.unit.Unit.{Unit as TextUnit}
 use Rattle.lg_tst.specs.Units.{unit_of}
-use Rattle.lg_made.specs.Made.{made}
+use Rattle.lg_run.specs.Made.{made}
 use Rattle.lg_pre.specs.Expanded.{expanded}
 use Rattle.lg_run.specs.Refused.{ArgumentsFit, Expands, IsExpandedUnder, IsRefusedAs, IsRefusedBack, IsRefusedCall, IsRefusedCode, IsRefusedExpansion, IsRefusedIn, IsRefusedListing, IsRefusedRead, IsRefusedText, IsRefusedUnder, IsRefusedUnit, IsTextIn, IsTextUnder, IsUnitOf, ListingsAreRefusedOnce, MayBeFull, TextsAreRefusedOnce, code_full, most_text}
 use Rattle.lg_run.specs.Says.{ExpandsFile, IsListingUnder, ReadsFile, WantsCode}

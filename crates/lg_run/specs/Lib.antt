@@ -4,7 +4,9 @@ pub mod Changes
 pub mod Complete
 pub mod Explained
 pub mod Explanations
+pub mod Feeds
 pub mod Lines
+pub mod Made
 pub mod Means
 pub mod ProfileStarts
 pub mod Profiles

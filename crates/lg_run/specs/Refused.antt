@@ -12,7 +12,7 @@ use Rattle.lg_command.specs.declared.command.Mode.TheVariants as mode
 use Rattle.lg_io.specs.NamedTexts.{NamedTexts, text_under}
 use Rattle.lg_back.specs.Refused.{IsBadListing}
 use Rattle.lg_list.specs.Back.{Back}
-use Rattle.lg_made.specs.Made.{made}
+use Rattle.lg_run.specs.Made.{made}
 use Rattle.lg_node.specs.Nodes.{LabelledNodes}
 use Rattle.lg_node.specs.Checks.{IsAccepted, IsRefused}
 use Rattle.lg_node.specs.declared.unit.Unit.{Unit as TextUnit}

@@ -4,8 +4,7 @@ ghost use Rattle.std.specs.Prelude.{◌≡◌};
 ghost use Rattle.lg_run.specs.Statuses.{status_of_answer};
 
 use lg_asm::Code;
-use lg_base::fault::FaultKind;
-use lg_base::refusal::Refusal;
+use lg_base::{FaultKind, Refusal};
 
 /// What the top call comes to.
 #[derive(Clone, Copy, Debug, PartialEq, Eq)]

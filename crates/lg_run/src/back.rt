@@ -14,10 +14,9 @@ use crate::answer::{Answer, Done};
 use crate::source::{ReadStop, read_text};
 use crate::work::{refusal, stopped, without_code};
 use lg_back::read_back;
-use lg_base::refusal::RefusalKind;
+use lg_base::RefusalKind;
 use lg_command::Command;
-use lg_io::sink::{Sink, write_all};
-use lg_io::texts::Texts;
+use lg_io::{Sink, Texts, write_all};
 use std::alloc::Global;
 
 // Writes the bytes that a listing is of.

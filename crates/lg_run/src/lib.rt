@@ -5,10 +5,14 @@
 
 pub mod answer;
 mod back;
+mod code_text;
 mod explain;
+mod generator;
 pub mod laws;
 mod lines;
 mod listing;
+pub mod listing_laws;
+mod made_lines;
 mod mean;
 mod profile;
 mod reading;
@@ -16,3 +20,8 @@ mod run;
 mod source;
 pub mod top;
 mod work;
+
+pub use answer::{Answer, Done, status};
+pub use code_text::CodeText;
+pub use generator::made;
+pub use top::lightning;

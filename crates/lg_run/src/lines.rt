@@ -6,10 +6,8 @@ ghost use Rattle.lg_run.specs.Lines.{code_stats, is_write_fault, line_of, refusa
 
 use crate::answer::Answer;
 use lg_asm::Code;
-use lg_base::fault::FaultKind;
-use lg_base::refusal::Refusal;
-use lg_io::digits::{Digits, Radix};
-use lg_io::sink::{Sink, SinkFault, write_parts};
+use lg_base::{FaultKind, Refusal};
+use lg_io::{Digits, Radix, Sink, SinkFault, write_parts};
 
 fn write_undefined<E: Sink>(line: u32, steps: u64, err: &mut E) -> Result<(), SinkFault>
     ensures { WroteTo (on_sink E.taken E.faults err.old err.new) result (line_of [] steps (Answer.Undefined line)) }

@@ -11,8 +11,8 @@ use crate::reading::Accepted;
 use crate::run::Ran;
 use lg_asm::Code;
 use lg_command::Command;
-use lg_io::sink::Sink;
-use lg_list::list::list;
+use lg_io::Sink;
+use lg_list::list;
 
 /// Writes the listing of the code of a text, in pieces and without memory. Nothing runs.
 pub fn list_code<O: Sink>(command: &Command<'_>, text: &Accepted, code: &Code, out: &mut O) -> Ran

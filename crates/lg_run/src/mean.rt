@@ -10,9 +10,8 @@ ghost use Rattle.lg_run.specs.Means.{MeantFrom, answer_of};
 
 use crate::answer::Answer;
 use crate::run::Ran;
-use lg_io::sink::Sink;
-use lg_mean::portable::Portable;
-use lg_mean::run::RunEnd;
+use lg_io::Sink;
+use lg_mean::{Portable, RunEnd};
 use lg_node::{Shape, Unit};
 
 /// The answer of a run of the portable machine.

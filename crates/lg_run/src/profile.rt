@@ -26,18 +26,14 @@ use crate::reading::Accepted;
 use crate::run::Ran;
 use crate::work::{TRASH, not_run};
 use lg_asm::Code;
-use lg_base::image::ArgImage;
-use lg_base::refusal::OutOfMemory;
+use lg_base::{ArgImage, OutOfMemory};
 use lg_command::Command;
-use lg_cpu::answer::CpuStep;
-use lg_cpu::cpu::Cpu;
+use lg_cpu::{Cpu, CpuStep};
 use lg_explain::stop::StuckAt;
-use lg_io::sink::{Sink, SinkFault};
-use lg_mean::portable::Portable;
-use lg_prof::code::run_counted;
+use lg_io::{Sink, SinkFault};
+use lg_mean::Portable;
 use lg_prof::laws::tables_have_the_lines;
-use lg_prof::meaning::count_meaning;
-use lg_prof::{LineTable, Tally};
+use lg_prof::{LineTable, Tally, count_meaning, run_counted};
 use std::alloc::Global;
 
 /// What ran, and what is told of it besides.

@@ -9,7 +9,7 @@ ghost use Rattle.lg_tst.specs.Answers.{IsWhole};
 ghost use Rattle.lg_tst.specs.Units.{unit_of};
 ghost use Rattle.lg_run.specs.Refused.{IsRefusedAs, most_text};
 
-use lg_base::refusal::Stop;
+use lg_base::Stop;
 use lg_node::{Shape, Unit, check};
 use lg_tst::parse;
 use std::alloc::Global;

@@ -9,9 +9,8 @@ ghost use Rattle.lg_run.specs.Changes.{TellsWrites};
 ghost use Rattle.lg_run.specs.Runs.{RunSays};
 
 use crate::answer::Answer;
-use lg_cpu::answer::CpuStep;
-use lg_cpu::cpu::Cpu;
-use lg_io::sink::Sink;
+use lg_cpu::{Cpu, CpuStep};
+use lg_io::Sink;
 
 /// What a run came to, and its steps.
 #[derive(Drop)]

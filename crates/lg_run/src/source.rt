@@ -7,8 +7,8 @@ ghost use Rattle.lg_io.specs.Readings.{IsReadOn, IsReadOnce};
 ghost use Rattle.lg_run.specs.Reads.{IsLongText, ReadTells, ReadsFew, ReadsFewOf, most_piece};
 ghost use Rattle.lg_run.specs.Refused.{IsTextUnder, most_text};
 
-use lg_base::refusal::OutOfMemory;
-use lg_io::texts::Texts;
+use lg_base::OutOfMemory;
+use lg_io::Texts;
 use std::alloc::Global;
 
 // The most bytes of a text.

@@ -19,8 +19,7 @@ use crate::lines::{write_line, write_lines};
 use crate::profile::{Worked, write_table};
 use crate::work::{without_code, work};
 use lg_command::{Command, Mode, WordsStop, read_words};
-use lg_io::sink::{Sink, SinkFault};
-use lg_io::texts::Texts;
+use lg_io::{Sink, SinkFault, Texts};
 use std::alloc::Global;
 
 // The name of a command's text in the line of a refusal.

@@ -9,7 +9,7 @@ ghost use Rattle.lg_rv.specs.Reading.{front_of, instr_of, upper_of, jal_of, bran
 
 use crate::fields::{Amount, Funct3, Funct6, Funct7, Imm12, Imm20, Opcode, Rd, Rs1, Rs2};
 use crate::instruction::{BranchOp, ImmOp, Instr, RegOp, ShiftOp, StoreOp, UpperOp};
-use lg_base::field::Field;
+use lg_base::Field;
 use lg_base::number::from_bits;
 use lg_base::word::word_in_front;
 

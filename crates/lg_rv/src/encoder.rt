@@ -6,9 +6,8 @@ ghost use Rattle.lg_rv.specs.Spelling.{IsInstr, word_of, spelling};
 use crate::fields::{Amount, Funct3, Funct6, Funct7, Imm12, Imm20, Rd, Rs1, Rs2};
 use crate::instruction::{BranchOp, ImmOp, Instr, RegOp, ShiftOp, StoreOp, UpperOp};
 use crate::rows::{Fixed, JAL};
-use lg_base::field::Field;
 use lg_base::number::to_bits;
-use lg_base::piece::Piece;
+use lg_base::{Field, Piece};
 
 /// The bytes of an instruction whose numbers are in its row's ranges: 4 bytes, little-endian.
 pub fn encode(instr: &Instr) -> Piece

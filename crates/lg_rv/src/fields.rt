@@ -1,6 +1,6 @@
 // The fields of a word, by their names in the RISC-V unprivileged ISA.
 
-use lg_base::field::Field;
+use lg_base::Field;
 
 /// opcode: bits 0 to 6.
 pub(crate) type Opcode = Field<0, 7>;

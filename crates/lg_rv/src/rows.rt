@@ -6,7 +6,7 @@ ghost use Rattle.lg_rv.specs.Spelling.{row_of};
 ghost use Rattle.lg_rv.specs.Reading.{upper_by_row, branch_by_row, imm_by_row, shift_by_row, store_by_row, reg_by_row};
 
 use crate::instruction::{BranchOp, ImmOp, Instr, RegOp, ShiftOp, StoreOp, UpperOp};
-use lg_base::piece::Piece;
+use lg_base::Piece;
 
 /// The fields of a word that its row fixes: opcode, funct3 and the highest (funct7; of a shift by a
 /// number funct6). A row that has something else in one of the last two has 0 there.

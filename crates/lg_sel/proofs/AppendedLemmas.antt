@@ -8,7 +8,7 @@ use Rattle.lg_buf.specs.Buffers.{Buffer}
 use Rattle.lg_buf.specs.declared.fixes.Fix.{Fix}
 use Rattle.lg_op.specs.declared.node.Node.{Node}
 use Rattle.lg_sel.specs.Selected.{IsFixOf}
-use Rattle.lg_sel_items.specs.Holes.{Holes, fixes_of, Each}
+use Rattle.lg_sel.specs.Holes.{Holes, fixes_of, Each}
 
 is-true : IsTrue true
 is-true = search rules

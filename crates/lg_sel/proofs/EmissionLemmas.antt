@@ -3,8 +3,8 @@ use Rattle.std.proofs.Common.{◌≡◌, ℕ, ◌+◌, ◌≤◌, Bool, true, fa
 use Rattle.std.specs.Prelude.{count_by, if◌then◌else◌}
 use Rattle.std.proofs.lemmas.List.{append-nil}
 use Rattle.lg_sel.proofs.StoreLemmas.{stores_among, count-is, among-append}
-use Rattle.lg_sel_items.specs.Holes.{Holes, blanks, settled, fixes_of, Each, ones}
-use Rattle.lg_sel_items.proofs.ListLemmas.{each-append, settled-append, settled-ones, fixes-append, fixes-ones}
+use Rattle.lg_sel.specs.Holes.{Holes, blanks, settled, fixes_of, Each, ones}
+use Rattle.lg_sel.proofs.ListLemmas.{each-append, settled-append, settled-ones, fixes-append, fixes-ones}
 
 module _ {L I : Type 0} (H : Holes L I) (is_store : I → Bool) (passes : L → Type 0) where
   -- the labels of each pass a test, there are at most so many fixes wherever they stand, and at most so many of their instructions store, whatever the

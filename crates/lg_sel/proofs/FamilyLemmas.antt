@@ -12,8 +12,8 @@ use Rattle.lg_op.specs.declared.op.ValueType.{ValueType}
 use Rattle.lg_op.specs.declared.operand.Operand.{Operand}
 use Rattle.lg_sel.specs.Families.{Families, staged_count, items_of, node_items}
 use Rattle.lg_carry.specs.Carries.{leaps}
-use Rattle.lg_sel_control.specs.Control.{is_control}
-use Rattle.lg_sel_values.specs.ValueNodes.{is_value}
+use Rattle.lg_sel.specs.Control.Control.{is_control}
+use Rattle.lg_carry.specs.Values.ValueNodes.{is_value}
 use Rattle.lg_temp.specs.declared.choice.Choice.{Choice}
 
 abbrev pub node_of : Op → List Operand → ℕ → Node

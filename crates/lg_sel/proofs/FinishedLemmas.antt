@@ -13,8 +13,8 @@ use Rattle.lg_sel.specs.Finished.{AreAppended, ItemsAreOfNode, ItemsAreWhole, It
 use Rattle.lg_sel.specs.Selected.{IsFinished, AreWhole, part_of}
 use Rattle.lg_sel.specs.Shorts.{LeadsBy}
 use Rattle.lg_sel.specs.Stores.{StoresAtMost}
-use Rattle.lg_sel_items.specs.Holes.{Holes, blanks, settled, fixes_of, Each, IsApartFrom, StandAt, IsSettled, AreHoles}
-use Rattle.lg_sel_items.proofs.HoleLemmas.{items-are-settled, settled-bytes}
+use Rattle.lg_sel.specs.Holes.{Holes, blanks, settled, fixes_of, Each, IsApartFrom, StandAt, IsSettled, AreHoles}
+use Rattle.lg_sel.proofs.HoleLemmas.{items-are-settled, settled-bytes}
 
 module _ {L I : Type 0} (H : Holes L I) (spelling : I → List ℕ) (fits : I → Type 0) (is_item : L → Type 0) (holes : AreHoles H spelling fits is_item)
     (old new : Buffer) (code : List ℕ) (c : Code) (i : ℕ) (items : List L) (a : AreAppended H old new items) (ok : Each is_item items) (f : IsFinished old new code c i) where

@@ -16,7 +16,7 @@ use Rattle.lg_sel.proofs.LabelLemmas.{AllPass}
 use Rattle.lg_sel.proofs.StoreLemmas.{allowed, allowed-values, allowed-own, allowed-free}
 use Rattle.lg_sel.specs.Families.{Families, staged_count, node_items}
 use Rattle.lg_sel.specs.Stores.{own_stores, is_free}
-use Rattle.lg_sel_items.specs.Holes.{Holes}
+use Rattle.lg_sel.specs.Holes.{Holes}
 use Rattle.lg_temp.specs.Chosen.{spills}
 use Rattle.lg_temp.specs.declared.choice.Choice.{Choice}
 

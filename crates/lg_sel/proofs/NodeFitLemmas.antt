@@ -19,14 +19,14 @@ use Rattle.lg_op.specs.declared.operand.Reg.{Reg}
 use Rattle.lg_sel.proofs.CountLemmas.{count-is}
 use Rattle.lg_sel.proofs.FamilyLemmas.{HoldsOfFamilies, of-node}
 use Rattle.lg_sel.proofs.OperandLemmas.{word-at, has-words, control-ends}
-use Rattle.lg_sel_nodes.specs.Operands.{NamesBelow, NameBelow, HasWord, HaveWords}
+use Rattle.lg_carry.specs.Nodes.Operands.{NamesBelow, NameBelow, HasWord, HaveWords}
 use Rattle.lg_sel.specs.Asked.{IsAsked}
 use Rattle.lg_sel.specs.Families.{Families, staged_count, node_items}
 use Rattle.lg_sel.specs.Selected.{IsFrame, is_pusharg}
-use Rattle.lg_sel_control.specs.Control.{is_control, ends_in_label}
-use Rattle.lg_sel_values.specs.ValueNodes.{is_value}
-use Rattle.lg_sel_items.specs.Holes.{Each}
-use Rattle.lg_sel_memory.specs.Operands.{HasWords}
+use Rattle.lg_sel.specs.Control.Control.{is_control, ends_in_label}
+use Rattle.lg_carry.specs.Values.ValueNodes.{is_value}
+use Rattle.lg_sel.specs.Holes.{Each}
+use Rattle.lg_carry.specs.Memory.Operands.{HasWords}
 use Rattle.lg_temp.proofs.ChoiceLemmas.{choices-are-for}
 use Rattle.lg_temp.specs.Choices.{AreFor}
 use Rattle.lg_temp.specs.Chosen.{around}

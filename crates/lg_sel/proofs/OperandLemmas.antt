@@ -20,11 +20,11 @@ use Rattle.lg_op.specs.declared.operand.Operand.{Operand}
 use Rattle.lg_op.specs.declared.operand.Operand.TheVariants as operand
 use Rattle.lg_op.specs.declared.operand.Reg.{Reg}
 use Rattle.lg_meaning.specs.Steps.{operand_at}
-use Rattle.lg_sel_nodes.specs.Operands.{HasWord, HaveWords}
+use Rattle.lg_carry.specs.Nodes.Operands.{HasWord, HaveWords}
 use Rattle.lg_sel.specs.Selected.{is_label_for, has_label_for, may_take_label, TakesLabelsWell}
 use Rattle.lg_sel.proofs.FamilyLemmas.{node_of}
-use Rattle.lg_sel_control.specs.Control.{is_control, ends_in_label}
-use Rattle.lg_sel_memory.specs.Operands.{is_label, HasWords}
+use Rattle.lg_sel.specs.Control.Control.{is_control, ends_in_label}
+use Rattle.lg_carry.specs.Memory.Operands.{is_label, HasWords}
 
 -- ---- numbers
 pub word-at : (xs : List Operand) (k : ℕ) → HaveWords xs → HasWord (slice_index_or xs k (operand.Number 0))

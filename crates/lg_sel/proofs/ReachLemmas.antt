@@ -8,7 +8,7 @@ use Rattle.lg_op.specs.declared.operand.Label.{Label}
 use Rattle.lg_op.specs.declared.operand.Operand.{Operand}
 use Rattle.lg_op.specs.declared.operand.Operand.TheVariants as operand
 use Rattle.lg_sel.specs.Selected.{MayBeLed}
-use Rattle.lg_sel_items.specs.Reaches.{near_size, may_wait, LeadsTo}
+use Rattle.lg_sel.specs.Reaches.{near_size, may_wait, LeadsTo}
 
 -- a field that leads to its label or may wait for it fits each place to which it may be led, if it does so where it waits
 pub led-fits : (size : ℕ) (f : Fix) (target : ℕ) (bound : Option ℕ) → LeadsTo size f bound → MayBeLed size f.place target bound

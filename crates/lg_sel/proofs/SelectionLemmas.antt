@@ -30,9 +30,9 @@ use Rattle.lg_sel.specs.Promises.{IsShortWhenFinished, IsAheadWhenFinished}
 use Rattle.lg_sel.specs.Selected.{IsFrame, IsFinished, AreWhole, part_of}
 use Rattle.lg_sel.specs.Shorts.{IsShort, IsAhead}
 use Rattle.lg_sel.specs.Stores.{StoresAtMost, own_stores, is_free}
-use Rattle.lg_sel_items.specs.Holes.{Holes, Each, AreHoles, blanks, settled, fixes_of}
-use Rattle.lg_sel_items.specs.Reaches.{near_size, Leads, IsChecked, IsLeast, IsLeastAhead}
-use Rattle.lg_sel_items.specs.declared.reach.Reach.{Reach}
+use Rattle.lg_sel.specs.Holes.{Holes, Each, AreHoles, blanks, settled, fixes_of}
+use Rattle.lg_sel.specs.Reaches.{near_size, Leads, IsChecked, IsLeast, IsLeastAhead}
+use Rattle.lg_sel.specs.declared.reach.Reach.{Reach}
 use Rattle.lg_temp.specs.Chosen.{spills}
 use Rattle.lg_temp.specs.declared.choice.Choice.{Choice}
 use Rattle.lg_temp.specs.declared.choice.Need.{Need}

@@ -6,9 +6,9 @@ use Rattle.lg_base.specs.declared.target.Target.{Target}
 use Rattle.lg_op.specs.declared.op.Op.{Op}
 use Rattle.lg_op.specs.declared.op.Op.TheVariants as op
 use Rattle.lg_op.specs.declared.op.PlainOp.TheVariants as plain
-use Rattle.lg_sel_control.specs.Stores.{stores_below}
-use Rattle.lg_sel_control.proofs.StoreLemmas.{stores-long}
-use Rattle.lg_sel_values.specs.ValueNodes.{is_value}
+use Rattle.lg_sel.specs.Control.Stores.{stores_below}
+use Rattle.lg_sel.proofs.OfControl.StoreLemmas.{stores-long}
+use Rattle.lg_carry.specs.Values.ValueNodes.{is_value}
 use Rattle.lg_sel.specs.Stores.{own_stores, is_free}
 use Rattle.lg_temp.specs.Chosen.{spills}
 use Rattle.lg_temp.specs.declared.choice.Choice.{Choice}

@@ -5,7 +5,7 @@ use Rattle.lg_op.specs.Nodes.{InForm}
 use Rattle.lg_op.specs.declared.node.Node.{Node}
 use Rattle.lg_op.specs.declared.op.Op.{Op}
 use Rattle.lg_op.specs.declared.operand.Reg.{Reg}
-use Rattle.lg_sel_nodes.specs.Operands.{HaveWords, NameBelow}
+use Rattle.lg_carry.specs.Nodes.Operands.{HaveWords, NameBelow}
 use Rattle.lg_sel.specs.Selected.{AreChosen, AreFirst, is_pusharg, TakesLabelsWell}
 use Rattle.lg_temp.specs.declared.choice.Choice.{Choice}
 use Rattle.lg_temp.specs.declared.choice.Need.{Need}

@@ -6,8 +6,8 @@ use Rattle.lg_carry.specs.FinalNodes.{Code}
 use Rattle.lg_carry.specs.Rows.{Rows}
 use Rattle.lg_sel.specs.Selected.{IsFinished, AreWhole, part_of}
 use Rattle.lg_sel.specs.Stores.{StoresAtMost}
-use Rattle.lg_sel_items.specs.Holes.{Holes, words_in, blanks, settled, fixes_of, Each}
-use Rattle.lg_sel_items.specs.NodeItems.{AreOfNode}
+use Rattle.lg_sel.specs.Holes.{Holes, words_in, blanks, settled, fixes_of, Each}
+use Rattle.lg_sel.specs.NodeItems.{AreOfNode}
 
 -- the items were appended to the old buffer, which became the new one
 pub record AreAppended {L I : Type 0} (H : Holes L I) (old new : Buffer) (items : List L) : Type 0 where

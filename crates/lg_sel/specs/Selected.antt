@@ -24,8 +24,8 @@ use Rattle.lg_op.specs.declared.op.PlainOp.TheVariants as plain
 use Rattle.lg_op.specs.declared.operand.Operand.{Operand}
 use Rattle.lg_op.specs.declared.operand.Operand.TheVariants as operand
 use Rattle.lg_op.specs.declared.operand.Reg.{Reg}
-use Rattle.lg_sel_items.specs.Holes.{IsApartFrom, HaveAddresses}
-use Rattle.lg_sel_items.specs.Reaches.{near_size}
+use Rattle.lg_sel.specs.Holes.{IsApartFrom, HaveAddresses}
+use Rattle.lg_sel.specs.Reaches.{near_size}
 use Rattle.lg_temp.specs.declared.choice.Choice.{Choice}
 use Rattle.lg_temp.specs.declared.choice.Need.{Need}
 use Rattle.lg_temp.specs.Chosen.{around, choices_of}

@@ -21,7 +21,7 @@ use Rattle.lg_rv.specs.declared.instruction.Instr.{Instr as RvInstr}
 use Rattle.lg_rv.specs.declared.instruction.Instr.TheVariants as rv_instr
 use Rattle.lg_rv.specs.declared.instruction.ImmOp.TheVariants.{Jalr}
 use Rattle.lg_rv.specs.declared.instruction.UpperOp.TheVariants.{Auipc}
-use Rattle.lg_sel_items.specs.Holes.{Each}
+use Rattle.lg_sel.specs.Holes.{Each}
 use Rattle.lg_x86.specs.Spelling as x86
 use Rattle.lg_x86.specs.declared.instruction.Cond.{Cond as X86Cond}
 use Rattle.lg_x86.specs.declared.instruction.Instr.{Instr as X86Instr}

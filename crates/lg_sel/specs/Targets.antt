@@ -5,9 +5,9 @@ use Rattle.lg_base.specs.declared.flags.Flags.TheVariants.{NoFlags, Nzcv}
 use Rattle.lg_base.specs.declared.target.Target.{Target}
 use Rattle.lg_base.specs.declared.target.Target.TheVariants.{X86_64, Aarch64, Riscv64}
 use Rattle.lg_carry.specs.Processors.{Seen, Span, Processor}
-use Rattle.lg_carry_a64.specs.Touched as a64
-use Rattle.lg_carry_rv.specs.Touched as rv
-use Rattle.lg_carry_x86.specs.Touched as x86
+use Rattle.lg_sel.specs.A64Touched as a64
+use Rattle.lg_sel.specs.RvTouched as rv
+use Rattle.lg_sel.specs.X86Touched as x86
 use Rattle.lg_base.specs.Flags.{negative_flag, zero_flag, carry_flag, overflow_flag}
 use Rattle.lg_cpu.specs.States.{CpuState}
 use Rattle.lg_cpu.specs.Steps.{Run}

@@ -2,7 +2,7 @@
 
 ghost use Rattle.lg_sel.specs.Finished.{ItemsAreOfNode, ItemsAreWhole, ItemsAreSparing};
 
-use lg_sel_items::laws::HasHoles;
+use crate::item_laws::HasHoles;
 
 /// Items that were appended for a node are those of the node, once the buffer is finished.
 pub fn items_are_of_node<T: HasHoles>()

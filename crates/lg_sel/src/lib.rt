@@ -1,8 +1,19 @@
-//! What the code of a node promises on every target, and when a finished buffer keeps it.
+//! The code of a node on every target: the items that it is made of and how they are appended to a buffer, what it promises, when a
+//! finished buffer keeps it, and the laws of nodes that lead elsewhere (control).
 #![tactic(auto)]
 
+pub mod control;
+mod emission;
+mod item;
+pub mod item_laws;
+mod items;
 pub mod laws;
 pub mod operands;
+mod reach;
 mod shortest;
 
+pub use emission::append;
+pub use item::Item;
+pub use items::Items;
+pub use reach::{NEAR_SIZE, Reach, lead};
 pub use shortest::{ItemList, shortest_items};

@@ -4,14 +4,14 @@ ghost use Rattle.std.specs.Prelude.{◌≡◌, ◌≢◌, ℕ, ◌≤◌, nat_le
 ghost use Rattle.lg_base.specs.Layout.{most_code};
 ghost use Rattle.lg_buf.specs.Buffers.{place_of};
 ghost use Rattle.lg_op.specs.declared.operand.Label.{Label};
-ghost use Rattle.lg_sel_nodes.specs.Operands.{NameBelow, HasWord, HaveWords};
-ghost use Rattle.lg_sel_items.specs.Reaches.{near_size};
+ghost use Rattle.lg_carry.specs.Nodes.Operands.{NameBelow, HasWord, HaveWords};
+ghost use Rattle.lg_sel.specs.Reaches.{near_size};
 ghost use Rattle.lg_sel.specs.Families.{staged_count};
 
+use crate::{NEAR_SIZE, Reach};
 use lg_buf::{CodeBuf, CodeLabel};
 use lg_op::Operand;
-use lg_sel_items::{NEAR_SIZE, Reach};
-use lg_temp::choice::Staged;
+use lg_temp::Staged;
 
 // The most bytes of code.
 const MOST_CODE: u32 = 0x400_0000;

@@ -6,14 +6,14 @@ ghost use Rattle.lg_buf.specs.Buffers.{place_of};
 ghost use Rattle.lg_op.specs.declared.operand.Label.{Label};
 ghost use Rattle.lg_op.specs.declared.operand.Operand.{Operand};
 ghost use Rattle.lg_sel.specs.Emittable.{AreEmittable};
-ghost use Rattle.lg_sel_items.specs.Holes.{fixes_of, Each};
-ghost use Rattle.lg_sel_items.specs.Reaches.{near_size, Leads, IsChecked, IsLeast, IsLeastAhead};
-ghost use Rattle.lg_sel_nodes.specs.Operands.{NameBelow};
+ghost use Rattle.lg_sel.specs.Holes.{fixes_of, Each};
+ghost use Rattle.lg_sel.specs.Reaches.{near_size, Leads, IsChecked, IsLeast, IsLeastAhead};
+ghost use Rattle.lg_carry.specs.Nodes.Operands.{NameBelow};
 
 use crate::operands::first_reach;
+use crate::{Item, Items, Reach, lead};
 use lg_buf::CodeBuf;
 use lg_op::Operand;
-use lg_sel_items::{Item, Items, Reach, lead};
 
 /// What holds a list of items: the result of a closure that makes them. `Items` stands in no bound, since what it is rests on its items.
 pub trait ItemList<L>: Drop {

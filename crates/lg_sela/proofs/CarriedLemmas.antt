@@ -24,25 +24,25 @@ use Rattle.lg_sel.proofs.SelectionLemmas.{IsSelection}
 use Rattle.lg_sel.specs.Promises.{IsCarriedWhenFinished}
 use Rattle.lg_sel.specs.Selected.{IsFrame, IsAligned, IsFixOf}
 use Rattle.lg_sel.specs.Stores.{a64_stores}
-use Rattle.lg_sel_items.specs.Holes.{Each}
-use Rattle.lg_sel_items.specs.declared.reach.Reach.{Reach}
-use Rattle.lg_sel_items.specs.declared.reach.Reach.TheVariants.{Short, Near, Far}
+use Rattle.lg_sel.specs.Holes.{Each}
+use Rattle.lg_sel.specs.declared.reach.Reach.{Reach}
+use Rattle.lg_sel.specs.declared.reach.Reach.TheVariants.{Short, Near, Far}
 use Rattle.lg_sela.proofs.Emissions.{Names}
 use Rattle.lg_sela.proofs.FinishedLemmas.{AreAppended, are-of-node}
 use Rattle.lg_sela.proofs.NodeFits.{node-emits, items-fit, items-within}
 use Rattle.lg_sela.proofs.NodeLemmas.{items-carry}
 use Rattle.lg_sel.proofs.PlaceLemmas.{and-first}
 use Rattle.lg_sel.proofs.ReachLemmas.{led-fits, is-near}
-use Rattle.lg_sel_items.specs.Reaches.{Leads, IsChecked}
+use Rattle.lg_sel.specs.Reaches.{Leads, IsChecked}
 use Rattle.lg_sela.specs.Items.{a64_families, node_items}
 use Rattle.lg_sela.specs.Selected.{needs, IsAsked}
-use Rattle.lg_sela_control.proofs.AlignLemmas.{alignments-align}
-use Rattle.lg_sela_control.specs.Alignments.{align_code}
-use Rattle.lg_sela_items.proofs.ItemLemmas.{blank_bytes, words-ones}
-use Rattle.lg_sela_items.proofs.PatchLemmas.{are-holes}
-use Rattle.lg_sela_items.specs.Items.{a64_holes, IsItem, fix_of, words_in, bytes_in, blanks, fixes_of, ones}
-use Rattle.lg_sela_items.specs.declared.items.Item.{Item}
-use Rattle.lg_sela_items.specs.declared.items.Item.TheVariants.{One, Branch, CondBranch, Address}
+use Rattle.lg_sela.proofs.OfControl.AlignLemmas.{alignments-align}
+use Rattle.lg_sela.specs.Control.Alignments.{align_code}
+use Rattle.lg_sela_values.proofs.ItemLemmas.{blank_bytes, words-ones}
+use Rattle.lg_sela_values.proofs.PatchLemmas.{are-holes}
+use Rattle.lg_sela_values.specs.Items.{a64_holes, IsItem, fix_of, words_in, bytes_in, blanks, fixes_of, ones}
+use Rattle.lg_sela_values.specs.declared.items.Item.{Item}
+use Rattle.lg_sela_values.specs.declared.items.Item.TheVariants.{One, Branch, CondBranch, Address}
 use Rattle.lg_temp.specs.declared.choice.Choice.{Choice}
 
 pub selected-carries : (homes : ℕ) (reach : Reach) (node : Node) (frame : ℕ) (live : Reg → Bool) (staged : List Bool) (choices : List Choice) (old new : Buffer) (items : List Item) → IsFrame frame → IsAsked node live staged choices (length old.labels)

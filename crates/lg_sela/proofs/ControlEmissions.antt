@@ -11,7 +11,7 @@ use Rattle.lg_a64.specs.declared.instruction.Instr.TheVariants as instr
 use Rattle.lg_a64.specs.declared.instruction.RegOp.TheVariants.{Orr}
 use Rattle.lg_base.specs.HostNames.{host_address}
 use Rattle.lg_base.specs.declared.target.Target.TheVariants.{Aarch64}
-use Rattle.lg_carry_a64.specs.A64Rows.{link, zero_register, frame_pointer, stack_pointer}
+use Rattle.lg_sela_values.specs.Processor.A64Rows.{link, zero_register, frame_pointer, stack_pointer}
 use Rattle.lg_op.specs.declared.op.BranchSumOp.{BranchSumOp}
 use Rattle.lg_op.specs.declared.op.BranchSumOp.TheVariants as sum
 use Rattle.lg_op.specs.declared.op.Condition.{Condition}
@@ -29,22 +29,22 @@ use Rattle.lg_op.specs.declared.operand.Operand.TheVariants as operand
 use Rattle.lg_sel.proofs.LabelLemmas.{Passes, AllPass}
 use Rattle.lg_sel.proofs.StoreLemmas as stores
 use Rattle.lg_sel.specs.Stores.{a64_stores, is_free}
-use Rattle.lg_sel_nodes.specs.Immediates.{immediate}
-use Rattle.lg_sel_items.specs.declared.reach.Reach.{Reach}
-use Rattle.lg_sel_items.specs.declared.reach.Reach.TheVariants.{Short, Near, Far}
+use Rattle.lg_carry.specs.Nodes.Immediates.{immediate}
+use Rattle.lg_sel.specs.declared.reach.Reach.{Reach}
+use Rattle.lg_sel.specs.declared.reach.Reach.TheVariants.{Short, Near, Far}
 use Rattle.lg_sela.proofs.Emissions.{NoneStores, Emits, none, append, more, either, instructions, plain, number, address, branch, branch_if, front, behind}
-use Rattle.lg_sela_control.specs.Alignments.{padding, idle, align_code}
+use Rattle.lg_sela.specs.Control.Alignments.{padding, idle, align_code}
 use Rattle.lg_base.specs.Words.{negated}
 use Rattle.lg_sela_values.specs.BinaryCode.{is_small}
-use Rattle.lg_sela_control.specs.Branches.{comparison, is_held, number_comparison, taken, turned}
-use Rattle.lg_sela_control.specs.ControlItems.{second_register, word_items, second_items, compared_items, comparing, leads_items, branch_if_items, branch_items, sum_items, jump_items, call_items, result_items, ret_items, register_leap_items, leap_items, align_items, control_items}
-use Rattle.lg_sela_control.specs.Prologs.{prolog_code, stored_registers, store_word, fall_code}
-use Rattle.lg_sel_control.proofs.StoreLemmas.{stored-few}
-use Rattle.lg_sela_control.specs.RegisterLeaps.{register_leap_code}
-use Rattle.lg_sela_control.specs.Returns.{result, near_return, far_return, return_code}
-use Rattle.lg_sela_control.specs.SumBranches.{sum_instruction, sum_taken}
-use Rattle.lg_sela_items.specs.declared.items.Item.{Item}
-use Rattle.lg_sela_items.specs.declared.items.Item.TheVariants.{Branch}
+use Rattle.lg_sela.specs.Control.Branches.{comparison, is_held, number_comparison, taken, turned}
+use Rattle.lg_sela.specs.Control.ControlItems.{second_register, word_items, second_items, compared_items, comparing, leads_items, branch_if_items, branch_items, sum_items, jump_items, call_items, result_items, ret_items, register_leap_items, leap_items, align_items, control_items}
+use Rattle.lg_sela.specs.Control.Prologs.{prolog_code, stored_registers, store_word, fall_code}
+use Rattle.lg_sel.proofs.OfControl.StoreLemmas.{stored-few}
+use Rattle.lg_sela.specs.Control.RegisterLeaps.{register_leap_code}
+use Rattle.lg_sela.specs.Control.Returns.{result, near_return, far_return, return_code}
+use Rattle.lg_sela.specs.Control.SumBranches.{sum_instruction, sum_taken}
+use Rattle.lg_sela_values.specs.declared.items.Item.{Item}
+use Rattle.lg_sela_values.specs.declared.items.Item.TheVariants.{Branch}
 use Rattle.lg_temp.specs.Abis.{register_of}
 
 -- ---- instructions

@@ -2,7 +2,7 @@
 use Rattle.std.proofs.Common.{◌≡◌, ℕ, ◌+◌, ◌≤◌, Bool, true, List, [], ◌∷◌, ◌++◌, refl, arith}
 use Rattle.std.specs.Prelude.{⊤, ◌/◌, ◌%◌, ◌^◌, ◌==◌, nat_lt, if◌then◌else◌}
 use Rattle.lg_base.specs.Words.{complement}
-use Rattle.lg_carry_a64.specs.Numbers.{quarter_code, positive_code, negative_code, number_code}
+use Rattle.lg_sela_values.specs.Processor.Numbers.{quarter_code, positive_code, negative_code, number_code}
 use Rattle.lg_a64.specs.declared.instruction.BranchOp.{BranchOp}
 use Rattle.lg_a64.specs.declared.instruction.Cond.{Cond}
 use Rattle.lg_a64.specs.declared.instruction.Instr.{Instr}
@@ -11,11 +11,11 @@ use Rattle.lg_a64.specs.declared.instruction.WideOp.TheVariants.{Movk}
 use Rattle.lg_sel.proofs.EmissionLemmas as emission
 use Rattle.lg_sel.proofs.StoreLemmas as stores
 use Rattle.lg_sel.specs.Stores.{a64_stores}
-use Rattle.lg_sel_items.specs.declared.reach.Reach.{Reach}
-use Rattle.lg_sel_items.specs.declared.reach.Reach.TheVariants.{Far}
-use Rattle.lg_sela_items.specs.Items.{a64_holes, ones}
-use Rattle.lg_sela_items.specs.declared.items.Item.{Item}
-use Rattle.lg_sela_items.specs.declared.items.Item.TheVariants.{One, Branch, CondBranch, Address}
+use Rattle.lg_sel.specs.declared.reach.Reach.{Reach}
+use Rattle.lg_sel.specs.declared.reach.Reach.TheVariants.{Far}
+use Rattle.lg_sela_values.specs.Items.{a64_holes, ones}
+use Rattle.lg_sela_values.specs.declared.items.Item.{Item}
+use Rattle.lg_sela_values.specs.declared.items.Item.TheVariants.{One, Branch, CondBranch, Address}
 
 -- the label of an item passes a test, and its reach is that of the node
 abbrev pub Names : Reach → (ℕ → Bool) → Item → Type 0

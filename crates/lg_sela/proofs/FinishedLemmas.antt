@@ -4,17 +4,17 @@ use Rattle.std.specs.Prelude.{slice_index}
 use Rattle.std.proofs.lemmas.Bool.Decides.{nat_tests}
 use Rattle.lg_buf.specs.Buffers.{Buffer}
 use Rattle.lg_carry.specs.FinalNodes.{Code}
-use Rattle.lg_carry_a64.specs.Destinations.{WritesWithin}
-use Rattle.lg_carry_a64.specs.A64Rows.{a64_rows}
+use Rattle.lg_sela_values.specs.Processor.Destinations.{WritesWithin}
+use Rattle.lg_sela_values.specs.Processor.A64Rows.{a64_rows}
 use Rattle.lg_a64.specs.Spelling.{IsInstr}
 use Rattle.lg_sel.specs.Finished as finished
 use Rattle.lg_sel.specs.Selected.{IsFinished}
 use Rattle.lg_sel.proofs.FinishedLemmas.{items-are-of-node}
-use Rattle.lg_sela_items.specs.declared.items.Item.{Item}
-use Rattle.lg_sela_items.specs.Items.{a64_holes, IsItem, words_in, AreItems, StayWithin}
-use Rattle.lg_sela_items.specs.OfNodes.{AreOfNode}
-use Rattle.lg_sela_items.proofs.NodeLemmas.{settled-within}
-use Rattle.lg_sela_items.proofs.PatchLemmas.{are-holes}
+use Rattle.lg_sela_values.specs.declared.items.Item.{Item}
+use Rattle.lg_sela_values.specs.Items.{a64_holes, IsItem, words_in, AreItems, StayWithin}
+use Rattle.lg_sela_values.specs.OfNodes.{AreOfNode}
+use Rattle.lg_sela_values.proofs.OfNodesLemmas.{settled-within}
+use Rattle.lg_sela_values.proofs.PatchLemmas.{are-holes}
 
 -- the items were appended to the old buffer, which became the new one
 abbrev pub AreAppended : Buffer → Buffer → List Item → Type 0

@@ -11,8 +11,8 @@ use Rattle.lg_base.specs.Conventions.{argument_registers}
 use Rattle.lg_base.specs.HostNames.{host_address}
 use Rattle.lg_base.specs.Words.{negated}
 use Rattle.lg_base.specs.declared.target.Target.TheVariants.{Aarch64}
-use Rattle.lg_carry_a64.specs.A64Rows.{frame_pointer, link, stack_pointer, zero_register}
-use Rattle.lg_carry_a64.specs.Numbers.{number_code}
+use Rattle.lg_sela_values.specs.Processor.A64Rows.{frame_pointer, link, stack_pointer, zero_register}
+use Rattle.lg_sela_values.specs.Processor.Numbers.{number_code}
 use Rattle.lg_meaning.specs.Steps.{operand_at, stored_operand, slot}
 use Rattle.lg_op.specs.declared.node.Node.{Node}
 use Rattle.lg_op.specs.declared.op.Addressing.{Addressing}
@@ -25,15 +25,15 @@ use Rattle.lg_op.specs.declared.operand.Operand.TheVariants as operand
 use Rattle.lg_sel.proofs.LabelLemmas.{Passes, AllPass, passes-at}
 use Rattle.lg_sel.proofs.StoreLemmas as stores
 use Rattle.lg_sel.specs.Stores.{a64_stores}
-use Rattle.lg_sel_memory.specs.Accesses.{Address, Base, At, Sum, Index, address_of}
-use Rattle.lg_sel_items.specs.declared.reach.Reach.{Reach}
+use Rattle.lg_carry.specs.Memory.Accesses.{Address, Base, At, Sum, Index, address_of}
+use Rattle.lg_sel.specs.declared.reach.Reach.{Reach}
 use Rattle.lg_sela.proofs.Emissions.{NoneStores, number-none, Emits, none, append, more, either, instructions, plain, number, address}
-use Rattle.lg_sela_items.specs.Items.{ones}
-use Rattle.lg_sela_memory.specs.Accesses.{register, load_row, store_row, Place, at_link, is_scaled, is_small, sum_code, indexed, place_of, loading, storing, is_unscaled, unscaled, is_word, word_load, load_at, store_at, load_code, store_code}
-use Rattle.lg_sela_memory.specs.ArgumentCode.{stack_count, home_load, argument_load, argument_code}
-use Rattle.lg_sela_memory.specs.PushCode.{into, stack_push, onto_stack, push_code}
-use Rattle.lg_sela_memory.specs.VariableArgumentCode.{next_argument_code}
-use Rattle.lg_operators.specs.Operators.{width, store_width}
+use Rattle.lg_sela_values.specs.Items.{ones}
+use Rattle.lg_sela.specs.Memory.Accesses.{register, load_row, store_row, Place, at_link, is_scaled, is_small, sum_code, indexed, place_of, loading, storing, is_unscaled, unscaled, is_word, word_load, load_at, store_at, load_code, store_code}
+use Rattle.lg_sela.specs.Memory.ArgumentCode.{stack_count, home_load, argument_load, argument_code}
+use Rattle.lg_sela.specs.Memory.PushCode.{into, stack_push, onto_stack, push_code}
+use Rattle.lg_sela.specs.Memory.VariableArgumentCode.{next_argument_code}
+use Rattle.lg_op.specs.Operators.{width, store_width}
 use Rattle.lg_temp.specs.Abis.{register_of}
 
 -- ---- instructions

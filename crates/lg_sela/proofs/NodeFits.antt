@@ -11,29 +11,29 @@ use Rattle.lg_sel.proofs.NodeEmissionLemmas as emission
 use Rattle.lg_sel.proofs.NodeFitLemmas as fit
 use Rattle.lg_sel.proofs.NodeFitLemmas.{passed}
 use Rattle.lg_sel.proofs.StoreLemmas.{allowed}
-use Rattle.lg_sel_nodes.specs.Operands.{HaveWords, NameBelow}
+use Rattle.lg_carry.specs.Nodes.Operands.{HaveWords, NameBelow}
 use Rattle.lg_sel.specs.Selected.{AreFirst, IsFrame, TakesLabelsWell, is_pusharg}
 use Rattle.lg_sel.specs.Stores.{a64_stores}
-use Rattle.lg_sel_items.specs.declared.reach.Reach.{Reach}
+use Rattle.lg_sel.specs.declared.reach.Reach.{Reach}
 use Rattle.lg_sela.proofs.ControlEmissions.{controls-emit, prologs-emit}
 use Rattle.lg_sela.proofs.Emissions.{Names, Emits, more}
 use Rattle.lg_sela.proofs.MemoryEmissions.{loads-emit, stores-emit, arguments-emit, next-arguments-emit, pushes-emit}
-use Rattle.lg_sel_nodes.proofs.GivenLemmas.{are-given}
+use Rattle.lg_carry.proofs.OfNodes.GivenLemmas.{are-given}
 use Rattle.lg_sela.proofs.ValueEmissions.{values-emit}
 use Rattle.lg_sela.specs.Items.{a64_families, node_items}
 use Rattle.lg_sela.specs.Selected.{needs, AreChosen, IsAsked}
-use Rattle.lg_sela_control.proofs.FitLemmas.{control-items-fit}
-use Rattle.lg_sela_control.proofs.WithinLemmas.{control-items-stay}
-use Rattle.lg_sela_items.specs.Items.{a64_holes, IsItem, NamesOneOf, StaysWithin, StayWithin, fixes_of, AreItems, NameLabels, ones}
-use Rattle.lg_sela_items.specs.declared.items.Item.{Item}
-use Rattle.lg_sela_memory.proofs.FitLemmas.{memory-items-fit}
-use Rattle.lg_sela_memory.proofs.WithinLemmas.{memory-items-name, memory-items-stay}
+use Rattle.lg_sela.proofs.OfControl.FitLemmas.{control-items-fit}
+use Rattle.lg_sela.proofs.OfControl.WithinLemmas.{control-items-stay}
+use Rattle.lg_sela_values.specs.Items.{a64_holes, IsItem, NamesOneOf, StaysWithin, StayWithin, fixes_of, AreItems, NameLabels, ones}
+use Rattle.lg_sela_values.specs.declared.items.Item.{Item}
+use Rattle.lg_sela.proofs.OfMemory.FitLemmas.{memory-items-fit}
+use Rattle.lg_sela.proofs.OfMemory.WithinLemmas.{memory-items-name, memory-items-stay}
 use Rattle.lg_sela_values.proofs.ValueFitLemmas.{value-items-fit, value-items-name, value-items-stay}
-use Rattle.lg_sel_values.specs.Parts.{HaveSlots}
+use Rattle.lg_carry.specs.Values.Parts.{HaveSlots}
 use Rattle.lg_sela_values.specs.ValueItems.{value_items}
 use Rattle.lg_temp.proofs.ChoiceLemmas.{choices-are-for}
 use Rattle.lg_temp.specs.Choices.{AreFor}
-use Rattle.lg_sela_memory.specs.Accesses.{load_code, store_code}
+use Rattle.lg_sela.specs.Memory.Accesses.{load_code, store_code}
 use Rattle.lg_temp.specs.Chosen.{around, spills}
 use Rattle.lg_temp.specs.declared.choice.Choice.{Choice}
 

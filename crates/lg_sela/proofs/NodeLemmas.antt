@@ -19,40 +19,40 @@ use Rattle.lg_carry.specs.Carries.{leaps, leaps_at}
 use Rattle.lg_carry.specs.FinalNodes.{Code}
 use Rattle.lg_carry.specs.NodeCode.{numbered, CarriesNode}
 use Rattle.lg_node.specs.Preparations.{pushed}
-use Rattle.lg_carry_a64.specs.Places.{IsInCode}
-use Rattle.lg_carry_a64.specs.A64Rows.{a64_processor}
+use Rattle.lg_sela_values.specs.Processor.Places.{IsInCode}
+use Rattle.lg_sela_values.specs.Processor.A64Rows.{a64_processor}
 use Rattle.lg_a64.specs.declared.instruction.Instr.{Instr}
 use Rattle.lg_sel.proofs.CountLemmas.{count-is}
 use Rattle.lg_sel.proofs.FamilyLemmas.{HoldsOfFamilies, of-node, value-stays}
 use Rattle.lg_sel.proofs.OperandLemmas.{has-words, leads_nowhere, unlabelled, no-labels, control-ends, loads-lead, stores-lead, operands-are}
 use Rattle.lg_sel.specs.Families.{staged_count}
-use Rattle.lg_sel_values.specs.ValueNodes.{is_value}
-use Rattle.lg_sel_memory.specs.Operands.{is_label}
-use Rattle.lg_sel_items.specs.declared.reach.Reach.{Reach}
+use Rattle.lg_carry.specs.Values.ValueNodes.{is_value}
+use Rattle.lg_carry.specs.Memory.Operands.{is_label}
+use Rattle.lg_sel.specs.declared.reach.Reach.{Reach}
 use Rattle.lg_sela.specs.Items.{a64_families, node_items}
 use Rattle.lg_sel.specs.Selected.{is_pusharg, may_take_label, IsNodeOf}
 use Rattle.lg_sela.specs.Selected.{IsAsked}
 use Rattle.lg_sel.proofs.NodeFitLemmas.{few-staged}
-use Rattle.lg_sel_nodes.proofs.GivenLemmas.{are-given, are-words}
+use Rattle.lg_carry.proofs.OfNodes.GivenLemmas.{are-given, are-words}
 use Rattle.lg_sela.proofs.PlaceLemmas.{control-items-at}
-use Rattle.lg_sela_control.specs.ControlFits.{AreEmitted}
-use Rattle.lg_sela_control.specs.ControlItems.{control_items, is_control}
-use Rattle.lg_sela_control.specs.ControlLaws.{ends_in_label}
-use Rattle.lg_sela_control.specs.Standing.{StandsInCode}
-use Rattle.lg_sela_control.proofs.ControlLemmas.{control-nodes-carry}
-use Rattle.lg_sela_control.proofs.FitLemmas.{control-items-fit}
-use Rattle.lg_sela_items.specs.declared.items.Item.{Item}
-use Rattle.lg_sela_items.specs.Items.{words_in, settled, ones}
-use Rattle.lg_sela_items.specs.GoodItems.{AreAppendable}
-use Rattle.lg_sela_items.specs.OfNodes.{AreOfNode}
-use Rattle.lg_sela_items.proofs.ItemLemmas.{settled-ones}
-use Rattle.lg_sela_items.proofs.NodeLemmas.{items-are-node-code, items-are-in-code}
-use Rattle.lg_sela_memory.specs.Accesses.{load_code, store_code}
-use Rattle.lg_sela_memory.specs.ArgumentCode.{argument_code}
-use Rattle.lg_sela_memory.specs.PushCode.{push_code}
-use Rattle.lg_sela_memory.specs.VariableArgumentCode.{next_argument_code}
-use Rattle.lg_sela_memory.proofs.FitLemmas.{memory-items-fit}
-use Rattle.lg_sela_memory.proofs.MemoryNodeLemmas.{memory-is-carried}
+use Rattle.lg_sela.specs.Control.ControlFits.{AreEmitted}
+use Rattle.lg_sela.specs.Control.ControlItems.{control_items, is_control}
+use Rattle.lg_sela.specs.Control.ControlLaws.{ends_in_label}
+use Rattle.lg_sela.specs.Control.Standing.{StandsInCode}
+use Rattle.lg_sela.proofs.OfControl.ControlLemmas.{control-nodes-carry}
+use Rattle.lg_sela.proofs.OfControl.FitLemmas.{control-items-fit}
+use Rattle.lg_sela_values.specs.declared.items.Item.{Item}
+use Rattle.lg_sela_values.specs.Items.{words_in, settled, ones}
+use Rattle.lg_sela_values.specs.GoodItems.{AreAppendable}
+use Rattle.lg_sela_values.specs.OfNodes.{AreOfNode}
+use Rattle.lg_sela_values.proofs.ItemLemmas.{settled-ones}
+use Rattle.lg_sela_values.proofs.OfNodesLemmas.{items-are-node-code, items-are-in-code}
+use Rattle.lg_sela.specs.Memory.Accesses.{load_code, store_code}
+use Rattle.lg_sela.specs.Memory.ArgumentCode.{argument_code}
+use Rattle.lg_sela.specs.Memory.PushCode.{push_code}
+use Rattle.lg_sela.specs.Memory.VariableArgumentCode.{next_argument_code}
+use Rattle.lg_sela.proofs.OfMemory.FitLemmas.{memory-items-fit}
+use Rattle.lg_sela.proofs.OfMemory.MemoryNodeLemmas.{memory-is-carried}
 use Rattle.lg_sela_values.specs.ValueItems.{value_needs, value_items}
 use Rattle.lg_sela_values.proofs.ValueFitLemmas.{value-items-fit}
 use Rattle.lg_sela_values.proofs.ValueNodeLemmas.{value-nodes-carry}

@@ -8,10 +8,10 @@ use Rattle.lg_op.specs.declared.op.PlainOp.TheVariants as plain
 use Rattle.lg_op.specs.declared.operand.Operand.{Operand}
 use Rattle.lg_op.specs.declared.operand.Operand.TheVariants as operand
 use Rattle.lg_sel.proofs.PlaceLemmas.{remainder, and-first}
-use Rattle.lg_sel_items.specs.declared.reach.Reach.{Reach}
-use Rattle.lg_sela_control.specs.Alignments.{padding, idle}
-use Rattle.lg_sela_control.specs.ControlItems.{align_items, control_items}
-use Rattle.lg_sela_items.specs.Items.{ones}
+use Rattle.lg_sel.specs.declared.reach.Reach.{Reach}
+use Rattle.lg_sela.specs.Control.Alignments.{padding, idle}
+use Rattle.lg_sela.specs.Control.ControlItems.{align_items, control_items}
+use Rattle.lg_sela_values.specs.Items.{ones}
 
 same-padding : (p n : ℕ) → is_alignment n ≡ true → padding (code_base + p) n ≡ padding p n
 same-padding p n h = ap (λ (r : ℕ). (n - r) % n / 4) (remainder p n h)

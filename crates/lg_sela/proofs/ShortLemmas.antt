@@ -12,9 +12,9 @@ use Rattle.lg_buf.specs.declared.fixes.Fix.{Fix}
 use Rattle.lg_buf.specs.declared.fixes.FixKind.TheVariants.{A64Branch26, A64Cond19}
 use Rattle.lg_carry.specs.Blocks.{spellings}
 use Rattle.lg_carry.specs.FinalNodes.{Code}
-use Rattle.lg_carry_a64.specs.A64Rows.{link, zero_register}
-use Rattle.lg_carry_a64.specs.Numbers.{quarter_code, positive_code, negative_code, number_code}
-use Rattle.lg_carry_a64.proofs.ComputerLemmas.{spellings-long}
+use Rattle.lg_sela_values.specs.Processor.A64Rows.{link, zero_register}
+use Rattle.lg_sela_values.specs.Processor.Numbers.{quarter_code, positive_code, negative_code, number_code}
+use Rattle.lg_sela_values.proofs.OfProcessor.ComputerLemmas.{spellings-long}
 use Rattle.lg_op.specs.Forms.{admit, admits, forms_of, last_form}
 use Rattle.lg_op.specs.declared.form.Form.TheVariants as form
 use Rattle.lg_op.specs.declared.op.BranchSumOp.{BranchSumOp}
@@ -40,22 +40,22 @@ use Rattle.lg_sel.proofs.FinishedLemmas.{items-lead}
 use Rattle.lg_sel.specs.Finished.{AreAppended}
 use Rattle.lg_sel.specs.Selected.{IsFinished, part_of}
 use Rattle.lg_sel.specs.Shorts.{a64_is_relative, LeadsBy, IsShortBranchIf, IsShort, IsBranchIfAhead, IsAhead}
-use Rattle.lg_sel_control.proofs.ControlLemmas.{differ, never, never-sum}
-use Rattle.lg_sel_items.specs.Holes.{Each}
-use Rattle.lg_sel_items.proofs.ListLemmas.{each-append}
-use Rattle.lg_sel_items.specs.Reaches.{near_size, may_wait, Leads, LeadsTo, IsLeast, IsLeastAhead}
-use Rattle.lg_sel_items.specs.declared.reach.Reach.{Reach}
-use Rattle.lg_sel_items.specs.declared.reach.Reach.TheVariants.{Short, Near, Far}
-use Rattle.lg_sela_control.proofs.ControlLemmas.{second-is, compared-is, branch-settled}
+use Rattle.lg_sel.proofs.OfControl.ControlLemmas.{differ, never, never-sum}
+use Rattle.lg_sel.specs.Holes.{Each}
+use Rattle.lg_sel.proofs.ListLemmas.{each-append}
+use Rattle.lg_sel.specs.Reaches.{near_size, may_wait, Leads, LeadsTo, IsLeast, IsLeastAhead}
+use Rattle.lg_sel.specs.declared.reach.Reach.{Reach}
+use Rattle.lg_sel.specs.declared.reach.Reach.TheVariants.{Short, Near, Far}
+use Rattle.lg_sela.proofs.OfControl.ControlLemmas.{second-is, compared-is, branch-settled}
 use Rattle.lg_sela_values.specs.BinaryCode.{is_small}
-use Rattle.lg_sela_control.specs.Branches.{comparison, is_held, number_comparison, taken, turned}
-use Rattle.lg_sela_control.specs.ControlItems.{second_register, comparing, leads_items, branch_if_items, branch_items, sum_items, control_items}
-use Rattle.lg_sela_control.specs.SumBranches.{sum_instruction, sum_taken}
-use Rattle.lg_sela_control.specs.TwoWays.{second_code, compared_code, leads_if}
-use Rattle.lg_sela_items.proofs.ItemLemmas.{words-ones, ones-append, fixes-append, fixes-ones}
-use Rattle.lg_sela_items.proofs.PatchLemmas.{are-holes}
-use Rattle.lg_sela_items.specs.Items.{a64_holes, words_between, IsItem, AreItems, bytes_in, settled, fixes_of, ones}
-use Rattle.lg_sela_items.specs.declared.items.Item.{Item}
+use Rattle.lg_sela.specs.Control.Branches.{comparison, is_held, number_comparison, taken, turned}
+use Rattle.lg_sela.specs.Control.ControlItems.{second_register, comparing, leads_items, branch_if_items, branch_items, sum_items, control_items}
+use Rattle.lg_sela.specs.Control.SumBranches.{sum_instruction, sum_taken}
+use Rattle.lg_sela.specs.Control.TwoWays.{second_code, compared_code, leads_if}
+use Rattle.lg_sela_values.proofs.ItemLemmas.{words-ones, ones-append, fixes-append, fixes-ones}
+use Rattle.lg_sela_values.proofs.PatchLemmas.{are-holes}
+use Rattle.lg_sela_values.specs.Items.{a64_holes, words_between, IsItem, AreItems, bytes_in, settled, fixes_of, ones}
+use Rattle.lg_sela_values.specs.declared.items.Item.{Item}
 use Rattle.lg_temp.specs.Abis.{register_of}
 
 -- ---- instructions that do not count from their own place

@@ -10,8 +10,8 @@ use Rattle.lg_a64.specs.declared.instruction.UnscaledOp.TheVariants.{Ldur, Stur}
 use Rattle.lg_base.specs.HostNames.{host_address}
 use Rattle.lg_base.specs.Words.{negated}
 use Rattle.lg_base.specs.declared.target.Target.TheVariants.{Aarch64}
-use Rattle.lg_carry_a64.specs.A64Rows.{frame_pointer, link, zero_register, slot_offset}
-use Rattle.lg_carry_a64.specs.Numbers.{number_code}
+use Rattle.lg_sela_values.specs.Processor.A64Rows.{frame_pointer, link, zero_register, slot_offset}
+use Rattle.lg_sela_values.specs.Processor.Numbers.{number_code}
 use Rattle.lg_op.specs.declared.node.Node.{Node}
 use Rattle.lg_op.specs.declared.op.BinaryOp.{BinaryOp}
 use Rattle.lg_op.specs.declared.op.BinaryOp.TheVariants as binary
@@ -28,14 +28,14 @@ use Rattle.lg_op.specs.declared.operand.Operand.TheVariants as operand
 use Rattle.lg_sel.proofs.LabelLemmas.{Passes, AllPass, passes-at}
 use Rattle.lg_sel.proofs.StoreLemmas as stores
 use Rattle.lg_sel.specs.Stores.{a64_stores}
-use Rattle.lg_sel_items.specs.declared.reach.Reach.{Reach}
+use Rattle.lg_sel.specs.declared.reach.Reach.{Reach}
 use Rattle.lg_sela.proofs.Emissions.{NoneStores, number-none, Emits, none, append, more, instructions, plain, number, address, behind}
-use Rattle.lg_sela_items.specs.Items.{ones}
-use Rattle.lg_sela_items.specs.declared.items.Item.{Item}
+use Rattle.lg_sela_values.specs.Items.{ones}
+use Rattle.lg_sela_values.specs.declared.items.Item.{Item}
 use Rattle.lg_sela_values.specs.BinaryCode.{register_code, second_register, loaded_code, is_small, takes_small, small_code, takes_negative, negative_code, negative_form_code, small_form_code, number_form_code}
-use Rattle.lg_sel_values.specs.ValueNodes.{extension}
+use Rattle.lg_carry.specs.Values.ValueNodes.{extension}
 use Rattle.lg_sela_values.specs.UnaryCode.{unary_code, retval_code}
-use Rattle.lg_sel_values.specs.Parts.{operand_in, first_taken}
+use Rattle.lg_carry.specs.Values.Parts.{operand_in, first_taken}
 use Rattle.lg_sela_values.specs.ValueItems.{load_items, binary_items, wide_items, register_in, body_items, saved_items, value_items}
 use Rattle.lg_sela_values.specs.WideCode.{wide_code, product_by_link, quotient_by_link, wide_by_link}
 use Rattle.lg_temp.specs.Abis.{register_of}

@@ -3,14 +3,14 @@ use Rattle.std.specs.Prelude.{ℕ, Bool, List}
 use Rattle.lg_op.specs.declared.node.Node.{Node}
 use Rattle.lg_sel.specs.Families.{Families}
 use Rattle.lg_sel.specs.Families as families
-use Rattle.lg_sel_items.specs.declared.reach.Reach.{Reach}
-use Rattle.lg_sela_control.specs.ControlItems.{control_items}
-use Rattle.lg_sela_items.specs.declared.items.Item.{Item}
-use Rattle.lg_sela_items.specs.Items.{ones}
-use Rattle.lg_sela_memory.specs.Accesses.{load_code, store_code}
-use Rattle.lg_sela_memory.specs.ArgumentCode.{argument_code}
-use Rattle.lg_sela_memory.specs.PushCode.{push_code}
-use Rattle.lg_sela_memory.specs.VariableArgumentCode.{next_argument_code}
+use Rattle.lg_sel.specs.declared.reach.Reach.{Reach}
+use Rattle.lg_sela.specs.Control.ControlItems.{control_items}
+use Rattle.lg_sela_values.specs.declared.items.Item.{Item}
+use Rattle.lg_sela_values.specs.Items.{ones}
+use Rattle.lg_sela.specs.Memory.Accesses.{load_code, store_code}
+use Rattle.lg_sela.specs.Memory.ArgumentCode.{argument_code}
+use Rattle.lg_sela.specs.Memory.PushCode.{push_code}
+use Rattle.lg_sela.specs.Memory.VariableArgumentCode.{next_argument_code}
 use Rattle.lg_sela_values.specs.ValueItems.{value_items}
 use Rattle.lg_temp.specs.declared.choice.Choice.{Choice}
 

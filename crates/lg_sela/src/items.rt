@@ -6,19 +6,18 @@ ghost use Rattle.lg_op.specs.Nodes.{InForm};
 ghost use Rattle.lg_sela.specs.Items.{node_items};
 ghost use Rattle.lg_sel.specs.Selected.{IsFrame, AreFirst, is_pusharg};
 ghost use Rattle.lg_sela.specs.Selected.{AreChosen};
-ghost use Rattle.lg_sela_items.specs.Items.{words_in};
-ghost use Rattle.lg_sel_values.specs.Parts.{HaveSlots};
+ghost use Rattle.lg_sela_values.specs.Items.{words_in};
+ghost use Rattle.lg_carry.specs.Values.Parts.{HaveSlots};
 
+use crate::control::put_control;
+use crate::memory::{put_argument, put_getarg, put_load, put_next_argument, put_store};
 use lg_buf::CodeBuf;
-use lg_live::reg_set::RegSet;
+use lg_live::RegSet;
 use lg_op::{ControlOp, Node, Op, PlainOp};
 use lg_sel::operands::staged_count;
-use lg_sel_items::{Items, Reach};
-use lg_sela_control::put_control;
-use lg_sela_items::Item;
-use lg_sela_memory::{put_argument, put_getarg, put_load, put_next_argument, put_store};
-use lg_sela_values::value_items;
-use lg_temp::choice::{Choices, Staged};
+use lg_sel::{Items, Reach};
+use lg_sela_values::{Item, value_items};
+use lg_temp::{Choices, Staged};
 
 // Appends the items of a node with a reach to none. Its code begins at a place of the buffer.
 fn put_items(

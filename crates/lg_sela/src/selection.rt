@@ -3,7 +3,7 @@
 ghost use Rattle.std.specs.Prelude.{◌≡◌, ◌+◌, ◌%◌, ◌<◌, ◌≤◌, ◌++◌, true, false, drop, length, IsTrue};
 ghost use Rattle.std.specs.List.{All};
 ghost use Rattle.lg_node.specs.Functions.{is_prolog};
-ghost use Rattle.lg_sel_nodes.specs.Operands.{NameBelow};
+ghost use Rattle.lg_carry.specs.Nodes.Operands.{NameBelow};
 ghost use Rattle.lg_op.specs.Nodes.{InForm};
 ghost use Rattle.lg_live.specs.RegSets.{has};
 ghost use Rattle.lg_sel.specs.Selected.{IsFrame, AreFirst, is_pusharg, TakesLabelsWell, IsAligned, IsFixOf};
@@ -13,12 +13,11 @@ ghost use Rattle.lg_base.specs.declared.target.Target.{Target};
 
 use crate::items::items_by;
 use lg_buf::CodeBuf;
-use lg_live::reg_set::RegSet;
+use lg_live::RegSet;
 use lg_op::Node;
 use lg_sel::operands::see_numbers;
-use lg_sel::shortest_items;
-use lg_sel_items::append;
-use lg_temp::choice::{Choices, Staged};
+use lg_sel::{append, shortest_items};
+use lg_temp::{Choices, Staged};
 
 /// Appends the code of a node to a buffer, or answers false and changes nothing, which it does only where fewer than 256 bytes are free.
 ///

@@ -6,7 +6,7 @@ ghost use Rattle.lg_sela_values.specs.ValueItems.{value_needs};
 ghost use Rattle.lg_temp.specs.Chosen.{is_named};
 
 use lg_op::{BinaryOp, LastOperand, Node, Op};
-use lg_temp::choice::{Need, Needs};
+use lg_temp::{Need, Needs};
 
 /// What the temporaries of a node's code need: one register that is any, at the remainders by an immediate, and none elsewhere. No need
 /// names a register.

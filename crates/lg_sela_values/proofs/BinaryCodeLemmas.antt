@@ -6,9 +6,9 @@ use Rattle.lg_base.specs.Words.{add_words, mul_words, sub_words, quotient, quoti
 use Rattle.lg_base.specs.declared.target.Target.TheVariants.{Aarch64}
 use Rattle.lg_op.specs.declared.op.BinaryOp.{BinaryOp}
 use Rattle.lg_op.specs.declared.op.BinaryOp.TheVariants as binary
-use Rattle.lg_operators.specs.Operators.{binary_value, is_carried, divides, is_least_by_minus_one, word_where, carry_in, carried_value}
-use Rattle.lg_operators.specs.declared.carry.Carry.{Carry}
-use Rattle.lg_operators.specs.declared.carry.Carry.TheVariants as carry
+use Rattle.lg_op.specs.Operators.{binary_value, is_carried, divides, is_least_by_minus_one, word_where, carry_in, carried_value}
+use Rattle.lg_op.specs.declared.carry.Carry.{Carry}
+use Rattle.lg_op.specs.declared.carry.Carry.TheVariants as carry
 use Rattle.lg_meaning.specs.Steps.{bit_word}
 use Rattle.lg_a64.specs.declared.instruction.RegOp.TheVariants as row
 use Rattle.lg_a64.specs.declared.instruction.Cond.{Cond}
@@ -16,10 +16,10 @@ use Rattle.lg_cpu.specs.HostSteps.{put}
 use Rattle.lg_cpu.specs.A64Operators.{reg_value, divided, divided_signed, difference_flags, sum_flags, csinc_value, condition_holds, sum_of, difference_of, carry_word, borrow_word}
 use Rattle.lg_cpu.specs.A64Step.{read, write}
 use Rattle.lg_carry.specs.Registers.{HoldsCarry}
-use Rattle.lg_sel_values.specs.Computers.{Held}
-use Rattle.lg_sel_values.specs.Values.{HoldsCarried}
-use Rattle.lg_carry_a64.specs.Computations.{carry_or_false, known, all_compute, computed}
-use Rattle.lg_carry_a64.proofs.HeldLemmas.{read-is, write-is, put-same, put-other}
+use Rattle.lg_carry.specs.Values.Computers.{Held}
+use Rattle.lg_carry.specs.Values.Values.{HoldsCarried}
+use Rattle.lg_sela_values.specs.Processor.Computations.{carry_or_false, known, all_compute, computed}
+use Rattle.lg_sela_values.proofs.OfProcessor.HeldLemmas.{read-is, write-is, put-same, put-other}
 use Rattle.lg_sela_values.specs.BinaryCode.{failing, register_code}
 use Rattle.lg_sela_values.proofs.DivisionLemmas.{left-over, left-over-signed}
 use Rattle.lg_sela_values.proofs.FlagLemmas.{holds-lt, holds-ge, holds-gt, holds-le, holds-cc, holds-cs, holds-hi, holds-ls, holds-eq, holds-ne, test-word, test-word-not, difference-same}

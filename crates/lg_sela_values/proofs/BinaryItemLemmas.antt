@@ -20,15 +20,15 @@ use Rattle.lg_temp.specs.declared.choice.Choice.{Choice}
 use Rattle.lg_temp.specs.declared.choice.Need.TheVariants.{Any}
 use Rattle.lg_carry.specs.FinalNodes.{Code}
 use Rattle.lg_carry.specs.TextNodes.{IsInText}
-use Rattle.lg_sel_nodes.specs.Straight.{is_taken}
-use Rattle.lg_sel_nodes.proofs.RegisterLemmas.{same-self}
-use Rattle.lg_sel_values.specs.ValueNodes.{binary_node}
-use Rattle.lg_carry_a64.specs.A64Computers.{IsComputed}
-use Rattle.lg_carry_a64.proofs.RegisterLemmas.{register-small, register-off-link}
-use Rattle.lg_sela_items.specs.Items.{ones}
+use Rattle.lg_carry.specs.Nodes.Straight.{is_taken}
+use Rattle.lg_carry.proofs.OfNodes.RegisterLemmas.{same-self}
+use Rattle.lg_carry.specs.Values.ValueNodes.{binary_node}
+use Rattle.lg_sela_values.specs.Processor.A64Computers.{IsComputed}
+use Rattle.lg_sela_values.proofs.OfProcessor.RegisterLemmas.{register-small, register-off-link}
+use Rattle.lg_sela_values.specs.Items.{ones}
 use Rattle.lg_sela_values.specs.BinaryCode.{register_code, second_register, number_form_code}
 use Rattle.lg_sela_values.specs.ValueItems.{value_needs, load_items, binary_items}
-use Rattle.lg_sel_nodes.specs.Operands.{IsWord}
+use Rattle.lg_carry.specs.Nodes.Operands.{IsWord}
 use Rattle.lg_sela_values.proofs.BinaryCodeLemmas.{some-same, IsApartFor}
 use Rattle.lg_sela_values.proofs.ImmediateLemmas.{is-load}
 use Rattle.lg_sela_values.proofs.MadeLemmas.{Makes, made-computes, register-makes, loaded-makes}

@@ -4,10 +4,10 @@ use Rattle.lg_base.specs.HostNames.{host_address}
 use Rattle.lg_op.specs.declared.operand.Operand.{Operand}
 use Rattle.lg_op.specs.declared.operand.Operand.TheVariants as operand
 use Rattle.lg_a64.specs.declared.instruction.Instr.{Instr}
-use Rattle.lg_sela_items.specs.declared.items.Item.{Item}
-use Rattle.lg_sela_items.specs.Items.{words_in, ones}
-use Rattle.lg_sela_items.proofs.ItemLemmas.{words_append, ones-append}
-use Rattle.lg_sela_items.proofs.NumberItemLemmas.{number_words}
+use Rattle.lg_sela_values.specs.declared.items.Item.{Item}
+use Rattle.lg_sela_values.specs.Items.{words_in, ones}
+use Rattle.lg_sela_values.proofs.ItemLemmas.{words_append, ones-append}
+use Rattle.lg_sela_values.proofs.NumberItemLemmas.{number_words}
 use Rattle.lg_sela_values.specs.ValueItems.{load_items}
 
 pub ones_twice : (xs : List Item) (is js : List Instr) → (xs ++ ones is) ++ ones js ≡ xs ++ ones (is ++ js)

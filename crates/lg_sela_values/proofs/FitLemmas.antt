@@ -22,19 +22,19 @@ use Rattle.lg_a64.specs.declared.instruction.MulAddOp.TheVariants.{Madd, Msub}
 use Rattle.lg_a64.specs.declared.instruction.RegOp.{RegOp}
 use Rattle.lg_a64.specs.declared.instruction.RegOp.TheVariants as row
 use Rattle.lg_temp.specs.Abis.{register_of}
-use Rattle.lg_carry_a64.specs.A64Rows.{link}
-use Rattle.lg_carry_a64.specs.Numbers.{number_code}
-use Rattle.lg_carry_a64.proofs.RegisterLemmas.{register-small}
-use Rattle.lg_sel_items.specs.Holes.{Each}
-use Rattle.lg_sela_items.specs.Items.{ones}
-use Rattle.lg_sela_items.specs.GoodItems.{Fine, AreGood, IsGoodItem}
-use Rattle.lg_sela_items.proofs.WithinLemmas.{portable}
-use Rattle.lg_sela_items.proofs.GoodLemmas.{good-append, link-fine, number-good, ones-good, items-good}
+use Rattle.lg_sela_values.specs.Processor.A64Rows.{link}
+use Rattle.lg_sela_values.specs.Processor.Numbers.{number_code}
+use Rattle.lg_sela_values.proofs.OfProcessor.RegisterLemmas.{register-small}
+use Rattle.lg_sel.specs.Holes.{Each}
+use Rattle.lg_sela_values.specs.Items.{ones}
+use Rattle.lg_sela_values.specs.GoodItems.{Fine, AreGood, IsGoodItem}
+use Rattle.lg_sela_values.proofs.WithinLemmas.{portable}
+use Rattle.lg_sela_values.proofs.GoodLemmas.{good-append, link-fine, number-good, ones-good, items-good}
 use Rattle.lg_sela_values.specs.BinaryCode.{register_code, second_register, loaded_code, is_small, takes_small, small_code, takes_negative, negative_code, negative_form_code, small_form_code, number_form_code}
-use Rattle.lg_sel_values.specs.ValueNodes.{extension}
+use Rattle.lg_carry.specs.Values.ValueNodes.{extension}
 use Rattle.lg_sela_values.specs.UnaryCode.{unary_code, retval_code}
 use Rattle.lg_sela_values.specs.WideCode.{product_by_link, quotient_by_link, wide_code, wide_by_link}
-use Rattle.lg_sel_values.specs.Parts.{register_for, operand_in}
+use Rattle.lg_carry.specs.Values.Parts.{register_for, operand_in}
 use Rattle.lg_sela_values.specs.ValueItems.{load_items, binary_items, wide_items, register_in, body_items}
 
 -- ---- two registers

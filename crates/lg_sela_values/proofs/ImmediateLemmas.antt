@@ -14,14 +14,14 @@ use Rattle.lg_a64.specs.declared.instruction.WideOp.TheVariants.{Movz, Movk}
 use Rattle.lg_cpu.specs.A64Operators.{replaced}
 use Rattle.lg_cpu.specs.HostSteps.{put}
 use Rattle.lg_meaning.specs.States.{State, value}
-use Rattle.lg_sel_values.specs.Computers.{Held}
-use Rattle.lg_carry_a64.specs.Computations.{holding, computed}
-use Rattle.lg_carry_a64.specs.Numbers.{number_code}
-use Rattle.lg_carry_a64.proofs.NumberCodeLemmas.{first, more}
-use Rattle.lg_sela_items.specs.Items.{low_quarter, next_quarter, settled}
-use Rattle.lg_sela_items.proofs.ItemLemmas.{settled-ones}
+use Rattle.lg_carry.specs.Values.Computers.{Held}
+use Rattle.lg_sela_values.specs.Processor.Computations.{holding, computed}
+use Rattle.lg_sela_values.specs.Processor.Numbers.{number_code}
+use Rattle.lg_sela_values.proofs.OfProcessor.NumberCodeLemmas.{first, more}
+use Rattle.lg_sela_values.specs.Items.{low_quarter, next_quarter, settled}
+use Rattle.lg_sela_values.proofs.ItemLemmas.{settled-ones}
 use Rattle.lg_sela_values.specs.ValueItems.{load_items}
-use Rattle.lg_sel_nodes.specs.Operands.{IsWord}
+use Rattle.lg_carry.specs.Nodes.Operands.{IsWord}
 use Rattle.lg_sela_values.proofs.LoadCodeLemmas.{LoadsWord, loads-number}
 
 address-made : (v : ℕ) → v < 2 ^ 30 → replaced (low_quarter v * 1) (2 ^ 16) (next_quarter v) ≡ v

@@ -5,10 +5,17 @@ pub mod DivisionLemmas
 pub mod EmissionLemmas
 pub mod FitLemmas
 pub mod FlagLemmas
+pub mod GoodLemmas
 pub mod ImmediateLemmas
+pub mod ItemLemmas
+pub mod ItemWordLemmas
 pub mod LoadCodeLemmas
 pub mod MadeLemmas
 pub mod NumberFormLemmas
+pub mod NumberItemLemmas
+pub mod OfNodesLemmas
+pub mod OfProcessor
+pub mod PatchLemmas
 pub mod PlainItemLemmas
 pub mod SettledLemmas
 pub mod ShiftLemmas
@@ -21,4 +28,5 @@ pub mod ValueNodeLemmas
 pub mod WideCodeLemmas
 pub mod WideLinkLemmas
 pub mod WideNodeLemmas
+pub mod WithinLemmas
 pub mod WordLemmas

@@ -3,11 +3,11 @@ use Rattle.std.proofs.Common.{◌≡◌, ℕ, ◌^◌, ◌<◌, Bool, true, fals
 use Rattle.std.specs.Prelude.{◌==◌, ◌&&◌, if◌then◌else◌}
 use Rattle.lg_a64.specs.declared.instruction.Instr.{Instr}
 use Rattle.lg_cpu.specs.HostSteps.{put}
-use Rattle.lg_sel_values.specs.Computers.{Held}
-use Rattle.lg_sel_values.proofs.ComputationLemmas.{and-true}
-use Rattle.lg_carry_a64.specs.Computations.{computes, all_compute, holding, computed}
-use Rattle.lg_carry_a64.specs.Numbers.{number_code, LoadsNumber}
-use Rattle.lg_carry_a64.proofs.NumberCodeLemmas.{numbers-are-loaded}
+use Rattle.lg_carry.specs.Values.Computers.{Held}
+use Rattle.lg_carry.proofs.OfValues.ComputationLemmas.{and-true}
+use Rattle.lg_sela_values.specs.Processor.Computations.{computes, all_compute, holding, computed}
+use Rattle.lg_sela_values.specs.Processor.Numbers.{number_code, LoadsNumber}
+use Rattle.lg_sela_values.proofs.OfProcessor.NumberCodeLemmas.{numbers-are-loaded}
 
 pub put-small : (w : ℕ → ℕ) (t v : ℕ) → v < 2 ^ 64 → ((r : ℕ) → w r < 2 ^ 64) → (r : ℕ) → put w t v r < 2 ^ 64
 put-small w t v small words r = by (r == t)

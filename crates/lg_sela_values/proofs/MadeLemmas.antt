@@ -7,8 +7,8 @@ use Rattle.lg_op.specs.declared.op.LastOperand.{LastOperand}
 use Rattle.lg_op.specs.declared.operand.Operand.{Operand}
 use Rattle.lg_op.specs.declared.operand.Reg.{Reg}
 use Rattle.lg_op.specs.declared.operand.Reg.TheVariants.{Fp}
-use Rattle.lg_operators.specs.declared.carry.Carry.{Carry}
-use Rattle.lg_operators.specs.Operators.{binary_value, is_carried, carry_in}
+use Rattle.lg_op.specs.declared.carry.Carry.{Carry}
+use Rattle.lg_op.specs.Operators.{binary_value, is_carried, carry_in}
 use Rattle.lg_meaning.specs.States.{State, value}
 use Rattle.lg_meaning.specs.Steps.{bit_word}
 use Rattle.lg_a64.specs.declared.instruction.Instr.{Instr}
@@ -18,17 +18,17 @@ use Rattle.lg_temp.specs.Abis.{register_of}
 use Rattle.lg_carry.specs.FinalNodes.{Code}
 use Rattle.lg_carry.specs.Registers.{HoldsCarry}
 use Rattle.lg_carry.specs.TextNodes.{IsInText}
-use Rattle.lg_sel_nodes.specs.Straight.{is_taken}
-use Rattle.lg_sel_values.specs.Computers.{Held, HeldRead}
-use Rattle.lg_sel_values.specs.ValueNodes.{binary_node}
-use Rattle.lg_sel_values.specs.Values.{HoldsCarried}
-use Rattle.lg_sel_values.proofs.ComputationLemmas.{computed-append}
-use Rattle.lg_sel_values.proofs.OneResultLemmas.{binary-nodes-compute, carried-nodes-compute}
-use Rattle.lg_carry_a64.specs.A64Computers.{a64_scratch, a64_computer, IsComputed}
-use Rattle.lg_carry_a64.specs.A64Rows.{link}
-use Rattle.lg_carry_a64.specs.Computations.{all_compute, holding, computed_by, computed}
-use Rattle.lg_carry_a64.proofs.ComputerLemmas.{into, carry-stays}
-use Rattle.lg_carry_a64.proofs.HeldLemmas.{put-same, put-other}
+use Rattle.lg_carry.specs.Nodes.Straight.{is_taken}
+use Rattle.lg_carry.specs.Values.Computers.{Held, HeldRead}
+use Rattle.lg_carry.specs.Values.ValueNodes.{binary_node}
+use Rattle.lg_carry.specs.Values.Values.{HoldsCarried}
+use Rattle.lg_carry.proofs.OfValues.ComputationLemmas.{computed-append}
+use Rattle.lg_carry.proofs.OfValues.OneResultLemmas.{binary-nodes-compute, carried-nodes-compute}
+use Rattle.lg_sela_values.specs.Processor.A64Computers.{a64_scratch, a64_computer, IsComputed}
+use Rattle.lg_sela_values.specs.Processor.A64Rows.{link}
+use Rattle.lg_sela_values.specs.Processor.Computations.{all_compute, holding, computed_by, computed}
+use Rattle.lg_sela_values.proofs.OfProcessor.ComputerLemmas.{into, carry-stays}
+use Rattle.lg_sela_values.proofs.OfProcessor.HeldLemmas.{put-same, put-other}
 use Rattle.lg_sela_values.specs.BinaryCode.{register_code}
 use Rattle.lg_sela_values.proofs.BinaryCodeLemmas.{IsApartFor, register-value, carried-holds, register-keeps, register-computes, register-some}
 use Rattle.lg_sela_values.proofs.LoadCodeLemmas.{put-small, all-compute-append, longer, LoadsWord}

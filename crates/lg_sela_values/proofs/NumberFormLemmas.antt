@@ -4,7 +4,7 @@ use Rattle.std.specs.Prelude.{if◌then◌else◌}
 use Rattle.lg_base.specs.Words.{negated}
 use Rattle.lg_op.specs.declared.op.BinaryOp.{BinaryOp}
 use Rattle.lg_op.specs.declared.op.BinaryOp.TheVariants as binary
-use Rattle.lg_operators.specs.Operators.{binary_value, is_carried}
+use Rattle.lg_op.specs.Operators.{binary_value, is_carried}
 use Rattle.lg_a64.specs.declared.instruction.Instr.{Instr}
 use Rattle.lg_a64.specs.declared.instruction.Instr.TheVariants.{Bitfield}
 use Rattle.lg_a64.specs.declared.instruction.BitfieldOp.{BitfieldOp}
@@ -12,10 +12,10 @@ use Rattle.lg_a64.specs.declared.instruction.BitfieldOp.TheVariants.{Sbfm, Ubfm}
 use Rattle.lg_cpu.specs.A64Operators.{bitfield_value}
 use Rattle.lg_cpu.specs.A64Step.{read}
 use Rattle.lg_temp.specs.declared.choice.Choice.{Choice}
-use Rattle.lg_sel_nodes.specs.Straight.{is_taken}
-use Rattle.lg_sel_values.specs.Computers.{Held}
-use Rattle.lg_carry_a64.specs.A64Rows.{link}
-use Rattle.lg_carry_a64.proofs.HeldLemmas.{read-is}
+use Rattle.lg_carry.specs.Nodes.Straight.{is_taken}
+use Rattle.lg_carry.specs.Values.Computers.{Held}
+use Rattle.lg_sela_values.specs.Processor.A64Rows.{link}
+use Rattle.lg_sela_values.proofs.OfProcessor.HeldLemmas.{read-is}
 use Rattle.lg_sela_values.specs.BinaryCode.{second_register, loaded_code, is_small, takes_small, small_code, takes_negative, negative_code, negative_form_code, small_form_code, number_form_code}
 use Rattle.lg_sela_values.proofs.BinaryCodeLemmas.{IsApartFor, write-same, write-other, some-same}
 use Rattle.lg_sela_values.proofs.LoadCodeLemmas.{loads-number}

@@ -5,16 +5,16 @@ use Rattle.lg_base.specs.Words.{add_words, sub_words, negated, is_less, is_less_
 use Rattle.lg_base.specs.declared.target.Target.TheVariants.{Aarch64}
 use Rattle.lg_op.specs.declared.op.BinaryOp.{BinaryOp}
 use Rattle.lg_op.specs.declared.op.BinaryOp.TheVariants as binary
-use Rattle.lg_operators.specs.declared.carry.Carry.{Carry}
-use Rattle.lg_operators.specs.Operators.{binary_value, is_carried, carry_in}
+use Rattle.lg_op.specs.declared.carry.Carry.{Carry}
+use Rattle.lg_op.specs.Operators.{binary_value, is_carried, carry_in}
 use Rattle.lg_meaning.specs.Steps.{bit_word}
 use Rattle.lg_a64.specs.declared.instruction.Cond.{Cond}
 use Rattle.lg_cpu.specs.A64Operators.{difference_flags, difference_of, csinc_value, condition_holds}
 use Rattle.lg_cpu.specs.A64Step.{write}
-use Rattle.lg_sel_values.specs.Computers.{Held}
-use Rattle.lg_sel_values.specs.Values.{HoldsCarried}
-use Rattle.lg_carry_a64.specs.Computations.{all_compute, computed}
-use Rattle.lg_carry_a64.proofs.HeldLemmas.{put-same, put-other}
+use Rattle.lg_carry.specs.Values.Computers.{Held}
+use Rattle.lg_carry.specs.Values.Values.{HoldsCarried}
+use Rattle.lg_sela_values.specs.Processor.Computations.{all_compute, computed}
+use Rattle.lg_sela_values.proofs.OfProcessor.HeldLemmas.{put-same, put-other}
 use Rattle.lg_sela_values.specs.BinaryCode.{failing, takes_small, small_code, takes_negative, negative_code}
 use Rattle.lg_sela_values.proofs.BinaryCodeLemmas.{some-same, write-same, write-other}
 use Rattle.lg_sela_values.proofs.FlagLemmas.{holds-lt, holds-ge, holds-gt, holds-le, holds-cc, holds-cs, holds-hi, holds-ls, holds-eq, holds-ne, test-word, test-word-not, difference-same}

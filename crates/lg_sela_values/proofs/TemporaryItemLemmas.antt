@@ -25,17 +25,17 @@ use Rattle.lg_carry.specs.FinalNodes.{Code}
 use Rattle.lg_carry.specs.NodeCode.{numbered, CarriesNode}
 use Rattle.lg_carry.specs.TextNodes.{IsInText}
 use Rattle.lg_carry.proofs.TemporariesApartLemmas.{none-stood-for, tried-spare}
-use Rattle.lg_sel_nodes.specs.Straight.{is_taken}
-use Rattle.lg_sel_nodes.proofs.RegisterLemmas.{stands-for, number-few, numbered-at, same-self}
-use Rattle.lg_sel_values.specs.ValueNodes.{binary_node}
-use Rattle.lg_sel_values.proofs.ResultLemmas.{or-middle}
-use Rattle.lg_carry_a64.specs.A64Rows.{a64_processor, can_save}
-use Rattle.lg_carry_a64.specs.Places.{IsInCode}
-use Rattle.lg_carry_a64.proofs.IsaLemmas.{tried-saved}
-use Rattle.lg_carry_a64.proofs.RegisterLemmas.{register-small}
-use Rattle.lg_sela_items.specs.Items.{settled}
+use Rattle.lg_carry.specs.Nodes.Straight.{is_taken}
+use Rattle.lg_carry.proofs.OfNodes.RegisterLemmas.{stands-for, number-few, numbered-at, same-self}
+use Rattle.lg_carry.specs.Values.ValueNodes.{binary_node}
+use Rattle.lg_carry.proofs.OfValues.ResultLemmas.{or-middle}
+use Rattle.lg_sela_values.specs.Processor.A64Rows.{a64_processor, can_save}
+use Rattle.lg_sela_values.specs.Processor.Places.{IsInCode}
+use Rattle.lg_sela_values.proofs.OfProcessor.IsaLemmas.{tried-saved}
+use Rattle.lg_sela_values.proofs.OfProcessor.RegisterLemmas.{register-small}
+use Rattle.lg_sela_values.specs.Items.{settled}
 use Rattle.lg_sela_values.specs.ValueItems.{body_items, value_items}
-use Rattle.lg_sel_nodes.specs.Operands.{AreWords}
+use Rattle.lg_carry.specs.Nodes.Operands.{AreWords}
 use Rattle.lg_sela_values.proofs.BinaryItemLemmas.{is-made, immediate-computes, is_remainder, one-needed, temporary-second}
 use Rattle.lg_sela_values.proofs.ComputedNodeLemmas.{computed-carries}
 use Rattle.lg_sela_values.proofs.SettledLemmas.{settles-saved, IsCarried}

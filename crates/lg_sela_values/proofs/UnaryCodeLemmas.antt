@@ -4,15 +4,15 @@ use Rattle.lg_base.specs.Wide.{sign_part_of, zero_part_of, swapped}
 use Rattle.lg_base.specs.Words.{sub_words, negated}
 use Rattle.lg_op.specs.declared.op.UnaryOp.{UnaryOp}
 use Rattle.lg_op.specs.declared.op.UnaryOp.TheVariants as unary
-use Rattle.lg_operators.specs.Operators.{unary_value}
+use Rattle.lg_op.specs.Operators.{unary_value}
 use Rattle.lg_a64.specs.declared.instruction.BitfieldOp.TheVariants.{Sbfm, Ubfm}
 use Rattle.lg_a64.specs.declared.instruction.ReverseOp.TheVariants.{Rev, Rev32, Rev16}
 use Rattle.lg_a64.specs.declared.instruction.RegOp.TheVariants as row
 use Rattle.lg_cpu.specs.A64Operators.{reg_value, bitfield_value, reverse_value}
 use Rattle.lg_cpu.specs.A64Step.{read, write}
-use Rattle.lg_sel_values.specs.Computers.{Held}
-use Rattle.lg_carry_a64.specs.Computations.{known, all_compute, computed}
-use Rattle.lg_carry_a64.proofs.HeldLemmas.{read-is}
+use Rattle.lg_carry.specs.Values.Computers.{Held}
+use Rattle.lg_sela_values.specs.Processor.Computations.{known, all_compute, computed}
+use Rattle.lg_sela_values.proofs.OfProcessor.HeldLemmas.{read-is}
 use Rattle.lg_sela_values.specs.UnaryCode.{unary_code}
 use Rattle.lg_sela_values.proofs.BinaryCodeLemmas.{write-same, write-other}
 

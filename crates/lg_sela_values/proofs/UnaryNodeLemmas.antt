@@ -8,21 +8,21 @@ use Rattle.lg_op.specs.declared.op.ValueType.{ValueType}
 use Rattle.lg_op.specs.declared.operand.Reg.{Reg}
 use Rattle.lg_op.specs.declared.operand.Reg.TheVariants.{Fp}
 use Rattle.lg_op.specs.declared.operand.Operand.{Operand}
-use Rattle.lg_operators.specs.Operators.{unary_value, keeps_carry}
+use Rattle.lg_op.specs.Operators.{unary_value, keeps_carry}
 use Rattle.lg_meaning.specs.States.{State, value}
 use Rattle.lg_a64.specs.declared.instruction.Instr.{Instr}
 use Rattle.lg_temp.specs.Abis.{register_of}
 use Rattle.lg_carry.specs.FinalNodes.{Code}
 use Rattle.lg_carry.specs.TextNodes.{IsInText}
-use Rattle.lg_sel_values.specs.ValueNodes.{unary_node, movi_node, va_start_node, retval_node, extension}
-use Rattle.lg_sel_values.specs.Values.{KeepsCarry}
-use Rattle.lg_sel_values.proofs.OneWordLemmas.{unary-nodes-compute, movi-nodes-compute, va-start-nodes-compute, retval-nodes-compute}
-use Rattle.lg_carry_a64.specs.A64Computers.{a64_scratch, a64_computer, IsComputed}
-use Rattle.lg_carry_a64.specs.Computations.{computed}
-use Rattle.lg_carry_a64.proofs.ComputerLemmas.{into, carry-stays, known-carry}
-use Rattle.lg_carry_a64.proofs.HeldLemmas.{put-same, put-other}
-use Rattle.lg_carry_a64.proofs.RegisterLemmas.{register-small}
-use Rattle.lg_sel_values.proofs.ValueNodeLemmas.{extends}
+use Rattle.lg_carry.specs.Values.ValueNodes.{unary_node, movi_node, va_start_node, retval_node, extension}
+use Rattle.lg_carry.specs.Values.Values.{KeepsCarry}
+use Rattle.lg_carry.proofs.OfValues.OneWordLemmas.{unary-nodes-compute, movi-nodes-compute, va-start-nodes-compute, retval-nodes-compute}
+use Rattle.lg_sela_values.specs.Processor.A64Computers.{a64_scratch, a64_computer, IsComputed}
+use Rattle.lg_sela_values.specs.Processor.Computations.{computed}
+use Rattle.lg_sela_values.proofs.OfProcessor.ComputerLemmas.{into, carry-stays, known-carry}
+use Rattle.lg_sela_values.proofs.OfProcessor.HeldLemmas.{put-same, put-other}
+use Rattle.lg_sela_values.proofs.OfProcessor.RegisterLemmas.{register-small}
+use Rattle.lg_carry.proofs.OfValues.ValueNodeLemmas.{extends}
 use Rattle.lg_sela_values.specs.UnaryCode.{unary_code, retval_code}
 use Rattle.lg_sela_values.proofs.LoadCodeLemmas.{LoadsWord}
 use Rattle.lg_sela_values.proofs.UnaryCodeLemmas.{unary-computed, unary-keeps, unary-computes, unary-some}

@@ -20,24 +20,24 @@ use Rattle.lg_temp.specs.declared.choice.Choice.TheVariants.{Free, Own, Spill}
 use Rattle.lg_temp.specs.Abis.{register_of}
 use Rattle.lg_temp.specs.Chosen.{Around, around, order}
 use Rattle.lg_temp.specs.Choices.{AreFor}
-use Rattle.lg_carry_a64.specs.Numbers.{number_code}
-use Rattle.lg_carry_a64.specs.A64Rows.{link, can_save, slot_offset}
-use Rattle.lg_carry_a64.proofs.IsaLemmas.{tried-saved}
-use Rattle.lg_sela_items.specs.declared.items.Item.{Item}
-use Rattle.lg_sela_items.specs.Items.{words_in, ones, NameLabels}
-use Rattle.lg_sela_items.proofs.ItemLemmas.{names-append, names-ones}
+use Rattle.lg_sela_values.specs.Processor.Numbers.{number_code}
+use Rattle.lg_sela_values.specs.Processor.A64Rows.{link, can_save, slot_offset}
+use Rattle.lg_sela_values.proofs.OfProcessor.IsaLemmas.{tried-saved}
+use Rattle.lg_sela_values.specs.declared.items.Item.{Item}
+use Rattle.lg_sela_values.specs.Items.{words_in, ones, NameLabels}
+use Rattle.lg_sela_values.proofs.ItemLemmas.{names-append, names-ones}
 use Rattle.lg_sela_values.specs.BinaryCode.{register_code, second_register, number_form_code}
 use Rattle.lg_sela_values.specs.UnaryCode.{unary_code, retval_code}
 use Rattle.lg_sela_values.specs.WideCode.{wide_code, wide_by_link}
-use Rattle.lg_sel_values.specs.Parts.{first_taken, operand_in, HaveSlots}
+use Rattle.lg_carry.specs.Values.Parts.{first_taken, operand_in, HaveSlots}
 use Rattle.lg_sela_values.specs.ValueItems.{value_needs, load_items, binary_items, wide_items, register_in, body_items, saved_items, value_items}
-use Rattle.lg_sel_nodes.specs.Operands.{NamesBelow, NameBelow}
+use Rattle.lg_carry.specs.Nodes.Operands.{NamesBelow, NameBelow}
 use Rattle.lg_sela_values.specs.ValueFits.{AreValueItems, ValueItemsFit, ValueItemsStay, ValueItemsName}
-use Rattle.lg_sela_items.specs.GoodItems.{Fine, IsGoodItem}
-use Rattle.lg_sela_items.proofs.GoodLemmas.{items-good, good-items-are-appendable}
+use Rattle.lg_sela_values.specs.GoodItems.{Fine, IsGoodItem}
+use Rattle.lg_sela_values.proofs.GoodLemmas.{items-good, good-items-are-appendable}
 use Rattle.lg_sela_values.proofs.FitLemmas.{body-good}
-use Rattle.lg_sela_items.proofs.WithinLemmas.{In}
-use Rattle.lg_sel_items.specs.Holes.{Each}
+use Rattle.lg_sela_values.proofs.WithinLemmas.{In}
+use Rattle.lg_sel.specs.Holes.{Each}
 use Rattle.lg_op.specs.declared.operand.Reg.{Reg}
 use Rattle.std.proofs.lemmas.Bool.Decides.{nat_tests}
 use Rattle.lg_sela_values.proofs.WordLemmas.{body_few, saved_few}

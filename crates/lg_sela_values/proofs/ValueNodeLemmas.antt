@@ -8,10 +8,10 @@ use Rattle.lg_op.specs.declared.op.LastOperand.TheVariants as last_operand
 use Rattle.lg_op.specs.declared.operand.Reg.{Reg}
 use Rattle.lg_op.specs.declared.operand.Reg.TheVariants.{Fp}
 use Rattle.lg_op.specs.declared.operand.Operand.{Operand}
-use Rattle.lg_sel_values.specs.ValueNodes.{binary_node, wide_node}
-use Rattle.lg_sel_values.proofs.ValueNodeLemmas.{value-nodes}
+use Rattle.lg_carry.specs.Values.ValueNodes.{binary_node, wide_node}
+use Rattle.lg_carry.proofs.OfValues.ValueNodeLemmas.{value-nodes}
 use Rattle.lg_sela_values.specs.ValueLaws.{ValueNodesCarry}
-use Rattle.lg_sel_values.proofs.FormLemmas.{is-source}
+use Rattle.lg_carry.proofs.OfValues.FormLemmas.{is-source}
 use Rattle.lg_sela_values.proofs.SettledLemmas.{IsCarried}
 use Rattle.lg_sela_values.proofs.PlainItemLemmas.{unary-carried, movi-carried, va-start-carried, retval-carried, registers-carried, immediate-carried, wide-registers-carried, wide-immediate-carried}
 use Rattle.lg_sela_values.proofs.TemporaryItemLemmas.{temporary-carried}

@@ -5,13 +5,13 @@ use Rattle.std.specs.Int.Bits.{or_zero_l}
 use Rattle.lg_base.specs.Words.{add_words, mul_words, sub_words, high_product, high_product_signed, quotient, quotient_signed, remainder, remainder_signed}
 use Rattle.lg_op.specs.declared.op.WideOp.{WideOp}
 use Rattle.lg_op.specs.declared.op.WideOp.TheVariants as wide
-use Rattle.lg_operators.specs.Operators.{wide_value, pair_where, divides, is_least_by_minus_one}
+use Rattle.lg_op.specs.Operators.{wide_value, pair_where, divides, is_least_by_minus_one}
 use Rattle.lg_cpu.specs.A64Operators.{divided, divided_signed}
 use Rattle.lg_cpu.specs.A64Step.{read, write}
-use Rattle.lg_sel_values.specs.Computers.{Held}
-use Rattle.lg_sel_values.specs.Values.{HoldsPair}
-use Rattle.lg_carry_a64.specs.Computations.{all_compute, computed}
-use Rattle.lg_carry_a64.proofs.HeldLemmas.{read-is}
+use Rattle.lg_carry.specs.Values.Computers.{Held}
+use Rattle.lg_carry.specs.Values.Values.{HoldsPair}
+use Rattle.lg_sela_values.specs.Processor.Computations.{all_compute, computed}
+use Rattle.lg_sela_values.proofs.OfProcessor.HeldLemmas.{read-is}
 use Rattle.lg_sela_values.specs.WideCode.{wide_code}
 use Rattle.lg_sela_values.proofs.BinaryCodeLemmas.{write-other, write-same, add-none, otherwise, no-zero, not-true}
 use Rattle.lg_sela_values.proofs.DivisionLemmas.{left-over, left-over-signed}

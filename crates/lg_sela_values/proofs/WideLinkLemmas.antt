@@ -6,17 +6,17 @@ use Rattle.std.proofs.lemmas.Bool.Decides.{nat_tests}
 use Rattle.lg_base.specs.Words.{add_words, mul_words, sub_words, high_product, high_product_signed, quotient, quotient_signed, remainder, remainder_signed}
 use Rattle.lg_op.specs.declared.op.WideOp.{WideOp}
 use Rattle.lg_op.specs.declared.op.WideOp.TheVariants as wide
-use Rattle.lg_operators.specs.Operators.{wide_value, divides, is_least_by_minus_one}
+use Rattle.lg_op.specs.Operators.{wide_value, divides, is_least_by_minus_one}
 use Rattle.lg_a64.specs.declared.instruction.Instr.TheVariants.{Reg, MulAdd}
 use Rattle.lg_a64.specs.declared.instruction.MulAddOp.TheVariants.{Madd, Msub}
 use Rattle.lg_a64.specs.declared.instruction.RegOp.{RegOp}
 use Rattle.lg_a64.specs.declared.instruction.RegOp.TheVariants as row
 use Rattle.lg_cpu.specs.A64Operators.{divided, divided_signed}
 use Rattle.lg_cpu.specs.A64Step.{read, write}
-use Rattle.lg_sel_values.specs.Computers.{Held}
-use Rattle.lg_sel_values.specs.Values.{HoldsPair}
-use Rattle.lg_carry_a64.specs.Computations.{all_compute, computed}
-use Rattle.lg_carry_a64.proofs.HeldLemmas.{read-is}
+use Rattle.lg_carry.specs.Values.Computers.{Held}
+use Rattle.lg_carry.specs.Values.Values.{HoldsPair}
+use Rattle.lg_sela_values.specs.Processor.Computations.{all_compute, computed}
+use Rattle.lg_sela_values.proofs.OfProcessor.HeldLemmas.{read-is}
 use Rattle.lg_sela_values.specs.WideCode.{product_by_link, quotient_by_link, wide_by_link}
 use Rattle.lg_sela_values.proofs.BinaryCodeLemmas.{write-other, write-same, add-none, otherwise, no-zero, not-true}
 use Rattle.lg_sela_values.proofs.DivisionLemmas.{left-over, left-over-signed}

@@ -7,7 +7,7 @@ use Rattle.lg_op.specs.declared.operand.Reg.{Reg}
 use Rattle.lg_op.specs.declared.operand.Reg.TheVariants.{Fp}
 use Rattle.lg_op.specs.declared.operand.Operand.{Operand}
 use Rattle.lg_op.specs.declared.operand.Operand.TheVariants as operand
-use Rattle.lg_operators.specs.Operators.{wide_value}
+use Rattle.lg_op.specs.Operators.{wide_value}
 use Rattle.lg_live.specs.Registers.{is_same}
 use Rattle.lg_meaning.specs.States.{State, value}
 use Rattle.lg_a64.specs.declared.instruction.Instr.{Instr}
@@ -15,18 +15,18 @@ use Rattle.lg_cpu.specs.HostSteps.{put}
 use Rattle.lg_temp.specs.Abis.{register_of}
 use Rattle.lg_carry.specs.FinalNodes.{Code}
 use Rattle.lg_carry.specs.TextNodes.{IsInText}
-use Rattle.lg_sel_nodes.proofs.RegisterLemmas.{same-self}
-use Rattle.lg_sel_values.specs.Computers.{Held}
-use Rattle.lg_sel_values.specs.ValueNodes.{wide_node}
-use Rattle.lg_sel_values.specs.Values.{HoldsPair}
-use Rattle.lg_sel_values.proofs.ComputationLemmas.{computed-append}
-use Rattle.lg_sel_values.proofs.TwoResultLemmas.{or-left, registers-apart, wide-nodes-compute}
-use Rattle.lg_carry_a64.specs.A64Computers.{a64_scratch, a64_computer, IsComputed}
-use Rattle.lg_carry_a64.specs.A64Rows.{link}
-use Rattle.lg_carry_a64.specs.Computations.{holding, computed_by, computed}
-use Rattle.lg_carry_a64.proofs.ComputerLemmas.{into}
-use Rattle.lg_carry_a64.proofs.HeldLemmas.{put-same, put-other}
-use Rattle.lg_carry_a64.proofs.RegisterLemmas.{register-small, register-off-link}
+use Rattle.lg_carry.proofs.OfNodes.RegisterLemmas.{same-self}
+use Rattle.lg_carry.specs.Values.Computers.{Held}
+use Rattle.lg_carry.specs.Values.ValueNodes.{wide_node}
+use Rattle.lg_carry.specs.Values.Values.{HoldsPair}
+use Rattle.lg_carry.proofs.OfValues.ComputationLemmas.{computed-append}
+use Rattle.lg_carry.proofs.OfValues.TwoResultLemmas.{or-left, registers-apart, wide-nodes-compute}
+use Rattle.lg_sela_values.specs.Processor.A64Computers.{a64_scratch, a64_computer, IsComputed}
+use Rattle.lg_sela_values.specs.Processor.A64Rows.{link}
+use Rattle.lg_sela_values.specs.Processor.Computations.{holding, computed_by, computed}
+use Rattle.lg_sela_values.proofs.OfProcessor.ComputerLemmas.{into}
+use Rattle.lg_sela_values.proofs.OfProcessor.HeldLemmas.{put-same, put-other}
+use Rattle.lg_sela_values.proofs.OfProcessor.RegisterLemmas.{register-small, register-off-link}
 use Rattle.lg_sela_values.specs.WideCode.{wide_code, wide_by_link}
 use Rattle.lg_sela_values.proofs.BinaryCodeLemmas.{some-same}
 use Rattle.lg_sela_values.proofs.LoadCodeLemmas.{LoadsWord, put-small, longer, all-compute-append}

@@ -23,18 +23,18 @@ use Rattle.lg_a64.specs.declared.instruction.UnscaledOp.TheVariants.{Ldur}
 use Rattle.lg_temp.specs.declared.choice.Choice.{Choice}
 use Rattle.lg_temp.specs.declared.choice.Choice.TheVariants.{Free, Own, Spill}
 use Rattle.lg_temp.specs.Abis.{register_of}
-use Rattle.lg_carry_a64.specs.A64Rows.{frame_pointer, link, slot_offset}
-use Rattle.lg_carry_a64.specs.Numbers.{number_code}
-use Rattle.lg_carry_a64.proofs.NumberCodeLemmas.{number-few}
-use Rattle.lg_sela_items.specs.declared.items.Item.{Item}
-use Rattle.lg_sela_items.specs.declared.items.Item.TheVariants.{One}
-use Rattle.lg_sela_items.specs.Items.{words_in, ones}
-use Rattle.lg_sela_items.proofs.ItemLemmas.{words_append, words-ones}
+use Rattle.lg_sela_values.specs.Processor.A64Rows.{frame_pointer, link, slot_offset}
+use Rattle.lg_sela_values.specs.Processor.Numbers.{number_code}
+use Rattle.lg_sela_values.proofs.OfProcessor.NumberCodeLemmas.{number-few}
+use Rattle.lg_sela_values.specs.declared.items.Item.{Item}
+use Rattle.lg_sela_values.specs.declared.items.Item.TheVariants.{One}
+use Rattle.lg_sela_values.specs.Items.{words_in, ones}
+use Rattle.lg_sela_values.proofs.ItemLemmas.{words_append, words-ones}
 use Rattle.lg_sela_values.specs.BinaryCode.{register_code, second_register, loaded_code, is_small, takes_small, small_code, takes_negative, negative_code, negative_form_code, small_form_code, number_form_code}
-use Rattle.lg_sel_values.specs.ValueNodes.{extension}
+use Rattle.lg_carry.specs.Values.ValueNodes.{extension}
 use Rattle.lg_sela_values.specs.UnaryCode.{unary_code, retval_code}
 use Rattle.lg_sela_values.specs.WideCode.{product_by_link, quotient_by_link, wide_code, wide_by_link}
-use Rattle.lg_sel_values.specs.Parts.{operand_in}
+use Rattle.lg_carry.specs.Values.Parts.{operand_in}
 use Rattle.lg_sela_values.specs.ValueItems.{load_items, binary_items, wide_items, register_in, body_items, saved_items}
 use Rattle.lg_sela_values.proofs.EmissionLemmas.{load_words}
 

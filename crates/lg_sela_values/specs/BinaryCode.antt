@@ -12,8 +12,8 @@ use Rattle.lg_a64.specs.declared.instruction.RegOp.{RegOp}
 use Rattle.lg_a64.specs.declared.instruction.RegOp.TheVariants as row
 use Rattle.lg_a64.specs.declared.instruction.Cond.{Cond}
 use Rattle.lg_a64.specs.declared.instruction.Cond.TheVariants as cond
-use Rattle.lg_carry_a64.specs.A64Rows.{link, zero_register}
-use Rattle.lg_carry_a64.specs.Numbers.{number_code}
+use Rattle.lg_sela_values.specs.Processor.A64Rows.{link, zero_register}
+use Rattle.lg_sela_values.specs.Processor.Numbers.{number_code}
 
 -- the condition that holds behind a comparison of two words where the test fails
 abbrev pub failing : BinaryOp → Cond

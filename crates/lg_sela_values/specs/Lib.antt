@@ -1,4 +1,8 @@
 pub mod BinaryCode
+pub mod GoodItems
+pub mod Items
+pub mod OfNodes
+pub mod Processor
 pub mod UnaryCode
 pub mod ValueFits
 pub mod ValueItems

@@ -5,13 +5,13 @@ use Rattle.lg_op.specs.declared.op.UnaryOp.TheVariants as unary
 use Rattle.lg_op.specs.declared.op.ValueType.{ValueType}
 use Rattle.lg_base.specs.Conventions.{result_register}
 use Rattle.lg_base.specs.declared.target.Target.TheVariants.{Aarch64}
-use Rattle.lg_sel_values.specs.ValueNodes.{extension}
+use Rattle.lg_carry.specs.Values.ValueNodes.{extension}
 use Rattle.lg_a64.specs.declared.instruction.Instr.{Instr}
 use Rattle.lg_a64.specs.declared.instruction.Instr.TheVariants.{Reg, Bitfield, Reverse}
 use Rattle.lg_a64.specs.declared.instruction.BitfieldOp.TheVariants.{Sbfm, Ubfm}
 use Rattle.lg_a64.specs.declared.instruction.ReverseOp.TheVariants.{Rev, Rev32, Rev16}
 use Rattle.lg_a64.specs.declared.instruction.RegOp.TheVariants as row
-use Rattle.lg_carry_a64.specs.A64Rows.{zero_register}
+use Rattle.lg_sela_values.specs.Processor.A64Rows.{zero_register}
 
 -- d = op a
 abbrev pub unary_code : UnaryOp → ℕ → ℕ → List Instr

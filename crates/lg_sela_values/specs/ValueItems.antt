@@ -19,12 +19,12 @@ use Rattle.lg_temp.specs.declared.choice.Need.TheVariants.{Any}
 use Rattle.lg_temp.specs.declared.choice.Choice.{Choice}
 use Rattle.lg_temp.specs.declared.choice.Choice.TheVariants.{Free, Own, Spill}
 use Rattle.lg_temp.specs.Abis.{register_of}
-use Rattle.lg_carry_a64.specs.Numbers.{number_code}
-use Rattle.lg_carry_a64.specs.A64Rows.{frame_pointer, link, slot_offset}
-use Rattle.lg_sel_values.specs.Parts.{operand_in, register_for, first_taken}
-use Rattle.lg_sela_items.specs.declared.items.Item.{Item}
-use Rattle.lg_sela_items.specs.declared.items.Item.TheVariants.{One, Address}
-use Rattle.lg_sela_items.specs.Items.{ones}
+use Rattle.lg_sela_values.specs.Processor.Numbers.{number_code}
+use Rattle.lg_sela_values.specs.Processor.A64Rows.{frame_pointer, link, slot_offset}
+use Rattle.lg_carry.specs.Values.Parts.{operand_in, register_for, first_taken}
+use Rattle.lg_sela_values.specs.declared.items.Item.{Item}
+use Rattle.lg_sela_values.specs.declared.items.Item.TheVariants.{One, Address}
+use Rattle.lg_sela_values.specs.Items.{ones}
 use Rattle.lg_sela_values.specs.BinaryCode.{register_code, second_register, number_form_code}
 use Rattle.lg_sela_values.specs.UnaryCode.{unary_code, retval_code}
 use Rattle.lg_sela_values.specs.WideCode.{wide_code, wide_by_link}

@@ -7,7 +7,7 @@ use Rattle.lg_a64.specs.declared.instruction.Instr.TheVariants.{Reg, MulAdd}
 use Rattle.lg_a64.specs.declared.instruction.MulAddOp.TheVariants.{Madd, Msub}
 use Rattle.lg_a64.specs.declared.instruction.RegOp.{RegOp}
 use Rattle.lg_a64.specs.declared.instruction.RegOp.TheVariants as row
-use Rattle.lg_carry_a64.specs.A64Rows.{link, zero_register}
+use Rattle.lg_sela_values.specs.Processor.A64Rows.{link, zero_register}
 
 -- d and e = a op b: the first word waits in the link, since e may be a or b
 abbrev pub product_code : RegOp → ℕ → ℕ → ℕ → ℕ → List Instr

@@ -2,14 +2,14 @@
 
 ghost use Rattle.std.specs.Prelude.{◌≡◌, ◌+◌, ◌<◌, ◌≤◌, ◌++◌};
 ghost use Rattle.lg_base.specs.Words.{negated};
-ghost use Rattle.lg_carry_a64.specs.A64Rows.{zero_register};
-ghost use Rattle.lg_sela_items.specs.Items.{ones, words_in};
+ghost use Rattle.lg_sela_values.specs.Processor.A64Rows.{zero_register};
+ghost use Rattle.lg_sela_values.specs.Items.{ones, words_in};
 ghost use Rattle.lg_sela_values.specs.BinaryCode.{failing, remainder_code, register_code, second_register, loaded_code, is_small, takes_small, small_code, takes_negative, negative_code, negative_form_code, small_form_code, number_form_code};
 
+use crate::{Item, LINK, ZERO, bitfield, imm, mul_add, put_number, row};
 use lg_a64::{BitfieldOp, Cond, ImmOp, Instr, MulAddOp, RegOp};
 use lg_op::BinaryOp;
-use lg_sel_items::Items;
-use lg_sela_items::{Item, LINK, ZERO, bitfield, imm, mul_add, put_number, row};
+use lg_sel::Items;
 
 // The condition that holds behind a comparison of two words where the test fails; of an operation that is no test it is that of `ne`.
 fn failing(op: BinaryOp) -> Cond

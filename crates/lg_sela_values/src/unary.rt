@@ -1,14 +1,14 @@
 // The operations on one word, and `retval`.
 
 ghost use Rattle.std.specs.Prelude.{◌≡◌, ◌+◌, ◌≤◌, ◌++◌};
-ghost use Rattle.lg_sela_items.specs.Items.{ones, words_in};
+ghost use Rattle.lg_sela_values.specs.Items.{ones, words_in};
 ghost use Rattle.lg_sela_values.specs.UnaryCode.{unary_code, retval_code};
 
+use crate::{Item, ZERO, bitfield, row};
 use lg_a64::{BitfieldOp, Instr, RegOp, ReverseOp};
+use lg_carry::values::extension;
 use lg_op::{UnaryOp, ValueType};
-use lg_sel_items::Items;
-use lg_sel_values::extension;
-use lg_sela_items::{Item, ZERO, bitfield, row};
+use lg_sel::Items;
 
 // `d` gets the bytes of `a` in another order.
 fn reverse(op: ReverseOp, d: u8, a: u8) -> Instr

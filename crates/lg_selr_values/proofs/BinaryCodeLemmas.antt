@@ -5,17 +5,17 @@ use Rattle.lg_base.specs.Fields.{word_of}
 use Rattle.lg_base.specs.Words.{add_words, sub_words, negated, shifted_left, shifted_right, shifted_right_signed, is_less, is_less_signed, word_of_test}
 use Rattle.lg_op.specs.declared.op.BinaryOp.{BinaryOp}
 use Rattle.lg_op.specs.declared.op.BinaryOp.TheVariants as binary
-use Rattle.lg_operators.specs.Operators.{word_where, is_least_by_minus_one, binary_value, is_carried}
+use Rattle.lg_op.specs.Operators.{word_where, is_least_by_minus_one, binary_value, is_carried}
 use Rattle.lg_rv.specs.declared.instruction.Instr.{Instr}
 use Rattle.lg_rv.specs.declared.instruction.Instr.TheVariants.{Imm, Reg}
 use Rattle.lg_rv.specs.declared.instruction.ImmOp.TheVariants.{Addi, Slti, Sltiu, Xori, Ori, Andi}
 use Rattle.lg_rv.specs.declared.instruction.RegOp.TheVariants as row
 use Rattle.lg_cpu.specs.HostSteps.{put}
 use Rattle.lg_cpu.specs.RvStep.{read}
-use Rattle.lg_carry_rv.specs.Computations.{all_compute, computed}
-use Rattle.lg_carry_rv.specs.Numbers.{is_short, low_part, number_code}
-use Rattle.lg_carry_rv.proofs.ComputationLemmas.{read-put, read-other, put-other, computed-append, all-compute-append}
-use Rattle.lg_carry_rv.proofs.NumberCodeLemmas.{short-word}
+use Rattle.lg_selr_values.specs.Processor.Computations.{all_compute, computed}
+use Rattle.lg_selr_values.specs.Processor.Numbers.{is_short, low_part, number_code}
+use Rattle.lg_selr_values.proofs.OfProcessor.ComputationLemmas.{read-put, read-other, put-other, computed-append, all-compute-append}
+use Rattle.lg_selr_values.proofs.OfProcessor.NumberCodeLemmas.{short-word}
 use Rattle.lg_selr_values.proofs.LoadCodeLemmas.{read-small, puts, puts-again, some-same, LoadsWord, put-small, loads-number, longer}
 use Rattle.lg_selr_values.specs.BinaryCode.{register_code, is_addend, loaded_code, zero_or_loaded_code, equal_code, unequal_code, held_code, held_or_loaded_code, number_form_code}
 

@@ -8,7 +8,7 @@ use Rattle.lg_op.specs.declared.operand.Reg.{Reg}
 use Rattle.lg_op.specs.declared.operand.Reg.TheVariants.{Fp}
 use Rattle.lg_op.specs.declared.operand.Operand.{Operand}
 use Rattle.lg_op.specs.declared.operand.Operand.TheVariants as operand
-use Rattle.lg_operators.specs.Operators.{binary_value, is_carried}
+use Rattle.lg_op.specs.Operators.{binary_value, is_carried}
 use Rattle.lg_live.specs.Registers.{is_same}
 use Rattle.lg_rv.specs.declared.instruction.Instr.{Instr}
 use Rattle.lg_cpu.specs.RvStep.{read}
@@ -16,16 +16,16 @@ use Rattle.lg_meaning.specs.States.{State, value}
 use Rattle.lg_temp.specs.Abis.{register_of}
 use Rattle.lg_carry.specs.FinalNodes.{Code}
 use Rattle.lg_carry.specs.TextNodes.{IsInText}
-use Rattle.lg_carry_rv.specs.RvComputers.{rv_scratch, rv_computer, IsComputed}
-use Rattle.lg_carry_rv.proofs.ComputerLemmas.{held-at, into}
-use Rattle.lg_carry_rv.proofs.ComputationLemmas.{all-compute-append}
-use Rattle.lg_carry_rv.proofs.RegisterLemmas.{register-apart, register-nonzero, read-of}
-use Rattle.lg_sel_nodes.proofs.RegisterLemmas.{same-self}
+use Rattle.lg_selr_values.specs.Processor.RvComputers.{rv_scratch, rv_computer, IsComputed}
+use Rattle.lg_selr_values.proofs.OfProcessor.ComputerLemmas.{held-at, into}
+use Rattle.lg_selr_values.proofs.OfProcessor.ComputationLemmas.{all-compute-append}
+use Rattle.lg_selr_values.proofs.OfProcessor.RegisterLemmas.{register-apart, register-nonzero, read-of}
+use Rattle.lg_carry.proofs.OfNodes.RegisterLemmas.{same-self}
 use Rattle.lg_selr_values.specs.BinaryCode.{register_code, number_form_code}
-use Rattle.lg_sel_values.specs.ValueNodes.{binary_node}
+use Rattle.lg_carry.specs.Values.ValueNodes.{binary_node}
 use Rattle.lg_selr_values.proofs.LoadCodeLemmas.{some-same, LoadsWord, longer}
 use Rattle.lg_selr_values.proofs.BinaryCodeLemmas.{register-value, register-keeps, register-computes, register-some, loaded-value, loaded-keeps, number-value, number-keeps, number-computes, number-some}
-use Rattle.lg_sel_values.proofs.OneResultLemmas.{binary-nodes-compute}
+use Rattle.lg_carry.proofs.OfValues.OneResultLemmas.{binary-nodes-compute}
 
 -- ---- two registers
 module _ (c : Code) (i : ℕ) (o : BinaryOp) (d a b : Reg) (line : ℕ) (plain : is_carried o ≡ false) (named : d ≢ Fp) (t : IsInText c i (binary_node o last_operand.Register d a (operand.Reg b) line)) where

@@ -4,13 +4,13 @@ use Rattle.std.specs.Prelude.{◌||◌, bit_or, if◌then◌else◌}
 use Rattle.lg_base.specs.Words.{add_words, sub_words, is_less, word_of_test, carry_out, borrow_out}
 use Rattle.lg_op.specs.declared.op.BinaryOp.{BinaryOp}
 use Rattle.lg_op.specs.declared.op.BinaryOp.TheVariants as binary
-use Rattle.lg_operators.specs.Operators.{is_sum, carried_value}
+use Rattle.lg_op.specs.Operators.{is_sum, carried_value}
 use Rattle.lg_rv.specs.declared.instruction.Instr.TheVariants.{Reg}
 use Rattle.lg_rv.specs.declared.instruction.RegOp.TheVariants as row
 use Rattle.lg_cpu.specs.HostSteps.{put}
 use Rattle.lg_cpu.specs.RvStep.{read}
-use Rattle.lg_carry_rv.specs.Computations.{all_compute, computed}
-use Rattle.lg_carry_rv.proofs.ComputationLemmas.{read-put, read-other, put-same, put-other}
+use Rattle.lg_selr_values.specs.Processor.Computations.{all_compute, computed}
+use Rattle.lg_selr_values.proofs.OfProcessor.ComputationLemmas.{read-put, read-other, put-same, put-other}
 use Rattle.lg_selr_values.specs.CarriedCode.{carried_code}
 
 -- ---- words

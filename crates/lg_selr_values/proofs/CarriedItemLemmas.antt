@@ -13,7 +13,7 @@ use Rattle.lg_op.specs.declared.operand.Reg.{Reg}
 use Rattle.lg_op.specs.declared.operand.Reg.TheVariants.{R0, R1, R2, V0, V1, V2, Fp}
 use Rattle.lg_op.specs.declared.operand.Operand.{Operand}
 use Rattle.lg_op.specs.declared.operand.Operand.TheVariants as operand
-use Rattle.lg_operators.specs.Operators.{is_carried}
+use Rattle.lg_op.specs.Operators.{is_carried}
 use Rattle.lg_node.specs.Preparations.{pushed}
 use Rattle.lg_cpu.specs.RvStep.{read}
 use Rattle.lg_live.specs.Registers.{is_same}
@@ -29,22 +29,22 @@ use Rattle.lg_temp.specs.declared.choice.Choice.TheVariants.{Free, Own, Spill}
 use Rattle.lg_temp.specs.Abis.{register_of}
 use Rattle.lg_temp.specs.Chosen.{Around, around, stands_in, taken_by}
 use Rattle.lg_temp.specs.Choices.{IsTaken, AreFor}
-use Rattle.lg_sel_nodes.specs.Straight.{is_taken}
+use Rattle.lg_carry.specs.Nodes.Straight.{is_taken}
 use Rattle.lg_carry.specs.FinalNodes.{Code}
 use Rattle.lg_carry.specs.NodeCode.{numbered, CarriesNode}
 use Rattle.lg_carry.proofs.TemporariesApartLemmas.{none-stood-for, tried-spare}
-use Rattle.lg_carry_rv.specs.RvRows.{rv_processor, can_save}
-use Rattle.lg_carry_rv.specs.Places.{IsInCode}
-use Rattle.lg_sel_values.specs.Computers.{Held, HeldRead}
+use Rattle.lg_selr_values.specs.Processor.RvRows.{rv_processor, can_save}
+use Rattle.lg_selr_values.specs.Processor.Places.{IsInCode}
+use Rattle.lg_carry.specs.Values.Computers.{Held, HeldRead}
 use Rattle.lg_selr_values.proofs.ComputedNodeLemmas.{computed-carries}
-use Rattle.lg_carry_rv.proofs.RegisterLemmas.{read-of}
-use Rattle.lg_sel_nodes.proofs.RegisterLemmas.{stands-for, number-few, numbered-at, same-self}
-use Rattle.lg_carry_rv.proofs.IsaLemmas.{tried-saved}
-use Rattle.lg_selr_items.specs.Items.{settled, ones}
+use Rattle.lg_selr_values.proofs.OfProcessor.RegisterLemmas.{read-of}
+use Rattle.lg_carry.proofs.OfNodes.RegisterLemmas.{stands-for, number-few, numbered-at, same-self}
+use Rattle.lg_selr_values.proofs.OfProcessor.IsaLemmas.{tried-saved}
+use Rattle.lg_selr_values.specs.Items.{settled, ones}
 use Rattle.lg_selr_values.specs.CarriedCode.{carried_code}
-use Rattle.lg_sel_values.specs.ValueNodes.{binary_node}
+use Rattle.lg_carry.specs.Values.ValueNodes.{binary_node}
 use Rattle.lg_selr_values.specs.ValueItems.{value_needs, load_items, binary_items, second_items, carried_items, body_items, value_items}
-use Rattle.lg_sel_nodes.specs.Operands.{IsWord, AreWords}
+use Rattle.lg_carry.specs.Nodes.Operands.{IsWord, AreWords}
 use Rattle.lg_selr_values.proofs.ImmediateLemmas.{is-load}
 use Rattle.lg_selr_values.proofs.CarriedCodeLemmas.{IsOtherThan}
 use Rattle.lg_selr_values.proofs.LoadCodeLemmas.{some-same}

@@ -11,9 +11,9 @@ use Rattle.lg_op.specs.declared.node.Node.{Node}
 use Rattle.lg_op.specs.declared.operand.Reg.{Reg}
 use Rattle.lg_op.specs.declared.operand.Reg.TheVariants.{Fp}
 use Rattle.lg_op.specs.declared.operand.Operand.{Operand}
-use Rattle.lg_operators.specs.declared.carry.Carry.{Carry}
-use Rattle.lg_operators.specs.declared.carry.Carry.TheVariants as carry
-use Rattle.lg_operators.specs.Operators.{is_carried, carry_in, carried_value, carried_out}
+use Rattle.lg_op.specs.declared.carry.Carry.{Carry}
+use Rattle.lg_op.specs.declared.carry.Carry.TheVariants as carry
+use Rattle.lg_op.specs.Operators.{is_carried, carry_in, carried_value, carried_out}
 use Rattle.lg_rv.specs.declared.instruction.Instr.{Instr}
 use Rattle.lg_rv.specs.declared.instruction.Instr.TheVariants.{Imm}
 use Rattle.lg_rv.specs.declared.instruction.ImmOp.TheVariants.{Addi}
@@ -23,22 +23,22 @@ use Rattle.lg_meaning.specs.States.{State, value}
 use Rattle.lg_meaning.specs.Steps.{bit_word}
 use Rattle.lg_temp.specs.declared.choice.Choice.{Choice}
 use Rattle.lg_temp.specs.Abis.{register_of}
-use Rattle.lg_sel_nodes.specs.Straight.{is_taken}
+use Rattle.lg_carry.specs.Nodes.Straight.{is_taken}
 use Rattle.lg_carry.specs.FinalNodes.{Code}
 use Rattle.lg_carry.specs.Registers.{HoldsCarry}
 use Rattle.lg_carry.specs.TextNodes.{IsInText}
-use Rattle.lg_carry_rv.specs.Computations.{all_compute, computed}
-use Rattle.lg_carry_rv.specs.RvComputers.{rv_scratch, held_by, rv_computer, IsComputed}
-use Rattle.lg_carry_rv.proofs.ComputerLemmas.{held-at, into, carry-again}
-use Rattle.lg_sel_values.specs.Computers.{Held, HeldRead}
-use Rattle.lg_sel_values.specs.Computers as computer
-use Rattle.lg_carry_rv.proofs.ComputationLemmas.{computed-append, all-compute-append, read-other, put-same, put-other}
-use Rattle.lg_carry_rv.proofs.RegisterLemmas.{register-apart, register-nonzero, read-of}
+use Rattle.lg_selr_values.specs.Processor.Computations.{all_compute, computed}
+use Rattle.lg_selr_values.specs.Processor.RvComputers.{rv_scratch, held_by, rv_computer, IsComputed}
+use Rattle.lg_selr_values.proofs.OfProcessor.ComputerLemmas.{held-at, into, carry-again}
+use Rattle.lg_carry.specs.Values.Computers.{Held, HeldRead}
+use Rattle.lg_carry.specs.Values.Computers as computer
+use Rattle.lg_selr_values.proofs.OfProcessor.ComputationLemmas.{computed-append, all-compute-append, read-other, put-same, put-other}
+use Rattle.lg_selr_values.proofs.OfProcessor.RegisterLemmas.{register-apart, register-nonzero, read-of}
 use Rattle.lg_selr_values.specs.CarriedCode.{carried_code}
-use Rattle.lg_sel_values.specs.ValueNodes.{binary_node}
+use Rattle.lg_carry.specs.Values.ValueNodes.{binary_node}
 use Rattle.lg_selr_values.proofs.LoadCodeLemmas.{some-same, read-small, LoadsWord, longer}
 use Rattle.lg_selr_values.proofs.CarriedCodeLemmas.{IsOtherThan, addc-holds, subc-holds, addx-holds, subx-holds, carried-keeps, carried-computes}
-use Rattle.lg_sel_values.proofs.OneResultLemmas.{carried-nodes-compute}
+use Rattle.lg_carry.proofs.OfValues.OneResultLemmas.{carried-nodes-compute}
 use Rattle.lg_selr_values.proofs.UnaryCodeLemmas.{add-none}
 
 -- ---- the temporary

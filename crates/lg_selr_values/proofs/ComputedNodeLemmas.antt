@@ -16,14 +16,14 @@ use Rattle.lg_carry.specs.FinalNodes.{Code}
 use Rattle.lg_carry.specs.NodeCode.{numbered, CarriesNode}
 use Rattle.lg_carry.specs.Spills.{wrapped}
 use Rattle.lg_carry.specs.TextNodes.{IsInText, stands_inside}
-use Rattle.lg_sel_nodes.specs.Straight.{NeedWell}
-use Rattle.lg_sel_nodes.proofs.StraightLemmas.{frame-here, computing-nodes-carry, plain-nodes-carry}
-use Rattle.lg_sel_values.proofs.ComputationLemmas.{computing-computes}
-use Rattle.lg_carry_rv.specs.Places.{IsInCode}
-use Rattle.lg_carry_rv.specs.RvComputers.{rv_scratch, rv_computer, IsComputed}
-use Rattle.lg_carry_rv.specs.RvRows.{rv_processor, rv_rows}
-use Rattle.lg_carry_rv.proofs.ComputerLemmas.{is-computer}
-use Rattle.lg_carry_rv.proofs.IsaLemmas.{is-isa}
+use Rattle.lg_carry.specs.Nodes.Straight.{NeedWell}
+use Rattle.lg_carry.proofs.OfNodes.StraightLemmas.{frame-here, computing-nodes-carry, plain-nodes-carry}
+use Rattle.lg_carry.proofs.OfValues.ComputationLemmas.{computing-computes}
+use Rattle.lg_selr_values.specs.Processor.Places.{IsInCode}
+use Rattle.lg_selr_values.specs.Processor.RvComputers.{rv_scratch, rv_computer, IsComputed}
+use Rattle.lg_selr_values.specs.Processor.RvRows.{rv_processor, rv_rows}
+use Rattle.lg_selr_values.proofs.OfProcessor.ComputerLemmas.{is-computer}
+use Rattle.lg_selr_values.proofs.OfProcessor.IsaLemmas.{is-isa}
 
 module _ (code : List ℕ) (trash : ℕ) (c : Code) (i : ℕ) (n : Node) (inside : stands_inside n.op ≡ true) (falls : leaps n.op ≡ false) (t : IsInText c i n) where
   pub computed-carries : (live : Reg → Bool) (staged : List Bool) (needs : List Need) (choices : List Choice) (body : List Instr) → NeedWell (rv_rows code trash) needs → length needs ≤ 3

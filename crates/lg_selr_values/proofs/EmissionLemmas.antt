@@ -6,15 +6,15 @@ use Rattle.lg_rv.specs.declared.instruction.Instr.TheVariants.{Imm, Shift, Reg}
 use Rattle.lg_rv.specs.declared.instruction.ImmOp.TheVariants.{Andi}
 use Rattle.lg_rv.specs.declared.instruction.ShiftOp.TheVariants.{Slli, Srli}
 use Rattle.lg_rv.specs.declared.instruction.RegOp.TheVariants as row
-use Rattle.lg_carry_rv.specs.Numbers.{number_code}
-use Rattle.lg_carry_rv.proofs.NumberCodeLemmas as numbers
+use Rattle.lg_selr_values.specs.Processor.Numbers.{number_code}
+use Rattle.lg_selr_values.proofs.OfProcessor.NumberCodeLemmas as numbers
 use Rattle.lg_base.specs.HostNames.{host_address}
 use Rattle.lg_op.specs.declared.operand.Operand.{Operand}
 use Rattle.lg_op.specs.declared.operand.Operand.TheVariants as operand
 use Rattle.lg_selr_values.specs.ValueItems.{load_items, second_items}
-use Rattle.lg_selr_items.specs.declared.items.Item.{Item}
-use Rattle.lg_selr_items.specs.Items.{words_in, ones}
-use Rattle.lg_selr_items.proofs.ItemLemmas.{words_append, words-ones, ones-append}
+use Rattle.lg_selr_values.specs.declared.items.Item.{Item}
+use Rattle.lg_selr_values.specs.Items.{words_in, ones}
+use Rattle.lg_selr_values.proofs.ItemLemmas.{words_append, words-ones, ones-append}
 use Rattle.lg_selr_values.specs.UnaryCode.{more_bytes_code}
 
 pub words_more : (xs : List Item) (is : List Instr) → words_in (xs ++ ones is) ≡ words_in xs + length is

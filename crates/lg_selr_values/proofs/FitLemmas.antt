@@ -16,29 +16,29 @@ use Rattle.lg_op.specs.declared.op.UnaryOp.TheVariants as unary
 use Rattle.lg_op.specs.declared.op.PlainOp.TheVariants as plain
 use Rattle.lg_op.specs.declared.operand.Operand.{Operand}
 use Rattle.lg_op.specs.declared.operand.Operand.TheVariants as operand
-use Rattle.lg_operators.specs.Operators.{is_carried}
+use Rattle.lg_op.specs.Operators.{is_carried}
 use Rattle.lg_rv.specs.Spelling.{IsInstr}
 use Rattle.lg_rv.specs.declared.instruction.ImmOp.{ImmOp}
 use Rattle.lg_rv.specs.declared.instruction.ImmOp.TheVariants.{Addi, Slti, Sltiu, Xori, Ori, Andi}
 use Rattle.lg_temp.specs.Abis.{register_of}
-use Rattle.lg_carry_rv.proofs.NumberCodeLemmas.{low-small}
-use Rattle.lg_carry_rv.proofs.RegisterLemmas.{register-small}
+use Rattle.lg_selr_values.proofs.OfProcessor.NumberCodeLemmas.{low-small}
+use Rattle.lg_selr_values.proofs.OfProcessor.RegisterLemmas.{register-small}
 use Rattle.lg_selr_values.specs.BinaryCode.{register_code, is_addend, loaded_code, zero_or_loaded_code, equal_code, unequal_code, held_code, held_or_loaded_code, number_form_code}
 use Rattle.lg_selr_values.specs.CarriedCode.{carried_code}
-use Rattle.lg_sel_values.specs.ValueNodes.{extension}
+use Rattle.lg_carry.specs.Values.ValueNodes.{extension}
 use Rattle.lg_selr_values.specs.UnaryCode.{more_bytes_code, swapped_code, unary_code, retval_code}
 use Rattle.lg_selr_values.specs.WideCode.{wide_code}
-use Rattle.lg_sel_values.specs.Parts.{register_for, operand_in}
+use Rattle.lg_carry.specs.Values.Parts.{register_for, operand_in}
 use Rattle.lg_selr_values.specs.ValueItems.{load_items, binary_items, second_items, carried_items, wide_items, operation_items, register_in, body_items}
-use Rattle.lg_carry_rv.specs.Numbers.{low_part, number_code}
+use Rattle.lg_selr_values.specs.Processor.Numbers.{low_part, number_code}
 use Rattle.lg_rv.specs.declared.instruction.Instr.{Instr}
 use Rattle.lg_rv.specs.declared.instruction.Instr.TheVariants.{Imm, Reg}
 use Rattle.lg_rv.specs.declared.instruction.RegOp.TheVariants as row
-use Rattle.lg_sel_items.specs.Holes.{Each}
-use Rattle.lg_selr_items.specs.Items.{ones}
-use Rattle.lg_selr_items.specs.GoodItems.{Fine, AreGood, IsGoodItem}
-use Rattle.lg_selr_items.proofs.WithinLemmas.{portable}
-use Rattle.lg_selr_items.proofs.GoodLemmas.{good-append, link-fine, carry-fine, number-good, ones-good, items-good}
+use Rattle.lg_sel.specs.Holes.{Each}
+use Rattle.lg_selr_values.specs.Items.{ones}
+use Rattle.lg_selr_values.specs.GoodItems.{Fine, AreGood, IsGoodItem}
+use Rattle.lg_selr_values.proofs.WithinLemmas.{portable}
+use Rattle.lg_selr_values.proofs.GoodLemmas.{good-append, link-fine, carry-fine, number-good, ones-good, items-good}
 
 -- ---- instructions
 small-number : (n : ℕ) → n < 2048 → (negsuc 2047 ≤ℤ pos n) × (pos n ≤ℤ pos 2047)

@@ -16,12 +16,12 @@ use Rattle.lg_rv.specs.declared.instruction.UpperOp.TheVariants.{Lui}
 use Rattle.lg_rv.specs.declared.instruction.ImmOp.TheVariants.{Addi}
 use Rattle.lg_cpu.specs.HostSteps.{put}
 use Rattle.lg_meaning.specs.States.{State, value}
-use Rattle.lg_carry_rv.specs.Numbers.{high_part, low_part, number_code}
-use Rattle.lg_carry_rv.proofs.ComputationLemmas.{put-again}
-use Rattle.lg_selr_items.specs.Items.{settled}
-use Rattle.lg_selr_items.proofs.ItemLemmas.{settled-ones}
+use Rattle.lg_selr_values.specs.Processor.Numbers.{high_part, low_part, number_code}
+use Rattle.lg_selr_values.proofs.OfProcessor.ComputationLemmas.{put-again}
+use Rattle.lg_selr_values.specs.Items.{settled}
+use Rattle.lg_selr_values.proofs.ItemLemmas.{settled-ones}
 use Rattle.lg_selr_values.specs.ValueItems.{load_items}
-use Rattle.lg_sel_nodes.specs.Operands.{IsWord}
+use Rattle.lg_carry.specs.Nodes.Operands.{IsWord}
 use Rattle.lg_selr_values.proofs.LoadCodeLemmas.{LoadsWord, loads-number}
 
 address-made : (v : ℕ) → v < 2 ^ 30 → add_words (sign_32 (high_part v * 4096)) (word_of (low_part v)) ≡ v

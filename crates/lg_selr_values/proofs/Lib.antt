@@ -6,8 +6,15 @@ pub mod CarriedNodeLemmas
 pub mod ComputedNodeLemmas
 pub mod EmissionLemmas
 pub mod FitLemmas
+pub mod GoodLemmas
 pub mod ImmediateLemmas
+pub mod ItemLemmas
+pub mod ItemWordLemmas
 pub mod LoadCodeLemmas
+pub mod NumberLemmas
+pub mod OfNodesLemmas
+pub mod OfProcessor
+pub mod PatchLemmas
 pub mod PlainItemLemmas
 pub mod SettledLemmas
 pub mod TemporaryLemmas
@@ -17,4 +24,5 @@ pub mod ValueFitLemmas
 pub mod ValueNodeLemmas
 pub mod WideCodeLemmas
 pub mod WideNodeLemmas
+pub mod WithinLemmas
 pub mod WordLemmas

@@ -4,10 +4,10 @@ use Rattle.std.specs.Prelude.{◌==◌, if◌then◌else◌}
 use Rattle.lg_rv.specs.declared.instruction.Instr.{Instr}
 use Rattle.lg_cpu.specs.HostSteps.{put}
 use Rattle.lg_cpu.specs.RvStep.{read}
-use Rattle.lg_carry_rv.specs.Computations.{all_compute, computed}
-use Rattle.lg_carry_rv.specs.Numbers.{number_code}
-use Rattle.lg_carry_rv.proofs.ComputationLemmas.{put-same, put-again}
-use Rattle.lg_carry_rv.proofs.NumberCodeLemmas.{number-computed, loaded-number}
+use Rattle.lg_selr_values.specs.Processor.Computations.{all_compute, computed}
+use Rattle.lg_selr_values.specs.Processor.Numbers.{number_code}
+use Rattle.lg_selr_values.proofs.OfProcessor.ComputationLemmas.{put-same, put-again}
+use Rattle.lg_selr_values.proofs.OfProcessor.NumberCodeLemmas.{number-computed, loaded-number}
 
 pub some-same : {A : Type 0} (x y : A) → Some x ≡ Some y → x ≡ y
 some-same x y e = cc

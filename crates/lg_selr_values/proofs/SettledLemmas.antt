@@ -16,18 +16,18 @@ use Rattle.lg_temp.specs.Choices.{AreFor}
 use Rattle.lg_carry.specs.FinalNodes.{Code}
 use Rattle.lg_carry.specs.Spills.{wrapped}
 use Rattle.lg_carry.specs.NodeCode.{numbered, CarriesNode}
-use Rattle.lg_carry_rv.specs.RvRows.{rv_processor, rv_rows, slot_offset}
+use Rattle.lg_selr_values.specs.Processor.RvRows.{rv_processor, rv_rows, slot_offset}
 use Rattle.lg_carry.specs.Carries.{leaps}
 use Rattle.lg_carry.specs.TextNodes.{stands_inside}
-use Rattle.lg_carry_rv.specs.Places.{IsInCode}
-use Rattle.lg_carry_rv.specs.RvComputers.{IsComputed}
+use Rattle.lg_selr_values.specs.Processor.Places.{IsInCode}
+use Rattle.lg_selr_values.specs.Processor.RvComputers.{IsComputed}
 use Rattle.lg_selr_values.proofs.ComputedNodeLemmas.{plain-carries}
-use Rattle.lg_selr_items.specs.declared.items.Item.{Item}
-use Rattle.lg_selr_items.specs.declared.items.Item.TheVariants.{One}
-use Rattle.lg_selr_items.specs.Items.{bytes_in, settled, ones}
-use Rattle.lg_selr_items.proofs.ItemLemmas.{settled-append, settled-ones}
+use Rattle.lg_selr_values.specs.declared.items.Item.{Item}
+use Rattle.lg_selr_values.specs.declared.items.Item.TheVariants.{One}
+use Rattle.lg_selr_values.specs.Items.{bytes_in, settled, ones}
+use Rattle.lg_selr_values.proofs.ItemLemmas.{settled-append, settled-ones}
 use Rattle.lg_selr_values.specs.ValueItems.{value_needs, body_items, saved_items, value_items}
-use Rattle.lg_sel_nodes.specs.Operands.{AreWords}
+use Rattle.lg_carry.specs.Nodes.Operands.{AreWords}
 use Rattle.lg_carry.specs.TextNodes.{IsInText}
 
 -- ---- items

@@ -14,11 +14,11 @@ use Rattle.lg_temp.specs.Abis.{register_of}
 use Rattle.lg_temp.specs.Choices.{IsTaken, AreFor}
 use Rattle.lg_temp.specs.Chosen.{around, stands_in}
 use Rattle.lg_carry.proofs.TemporariesApartLemmas.{none-stood-for, tried-spare}
-use Rattle.lg_carry_rv.specs.RvRows.{can_save}
-use Rattle.lg_carry_rv.proofs.IsaLemmas.{tried-saved}
-use Rattle.lg_sel_nodes.specs.Straight.{is_taken}
-use Rattle.lg_sel_nodes.proofs.RegisterLemmas.{stands-for, number-few, numbered-at}
-use Rattle.lg_sel_values.specs.Parts.{first_taken}
+use Rattle.lg_selr_values.specs.Processor.RvRows.{can_save}
+use Rattle.lg_selr_values.proofs.OfProcessor.IsaLemmas.{tried-saved}
+use Rattle.lg_carry.specs.Nodes.Straight.{is_taken}
+use Rattle.lg_carry.proofs.OfNodes.RegisterLemmas.{stands-for, number-few, numbered-at}
+use Rattle.lg_carry.specs.Values.Parts.{first_taken}
 
 -- a register of the node
 abbrev pub IsOf : Node → Reg → Type 0

@@ -8,15 +8,15 @@ use Rattle.lg_base.specs.Wide.{sign_part_of, zero_part_of, swapped}
 use Rattle.lg_base.specs.Words.{add_words, sub_words, negated, complement, sign_32, shifted_left, shifted_right, shifted_right_signed}
 use Rattle.lg_op.specs.declared.op.UnaryOp.{UnaryOp}
 use Rattle.lg_op.specs.declared.op.UnaryOp.TheVariants as unary
-use Rattle.lg_operators.specs.Operators.{unary_value}
+use Rattle.lg_op.specs.Operators.{unary_value}
 use Rattle.lg_rv.specs.declared.instruction.Instr.TheVariants.{Imm, Shift, Reg}
 use Rattle.lg_rv.specs.declared.instruction.ImmOp.TheVariants.{Andi}
 use Rattle.lg_rv.specs.declared.instruction.ShiftOp.TheVariants.{Slli}
 use Rattle.lg_rv.specs.declared.instruction.RegOp.TheVariants as row
 use Rattle.lg_cpu.specs.HostSteps.{put}
 use Rattle.lg_cpu.specs.RvStep.{read}
-use Rattle.lg_carry_rv.specs.Computations.{all_compute, computed}
-use Rattle.lg_carry_rv.proofs.ComputationLemmas.{read-put, read-other, put-same, put-other}
+use Rattle.lg_selr_values.specs.Processor.Computations.{all_compute, computed}
+use Rattle.lg_selr_values.proofs.OfProcessor.ComputationLemmas.{read-put, read-other, put-same, put-other}
 use Rattle.lg_selr_values.specs.UnaryCode.{more_bytes_code, swapped_code, unary_code}
 use Rattle.lg_selr_values.proofs.LoadCodeLemmas.{read-small, puts, puts-again}
 

@@ -7,25 +7,25 @@ use Rattle.lg_op.specs.declared.op.ValueType.{ValueType}
 use Rattle.lg_op.specs.declared.operand.Reg.{Reg}
 use Rattle.lg_op.specs.declared.operand.Reg.TheVariants.{Fp}
 use Rattle.lg_op.specs.declared.operand.Operand.{Operand}
-use Rattle.lg_operators.specs.Operators.{unary_value, keeps_carry}
+use Rattle.lg_op.specs.Operators.{unary_value, keeps_carry}
 use Rattle.lg_meaning.specs.States.{State, value}
 use Rattle.lg_rv.specs.declared.instruction.Instr.{Instr}
 use Rattle.lg_temp.specs.Abis.{register_of}
 use Rattle.lg_carry.specs.FinalNodes.{Code}
 use Rattle.lg_carry.specs.TextNodes.{IsInText}
-use Rattle.lg_carry_rv.specs.Computations.{computed}
-use Rattle.lg_carry_rv.specs.RvComputers.{rv_scratch, held_by, rv_computer, IsComputed}
-use Rattle.lg_carry_rv.proofs.ComputerLemmas.{held-at, into, carry-kept}
-use Rattle.lg_carry_rv.proofs.ComputationLemmas.{put-same, put-other}
-use Rattle.lg_carry_rv.proofs.RegisterLemmas.{register-apart, register-nonzero, read-of}
+use Rattle.lg_selr_values.specs.Processor.Computations.{computed}
+use Rattle.lg_selr_values.specs.Processor.RvComputers.{rv_scratch, held_by, rv_computer, IsComputed}
+use Rattle.lg_selr_values.proofs.OfProcessor.ComputerLemmas.{held-at, into, carry-kept}
+use Rattle.lg_selr_values.proofs.OfProcessor.ComputationLemmas.{put-same, put-other}
+use Rattle.lg_selr_values.proofs.OfProcessor.RegisterLemmas.{register-apart, register-nonzero, read-of}
 use Rattle.lg_selr_values.specs.UnaryCode.{unary_code, retval_code}
-use Rattle.lg_sel_values.specs.Computers.{Held}
-use Rattle.lg_sel_values.specs.Computers as computer
-use Rattle.lg_sel_values.specs.Values.{ComputesInto}
-use Rattle.lg_sel_values.specs.ValueNodes.{unary_node, movi_node, va_start_node, retval_node, extension}
-use Rattle.lg_sel_values.proofs.ValueNodeLemmas.{extends}
+use Rattle.lg_carry.specs.Values.Computers.{Held}
+use Rattle.lg_carry.specs.Values.Computers as computer
+use Rattle.lg_carry.specs.Values.Values.{ComputesInto}
+use Rattle.lg_carry.specs.Values.ValueNodes.{unary_node, movi_node, va_start_node, retval_node, extension}
+use Rattle.lg_carry.proofs.OfValues.ValueNodeLemmas.{extends}
 use Rattle.lg_selr_values.proofs.UnaryCodeLemmas.{unary-computed, unary-keeps, unary-computes, unary-some}
-use Rattle.lg_sel_values.proofs.OneWordLemmas.{unary-nodes-compute, movi-nodes-compute, va-start-nodes-compute, retval-nodes-compute}
+use Rattle.lg_carry.proofs.OfValues.OneWordLemmas.{unary-nodes-compute, movi-nodes-compute, va-start-nodes-compute, retval-nodes-compute}
 use Rattle.lg_selr_values.proofs.LoadCodeLemmas.{LoadsWord}
 
 -- ---- of a register; `movr` keeps the carry, and its code does

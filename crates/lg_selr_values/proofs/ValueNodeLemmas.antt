@@ -10,19 +10,19 @@ use Rattle.lg_op.specs.declared.operand.Reg.{Reg}
 use Rattle.lg_op.specs.declared.operand.Reg.TheVariants.{Fp}
 use Rattle.lg_op.specs.declared.operand.Operand.{Operand}
 use Rattle.lg_op.specs.declared.operand.Operand.TheVariants as operand
-use Rattle.lg_operators.specs.Operators.{is_carried}
+use Rattle.lg_op.specs.Operators.{is_carried}
 use Rattle.lg_live.specs.Registers.{is_same}
 use Rattle.lg_live.specs.Uses.{is_read, is_written}
 use Rattle.lg_meaning.specs.States.{value}
-use Rattle.lg_sel_nodes.proofs.RegisterLemmas.{same-self}
-use Rattle.lg_sel_values.specs.ValueNodes.{binary_node, wide_node}
-use Rattle.lg_sel_values.proofs.ValueNodeLemmas.{value-nodes}
+use Rattle.lg_carry.proofs.OfNodes.RegisterLemmas.{same-self}
+use Rattle.lg_carry.specs.Values.ValueNodes.{binary_node, wide_node}
+use Rattle.lg_carry.proofs.OfValues.ValueNodeLemmas.{value-nodes}
 use Rattle.lg_selr_values.specs.ValueLaws.{ValueNodesCarry}
-use Rattle.lg_sel_values.proofs.FormLemmas.{is-source}
+use Rattle.lg_carry.proofs.OfValues.FormLemmas.{is-source}
 use Rattle.lg_selr_values.proofs.SettledLemmas.{IsCarried}
 use Rattle.lg_selr_values.proofs.PlainItemLemmas.{unary-carried, movi-carried, va-start-carried, retval-carried, registers-carried, immediate-carried, wide-registers-carried, wide-immediate-carried}
 use Rattle.lg_selr_values.proofs.CarriedItemLemmas.{HasForm, register-second, immediate-second, sum-carried, temporary-carried}
-use Rattle.lg_sel_values.proofs.ResultLemmas.{or-false, or-middle}
+use Rattle.lg_carry.proofs.OfValues.ResultLemmas.{or-false, or-middle}
 
 true-false : (b : Bool) → (b ≡ true) ⊎ (b ≡ false)
 true-false true = inl refl

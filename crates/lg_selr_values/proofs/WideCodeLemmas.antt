@@ -5,7 +5,7 @@ use Rattle.std.proofs.Math.Nat.{mul-le-mul_left}
 use Rattle.lg_base.specs.Words.{add_words, mul_words, magnitude, with_sign, high_product, high_product_signed, quotient, remainder, quotient_signed, remainder_signed}
 use Rattle.lg_op.specs.declared.op.WideOp.{WideOp}
 use Rattle.lg_op.specs.declared.op.WideOp.TheVariants as wide
-use Rattle.lg_operators.specs.Operators.{pair_where, is_least_by_minus_one, divides, wide_value}
+use Rattle.lg_op.specs.Operators.{pair_where, is_least_by_minus_one, divides, wide_value}
 use Rattle.lg_rv.specs.declared.instruction.Instr.TheVariants.{Imm, Reg}
 use Rattle.lg_rv.specs.declared.instruction.ImmOp.TheVariants.{Addi}
 use Rattle.lg_rv.specs.declared.instruction.RegOp.{RegOp}
@@ -13,10 +13,10 @@ use Rattle.lg_rv.specs.declared.instruction.RegOp.TheVariants as row
 use Rattle.lg_cpu.specs.HostSteps.{put}
 use Rattle.lg_cpu.specs.RvOperators.{reg_value}
 use Rattle.lg_cpu.specs.RvStep.{read}
-use Rattle.lg_carry_rv.specs.Computations.{all_compute, computed}
-use Rattle.lg_carry_rv.proofs.ComputationLemmas.{read-other, put-same, put-other}
+use Rattle.lg_selr_values.specs.Processor.Computations.{all_compute, computed}
+use Rattle.lg_selr_values.proofs.OfProcessor.ComputationLemmas.{read-other, put-same, put-other}
 use Rattle.lg_selr_values.specs.WideCode.{wide_code}
-use Rattle.lg_sel_values.specs.Values.{HoldsPair}
+use Rattle.lg_carry.specs.Values.Values.{HoldsPair}
 use Rattle.lg_selr_values.proofs.LoadCodeLemmas.{read-small, some-same}
 
 -- ---- words

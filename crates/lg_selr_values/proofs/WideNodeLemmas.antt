@@ -7,7 +7,7 @@ use Rattle.lg_op.specs.declared.operand.Reg.{Reg}
 use Rattle.lg_op.specs.declared.operand.Reg.TheVariants.{Fp}
 use Rattle.lg_op.specs.declared.operand.Operand.{Operand}
 use Rattle.lg_op.specs.declared.operand.Operand.TheVariants as operand
-use Rattle.lg_operators.specs.Operators.{wide_value}
+use Rattle.lg_op.specs.Operators.{wide_value}
 use Rattle.lg_live.specs.Registers.{is_same}
 use Rattle.lg_rv.specs.declared.instruction.Instr.{Instr}
 use Rattle.lg_cpu.specs.HostSteps.{put}
@@ -16,18 +16,18 @@ use Rattle.lg_meaning.specs.States.{State, value}
 use Rattle.lg_temp.specs.Abis.{register_of}
 use Rattle.lg_carry.specs.FinalNodes.{Code}
 use Rattle.lg_carry.specs.TextNodes.{IsInText}
-use Rattle.lg_carry_rv.specs.Computations.{computed}
-use Rattle.lg_carry_rv.specs.RvComputers.{rv_scratch, rv_computer, IsComputed}
-use Rattle.lg_carry_rv.proofs.ComputerLemmas.{registers-computed, into}
-use Rattle.lg_carry_rv.proofs.ComputationLemmas.{computed-append, all-compute-append, read-other, put-other}
-use Rattle.lg_carry_rv.proofs.RegisterLemmas.{read-of, register-apart}
-use Rattle.lg_sel_nodes.proofs.RegisterLemmas.{same-self}
+use Rattle.lg_selr_values.specs.Processor.Computations.{computed}
+use Rattle.lg_selr_values.specs.Processor.RvComputers.{rv_scratch, rv_computer, IsComputed}
+use Rattle.lg_selr_values.proofs.OfProcessor.ComputerLemmas.{registers-computed, into}
+use Rattle.lg_selr_values.proofs.OfProcessor.ComputationLemmas.{computed-append, all-compute-append, read-other, put-other}
+use Rattle.lg_selr_values.proofs.OfProcessor.RegisterLemmas.{read-of, register-apart}
+use Rattle.lg_carry.proofs.OfNodes.RegisterLemmas.{same-self}
 use Rattle.lg_selr_values.specs.WideCode.{wide_code}
-use Rattle.lg_sel_values.specs.ValueNodes.{wide_node}
+use Rattle.lg_carry.specs.Values.ValueNodes.{wide_node}
 use Rattle.lg_selr_values.proofs.LoadCodeLemmas.{some-same, LoadsWord, put-small, longer}
 use Rattle.lg_selr_values.proofs.WideCodeLemmas.{wide-value, wide-keeps, wide-computes, wide-some}
-use Rattle.lg_sel_values.proofs.TwoResultLemmas.{or-left, registers-apart, wide-nodes-compute}
-use Rattle.lg_sel_values.specs.Values.{HoldsPair}
+use Rattle.lg_carry.proofs.OfValues.TwoResultLemmas.{or-left, registers-apart, wide-nodes-compute}
+use Rattle.lg_carry.specs.Values.Values.{HoldsPair}
 
 module _ (c : Code) (i : ℕ) (o : WideOp) (d e a : Reg) (line : ℕ) (nd : d ≢ Fp) (ne : e ≢ Fp) (apart : d ≢ e) where
   abbrev rd : ℕ

@@ -12,7 +12,7 @@ use Rattle.lg_op.specs.declared.op.UnaryOp.TheVariants as unary
 use Rattle.lg_op.specs.declared.op.PlainOp.TheVariants as plain
 use Rattle.lg_op.specs.declared.operand.Operand.{Operand}
 use Rattle.lg_op.specs.declared.operand.Operand.TheVariants as operand
-use Rattle.lg_operators.specs.Operators.{is_carried}
+use Rattle.lg_op.specs.Operators.{is_carried}
 use Rattle.lg_rv.specs.declared.instruction.Instr.{Instr}
 use Rattle.lg_rv.specs.declared.instruction.Instr.TheVariants.{Imm, Reg}
 use Rattle.lg_rv.specs.declared.instruction.ImmOp.TheVariants.{Addi, Sltiu, Ld}
@@ -22,18 +22,18 @@ use Rattle.lg_temp.specs.declared.choice.Choice.TheVariants.{Free, Own, Spill}
 use Rattle.lg_base.specs.declared.target.Target.TheVariants.{Riscv64}
 use Rattle.lg_temp.specs.Abis.{register_of}
 use Rattle.lg_base.specs.Words.{negated}
-use Rattle.lg_carry_rv.specs.Numbers.{low_part, number_code}
-use Rattle.lg_carry_rv.specs.RvRows.{slot_offset}
-use Rattle.lg_selr_items.specs.declared.items.Item.{Item}
-use Rattle.lg_selr_items.specs.declared.items.Item.TheVariants.{One}
-use Rattle.lg_selr_items.specs.Items.{words_in, ones}
-use Rattle.lg_selr_items.proofs.ItemLemmas.{words_append, words-ones}
+use Rattle.lg_selr_values.specs.Processor.Numbers.{low_part, number_code}
+use Rattle.lg_selr_values.specs.Processor.RvRows.{slot_offset}
+use Rattle.lg_selr_values.specs.declared.items.Item.{Item}
+use Rattle.lg_selr_values.specs.declared.items.Item.TheVariants.{One}
+use Rattle.lg_selr_values.specs.Items.{words_in, ones}
+use Rattle.lg_selr_values.proofs.ItemLemmas.{words_append, words-ones}
 use Rattle.lg_selr_values.specs.BinaryCode.{register_code, is_addend, loaded_code, zero_or_loaded_code, equal_code, unequal_code, held_code, held_or_loaded_code, number_form_code}
 use Rattle.lg_selr_values.specs.CarriedCode.{carried_code}
-use Rattle.lg_sel_values.specs.ValueNodes.{extension}
+use Rattle.lg_carry.specs.Values.ValueNodes.{extension}
 use Rattle.lg_selr_values.specs.UnaryCode.{unary_code, retval_code}
 use Rattle.lg_selr_values.specs.WideCode.{wide_code}
-use Rattle.lg_sel_values.specs.Parts.{operand_in}
+use Rattle.lg_carry.specs.Values.Parts.{operand_in}
 use Rattle.lg_selr_values.specs.ValueItems.{load_items, binary_items, second_items, carried_items, wide_items, operation_items, register_in, body_items, saved_items}
 use Rattle.lg_selr_values.proofs.EmissionLemmas.{number_few, load_words, second_words}
 

@@ -8,7 +8,7 @@ use Rattle.lg_rv.specs.declared.instruction.Instr.TheVariants.{Imm, Shift, Reg}
 use Rattle.lg_rv.specs.declared.instruction.ImmOp.TheVariants.{Addi, Slti, Sltiu, Xori, Ori, Andi}
 use Rattle.lg_rv.specs.declared.instruction.ShiftOp.TheVariants.{Slli, Srli, Srai}
 use Rattle.lg_rv.specs.declared.instruction.RegOp.TheVariants as row
-use Rattle.lg_carry_rv.specs.Numbers.{low_part, number_code}
+use Rattle.lg_selr_values.specs.Processor.Numbers.{low_part, number_code}
 
 -- d = a op b; the operations that set the carry stand in CarriedCode
 abbrev pub register_code : BinaryOp → ℕ → ℕ → ℕ → List Instr

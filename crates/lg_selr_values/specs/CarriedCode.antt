@@ -6,7 +6,7 @@ use Rattle.lg_rv.specs.declared.instruction.Instr.{Instr}
 use Rattle.lg_rv.specs.declared.instruction.Instr.TheVariants.{Imm, Reg}
 use Rattle.lg_rv.specs.declared.instruction.ImmOp.TheVariants.{Addi}
 use Rattle.lg_rv.specs.declared.instruction.RegOp.TheVariants as row
-use Rattle.lg_carry_rv.specs.Numbers.{number_code}
+use Rattle.lg_selr_values.specs.Processor.Numbers.{number_code}
 
 -- d = a op the word in the link; u is a temporary, which `addx` and `subx` need
 abbrev pub carried_code : BinaryOp → ℕ → ℕ → ℕ → List Instr

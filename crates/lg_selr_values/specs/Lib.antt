@@ -1,5 +1,9 @@
 pub mod BinaryCode
 pub mod CarriedCode
+pub mod GoodItems
+pub mod Items
+pub mod OfNodes
+pub mod Processor
 pub mod UnaryCode
 pub mod ValueFits
 pub mod ValueItems

@@ -5,7 +5,7 @@ use Rattle.lg_base.specs.declared.target.Target.TheVariants.{Riscv64}
 use Rattle.lg_op.specs.declared.op.UnaryOp.{UnaryOp}
 use Rattle.lg_op.specs.declared.op.UnaryOp.TheVariants as unary
 use Rattle.lg_op.specs.declared.op.ValueType.{ValueType}
-use Rattle.lg_sel_values.specs.ValueNodes.{extension}
+use Rattle.lg_carry.specs.Values.ValueNodes.{extension}
 use Rattle.lg_rv.specs.declared.instruction.Instr.{Instr}
 use Rattle.lg_rv.specs.declared.instruction.Instr.TheVariants.{Imm, Shift, Reg}
 use Rattle.lg_rv.specs.declared.instruction.ImmOp.TheVariants.{Addi, Xori, Andi, Addiw}

@@ -7,11 +7,11 @@ use Rattle.lg_temp.specs.declared.choice.Choice.{Choice}
 use Rattle.lg_temp.specs.Chosen.{around}
 use Rattle.lg_temp.specs.Choices.{AreFor}
 use Rattle.lg_carry.specs.Blocks.{IsBlock}
-use Rattle.lg_carry_rv.specs.RvRows.{is_straight}
-use Rattle.lg_selr_items.specs.Items.{words_in, settled, AreItems, NameLabels, StayWithin}
-use Rattle.lg_sel_values.specs.Parts.{HaveSlots}
+use Rattle.lg_selr_values.specs.Processor.RvRows.{is_straight}
+use Rattle.lg_selr_values.specs.Items.{words_in, settled, AreItems, NameLabels, StayWithin}
+use Rattle.lg_carry.specs.Values.Parts.{HaveSlots}
 use Rattle.lg_selr_values.specs.ValueItems.{value_needs, value_items}
-use Rattle.lg_sel_nodes.specs.Operands.{NameBelow}
+use Rattle.lg_carry.specs.Nodes.Operands.{NameBelow}
 
 -- at most one register is chosen; the items are in the ranges of their instructions, of which there are at most 32, and each is followed by the next
 pub record AreValueItems (n : Node) (choices : List Choice) : Type 0 where

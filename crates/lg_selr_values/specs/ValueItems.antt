@@ -11,7 +11,7 @@ use Rattle.lg_op.specs.declared.op.PlainOp.TheVariants as plain
 use Rattle.lg_op.specs.declared.node.Node.{Node}
 use Rattle.lg_op.specs.declared.operand.Operand.{Operand}
 use Rattle.lg_op.specs.declared.operand.Operand.TheVariants as operand
-use Rattle.lg_operators.specs.Operators.{is_carried}
+use Rattle.lg_op.specs.Operators.{is_carried}
 use Rattle.lg_rv.specs.declared.instruction.Instr.TheVariants.{Imm, Store}
 use Rattle.lg_rv.specs.declared.instruction.ImmOp.TheVariants.{Addi, Ld}
 use Rattle.lg_rv.specs.declared.instruction.StoreOp.TheVariants.{Sd}
@@ -20,12 +20,12 @@ use Rattle.lg_temp.specs.declared.choice.Need.TheVariants.{Any}
 use Rattle.lg_temp.specs.declared.choice.Choice.{Choice}
 use Rattle.lg_temp.specs.declared.choice.Choice.TheVariants.{Free, Own, Spill}
 use Rattle.lg_temp.specs.Abis.{register_of}
-use Rattle.lg_carry_rv.specs.Numbers.{number_code}
-use Rattle.lg_carry_rv.specs.RvRows.{slot_offset}
-use Rattle.lg_sel_values.specs.Parts.{operand_in, register_for, first_taken}
-use Rattle.lg_selr_items.specs.declared.items.Item.{Item}
-use Rattle.lg_selr_items.specs.declared.items.Item.TheVariants.{One, Address}
-use Rattle.lg_selr_items.specs.Items.{ones}
+use Rattle.lg_selr_values.specs.Processor.Numbers.{number_code}
+use Rattle.lg_selr_values.specs.Processor.RvRows.{slot_offset}
+use Rattle.lg_carry.specs.Values.Parts.{operand_in, register_for, first_taken}
+use Rattle.lg_selr_values.specs.declared.items.Item.{Item}
+use Rattle.lg_selr_values.specs.declared.items.Item.TheVariants.{One, Address}
+use Rattle.lg_selr_values.specs.Items.{ones}
 use Rattle.lg_selr_values.specs.BinaryCode.{register_code, number_form_code}
 use Rattle.lg_selr_values.specs.CarriedCode.{carried_code}
 use Rattle.lg_selr_values.specs.UnaryCode.{unary_code, retval_code}

@@ -9,13 +9,13 @@ use Rattle.lg_temp.specs.Chosen.{around}
 use Rattle.lg_temp.specs.Choices.{AreFor}
 use Rattle.lg_carry.specs.FinalNodes.{Code}
 use Rattle.lg_carry.specs.NodeCode.{numbered, CarriesNode}
-use Rattle.lg_carry_rv.specs.RvRows.{rv_processor}
-use Rattle.lg_carry_rv.specs.Places.{IsInCode}
-use Rattle.lg_selr_items.specs.Items.{settled}
-use Rattle.lg_sel_values.specs.ValueNodes.{is_value}
+use Rattle.lg_selr_values.specs.Processor.RvRows.{rv_processor}
+use Rattle.lg_selr_values.specs.Processor.Places.{IsInCode}
+use Rattle.lg_selr_values.specs.Items.{settled}
+use Rattle.lg_carry.specs.Values.ValueNodes.{is_value}
 use Rattle.lg_selr_values.specs.ValueItems.{value_needs, value_items}
 use Rattle.lg_carry.specs.TextNodes.{IsInText}
-use Rattle.lg_sel_nodes.specs.Operands.{AreWords}
+use Rattle.lg_carry.specs.Nodes.Operands.{AreWords}
 
 -- for all choices for the node's needs, whatever is live and staged
 abbrev pub ValueNodesCarry : Type 0

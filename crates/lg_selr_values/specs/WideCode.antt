@@ -7,7 +7,7 @@ use Rattle.lg_rv.specs.declared.instruction.Instr.TheVariants.{Imm, Reg}
 use Rattle.lg_rv.specs.declared.instruction.ImmOp.TheVariants.{Addi}
 use Rattle.lg_rv.specs.declared.instruction.RegOp.{RegOp}
 use Rattle.lg_rv.specs.declared.instruction.RegOp.TheVariants as row
-use Rattle.lg_carry_rv.specs.Numbers.{number_code}
+use Rattle.lg_selr_values.specs.Processor.Numbers.{number_code}
 
 -- s = a f b and t = a g b; the word for t is computed first and waits in the link, since s may be a or b
 abbrev pub waited_code : RegOp → RegOp → ℕ → ℕ → ℕ → ℕ → List Instr

@@ -1,13 +1,13 @@
 // The operations on two words, from two registers or from a register and a number.
 
 ghost use Rattle.std.specs.Prelude.{◌≡◌, ◌+◌, ◌≤◌, ◌++◌};
-ghost use Rattle.lg_selr_items.specs.Items.{ones, words_in};
+ghost use Rattle.lg_selr_values.specs.Items.{ones, words_in};
 ghost use Rattle.lg_selr_values.specs.BinaryCode.{register_code, is_addend, loaded_code, zero_or_loaded_code, equal_code, unequal_code, held_code, held_or_loaded_code, number_form_code};
 
+use crate::{Item, LINK, ZERO, imm, low_part, put_number, row, shift};
 use lg_op::BinaryOp;
 use lg_rv::{ImmOp, RegOp, ShiftOp};
-use lg_sel_items::Items;
-use lg_selr_items::{Item, LINK, ZERO, imm, low_part, put_number, row, shift};
+use lg_sel::Items;
 
 /// Appends the code of `d = a op b`, at most 2 instructions, for which there is room. Of an operation that sets the carry nothing is appended.
 pub fn register_code(op: BinaryOp, d: u8, a: u8, b: u8, items: &mut Items<Item>)

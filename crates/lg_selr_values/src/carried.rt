@@ -1,13 +1,13 @@
 // The operations that set the carry.
 
 ghost use Rattle.std.specs.Prelude.{◌≡◌, ◌+◌, ◌≤◌, ◌++◌};
-ghost use Rattle.lg_selr_items.specs.Items.{ones, words_in};
+ghost use Rattle.lg_selr_values.specs.Items.{ones, words_in};
 ghost use Rattle.lg_selr_values.specs.CarriedCode.{carried_code};
 
+use crate::{CARRY, Item, LINK, row};
 use lg_op::BinaryOp;
 use lg_rv::RegOp;
-use lg_sel_items::Items;
-use lg_selr_items::{CARRY, Item, LINK, row};
+use lg_sel::Items;
 
 /// Appends the code of an operation that sets the carry, on `a` and the word in the link, into `d`, where `u` is a temporary: at most 5
 /// instructions, for which there is room. Of every other operation nothing is appended.

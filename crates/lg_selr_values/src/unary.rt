@@ -1,14 +1,14 @@
 // The operations on one word, and `retval`.
 
 ghost use Rattle.std.specs.Prelude.{◌≡◌, ◌+◌, ◌*◌, ◌≤◌, ◌++◌};
-ghost use Rattle.lg_selr_items.specs.Items.{ones, words_in};
+ghost use Rattle.lg_selr_values.specs.Items.{ones, words_in};
 ghost use Rattle.lg_selr_values.specs.UnaryCode.{more_bytes_code, swapped_code, unary_code, retval_code};
 
+use crate::{CARRY, Item, LINK, ZERO, imm, row, shift};
+use lg_carry::values::extension;
 use lg_op::{UnaryOp, ValueType};
 use lg_rv::{ImmOp, RegOp, ShiftOp};
-use lg_sel_items::Items;
-use lg_sel_values::extension;
-use lg_selr_items::{CARRY, Item, LINK, ZERO, imm, row, shift};
+use lg_sel::Items;
 
 // Appends the code that puts so many further bytes of the link behind those of `d`: 4 instructions for each, for which there is room.
 fn more_bytes_code(d: u8, n: u32, items: &mut Items<Item>)

@@ -2,22 +2,22 @@
 
 ghost use Rattle.std.specs.Prelude.{◌≡◌, ◌+◌, ◌<◌, ◌≤◌, [], ◌∷◌, ◌++◌, length};
 ghost use Rattle.lg_base.specs.declared.target.Target.TheVariants.{Riscv64};
-ghost use Rattle.lg_operators.specs.Operators.{is_carried};
-ghost use Rattle.lg_selr_items.specs.Items.{words_in};
-ghost use Rattle.lg_sel_values.specs.Parts.{register_for, HaveSlots};
+ghost use Rattle.lg_op.specs.Operators.{is_carried};
+ghost use Rattle.lg_selr_values.specs.Items.{words_in};
+ghost use Rattle.lg_carry.specs.Values.Parts.{register_for, HaveSlots};
 ghost use Rattle.lg_selr_values.specs.ValueItems.{load_items, binary_items, second_items, carried_items, wide_items, operation_items, body_items, value_items};
 
 use crate::binary::{number_form_code, register_code};
 use crate::carried::carried_code;
 use crate::unary::{retval_code, unary_code};
-use crate::wide::wide_code;
+use crate::wide_values::wide_code;
+use crate::{CARRY, Item, LINK, imm, put_number, register_of, restore, save};
+use lg_carry::values::operand_in;
+use lg_op::operators::is_carried;
 use lg_op::{BinaryOp, Label, Node, Op, Operand, PlainOp, Reg, WideOp};
-use lg_operators::operators::is_carried;
 use lg_rv::ImmOp;
-use lg_sel_items::Items;
-use lg_sel_values::operand_in;
-use lg_selr_items::{CARRY, Item, LINK, imm, put_number, register_of, restore, save};
-use lg_temp::choice::{Choice, Choices};
+use lg_sel::Items;
+use lg_temp::{Choice, Choices};
 
 // The register of an operand that is one, and else 0.
 fn register_for(operand: Operand) -> u8

@@ -25,27 +25,27 @@ use Rattle.lg_sel.specs.Promises.{IsCarriedWhenFinished}
 use Rattle.lg_carry.specs.Blocks.{spellings}
 use Rattle.lg_sel.specs.Selected.{IsFrame, IsAligned, IsFixOf}
 use Rattle.lg_sel.specs.Stores.{x86_stores}
-use Rattle.lg_sel_items.specs.Holes.{Each}
-use Rattle.lg_sel_items.specs.declared.reach.Reach.{Reach}
-use Rattle.lg_sel_items.specs.declared.reach.Reach.TheVariants as reaches
+use Rattle.lg_sel.specs.Holes.{Each}
+use Rattle.lg_sel.specs.declared.reach.Reach.{Reach}
+use Rattle.lg_sel.specs.declared.reach.Reach.TheVariants as reaches
 use Rattle.lg_selx.proofs.Emissions.{Names}
 use Rattle.lg_selx.proofs.FinishedLemmas.{AreAppended, are-of-node}
 use Rattle.lg_selx.proofs.NodeFits.{node-emits, items-fit, items-within}
 use Rattle.lg_selx.proofs.NodeLemmas.{items-carry}
 use Rattle.lg_sel.proofs.PlaceLemmas.{and-first}
 use Rattle.lg_sel.proofs.ReachLemmas.{led-fits}
-use Rattle.lg_sel_control.proofs.ControlLemmas.{differ}
-use Rattle.lg_sel_items.specs.Reaches.{Leads, IsChecked}
+use Rattle.lg_sel.proofs.OfControl.ControlLemmas.{differ}
+use Rattle.lg_sel.specs.Reaches.{Leads, IsChecked}
 use Rattle.lg_selx.specs.Items.{x86_families, node_items}
 use Rattle.lg_selx.specs.Selected.{needs, IsAsked}
-use Rattle.lg_selx_control.proofs.AlignLemmas.{alignments-align}
-use Rattle.lg_selx_control.specs.Alignments.{align_code}
-use Rattle.lg_selx_control.proofs.ControlLemmas.{blanks-ones}
-use Rattle.lg_selx_items.proofs.PatchLemmas.{are-holes}
-use Rattle.lg_selx_items.specs.Items.{x86_holes, IsItem, fix_of, words_in, blanks, fixes_of, ones}
-use Rattle.lg_selx_items.specs.declared.items.Item.{Item}
-use Rattle.lg_selx_items.specs.declared.items.Item.TheVariants.{One, Jump, Address}
-use Rattle.lg_selx_items.specs.declared.items.JumpKind.TheVariants.{Near, NearIf, Short, ShortIf}
+use Rattle.lg_selx.proofs.OfControl.AlignLemmas.{alignments-align}
+use Rattle.lg_selx.specs.Control.Alignments.{align_code}
+use Rattle.lg_selx.proofs.OfControl.ControlLemmas.{blanks-ones}
+use Rattle.lg_selx_values.proofs.PatchLemmas.{are-holes}
+use Rattle.lg_selx_values.specs.Items.{x86_holes, IsItem, fix_of, words_in, blanks, fixes_of, ones}
+use Rattle.lg_selx_values.specs.declared.items.Item.{Item}
+use Rattle.lg_selx_values.specs.declared.items.Item.TheVariants.{One, Jump, Address}
+use Rattle.lg_selx_values.specs.declared.items.JumpKind.TheVariants.{Near, NearIf, Short, ShortIf}
 use Rattle.lg_temp.specs.declared.choice.Choice.{Choice}
 
 pub selected-carries : (homes : ℕ) (reach : Reach) (node : Node) (frame : ℕ) (live : Reg → Bool) (staged : List Bool) (choices : List Choice) (old new : Buffer) (items : List Item) → IsFrame frame → IsAsked node live staged choices (length old.labels)

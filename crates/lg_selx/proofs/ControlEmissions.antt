@@ -4,7 +4,7 @@ use Rattle.std.specs.Prelude.{◌==◌, ◌&&◌, ◌%◌, ◌^◌, pos, negsuc,
 use Rattle.lg_base.specs.HostNames.{host_address}
 use Rattle.lg_base.specs.Words.{signed_view, is_half}
 use Rattle.lg_base.specs.declared.target.Target.TheVariants.{X86_64}
-use Rattle.lg_carry_x86.specs.Numbers.{number_row}
+use Rattle.lg_selx_values.specs.Processor.Numbers.{number_row}
 use Rattle.lg_op.specs.declared.op.BranchSumOp.{BranchSumOp}
 use Rattle.lg_op.specs.declared.op.Condition.{Condition}
 use Rattle.lg_op.specs.declared.op.ControlOp.{ControlOp}
@@ -21,20 +21,20 @@ use Rattle.lg_op.specs.declared.operand.Reg.{Reg}
 use Rattle.lg_sel.proofs.LabelLemmas.{Passes, AllPass}
 use Rattle.lg_sel.proofs.StoreLemmas as stores
 use Rattle.lg_sel.specs.Stores.{x86_stores, is_free}
-use Rattle.lg_sel_items.specs.declared.reach.Reach.{Reach}
-use Rattle.lg_sel_items.specs.declared.reach.Reach.TheVariants as reaches
+use Rattle.lg_sel.specs.declared.reach.Reach.{Reach}
+use Rattle.lg_sel.specs.declared.reach.Reach.TheVariants as reaches
 use Rattle.lg_selx.proofs.Emissions.{Names, NoneStores, keep-none, number-keeps, Emits, none, instructions, plain, number, address, jump, front, behind}
-use Rattle.lg_selx_control.specs.Alignments.{padding, idle, align_code}
-use Rattle.lg_selx_control.specs.Branches.{comparison, is_difference, taken, far_number, pointer_comparison, wide_comparison, word_comparison, before_branch}
-use Rattle.lg_selx_control.specs.ControlItems.{jump_kind, branch_if_items, branch_items, sum_items, jump_items, call_items, result_items, ret_items, register_jump_items, register_call_items, leap_items, align_items, control_items}
-use Rattle.lg_selx_control.specs.HostCalls.{host_code}
-use Rattle.lg_selx_control.proofs.FitLemmas.{stored-few}
-use Rattle.lg_selx_control.specs.Prologs.{stored_registers, store_word, lowered, prolog_code}
-use Rattle.lg_selx_control.specs.RegisterLeaps.{register_jump_code, register_call_code}
-use Rattle.lg_selx_control.specs.Returns.{result, return_code}
-use Rattle.lg_selx_control.specs.SumBranches.{sum_row, sum_number, sum_taken, number_sum, before_sum_branch}
-use Rattle.lg_selx_items.specs.declared.items.Item.TheVariants.{Jump}
-use Rattle.lg_selx_items.specs.declared.items.JumpKind.TheVariants.{Near}
+use Rattle.lg_selx.specs.Control.Alignments.{padding, idle, align_code}
+use Rattle.lg_selx.specs.Control.Branches.{comparison, is_difference, taken, far_number, pointer_comparison, wide_comparison, word_comparison, before_branch}
+use Rattle.lg_selx.specs.Control.ControlItems.{jump_kind, branch_if_items, branch_items, sum_items, jump_items, call_items, result_items, ret_items, register_jump_items, register_call_items, leap_items, align_items, control_items}
+use Rattle.lg_selx.specs.Control.HostCalls.{host_code}
+use Rattle.lg_selx.proofs.OfControl.FitLemmas.{stored-few}
+use Rattle.lg_selx.specs.Control.Prologs.{stored_registers, store_word, lowered, prolog_code}
+use Rattle.lg_selx.specs.Control.RegisterLeaps.{register_jump_code, register_call_code}
+use Rattle.lg_selx.specs.Control.Returns.{result, return_code}
+use Rattle.lg_selx.specs.Control.SumBranches.{sum_row, sum_number, sum_taken, number_sum, before_sum_branch}
+use Rattle.lg_selx_values.specs.declared.items.Item.TheVariants.{Jump}
+use Rattle.lg_selx_values.specs.declared.items.JumpKind.TheVariants.{Near}
 use Rattle.lg_selx_values.specs.Scratch.{again}
 use Rattle.lg_op.specs.declared.operand.Reg.TheVariants.{R0}
 use Rattle.lg_temp.specs.Abis.{register_of}

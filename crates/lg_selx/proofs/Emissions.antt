@@ -2,18 +2,18 @@
 use Rattle.std.proofs.Common.{◌≡◌, ℕ, ◌+◌, ◌≤◌, Bool, true, false, List, [], ◌∷◌, ◌++◌, refl, arith}
 use Rattle.std.specs.Prelude.{⊤, ◌^◌, cond, nat_lt, if◌then◌else◌}
 use Rattle.lg_base.specs.Words.{signed_view, is_half}
-use Rattle.lg_carry_x86.specs.Numbers.{number_row}
+use Rattle.lg_selx_values.specs.Processor.Numbers.{number_row}
 use Rattle.lg_sel.proofs.EmissionLemmas as emission
 use Rattle.lg_sel.proofs.StoreLemmas as stores
 use Rattle.lg_sel.specs.Stores.{x86_stores}
-use Rattle.lg_sel_items.specs.Holes.{Each}
-use Rattle.lg_sel_items.specs.declared.reach.Reach.{Reach}
-use Rattle.lg_sel_items.specs.declared.reach.Reach.TheVariants as reaches
-use Rattle.lg_selx_items.specs.Items.{x86_holes, ones}
-use Rattle.lg_selx_items.specs.declared.items.Item.{Item}
-use Rattle.lg_selx_items.specs.declared.items.Item.TheVariants.{One, Jump, Address}
-use Rattle.lg_selx_items.specs.declared.items.JumpKind.{JumpKind}
-use Rattle.lg_selx_items.specs.declared.items.JumpKind.TheVariants.{Near, NearIf, Short, ShortIf}
+use Rattle.lg_sel.specs.Holes.{Each}
+use Rattle.lg_sel.specs.declared.reach.Reach.{Reach}
+use Rattle.lg_sel.specs.declared.reach.Reach.TheVariants as reaches
+use Rattle.lg_selx_values.specs.Items.{x86_holes, ones}
+use Rattle.lg_selx_values.specs.declared.items.Item.{Item}
+use Rattle.lg_selx_values.specs.declared.items.Item.TheVariants.{One, Jump, Address}
+use Rattle.lg_selx_values.specs.declared.items.JumpKind.{JumpKind}
+use Rattle.lg_selx_values.specs.declared.items.JumpKind.TheVariants.{Near, NearIf, Short, ShortIf}
 use Rattle.lg_x86.specs.declared.instruction.Instr.{Instr}
 use Rattle.lg_x86.specs.declared.instruction.Instr.TheVariants.{Movi32, Movs32, Movi64}
 

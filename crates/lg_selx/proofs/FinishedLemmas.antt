@@ -3,17 +3,17 @@ use Rattle.std.proofs.Common.{ℕ, ◌^◌, ◌<◌, ◌≤◌, List, refl}
 use Rattle.std.specs.Prelude.{slice_index}
 use Rattle.lg_buf.specs.Buffers.{Buffer}
 use Rattle.lg_carry.specs.FinalNodes.{Code}
-use Rattle.lg_carry_x86.specs.Destinations.{WritesWithin}
-use Rattle.lg_carry_x86.specs.X86Rows.{x86_rows}
+use Rattle.lg_selx_values.specs.Processor.Destinations.{WritesWithin}
+use Rattle.lg_selx_values.specs.Processor.X86Rows.{x86_rows}
 use Rattle.lg_x86.specs.Spelling.{IsInstr}
 use Rattle.lg_sel.specs.Finished as finished
 use Rattle.lg_sel.specs.Selected.{IsFinished}
 use Rattle.lg_sel.proofs.FinishedLemmas.{items-are-of-node}
-use Rattle.lg_selx_items.specs.declared.items.Item.{Item}
-use Rattle.lg_selx_items.specs.Items.{x86_holes, IsItem, words_in, AreItems, StayWithin}
-use Rattle.lg_selx_items.specs.OfNodes.{AreOfNode}
-use Rattle.lg_selx_items.proofs.NodeLemmas.{settled-within}
-use Rattle.lg_selx_items.proofs.PatchLemmas.{are-holes}
+use Rattle.lg_selx_values.specs.declared.items.Item.{Item}
+use Rattle.lg_selx_values.specs.Items.{x86_holes, IsItem, words_in, AreItems, StayWithin}
+use Rattle.lg_selx_values.specs.OfNodes.{AreOfNode}
+use Rattle.lg_selx_values.proofs.OfNodesLemmas.{settled-within}
+use Rattle.lg_selx_values.proofs.PatchLemmas.{are-holes}
 
 -- the items were appended to the old buffer, which became the new one
 abbrev pub AreAppended : Buffer → Buffer → List Item → Type 0

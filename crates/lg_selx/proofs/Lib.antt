@@ -6,6 +6,8 @@ pub mod MemoryEmissions
 pub mod NeedLemmas
 pub mod NodeFits
 pub mod NodeLemmas
+pub mod OfControl
+pub mod OfMemory
 pub mod OperandLemmas
 pub mod PlaceLemmas
 pub mod SavedEmissions

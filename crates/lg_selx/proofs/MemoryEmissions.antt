@@ -5,7 +5,7 @@ use Rattle.lg_base.specs.Conventions.{argument_registers}
 use Rattle.lg_base.specs.HostNames.{host_address}
 use Rattle.lg_base.specs.Words.{signed_view, is_half}
 use Rattle.lg_base.specs.declared.target.Target.TheVariants.{X86_64}
-use Rattle.lg_carry_x86.specs.Numbers.{number_row}
+use Rattle.lg_selx_values.specs.Processor.Numbers.{number_row}
 use Rattle.lg_meaning.specs.Steps.{operand_at, stored_operand, slot}
 use Rattle.lg_op.specs.declared.node.Node.{Node}
 use Rattle.lg_op.specs.declared.op.Addressing.{Addressing}
@@ -16,18 +16,18 @@ use Rattle.lg_op.specs.declared.operand.Operand.TheVariants as operand
 use Rattle.lg_sel.proofs.LabelLemmas.{Passes, AllPass, passes-at}
 use Rattle.lg_sel.proofs.StoreLemmas as stores
 use Rattle.lg_sel.specs.Stores.{x86_stores}
-use Rattle.lg_sel_memory.specs.Accesses.{Address, Base, At, Sum, Index, address_of}
-use Rattle.lg_sel_items.specs.declared.reach.Reach.{Reach}
+use Rattle.lg_carry.specs.Memory.Accesses.{Address, Base, At, Sum, Index, address_of}
+use Rattle.lg_sel.specs.declared.reach.Reach.{Reach}
 use Rattle.lg_selx.proofs.Emissions.{NoneStores, keep-none, number-keeps, Emits, none, append, more, either, instructions, plain, number, address}
 use Rattle.lg_selx.proofs.SavedEmissions.{saved}
-use Rattle.lg_selx_items.specs.Items.{ones}
-use Rattle.lg_selx_memory.specs.Accesses as accesses
-use Rattle.lg_selx_memory.specs.Accesses.{register, load_row, store_row, Place, at_register, at_spare, indexed, place_of, remade, load_spare, loading, storing, load_code, store_code, store_items}
-use Rattle.lg_selx_memory.specs.ArgumentCode.{argument_load, argument_code}
-use Rattle.lg_selx_memory.specs.PushCode.{into, stack_push, onto_stack, push_code}
-use Rattle.lg_selx_memory.specs.VariableArgumentCode.{next_argument_code}
+use Rattle.lg_selx_values.specs.Items.{ones}
+use Rattle.lg_selx.specs.Memory.Accesses as accesses
+use Rattle.lg_selx.specs.Memory.Accesses.{register, load_row, store_row, Place, at_register, at_spare, indexed, place_of, remade, load_spare, loading, storing, load_code, store_code, store_items}
+use Rattle.lg_selx.specs.Memory.ArgumentCode.{argument_load, argument_code}
+use Rattle.lg_selx.specs.Memory.PushCode.{into, stack_push, onto_stack, push_code}
+use Rattle.lg_selx.specs.Memory.VariableArgumentCode.{next_argument_code}
 use Rattle.lg_selx_values.specs.Scratch.{again}
-use Rattle.lg_sel_values.specs.Parts.{first_taken}
+use Rattle.lg_carry.specs.Values.Parts.{first_taken}
 use Rattle.lg_temp.specs.Abis.{register_of}
 use Rattle.lg_temp.specs.Chosen.{spills}
 use Rattle.lg_temp.specs.declared.choice.Choice.{Choice}

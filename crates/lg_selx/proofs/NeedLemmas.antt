@@ -5,10 +5,10 @@ use Rattle.lg_op.specs.declared.node.Node.{Node}
 use Rattle.lg_op.specs.declared.op.Op.{Op}
 use Rattle.lg_op.specs.declared.op.Op.TheVariants as op
 use Rattle.lg_op.specs.declared.operand.Reg.{Reg}
-use Rattle.lg_sel_values.specs.Parts.{HaveSlots}
-use Rattle.lg_sel_values.specs.ValueNodes.{is_value}
+use Rattle.lg_carry.specs.Values.Parts.{HaveSlots}
+use Rattle.lg_carry.specs.Values.ValueNodes.{is_value}
 use Rattle.lg_selx.specs.Selected.{needs, is_store, AreChosen}
-use Rattle.lg_selx_memory.proofs.FitLemmas.{memory-items-fit}
+use Rattle.lg_selx.proofs.OfMemory.FitLemmas.{memory-items-fit}
 use Rattle.lg_selx_values.proofs.ChoiceLemmas.{choices-have-slots}
 use Rattle.lg_selx_values.specs.Needs.{value_needs}
 use Rattle.lg_temp.proofs.ChoiceLemmas.{choices-are-for}

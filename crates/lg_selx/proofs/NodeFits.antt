@@ -13,30 +13,30 @@ use Rattle.lg_sel.proofs.NodeFitLemmas as fit
 use Rattle.lg_sel.proofs.NodeFitLemmas.{passed}
 use Rattle.lg_sel.proofs.StoreLemmas.{allowed}
 use Rattle.lg_sel.proofs.OperandLemmas.{word-is}
-use Rattle.lg_sel_nodes.specs.Operands.{HaveWords, NameBelow}
+use Rattle.lg_carry.specs.Nodes.Operands.{HaveWords, NameBelow}
 use Rattle.lg_sel.specs.Selected.{AreFirst, IsFrame, TakesLabelsWell, is_pusharg}
 use Rattle.lg_sel.specs.Stores.{x86_stores}
-use Rattle.lg_sel_items.specs.declared.reach.Reach.{Reach}
+use Rattle.lg_sel.specs.declared.reach.Reach.{Reach}
 use Rattle.lg_selx.proofs.ControlEmissions.{controls-emit, prologs-emit}
 use Rattle.lg_selx.proofs.Emissions.{Names, Emits, more}
 use Rattle.lg_selx.proofs.MemoryEmissions.{loads-emit, stores-emit, arguments-emit, next-arguments-emit, pushes-emit}
-use Rattle.lg_sel_nodes.proofs.GivenLemmas.{are-given}
+use Rattle.lg_carry.proofs.OfNodes.GivenLemmas.{are-given}
 use Rattle.lg_selx.proofs.NeedLemmas.{value-is-none, made-values, made-access}
 use Rattle.lg_selx.proofs.SmallLemmas.{items-small}
 use Rattle.lg_selx.proofs.ValueEmissions.{values-emit}
 use Rattle.lg_selx.specs.Items.{x86_families, node_items}
 use Rattle.lg_selx.specs.Selected.{needs, AreChosen, IsAsked}
-use Rattle.lg_selx_control.proofs.FitLemmas.{control-items-fit}
-use Rattle.lg_selx_control.proofs.WithinLemmas.{control-items-stay}
-use Rattle.lg_selx_items.specs.Items.{ones, x86_holes, IsItem, NamesOneOf, StaysWithin, StayWithin, blanks, fixes_of, AreItems, NameLabels}
-use Rattle.lg_selx_items.specs.declared.items.Item.{Item}
-use Rattle.lg_selx_memory.proofs.FitLemmas.{memory-items-fit}
-use Rattle.lg_selx_memory.proofs.WithinLemmas.{memory-items-name, memory-items-stay}
+use Rattle.lg_selx.proofs.OfControl.FitLemmas.{control-items-fit}
+use Rattle.lg_selx.proofs.OfControl.WithinLemmas.{control-items-stay}
+use Rattle.lg_selx_values.specs.Items.{ones, x86_holes, IsItem, NamesOneOf, StaysWithin, StayWithin, blanks, fixes_of, AreItems, NameLabels}
+use Rattle.lg_selx_values.specs.declared.items.Item.{Item}
+use Rattle.lg_selx.proofs.OfMemory.FitLemmas.{memory-items-fit}
+use Rattle.lg_selx.proofs.OfMemory.WithinLemmas.{memory-items-name, memory-items-stay}
 use Rattle.lg_selx_values.proofs.ValueFitLemmas.{value-items-fit, value-items-name, value-items-stay}
 use Rattle.lg_selx_values.specs.Needs.{value_needs}
 use Rattle.lg_selx_values.specs.ValueItems.{value_items}
 use Rattle.lg_temp.specs.Choices.{AreFor}
-use Rattle.lg_selx_memory.specs.Accesses.{load_code}
+use Rattle.lg_selx.specs.Memory.Accesses.{load_code}
 use Rattle.lg_temp.specs.Chosen.{around, spills}
 use Rattle.lg_temp.specs.declared.choice.Choice.{Choice}
 

@@ -21,43 +21,43 @@ use Rattle.lg_carry.specs.FinalNodes.{Code}
 use Rattle.lg_carry.specs.NodeCode.{numbered, CarriesNode}
 use Rattle.lg_carry.specs.Spills.{wrapped}
 use Rattle.lg_node.specs.Preparations.{pushed}
-use Rattle.lg_carry_x86.specs.Places.{IsInCode}
-use Rattle.lg_carry_x86.specs.X86Rows.{x86_processor, x86_rows}
+use Rattle.lg_selx_values.specs.Processor.Places.{IsInCode}
+use Rattle.lg_selx_values.specs.Processor.X86Rows.{x86_processor, x86_rows}
 use Rattle.lg_x86.specs.declared.instruction.Instr.{Instr}
 use Rattle.lg_sel.proofs.CountLemmas.{count-is}
 use Rattle.lg_sel.proofs.FamilyLemmas.{HoldsOfFamilies, of-node, value-stays}
 use Rattle.lg_sel.proofs.OperandLemmas.{has-words, leads_nowhere, unlabelled, no-labels, control-ends, loads-lead, stores-lead, operands-are}
 use Rattle.lg_sel.specs.Families.{staged_count}
-use Rattle.lg_sel_values.specs.ValueNodes.{is_value}
-use Rattle.lg_sel_memory.specs.Operands.{is_label}
-use Rattle.lg_sel_items.specs.declared.reach.Reach.{Reach}
+use Rattle.lg_carry.specs.Values.ValueNodes.{is_value}
+use Rattle.lg_carry.specs.Memory.Operands.{is_label}
+use Rattle.lg_sel.specs.declared.reach.Reach.{Reach}
 use Rattle.lg_selx.specs.Items.{x86_families, node_items}
 use Rattle.lg_sel.specs.Selected.{IsFrame, is_pusharg, may_take_label, IsNodeOf}
 use Rattle.lg_selx.specs.Selected.{needs, IsAsked}
 use Rattle.lg_selx.proofs.NeedLemmas.{value-is-none, made-values, made-access}
 use Rattle.lg_sel.proofs.NodeFitLemmas.{few-staged}
-use Rattle.lg_sel_nodes.proofs.GivenLemmas.{are-given, are-words}
+use Rattle.lg_carry.proofs.OfNodes.GivenLemmas.{are-given, are-words}
 use Rattle.lg_selx.proofs.OperandLemmas.{are-unlabelled}
 use Rattle.lg_selx.proofs.PlaceLemmas.{control-items-at}
-use Rattle.lg_selx_control.specs.ControlFits.{AreEmitted}
-use Rattle.lg_selx_control.specs.ControlItems.{control_items, is_control}
-use Rattle.lg_selx_control.specs.ControlLaws.{ends_in_label}
-use Rattle.lg_selx_control.specs.Standing.{StandsInCode}
-use Rattle.lg_selx_control.proofs.ControlLemmas.{control-nodes-carry}
-use Rattle.lg_selx_control.proofs.FitLemmas.{control-items-fit}
-use Rattle.lg_selx_items.specs.declared.items.Item.{Item}
-use Rattle.lg_selx_items.specs.Items.{words_in, settled, ones}
-use Rattle.lg_selx_items.specs.GoodItems.{AreAppendable}
-use Rattle.lg_selx_items.specs.OfNodes.{AreOfNode}
-use Rattle.lg_selx_items.proofs.ItemLemmas.{settled-ones}
-use Rattle.lg_selx_items.proofs.NodeLemmas.{items-are-node-code, items-are-in-code}
-use Rattle.lg_selx_memory.specs.Accesses.{load_code, store_code, store_items}
-use Rattle.lg_selx_memory.specs.ArgumentCode.{argument_code}
-use Rattle.lg_selx_memory.specs.PushCode.{push_code}
-use Rattle.lg_selx_memory.specs.VariableArgumentCode.{next_argument_code}
-use Rattle.lg_selx_memory.proofs.FitLemmas.{memory-items-fit}
-use Rattle.lg_selx_memory.proofs.MemoryNodeLemmas.{memory-is-carried}
-use Rattle.lg_sel_values.specs.Parts.{first_taken}
+use Rattle.lg_selx.specs.Control.ControlFits.{AreEmitted}
+use Rattle.lg_selx.specs.Control.ControlItems.{control_items, is_control}
+use Rattle.lg_selx.specs.Control.ControlLaws.{ends_in_label}
+use Rattle.lg_selx.specs.Control.Standing.{StandsInCode}
+use Rattle.lg_selx.proofs.OfControl.ControlLemmas.{control-nodes-carry}
+use Rattle.lg_selx.proofs.OfControl.FitLemmas.{control-items-fit}
+use Rattle.lg_selx_values.specs.declared.items.Item.{Item}
+use Rattle.lg_selx_values.specs.Items.{words_in, settled, ones}
+use Rattle.lg_selx_values.specs.GoodItems.{AreAppendable}
+use Rattle.lg_selx_values.specs.OfNodes.{AreOfNode}
+use Rattle.lg_selx_values.proofs.ItemLemmas.{settled-ones}
+use Rattle.lg_selx_values.proofs.OfNodesLemmas.{items-are-node-code, items-are-in-code}
+use Rattle.lg_selx.specs.Memory.Accesses.{load_code, store_code, store_items}
+use Rattle.lg_selx.specs.Memory.ArgumentCode.{argument_code}
+use Rattle.lg_selx.specs.Memory.PushCode.{push_code}
+use Rattle.lg_selx.specs.Memory.VariableArgumentCode.{next_argument_code}
+use Rattle.lg_selx.proofs.OfMemory.FitLemmas.{memory-items-fit}
+use Rattle.lg_selx.proofs.OfMemory.MemoryNodeLemmas.{memory-is-carried}
+use Rattle.lg_carry.specs.Values.Parts.{first_taken}
 use Rattle.lg_selx_values.proofs.SettledLemmas.{settles-ones, settles-saved}
 use Rattle.lg_selx_values.specs.ValueItems.{value_items}
 use Rattle.lg_selx_values.specs.ValueLaws.{AreUnlabelled, takes_label}

@@ -4,7 +4,7 @@ use Rattle.std.specs.Prelude.{◌||◌}
 use Rattle.std.specs.List.{list_any}
 use Rattle.lg_op.specs.declared.operand.Operand.{Operand}
 use Rattle.lg_op.specs.declared.operand.Operand.TheVariants as operand
-use Rattle.lg_sel_memory.specs.Operands.{is_label}
+use Rattle.lg_carry.specs.Memory.Operands.{is_label}
 use Rattle.lg_selx_values.specs.ValueLaws.{IsUnlabelled, AreUnlabelled}
 
 either-false : (a b : Bool) → (a || b) ≡ false → (a ≡ false) × (b ≡ false)

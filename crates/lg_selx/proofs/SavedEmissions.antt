@@ -1,9 +1,9 @@
 -- Items with each register that is saved: each one is stored once more.
 use Rattle.std.proofs.Common.{ℕ, ◌+◌, Bool, List, [], ◌∷◌, ◌++◌, refl, arith}
-use Rattle.lg_sel_items.specs.declared.reach.Reach.{Reach}
+use Rattle.lg_sel.specs.declared.reach.Reach.{Reach}
 use Rattle.lg_selx.proofs.Emissions.{Emits, append, more, instructions, plain}
-use Rattle.lg_selx_items.specs.Items.{ones}
-use Rattle.lg_selx_items.specs.declared.items.Item.{Item}
+use Rattle.lg_selx_values.specs.Items.{ones}
+use Rattle.lg_selx_values.specs.declared.items.Item.{Item}
 use Rattle.lg_selx_values.specs.ValueItems.{save, restore, saved_items}
 use Rattle.lg_temp.specs.Chosen.{spills}
 use Rattle.lg_temp.specs.declared.choice.Choice.{Choice}

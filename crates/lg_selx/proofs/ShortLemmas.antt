@@ -12,7 +12,7 @@ use Rattle.lg_buf.specs.declared.fixes.Fix.{Fix}
 use Rattle.lg_buf.specs.declared.fixes.FixKind.TheVariants.{X86Rel8, X86Rel32}
 use Rattle.lg_carry.specs.Blocks.{spellings}
 use Rattle.lg_carry.specs.FinalNodes.{Code}
-use Rattle.lg_carry_x86.specs.Numbers.{number_row}
+use Rattle.lg_selx_values.specs.Processor.Numbers.{number_row}
 use Rattle.lg_op.specs.Forms.{admit, admits, forms_of, last_form}
 use Rattle.lg_op.specs.declared.form.Form.TheVariants as form
 use Rattle.lg_op.specs.declared.op.BranchSumOp.{BranchSumOp}
@@ -36,21 +36,21 @@ use Rattle.lg_sel.proofs.FinishedLemmas.{items-lead}
 use Rattle.lg_sel.specs.Finished.{AreAppended}
 use Rattle.lg_sel.specs.Selected.{IsFinished, part_of}
 use Rattle.lg_sel.specs.Shorts.{x86_is_relative, LeadsBy, IsShortJumpIf, IsShort, IsJumpIfAhead, IsAhead}
-use Rattle.lg_sel_control.proofs.ControlLemmas.{differ, never, never-sum}
-use Rattle.lg_sel_items.specs.Holes.{Each}
-use Rattle.lg_sel_items.specs.Reaches.{near_size, Leads, LeadsTo, IsLeast, IsLeastAhead}
-use Rattle.lg_sel_items.specs.declared.reach.Reach.{Reach}
-use Rattle.lg_sel_items.specs.declared.reach.Reach.TheVariants.{Short, Near, Far}
-use Rattle.lg_selx_control.proofs.ControlLemmas.{blanks-ones, branch-settled}
-use Rattle.lg_selx_control.specs.Branches.{comparison, is_difference, far_number, pointer_comparison, wide_comparison, word_comparison, before_branch, taken}
-use Rattle.lg_selx_control.specs.ControlItems.{jump_kind, branch_if_items, branch_items, sum_items, control_items}
-use Rattle.lg_selx_control.specs.SumBranches.{sum_row, sum_number, number_sum, before_sum_branch, sum_taken}
-use Rattle.lg_selx_control.specs.TwoWays.{jump_if}
-use Rattle.lg_selx_items.proofs.ItemLemmas.{fixes-append, fixes-ones}
-use Rattle.lg_selx_items.proofs.PatchLemmas.{are-holes}
-use Rattle.lg_selx_items.specs.Items.{x86_holes, IsItem, AreItems, settled, fixes_of, blanks, ones}
-use Rattle.lg_selx_items.specs.declared.items.Item.{Item}
-use Rattle.lg_selx_items.specs.declared.items.Item.TheVariants.{Jump}
+use Rattle.lg_sel.proofs.OfControl.ControlLemmas.{differ, never, never-sum}
+use Rattle.lg_sel.specs.Holes.{Each}
+use Rattle.lg_sel.specs.Reaches.{near_size, Leads, LeadsTo, IsLeast, IsLeastAhead}
+use Rattle.lg_sel.specs.declared.reach.Reach.{Reach}
+use Rattle.lg_sel.specs.declared.reach.Reach.TheVariants.{Short, Near, Far}
+use Rattle.lg_selx.proofs.OfControl.ControlLemmas.{blanks-ones, branch-settled}
+use Rattle.lg_selx.specs.Control.Branches.{comparison, is_difference, far_number, pointer_comparison, wide_comparison, word_comparison, before_branch, taken}
+use Rattle.lg_selx.specs.Control.ControlItems.{jump_kind, branch_if_items, branch_items, sum_items, control_items}
+use Rattle.lg_selx.specs.Control.SumBranches.{sum_row, sum_number, number_sum, before_sum_branch, sum_taken}
+use Rattle.lg_selx.specs.Control.TwoWays.{jump_if}
+use Rattle.lg_selx_values.proofs.ItemLemmas.{fixes-append, fixes-ones}
+use Rattle.lg_selx_values.proofs.PatchLemmas.{are-holes}
+use Rattle.lg_selx_values.specs.Items.{x86_holes, IsItem, AreItems, settled, fixes_of, blanks, ones}
+use Rattle.lg_selx_values.specs.declared.items.Item.{Item}
+use Rattle.lg_selx_values.specs.declared.items.Item.TheVariants.{Jump}
 use Rattle.lg_selx_values.specs.Scratch.{again}
 use Rattle.lg_temp.specs.Abis.{register_of}
 

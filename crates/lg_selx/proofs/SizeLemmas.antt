@@ -1,7 +1,7 @@
 -- How many bytes items have: an instruction of x86-64 has at most 10.
 use Rattle.std.proofs.Common.{◌*◌, ◌≤◌, List, [], ◌∷◌, length, length-append, arith}
-use Rattle.lg_selx_items.specs.Items.{blank, words_in, blanks}
-use Rattle.lg_selx_items.specs.declared.items.Item.{Item}
+use Rattle.lg_selx_values.specs.Items.{blank, words_in, blanks}
+use Rattle.lg_selx_values.specs.declared.items.Item.{Item}
 use Rattle.lg_x86.specs.Spelling.{spelling}
 use Rattle.lg_x86.proofs.SizeLemmas.{sized}
 

@@ -4,7 +4,7 @@ use Rattle.std.specs.Prelude.{◌==◌, ◌&&◌, ◌%◌, ◌^◌, pos, negsuc,
 use Rattle.lg_base.specs.HostNames.{host_address}
 use Rattle.lg_base.specs.Words.{signed_view, is_half}
 use Rattle.lg_base.specs.declared.target.Target.TheVariants.{X86_64}
-use Rattle.lg_carry_x86.specs.Numbers.{number_row}
+use Rattle.lg_selx_values.specs.Processor.Numbers.{number_row}
 use Rattle.lg_op.specs.Forms.{is_alignment, forms_of, admit}
 use Rattle.lg_op.specs.declared.node.Node.{Node}
 use Rattle.lg_op.specs.declared.op.BranchSumOp.{BranchSumOp}
@@ -26,25 +26,25 @@ use Rattle.lg_sel.proofs.OperandLemmas.{has-words}
 use Rattle.lg_sel.proofs.PlaceLemmas.{and-first}
 use Rattle.lg_sel.specs.Families.{staged_count}
 use Rattle.lg_sel.specs.Selected.{IsFrame}
-use Rattle.lg_sel_items.specs.declared.reach.Reach.{Reach}
-use Rattle.lg_sel_values.specs.ValueNodes.{is_value}
+use Rattle.lg_sel.specs.declared.reach.Reach.{Reach}
+use Rattle.lg_carry.specs.Values.ValueNodes.{is_value}
 use Rattle.lg_selx.proofs.NeedLemmas.{value-is-none, made-values, made-access}
 use Rattle.lg_selx.proofs.SizeLemmas.{bytes-few}
 use Rattle.lg_selx.specs.Items.{x86_families, node_items}
 use Rattle.lg_selx.specs.Selected.{needs, IsAsked}
-use Rattle.lg_selx_control.specs.Alignments.{padding, idle}
-use Rattle.lg_selx_control.specs.Branches.{comparison, is_difference, far_number, pointer_comparison, wide_comparison, word_comparison, before_branch}
-use Rattle.lg_selx_control.specs.ControlItems.{branch_items, sum_items, jump_items, call_items, result_items, ret_items, register_jump_items, register_call_items, leap_items, align_items, plain_items, control_items}
-use Rattle.lg_sel_control.proofs.StoreLemmas.{stores-before}
-use Rattle.lg_selx_control.proofs.FitLemmas.{stored-few}
-use Rattle.lg_selx_control.specs.Prologs.{stored_registers, store_word, lowered, prolog_code}
-use Rattle.lg_selx_control.specs.Returns.{return_code}
-use Rattle.lg_selx_control.specs.SumBranches.{sum_row, sum_number, number_sum, before_sum_branch}
-use Rattle.lg_selx_items.proofs.ItemLemmas.{words_append, words-ones}
-use Rattle.lg_selx_items.specs.Items.{words_in, blanks, ones}
-use Rattle.lg_selx_items.specs.declared.items.Item.{Item}
-use Rattle.lg_selx_memory.specs.VariableArgumentCode.{next_argument_code}
-use Rattle.lg_selx_memory.proofs.FitLemmas.{memory-items-fit}
+use Rattle.lg_selx.specs.Control.Alignments.{padding, idle}
+use Rattle.lg_selx.specs.Control.Branches.{comparison, is_difference, far_number, pointer_comparison, wide_comparison, word_comparison, before_branch}
+use Rattle.lg_selx.specs.Control.ControlItems.{branch_items, sum_items, jump_items, call_items, result_items, ret_items, register_jump_items, register_call_items, leap_items, align_items, plain_items, control_items}
+use Rattle.lg_sel.proofs.OfControl.StoreLemmas.{stores-before}
+use Rattle.lg_selx.proofs.OfControl.FitLemmas.{stored-few}
+use Rattle.lg_selx.specs.Control.Prologs.{stored_registers, store_word, lowered, prolog_code}
+use Rattle.lg_selx.specs.Control.Returns.{return_code}
+use Rattle.lg_selx.specs.Control.SumBranches.{sum_row, sum_number, number_sum, before_sum_branch}
+use Rattle.lg_selx_values.proofs.ItemLemmas.{words_append, words-ones}
+use Rattle.lg_selx_values.specs.Items.{words_in, blanks, ones}
+use Rattle.lg_selx_values.specs.declared.items.Item.{Item}
+use Rattle.lg_selx.specs.Memory.VariableArgumentCode.{next_argument_code}
+use Rattle.lg_selx.proofs.OfMemory.FitLemmas.{memory-items-fit}
 use Rattle.lg_selx_values.proofs.ValueFitLemmas.{value-items-fit}
 use Rattle.lg_selx_values.specs.Scratch.{again}
 use Rattle.lg_op.specs.declared.operand.Reg.TheVariants.{R0}

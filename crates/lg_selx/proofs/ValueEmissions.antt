@@ -12,17 +12,17 @@ use Rattle.lg_op.specs.declared.op.WideOp.{WideOp}
 use Rattle.lg_op.specs.declared.operand.Operand.{Operand}
 use Rattle.lg_op.specs.declared.operand.Operand.TheVariants as operand
 use Rattle.lg_sel.proofs.LabelLemmas.{Passes, AllPass, passes-at}
-use Rattle.lg_sel_items.specs.declared.reach.Reach.{Reach}
+use Rattle.lg_sel.specs.declared.reach.Reach.{Reach}
 use Rattle.lg_selx.proofs.Emissions.{Keeps, keep-none, number-keeps, Emits, none, more, plain, number, address}
 use Rattle.lg_selx.proofs.SavedEmissions.{saved}
-use Rattle.lg_selx_items.proofs.WithinLemmas.{portable}
-use Rattle.lg_selx_items.specs.GoodItems.{Fine}
-use Rattle.lg_selx_items.specs.Items.{ones}
-use Rattle.lg_selx_items.specs.declared.items.Item.{Item}
+use Rattle.lg_selx_values.proofs.WithinLemmas.{portable}
+use Rattle.lg_selx_values.specs.GoodItems.{Fine}
+use Rattle.lg_selx_values.specs.Items.{ones}
+use Rattle.lg_selx_values.specs.declared.items.Item.{Item}
 use Rattle.lg_selx_values.proofs.RegisterLemmas.{register-portable}
 use Rattle.lg_selx_values.proofs.RowLemmas.{HoldsOfRows, Holds, rax-fine, binary-made, binary-number-made, unary-made, retval-made, wide-made, wide-number-made}
 use Rattle.lg_selx_values.specs.UnaryCode.{unary_code, retval_code}
-use Rattle.lg_sel_values.specs.Parts.{operand_in, register_for}
+use Rattle.lg_carry.specs.Values.Parts.{operand_in, register_for}
 use Rattle.lg_selx_values.specs.ValueItems.{load_items, binary_code, binary_number_code, binary_items, wide_items, register_in, body_items, value_items}
 use Rattle.lg_selx_values.specs.WideCode.{wide_code, wide_number_code}
 use Rattle.lg_temp.specs.Abis.{register_of}

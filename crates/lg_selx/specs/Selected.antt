@@ -7,7 +7,7 @@ use Rattle.lg_op.specs.declared.op.Op.TheVariants as op
 use Rattle.lg_op.specs.declared.operand.Reg.{Reg}
 use Rattle.lg_sel.specs.Asked as asked
 use Rattle.lg_sel.specs.Selected as selected
-use Rattle.lg_selx_memory.specs.Accesses.{store_needs}
+use Rattle.lg_selx.specs.Memory.Accesses.{store_needs}
 use Rattle.lg_selx_values.specs.Needs.{value_needs}
 use Rattle.lg_temp.specs.declared.choice.Choice.{Choice}
 use Rattle.lg_temp.specs.declared.choice.Need.{Need}

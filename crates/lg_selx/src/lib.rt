@@ -1,7 +1,10 @@
-//! The code of a node on x86-64: the temporaries that it asks for, and its instructions, which are appended to a buffer.
+//! The code of a node on x86-64: the temporaries that it asks for, and its instructions, which are appended to a buffer; the code of
+//! nodes that load, store and pass (memory), and of those that lead elsewhere (control), with the laws that it carries them.
 #![tactic(auto)]
 
+pub mod control;
 mod items;
+pub mod memory;
 mod selection;
 mod temporaries;
 

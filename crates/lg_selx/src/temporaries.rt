@@ -3,10 +3,10 @@
 ghost use Rattle.std.specs.Prelude.{◌≡◌, false};
 ghost use Rattle.std.specs.List.{list_any};
 ghost use Rattle.lg_selx.specs.Selected.{needs, is_any, is_store};
-ghost use Rattle.lg_selx_memory.specs.Accesses.{store_needs};
+ghost use Rattle.lg_selx.specs.Memory.Accesses.{store_needs};
 
 use lg_op::{Addressing, BinaryOp, LastOperand, Node, Op};
-use lg_temp::choice::{Need, Needs};
+use lg_temp::{Need, Needs};
 
 // The low word of a product, and a quotient.
 const RAX: u8 = 0;

@@ -13,9 +13,9 @@ use Rattle.lg_base.specs.declared.flags.Flags.{Flags}
 use Rattle.lg_cpu.specs.X86Operators.{bit, carry_for, alu_value, alu_flags, is_kept_by, negation_flags}
 use Rattle.lg_cpu.specs.X86Step.{with_carry, combined}
 use Rattle.lg_temp.specs.declared.choice.Choice.{Choice}
-use Rattle.lg_carry_x86.specs.Makings.{makes}
-use Rattle.lg_carry_x86.specs.MakingNodes.{scene}
-use Rattle.lg_sel_values.specs.Computers.{Held}
+use Rattle.lg_selx_values.specs.Processor.Makings.{makes}
+use Rattle.lg_selx_values.specs.Processor.MakingNodes.{scene}
+use Rattle.lg_carry.specs.Values.Computers.{Held}
 use Rattle.lg_base.specs.Flags.{carry_of}
 use Rattle.lg_selx_values.specs.BinaryCode.{ordered, commuting, difference}
 use Rattle.lg_selx_values.specs.Words.{MakesWord}

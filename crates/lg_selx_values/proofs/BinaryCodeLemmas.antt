@@ -8,7 +8,7 @@ use Rattle.lg_base.specs.Words.{add_words, sub_words, mul_words, differ, is_nega
 use Rattle.lg_base.specs.Wide.{zero_part_of, quotient_wide, quotient_wide_signed}
 use Rattle.lg_op.specs.declared.op.BinaryOp.{BinaryOp}
 use Rattle.lg_op.specs.declared.op.BinaryOp.TheVariants as binary
-use Rattle.lg_operators.specs.Operators.{word_where, divides, binary_value, is_carried}
+use Rattle.lg_op.specs.Operators.{word_where, divides, binary_value, is_carried}
 use Rattle.lg_x86.specs.declared.instruction.Instr.{Instr}
 use Rattle.lg_x86.specs.declared.instruction.Instr.TheVariants.{RmReg, RegRm, Lea2, Unary}
 use Rattle.lg_x86.specs.declared.instruction.RmRegOp.TheVariants as alu
@@ -24,10 +24,10 @@ use Rattle.lg_base.specs.declared.flags.Flags.{Flags}
 use Rattle.lg_cpu.specs.X86Operators.{no_flags, bit, difference_flags, overflows_difference, product_flags, needs_high_signed, shift_value, shift_flags, condition_holds, either, sign_word}
 use Rattle.lg_cpu.specs.X86Step.{sets_byte, sets_quotient}
 use Rattle.lg_temp.specs.declared.choice.Choice.{Choice}
-use Rattle.lg_carry_x86.specs.Makings.{makes}
-use Rattle.lg_carry_x86.specs.MakingNodes.{scene}
-use Rattle.lg_sel_nodes.specs.Straight.{is_taken}
-use Rattle.lg_sel_values.specs.Computers.{Held}
+use Rattle.lg_selx_values.specs.Processor.Makings.{makes}
+use Rattle.lg_selx_values.specs.Processor.MakingNodes.{scene}
+use Rattle.lg_carry.specs.Nodes.Straight.{is_taken}
+use Rattle.lg_carry.specs.Values.Computers.{Held}
 use Rattle.lg_selx_values.specs.WordLaws.{BinariesAreMade}
 use Rattle.lg_selx_values.specs.Scratch.{moved, again}
 use Rattle.lg_selx_values.specs.BinaryCode.{commuting, added, product, compared, shifted, divided, register_code}

@@ -8,9 +8,9 @@ use Rattle.lg_base.specs.declared.flags.Flags.{Flags}
 use Rattle.lg_base.specs.declared.target.Target.TheVariants.{X86_64}
 use Rattle.lg_op.specs.declared.op.BinaryOp.{BinaryOp}
 use Rattle.lg_op.specs.declared.op.BinaryOp.TheVariants as binary
-use Rattle.lg_operators.specs.declared.carry.Carry.{Carry}
-use Rattle.lg_operators.specs.declared.carry.Carry.TheVariants as carry
-use Rattle.lg_operators.specs.Operators.{is_carried, carry_in}
+use Rattle.lg_op.specs.declared.carry.Carry.{Carry}
+use Rattle.lg_op.specs.declared.carry.Carry.TheVariants as carry
+use Rattle.lg_op.specs.Operators.{is_carried, carry_in}
 use Rattle.lg_x86.specs.declared.instruction.Instr.{Instr}
 use Rattle.lg_x86.specs.declared.instruction.Instr.TheVariants.{RmReg}
 use Rattle.lg_x86.specs.declared.instruction.RmRegOp.{RmRegOp}
@@ -20,9 +20,9 @@ use Rattle.lg_cpu.specs.X86Operators.{bit, carry_for, alu_value, alu_flags, is_k
 use Rattle.lg_cpu.specs.X86Step.{combined}
 use Rattle.lg_meaning.specs.Steps.{bit_word}
 use Rattle.lg_carry.specs.Registers.{HoldsCarry}
-use Rattle.lg_sel_values.specs.Computers.{Held}
-use Rattle.lg_carry_x86.specs.MakingNodes.{scene}
-use Rattle.lg_carry_x86.specs.Makings.{makes}
+use Rattle.lg_carry.specs.Values.Computers.{Held}
+use Rattle.lg_selx_values.specs.Processor.MakingNodes.{scene}
+use Rattle.lg_selx_values.specs.Processor.Makings.{makes}
 use Rattle.lg_selx_values.specs.BinaryCode.{ordered, commuting}
 use Rattle.lg_selx_values.specs.CarriedCode.{taken_away, carried_register_code}
 use Rattle.lg_selx_values.specs.Scratch.{again}

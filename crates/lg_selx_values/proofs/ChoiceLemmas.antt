@@ -11,10 +11,10 @@ use Rattle.lg_temp.specs.declared.choice.Choice.{Choice}
 use Rattle.lg_temp.specs.declared.choice.Choice.TheVariants.{Free, Own, Spill}
 use Rattle.lg_temp.specs.Chosen.{Around, spills}
 use Rattle.lg_temp.specs.Choices.{AreFor}
-use Rattle.lg_selx_items.specs.GoodItems.{Fine}
+use Rattle.lg_selx_values.specs.GoodItems.{Fine}
 use Rattle.lg_selx_values.specs.Needs.{value_needs}
 use Rattle.lg_selx_values.specs.ValueFits.{ChoicesHaveSlots}
-use Rattle.lg_sel_values.specs.Parts.{HaveSlots}
+use Rattle.lg_carry.specs.Values.Parts.{HaveSlots}
 
 -- needs that name registers
 abbrev pub AreNamed : List Need → Type 0

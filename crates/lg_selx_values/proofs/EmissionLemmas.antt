@@ -4,10 +4,10 @@ use Rattle.std.specs.Prelude.{◌==◌, if◌then◌else◌}
 use Rattle.lg_x86.specs.declared.instruction.Instr.{Instr}
 use Rattle.lg_x86.specs.declared.instruction.Instr.TheVariants.{RmReg}
 use Rattle.lg_x86.specs.declared.instruction.RmRegOp.TheVariants.{Mov}
-use Rattle.lg_selx_items.specs.declared.items.Item.{Item}
-use Rattle.lg_selx_items.specs.declared.items.Item.TheVariants.{One}
-use Rattle.lg_selx_items.specs.Items.{words_in, ones}
-use Rattle.lg_selx_items.proofs.ItemLemmas.{words_append, words-ones, ones-append}
+use Rattle.lg_selx_values.specs.declared.items.Item.{Item}
+use Rattle.lg_selx_values.specs.declared.items.Item.TheVariants.{One}
+use Rattle.lg_selx_values.specs.Items.{words_in, ones}
+use Rattle.lg_selx_values.proofs.ItemLemmas.{words_append, words-ones, ones-append}
 use Rattle.lg_selx_values.specs.Scratch.{moved}
 
 pub ones_twice : (xs : List Item) (is js : List Instr) → (xs ++ ones is) ++ ones js ≡ xs ++ ones (is ++ js)

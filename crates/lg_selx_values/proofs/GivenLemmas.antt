@@ -14,10 +14,10 @@ use Rattle.lg_op.specs.declared.operand.Operand.{Operand}
 use Rattle.lg_op.specs.declared.operand.Operand.TheVariants as operand
 use Rattle.lg_meaning.specs.States.{State, value}
 use Rattle.lg_x86.specs.declared.instruction.Instr.TheVariants.{Movi32, Movs32, Movi64}
-use Rattle.lg_carry_x86.specs.Numbers.{number_row}
-use Rattle.lg_selx_items.specs.Items.{ones}
+use Rattle.lg_selx_values.specs.Processor.Numbers.{number_row}
+use Rattle.lg_selx_values.specs.Items.{ones}
 use Rattle.lg_selx_values.specs.ValueItems.{load_items, binary_number_code, binary_items, wide_items}
-use Rattle.lg_sel_nodes.specs.Operands.{IsWord}
+use Rattle.lg_carry.specs.Nodes.Operands.{IsWord}
 use Rattle.lg_selx_values.specs.ValueLaws.{IsUnlabelled}
 use Rattle.lg_selx_values.specs.WideCode.{wide_number_code}
 use Rattle.lg_selx_values.proofs.SettledLemmas.{Settles, settles-ones}

@@ -14,7 +14,7 @@ use Rattle.lg_op.specs.declared.operand.Reg.{Reg}
 use Rattle.lg_op.specs.declared.operand.Reg.TheVariants.{Fp}
 use Rattle.lg_op.specs.declared.operand.Operand.{Operand}
 use Rattle.lg_op.specs.declared.operand.Operand.TheVariants as operand
-use Rattle.lg_operators.specs.Operators.{is_carried}
+use Rattle.lg_op.specs.Operators.{is_carried}
 use Rattle.lg_node.specs.Preparations.{pushed}
 use Rattle.lg_temp.specs.declared.choice.Choice.{Choice}
 use Rattle.lg_temp.specs.Abis.{register_of}
@@ -23,20 +23,20 @@ use Rattle.lg_temp.specs.Choices.{AreFor}
 use Rattle.lg_carry.specs.FinalNodes.{Code}
 use Rattle.lg_carry.specs.NodeCode.{numbered, CarriesNode}
 use Rattle.lg_carry.specs.TextNodes.{IsInText, IsFrameOf}
-use Rattle.lg_sel_values.specs.ValueNodes.{binary_node, wide_node, unary_node, movi_node, va_start_node, retval_node}
+use Rattle.lg_carry.specs.Values.ValueNodes.{binary_node, wide_node, unary_node, movi_node, va_start_node, retval_node}
 use Rattle.lg_x86.specs.declared.instruction.Instr.{Instr}
-use Rattle.lg_carry_x86.specs.Numbers.{number_row}
-use Rattle.lg_carry_x86.specs.Places.{IsInCode}
-use Rattle.lg_carry_x86.specs.X86Rows.{x86_processor}
-use Rattle.lg_selx_items.specs.declared.items.Item.{Item}
-use Rattle.lg_selx_items.specs.Items.{settled}
+use Rattle.lg_selx_values.specs.Processor.Numbers.{number_row}
+use Rattle.lg_selx_values.specs.Processor.Places.{IsInCode}
+use Rattle.lg_selx_values.specs.Processor.X86Rows.{x86_processor}
+use Rattle.lg_selx_values.specs.declared.items.Item.{Item}
+use Rattle.lg_selx_values.specs.Items.{settled}
 use Rattle.lg_selx_values.specs.BinaryCode.{register_code, number_form_code}
 use Rattle.lg_selx_values.specs.CarriedCode.{carried_register_code, carried_number_code}
 use Rattle.lg_selx_values.specs.Needs.{value_needs}
 use Rattle.lg_selx_values.specs.RegisterNodes.{IsChosen}
 use Rattle.lg_selx_values.specs.UnaryCode.{unary_code, retval_code}
 use Rattle.lg_selx_values.specs.ValueItems.{binary_code, binary_number_code, body_items, value_items}
-use Rattle.lg_sel_nodes.specs.Operands.{AreWords}
+use Rattle.lg_carry.specs.Nodes.Operands.{AreWords}
 use Rattle.lg_selx_values.specs.ValueLaws.{AreUnlabelled, takes_label}
 use Rattle.lg_selx_values.specs.WideCode.{wide_code, wide_number_code}
 use Rattle.lg_selx_values.proofs.GivenLemmas.{is-load, is-given}

@@ -5,12 +5,18 @@ pub mod ChoiceLemmas
 pub mod EmissionLemmas
 pub mod EndLemmas
 pub mod GivenLemmas
+pub mod GoodLemmas
+pub mod ItemLemmas
 pub mod ItemNodeLemmas
+pub mod ItemWordLemmas
 pub mod NeedLemmas
 pub mod NodeLemmas
 pub mod NumberLemmas
 pub mod NumberNodeLemmas
 pub mod NumberWordLemmas
+pub mod OfNodesLemmas
+pub mod OfProcessor
+pub mod PatchLemmas
 pub mod QuotientLemmas
 pub mod RegisterLemmas
 pub mod RegisterNodeLemmas
@@ -24,4 +30,5 @@ pub mod ValueNodeLemmas
 pub mod WideCodeLemmas
 pub mod WideNodeLemmas
 pub mod WideNumberLemmas
+pub mod WithinLemmas
 pub mod WordLemmas

@@ -15,7 +15,7 @@ use Rattle.lg_temp.specs.declared.choice.Need.{Need}
 use Rattle.lg_temp.specs.declared.choice.Need.TheVariants.{Any, Only}
 use Rattle.lg_temp.specs.declared.choice.Choice.{Choice}
 use Rattle.lg_temp.specs.declared.choice.Choice.TheVariants.{Free, Own, Spill}
-use Rattle.lg_sel_nodes.specs.Straight.{is_taken}
+use Rattle.lg_carry.specs.Nodes.Straight.{is_taken}
 use Rattle.lg_selx_values.proofs.RegisterLemmas.{equal}
 
 -- ---- the registers that are taken

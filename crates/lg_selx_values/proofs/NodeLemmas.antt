@@ -12,7 +12,7 @@ use Rattle.lg_op.specs.declared.operand.Reg.{Reg}
 use Rattle.lg_op.specs.declared.operand.Reg.TheVariants.{Fp}
 use Rattle.lg_op.specs.declared.operand.Operand.{Operand}
 use Rattle.lg_op.specs.declared.operand.Operand.TheVariants as operand
-use Rattle.lg_operators.specs.Operators.{binary_value, is_carried, carry_in, carried_value, carried_out}
+use Rattle.lg_op.specs.Operators.{binary_value, is_carried, carry_in, carried_value, carried_out}
 use Rattle.lg_live.specs.Registers.{is_same}
 use Rattle.lg_live.specs.Uses.{is_read, is_written}
 use Rattle.lg_meaning.specs.States.{State, reg, value}
@@ -24,16 +24,16 @@ use Rattle.lg_carry.specs.Blocks.{spellings}
 use Rattle.lg_carry.specs.FinalNodes.{Code}
 use Rattle.lg_carry.specs.Processors.{Seen}
 use Rattle.lg_carry.specs.TextNodes.{IsInText}
-use Rattle.lg_sel_nodes.specs.Straight.{HoldsRead}
-use Rattle.lg_sel_nodes.proofs.RegisterLemmas.{same-self}
-use Rattle.lg_sel_values.specs.Computers.{Held}
-use Rattle.lg_sel_values.specs.ValueNodes.{binary_node}
-use Rattle.lg_sel_values.proofs.ResultLemmas.{or-false, or-middle, step-is, TwoGiven, two-given, holds-one, kept-apart}
+use Rattle.lg_carry.specs.Nodes.Straight.{HoldsRead}
+use Rattle.lg_carry.proofs.OfNodes.RegisterLemmas.{same-self}
+use Rattle.lg_carry.specs.Values.Computers.{Held}
+use Rattle.lg_carry.specs.Values.ValueNodes.{binary_node}
+use Rattle.lg_carry.proofs.OfValues.ResultLemmas.{or-false, or-middle, step-is, TwoGiven, two-given, holds-one, kept-apart}
 use Rattle.lg_x86.specs.Spelling.{spelling}
 use Rattle.lg_x86.specs.declared.instruction.Instr.{Instr}
 use Rattle.lg_x86.proofs.SizeLemmas.{sized}
-use Rattle.lg_carry_x86.specs.MakingNodes.{StepsBy, MakesNode}
-use Rattle.lg_carry_x86.specs.X86Computers.{x86_scratch}
+use Rattle.lg_selx_values.specs.Processor.MakingNodes.{StepsBy, MakesNode}
+use Rattle.lg_selx_values.specs.Processor.X86Computers.{x86_scratch}
 use Rattle.lg_selx_values.specs.WordLaws.{IsInFrame, MakesCarried}
 use Rattle.lg_selx_values.specs.Words.{MakesWord}
 

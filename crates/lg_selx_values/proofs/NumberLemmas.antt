@@ -11,11 +11,11 @@ use Rattle.lg_x86.specs.declared.instruction.RmRegOp.{RmRegOp}
 use Rattle.lg_cpu.specs.HostSteps.{put}
 use Rattle.lg_cpu.specs.X86Operators.{bit, carry_for, alu_value, alu_flags, alu_of, is_kept_by}
 use Rattle.lg_cpu.specs.X86Step.{combined}
-use Rattle.lg_sel_values.specs.Computers.{Held}
-use Rattle.lg_carry_x86.specs.MakingNodes.{scene}
-use Rattle.lg_carry_x86.specs.Makings.{makes}
-use Rattle.lg_carry_x86.specs.Numbers.{number_row}
-use Rattle.lg_carry_x86.proofs.NumberCodeLemmas.{view-word, row-loads}
+use Rattle.lg_carry.specs.Values.Computers.{Held}
+use Rattle.lg_selx_values.specs.Processor.MakingNodes.{scene}
+use Rattle.lg_selx_values.specs.Processor.Makings.{makes}
+use Rattle.lg_selx_values.specs.Processor.Numbers.{number_row}
+use Rattle.lg_selx_values.proofs.OfProcessor.NumberCodeLemmas.{view-word, row-loads}
 use Rattle.lg_selx_values.specs.BinaryCode.{with_number}
 use Rattle.lg_selx_values.specs.NumberLaws.{LeavesWord, NumberRowsAreMade}
 use Rattle.lg_selx_values.specs.Scratch.{moved, again}

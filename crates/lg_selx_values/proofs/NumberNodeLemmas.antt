@@ -6,18 +6,18 @@ use Rattle.lg_op.specs.declared.op.Op.TheVariants as op
 use Rattle.lg_op.specs.declared.op.BinaryOp.{BinaryOp}
 use Rattle.lg_op.specs.declared.op.BinaryOp.TheVariants as binary
 use Rattle.lg_op.specs.declared.op.LastOperand.TheVariants as last_operand
-use Rattle.lg_operators.specs.declared.carry.Carry.{Carry}
-use Rattle.lg_operators.specs.Operators.{binary_value, is_carried, carry_in}
+use Rattle.lg_op.specs.declared.carry.Carry.{Carry}
+use Rattle.lg_op.specs.Operators.{binary_value, is_carried, carry_in}
 use Rattle.lg_live.specs.Registers.{is_same}
 use Rattle.lg_meaning.specs.Steps.{bit_word}
 use Rattle.lg_x86.specs.declared.instruction.ImmOp.TheVariants as imm
 use Rattle.lg_temp.specs.Abis.{register_of}
 use Rattle.lg_temp.specs.Chosen.{is_named}
 use Rattle.lg_carry.specs.Registers.{HoldsCarry}
-use Rattle.lg_sel_nodes.specs.Straight.{is_taken}
-use Rattle.lg_sel_values.specs.Computers.{Held}
-use Rattle.lg_sel_values.specs.ValueNodes.{binary_node}
-use Rattle.lg_sel_values.proofs.ResultLemmas.{or-false}
+use Rattle.lg_carry.specs.Nodes.Straight.{is_taken}
+use Rattle.lg_carry.specs.Values.Computers.{Held}
+use Rattle.lg_carry.specs.Values.ValueNodes.{binary_node}
+use Rattle.lg_carry.proofs.OfValues.ResultLemmas.{or-false}
 use Rattle.lg_base.specs.Words.{is_half, negated}
 use Rattle.lg_selx_values.specs.BinaryCode.{is_near, number_form_code}
 use Rattle.lg_selx_values.specs.CarriedCode.{carried_number_code}

@@ -7,7 +7,7 @@ use Rattle.lg_base.specs.Wide.{zero_part_of, quotient_wide, quotient_wide_signed
 use Rattle.lg_base.specs.declared.flags.Flags.{Flags}
 use Rattle.lg_op.specs.declared.op.BinaryOp.{BinaryOp}
 use Rattle.lg_op.specs.declared.op.BinaryOp.TheVariants as binary
-use Rattle.lg_operators.specs.Operators.{word_where, divides, binary_value, is_carried}
+use Rattle.lg_op.specs.Operators.{word_where, divides, binary_value, is_carried}
 use Rattle.lg_x86.specs.declared.instruction.BareOp.TheVariants.{Cqo}
 use Rattle.lg_x86.specs.declared.instruction.Cond.{Cond}
 use Rattle.lg_x86.specs.declared.instruction.Cond.TheVariants as cond
@@ -26,12 +26,12 @@ use Rattle.lg_cpu.specs.HostSteps.{put}
 use Rattle.lg_cpu.specs.X86Operators.{no_flags, bit, alu_of, alu_value, carry_for, is_kept_by, difference_flags, product_flags, needs_high_signed, negation_flags, shift_value, shift_flags, condition_holds, sign_word}
 use Rattle.lg_cpu.specs.X86Step.{sets_byte, sets_quotient}
 use Rattle.lg_temp.specs.declared.choice.Choice.{Choice}
-use Rattle.lg_sel_nodes.specs.Straight.{is_taken}
-use Rattle.lg_sel_values.specs.Computers.{Held}
-use Rattle.lg_carry_x86.specs.MakingNodes.{scene}
-use Rattle.lg_carry_x86.specs.Makings.{makes}
-use Rattle.lg_carry_x86.specs.Numbers.{number_row}
-use Rattle.lg_carry_x86.proofs.NumberCodeLemmas.{view-word, row-loads}
+use Rattle.lg_carry.specs.Nodes.Straight.{is_taken}
+use Rattle.lg_carry.specs.Values.Computers.{Held}
+use Rattle.lg_selx_values.specs.Processor.MakingNodes.{scene}
+use Rattle.lg_selx_values.specs.Processor.Makings.{makes}
+use Rattle.lg_selx_values.specs.Processor.Numbers.{number_row}
+use Rattle.lg_selx_values.proofs.OfProcessor.NumberCodeLemmas.{view-word, row-loads}
 use Rattle.lg_selx_values.specs.BinaryCode.{with_number, is_near, answer, compared_number, shifted_number, divided_number, number_form_code}
 use Rattle.lg_selx_values.specs.NumberWords.{number_spoils, NumbersAreMade}
 use Rattle.lg_selx_values.specs.Scratch.{moved, again}

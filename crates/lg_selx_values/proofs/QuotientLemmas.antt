@@ -4,7 +4,7 @@ use Rattle.std.specs.Prelude.{◌==◌, ◌||◌, not, nat_lt, nat_le, if◌then
 use Rattle.std.proofs.Math.Nat.{div-le_self, div-lt_iff_lt-mul}
 use Rattle.lg_base.specs.Words.{magnitude, is_negative, differ, with_sign, quotient_signed, remainder_signed}
 use Rattle.lg_base.specs.Wide.{wide_magnitude, fits_signed, quotient_wide, quotient_wide_signed}
-use Rattle.lg_operators.specs.Operators.{is_least_by_minus_one, divides}
+use Rattle.lg_op.specs.Operators.{is_least_by_minus_one, divides}
 use Rattle.lg_cpu.specs.X86Operators.{sign_word}
 
 wide-is : (a : ℕ) → a < 2 ^ 64 → wide_magnitude (sign_word a) a ≡ magnitude a

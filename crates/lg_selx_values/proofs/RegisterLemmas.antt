@@ -10,8 +10,8 @@ use Rattle.lg_x86.specs.declared.instruction.Instr.TheVariants.{RmReg}
 use Rattle.lg_x86.specs.declared.instruction.RmRegOp.TheVariants.{Mov}
 use Rattle.lg_cpu.specs.HostSteps.{put}
 use Rattle.lg_base.specs.declared.flags.Flags.{Flags}
-use Rattle.lg_carry_x86.specs.MakingNodes.{scene}
-use Rattle.lg_carry_x86.specs.Makings.{makes}
+use Rattle.lg_selx_values.specs.Processor.MakingNodes.{scene}
+use Rattle.lg_selx_values.specs.Processor.Makings.{makes}
 use Rattle.lg_selx_values.specs.Scratch.{moved}
 
 pub pointwise : (f g : ℕ → ℕ) → ((r : ℕ) → f r ≡ g r) → f ≡ g

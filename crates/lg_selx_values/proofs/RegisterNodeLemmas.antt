@@ -10,7 +10,7 @@ use Rattle.lg_op.specs.declared.node.Node.{Node}
 use Rattle.lg_op.specs.declared.operand.Reg.{Reg}
 use Rattle.lg_op.specs.declared.operand.Reg.TheVariants.{Fp}
 use Rattle.lg_op.specs.declared.operand.Operand.TheVariants as operand
-use Rattle.lg_operators.specs.Operators.{binary_value, is_carried}
+use Rattle.lg_op.specs.Operators.{binary_value, is_carried}
 use Rattle.lg_live.specs.Registers.{is_same}
 use Rattle.lg_live.specs.Uses.{is_read}
 use Rattle.lg_meaning.specs.Steps.{bit_word}
@@ -27,15 +27,15 @@ use Rattle.lg_carry.specs.FinalNodes.{Code}
 use Rattle.lg_carry.specs.NodeCode.{numbered, CarriesNode}
 use Rattle.lg_carry.specs.TemporariesApart.{IsSpare}
 use Rattle.lg_carry.specs.TextNodes.{stands_inside}
-use Rattle.lg_sel_nodes.specs.Straight.{is_taken, ComputesNode}
-use Rattle.lg_sel_nodes.proofs.RegisterLemmas.{same-self}
-use Rattle.lg_sel_nodes.proofs.StraightLemmas.{computing-nodes-carry}
-use Rattle.lg_sel_values.proofs.ResultLemmas.{or-false}
-use Rattle.lg_carry_x86.specs.MakingNodes.{MakesNode}
-use Rattle.lg_carry_x86.specs.X86Computers.{x86_scratch}
-use Rattle.lg_carry_x86.specs.X86Rows.{x86_processor, x86_rows, can_save}
-use Rattle.lg_carry_x86.proofs.IsaLemmas.{is-isa}
-use Rattle.lg_carry_x86.proofs.MakingNodeLemmas.{making-nodes-compute}
+use Rattle.lg_carry.specs.Nodes.Straight.{is_taken, ComputesNode}
+use Rattle.lg_carry.proofs.OfNodes.RegisterLemmas.{same-self}
+use Rattle.lg_carry.proofs.OfNodes.StraightLemmas.{computing-nodes-carry}
+use Rattle.lg_carry.proofs.OfValues.ResultLemmas.{or-false}
+use Rattle.lg_selx_values.specs.Processor.MakingNodes.{MakesNode}
+use Rattle.lg_selx_values.specs.Processor.X86Computers.{x86_scratch}
+use Rattle.lg_selx_values.specs.Processor.X86Rows.{x86_processor, x86_rows, can_save}
+use Rattle.lg_selx_values.proofs.OfProcessor.IsaLemmas.{is-isa}
+use Rattle.lg_selx_values.proofs.OfProcessor.MakingNodeLemmas.{making-nodes-compute}
 use Rattle.lg_selx_values.specs.BinaryCode.{register_code}
 use Rattle.lg_selx_values.specs.CarriedCode.{carried_register_code}
 use Rattle.lg_selx_values.specs.Needs.{value_needs, spoils}

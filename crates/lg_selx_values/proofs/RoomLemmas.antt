@@ -6,11 +6,11 @@ use Rattle.lg_op.specs.declared.op.Op.{Op}
 use Rattle.lg_op.specs.declared.operand.Operand.{Operand}
 use Rattle.lg_temp.specs.declared.choice.Choice.{Choice}
 use Rattle.lg_temp.specs.declared.choice.Choice.TheVariants.{Free, Own, Spill}
-use Rattle.lg_selx_items.specs.declared.items.Item.{Item}
-use Rattle.lg_selx_items.specs.declared.items.Item.TheVariants.{One}
-use Rattle.lg_selx_items.specs.Items.{words_in}
-use Rattle.lg_selx_items.proofs.ItemLemmas.{words_append}
-use Rattle.lg_sel_values.specs.Parts.{operand_in, HaveSlots}
+use Rattle.lg_selx_values.specs.declared.items.Item.{Item}
+use Rattle.lg_selx_values.specs.declared.items.Item.TheVariants.{One}
+use Rattle.lg_selx_values.specs.Items.{words_in}
+use Rattle.lg_selx_values.proofs.ItemLemmas.{words_append}
+use Rattle.lg_carry.specs.Values.Parts.{operand_in, HaveSlots}
 use Rattle.lg_selx_values.specs.ValueItems.{body_items, restore, saved_items}
 use Rattle.lg_selx_values.proofs.RowLemmas.{HoldsOfRows}
 use Rattle.lg_selx_values.proofs.ValueFitLemmas.{any-number, body-are}

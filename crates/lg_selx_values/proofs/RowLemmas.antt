@@ -11,7 +11,7 @@ use Rattle.lg_op.specs.declared.op.ValueType.{ValueType}
 use Rattle.lg_op.specs.declared.op.ValueType.TheVariants as value_type
 use Rattle.lg_op.specs.declared.op.WideOp.{WideOp}
 use Rattle.lg_op.specs.declared.op.WideOp.TheVariants as wide
-use Rattle.lg_operators.specs.Operators.{is_carried}
+use Rattle.lg_op.specs.Operators.{is_carried}
 use Rattle.lg_x86.specs.declared.instruction.BareOp.TheVariants.{Cqo}
 use Rattle.lg_x86.specs.declared.instruction.Cond.{Cond}
 use Rattle.lg_x86.specs.declared.instruction.ImmOp.{ImmOp}
@@ -27,10 +27,10 @@ use Rattle.lg_x86.specs.declared.instruction.ShiftOp.{ShiftOp}
 use Rattle.lg_x86.specs.declared.instruction.ShiftOp.TheVariants.{Shli, Shri, Sari}
 use Rattle.lg_x86.specs.declared.instruction.UnaryOp.{UnaryOp}
 use Rattle.lg_x86.specs.declared.instruction.UnaryOp.TheVariants as row
-use Rattle.lg_carry_x86.specs.Numbers.{number_row}
-use Rattle.lg_sel_items.specs.Holes.{Each}
-use Rattle.lg_sel_items.proofs.ListLemmas.{each-append}
-use Rattle.lg_selx_items.specs.GoodItems.{Fine}
+use Rattle.lg_selx_values.specs.Processor.Numbers.{number_row}
+use Rattle.lg_sel.specs.Holes.{Each}
+use Rattle.lg_sel.proofs.ListLemmas.{each-append}
+use Rattle.lg_selx_values.specs.GoodItems.{Fine}
 use Rattle.lg_selx_values.specs.BinaryCode.{ordered, commuting, added, difference, product, answer, compared, shifted, divided, cond_of, register_code, with_number, is_near, added_number, less_number, compared_number, shifted_number, divided_number, number_form_code}
 use Rattle.lg_selx_values.specs.CarriedCode.{taken_away, carried_register_code, carried_number_code}
 use Rattle.lg_selx_values.specs.Scratch.{moved, again}

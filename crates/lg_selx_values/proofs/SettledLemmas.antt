@@ -5,11 +5,11 @@ use Rattle.lg_x86.specs.declared.instruction.Instr.{Instr}
 use Rattle.lg_temp.specs.declared.choice.Choice.{Choice}
 use Rattle.lg_temp.specs.declared.choice.Choice.TheVariants.{Free, Own, Spill}
 use Rattle.lg_carry.specs.Spills.{wrapped}
-use Rattle.lg_carry_x86.specs.X86Rows.{x86_rows}
-use Rattle.lg_selx_items.specs.declared.items.Item.{Item}
-use Rattle.lg_selx_items.specs.declared.items.Item.TheVariants.{One}
-use Rattle.lg_selx_items.specs.Items.{blanks, settled, ones}
-use Rattle.lg_selx_items.proofs.ItemLemmas.{settled-append, settled-ones}
+use Rattle.lg_selx_values.specs.Processor.X86Rows.{x86_rows}
+use Rattle.lg_selx_values.specs.declared.items.Item.{Item}
+use Rattle.lg_selx_values.specs.declared.items.Item.TheVariants.{One}
+use Rattle.lg_selx_values.specs.Items.{blanks, settled, ones}
+use Rattle.lg_selx_values.proofs.ItemLemmas.{settled-append, settled-ones}
 use Rattle.lg_selx_values.specs.ValueItems.{save, restore, saved_items}
 
 -- items that become these instructions wherever they stand

@@ -8,11 +8,11 @@ use Rattle.lg_x86.specs.declared.instruction.LoadOp.TheVariants as load
 use Rattle.lg_x86.specs.declared.instruction.Instr.{Instr}
 use Rattle.lg_x86.specs.declared.instruction.Instr.TheVariants.{RmReg, Imm, RegRm, Load, Lea2, Movi32, Unary, Shift, Bswap, Set, Bare}
 use Rattle.lg_x86.proofs.SizeLemmas.{sized}
-use Rattle.lg_carry_x86.specs.Numbers.{number_row}
-use Rattle.lg_sel_items.specs.Holes.{Each}
-use Rattle.lg_selx_items.specs.declared.items.Item.{Item}
-use Rattle.lg_selx_items.specs.declared.items.Item.TheVariants.{One, Address}
-use Rattle.lg_selx_items.specs.Items.{blank, words_in, blanks}
+use Rattle.lg_selx_values.specs.Processor.Numbers.{number_row}
+use Rattle.lg_sel.specs.Holes.{Each}
+use Rattle.lg_selx_values.specs.declared.items.Item.{Item}
+use Rattle.lg_selx_values.specs.declared.items.Item.TheVariants.{One, Address}
+use Rattle.lg_selx_values.specs.Items.{blank, words_in, blanks}
 use Rattle.lg_selx_values.specs.ValueItems.{save, restore}
 use Rattle.lg_selx_values.proofs.RowLemmas.{HoldsOfRows}
 

@@ -11,9 +11,9 @@ use Rattle.lg_op.specs.declared.op.UnaryOp.TheVariants as unary
 use Rattle.lg_op.specs.declared.op.ValueType.{ValueType}
 use Rattle.lg_op.specs.declared.op.ValueType.TheVariants as value_type
 use Rattle.lg_op.specs.declared.operand.Reg.{Reg}
-use Rattle.lg_operators.specs.declared.carry.Carry.{Carry}
-use Rattle.lg_operators.specs.declared.carry.Carry.TheVariants as carry
-use Rattle.lg_operators.specs.Operators.{unary_value, keeps_carry, extended_by_type}
+use Rattle.lg_op.specs.declared.carry.Carry.{Carry}
+use Rattle.lg_op.specs.declared.carry.Carry.TheVariants as carry
+use Rattle.lg_op.specs.Operators.{unary_value, keeps_carry, extended_by_type}
 use Rattle.lg_x86.specs.declared.instruction.Instr.{Instr}
 use Rattle.lg_x86.specs.declared.instruction.Instr.TheVariants.{RmReg, Unary, Shift, Bswap}
 use Rattle.lg_x86.specs.declared.instruction.RmRegOp.TheVariants.{Mov}
@@ -23,18 +23,18 @@ use Rattle.lg_cpu.specs.HostSteps.{put}
 use Rattle.lg_temp.specs.Abis.{register_of}
 use Rattle.lg_temp.specs.declared.choice.Choice.{Choice}
 use Rattle.lg_carry.specs.Registers.{HoldsCarry}
-use Rattle.lg_sel_values.specs.Computers.{Held, all_compute, computed}
-use Rattle.lg_sel_values.specs.Values.{ComputesInto, KeepsCarry}
-use Rattle.lg_sel_values.proofs.ComputationLemmas.{computing-computes}
-use Rattle.lg_sel_values.proofs.OneWordLemmas.{unary-nodes-compute, movi-nodes-compute, va-start-nodes-compute, retval-nodes-compute}
-use Rattle.lg_carry_x86.specs.Numbers.{number_row}
-use Rattle.lg_carry_x86.specs.X86Computers.{x86_scratch, computes, bare, held_of, held_by, x86_computer}
-use Rattle.lg_carry_x86.proofs.ComputerLemmas.{is-computer}
-use Rattle.lg_carry_x86.proofs.NumberCodeLemmas.{row-loads}
+use Rattle.lg_carry.specs.Values.Computers.{Held, all_compute, computed}
+use Rattle.lg_carry.specs.Values.Values.{ComputesInto, KeepsCarry}
+use Rattle.lg_carry.proofs.OfValues.ComputationLemmas.{computing-computes}
+use Rattle.lg_carry.proofs.OfValues.OneWordLemmas.{unary-nodes-compute, movi-nodes-compute, va-start-nodes-compute, retval-nodes-compute}
+use Rattle.lg_selx_values.specs.Processor.Numbers.{number_row}
+use Rattle.lg_selx_values.specs.Processor.X86Computers.{x86_scratch, computes, bare, held_of, held_by, x86_computer}
+use Rattle.lg_selx_values.proofs.OfProcessor.ComputerLemmas.{is-computer}
+use Rattle.lg_selx_values.proofs.OfProcessor.NumberCodeLemmas.{row-loads}
 use Rattle.lg_selx_values.specs.RegisterNodes.{UnariesCarry, MovisCarry, VaStartsCarry, RetvalsCarry}
 use Rattle.lg_selx_values.specs.Scratch.{moved}
 use Rattle.lg_selx_values.specs.UnaryCode.{unary_code, retval_code}
-use Rattle.lg_sel_values.specs.ValueNodes.{unary_node, movi_node, va_start_node, retval_node}
+use Rattle.lg_carry.specs.Values.ValueNodes.{unary_node, movi_node, va_start_node, retval_node}
 use Rattle.lg_selx_values.proofs.NodeLemmas.{some-spelled}
 use Rattle.lg_selx_values.proofs.RegisterLemmas.{put-same, put-other, put-twice, put-own, equal, register-portable}
 use Rattle.lg_selx_values.proofs.RegisterNodeLemmas.{straight-carries}

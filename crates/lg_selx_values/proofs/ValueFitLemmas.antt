@@ -21,23 +21,23 @@ use Rattle.lg_temp.specs.Chosen.{around}
 use Rattle.lg_x86.specs.Spelling.{IsNumber32}
 use Rattle.lg_x86.specs.declared.instruction.Instr.{Instr}
 use Rattle.lg_x86.specs.declared.instruction.Instr.TheVariants.{Movi32, Movs32, Movi64}
-use Rattle.lg_carry_x86.specs.Destinations.{WritesWithin}
-use Rattle.lg_carry_x86.specs.Numbers.{number_row}
-use Rattle.lg_carry_x86.specs.X86Rows.{slot_offset}
-use Rattle.lg_carry_x86.proofs.NumberCodeLemmas.{half-number}
-use Rattle.lg_sel_items.specs.Holes.{Each}
-use Rattle.lg_sel_items.proofs.ListLemmas.{each-append}
-use Rattle.lg_selx_items.specs.declared.items.Item.{Item}
-use Rattle.lg_selx_items.specs.declared.items.Item.TheVariants.{One, Address}
-use Rattle.lg_selx_items.specs.Items.{words_in, ones, StaysWithin, NameLabels}
-use Rattle.lg_selx_items.specs.GoodItems.{Fine, IsGood, IsGoodItem}
-use Rattle.lg_selx_items.proofs.GoodLemmas.{number-good, good-items-are-appendable}
-use Rattle.lg_selx_items.proofs.ItemLemmas.{words_append, words-ones, names-append, names-ones}
-use Rattle.lg_selx_items.proofs.WithinLemmas.{In, portable}
+use Rattle.lg_selx_values.specs.Processor.Destinations.{WritesWithin}
+use Rattle.lg_selx_values.specs.Processor.Numbers.{number_row}
+use Rattle.lg_selx_values.specs.Processor.X86Rows.{slot_offset}
+use Rattle.lg_selx_values.proofs.OfProcessor.NumberCodeLemmas.{half-number}
+use Rattle.lg_sel.specs.Holes.{Each}
+use Rattle.lg_sel.proofs.ListLemmas.{each-append}
+use Rattle.lg_selx_values.specs.declared.items.Item.{Item}
+use Rattle.lg_selx_values.specs.declared.items.Item.TheVariants.{One, Address}
+use Rattle.lg_selx_values.specs.Items.{words_in, ones, StaysWithin, NameLabels}
+use Rattle.lg_selx_values.specs.GoodItems.{Fine, IsGood, IsGoodItem}
+use Rattle.lg_selx_values.proofs.GoodLemmas.{number-good, good-items-are-appendable}
+use Rattle.lg_selx_values.proofs.ItemLemmas.{words_append, words-ones, names-append, names-ones}
+use Rattle.lg_selx_values.proofs.WithinLemmas.{In, portable}
 use Rattle.lg_selx_values.specs.UnaryCode.{unary_code, retval_code}
-use Rattle.lg_sel_nodes.specs.Operands.{HasWord, HaveWords, NamesBelow, NameBelow}
+use Rattle.lg_carry.specs.Nodes.Operands.{HasWord, HaveWords, NamesBelow, NameBelow}
 use Rattle.lg_selx_values.specs.ValueFits.{ValueItemsFit, ValueItemsName, ValueItemsStay}
-use Rattle.lg_sel_values.specs.Parts.{operand_in, register_for}
+use Rattle.lg_carry.specs.Values.Parts.{operand_in, register_for}
 use Rattle.lg_selx_values.specs.ValueItems.{load_items, binary_code, binary_number_code, binary_items, wide_items, register_in, body_items, save, restore, saved_items, value_items}
 use Rattle.lg_selx_values.specs.WideCode.{wide_code, wide_number_code}
 use Rattle.lg_selx_values.proofs.ChoiceLemmas.{AreSaved, chosen-well, slots-of}

@@ -6,16 +6,16 @@ use Rattle.lg_base.specs.Words.{add_words, mul_words, high_product, high_product
 use Rattle.lg_base.specs.Wide.{quotient_wide, quotient_wide_signed}
 use Rattle.lg_op.specs.declared.op.WideOp.{WideOp}
 use Rattle.lg_op.specs.declared.op.WideOp.TheVariants as wide
-use Rattle.lg_operators.specs.Operators.{divides, pair_where, wide_value}
+use Rattle.lg_op.specs.Operators.{divides, pair_where, wide_value}
 use Rattle.lg_x86.specs.declared.instruction.Instr.{Instr}
 use Rattle.lg_cpu.specs.HostSteps.{put}
 use Rattle.lg_cpu.specs.X86Operators.{no_flags, product_flags, needs_high, needs_high_signed, sign_word}
 use Rattle.lg_cpu.specs.X86Step.{sets_quotient}
 use Rattle.lg_temp.specs.declared.choice.Choice.{Choice}
-use Rattle.lg_carry_x86.specs.Makings.{makes}
-use Rattle.lg_carry_x86.specs.MakingNodes.{scene}
-use Rattle.lg_sel_nodes.specs.Straight.{is_taken}
-use Rattle.lg_sel_values.specs.Computers.{Held}
+use Rattle.lg_selx_values.specs.Processor.Makings.{makes}
+use Rattle.lg_selx_values.specs.Processor.MakingNodes.{scene}
+use Rattle.lg_carry.specs.Nodes.Straight.{is_taken}
+use Rattle.lg_carry.specs.Values.Computers.{Held}
 use Rattle.lg_selx_values.specs.Scratch.{again}
 use Rattle.lg_selx_values.specs.WideCode.{results, wide_code}
 use Rattle.lg_selx_values.specs.WordLaws.{WidePairsAreMade}

@@ -11,7 +11,7 @@ use Rattle.lg_op.specs.declared.operand.Reg.{Reg}
 use Rattle.lg_op.specs.declared.operand.Reg.TheVariants.{Fp}
 use Rattle.lg_op.specs.declared.operand.Operand.{Operand}
 use Rattle.lg_op.specs.declared.operand.Operand.TheVariants as operand
-use Rattle.lg_operators.specs.Operators.{wide_value}
+use Rattle.lg_op.specs.Operators.{wide_value}
 use Rattle.lg_live.specs.Registers.{is_same}
 use Rattle.lg_live.specs.Uses.{is_read, is_written}
 use Rattle.lg_meaning.specs.States.{State, reg, value}
@@ -26,18 +26,18 @@ use Rattle.lg_carry.specs.FinalNodes.{Code}
 use Rattle.lg_carry.specs.Processors.{Seen}
 use Rattle.lg_carry.specs.TextNodes.{IsInText}
 use Rattle.lg_carry.proofs.StackLemmas.{or-cases}
-use Rattle.lg_sel_nodes.specs.Straight.{HoldsRead, is_taken}
-use Rattle.lg_sel_nodes.proofs.RegisterLemmas.{same-self}
-use Rattle.lg_sel_values.specs.ValueNodes.{wide_node}
-use Rattle.lg_sel_values.proofs.ResultLemmas.{or-false, step-is, TwoGiven, two-given}
+use Rattle.lg_carry.specs.Nodes.Straight.{HoldsRead, is_taken}
+use Rattle.lg_carry.proofs.OfNodes.RegisterLemmas.{same-self}
+use Rattle.lg_carry.specs.Values.ValueNodes.{wide_node}
+use Rattle.lg_carry.proofs.OfValues.ResultLemmas.{or-false, step-is, TwoGiven, two-given}
 use Rattle.lg_x86.specs.declared.instruction.Instr.{Instr}
-use Rattle.lg_carry_x86.specs.MakingNodes.{StepsBy, MakesNode}
+use Rattle.lg_selx_values.specs.Processor.MakingNodes.{StepsBy, MakesNode}
 use Rattle.lg_selx_values.specs.RegisterNodes.{wide_registers, WideRegistersCarry, WideNumbersCarry}
 use Rattle.lg_selx_values.specs.WideCode.{wide_code, wide_number_code}
 use Rattle.lg_selx_values.specs.Words.{MakesPair}
 use Rattle.lg_selx_values.proofs.NeedLemmas.{named-apart, same-register}
 use Rattle.lg_selx_values.proofs.NodeLemmas.{holding, in-frame, some-spelled}
-use Rattle.lg_sel_values.proofs.TwoResultLemmas.{registers-apart, or-left, or-right, holds-two, writes-first, writes-second}
+use Rattle.lg_carry.proofs.OfValues.TwoResultLemmas.{registers-apart, or-left, or-right, holds-two, writes-first, writes-second}
 use Rattle.lg_selx_values.proofs.RegisterLemmas.{register-portable, register-not-frame}
 use Rattle.lg_selx_values.proofs.RegisterNodeLemmas.{two-named, chosen-carries}
 use Rattle.lg_selx_values.proofs.WideCodeLemmas.{some-same, wide-pairs-are-made}

@@ -5,7 +5,7 @@ use Rattle.std.specs.Option.{option_and_then}
 use Rattle.lg_base.specs.Words.{add_words, mul_words, high_product, high_product_signed, quotient, remainder, quotient_signed, remainder_signed}
 use Rattle.lg_op.specs.declared.op.WideOp.{WideOp}
 use Rattle.lg_op.specs.declared.op.WideOp.TheVariants as wide
-use Rattle.lg_operators.specs.Operators.{divides, wide_value}
+use Rattle.lg_op.specs.Operators.{divides, wide_value}
 use Rattle.lg_x86.specs.declared.instruction.Instr.{Instr}
 use Rattle.lg_x86.specs.declared.instruction.Instr.TheVariants.{Movi32, Unary, Bare}
 use Rattle.lg_x86.specs.declared.instruction.BareOp.TheVariants.{Cqo}
@@ -14,11 +14,11 @@ use Rattle.lg_cpu.specs.HostSteps.{put}
 use Rattle.lg_cpu.specs.X86Operators.{no_flags, product_flags, needs_high, needs_high_signed, sign_word}
 use Rattle.lg_cpu.specs.X86Step.{sets_quotient}
 use Rattle.lg_temp.specs.declared.choice.Choice.{Choice}
-use Rattle.lg_carry_x86.specs.Makings.{makes}
-use Rattle.lg_carry_x86.specs.MakingNodes.{scene}
-use Rattle.lg_carry_x86.proofs.NumberCodeLemmas.{row-loads}
-use Rattle.lg_sel_nodes.specs.Straight.{is_taken}
-use Rattle.lg_sel_values.specs.Computers.{Held}
+use Rattle.lg_selx_values.specs.Processor.Makings.{makes}
+use Rattle.lg_selx_values.specs.Processor.MakingNodes.{scene}
+use Rattle.lg_selx_values.proofs.OfProcessor.NumberCodeLemmas.{row-loads}
+use Rattle.lg_carry.specs.Nodes.Straight.{is_taken}
+use Rattle.lg_carry.specs.Values.Computers.{Held}
 use Rattle.lg_selx_values.specs.NumberWords.{WideNumbersAreMade}
 use Rattle.lg_selx_values.specs.Scratch.{again}
 use Rattle.lg_selx_values.specs.WideCode.{results, wide_number_code}

@@ -18,7 +18,7 @@ use Rattle.lg_x86.specs.declared.instruction.ShiftOp.TheVariants.{Shli, Shri, Sa
 use Rattle.lg_x86.specs.declared.instruction.BareOp.TheVariants.{Cqo}
 use Rattle.lg_x86.specs.declared.instruction.Cond.{Cond}
 use Rattle.lg_x86.specs.declared.instruction.Cond.TheVariants as cond
-use Rattle.lg_carry_x86.specs.Numbers.{number_row}
+use Rattle.lg_selx_values.specs.Processor.Numbers.{number_row}
 use Rattle.lg_selx_values.specs.Scratch.{again, moved}
 
 -- d = a op b where d is not b, or where the order of the words does not matter

@@ -1,8 +1,12 @@
 pub mod BinaryCode
 pub mod CarriedCode
+pub mod GoodItems
+pub mod Items
 pub mod Needs
 pub mod NumberLaws
 pub mod NumberWords
+pub mod OfNodes
+pub mod Processor
 pub mod RegisterNodes
 pub mod Scratch
 pub mod UnaryCode

@@ -2,7 +2,7 @@
 use Rattle.std.specs.Prelude.{◌≡◌, ◌≢◌, ℕ, ◌^◌, ◌<◌, Bool, false, List, [], Option, Some}
 use Rattle.lg_base.specs.Flags.{carry_of}
 use Rattle.lg_cpu.specs.X86Operators.{bit, carry_for, alu_value, alu_flags, alu_of, is_kept_by}
-use Rattle.lg_sel_values.specs.Computers.{Held}
+use Rattle.lg_carry.specs.Values.Computers.{Held}
 use Rattle.lg_x86.specs.declared.instruction.ImmOp.{ImmOp}
 use Rattle.lg_x86.specs.declared.instruction.Instr.{Instr}
 use Rattle.lg_selx_values.specs.BinaryCode.{with_number}

@@ -3,10 +3,10 @@ use Rattle.std.specs.Prelude.{◌≡◌, ◌≢◌, ℕ, ◌==◌, ◌||◌, ◌
 use Rattle.lg_op.specs.declared.op.BinaryOp.{BinaryOp}
 use Rattle.lg_op.specs.declared.op.BinaryOp.TheVariants as binary
 use Rattle.lg_op.specs.declared.op.WideOp.{WideOp}
-use Rattle.lg_operators.specs.Operators.{binary_value, is_carried, wide_value}
+use Rattle.lg_op.specs.Operators.{binary_value, is_carried, wide_value}
 use Rattle.lg_temp.specs.declared.choice.Choice.{Choice}
-use Rattle.lg_sel_nodes.specs.Straight.{is_taken}
-use Rattle.lg_sel_values.specs.Computers.{Held}
+use Rattle.lg_carry.specs.Nodes.Straight.{is_taken}
+use Rattle.lg_carry.specs.Values.Computers.{Held}
 use Rattle.lg_selx_values.specs.BinaryCode.{number_form_code}
 use Rattle.lg_selx_values.specs.WideCode.{wide_number_code}
 use Rattle.lg_selx_values.specs.WordLaws.{IsInFrame}

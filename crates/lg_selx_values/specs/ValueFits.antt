@@ -7,12 +7,12 @@ use Rattle.lg_temp.specs.declared.choice.Choice.{Choice}
 use Rattle.lg_temp.specs.Chosen.{around}
 use Rattle.lg_temp.specs.Choices.{AreFor}
 use Rattle.lg_carry.specs.Blocks.{IsBlock}
-use Rattle.lg_carry_x86.specs.X86Rows.{is_straight}
-use Rattle.lg_selx_items.specs.Items.{words_in, blanks, settled, AreItems, NameLabels, StayWithin}
+use Rattle.lg_selx_values.specs.Processor.X86Rows.{is_straight}
+use Rattle.lg_selx_values.specs.Items.{words_in, blanks, settled, AreItems, NameLabels, StayWithin}
 use Rattle.lg_selx_values.specs.Needs.{value_needs}
-use Rattle.lg_sel_values.specs.Parts.{HaveSlots}
+use Rattle.lg_carry.specs.Values.Parts.{HaveSlots}
 use Rattle.lg_selx_values.specs.ValueItems.{value_items}
-use Rattle.lg_sel_nodes.specs.Operands.{HaveWords, NameBelow}
+use Rattle.lg_carry.specs.Nodes.Operands.{HaveWords, NameBelow}
 
 -- at most two registers are chosen; the items are in the ranges of their instructions, of which there are at most 12, with at most 128 bytes in all, and
 -- each is followed by the next

@@ -10,7 +10,7 @@ use Rattle.lg_op.specs.declared.op.PlainOp.TheVariants as plain
 use Rattle.lg_op.specs.declared.node.Node.{Node}
 use Rattle.lg_op.specs.declared.operand.Operand.{Operand}
 use Rattle.lg_op.specs.declared.operand.Operand.TheVariants as operand
-use Rattle.lg_operators.specs.Operators.{is_carried}
+use Rattle.lg_op.specs.Operators.{is_carried}
 use Rattle.lg_temp.specs.declared.choice.Choice.{Choice}
 use Rattle.lg_temp.specs.declared.choice.Choice.TheVariants.{Free, Own, Spill}
 use Rattle.lg_temp.specs.Abis.{register_of}
@@ -18,12 +18,12 @@ use Rattle.lg_x86.specs.declared.instruction.Instr.{Instr}
 use Rattle.lg_x86.specs.declared.instruction.Instr.TheVariants.{Load, Store}
 use Rattle.lg_x86.specs.declared.instruction.LoadOp.TheVariants.{Ld64}
 use Rattle.lg_x86.specs.declared.instruction.StoreOp.TheVariants.{St64}
-use Rattle.lg_carry_x86.specs.Numbers.{number_row}
-use Rattle.lg_carry_x86.specs.X86Rows.{slot_offset}
-use Rattle.lg_sel_values.specs.Parts.{operand_in, register_for}
-use Rattle.lg_selx_items.specs.declared.items.Item.{Item}
-use Rattle.lg_selx_items.specs.declared.items.Item.TheVariants.{One, Address}
-use Rattle.lg_selx_items.specs.Items.{ones}
+use Rattle.lg_selx_values.specs.Processor.Numbers.{number_row}
+use Rattle.lg_selx_values.specs.Processor.X86Rows.{slot_offset}
+use Rattle.lg_carry.specs.Values.Parts.{operand_in, register_for}
+use Rattle.lg_selx_values.specs.declared.items.Item.{Item}
+use Rattle.lg_selx_values.specs.declared.items.Item.TheVariants.{One, Address}
+use Rattle.lg_selx_values.specs.Items.{ones}
 use Rattle.lg_selx_values.specs.BinaryCode.{register_code, number_form_code}
 use Rattle.lg_selx_values.specs.CarriedCode.{carried_register_code, carried_number_code}
 use Rattle.lg_selx_values.specs.UnaryCode.{unary_code, retval_code}

@@ -15,13 +15,13 @@ use Rattle.lg_temp.specs.Choices.{AreFor}
 use Rattle.lg_carry.specs.FinalNodes.{Code}
 use Rattle.lg_carry.specs.NodeCode.{numbered, CarriesNode}
 use Rattle.lg_carry.specs.TextNodes.{IsInText, IsFrameOf}
-use Rattle.lg_carry_x86.specs.Places.{IsInCode}
-use Rattle.lg_carry_x86.specs.X86Rows.{x86_processor}
-use Rattle.lg_selx_items.specs.Items.{settled}
+use Rattle.lg_selx_values.specs.Processor.Places.{IsInCode}
+use Rattle.lg_selx_values.specs.Processor.X86Rows.{x86_processor}
+use Rattle.lg_selx_values.specs.Items.{settled}
 use Rattle.lg_selx_values.specs.Needs.{value_needs}
-use Rattle.lg_sel_values.specs.ValueNodes.{is_value}
+use Rattle.lg_carry.specs.Values.ValueNodes.{is_value}
 use Rattle.lg_selx_values.specs.ValueItems.{value_items}
-use Rattle.lg_sel_nodes.specs.Operands.{AreWords}
+use Rattle.lg_carry.specs.Nodes.Operands.{AreWords}
 
 -- no operand is a label
 abbrev pub IsUnlabelled : Operand → Type 0

@@ -7,7 +7,7 @@ use Rattle.lg_x86.specs.declared.instruction.Instr.TheVariants.{RmReg, Movi32, U
 use Rattle.lg_x86.specs.declared.instruction.RmRegOp.TheVariants as alu
 use Rattle.lg_x86.specs.declared.instruction.UnaryOp.TheVariants.{Mul, Imul1, Div, Idiv}
 use Rattle.lg_x86.specs.declared.instruction.BareOp.TheVariants.{Cqo}
-use Rattle.lg_carry_x86.specs.Numbers.{number_row}
+use Rattle.lg_selx_values.specs.Processor.Numbers.{number_row}
 use Rattle.lg_selx_values.specs.Scratch.{again}
 
 -- rax before rdx, which stands for no operand

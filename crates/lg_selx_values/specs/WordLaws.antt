@@ -5,13 +5,13 @@ use Rattle.lg_base.specs.Words.{add_words}
 use Rattle.lg_base.specs.declared.target.Target.TheVariants.{X86_64}
 use Rattle.lg_op.specs.declared.op.BinaryOp.{BinaryOp}
 use Rattle.lg_op.specs.declared.op.WideOp.{WideOp}
-use Rattle.lg_operators.specs.declared.carry.Carry.{Carry}
-use Rattle.lg_operators.specs.Operators.{binary_value, is_carried, carry_in, carried_value, carried_out, wide_value}
+use Rattle.lg_op.specs.declared.carry.Carry.{Carry}
+use Rattle.lg_op.specs.Operators.{binary_value, is_carried, carry_in, carried_value, carried_out, wide_value}
 use Rattle.lg_meaning.specs.Steps.{bit_word}
 use Rattle.lg_temp.specs.declared.choice.Choice.{Choice}
 use Rattle.lg_carry.specs.Registers.{HoldsCarry}
-use Rattle.lg_sel_nodes.specs.Straight.{is_taken}
-use Rattle.lg_sel_values.specs.Computers.{Held}
+use Rattle.lg_carry.specs.Nodes.Straight.{is_taken}
+use Rattle.lg_carry.specs.Values.Computers.{Held}
 use Rattle.lg_x86.specs.declared.instruction.Instr.{Instr}
 use Rattle.lg_selx_values.specs.BinaryCode.{register_code}
 use Rattle.lg_selx_values.specs.CarriedCode.{carried_register_code}

@@ -3,10 +3,10 @@ use Rattle.std.specs.Prelude.{◌≡◌, ◌≢◌, ℕ, false, List, Option, So
 use Rattle.lg_base.specs.declared.flags.Flags.{Flags}
 use Rattle.lg_x86.specs.declared.instruction.Instr.{Instr}
 use Rattle.lg_temp.specs.declared.choice.Choice.{Choice}
-use Rattle.lg_sel_nodes.specs.Straight.{is_taken}
-use Rattle.lg_sel_values.specs.Computers.{Held}
-use Rattle.lg_carry_x86.specs.MakingNodes.{scene}
-use Rattle.lg_carry_x86.specs.Makings.{makes}
+use Rattle.lg_carry.specs.Nodes.Straight.{is_taken}
+use Rattle.lg_carry.specs.Values.Computers.{Held}
+use Rattle.lg_selx_values.specs.Processor.MakingNodes.{scene}
+use Rattle.lg_selx_values.specs.Processor.Makings.{makes}
 
 -- register d gets word z, over any memory, and no register changes but those that are taken
 pub record MakesWord (choices : List Choice) (body : List Instr) (d z : ℕ) (q : Held) : Type 0 where

@@ -1,16 +1,16 @@
 // The operations on two words that set no carry, from two registers or from a register and a number.
 
 ghost use Rattle.std.specs.Prelude.{◌≡◌, ◌+◌, ◌≤◌, ◌++◌, ◌∷◌, true, false};
-ghost use Rattle.lg_selx_items.specs.Items.{ones, words_in};
+ghost use Rattle.lg_selx_values.specs.Items.{ones, words_in};
 ghost use Rattle.lg_selx_values.specs.BinaryCode.{ordered, commuting, added, difference, product, compared, shifted, divided, cond_of, register_code, with_number, is_near, added_number, less_number, compared_number, shifted_number, divided_number, number_form_code};
 
 use crate::moves::{
     RAX, RCX, RDX, SCRATCH, again, behind_move, behind_number, ext, imm, moved, one, sign,
 };
+use crate::{Item, half_number, lea, mov, row};
 use lg_base::word::is_half;
 use lg_op::BinaryOp;
-use lg_sel_items::Items;
-use lg_selx_items::{Item, half_number, lea, mov, row};
+use lg_sel::Items;
 use lg_x86::{Cond, ImmOp, Instr, RegRmOp, RmRegOp, ShiftOp, UnaryOp};
 
 /// Appends the code of `d = a op b`, where `d` is not `b` or the order of the words does not matter: at most 2 instructions, for which there is

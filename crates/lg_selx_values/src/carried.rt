@@ -1,14 +1,14 @@
 // The operations that set the carry.
 
 ghost use Rattle.std.specs.Prelude.{◌≡◌, ◌+◌, ◌≤◌, ◌++◌};
-ghost use Rattle.lg_selx_items.specs.Items.{ones, words_in};
+ghost use Rattle.lg_selx_values.specs.Items.{ones, words_in};
 ghost use Rattle.lg_selx_values.specs.CarriedCode.{taken_away, carried_register_code, carried_number_code};
 
 use crate::binary::{commuting, ordered, with_number};
 use crate::moves::{SCRATCH, again};
+use crate::{Item, mov, row};
 use lg_op::BinaryOp;
-use lg_sel_items::Items;
-use lg_selx_items::{Item, mov, row};
+use lg_sel::Items;
 use lg_x86::{ImmOp, RmRegOp};
 
 // Appends the code of a difference: at most 4 instructions, for which there is room. Where `d` is `b` it is made in rbp, since moves keep the

@@ -2,12 +2,12 @@
 
 ghost use Rattle.std.specs.Prelude.{◌≡◌, ◌+◌, ◌<◌, ◌≤◌, ◌++◌, ◌∷◌, ◌-◌, pos, length, true};
 ghost use Rattle.lg_base.specs.Words.{signed_view, is_half};
-ghost use Rattle.lg_carry_x86.specs.Numbers.{number_row};
-ghost use Rattle.lg_selx_items.specs.Items.{ones, words_in};
+ghost use Rattle.lg_selx_values.specs.Processor.Numbers.{number_row};
+ghost use Rattle.lg_selx_values.specs.Items.{ones, words_in};
 ghost use Rattle.lg_selx_values.specs.Scratch.{moved};
 
-use lg_sel_items::Items;
-use lg_selx_items::{Item, half_number, mov, put_number};
+use crate::{Item, half_number, mov, put_number};
+use lg_sel::Items;
 use lg_x86::{BareOp, ImmOp, Instr, LoadOp, RegRmOp, UnaryOp};
 
 /// rbp, which stands for FP. Code may spoil it and make it again.

@@ -1,13 +1,13 @@
 // The operations on one word, and `retval`.
 
 ghost use Rattle.std.specs.Prelude.{◌≡◌, ◌+◌, ◌<◌, ◌≤◌, ◌++◌};
-ghost use Rattle.lg_selx_items.specs.Items.{ones, words_in};
+ghost use Rattle.lg_selx_values.specs.Items.{ones, words_in};
 ghost use Rattle.lg_selx_values.specs.UnaryCode.{unary_code, retval_code};
 
 use crate::moves::{RAX, behind_move, ext, one};
+use crate::{Item, mov};
 use lg_op::{UnaryOp, ValueType};
-use lg_sel_items::Items;
-use lg_selx_items::{Item, mov};
+use lg_sel::Items;
 use lg_x86::{Instr, RegRmOp, ShiftOp};
 
 // `d` gets its bytes in reverse order.

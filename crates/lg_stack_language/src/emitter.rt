@@ -6,8 +6,7 @@ ghost use Rattle.lg_stack_language.specs.Units.{AreInside, node};
 
 use crate::fault::CompileError;
 use crate::writer::Writer;
-use lg_base::host_name::HostName;
-use lg_base::refusal::OutOfMemory;
+use lg_base::{HostName, OutOfMemory};
 use lg_node::{
     Addressing, BinaryOp, Condition, ControlOp, Label, LastOperand, Locals, Node, NodeList, Op,
     Operand, Operands, PlainOp, Reg, StoreType, ValueType,

@@ -1,6 +1,6 @@
 // Why a text is not compiled.
 
-use lg_base::refusal::OutOfMemory;
+use lg_base::OutOfMemory;
 use std::alloc::AllocFailed;
 use thiserror::Error;
 

@@ -5,7 +5,7 @@ ghost use Rattle.lg_op.specs.Nodes.{InForm};
 ghost use Rattle.lg_node.specs.Nodes.{with_node};
 ghost use Rattle.lg_stack_language.specs.Units.{AreInside};
 
-use lg_base::refusal::OutOfMemory;
+use lg_base::OutOfMemory;
 use lg_node::{Label, Node, NodeList, Place};
 use std::alloc::Global;
 use std::marker::Model;

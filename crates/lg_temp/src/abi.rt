@@ -4,7 +4,7 @@ ghost use Rattle.std.specs.Prelude.{◌≡◌, ◌<◌};
 ghost use Rattle.lg_base.specs.Conventions.{argument_registers, result_register, is_kept};
 ghost use Rattle.lg_temp.specs.Abis.{place_of, register_of};
 
-use lg_base::target::Target;
+use lg_base::Target;
 use lg_op::Reg;
 
 /// Where an argument of a call lies.

@@ -4,7 +4,7 @@
 
 pub mod abi;
 pub mod choice;
-pub mod choose;
+pub mod choosing;
 pub mod laws;
 
 ghost use Rattle.std.specs.Prelude.{◌≡◌, ℕ};
@@ -12,6 +12,10 @@ ghost use Rattle.lg_base.specs.Runs.{Machine, IsMachine, EndsSilently};
 ghost use Rattle.lg_temp.specs.Agrees.{AgreesAt};
 ghost use Rattle.lg_temp.specs.Carries.{Standing, Carries};
 ghost use Rattle.lg_temp.specs.Paces.{KeepsPace, EndsAlike, StandingAlike, CarriesAlike};
+
+pub use abi::{Abi, ArgPlace};
+pub use choice::{Choice, Choices, Need, Needs, Staged};
+pub use choosing::choose;
 
 /// Two machines, of which each step of the first is carried to steps of the second, from states that
 /// stand for each other at a rank.

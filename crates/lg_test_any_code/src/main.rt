@@ -8,8 +8,7 @@ mod runs;
 mod seeds;
 mod tally;
 
-use lg_base::refusal::OutOfMemory;
-use lg_base::target::Target;
+use lg_base::{OutOfMemory, Target};
 use runs::{Outcome, run_target};
 use std::io;
 use tally::Tally;

@@ -5,13 +5,9 @@ ghost use Rattle.std.specs.Prelude.{◌≤◌, length};
 use crate::bytes::{MOST, any, changed};
 use crate::seeds::seed;
 use crate::tally::Tally;
-use lg_base::code::CodeBytes;
-use lg_base::image::{ArgImage, DataImage};
-use lg_base::refusal::OutOfMemory;
-use lg_base::target::Target;
-use lg_cpu::answer::CpuStep;
-use lg_cpu::cpu::Cpu;
-use lg_io::memory_sink::MemorySink;
+use lg_base::{ArgImage, CodeBytes, DataImage, OutOfMemory, Target};
+use lg_cpu::{Cpu, CpuStep};
+use lg_io::MemorySink;
 use lg_tally::{Random, count};
 use std::alloc::Global;
 

@@ -3,7 +3,7 @@
 
 ghost use Rattle.std.specs.Prelude.{◌≤◌, length};
 
-use lg_base::target::Target;
+use lg_base::Target;
 
 // push rbx; mov r8, 3; mov [rsp-16], r8; mov r9, [rsp-16]; imul r9, r8; add r10, r9; sub r8, 1; jne to the store; movzx rax, r9b; pop rbx; ret
 const X86_64_LOOP: [u8; 37] = [

@@ -3,8 +3,8 @@
 ghost use Rattle.std.specs.Prelude.{◌≡◌};
 ghost use Rattle.lg_test_any_code.specs.Tally.{counted};
 
-use lg_base::fault::FaultKind;
-use lg_cpu::answer::CpuStep;
+use lg_base::FaultKind;
+use lg_cpu::CpuStep;
 use lg_tally::count;
 
 /// How many runs ended, faulted by each kind, failed to write, and went on to the last step.

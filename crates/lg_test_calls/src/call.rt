@@ -2,12 +2,9 @@
 
 ghost use Rattle.std.specs.Prelude.{◌<◌, length, IfOk};
 
-use lg_base::refusal::OutOfMemory;
-use lg_io::memory_sink::MemorySink;
-use lg_io::memory_texts::MemoryTexts;
-use lg_io::standard::StdTexts;
-use lg_run::answer::Answer;
-use lg_run::top::lightning;
+use lg_base::OutOfMemory;
+use lg_io::{MemorySink, MemoryTexts, StdTexts};
+use lg_run::{Answer, lightning};
 use std::alloc::{AllocError, Global};
 use std::io::Input;
 use std::rt::Files;

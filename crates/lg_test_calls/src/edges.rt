@@ -3,12 +3,10 @@
 
 use crate::call::{NO_FAULTS, call_on_text, call_on_texts, command};
 use crate::texts::{first_letter, kept_registers, wrapped_sum};
-use lg_base::refusal::OutOfMemory;
-use lg_io::memory_sink::MemorySink;
-use lg_io::memory_texts::MemoryTexts;
-use lg_io::texts::Texts;
-use lg_run::answer::{Answer, Done, status};
+use lg_base::OutOfMemory;
+use lg_io::{MemorySink, MemoryTexts, Texts};
 use lg_run::top::{lightning, report_words};
+use lg_run::{Answer, Done, status};
 use std::alloc::{AllocError, Global};
 use std::{fs, io};
 

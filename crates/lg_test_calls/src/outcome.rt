@@ -4,9 +4,9 @@ ghost use Rattle.std.specs.Prelude.{◌≡◌};
 
 use crate::call::{Faults, call_on_files, call_on_text};
 use crate::form::has_form;
-use lg_base::refusal::OutOfMemory;
-use lg_io::memory_sink::MemorySink;
-use lg_run::answer::status;
+use lg_base::OutOfMemory;
+use lg_io::MemorySink;
+use lg_run::status;
 use std::alloc::Global;
 use std::fmt;
 use std::io::Input;

@@ -2,9 +2,9 @@
 // numbers of the lines add up to these steps and to those of the meaning. Prints for each target for how many examples they do.
 
 use crate::call::{call_on_files, words_of};
-use lg_base::refusal::OutOfMemory;
-use lg_io::memory_sink::MemorySink;
-use lg_run::answer::Answer;
+use lg_base::OutOfMemory;
+use lg_io::MemorySink;
+use lg_run::Answer;
 use lg_tally::count;
 use std::alloc::{AllocError, Global};
 use std::io::Input;

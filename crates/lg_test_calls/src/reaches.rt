@@ -4,8 +4,8 @@
 // statistics of two texts differ. Prints for each row that is not right how many bytes there are, and how many rows are right.
 
 use crate::call::{NO_FAULTS, call_on_text, command};
-use lg_base::refusal::OutOfMemory;
-use lg_io::memory_sink::MemorySink;
+use lg_base::OutOfMemory;
+use lg_io::MemorySink;
 use lg_tally::count;
 use std::alloc::{AllocError, Global};
 use std::{fs, io, str};

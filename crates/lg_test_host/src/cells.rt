@@ -1,7 +1,6 @@
 // What a memory of cells holds, and what can be written.
 
-use lg_base::refusal::OutOfMemory;
-use lg_base::space::Space;
+use lg_base::{OutOfMemory, Space};
 use lg_cells::*;
 use std::alloc::Global;
 use std::test::Fail;

@@ -1,13 +1,8 @@
 // The host functions by example: values of C, and the edges of the table.
 
-use lg_base::host_name::HostName;
-use lg_base::memory::Memory;
-use lg_base::refusal::OutOfMemory;
-use lg_base::space::Space;
-use lg_host::call::call;
-use lg_host::heap_mark::HeapMark;
-use lg_host::host_end::HostEnd;
-use lg_io::memory_sink::MemorySink;
+use lg_base::{HostName, Memory, OutOfMemory, Space};
+use lg_host::{HeapMark, HostEnd, call};
+use lg_io::MemorySink;
 use std::alloc::Global;
 use std::test::Fail;
 

@@ -1,12 +1,10 @@
 // Calls with ample memory, faults in mid-stream, and the edge to real files.
 
-use lg_base::refusal::OutOfMemory;
-use lg_io::digits::{Digits, Radix};
-use lg_io::memory_sink::MemorySink;
-use lg_io::memory_texts::MemoryTexts;
-use lg_io::sink::{Sink, SinkFault, write_all, write_parts};
-use lg_io::standard::{StdSink, StdTexts};
-use lg_io::texts::{TextFault, Texts};
+use lg_base::OutOfMemory;
+use lg_io::{
+    Digits, MemorySink, MemoryTexts, Radix, Sink, SinkFault, StdSink, StdTexts, TextFault, Texts,
+    write_all, write_parts,
+};
 use std::alloc::Global;
 use std::io::{Input, Write};
 use std::rt::Files;

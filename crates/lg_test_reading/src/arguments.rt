@@ -3,9 +3,7 @@
 ghost use Rattle.std.specs.Prelude.{◌<◌, length};
 
 use crate::rows::told;
-use lg_base::args::args_image;
-use lg_base::image::ArgImage;
-use lg_base::refusal::Stop;
+use lg_base::{ArgImage, Stop, args_image};
 use std::alloc::{AllocError, Global};
 use std::test::Fail;
 

@@ -2,7 +2,7 @@
 // functions, labels and calls.
 
 use crate::rows::{parts, push_other, told};
-use lg_base::refusal::Stop;
+use lg_base::Stop;
 use lg_node::{Unit, check};
 use lg_tst::parse;
 use std::alloc::{AllocError, Global};

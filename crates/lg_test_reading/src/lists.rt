@@ -1,8 +1,6 @@
 // Each list that takes memory, made once and read back.
 
-use lg_base::code::{CodeBytes, Origin, Places};
-use lg_base::image::{ArgImage, DataImage};
-use lg_base::refusal::OutOfMemory;
+use lg_base::{ArgImage, CodeBytes, DataImage, Origin, OutOfMemory, Places};
 use lg_node::LabelAddresses;
 use std::alloc::Global;
 use std::test::Fail;

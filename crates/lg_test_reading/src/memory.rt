@@ -1,8 +1,6 @@
 // The memory of a run, at the edges of its parts.
 
-use lg_base::memory::Memory;
-use lg_base::refusal::OutOfMemory;
-use lg_base::space::Space;
+use lg_base::{Memory, OutOfMemory, Space};
 use std::alloc::Global;
 use std::test::Fail;
 

@@ -3,8 +3,7 @@
 ghost use Rattle.std.specs.Prelude.{◌≡◌, []};
 
 use crate::rows::told;
-use lg_base::image::DataImage;
-use lg_base::refusal::{OutOfMemory, Stop};
+use lg_base::{DataImage, OutOfMemory, Stop};
 use lg_node::*;
 use std::alloc::{AllocError, Global};
 use std::test::Fail;

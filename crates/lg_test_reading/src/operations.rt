@@ -1,6 +1,6 @@
 // Names and operands of the instruction table of the manual of GNU lightning 2.
 
-use lg_base::host_name::HostName;
+use lg_base::HostName;
 use lg_op::*;
 
 // Every name of the instruction table.

@@ -1,7 +1,7 @@
 // What is made of texts: nodes with their operands, places of labels and bytes of data; and the largest texts.
 
 use crate::rows::{parts, push_other, told};
-use lg_base::refusal::Stop;
+use lg_base::Stop;
 use lg_node::{Form, Label, Node, NodeList, Op, Unit};
 use lg_tst::parse;
 use std::alloc::{AllocError, Global};

@@ -1,7 +1,7 @@
 // Texts that are read, and texts that are refused with a kind and a line, worked out by hand from the rules of statements.
 
 use crate::rows::{parts, push_other, told};
-use lg_base::refusal::Stop;
+use lg_base::Stop;
 use lg_tst::parse;
 use std::alloc::{AllocError, Global};
 use std::test::Fail;

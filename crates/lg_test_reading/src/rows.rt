@@ -1,6 +1,6 @@
 // Rows of tables: what is wanted of a text, and the text.
 
-use lg_base::refusal::{Refusal, Stop};
+use lg_base::{Refusal, Stop};
 use std::alloc::{AllocError, Global};
 
 /// What a row wants, and the text behind its byte 1F.

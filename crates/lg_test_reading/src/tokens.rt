@@ -1,7 +1,7 @@
 // Tokens, values and refusals of texts that were worked out by hand from the grammar.
 
 use crate::rows::parts;
-use lg_base::refusal::{Refusal, RefusalKind};
+use lg_base::{Refusal, RefusalKind};
 use lg_lex::*;
 use std::alloc::{AllocError, Global};
 use std::test::Fail;

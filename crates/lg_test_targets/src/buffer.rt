@@ -3,7 +3,7 @@
 
 ghost use Rattle.std.specs.Prelude.{◌≡◌, ◌+◌, ◌<◌, ◌≤◌, ◌↔◌, ◌++◌, [], ◌∷◌, length, IsTrue};
 
-use lg_base::refusal::OutOfMemory;
+use lg_base::OutOfMemory;
 use lg_buf::*;
 use std::alloc::Global;
 use std::test::Fail;

@@ -3,11 +3,9 @@
 ghost use Rattle.std.specs.Prelude.{◌≤◌, length};
 
 use crate::processor::{goes_on, processor, stays};
-use lg_base::fault::FaultKind;
-use lg_base::refusal::OutOfMemory;
-use lg_base::target::Target;
-use lg_cpu::answer::CpuStep;
-use lg_io::memory_sink::MemorySink;
+use lg_base::{FaultKind, OutOfMemory, Target};
+use lg_cpu::CpuStep;
+use lg_io::MemorySink;
 use std::alloc::Global;
 use std::test::Fail;
 

@@ -3,8 +3,7 @@
 ghost use Rattle.std.specs.Prelude.{◌≤◌, length};
 
 use bitflags::Flags;
-use lg_live::reg_set::RegSet;
-use lg_live::uses::{reads, writes};
+use lg_live::{RegSet, reads, writes};
 use lg_op::{Label, Node, Op, Operand, Operands, Reg};
 
 // the registers that an operation with these operands reads and writes

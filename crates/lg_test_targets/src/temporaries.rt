@@ -2,12 +2,10 @@
 
 ghost use Rattle.std.specs.Prelude.{◌≤◌, length};
 
-use lg_base::target::Target;
-use lg_live::reg_set::RegSet;
+use lg_base::Target;
+use lg_live::RegSet;
 use lg_op::{Node, Op, Operand, Operands, Reg};
-use lg_temp::abi::{Abi, ArgPlace};
-use lg_temp::choice::{Choice, Choices, Need, Needs, Staged};
-use lg_temp::choose::choose;
+use lg_temp::{Abi, ArgPlace, Choice, Choices, Need, Needs, Staged, choose};
 
 // `addi %r0 %r0 4096`
 fn node() -> Option<Node> {

@@ -3,9 +3,12 @@ mod NameLemmas
 mod OperandLemmas
 mod PlaceLemmas
 mod ProgressLemmas
+mod ReadingLemmas
 mod SourceLemmas
 mod StatementLemmas
+mod StepLemmas
 mod StopLemmas
+mod TakeLemmas
 mod TextLemmas
 mod TokenForms
 mod ValueLemmas

@@ -1,10 +1,12 @@
 pub mod Answers
 pub mod DataHolds
 pub mod DataParts
+pub mod Laws
 pub mod NameTables
 pub mod Names
 pub mod Operands
 pub mod Parsers
+pub mod Readings
 pub mod Sources
 pub mod Statements
 pub mod Streams

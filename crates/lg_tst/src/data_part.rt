@@ -3,8 +3,7 @@
 ghost use Rattle.std.specs.Prelude.{◌≡◌, ◌≤◌, ◌+◌, length, if◌then◌else◌, Some, IfOk, OnOk, OnErr, is_some, false};
 ghost use Rattle.lg_tst.specs.DataParts.{no_data, fits, with_bytes, zeros, image_of, limit_of};
 
-use lg_base::image::DataImage;
-use lg_base::refusal::OutOfMemory;
+use lg_base::{DataImage, OutOfMemory};
 use std::alloc::Global;
 use std::marker::Model;
 

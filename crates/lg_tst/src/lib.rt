@@ -11,9 +11,10 @@ mod operand;
 mod parser;
 mod source;
 mod statement;
+pub mod unit_laws;
 mod words;
 
-use lg_base::refusal::Stop;
+use lg_base::Stop;
 use lg_node::Unit;
 use parser::Parser;
 use std::alloc::Global;

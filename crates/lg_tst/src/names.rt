@@ -4,7 +4,7 @@ ghost use Rattle.std.specs.Prelude.{◌≡◌, ◌≤◌, ◌<◌, ◌-◌, ◌+
 ghost use Rattle.lg_tst.specs.Names.{no_names, is_made, meaning_of, with_name, with_argument, with_local, below};
 
 use indexmap::IndexSet;
-use lg_base::refusal::OutOfMemory;
+use lg_base::OutOfMemory;
 use lg_op::Operand;
 use std::alloc::Global;
 use std::marker::Model;

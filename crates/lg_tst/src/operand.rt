@@ -5,8 +5,7 @@ ghost use Rattle.lg_op.specs.Forms.{admits};
 ghost use Rattle.lg_tst.specs.Operands.{admitted, register_operand, register_at, host_operand, argument_named, local_named, differ, stays_apart, local_size, misfit};
 
 use crate::words::{behind_mark, is_float_register, register_of, register_word};
-use lg_base::host_name::HostName;
-use lg_base::refusal::RefusalKind;
+use lg_base::{HostName, RefusalKind};
 use lg_lex::TokenKind;
 use lg_op::{Form, Op, Operand, PlainOp};
 

@@ -15,7 +15,7 @@ use crate::names::Names;
 use crate::source::Source;
 use crate::statement::{Section, Statement, statement_of};
 use crate::words::without_last;
-use lg_base::refusal::{OutOfMemory, Refusal, RefusalKind, Stop};
+use lg_base::{OutOfMemory, Refusal, RefusalKind, Stop};
 use lg_lex::Token;
 use lg_node::{NodeList, Unit};
 use lg_op::Operand;

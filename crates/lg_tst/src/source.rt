@@ -4,7 +4,7 @@ ghost use Rattle.std.specs.Prelude.{◌≡◌, ◌≤◌, ◌<◌, length, IfSom
 ghost use Rattle.lg_lex.specs.Tokens.{tokens_of};
 ghost use Rattle.lg_tst.specs.Streams.{Stream, IsToken, head_of, next_of, passed, text_of};
 
-use lg_base::refusal::Refusal;
+use lg_base::Refusal;
 use lg_lex::{Lexer, Token};
 use std::marker::Model;
 

@@ -9,7 +9,7 @@ use crate::instruction::{
     StoreOp, UnaryOp,
 };
 use crate::rows::Mark;
-use lg_base::piece::Piece;
+use lg_base::Piece;
 
 /// The bytes of an instruction whose numbers are in its row's ranges: 1 to 10 bytes.
 pub fn encode(instr: &Instr) -> Piece

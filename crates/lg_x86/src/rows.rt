@@ -9,7 +9,7 @@ use crate::instruction::{
     BareOp, Cond, ImmOp, Instr, JumpNearOp, JumpRegOp, LoadOp, RegRmOp, RmRegOp, ShiftOp, StackOp,
     StoreOp, UnaryOp,
 };
-use lg_base::piece::Piece;
+use lg_base::Piece;
 
 /// When the byte REX stands.
 #[derive(Clone, Copy)]

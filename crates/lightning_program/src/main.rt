@@ -6,9 +6,9 @@ ghost use Rattle.std.specs.Prelude.{◌≡◌};
 ghost use Rattle.std.specs.Process.{exit_status};
 ghost use Rattle.lg_run.specs.Statuses.{status_of_answer};
 
-use lg_io::standard::{StdSink, StdTexts};
-use lg_run::answer::{Answer, status};
+use lg_io::{StdSink, StdTexts};
 use lg_run::top::{lightning, report_words};
+use lg_run::{Answer, status};
 use std::process::ExitCode;
 use std::{env, io};
 

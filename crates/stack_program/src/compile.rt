@@ -5,8 +5,7 @@ ghost use Rattle.lg_base.specs.Layout.{most_code};
 ghost use Rattle.lg_stack_language.specs.Units.{AreInside, format};
 
 use lg_asm::{Code, assemble};
-use lg_base::refusal::Stop;
-use lg_base::target::Target;
+use lg_base::{Stop, Target};
 use lg_node::{Unit, check};
 use std::alloc::Global;
 

@@ -11,10 +11,8 @@ mod run;
 
 use compile::code_of;
 use lg_asm::Code;
-use lg_base::image::DataImage;
-use lg_base::refusal::Stop;
-use lg_base::target::Target;
-use lg_cpu::answer::CpuStep;
+use lg_base::{DataImage, Stop, Target};
+use lg_cpu::CpuStep;
 use lg_node::{Unit, check};
 use lg_stack_language::compile;
 use run::{Ran, run};

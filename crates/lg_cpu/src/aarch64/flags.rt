@@ -7,7 +7,7 @@ ghost use Rattle.lg_cpu.specs.A64Operators.{result_flags, sum_leaves, difference
 ghost use Rattle.lg_cpu.specs.A64Operators.{carry_word, borrow_word, condition_holds, reg_flags, imm_flags};
 
 use lg_a64::{Cond, ImmOp, RegOp};
-use lg_base::flags::Flags;
+use lg_base::Flags;
 use lg_base::word::SIGN_BIT;
 
 // The highest bit.

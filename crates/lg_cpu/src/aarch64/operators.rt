@@ -7,7 +7,7 @@ ghost use Rattle.lg_a64.specs.declared.instruction.ReverseOp.{ReverseOp};
 
 use crate::aarch64::flags::{borrow_word, carry_word, difference_of, sum_of};
 use lg_a64::{ImmOp, MulAddOp, RegOp, ReverseOp, WideOp};
-use lg_base::flags::Flags;
+use lg_base::Flags;
 use lg_base::wide::{mul_high, mul_high_u, swap_bytes};
 use lg_base::word::{divide_signed, shift_right_signed};
 

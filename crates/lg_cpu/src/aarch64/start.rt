@@ -5,7 +5,7 @@ ghost use Rattle.lg_cpu.specs.A64Step.{start_registers, trash_flags};
 
 use crate::aarch64::Aarch64;
 use crate::board::{Board, CODE, STOP, trash_registers};
-use lg_base::flags::Flags;
+use lg_base::Flags;
 
 // the first address of the argument part, and the address behind the stack
 const ARGS: u64 = 0x2800_0000;

@@ -8,11 +8,9 @@ ghost use Rattle.lg_cpu.specs.HostSteps.{arguments_of, behind_call};
 use crate::answer::CpuStep;
 use crate::arguments::Arguments;
 use crate::riscv64::Riscv64;
-use lg_base::fault::FaultKind;
-use lg_base::host_name::HostName;
-use lg_host::call::call;
-use lg_host::host_end::HostEnd;
-use lg_io::sink::Sink;
+use lg_base::{FaultKind, HostName};
+use lg_host::{HostEnd, call};
+use lg_io::Sink;
 
 // Whether a call keeps a register.
 fn keeps(register: usize) -> bool

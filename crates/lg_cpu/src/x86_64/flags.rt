@@ -7,7 +7,7 @@ ghost use Rattle.lg_cpu.specs.X86Operators.{sum_flags, difference_flags, bit_fla
 ghost use Rattle.lg_cpu.specs.X86Operators.{last_out, shift_overflow, shift_flags, turned, both, either, condition_holds};
 
 use crate::x86_64::operators::{needs_high_signed, shift_value};
-use lg_base::flags::Flags;
+use lg_base::Flags;
 use lg_base::word::SIGN_BIT;
 use lg_x86::{Cond, RegRmOp, ShiftOp};
 

@@ -11,11 +11,9 @@ use crate::answer::CpuStep;
 use crate::arguments::Arguments;
 use crate::x86_64::X86_64;
 use crate::x86_64::flags::no_flags;
-use lg_base::fault::FaultKind;
-use lg_base::host_name::HostName;
-use lg_host::call::call;
-use lg_host::host_end::HostEnd;
-use lg_io::sink::Sink;
+use lg_base::{FaultKind, HostName};
+use lg_host::{HostEnd, call};
+use lg_io::Sink;
 
 // Whether a call keeps a register.
 fn keeps(register: usize) -> bool

@@ -2,7 +2,7 @@
 
 ghost use Rattle.std.specs.Prelude.{◌≤◌, length};
 
-use lg_base::refusal::OutOfMemory;
+use lg_base::OutOfMemory;
 use lg_tally::Random;
 use std::alloc::Global;
 

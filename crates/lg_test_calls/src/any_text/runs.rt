@@ -3,8 +3,8 @@
 use crate::any_text::changes::changed;
 use crate::any_text::tally::Tally;
 use crate::call::{NO_FAULTS, call_on_text, command};
-use lg_base::refusal::OutOfMemory;
-use lg_io::memory_sink::MemorySink;
+use lg_base::OutOfMemory;
+use lg_io::MemorySink;
 use lg_tally::Random;
 use std::alloc::{AllocError, Global};
 

@@ -1,6 +1,6 @@
 // What calls came to, counted.
 
-use lg_run::answer::Answer;
+use lg_run::Answer;
 use lg_tally::count;
 
 /// How many kinds of refusal are counted, by their numbers.

@@ -4,9 +4,9 @@ ghost use Rattle.std.specs.Prelude.{◌<◌, length};
 
 use crate::back::digits::spelled;
 use crate::back::listings::read_back;
-use lg_base::refusal::{OutOfMemory, RefusalKind};
-use lg_io::memory_sink::MemorySink;
-use lg_run::answer::Answer;
+use lg_base::{OutOfMemory, RefusalKind};
+use lg_io::MemorySink;
+use lg_run::Answer;
 use lg_tally::{Random, count};
 use std::alloc::Global;
 

@@ -2,9 +2,9 @@
 
 use crate::back::digits::spelled;
 use crate::call::{NO_FAULTS, call_on_files, call_on_text, command};
-use lg_base::refusal::OutOfMemory;
-use lg_io::memory_sink::MemorySink;
-use lg_run::answer::Answer;
+use lg_base::OutOfMemory;
+use lg_io::MemorySink;
+use lg_run::Answer;
 use std::alloc::Global;
 use std::io::Input;
 use std::rt::Files;

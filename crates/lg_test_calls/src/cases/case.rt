@@ -3,7 +3,7 @@
 use crate::call::{Faults, command};
 use crate::cases::unfolded::unfolded;
 use crate::outcome::{Lines, Outcome, Wanted, compare_on_text};
-use lg_base::refusal::OutOfMemory;
+use lg_base::OutOfMemory;
 use std::alloc::{AllocError, Global};
 use std::str;
 

@@ -3,7 +3,7 @@
 ghost use Rattle.std.specs.Prelude.{◌≡◌, ◌↔◌, IsTrue};
 ghost use Rattle.lg_test_calls.specs.Ends.{are_same};
 
-use lg_run::answer::Answer;
+use lg_run::Answer;
 
 // Whether the meaning and the code of a text both ended, with the same status.
 fn are_same(meaning: &Answer, code: &Answer) -> bool

@@ -3,9 +3,9 @@
 use crate::call::{NO_FAULTS, call_on_text, command};
 use crate::code::ends::{do_agree, name};
 use crate::code::text::{lines_before_difference, text_of};
-use lg_base::refusal::OutOfMemory;
-use lg_io::memory_sink::MemorySink;
-use lg_run::answer::Answer;
+use lg_base::OutOfMemory;
+use lg_io::MemorySink;
+use lg_run::Answer;
 use std::alloc::{AllocError, Global};
 use std::rt::Files;
 use std::{fs, io};

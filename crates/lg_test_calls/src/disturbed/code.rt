@@ -4,8 +4,7 @@ ghost use Rattle.std.specs.Prelude.{◌≤◌, length, IfOk};
 ghost use Rattle.lg_test_calls.specs.Made.{CanRun};
 
 use lg_asm::{Code, assemble};
-use lg_base::refusal::{Refusal, RefusalKind, Stop};
-use lg_base::target::Target;
+use lg_base::{Refusal, RefusalKind, Stop, Target};
 use lg_node::{Unit, check};
 use lg_pre::expand;
 use lg_tst::parse;

@@ -1,7 +1,7 @@
 // Addresses of labels.
 
 use crate::call::{call_on_files, command};
-use lg_io::memory_sink::MemorySink;
+use lg_io::MemorySink;
 use std::io;
 use std::io::Input;
 use std::rt::Files;

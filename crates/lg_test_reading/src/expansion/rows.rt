@@ -1,6 +1,6 @@
 // Rows of tables: what a text expands to, or is refused for, and the text.
 
-use lg_base::refusal::{Refusal, Stop};
+use lg_base::{Refusal, Stop};
 use lg_pre::{PlainText, expand};
 use std::alloc::{AllocError, Global};
 

@@ -14,7 +14,7 @@ use crate::data_part::MOST_DATA;
 use crate::operand::misfit;
 use crate::statement::{ItemSize, Section, is_number};
 use byteorder::{ByteOrder, LittleEndian};
-use lg_base::refusal::{OutOfMemory, RefusalKind, Stop};
+use lg_base::{OutOfMemory, RefusalKind, Stop};
 use lg_lex::{Token, TokenKind, string_bytes};
 
 // Whether a number is a power of two from 1 to 4,096.

@@ -15,8 +15,7 @@ use crate::operand::{
     admitted, argument_named, host_operand, local_named, local_size, register_operand, stays_apart,
 };
 use crate::words::behind_mark;
-use lg_base::host_name::HostName;
-use lg_base::refusal::{OutOfMemory, RefusalKind, Stop};
+use lg_base::{HostName, OutOfMemory, RefusalKind, Stop};
 use lg_lex::{Token, TokenKind};
 use lg_op::{Form, Node, Op, Operand, Operands, PlainOp};
 

@@ -8,7 +8,7 @@ ghost use Rattle.lg_tst.specs.Units.{place_in, bound_at, or_twice, label, name_w
 use super::{Parser, refuse};
 use crate::operand::misfit;
 use crate::statement::Section;
-use lg_base::refusal::{OutOfMemory, RefusalKind, Stop};
+use lg_base::{OutOfMemory, RefusalKind, Stop};
 use lg_lex::TokenKind;
 use lg_node::Place;
 use lg_op::Label;

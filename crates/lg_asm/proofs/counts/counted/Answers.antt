@@ -1,5 +1,5 @@
 use Rattle.std.proofs.Common.{◌≡◌, ◌≤◌, ◌+◌, ◌<◌, ◌∙◌, ℕ, List, [], ◌∷◌, ◌++◌, ap, sym, subst, length, arith, Some}
-use Rattle.lg_liveness.specs.Liveness.{LiveSets}
+use Rattle.lg_live.specs.Liveness.{LiveSets}
 use Rattle.lg_live.specs.RegSets.{has}
 use Rattle.lg_live.specs.declared.reg_set.RegSet.{RegSet}
 use Rattle.lg_temp.specs.Chosen.{spills}

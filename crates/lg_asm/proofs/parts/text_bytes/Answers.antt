@@ -5,7 +5,7 @@ use Rattle.lg_base.specs.declared.target.Target.{Target}
 use Rattle.lg_buf.specs.Buffers.{Buffer, place_of, place_or_zero, AreDone}
 use Rattle.lg_cpu.specs.Laws.{AreBytes}
 use Rattle.lg_node.specs.Nodes.{LabelledNodes}
-use Rattle.lg_liveness.specs.Liveness.{LiveSets, AreLive}
+use Rattle.lg_live.specs.Liveness.{LiveSets, AreLive}
 use Rattle.lg_node.specs.Shapes.{TextShape}
 use Rattle.lg_asm.specs.Lowered.{ArePlaces, AreNodesCoded, IsFull, HasNoRoomFor, IsLowered, IsGiven}
 use Rattle.lg_asm.proofs.parts.text_bytes.Goals as goal

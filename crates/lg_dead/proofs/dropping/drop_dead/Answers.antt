@@ -3,7 +3,7 @@ use Rattle.lg_node.specs.Shapes.{IsShapeOf}
 use Rattle.lg_opt.specs.Rewritings.{IsOrigin, IsSameNode, KeepsOthers, KeepsLabels, CarriesAddresses, RunsAreDropped}
 use Rattle.lg_opt.proofs.ClauseLemmas.{ok-weaker}
 use Rattle.lg_dead.specs.Known.{HasNoFolds}
-use Rattle.lg_liveness.specs.Definitions.{defines}
+use Rattle.lg_live.specs.Definitions.{defines}
 use Rattle.lg_dead.specs.Dropping.{IsDroppedTo}
 use Rattle.lg_dead.specs.Dead.{AllAreOfUse}
 use Rattle.lg_dead.proofs.ClauseLemmas.{dead-origin, dead-others, dead-few, dead-labels, dead-of-use, dead-folds, dead-addresses, dead-runs}

@@ -1,5 +1,5 @@
 use Rattle.std.proofs.Common.{◌≡◌, ◌≤◌, length, arith, ◌∙◌}
-use Rattle.lg_liveness.specs.Definitions.{defines}
+use Rattle.lg_live.specs.Definitions.{defines}
 use Rattle.lg_opt.specs.Rewritings.{IsOrigin, IsSameNode, KeepsOthers, KeepsLabels, CarriesAddresses, RunsAreDropped}
 use Rattle.lg_opt.proofs.ClauseLemmas.{ok-weaker}
 use Rattle.lg_opt.proofs.TwiceLemmas.{twice}

@@ -9,7 +9,7 @@ use Rattle.lg_sela.proofs.ShortLemmas.{node-short, node-ahead}
 use Rattle.lg_sela.proofs.selection.select.Goals as goal
 use Rattle.lg_sela.specs.Items.{node_items}
 use Rattle.lg_sela.specs.Selected.{IsAsked}
-use Rattle.lg_sela_items.specs.Items.{words_in, blanks, fixes_of}
+use Rattle.lg_sela_values.specs.Items.{words_in, blanks, fixes_of}
 
 pub shortest_items-reach-requires-clause-emittable : goal.shortest_items-reach-requires-clause-emittable
 shortest_items-reach-requires-clause-emittable c = λ reach xs made.

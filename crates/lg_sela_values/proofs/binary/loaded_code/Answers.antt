@@ -1,6 +1,6 @@
 use Rattle.std.proofs.Common.{ap, arith}
-use Rattle.lg_sela_items.specs.Items.{words_in}
-use Rattle.lg_sela_items.proofs.NumberItemLemmas.{number_words}
+use Rattle.lg_sela_values.specs.Items.{words_in}
+use Rattle.lg_sela_values.proofs.NumberItemLemmas.{number_words}
 use Rattle.lg_sela_values.proofs.binary.loaded_code.Goals as goal
 
 pub register_code-requires : goal.register_code-requires

@@ -1,7 +1,7 @@
 use Rattle.std.proofs.Common.{[], ◌∷◌, ap, arith}
-use Rattle.lg_sela_items.specs.declared.items.Item.TheVariants.{One}
-use Rattle.lg_sela_items.specs.Items.{words_in}
-use Rattle.lg_sela_items.proofs.ItemLemmas.{words_append}
+use Rattle.lg_sela_values.specs.declared.items.Item.TheVariants.{One}
+use Rattle.lg_sela_values.specs.Items.{words_in}
+use Rattle.lg_sela_values.proofs.ItemLemmas.{words_append}
 use Rattle.lg_sela_values.proofs.WordLemmas.{body_words}
 use Rattle.lg_sela_values.proofs.values.chosen_items.Goals as goal
 

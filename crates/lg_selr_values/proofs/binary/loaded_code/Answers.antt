@@ -1,6 +1,6 @@
 use Rattle.std.proofs.Common.{ap, arith}
-use Rattle.lg_carry_rv.specs.Numbers.{number_code}
-use Rattle.lg_selr_items.specs.Items.{words_in}
+use Rattle.lg_selr_values.specs.Processor.Numbers.{number_code}
+use Rattle.lg_selr_values.specs.Items.{words_in}
 use Rattle.lg_selr_values.proofs.EmissionLemmas.{words_more, number_few}
 use Rattle.lg_selr_values.proofs.binary.loaded_code.Goals as goal
 

@@ -1,7 +1,7 @@
 use Rattle.std.proofs.Common.{◌<◌, [], ◌∷◌, ap, arith}
-use Rattle.lg_selr_items.specs.declared.items.Item.TheVariants.{One}
-use Rattle.lg_selr_items.specs.Items.{words_in}
-use Rattle.lg_selr_items.proofs.ItemLemmas.{words_append}
+use Rattle.lg_selr_values.specs.declared.items.Item.TheVariants.{One}
+use Rattle.lg_selr_values.specs.Items.{words_in}
+use Rattle.lg_selr_values.proofs.ItemLemmas.{words_append}
 use Rattle.lg_selr_values.proofs.unary.+more_bytes_code.Goals as goal
 
 pub more_bytes_code-requires : goal.more_bytes_code-requires

@@ -1,5 +1,5 @@
 use Rattle.std.proofs.Common.{ap, arith}
-use Rattle.lg_selr_items.specs.Items.{words_in}
+use Rattle.lg_selr_values.specs.Items.{words_in}
 use Rattle.lg_selr_values.proofs.EmissionLemmas.{second_words}
 use Rattle.lg_selr_values.proofs.values.carried_items.Goals as goal
 

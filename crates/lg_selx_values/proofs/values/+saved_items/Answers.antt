@@ -1,5 +1,5 @@
 use Rattle.std.proofs.Common.{ap, arith}
-use Rattle.lg_selx_items.specs.Items.{words_in}
+use Rattle.lg_selx_values.specs.Items.{words_in}
 use Rattle.lg_selx_values.proofs.EmissionLemmas.{one_words}
 use Rattle.lg_selx_values.proofs.RoomLemmas.{rest_slots, rest_count}
 use Rattle.lg_selx_values.proofs.values.+saved_items.Goals as goal

@@ -1,0 +1,3 @@
+// When code of any target carries a node.
+
+pub mod laws;

@@ -1,8 +1,0 @@
-pub mod A64Computers
-pub mod A64Rows
-pub mod Computations
-pub mod Destinations
-pub mod Numbers
-pub mod Places
-pub mod Touched
-pub mod Touches

@@ -1,5 +1,0 @@
-use Rattle.lg_carry_rv.proofs.NumberCodeLemmas.{numbers-are-loaded}
-use Rattle.lg_carry_rv.proofs.laws.numbers_are_loaded.Goals as goal
-
-pub returns : goal.returns
-returns c = numbers-are-loaded

@@ -1,8 +1,0 @@
-pub mod Computations
-pub mod Destinations
-pub mod Numbers
-pub mod Places
-pub mod RvComputers
-pub mod RvRows
-pub mod Touched
-pub mod Touches

@@ -1,4 +1,0 @@
-//! The RV64IM processor, as the laws of lg_carry ask for one.
-#![tactic(auto)]
-
-pub mod laws;

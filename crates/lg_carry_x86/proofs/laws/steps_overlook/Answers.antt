@@ -1,5 +1,0 @@
-use Rattle.lg_carry_x86.proofs.TouchLemmas.{steps-overlook}
-use Rattle.lg_carry_x86.proofs.laws.steps_overlook.Goals as goal
-
-pub returns : goal.returns
-returns c = steps-overlook

@@ -1,2 +1,0 @@
-pub mod LocalLemmas
-mod MeaningLemmas

@@ -1,5 +1,0 @@
-use Rattle.lg_expression_laws.proofs.MeaningLemmas.{worked_out}
-use Rattle.lg_expression_laws.proofs.laws.nodes_work_expressions_out.Goals as goal
-
-pub returns : goal.returns
-returns c = worked_out

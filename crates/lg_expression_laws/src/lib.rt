@@ -1,4 +1,0 @@
-//! What the nodes of expressions mean.
-#![tactic(auto)]
-
-pub mod laws;

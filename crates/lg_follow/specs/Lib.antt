@@ -1,4 +1,0 @@
-pub mod Drops
-pub mod Follows
-pub mod Laws
-pub mod Loud

@@ -1,5 +1,0 @@
-use Rattle.lg_listing_laws.proofs.FeedLemmas.{bad_line_is}
-use Rattle.lg_listing_laws.proofs.laws.bad_lines_are_lines.Goals as goal
-
-pub returns : goal.returns
-returns c = bad_line_is

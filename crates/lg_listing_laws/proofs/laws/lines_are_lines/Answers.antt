@@ -1,5 +1,0 @@
-use Rattle.lg_listing_laws.proofs.FeedLemmas.{head_is, line_is}
-use Rattle.lg_listing_laws.proofs.laws.lines_are_lines.Goals as goal
-
-pub returns : goal.returns
-returns c = record { first = head_is; other = line_is }

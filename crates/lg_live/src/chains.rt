@@ -1,0 +1,48 @@
+// The points that jump to a point.
+
+ghost use Rattle.std.specs.Prelude.{◌≡◌, ◌<◌, ◌≤◌, ℕ, Some, None, length, IfOk};
+ghost use Rattle.lg_live.specs.Graphs.{point_at, AreWithin};
+ghost use Rattle.lg_live.specs.Chains.{IsLinked, AreChains};
+
+use crate::point::Point;
+use lg_base::OutOfMemory;
+use std::alloc::Global;
+
+/// For each point the points that jump to it, from the last to the first.
+#[derive(Drop)]
+pub struct Chains {
+    /// Of each point the last that jumps to it.
+    pub last: Vec<Option<usize>>,
+    /// Of each point that jumps the last before it that jumps to the same.
+    pub earlier: Vec<Option<usize>>,
+}
+
+// Puts a point at the head of the chain of the point to which it jumps, and gives the head before it.
+fn link(last: &mut [Option<usize>], to: Option<usize>, index: usize) -> Option<usize>
+    ensures linked { (k : ℕ) → to ≡ Some k → k < length last.old → IsLinked last.old last.new result k index }
+    ensures none { to ≡ None → last.new ≡ last.old }
+{
+    match to {
+        Some(to) if to < last.len() => {
+            let before = last[to];
+            last[to] = Some(index);
+            before
+        }
+        _ => None,
+    }
+}
+
+impl Chains {
+    /// The chains of these points, which are all below this number.
+    pub fn of(alloc: Global, points: &[Point], count: usize) -> Result<Chains, OutOfMemory>
+        requires { AreWithin points.now count }
+        ensures { IfOk result (λ chains. AreChains points.now count chains) }
+    {
+        let mut last = vec![in alloc; None; count]?;
+        let mut earlier = Vec::new(alloc);
+        for (index, point) in points.iter().enumerate() {
+            earlier.push(link(&mut last, point.jumps, index))?;
+        }
+        Ok(Chains { last, earlier })
+    }
+}

@@ -1,0 +1,52 @@
+// Which operations only make words.
+
+ghost use Rattle.std.specs.Prelude.{◌≡◌, not};
+ghost use Rattle.lg_live.specs.Definitions.{defines, feeding};
+ghost use Rattle.lg_op.specs.Operators.{is_carried};
+
+use lg_node::{BinaryOp, Op, PlainOp};
+
+/// What is sought of the registers at each node.
+#[derive(Clone, Copy, Debug, PartialEq, Eq)]
+pub enum Sought {
+    /// The registers that are live: some node may read them.
+    Live,
+    /// The registers that are needed: their words can come to a node that is no definition.
+    Needed,
+}
+
+// Whether an operation sets the carry.
+fn is_carried(op: BinaryOp) -> bool
+    ensures { result ≡ is_carried op }
+{
+    matches!(
+        op,
+        BinaryOp::Addc | BinaryOp::Subc | BinaryOp::Addx | BinaryOp::Subx
+    )
+}
+
+/// Whether an operation only makes words: it may go where none of the registers that it writes is needed.
+pub fn defines(op: Op) -> bool
+    ensures { result ≡ defines op }
+{
+    match op {
+        Op::Binary(op, _) => !is_carried(op),
+        Op::Wide(_, _)
+        | Op::Unary(_)
+        | Op::Plain(PlainOp::Movi)
+        | Op::Load(_, _)
+        | Op::Retval(_)
+        | Op::Getarg(_) => true,
+        _ => false,
+    }
+}
+
+/// Whether what an operation reads counts only where what it writes is wanted.
+pub fn feeding(sought: Sought, op: Op) -> bool
+    ensures { result ≡ feeding sought op }
+{
+    match sought {
+        Sought::Live => false,
+        Sought::Needed => defines(op),
+    }
+}

@@ -1,0 +1,86 @@
+// The registers that are live before and behind each node.
+
+ghost use Rattle.std.specs.Prelude.{◌≡◌, ◌↔◌, ◌<◌, ◌≤◌, true, Some, length, slice_get, IfOk};
+ghost use Rattle.lg_op.specs.declared.operand.Reg.{Reg};
+ghost use Rattle.lg_live.specs.RegSets.{has};
+ghost use Rattle.lg_node.specs.Shapes.{IsShapeOf};
+ghost use Rattle.lg_live.specs.Graphs.{AreWithin, AreWanted, IsWantedBehind};
+ghost use Rattle.lg_live.specs.Liveness.{AreLive};
+
+use crate::definitions::Sought;
+use crate::point::Point;
+use crate::points::points_of;
+use crate::reg_set::RegSet;
+use crate::search::wanted;
+use crate::sets::union;
+use lg_base::OutOfMemory;
+use lg_node::{NodeList, Shape};
+use std::alloc::Global;
+use std::marker::Model;
+
+/// Which registers are live before and behind each node of a text.
+#[derive(Drop)]
+pub struct Live {
+    before: Vec<RegSet>,
+    after: Vec<RegSet>,
+}
+
+impl Model for Live {
+    ghost use Rattle.lg_live.specs.Liveness.{LiveSets};
+
+    ghost Value = { LiveSets };
+
+    ghost view = { λ live. record { before = live.before.items; behind = live.after.items } };
+}
+
+// The registers that are wanted at the points to which a point falls or jumps.
+fn behind(points: &[Point], sets: &[RegSet], index: usize) -> RegSet
+    requires point { index < length points.now }
+    requires within { AreWithin points.now (length sets.now) }
+    requires wanted { AreWanted points.now (length sets.now) sets.now }
+    ensures { (r : Reg) → (has result r ≡ true) ↔ IsWantedBehind points.now r index }
+{
+    let point = points[index];
+    let next = if point.falls {
+        sets[index + 1]
+    } else {
+        RegSet::none()
+    };
+    match point.jumps {
+        Some(target) => union(next, sets[target]),
+        None => next,
+    }
+}
+
+impl Live {
+    /// The registers that are live in nodes of this shape.
+    pub fn of(alloc: Global, nodes: &NodeList, shape: &Shape) -> Result<Live, OutOfMemory>
+        requires { IsShapeOf nodes.now shape.now }
+        ensures { IfOk result (λ live. AreLive nodes.now shape.now live) }
+    {
+        let points = points_of(alloc, nodes, shape, Sought::Live)?;
+        let mut before = wanted(alloc, &points, 2 * nodes.len() as usize)?;
+        let mut after = Vec::new(alloc);
+        for index in 0..points.len() {
+            after.push(behind(&points, &before, index))?;
+        }
+        before.truncate(points.len());
+        Ok(Live { before, after })
+    }
+
+    /// The registers that are live before a node, which is below the number of nodes.
+    pub fn before(&self, index: u32) -> RegSet
+        requires { index < length self.now.before }
+        ensures { Some result ≡ slice_get self.now.before index }
+    {
+        self.before[index as usize]
+    }
+
+    /// The registers that are live behind a node, which is below the number of nodes.
+    pub fn after(&self, index: u32) -> RegSet
+        requires { index < length self.now.behind }
+        ensures { Some result ≡ slice_get self.now.behind index }
+    {
+        self.after[index as usize]
+    }
+}

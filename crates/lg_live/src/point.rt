@@ -1,0 +1,79 @@
+// The points of a search.
+
+ghost use Rattle.std.specs.Prelude.{◌≡◌, ◌+◌, ℕ, true, Some, ◌&&◌};
+ghost use Rattle.lg_op.specs.declared.operand.Reg.{Reg};
+ghost use Rattle.lg_live.specs.RegSets.{has};
+ghost use Rattle.lg_live.specs.Graphs.{point_at, any_register, passes};
+
+use crate::reg_set::RegSet;
+use crate::sets::{difference, meets, union};
+
+/// What a point does, and where it leads.
+#[derive(Clone, Copy)]
+pub struct Point {
+    /// The registers that it reads.
+    pub reads: RegSet,
+    /// The registers that it reads for those that it writes: only where one of these is wanted.
+    pub feeds: RegSet,
+    /// The registers that it writes.
+    pub writes: RegSet,
+    /// Whether it leads to the next point.
+    pub falls: bool,
+    /// Another point to which it leads.
+    pub jumps: Option<usize>,
+    /// A point that leads to it.
+    pub joins: Option<usize>,
+}
+
+// What a point wants for these registers that are wanted behind it.
+fn wanted_for(point: &Point, set: RegSet) -> RegSet
+    ensures { (r : Reg) → has result r ≡ (has point.now.feeds r && any_register (λ q. has set q && has point.now.writes q)) }
+{
+    if meets(set, point.writes) {
+        point.feeds
+    } else {
+        RegSet::none()
+    }
+}
+
+/// The registers that are wanted before a point, where those of a set are behind it. Those behind the last point pass all.
+pub fn passing(points: &[Point], index: usize, set: RegSet) -> RegSet
+    ensures { (r : Reg) → has result r ≡ passes (point_at points.now index) (has set) r }
+{
+    match points.get(index) {
+        Some(point) => union(difference(set, point.writes), wanted_for(point, set)),
+        None => set,
+    }
+}
+
+/// Whether a point leads to the next one.
+pub fn falls(points: &[Point], index: usize) -> bool
+    ensures { result ≡ (point_at points.now index).falls }
+{
+    match points.get(index) {
+        Some(point) => point.falls,
+        None => false,
+    }
+}
+
+/// The point that joins a point, if there is one.
+pub fn joins(points: &[Point], index: usize) -> Option<usize>
+    ensures { result ≡ (point_at points.now index).joins }
+{
+    match points.get(index) {
+        Some(point) => point.joins,
+        None => None,
+    }
+}
+
+/// The point before a point, where it leads there.
+pub fn fallen(points: &[Point], to: usize) -> Option<usize>
+    ensures arc { (i : ℕ) → result ≡ Some i → ((point_at points.now i).falls ≡ true) × (to ≡ i + 1) }
+    ensures all { (i : ℕ) → (point_at points.now i).falls ≡ true → to ≡ i + 1 → result ≡ Some i }
+{
+    if to > 0 && falls(points, to - 1) {
+        Some(to - 1)
+    } else {
+        None
+    }
+}

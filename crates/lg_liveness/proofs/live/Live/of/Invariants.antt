@@ -1,5 +1,0 @@
-use Rattle.lg_liveness.proofs.LiveLemmas.{AreBehind}
-use Rattle.lg_liveness.proofs.live.Live.of.Given as goal
-
-abbrev pub invariant-loop-index : goal.invariant-loop-index
-invariant-loop-index l = AreBehind l.points.items l.after.items l.index

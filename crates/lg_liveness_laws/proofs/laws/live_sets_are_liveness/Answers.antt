@@ -1,5 +1,0 @@
-use Rattle.lg_liveness_laws.proofs.LivenessLemmas.{liveness}
-use Rattle.lg_liveness_laws.proofs.laws.live_sets_are_liveness.Goals as goal
-
-pub returns : goal.returns
-returns c = liveness c.steps_reach_successors.ensures

@@ -1,8 +1,0 @@
-use Rattle.std.proofs.Common.{◌*◌}
-use Rattle.std.proofs.Math.Nat.{mod-add-mod}
-use Rattle.lg_made.specs.Made.{next}
-use Rattle.lg_made.proofs.lines.next.Goals as goal
-
-pub returns : goal.returns
-unfolding next
-returns c = mod-add-mod (c.args.state * 6364136223846793005) 18446744073709551616 1442695040888963407

@@ -1,0 +1,43 @@
+-- The items of a node as its instructions.
+use Rattle.std.proofs.Common.{◌≡◌, ℕ, ◌+◌, ◌-◌, ◌<◌, true, List, length, drop, sym, ap, ◌∙◌, arith}
+use Rattle.std.specs.Prelude.{slice_get, slice_index, slice_index_or}
+use Rattle.lg_base.specs.Layout.{code_base}
+use Rattle.lg_carry.specs.Blocks.{spellings, IsBlock}
+use Rattle.lg_carry.specs.Carries.{leaps_at}
+use Rattle.lg_carry.specs.FinalNodes.{Code}
+use Rattle.lg_carry.specs.NodeBlocks.{IsNodeBlock}
+use Rattle.lg_carry.specs.Passages.{IsNodeCode}
+use Rattle.lg_carry.specs.Rows.{Rows}
+use Rattle.lg_sel.specs.Holes.{Holes, words_in, blanks, settled, AreHoles}
+use Rattle.lg_sel.specs.NodeItems.{InstructionsStay, AreOfNode}
+use Rattle.lg_sel.proofs.HoleLemmas as holes
+
+module _ {L Q I : Type 0} (H : Holes L I) (R : Rows Q I) (fits stays : I → Type 0) (is_item : L → Type 0) (ok : AreHoles H R.spelling fits is_item)
+    (stay : InstructionsStay R stays) where
+  pub items-are-node-code : (c : Code) (i : ℕ) (items : List L) → AreOfNode H R fits stays is_item c i items
+      → (leaps_at (slice_get c.nodes.nodes i) ≡ true → 0 < words_in H items)
+      → IsNodeCode R fits c i (settled H (slice_index c.addresses) (c.place i) items)
+  items-are-node-code c i items a some =
+      let to : ℕ → ℕ = slice_index c.addresses in
+      let is : List I = settled H to (c.place i) items in
+      let long = holes.settled-words H R.spelling fits is_item ok to (c.place i) items a.items_are in
+      let size = holes.settled-bytes H R.spelling fits is_item ok to (c.place i) items a.items_are in
+      let next : c.place (i + 1) ≡ c.place i + length (spellings R.spelling is) = a.next ∙ ap (λ n. c.place i + n) (sym size) in
+      let more : List ℕ = drop (c.place i - code_base + length (blanks H items)) R.code in
+      record {
+        low = a.low;
+        place = a.place;
+        more = more;
+        stands = a.settled_at.stands;
+        next = next;
+        few = let f = a.few in omega (arith, f, long);
+        some = λ l. let s = some l in omega (arith, s, long);
+        fit = a.settled_at.fit;
+        outside = λ k d lt. stay (slice_index_or is k d) (a.stay k d lt);
+      }
+
+  pub items-are-node-blocks : (c : Code) (i : ℕ) (items : List L) → AreOfNode H R fits stays is_item c i items
+      → (leaps_at (slice_get c.nodes.nodes i) ≡ true → 0 < words_in H items)
+      → IsBlock R.is_straight (settled H (slice_index c.addresses) (c.place i) items)
+      → IsNodeBlock R fits c i (settled H (slice_index c.addresses) (c.place i) items)
+  items-are-node-blocks c i items a some block = record { code = items-are-node-code c i items a some; block = block }

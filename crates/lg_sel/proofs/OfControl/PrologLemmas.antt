@@ -1,0 +1,164 @@
+-- A `prolog` is carried by code that makes the frame.
+use Rattle.std.proofs.Common.{◌≡◌, ℕ, ◌+◌, ◌%◌, ◌<◌, ◌≤◌, inr, Bool, false, List, [], ◌∷◌, Option, Some, None, refl, sym, ap, ◌∙◌, subst, arith, append-nil}
+use Rattle.std.specs.Prelude.{slice_get}
+use Rattle.lg_base.specs.Conventions.{portable_register, frame_register}
+use Rattle.lg_base.specs.Layout.{frame_pointer, saved_word, least_frame, stack_end}
+use Rattle.lg_base.specs.declared.target.Target.{Target}
+use Rattle.lg_op.specs.declared.node.Node.{Node}
+use Rattle.lg_node.specs.declared.function.Function.{Function}
+use Rattle.lg_node.specs.Functions.{home, is_prolog_at, is_epilog_at, frame_of}
+use Rattle.lg_node.specs.Preparations.{prepared_before}
+use Rattle.lg_meaning.specs.States.{Frame, State}
+use Rattle.lg_meaning.specs.Steps.{Goes, on, begun, need, quiet, function_here}
+use Rattle.lg_meaning.specs.Texts.{text, step_at, step}
+use Rattle.lg_carry.specs.Carries.{Leads}
+use Rattle.lg_carry.specs.FinalNodes.{Code, is_inside}
+use Rattle.lg_carry.specs.Frames.{at_call, return_address, MayKeepCaller, MayHoldCaller, HasFrameWords, IsArriving, IsRunning}
+use Rattle.lg_carry.specs.Homes.{homes_at}
+use Rattle.lg_carry.specs.NodeCode.{live_before, live_behind}
+use Rattle.lg_carry.specs.Passages.{IsNodeCode, Passes}
+use Rattle.lg_carry.specs.Registers.{HasWord}
+use Rattle.lg_carry.specs.Rows.{Rows}
+use Rattle.lg_carry.specs.Stands.{StatesAgree, Stands}
+use Rattle.lg_carry.specs.TextNodes.{IsInText}
+use Rattle.lg_carry.proofs.AgreeAcrossFramesLemmas.{prolog-agrees, frame-room}
+use Rattle.lg_carry.proofs.PassageLemmas.{passages-lead}
+use Rattle.lg_carry.proofs.StackLemmas.{stacked, stacked-high}
+use Rattle.lg_carry.proofs.TextShapeLemmas.{shaped}
+use Rattle.lg_carry.specs.Nodes.Stretches.{behind}
+use Rattle.lg_carry.proofs.OfNodes.HomesLemmas.{homes-same}
+use Rattle.lg_carry.proofs.OfNodes.LeapLemmas.{outer-is, next-inside, node-stands, node-passes}
+use Rattle.lg_carry.proofs.OfNodes.LiveLemmas.{unwritten, still-live}
+use Rattle.lg_carry.proofs.OfNodes.StraightLemmas.{text-keeps}
+use Rattle.lg_sel.specs.Control.Prologs.{Entrance, PrologsLead, prolog_node, PrologsCarry}
+
+-- ---- the words of the frame
+arriving : (target : Target) (c : Code) (live : Frame → ℕ → Bool) (s : State) (b : Bool) (m : ℕ → Option ℕ) (w : ℕ → ℕ) → b ≡ false
+    → IsRunning b target c.place m w s.frame s.callers (live (at_call s.frame)) (homes_at c s.at)
+    → IsArriving target c.place m w s.frame s.callers (live (at_call s.frame))
+arriving target c live s b m w e h = subst (λ x. IsRunning x target c.place m w s.frame s.callers (live (at_call s.frame)) (homes_at c s.at)) e h
+
+keeps-caller : (target : Target) (m : ℕ → Option ℕ) (w : ℕ → ℕ) (f : Frame) (size locals : ℕ) (gs : List Frame) (live : ℕ → Bool)
+    → HasWord m (frame_pointer f.sp) (w (frame_register target))
+    → ((v : ℕ) → v < 3 → HasWord m (saved_word (frame_pointer f.sp) v) (w (portable_register target (v + 3)))) → MayHoldCaller target w f gs live
+    → MayKeepCaller m (record f { size = size; locals = locals }) gs live
+keeps-caller target m w f size locals [] live pointer saved h = tt
+keeps-caller target m w f size locals (g ∷ gs) live pointer saved h = record {
+  pointer = subst (HasWord m (frame_pointer f.sp)) h.pointer pointer;
+  saved = λ v x lt l e. subst (HasWord m (saved_word (frame_pointer f.sp) v)) (h.saved v x lt l e) (saved v lt);
+}
+
+-- ---- the node
+module _ {Q I : Type 0} (R : Rows Q I) (fits : I → Type 0) (code : ℕ → ℕ → List I) (lead : PrologsLead R fits code) (c : Code) (i line : ℕ) (f : Function)
+    (S : ℕ → Bool) (t : IsInText c i (prolog_node line))
+    (function : function_here c.shape.functions i ≡ Some f) (k : IsNodeCode R fits c i (code (frame_of f) (homes_at c i))) (live : Frame → ℕ → Bool) (s : State)
+    (out : List ℕ) (q : Q) (at : s.at ≡ i)
+    (st : Stands R.processor c live s out q (live_before (prolog_node line) S)) where
+  abbrev n : Node
+  n = prolog_node line
+
+  abbrev target : Target
+  target = R.processor.target
+
+  abbrev sp : ℕ
+  sp = s.frame.sp
+
+  abbrev homes : ℕ
+  homes = homes_at c i
+
+  abbrev high : ℕ
+  high = behind R (c.place i) (code (frame_of f) homes)
+
+  entry : home c.nodes.nodes i ≡ Some i
+  entry = (t.well.entries i (ap is_prolog_at t.here)).0
+
+  unprepared : prepared_before c.nodes.nodes i ≡ None
+  unprepared = (t.well.entries i (ap is_prolog_at t.here)).1
+
+  room : least_frame + frame_of f ≤ sp
+  room = frame-room c.nodes c.shape s f (home c.nodes.nodes s.at) (ap (home c.nodes.nodes) at ∙ entry ∙ ap Some (sym at))
+      (ap (function_here c.shape.functions) at ∙ function) st.state.fits.top
+
+  top : (sp % 16 ≡ 0) × (sp ≤ stack_end)
+  top = let e = stacked-high sp s.callers (stacked c.nodes c.shape s.frame s.callers st.state.fits.linked) in (e.0, e.1)
+
+  large : 272 ≤ frame_of f
+  large = omega arith
+
+  arrives : IsArriving target c.place (R.processor.seen q).bytes (R.processor.seen q).registers s.frame s.callers (live (at_call s.frame))
+  arrives = arriving target c live s (is_inside c s.at) (R.processor.seen q).bytes (R.processor.seen q).registers
+      (ap (is_inside c) at ∙ outer-is (home c.nodes.nodes i) i entry) st.state.frame
+
+  enters : Entrance R.processor (c.place i) high sp (frame_of f) homes q
+  enters = lead (frame_of f) homes (c.place i) sp q st.state.seen large room top.1 top.0 arrives.stack (node-stands R fits c i (code (frame_of f) homes) k) st.runs
+      (st.state.here ∙ ap c.place at)
+
+  abbrev u : Q
+  u = enters.end
+
+  pass : Passes R.processor c i enters.steps q u
+  pass = node-passes R.processor c i enters.steps high q u k.next enters.passes
+
+  abbrev s' : State
+  s' = on (begun s f)
+
+  goes : step c.nodes c.shape c.addresses s ≡ Goes s' []
+  goes = ap (λ x. step_at (text c.nodes c.shape c.addresses) x s) (ap (slice_get c.nodes.nodes) at ∙ t.here)
+      ∙ ap (λ o. need o (λ g. quiet (on (begun s g)))) (ap (function_here c.shape.functions) at ∙ function)
+
+  words : HasFrameWords target c.place (R.processor.seen u).bytes s'.frame s.callers (live (at_call s.frame)) homes
+  words = record {
+    back = enters.back (return_address c.place s.frame s.callers) arrives.link;
+    caller = keeps-caller target (R.processor.seen u).bytes (R.processor.seen q).registers s.frame (frame_of f) f.locals s.callers
+        (live (at_call s.frame)) enters.caller enters.saved arrives.caller;
+    homes = λ j x read lt e. subst (HasWord (R.processor.seen u).bytes _) (arrives.arguments.is j x lt e) (enters.homes j read lt);
+  }
+
+  -- the next node stands in the same function
+  next-home : homes ≡ homes_at c (s.at + 1)
+  next-home =
+      let more = (t.well.falls i i entry (ap is_epilog_at t.here)).0 in
+      sym (homes-same c i n t i (i + 1) i entry more) ∙ ap (λ j. homes_at c (j + 1)) (sym at)
+
+  agree : StatesAgree target c live s' (R.processor.seen u) S
+  agree = prolog-agrees target c live s f (R.processor.seen q) (R.processor.seen u) (live_before n S) S st.state
+      record {
+        prolog = ap (home c.nodes.nodes) at ∙ entry ∙ ap Some (sym at);
+        function = ap (function_here c.shape.functions) at ∙ function;
+        unprepared = ap (prepared_before c.nodes.nodes) at ∙ unprepared;
+        behind = ap (λ j. is_inside c (j + 1)) at ∙ next-inside c i n t i entry refl;
+        settled = record {
+          words = subst (HasFrameWords target c.place (R.processor.seen u).bytes s'.frame s.callers (live (at_call s.frame))) next-home words;
+          pointer = enters.pointer;
+          stack = enters.stack_is;
+        };
+        bytes = enters.bytes;
+      }
+      record {
+        few = (shaped c.nodes t.well).few;
+        fits = text-keeps c i n t s s' [] at (omega (arith, st.state.seen.low, st.state.mark))
+            (omega (arith, st.state.seen.high, st.state.mark)) st.state.fits goes;
+        seen = enters.passes.keeps st.state.seen;
+        here = enters.here ∙ sym k.next ∙ ap (λ j. c.place (j + 1)) (sym at);
+        mark = enters.mark ∙ st.state.mark;
+      }
+      record {
+        registers = record { is = λ r x lt l e. enters.portable r lt ∙ st.state.registers.is r x lt (still-live n S r (unwritten n refl r) l) e };
+        carry = tt;
+        result = record { is = λ x e. cc };
+        pushed = record { is = λ j x lt e. enters.arguments j lt ∙ st.state.pushed.is j x lt e };
+      }
+
+  pub prolog-leads : Leads R.processor c live (live_behind live n S s) i (step c.nodes c.shape c.addresses s) out q
+  prolog-leads = subst (λ o. Leads R.processor c live (live_behind live n S s) i o out q) (sym goes)
+      (passages-lead R.processor c live (live_behind live n S s) i enters.steps (Goes s' []) out q u pass enters.few
+      (λ e. absurd (let z = enters.some in omega (arith, e, z))) (λ e. enters.some) st.wrote
+      record {
+        runs = enters.runs;
+        wrote = ap R.processor.machine.out (sym pass.leads) ∙ pass.silent enters.steps (omega arith) ∙ st.wrote ∙ sym (append-nil out);
+        state = agree;
+      })
+
+pub prologs-carry : {Q I : Type 0} (R : Rows Q I) (fits : I → Type 0) (code : ℕ → ℕ → List I) → PrologsLead R fits code → PrologsCarry R fits code
+prologs-carry R fits code lead c i line f S t function k live s returns out q at st =
+    inr (prolog-leads R fits code lead c i line f S t function k live s out q at st)

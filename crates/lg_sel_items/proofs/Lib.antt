@@ -1,6 +1,0 @@
-pub mod EmittedLemmas
-pub mod FewLemmas
-pub mod GoodItemLemmas
-pub mod HoleLemmas
-pub mod ListLemmas
-pub mod NodeLemmas

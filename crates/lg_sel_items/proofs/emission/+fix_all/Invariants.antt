@@ -1,5 +1,0 @@
-use Rattle.std.proofs.Common.{length}
-use Rattle.lg_sel_items.proofs.emission.+fix_all.Given as goal
-
-abbrev pub decreases-fix_all : goal.decreases-fix_all
-decreases-fix_all g l = length l.items.now

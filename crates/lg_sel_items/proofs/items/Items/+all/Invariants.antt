@@ -1,5 +1,0 @@
-use Rattle.std.proofs.Common.{length}
-use Rattle.lg_sel_items.proofs.items.Items.+all.Given as goal
-
-abbrev pub decreases-all : goal.decreases-all
-decreases-all g l = length l.instrs.now

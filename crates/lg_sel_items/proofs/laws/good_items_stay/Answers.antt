@@ -1,5 +1,0 @@
-use Rattle.lg_sel_items.proofs.GoodItemLemmas.{good-items-settle}
-use Rattle.lg_sel_items.proofs.laws.good_items_stay.Goals as goal
-
-pub returns : goal.returns
-returns g c = good-items-settle g.T.HasHoles.holes g.T.HasGoodItems.good g.T.HasHoles.stays

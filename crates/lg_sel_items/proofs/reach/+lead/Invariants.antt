@@ -1,5 +1,0 @@
-use Rattle.std.proofs.Common.{length}
-use Rattle.lg_sel_items.proofs.reach.+lead.Given as goal
-
-abbrev pub decreases-lead : goal.decreases-lead
-decreases-lead g l = length l.items.now

@@ -1,4 +1,0 @@
-pub mod GoodItems
-pub mod Holes
-pub mod NodeItems
-pub mod Reaches

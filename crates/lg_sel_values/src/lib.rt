@@ -1,9 +1,0 @@
-//! When code that only computes carries the nodes that compute values, on any target.
-#![tactic(auto)]
-
-mod extensions;
-pub mod laws;
-mod parts;
-
-pub use extensions::extension;
-pub use parts::operand_in;

@@ -1,0 +1,30 @@
+use Rattle.std.proofs.Common.{◌≡◌, ◌++◌, length, refl, ap, ◌∙◌, arith}
+use Rattle.std.specs.Prelude.{take}
+use Rattle.lg_base.specs.Conventions.{argument_registers}
+use Rattle.lg_base.specs.declared.target.Target.TheVariants.{Aarch64}
+use Rattle.lg_sel.proofs.OfControl.StoreLemmas.{stores-fit-in, stores-put, stores-words}
+use Rattle.lg_sela.specs.Control.Prologs.{store_word, stores_below}
+use Rattle.lg_sela_values.specs.Items.{a64_holes, ones}
+use Rattle.lg_sela_values.specs.declared.items.Item.TheVariants.{One}
+use Rattle.lg_sela.proofs.control.frames.put_stores.Goals as goal
+
+pub all-requires-2 : goal.all-requires-2
+all-requires-2 c =
+    let room = c.requires.room in
+    let front = ap length c.saves.ensures in
+    let fit = stores-fit-in a64_holes One (λ i. refl) store_word (argument_registers Aarch64) 8 5 refl c.args.homes c.min.result c.min.ensures c.saves.result
+    c.home_stores.result c.args.items.now c.all.new.self c.home_stores.ensures c.all.ensures in
+    (omega arith, omega (arith, room, front, fit))
+
+pub returns-clause-stored : goal.returns-clause-stored
+returns-clause-stored c =
+    stores-put a64_holes One (λ i. refl) store_word (argument_registers Aarch64) 8 5 refl c.args.homes c.min.result c.min.ensures c.saves.result
+    c.home_stores.result c.args.items.now c.all.new.self c.home_stores.ensures c.all.ensures c.all-2.new.self c.all-2.ensures
+    ∙ ap (λ xs. c.args.items.now ++ ones (xs ++ stores_below (take c.args.homes (argument_registers Aarch64)) 5)) c.saves.ensures
+
+pub returns-clause-few : goal.returns-clause-few
+returns-clause-few c =
+    let front = ap length c.saves.ensures in
+    let most = stores-words a64_holes One (λ i. refl) store_word (argument_registers Aarch64) 8 5 refl c.args.homes c.min.result c.min.ensures c.saves.result
+    c.home_stores.result c.args.items.now c.all.new.self c.home_stores.ensures c.all.ensures c.all-2.new.self c.all-2.ensures in
+    omega (arith, front, most)

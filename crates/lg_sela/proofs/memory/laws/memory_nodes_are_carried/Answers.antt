@@ -1,0 +1,5 @@
+use Rattle.lg_sela.proofs.OfMemory.MemoryNodeLemmas.{memory-is-carried}
+use Rattle.lg_sela.proofs.memory.laws.memory_nodes_are_carried.Goals as goal
+
+pub returns : goal.returns
+returns c = memory-is-carried

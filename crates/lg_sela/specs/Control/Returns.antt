@@ -1,0 +1,48 @@
+-- `ret`, `retr`, `reti` and `epilog`: V0, V1 and V2 of the caller, the return address and the caller's frame pointer come back from the frame, the stack
+-- pointer rises to that of the caller, and the run goes on behind the call. Each word is loaded before the stack pointer rises above it.
+use Rattle.std.specs.Prelude.{ℕ, nat_lt, if◌then◌else◌, pos, negsuc, false, List, [], ◌∷◌, ◌++◌}
+use Rattle.lg_base.specs.Conventions.{result_register}
+use Rattle.lg_base.specs.declared.target.Target.TheVariants.{Aarch64}
+use Rattle.lg_a64.specs.declared.instruction.BranchRegOp.TheVariants.{Ret}
+use Rattle.lg_a64.specs.declared.instruction.ImmOp.TheVariants.{Addi}
+use Rattle.lg_a64.specs.declared.instruction.Instr.{Instr}
+use Rattle.lg_a64.specs.declared.instruction.Instr.TheVariants as instr
+use Rattle.lg_a64.specs.declared.instruction.RegOp.TheVariants.{Orr}
+use Rattle.lg_a64.specs.declared.instruction.UnscaledOp.TheVariants.{Ldur}
+use Rattle.lg_a64.specs.declared.instruction.WideOp.TheVariants.{Movz, Movk}
+use Rattle.lg_temp.specs.Abis.{register_of}
+use Rattle.lg_sela_values.specs.Processor.A64Rows.{frame_pointer, stack_pointer, zero_register, link}
+use Rattle.lg_sela_values.specs.Processor.Numbers.{number_code}
+use Rattle.lg_sela_values.specs.Items.{low_quarter, next_quarter}
+use Rattle.lg_sel.specs.Control.Returns.{Returned, NoWord, OfRegister, OfNumber, OfLabel}
+
+-- x19, x20 and x21 stand for V0, V1 and V2. The size of the frame is a number of 12 bits
+abbrev pub near_return : ℕ → List Instr
+near_return frame =
+    instr.Unscaled Ldur 19 frame_pointer (negsuc 7) ∷ instr.Unscaled Ldur 20 frame_pointer (negsuc 15) ∷ instr.Unscaled Ldur 21 frame_pointer (negsuc 23)
+    ∷ instr.Unscaled Ldur link frame_pointer (pos 8) ∷ instr.Unscaled Ldur frame_pointer frame_pointer (pos 0)
+    ∷ instr.Imm Addi stack_pointer stack_pointer frame false ∷ instr.BranchReg Ret link ∷ []
+
+-- of a larger frame the stack pointer rises first to the word of the caller's frame pointer
+abbrev pub far_return : List Instr
+far_return =
+    instr.Unscaled Ldur 19 frame_pointer (negsuc 7) ∷ instr.Unscaled Ldur 20 frame_pointer (negsuc 15) ∷ instr.Unscaled Ldur 21 frame_pointer (negsuc 23)
+    ∷ instr.Unscaled Ldur link frame_pointer (pos 8) ∷ instr.Imm Addi stack_pointer frame_pointer 0 false ∷ instr.Unscaled Ldur frame_pointer stack_pointer
+    (pos 0) ∷ instr.Imm Addi stack_pointer stack_pointer 16 false ∷ instr.BranchReg Ret link ∷ []
+
+abbrev pub return_code : ℕ → List Instr
+return_code frame = if nat_lt frame 4096 then near_return frame else far_return
+
+-- the register of the result of a call, x0
+abbrev pub result : ℕ
+result = result_register Aarch64
+
+-- the word that is returned is put there first: that of a register, a number, or the address of a label
+abbrev pub result_code : Returned → List Instr
+result_code NoWord = []
+result_code (OfRegister a) = instr.Reg Orr result zero_register (register_of Aarch64 a) ∷ []
+result_code (OfNumber v) = number_code result v
+result_code (OfLabel address) = instr.Wide Movz result (low_quarter address) 0 ∷ instr.Wide Movk result (next_quarter address) 1 ∷ []
+
+abbrev pub returned_code : ℕ → Returned → List Instr
+returned_code frame r = result_code r ++ return_code frame

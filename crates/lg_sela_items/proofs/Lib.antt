@@ -1,7 +1,0 @@
-pub mod GoodLemmas
-pub mod ItemLemmas
-pub mod NodeLemmas
-pub mod NumberItemLemmas
-pub mod PatchLemmas
-pub mod WithinLemmas
-pub mod WordLemmas

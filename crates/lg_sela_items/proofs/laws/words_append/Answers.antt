@@ -1,5 +1,0 @@
-use Rattle.lg_sela_items.proofs.ItemLemmas.{words_append}
-use Rattle.lg_sela_items.proofs.laws.words_append.Goals as goal
-
-pub returns : goal.returns
-returns c = words_append

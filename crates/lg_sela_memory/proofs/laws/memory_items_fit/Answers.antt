@@ -1,5 +1,0 @@
-use Rattle.lg_sela_memory.proofs.FitLemmas.{memory-items-fit}
-use Rattle.lg_sela_memory.proofs.laws.memory_items_fit.Goals as goal
-
-pub returns : goal.returns
-returns c = memory-items-fit

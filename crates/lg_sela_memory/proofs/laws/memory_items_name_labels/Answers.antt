@@ -1,5 +1,0 @@
-use Rattle.lg_sela_memory.proofs.WithinLemmas.{memory-items-name}
-use Rattle.lg_sela_memory.proofs.laws.memory_items_name_labels.Goals as goal
-
-pub returns : goal.returns
-returns c = memory-items-name

@@ -1,5 +1,0 @@
-use Rattle.lg_sela_memory.proofs.WithinLemmas.{memory-items-stay}
-use Rattle.lg_sela_memory.proofs.laws.memory_items_stay.Goals as goal
-
-pub returns : goal.returns
-returns c = memory-items-stay

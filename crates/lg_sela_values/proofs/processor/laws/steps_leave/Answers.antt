@@ -1,0 +1,5 @@
+use Rattle.lg_sela_values.proofs.OfProcessor.TouchLemmas.{steps-leave}
+use Rattle.lg_sela_values.proofs.processor.laws.steps_leave.Goals as goal
+
+pub returns : goal.returns
+returns c = steps-leave

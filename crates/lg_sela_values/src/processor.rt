@@ -1,0 +1,3 @@
+// The AArch64 processor, as the laws of lg_carry ask for one.
+
+pub mod laws;

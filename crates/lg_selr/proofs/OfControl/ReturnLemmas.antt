@@ -1,0 +1,434 @@
+-- Returns leave their frame.
+use Rattle.lg_sel.specs.RvTouched.{touched}
+use Rattle.lg_carry.specs.Processors.{IsOff, is_below}
+use Rattle.lg_carry.proofs.BelowLemmas.{not-below}
+use Rattle.lg_carry.proofs.BlockLemmas.{no-width}
+use Rattle.std.proofs.Common.{◌≡◌, ℕ, zero, suc, ◌+◌, ◌-◌, ◌*◌, ◌%◌, ◌^◌, ◌<◌, ◌≤◌, ⊎_elim, Bool, true, false, List, [], ◌∷◌, ◌++◌, Option, Some, refl, sym, ap, inr}
+use Rattle.std.proofs.Common.{◌∙◌, subst, arith, length, length-append, append-nil}
+use Rattle.std.specs.Prelude.{◌==◌, ℤ, pos, negsuc, if◌then◌else◌, is_some}
+use Rattle.lg_base.specs.Conventions.{portable_register}
+use Rattle.lg_base.specs.Fields.{word_of}
+use Rattle.lg_base.specs.Layout.{frame_pointer, return_word, saved_word}
+use Rattle.lg_base.specs.Parts.{stack_base}
+use Rattle.lg_base.specs.Spaces.{loaded}
+use Rattle.lg_base.specs.Words.{add_words}
+use Rattle.lg_base.specs.declared.target.Target.TheVariants.{Riscv64}
+use Rattle.lg_cells.specs.Cells.{within}
+use Rattle.lg_rv.specs.declared.instruction.Instr.{Instr}
+use Rattle.lg_rv.specs.declared.instruction.Instr.TheVariants as instr
+use Rattle.lg_rv.specs.declared.instruction.ImmOp.TheVariants.{Ld, Addi, Jalr}
+use Rattle.lg_base.specs.declared.fault.FaultKind.TheVariants.{Align}
+use Rattle.lg_cpu.specs.Steps.{Run, after, arrived, faults, status_of}
+use Rattle.lg_cpu.specs.HostSteps.{put}
+use Rattle.lg_cpu.specs.States.{CpuState}
+use Rattle.lg_cpu.specs.RvStep.{read, goes, sets, loads, load_at, act}
+use Rattle.lg_selr_values.specs.Processor.RvRows.{rv_processor, rv_seen, acts_above}
+use Rattle.lg_selr.proofs.OfControl.WalkLemmas.{lands-there}
+use Rattle.std.specs.Prelude.{nat_lt}
+use Rattle.lg_base.specs.Layout.{code_base, most_code}
+use Rattle.lg_base.specs.Runs.{Running}
+use Rattle.lg_base.specs.Words.{sign_32}
+use Rattle.lg_rv.specs.Spelling.{spelling, IsInstr}
+use Rattle.lg_cpu.specs.Laws.{AreBytes}
+use Rattle.lg_temp.specs.Abis.{register_of}
+use Rattle.lg_carry.specs.Blocks.{spellings, done, IsBlock}
+use Rattle.lg_carry.specs.Registers.{HasWord}
+use Rattle.lg_selr_values.specs.Processor.Computations.{all_compute, computed, RunsComputations}
+use Rattle.lg_selr_values.specs.Processor.Numbers.{high_part, low_part}
+use Rattle.lg_selr_values.specs.Processor.RvRows.{rv_rows, rv_does, is_straight}
+use Rattle.lg_selr_values.proofs.OfProcessor.ComputationLemmas.{computations-run}
+use Rattle.lg_selr_values.proofs.OfProcessor.NumberCodeLemmas.{numbers-are-loaded}
+use Rattle.lg_selr_values.proofs.OfProcessor.RowLemmas.{are-rows}
+use Rattle.lg_carry.specs.Nodes.Stretches.{HasFrame, StandsAt, behind, PassesIn}
+use Rattle.lg_carry.proofs.OfNodes.StraightLemmas.{in-room}
+use Rattle.lg_carry.proofs.OfNodes.StretchLemmas.{part-passes, passages-join}
+use Rattle.lg_sel.specs.Control.Returns.{Returned, NoWord, OfRegister, OfNumber, OfLabel, returned_word, IsReturned, Departure, IsBack, ReturnsLead}
+use Rattle.lg_selr.specs.Control.Returns.{near_return, far_return, return_code, result_code, returned_code}
+use Rattle.lg_sel.proofs.OfControl.ChainLemmas.{RunsAt, next-at, Chain, chain-end, chain-more, block-of, straight-block}
+use Rattle.lg_sel.proofs.OfControl.DepartureLemmas.{IsLeft, departure}
+use Rattle.lg_sel.proofs.OfControl.FrameWordLemmas.{word_at, stack-word, saved-address, link-address, stack-address, pointer-address}
+use Rattle.lg_selr.proofs.OfControl.ComputedLemmas.{all-straight, same-words}
+use Rattle.lg_selr.proofs.OfControl.StretchLemmas.{spelled-size}
+use Rattle.lg_selr_values.proofs.OfProcessor.RegisterLemmas.{read-of}
+use Rattle.lg_sel.proofs.OfControl.StretchLemmas.{aligned}
+use Rattle.lg_selr.proofs.OfControl.WordLemmas.{put-same}
+
+pub aligned-load : (a : ℕ) → a % 8 ≡ 0 → (a % 8 == 0) ≡ true
+aligned-load a h = rw h refl
+
+-- a load by a register
+pub load-act : (q : CpuState) (rd by base address w : ℕ) (offset : ℤ) → read q.registers by ≡ base → add_words base (word_of offset) ≡ address → address % 8 ≡ 0
+    → HasWord q.bytes address w → act (instr.Imm Ld rd by offset) q ≡ sets q rd w
+load-act q rd by base address w offset at e even held =
+    ap (λ x. load_at q rd (add_words x (word_of offset)) 8 false) at ∙ ap (λ x. load_at q rd x 8 false) e
+    ∙ ap (λ b. if b then loads q rd 8 false (loaded q.bytes address 8) else faults q Align) (aligned-load address even) ∙ ap (loads q rd 8 false) held
+
+-- the run behind instructions that return from a frame: all but the last are straight
+pub record Returns (code : List Instr) (q : Run CpuState) (sp back : ℕ) : Type 0 where
+  pub end : Run CpuState
+  pub chain : Chain act acts_above code q end
+  pub block : IsBlock is_straight code
+  pub saved : (j : ℕ) → j < 3 → end.state.registers (portable_register Riscv64 (j + 3)) ≡ word_at q.state.bytes (saved_word (sp - 16) j)
+  pub pointer : end.state.registers 8 ≡ word_at q.state.bytes (sp - 16)
+  pub stack : end.state.registers 2 ≡ sp
+  pub result : end.state.registers 10 ≡ q.state.registers 10
+  pub bytes : end.state.bytes ≡ q.state.bytes
+  pub mark : end.state.mark ≡ q.state.mark
+  pub here : end.state.pc ≡ back
+  pub progress : status_of end.progress ≡ status_of (arrived back)
+
+-- ---- the instructions of a return, from a run in a frame
+module _ (base n k : ℕ) (q : Run CpuState) (frame sp back : ℕ) (low : 0x3FF00010 + 272 ≤ sp) (high : sp ≤ 0x40000000) (even : sp % 16 ≡ 0) (at : RunsAt base n k q)
+    (pointer : q.state.registers 8 ≡ sp - 16) (stack : q.state.registers 2 + frame ≡ sp) (large : 272 ≤ frame)
+    (seen : (j : ℕ) → within stack_base 0x100000 j ≡ true → is_some (q.state.bytes j) ≡ true)
+    (held : HasWord q.state.bytes (return_word sp) back) (near : back < 2 ^ 62) (aligned : back % 4 ≡ 0) where
+  abbrev m : ℕ → Option ℕ
+  m = q.state.bytes
+
+  abbrev fp : ℕ
+  fp = sp - 16
+
+  abbrev s1 : Run CpuState
+  s1 = after q (sets q.state 9 (word_at m (saved_word fp 0)))
+
+  abbrev s2 : Run CpuState
+  s2 = after s1 (sets s1.state 18 (word_at m (saved_word fp 1)))
+
+  abbrev s3 : Run CpuState
+  s3 = after s2 (sets s2.state 19 (word_at m (saved_word fp 2)))
+
+  abbrev s4 : Run CpuState
+  s4 = after s3 (sets s3.state 1 back)
+
+  saved : (v : ℕ) → v < 3 → (saved_word fp v % 8 ≡ 0) × HasWord m (saved_word fp v) (word_at m (saved_word fp v))
+  saved v lt = (grind (arith, even, low, lt), stack-word m (saved_word fp v) seen (omega (arith, low, lt)) (omega (arith, high)))
+
+  caller : HasWord m fp (word_at m fp)
+  caller = stack-word m fp seen (omega (arith, low)) (omega (arith, high))
+
+  fp-even : fp % 8 ≡ 0
+  fp-even = grind (arith, even, low)
+
+  -- a word of the frame lies at or above the stack pointer
+  frame-above : (w : ℕ → ℕ) (rd base : ℕ) (offset : ℤ) (x y : ℕ) → read w base ≡ x → add_words x (word_of offset) ≡ y → w 2 ≤ y → IsOff (is_below Riscv64 (w 2)) (touched (instr.Imm Ld rd base offset) w)
+  frame-above w rd base offset x y held leads over a le lt =
+      let e : add_words (read w base) (word_of offset) ≡ y = ap (λ z. add_words z (word_of offset)) held ∙ leads in
+      not-below Riscv64 (w 2) a (inr (omega (arith, le, e, over)))
+
+  -- the jump behind them
+  abbrev left : Run CpuState → Run CpuState
+  left s = after s (goes back (put s.state.registers 0 (add_words s.state.pc 4)) m q.state.mark)
+
+  module _ (room : k + 7 ≤ n) where
+    a1 : RunsAt base n (suc k) s1
+    a1 = next-at base n k q _ _ _ _ (omega (arith, room)) at
+
+    a2 : RunsAt base n (suc (suc k)) s2
+    a2 = next-at base n (suc k) s1 _ _ _ _ (omega (arith, room)) a1
+
+    a3 : RunsAt base n (suc (suc (suc k))) s3
+    a3 = next-at base n (suc (suc k)) s2 _ _ _ _ (omega (arith, room)) a2
+
+    a4 : RunsAt base n (suc (suc (suc (suc k)))) s4
+    a4 = next-at base n (suc (suc (suc k))) s3 _ _ _ _ (omega (arith, room)) a3
+
+    -- the words that FP has come first
+    words-back : (is : List Instr) (end : Run CpuState) → Chain act acts_above is s4 end
+        → Chain act acts_above (instr.Imm Ld 9 8 (negsuc 7) ∷ instr.Imm Ld 18 8 (negsuc 15) ∷ instr.Imm Ld 19 8 (negsuc 23) ∷ instr.Imm Ld 1 8 (pos 8) ∷ is) q end
+    words-back is end rest =
+        chain-more act acts_above _ _ q end (sets q.state 9 (word_at m (saved_word fp 0))) at.runs (frame-above q.state.registers 9 8 (negsuc 7) fp (saved_word fp 0) pointer (saved-address sp 0 (omega arith) low high) (omega (arith, stack, large)))
+        (load-act q.state 9 8 fp (saved_word fp 0) _ (negsuc 7) pointer (saved-address sp 0 (omega arith) low high) (saved 0 (omega arith)).0
+        (saved 0 (omega arith)).1)
+        (chain-more act acts_above _ _ s1 end (sets s1.state 18 (word_at m (saved_word fp 1))) a1.runs (frame-above s1.state.registers 18 8 (negsuc 15) fp (saved_word fp 1) pointer (saved-address sp 1 (omega arith) low high) (omega (arith, stack, large)))
+        (load-act s1.state 18 8 fp (saved_word fp 1) _ (negsuc 15) pointer (saved-address sp 1 (omega arith) low high) (saved 1 (omega arith)).0
+        (saved 1 (omega arith)).1)
+        (chain-more act acts_above _ _ s2 end (sets s2.state 19 (word_at m (saved_word fp 2))) a2.runs (frame-above s2.state.registers 19 8 (negsuc 23) fp (saved_word fp 2) pointer (saved-address sp 2 (omega arith) low high) (omega (arith, stack, large)))
+        (load-act s2.state 19 8 fp (saved_word fp 2) _ (negsuc 23) pointer (saved-address sp 2 (omega arith) low high) (saved 2 (omega arith)).0
+        (saved 2 (omega arith)).1)
+        (chain-more act acts_above _ _ s3 end (sets s3.state 1 back) a3.runs (frame-above s3.state.registers 1 8 (pos 8) fp (return_word sp) pointer (link-address sp low high) (omega (arith, stack, large)))
+        (load-act s3.state 1 8 fp (return_word sp) back (pos 8) pointer (link-address sp low high) (grind (arith, even, low)) held) rest)))
+
+    -- ---- FP from its own word, and then the stack pointer
+    abbrev n5 : Run CpuState
+    n5 = after s4 (sets s4.state 8 (word_at m fp))
+
+    abbrev n6 : Run CpuState
+    n6 = after n5 (sets n5.state 2 sp)
+
+    b5 : RunsAt base n (suc (suc (suc (suc (suc k))))) n5
+    b5 = next-at base n (suc (suc (suc (suc k)))) s4 _ _ _ _ (omega (arith, room)) a4
+
+    b6 : RunsAt base n (suc (suc (suc (suc (suc (suc k)))))) n6
+    b6 = next-at base n (suc (suc (suc (suc (suc k))))) n5 _ _ _ _ (omega (arith, room)) b5
+
+    rises : add_words (q.state.registers 2) (word_of (pos frame)) ≡ sp
+    rises = grind (arith, stack, high)
+
+    near-chain : Chain act acts_above (near_return frame) q (left n6)
+    near-chain =
+        words-back (instr.Imm Ld 8 8 (pos 0) ∷ instr.Imm Addi 2 2 (pos frame) ∷ instr.Imm Jalr 0 1 (pos 0) ∷ []) (left n6)
+        (chain-more act acts_above _ _ s4 (left n6) (sets s4.state 8 (word_at m fp)) a4.runs (frame-above s4.state.registers 8 8 (pos 0) fp fp pointer (pointer-address sp low high) (omega (arith, stack, large)))
+        (load-act s4.state 8 8 fp fp _ (pos 0) pointer (pointer-address sp low high) fp-even caller)
+        (chain-more act acts_above _ _ n5 (left n6) (sets n5.state 2 sp) b5.runs (no-width _ _) (ap (sets n5.state 2) rises)
+        (chain-more act acts_above _ _ n6 (left n6) (goes back (put n6.state.registers 0 (add_words n6.state.pc 4)) m q.state.mark) b6.runs (no-width _ _)
+        (lands-there n6.state 0 1 back refl near aligned)
+        (chain-end act acts_above (left n6)))))
+
+    abbrev six : List Instr
+    six = instr.Imm Ld 9 8 (negsuc 7) ∷ instr.Imm Ld 18 8 (negsuc 15) ∷ instr.Imm Ld 19 8 (negsuc 23) ∷ instr.Imm Ld 1 8 (pos 8) ∷ instr.Imm Ld 8 8
+        (pos 0) ∷ instr.Imm Addi 2 2 (pos frame) ∷ []
+
+    near-returns : Returns (near_return frame) q sp back
+    near-returns = record {
+      end = left n6;
+      chain = near-chain;
+      block = block-of is_straight six (instr.Imm Jalr 0 1 (pos 0)) refl;
+      saved = words;
+      pointer = refl;
+      stack = refl;
+      result = refl;
+      bytes = refl;
+      mark = refl;
+      here = refl;
+      progress = refl;
+    }
+      where
+        words : (j : ℕ) → j < 3 → (left n6).state.registers (portable_register Riscv64 (j + 3)) ≡ word_at m (saved_word fp j)
+        words zero lt = refl
+        words (suc zero) lt = refl
+        words (suc (suc zero)) lt = refl
+        words (suc (suc (suc j))) lt = absurd (omega (arith, lt))
+
+  -- ---- the stack pointer to that word, FP from there, and then the stack pointer again
+  module _ (room : k + 8 ≤ n) where
+    less : k + 7 ≤ n
+    less = omega (arith, room)
+
+    abbrev f5 : Run CpuState
+    f5 = after s4 (sets s4.state 2 fp)
+
+    abbrev f6 : Run CpuState
+    f6 = after f5 (sets f5.state 8 (word_at m fp))
+
+    abbrev f7 : Run CpuState
+    f7 = after f6 (sets f6.state 2 sp)
+
+    c5 : RunsAt base n (suc (suc (suc (suc (suc k))))) f5
+    c5 = next-at base n (suc (suc (suc (suc k)))) s4 _ _ _ _ (omega (arith, room)) (a4 less)
+
+    c6 : RunsAt base n (suc (suc (suc (suc (suc (suc k)))))) f6
+    c6 = next-at base n (suc (suc (suc (suc (suc k))))) f5 _ _ _ _ (omega (arith, room)) c5
+
+    c7 : RunsAt base n (suc (suc (suc (suc (suc (suc (suc k))))))) f7
+    c7 = next-at base n (suc (suc (suc (suc (suc (suc k)))))) f6 _ _ _ _ (omega (arith, room)) c6
+
+    far-chain : Chain act acts_above far_return q (left f7)
+    far-chain =
+        words-back less (instr.Imm Addi 2 8 (pos 0) ∷ instr.Imm Ld 8 2 (pos 0) ∷ instr.Imm Addi 2 2 (pos 16) ∷ instr.Imm Jalr 0 1 (pos 0) ∷ []) (left f7)
+        (chain-more act acts_above _ _ s4 (left f7) (sets s4.state 2 fp) (a4 less).runs (no-width _ _)
+        (ap (λ x. sets s4.state 2 (add_words x 0)) pointer ∙ ap (sets s4.state 2) (pointer-address sp low high))
+        (chain-more act acts_above _ _ f5 (left f7) (sets f5.state 8 (word_at m fp)) c5.runs (frame-above f5.state.registers 8 2 (pos 0) fp fp refl (pointer-address sp low high) (omega arith))
+        (load-act f5.state 8 2 fp fp _ (pos 0) refl (pointer-address sp low high) fp-even caller)
+        (chain-more act acts_above _ _ f6 (left f7) (sets f6.state 2 sp) c6.runs (no-width _ _)
+        (ap (sets f6.state 2) (stack-address sp low high))
+        (chain-more act acts_above _ _ f7 (left f7) (goes back (put f7.state.registers 0 (add_words f7.state.pc 4)) m q.state.mark) c7.runs (no-width _ _)
+        (lands-there f7.state 0 1 back refl near aligned)
+        (chain-end act acts_above (left f7))))))
+
+    abbrev seven : List Instr
+    seven = instr.Imm Ld 9 8 (negsuc 7) ∷ instr.Imm Ld 18 8 (negsuc 15) ∷ instr.Imm Ld 19 8 (negsuc 23) ∷ instr.Imm Ld 1 8 (pos 8) ∷ instr.Imm Addi 2 8
+        (pos 0) ∷ instr.Imm Ld 8 2 (pos 0) ∷ instr.Imm Addi 2 2 (pos 16) ∷ []
+
+    far-returns : Returns far_return q sp back
+    far-returns = record {
+      end = left f7;
+      chain = far-chain;
+      block = block-of is_straight seven (instr.Imm Jalr 0 1 (pos 0)) refl;
+      saved = words;
+      pointer = refl;
+      stack = refl;
+      result = refl;
+      bytes = refl;
+      mark = refl;
+      here = refl;
+      progress = refl;
+    }
+      where
+        words : (j : ℕ) → j < 3 → (left f7).state.registers (portable_register Riscv64 (j + 3)) ≡ word_at m (saved_word fp j)
+        words zero lt = refl
+        words (suc zero) lt = refl
+        words (suc (suc zero)) lt = refl
+        words (suc (suc (suc j))) lt = absurd (omega (arith, lt))
+
+  pub returns : k + length (return_code frame) ≤ n → Returns (return_code frame) q sp back
+  returns room = by (nat_lt frame 2048) room
+    where
+      by : (b : Bool) → k + length (if b then near_return frame else far_return) ≤ n → Returns (if b then near_return frame else far_return) q sp back
+      by true room = near-returns room
+      by false room = far-returns room
+
+-- it has 7 or 8
+record IsShort (n : ℕ) : Type 0 where
+  some : 0 < n
+  few : n ≤ 8
+
+return-short : (frame : ℕ) → IsShort (length (return_code frame))
+return-short frame = by (nat_lt frame 2048)
+  where
+    by : (b : Bool) → IsShort (length (if b then near_return frame else far_return))
+    by true = record { some = omega arith; few = omega arith }
+    by false = record { some = omega arith; few = omega arith }
+
+-- ---- what stands in front of it
+no-change : (x : ℕ) → x < 2 ^ 64 → add_words x 0 ≡ x
+no-change x h = grind (arith, h)
+
+read-small : (w : ℕ → ℕ) (r : ℕ) → w r < 2 ^ 64 → read w r < 2 ^ 64
+read-small w r h = grind (arith, h)
+
+address-made : (v : ℕ) → v < 2 ^ 30 → add_words (sign_32 (high_part v * 4096)) (word_of (low_part v)) ≡ v
+address-made v small = by (nat_lt (v % 4096) 2048) refl
+  where
+    by : (b : Bool) → nat_lt (v % 4096) 2048 ≡ b → add_words (sign_32 (high_part v * 4096))
+        (word_of (if b then pos (v % 4096) else negsuc (4095 - v % 4096))) ≡ v
+    by true h = grind (arith, small, h)
+    by false h = grind (arith, small, h)
+
+some-is : (v x : ℕ) → Some v ≡ Some x → v ≡ x
+some-is v x e = cc
+
+-- the word is in x10, and FP and the stack pointer stay
+record Makes (r : Returned) (w : ℕ → ℕ) : Type 0 where
+  computes : all_compute (result_code r) ≡ true
+  few : length (result_code r) ≤ 8
+  value : (x : ℕ) → returned_word Riscv64 w r ≡ Some x → computed (result_code r) w 10 ≡ x
+  frame : computed (result_code r) w 8 ≡ w 8
+  stack : computed (result_code r) w 2 ≡ w 2
+
+makes : (r : Returned) (w : ℕ → ℕ) → IsReturned r → ((x : ℕ) → w x < 2 ^ 64) → Makes r w
+makes NoWord w ok words = record { computes = refl; few = omega arith; value = λ x e. cc; frame = refl; stack = refl }
+makes (OfRegister a) w ok words =
+    let ra : ℕ = register_of Riscv64 a in record {
+      computes = refl;
+      few = omega arith;
+      value = λ x e. put-same w 10 (add_words (read w ra) 0) ∙ no-change (read w ra) (read-small w ra (words ra)) ∙ read-of w a ∙ some-is (w ra) x e;
+      frame = refl;
+      stack = refl;
+    }
+makes (OfNumber v) w ok words =
+    let loads = numbers-are-loaded 10 v (λ z. cc) (omega arith) ok in
+    record { computes = loads.computes; few = loads.few; value = λ x e. loads.value w 10 ∙ put-same w 10 v ∙ some-is v x e; frame = loads.value w 8; stack = loads.value w 2 }
+makes (OfLabel address) w ok words = record { computes = refl; few = omega arith; value = λ x e. address-made address ok ∙ some-is address x e; frame = refl; stack = refl }
+
+-- ---- the return
+module _ (code : List ℕ) (trash : ℕ) (small : length code ≤ most_code) (bytes : AreBytes code) (word : trash < 2 ^ 64)
+    (frame from back : ℕ) (r : Returned) (q : Run CpuState) (ok : IsReturned r) (f : HasFrame Riscv64 frame (rv_seen q))
+    (k : StandsAt (rv_rows code trash) IsInstr from (returned_code frame r))
+    (there : IsBack (rv_rows code trash) back) (held : HasWord q.state.bytes (return_word (q.state.registers 2 + frame)) back)
+    (runs : status_of q.progress ≡ Running) (at : q.state.pc ≡ from) where
+  abbrev sp : ℕ
+  sp = q.state.registers 2 + frame
+
+  abbrev front : List Instr
+  front = result_code r
+
+  abbrev high : ℕ
+  high = behind (rv_rows code trash) from (returned_code frame r)
+
+  low-frame : 0x3FF00010 + 272 ≤ sp
+  low-frame = let l = f.low in let z = f.large in omega (arith, l, z)
+
+  even : sp % 16 ≡ 0
+  even = let a = f.whole in let b = f.whole_frame in omega (arith, a, b)
+
+  near : back < 2 ^ 62
+  near = ⊎_elim (λ t. let h = t.high in omega (arith, h)) (λ e. omega (arith, e)) there
+
+  back-aligned : back % 4 ≡ 0
+  back-aligned = ⊎_elim (λ t. aligned back t.place) (λ e. omega (arith, e)) there
+
+  made : Makes r q.state.registers
+  made = makes r q.state.registers ok (λ x. f.seen.words x)
+
+  abbrev long : ℕ
+  long = length (return_code frame)
+
+  size : length (spellings spelling (returned_code frame r)) ≡ 4 * (length front + long)
+  size = let a = spelled-size (returned_code frame r) in let b = length-append front (return_code frame) in omega (arith, a, b)
+
+  short : IsShort long
+  short = return-short frame
+
+  top : from + 4 * (length front + long) ≤ code_base + most_code
+  top =
+      let some = short.some in
+      let z = in-room code (spellings spelling (returned_code frame r)) k.more from k.low (omega (arith, size, some)) k.stands small in omega (arith, z, size)
+
+  ran : RunsComputations front q
+  ran = computations-run front q made.computes runs (let l = k.low in omega (arith, l, at)) (omega (arith, top, at))
+
+  abbrev q1 : Run CpuState
+  q1 = done rv_does front q
+
+  registers-are : q1.state.registers ≡ computed front q.state.registers
+  registers-are = same-words q1.state.registers (computed front q.state.registers) ran.registers
+
+  bytes-are : q1.state.bytes ≡ q.state.bytes
+  bytes-are = λ j z. ran.bytes z j
+
+  at1 : RunsAt from (length front + long) (length front) q1
+  at1 = record { runs = ran.runs; here = ran.behind ∙ omega (arith, at); low = k.low; high = top }
+
+  pointer1 : q1.state.registers 8 ≡ sp - 16
+  pointer1 = ap (λ g. g 8) registers-are ∙ made.frame ∙ f.pointer
+
+  there1 : (j : ℕ) → within stack_base 0x100000 j ≡ true → is_some (q1.state.bytes j) ≡ true
+  there1 j e = ap (λ b. is_some (b j)) bytes-are ∙ f.seen.stack j e
+
+  held1 : HasWord q1.state.bytes (return_word sp) back
+  held1 = subst (λ b. HasWord b (return_word sp) back) (sym bytes-are) held
+
+  stack1 : q1.state.registers 2 + frame ≡ sp
+  stack1 = ap (λ g. g 2 + frame) registers-are ∙ ap (λ x. x + frame) made.stack
+
+  goes-back : Returns (return_code frame) q1 sp back
+  goes-back = returns from (length front + long) (length front) q1 frame sp back low-frame f.high even at1 pointer1 stack1 f.large there1 held1 near back-aligned (omega arith)
+
+  abbrev u : Run CpuState
+  u = goes-back.end
+
+  pass : PassesIn (rv_processor code trash) from high (length front + long) q u
+  pass =
+      let R = rv_rows code trash in
+      let rows = are-rows code trash small bytes word in
+      let here = at1.here in let size = spelled-size front in
+      passages-join (rv_processor code trash) from high (length front) long q q1 u
+      (part-passes R IsInstr rows from [] front (return_code frame) q k (at ∙ omega arith) (straight-block is_straight front (all-straight front made.computes)) ran.through)
+      (subst (λ z. PassesIn (rv_processor code trash) from high long q1 z) goes-back.chain.leads
+      (subst (λ z. StandsAt R IsInstr from (front ++ z) → PassesIn (rv_processor code trash) from (behind R from (front ++ z)) long q1 (done rv_does (return_code frame) q1))
+      (append-nil (return_code frame))
+      (λ whole. part-passes R IsInstr rows from front (return_code frame) [] q1 whole (omega (arith, here, size)) goes-back.block goes-back.chain.through) k))
+
+  -- the words of the frame come back
+  is-left : IsLeft (rv_processor code trash) sp back (returned_word Riscv64 q.state.registers r) q u
+  is-left = record {
+    saved = λ j lt. goes-back.saved j lt ∙ ap (λ b. word_at b (saved_word (frame_pointer sp) j)) bytes-are;
+    pointer = goes-back.pointer ∙ ap (λ b. word_at b (frame_pointer sp)) bytes-are;
+    stack = goes-back.stack;
+    result = λ x e. goes-back.result ∙ ap (λ g. g 10) registers-are ∙ made.value x e;
+    bytes = goes-back.bytes ∙ bytes-are;
+    mark = goes-back.mark ∙ ran.mark;
+    here = goes-back.here;
+    progress = goes-back.progress;
+  }
+
+  pub departs : Departure (rv_processor code trash) from high sp back (returned_word Riscv64 q.state.registers r) q
+  departs =
+      let z = made.few in let few = short.few in let some = short.some in
+      departure (rv_processor code trash) sp back (returned_word Riscv64 q.state.registers r) q u low-frame f.high f.seen.stack is-left from high (length front + long) pass
+      (omega (arith, z, few)) (omega (arith, some))
+
+pub returns-lead : (code : List ℕ) (trash : ℕ) → length code ≤ most_code → AreBytes code → trash < 2 ^ 64
+    → ReturnsLead (rv_rows code trash) IsInstr returned_code
+returns-lead code trash small bytes word frame from back r q ok f k there held runs at =
+    departs code trash small bytes word frame from back r q ok f k there held runs at

@@ -1,0 +1,5 @@
+use Rattle.lg_selr.proofs.OfControl.TargetLemmas.{is-target}
+use Rattle.lg_selr.proofs.control.laws.is_target.Goals as goal
+
+pub returns : goal.returns
+returns c = is-target

@@ -1,0 +1,5 @@
+use Rattle.lg_selr.proofs.OfMemory.FitLemmas.{memory-items-fit}
+use Rattle.lg_selr.proofs.memory.laws.memory_items_fit.Goals as goal
+
+pub returns : goal.returns
+returns c = memory-items-fit

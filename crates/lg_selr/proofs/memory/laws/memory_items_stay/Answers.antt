@@ -1,0 +1,5 @@
+use Rattle.lg_selr.proofs.OfMemory.WithinLemmas.{memory-items-stay}
+use Rattle.lg_selr.proofs.memory.laws.memory_items_stay.Goals as goal
+
+pub returns : goal.returns
+returns c = memory-items-stay

@@ -1,0 +1,25 @@
+-- `.align`: instructions that do nothing, up to a multiple of the alignment.
+use Rattle.std.specs.Prelude.{◌≡◌, ℕ, ◌+◌, ◌*◌, ◌%◌, true, pos, List, length}
+use Rattle.lg_op.specs.Forms.{is_alignment}
+use Rattle.lg_rv.specs.declared.instruction.Instr.{Instr}
+use Rattle.lg_rv.specs.declared.instruction.Instr.TheVariants as instr
+use Rattle.lg_rv.specs.declared.instruction.ImmOp.TheVariants.{Addi}
+use Rattle.lg_sel.specs.Control.Paddings as paddings
+
+-- how many instructions lead from an address to the next multiple
+abbrev pub padding : ℕ → ℕ → ℕ
+padding at n = paddings.padding at n
+
+-- the instruction that does nothing
+abbrev pub no_op : Instr
+no_op = instr.Imm Addi 0 0 (pos 0)
+
+abbrev pub idle : ℕ → List Instr
+idle k = paddings.idle no_op k
+
+abbrev pub align_code : ℕ → ℕ → List Instr
+align_code at n = idle (padding at n)
+
+-- behind them is a multiple
+abbrev pub AlignmentsAlign : Type 0
+AlignmentsAlign = (at n : ℕ) → is_alignment n ≡ true → at % 4 ≡ 0 → (at + 4 * length (align_code at n)) % n ≡ 0

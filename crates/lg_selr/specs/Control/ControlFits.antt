@@ -1,0 +1,20 @@
+-- The items of these nodes fit their instructions, name the labels of their operands, and have at most one fix.
+use Rattle.std.specs.Prelude.{ℕ, Bool, List}
+use Rattle.lg_op.specs.declared.node.Node.{Node}
+use Rattle.lg_sel.specs.Control.Standing.{IsFit}
+use Rattle.lg_sel.specs.GoodItems as good_items
+use Rattle.lg_sel.specs.declared.reach.Reach.{Reach}
+use Rattle.lg_selr_values.specs.declared.items.Item.{Item}
+use Rattle.lg_selr_values.specs.Items.{rv_holes, IsItem, NamesOneOf, StayWithin}
+use Rattle.lg_selr.specs.Control.ControlItems.{control_items}
+
+-- the items can be appended to a buffer with so many labels, and where the node leaps there are some
+abbrev pub AreEmitted : ℕ → Bool → List Item → Type 0
+AreEmitted count leaping xs = good_items.AreEmitted rv_holes IsItem NamesOneOf count leaping xs
+
+abbrev pub ControlItemsFit : Type 0
+ControlItemsFit = (r : Reach) (n : Node) (labels frame homes at : ℕ) → IsFit AreEmitted n labels (control_items r n.op n.operands frame homes at)
+
+-- the items write no register that is outside of the conventions
+abbrev pub ControlItemsStay : Type 0
+ControlItemsStay = (r : Reach) (n : Node) (frame homes at : ℕ) → StayWithin (control_items r n.op n.operands frame homes at)

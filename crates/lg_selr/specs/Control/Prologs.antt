@@ -1,0 +1,38 @@
+-- `prolog`: the stack pointer falls by the size of the frame, or first by so much of it that the frame's words lie near; the return address, the caller's
+-- frame pointer, V0, V1 and V2 and the register arguments that are read are stored above it, FP is set, and the stack pointer falls by what is left.
+use Rattle.std.specs.Prelude.{ℕ, ◌+◌, ◌-◌, ◌*◌, nat_le, pos, negsuc, List, [], ◌∷◌, ◌++◌, if◌then◌else◌}
+use Rattle.lg_base.specs.declared.target.Target.TheVariants.{Riscv64}
+use Rattle.lg_rv.specs.declared.instruction.Instr.{Instr}
+use Rattle.lg_rv.specs.declared.instruction.Instr.TheVariants as instr
+use Rattle.lg_rv.specs.declared.instruction.ImmOp.TheVariants.{Addi, Addiw}
+use Rattle.lg_rv.specs.declared.instruction.RegOp.TheVariants.{Sub}
+use Rattle.lg_rv.specs.declared.instruction.StoreOp.TheVariants.{Sd}
+use Rattle.lg_rv.specs.declared.instruction.UpperOp.TheVariants.{Lui}
+use Rattle.lg_selr_values.specs.Processor.Numbers.{high_part, low_part}
+use Rattle.lg_sel.specs.Control.Stores as stores
+
+-- the registers that a `prolog` stores: the link, FP, those of V0, V1 and V2, and those of the first arguments, of so many
+abbrev pub stored_registers : ℕ → List ℕ
+stored_registers homes = stores.stored_registers Riscv64 1 homes
+
+-- one is stored in word k below the caller's stack pointer, where the stack pointer has fallen by so many bytes
+abbrev pub store_word : ℕ → ℕ → ℕ → Instr
+store_word first r k = instr.Store Sd 2 r (pos (first - (8 + 8 * k)))
+
+-- each is stored below the one before, from word k on
+abbrev pub stores_below : ℕ → List ℕ → ℕ → List Instr
+stores_below first rs k = stores.stores_below (store_word first) rs k
+
+-- the stack pointer falls by so many bytes
+abbrev pub fall_code : ℕ → List Instr
+fall_code n = if nat_le n 2048 then instr.Imm Addi 2 2 (negsuc (n - 1)) ∷ [] else instr.Upper Lui 1 (high_part n) ∷ instr.Imm Addiw 1 1
+    (low_part n) ∷ instr.Reg Sub 2 2 1 ∷ []
+
+-- a frame of at most 2,048 bytes is made at once, and a larger one in two falls
+abbrev pub framed_code : ℕ → ℕ → List Instr → List Instr
+framed_code first homes rest =
+    instr.Imm Addi 2 2 (negsuc (first - 1)) ∷ (stores_below first (stored_registers homes) 0 ++ (instr.Imm Addi 8 2 (pos (first - 16)) ∷ rest))
+
+-- with so many homes
+abbrev pub prolog_code : ℕ → ℕ → List Instr
+prolog_code size homes = if nat_le size 2048 then framed_code size homes [] else framed_code 2048 homes (fall_code (size - 2048))

@@ -1,0 +1,12 @@
+// The nodes that branch, jump, call and return, `prolog`, `.align` and those without code, on RV64IM: the items of their code, and that
+// it carries them.
+
+mod branches;
+mod control;
+mod frames;
+pub mod laws;
+mod leaps;
+mod operands;
+mod sums;
+
+pub use control::put_control;

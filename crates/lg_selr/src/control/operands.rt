@@ -1,0 +1,55 @@
+// Operands whose words are put into registers.
+
+ghost use Rattle.std.specs.Prelude.{◌≡◌, ◌≢◌, ◌<◌, ◌≤◌, []};
+ghost use Rattle.lg_selr.specs.Control.ControlItems.{second_register, second_items, word_items};
+ghost use Rattle.lg_carry.specs.Nodes.Immediates.{immediate};
+ghost use Rattle.lg_selr_values.specs.Items.{words_in};
+
+use lg_op::Operand;
+use lg_sel::Items;
+use lg_selr_values::{Item, LINK, ZERO, put_number, register_of};
+
+// The register in which an operand is once `put_second` has put it there: x0 for the number 0.
+pub(crate) fn second_register(operand: Operand) -> u8
+    ensures { result ≡ second_register operand }
+{
+    match operand {
+        Operand::Reg(reg) => register_of(reg),
+        Operand::Number(value) => { if value == 0 { ZERO } else { LINK } }
+        _ => LINK,
+    }
+}
+
+// Puts a word that stands for itself into a register, which is not x0.
+#[tactic(auto, using(lg_selr_values::proofs::EmissionLemmas::number_few, lg_selr_values::proofs::EmissionLemmas::number_words))]
+pub(crate) fn put_word(rd: u8, operand: Operand, items: &mut Items<Item>)
+    requires empty { items.old ≡ [] }
+    requires some { rd ≢ 0 }
+    requires register { rd < 32 }
+    ensures items { items.new ≡ word_items rd (immediate operand) }
+    ensures few { words_in items.new ≤ 8 }
+{
+    match operand {
+        Operand::Number(value) => put_number(rd, value, items),
+        Operand::Host(name) => put_number(rd, name.address(), items),
+        _ => {}
+    }
+}
+
+// Puts an operand that is no register into x1, but for the number 0, for which x0 stands.
+#[tactic(auto, using(lg_selr_values::proofs::EmissionLemmas::number_few, lg_selr_values::proofs::EmissionLemmas::number_words))]
+pub(crate) fn put_second(operand: Operand, items: &mut Items<Item>)
+    requires empty { items.old ≡ [] }
+    ensures items { items.new ≡ second_items operand }
+    ensures few { words_in items.new ≤ 8 }
+{
+    match operand {
+        Operand::Reg(_) => {}
+        Operand::Number(value) => {
+            if value != 0 {
+                put_number(LINK, value, items);
+            }
+        }
+        other => put_word(LINK, other, items),
+    }
+}

@@ -1,0 +1,24 @@
+// The nodes of this crate are carried by their code. The functions do nothing: their contracts are the laws.
+
+ghost use Rattle.lg_selr.specs.Memory.MemoryNodes.{MemoryIsCarried};
+ghost use Rattle.lg_selr.specs.Memory.MemoryFits.{MemoryItemsFit, MemoryItemsName, MemoryItemsStay};
+
+/// Loads, stores and nodes that read and pass arguments, the next variable one too, are carried, whatever is live behind them.
+pub fn memory_nodes_are_carried()
+    ensures { MemoryIsCarried }
+{}
+
+/// The items are in the ranges of their instructions, those of arguments at most 9, and each is followed by the next.
+pub fn memory_items_fit()
+    ensures { MemoryItemsFit }
+{}
+
+/// They name no label but that of the operand which is passed.
+pub fn memory_items_name_labels()
+    ensures { MemoryItemsName }
+{}
+
+/// They write no register that is outside of the conventions.
+pub fn memory_items_stay()
+    ensures { MemoryItemsStay }
+{}

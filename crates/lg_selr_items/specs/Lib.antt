@@ -1,3 +1,0 @@
-pub mod GoodItems
-pub mod Items
-pub mod OfNodes

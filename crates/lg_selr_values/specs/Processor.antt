@@ -1,0 +1,7 @@
+pub mod Computations
+pub mod Destinations
+pub mod Numbers
+pub mod Places
+pub mod RvComputers
+pub mod RvRows
+pub mod Touches

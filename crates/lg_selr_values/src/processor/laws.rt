@@ -1,0 +1,63 @@
+// What holds of the instructions of RV64IM, for the code of nodes. The functions do nothing: their contracts are the laws.
+
+ghost use Rattle.lg_selr_values.specs.Processor.Computations.{ComputationsRun};
+ghost use Rattle.lg_selr_values.specs.Processor.Destinations.{InstructionsStay};
+ghost use Rattle.lg_selr_values.specs.Processor.Numbers.{NumbersAreLoaded};
+ghost use Rattle.lg_selr_values.specs.Processor.RvComputers.{InstructionsAreIsa, InstructionsCompute};
+ghost use Rattle.lg_selr_values.specs.Processor.RvRows.{InstructionsAreRows, InstructionsAreSpills};
+ghost use Rattle.lg_selr_values.specs.Processor.Touches.{StepsLeave, StepsOverlook, StepsAreAlike, StatesArePatched};
+
+/// The instruction whose spelling stands at the program counter is executed, and the next one follows.
+pub fn instructions_are_rows()
+    ensures { InstructionsAreRows }
+{}
+
+/// `sd` saves a register in a spill slot, and `ld` restores it.
+pub fn instructions_are_spills()
+    ensures { InstructionsAreSpills }
+{}
+
+/// One that writes no register outside of the conventions changes none.
+pub fn instructions_stay()
+    ensures { InstructionsStay }
+{}
+
+/// They are those of a target: each register that is tried can be saved, and x0 and the link hold nothing that is needed behind a `prolog`.
+pub fn instructions_are_isa()
+    ensures { InstructionsAreIsa }
+{}
+
+/// Those that only compute make registers of registers, and the next one follows.
+pub fn instructions_compute()
+    ensures { InstructionsCompute }
+{}
+
+/// Instructions that only compute go through one after the other, and leave the registers that they compute.
+pub fn computations_run()
+    ensures { ComputationsRun }
+{}
+
+/// At most 8 instructions load any number into a register, and change no other.
+pub fn numbers_are_loaded()
+    ensures { NumbersAreLoaded }
+{}
+
+/// A step that is no host function's goes in one way whatever stands where it touches nothing, and leaves that as it was.
+pub fn steps_leave()
+    ensures { StepsLeave }
+{}
+
+/// So one that touches nothing below the stack pointer overlooks what stands there.
+pub fn steps_overlook()
+    ensures { StepsOverlook }
+{}
+
+/// A step leads from what looks the same to what looks the same, a host function's too.
+pub fn steps_are_alike()
+    ensures { StepsAreAlike }
+{}
+
+/// There is a state with any other bytes.
+pub fn states_are_patched()
+    ensures { StatesArePatched }
+{}

@@ -1,0 +1,256 @@
+-- A `prolog` makes the frame.
+use Rattle.std.proofs.Common.{◌≡◌, ℕ, zero, suc, ◌+◌, ◌-◌, ◌*◌, ◌^◌, ◌<◌, ◌≤◌, ◌⊎◌, inl, inr, true, List, [], ◌∷◌, ◌++◌, Option, Some, refl, sym, ap, ◌∙◌, subst, arith, length}
+use Rattle.std.specs.List.{list_all}
+use Rattle.std.specs.Prelude.{◌==◌, not, min, negsuc, slice_index, take}
+use Rattle.std.proofs.lemmas.List.{length-take}
+use Rattle.std.specs.Option.{option_and_then}
+use Rattle.lg_base.specs.Conventions.{argument_registers, portable_register}
+use Rattle.lg_base.specs.Fields.{word_of}
+use Rattle.lg_base.specs.Layout.{most_code, stack_end, least_frame, frame_pointer, return_word, saved_word, home_word}
+use Rattle.lg_base.specs.Runs.{Running}
+use Rattle.lg_base.specs.Spaces.{mapped, stored}
+use Rattle.lg_base.specs.Words.{add_words}
+use Rattle.lg_base.specs.declared.flags.Flags.{Flags}
+use Rattle.lg_base.specs.declared.target.Target.TheVariants.{X86_64}
+use Rattle.lg_x86.specs.Spelling.{IsInstr}
+use Rattle.lg_x86.specs.declared.instruction.Instr.{Instr}
+use Rattle.lg_x86.specs.declared.instruction.Instr.TheVariants as instr
+use Rattle.lg_x86.specs.declared.instruction.LoadOp.TheVariants.{Lea}
+use Rattle.lg_x86.specs.declared.instruction.StoreOp.TheVariants.{St64}
+use Rattle.lg_cpu.specs.HostSteps.{put}
+use Rattle.lg_cpu.specs.Laws.{AreBytes}
+use Rattle.lg_cpu.specs.States.{CpuState}
+use Rattle.lg_cpu.specs.Steps.{Run, status_of}
+use Rattle.lg_cpu.specs.X86Step.{Scene, made}
+use Rattle.lg_carry.specs.Processors.{IsSeen}
+use Rattle.lg_carry.specs.Registers.{HasWord}
+use Rattle.lg_carry.proofs.SpillLemmas.{stored-there}
+use Rattle.lg_carry.proofs.WordLemmas.{word-kept}
+use Rattle.lg_selx_values.specs.Processor.MakingNodes.{scene}
+use Rattle.lg_selx_values.proofs.OfProcessor.SlotLemmas.{in-zone}
+use Rattle.lg_carry.proofs.BlockLemmas.{no-width}
+use Rattle.lg_selx_values.specs.Processor.Makings.{makes, is_still, AreAbove}
+use Rattle.lg_selx_values.proofs.OfProcessor.MakingLemmas.{still-above, above-first}
+use Rattle.lg_selx_values.specs.Processor.X86Rows.{x86_processor, x86_rows, x86_seen}
+use Rattle.lg_carry.specs.Nodes.Stretches.{StandsAt, behind}
+use Rattle.lg_sel.specs.Control.Prologs.{Entrance, PrologsLead}
+use Rattle.lg_sel.proofs.OfControl.EntranceLemmas.{taken-at}
+use Rattle.lg_sel.proofs.OfControl.StoreLemmas.{word_below, with_stored, HasStack, mapped-below, stored-off, stored-word, take-all}
+use Rattle.lg_sel.proofs.OfControl.StoreLemmas.{stores-before, stored-besides}
+use Rattle.lg_selx.specs.Control.Prologs.{lowered, stored_registers, store_word, stores_below, prolog_code}
+use Rattle.lg_selx.proofs.OfControl.SpareLemmas.{lower-is}
+use Rattle.lg_selx.proofs.OfControl.StretchLemmas.{Made, stands-high, made-passed}
+
+-- ---- the stores
+first-address : (sp : ℕ) → 0x3FF00010 + 272 ≤ sp → sp ≤ 0x40000000 → add_words (sp - 8) (word_of (negsuc 7)) ≡ sp - 16
+first-address sp low high = grind (arith, low, high)
+
+store-address : (sp k : ℕ) → 2 ≤ k → k < 13 → 0x3FF00010 + 272 ≤ sp → sp ≤ 0x40000000 → add_words (sp - 16) (word_of (negsuc (8 * k - 9))) ≡ word_below sp k
+store-address sp k some few low high = grind (arith, some, few, low, high)
+
+module _ (sp : ℕ) (low : 0x3FF00010 + 272 ≤ sp) (high : sp ≤ 0x40000000) where
+  store-made : (r k : ℕ) (w : ℕ → ℕ) (f : Flags) (m : ℕ → Option ℕ) → 2 ≤ k → k < 13 → w 5 ≡ sp - 16 → HasStack m
+      → made (store_word r k) (scene w f m) ≡ Some (scene w f (stored m (word_below sp k) 8 (w r)))
+  store-made r k w f m some few at there =
+      let address : add_words (w 5) (word_of (negsuc (8 * k - 9))) ≡ word_below sp k =
+      ap (λ x. add_words x (word_of (negsuc (8 * k - 9)))) at ∙ store-address sp k some few low high in
+      let is-there : mapped m (word_below sp k) 8 ≡ true = mapped-below m sp k few low high there in
+      rw (address, is-there) refl
+
+  stores-made : (rs : List ℕ) (k : ℕ) (rest : List Instr) (w : ℕ → ℕ) (f : Flags) (m : ℕ → Option ℕ) → 2 ≤ k → k + length rs ≤ 13 → w 5 ≡ sp - 16 → HasStack m
+      → makes (stores_below rs k ++ rest) (scene w f m) ≡ makes rest (scene w f (with_stored m w sp rs k))
+  stores-made [] k rest w f m some few at there = refl
+  stores-made (r ∷ rs) k rest w f m some few at there =
+      ap (option_and_then (makes (stores_below rs (suc k) ++ rest))) (store-made r k w f m some (omega (arith, few)) at there)
+      ∙ stores-made rs (suc k) rest w f (stored m (word_below sp k) 8 (w r)) (omega (arith, some)) (omega (arith, few)) at
+      (λ j e. stored-there m (word_below sp k) 8 (w r) j (there j e))
+
+  first-made : (w : ℕ → ℕ) (f : Flags) (m : ℕ → Option ℕ) → w 4 ≡ sp - 8 → HasStack m
+      → made (instr.Store St64 4 (negsuc 7) 5) (scene w f m) ≡ Some (scene w f (stored m (word_below sp 1) 8 (w 5)))
+  first-made w f m at there =
+      let address : add_words (w 4) (word_of (negsuc 7)) ≡ word_below sp 1 = ap (λ x. add_words x (word_of (negsuc 7))) at ∙ first-address sp low high in
+      let is-there : mapped m (word_below sp 1) 8 ≡ true = mapped-below m sp 1 (omega arith) low high there in
+      rw (address, is-there) refl
+
+  -- no store lies further below the stack pointer than the zone
+  stores-above : (rs : List ℕ) (k : ℕ) (rest : List Instr) (w : ℕ → ℕ) (f : Flags) (m : ℕ → Option ℕ) → 2 ≤ k → k + length rs ≤ 13 → w 5 ≡ sp - 16 → w 4 ≡ sp - 8
+      → HasStack m → list_all is_still rest ≡ true → AreAbove (stores_below rs k ++ rest) (scene w f m)
+  stores-above [] k rest w f m some few at top there still = still-above rest (scene w f m) still
+  stores-above (r ∷ rs) k rest w f m some few at top there still =
+      let address : add_words (w 5) (word_of (negsuc (8 * k - 9))) ≡ word_below sp k =
+      ap (λ x. add_words x (word_of (negsuc (8 * k - 9)))) at ∙ store-address sp k some (omega (arith, few)) low high in
+      above-first (store_word r k) (stores_below rs (suc k) ++ rest) (scene w f m) (scene w f (stored m (word_below sp k) 8 (w r)))
+      (store-made r k w f m some (omega (arith, few)) at there)
+      (λ a le lt. in-zone (w 4) a (omega (arith, le, address, top, few, low)))
+      (stores-above rs (suc k) rest w f (stored m (word_below sp k) 8 (w r)) (omega (arith, some)) (omega (arith, few)) at top
+      (λ j e. stored-there m (word_below sp k) 8 (w r) j (there j e)) still)
+
+-- none of them is FP, which is set before
+are-others : (homes : ℕ) → list_all (λ r. not (r == 5)) (stored_registers homes) ≡ true
+are-others homes = take-all (λ r. not (r == 5)) (argument_registers X86_64) homes refl
+
+-- ---- the code
+-- FP, and what is stored by it
+abbrev all_stored : ℕ → List ℕ
+all_stored homes = 5 ∷ stored_registers homes
+
+stored-are : (homes : ℕ) → length (all_stored homes) ≡ 4 + min homes 6
+stored-are homes = let e = length-take homes (argument_registers X86_64) in omega (arith, e)
+
+stored-few : (homes : ℕ) → length (all_stored homes) ≤ 10
+stored-few homes = let e = stored-are homes in omega (arith, e)
+
+module _ (size homes sp : ℕ) (w : ℕ → ℕ) (f : Flags) (m : ℕ → Option ℕ) (large : 272 ≤ size) (room : least_frame + size ≤ sp) (top : sp ≤ stack_end)
+    (at : w 4 ≡ sp - 8) (there : HasStack m) where
+  low : 0x3FF00010 + 272 ≤ sp
+  low = omega (arith, room, large)
+
+  abbrev end_registers : ℕ → ℕ
+  end_registers = put (put w 5 (sp - 16)) 4 (sp - size)
+
+  abbrev end_bytes : ℕ → Option ℕ
+  end_bytes = with_stored m w sp (all_stored homes) 1
+
+  few : 2 + length (stored_registers homes) ≤ 13
+  few = let most = stored-few homes in omega (arith, most)
+
+  prolog-makes : makes (prolog_code size homes) (scene w f m) ≡ Some (scene end_registers f end_bytes)
+  prolog-makes =
+      let rest : List Instr = stores_below (stored_registers homes) 2 ++ lowered size in
+      let m1 : ℕ → Option ℕ = stored m (word_below sp 1) 8 (w 5) in
+      ap (option_and_then (makes (instr.Load Lea 5 4 (negsuc 7) ∷ rest))) (first-made sp low top w f m at there)
+      ∙ ap (λ x. makes rest (scene (put w 5 x) f m1)) (ap (λ x. add_words x (word_of (negsuc 7))) at ∙ first-address sp low top)
+      ∙ stores-made sp low top (stored_registers homes) 2 (lowered size) (put w 5 (sp - 16)) f m1 (omega arith) few refl
+      (λ j e. stored-there m (word_below sp 1) 8 (w 5) j (there j e))
+      ∙ ap (λ b. makes (lowered size) (scene (put w 5 (sp - 16)) f b)) (stored-besides w 5 (sp - 16) sp (stored_registers homes) 2 m1 (are-others homes))
+      ∙ ap (λ x. Some (scene (put (put w 5 (sp - 16)) 4 x) f end_bytes)) (lower-is size sp large room top)
+
+  prolog-above : AreAbove (prolog_code size homes) (scene w f m)
+  prolog-above =
+      let m1 : ℕ → Option ℕ = stored m (word_below sp 1) 8 (w 5) in
+      let address : add_words (w 4) (word_of (negsuc 7)) ≡ sp - 16 = ap (λ x. add_words x (word_of (negsuc 7))) at ∙ first-address sp low top in
+      above-first (instr.Store St64 4 (negsuc 7) 5) (instr.Load Lea 5 4 (negsuc 7) ∷ (stores_below (stored_registers homes) 2 ++ lowered size))
+      (scene w f m) (scene w f m1) (first-made sp low top w f m at there) (λ a le lt. in-zone (w 4) a (omega (arith, le, address, at)))
+      (above-first (instr.Load Lea 5 4 (negsuc 7)) (stores_below (stored_registers homes) 2 ++ lowered size) (scene w f m1) (scene (put w 5 (sp - 16)) f m1)
+      (ap (λ x. Some (scene (put w 5 x) f m1)) address) (no-width _ _)
+      (stores-above sp low top (stored_registers homes) 2 (lowered size) (put w 5 (sp - 16)) f m1 (omega arith) few refl at
+      (λ j e. stored-there m (word_below sp 1) 8 (w 5) j (there j e)) refl))
+
+-- ---- what is then in the frame
+module _ (code : List ℕ) (trash : ℕ) (small : length code ≤ most_code) (bytes-small : AreBytes code) (trash-word : trash < 2 ^ 64)
+    (size homes from sp : ℕ) (q : Run CpuState) (seen : IsSeen (x86_seen q)) (large : 272 ≤ size) (room : least_frame + size ≤ sp) (top : sp ≤ stack_end)
+    (at : q.state.registers 4 ≡ sp - 8) (k : StandsAt (x86_rows code trash) IsInstr from (prolog_code size homes)) (runs : status_of q.progress ≡ Running)
+    (here : q.state.pc ≡ from) where
+  abbrev v : ℕ → ℕ
+  v = q.state.registers
+
+  abbrev b : ℕ → Option ℕ
+  b = with_stored q.state.bytes v sp (all_stored homes) 1
+
+  abbrev W : ℕ → ℕ
+  W = put (put v 5 (sp - 16)) 4 (sp - size)
+
+  room-is : 0x3FF00010 + 272 ≤ sp
+  room-is = omega (arith, room, large)
+
+  abbrev all : List Instr
+  all = prolog_code size homes
+
+  done-it : Made code trash small bytes-small trash-word from all (scene W q.state.flags b) q
+  done-it = made-passed code trash small bytes-small trash-word from all q (scene W q.state.flags b) k
+      (prolog-makes size homes sp v q.state.flags q.state.bytes large room top at (λ j e. seen.stack j e))
+      (prolog-above size homes sp v q.state.flags q.state.bytes large room top at (λ j e. seen.stack j e)) runs here
+      (stands-high code trash small bytes-small trash-word from all (omega arith) k)
+
+  registers-are : done-it.end.state.registers ≡ W
+  registers-are = ap (λ (s : Scene). s.registers) done-it.scene
+
+  bytes-are : done-it.end.state.bytes ≡ b
+  bytes-are = ap (λ (s : Scene). s.bytes) done-it.scene
+
+  few-stored : 1 + length (all_stored homes) ≤ 13
+  few-stored = let most = stored-few homes in omega (arith, most)
+
+  word-is : (j : ℕ) → j < 4 + min homes 6 → HasWord b (word_below sp (1 + j)) (v (slice_index (all_stored homes) j))
+  word-is j lt = let long = stored-are homes in stored-word sp room-is (all_stored homes) 1 j q.state.bytes v few-stored seen.words (omega (arith, lt, long))
+
+  off : (a : ℕ) → (a + 88 < sp) ⊎ (sp ≤ a + 8) → b a ≡ q.state.bytes a
+  off a (inl h) = let most = stored-few homes in stored-off sp room-is (all_stored homes) 1 q.state.bytes v a few-stored (inl (omega (arith, h, most)))
+  off a (inr h) = stored-off sp room-is (all_stored homes) 1 q.state.bytes v a few-stored (inr (omega (arith, h)))
+
+  outside : (a : ℕ) → (a + 144 < sp) ⊎ (sp ≤ a) → b a ≡ q.state.bytes a
+  outside a (inl h) = off a (inl (omega (arith, h)))
+  outside a (inr h) = off a (inr (omega (arith, h)))
+
+  has : (a x : ℕ) → HasWord b a x → HasWord done-it.end.state.bytes a x
+  has a x h = subst (λ z. HasWord z a x) (sym bytes-are) h
+
+  return-stays : (address : ℕ) → HasWord q.state.bytes (return_word sp) address → HasWord b (return_word sp) address
+  return-stays address h = word-kept q.state.bytes b (return_word sp) address (λ j le lt. off j (inr (omega (arith, le, room-is)))) h
+
+  saved-is : (j : ℕ) → j < 3 → HasWord b (saved_word (frame_pointer sp) j) (v (portable_register X86_64 (j + 3)))
+  saved-is zero lt = subst (λ a. HasWord b a (v 3)) (omega (arith, room-is)) (word-is 1 (omega arith))
+  saved-is (suc zero) lt = subst (λ a. HasWord b a (v 13)) (omega (arith, room-is)) (word-is 2 (omega arith))
+  saved-is (suc (suc zero)) lt = subst (λ a. HasWord b a (v 14)) (omega (arith, room-is)) (word-is 3 (omega arith))
+  saved-is (suc (suc (suc j))) lt = absurd (omega (arith, lt))
+
+  home-stored : (j : ℕ) → j < homes → slice_index (all_stored homes) (4 + j) ≡ slice_index (argument_registers X86_64) j
+  home-stored j read =
+      let e : suc (suc (suc (suc j))) ≡ 4 + j = omega arith in
+      subst (λ i. slice_index (all_stored homes) i ≡ slice_index (take homes (argument_registers X86_64)) j) e refl
+      ∙ taken-at (argument_registers X86_64) homes j read
+
+  home-is : (j : ℕ) → j < homes → j < length (argument_registers X86_64)
+      → HasWord b (home_word (frame_pointer sp) j) (v (slice_index (argument_registers X86_64) j))
+  home-is j read lt =
+      subst (λ a. HasWord b a (v (slice_index (argument_registers X86_64) j))) (omega (arith, room-is, lt))
+      (subst (λ r. HasWord b (word_below sp (1 + (4 + j))) (v r)) (home-stored j read) (word-is (4 + j) (omega (arith, read, lt))))
+
+  portable-is : (r : ℕ) → r < 6 → W (portable_register X86_64 r) ≡ v (portable_register X86_64 r)
+  portable-is zero lt = refl
+  portable-is (suc zero) lt = refl
+  portable-is (suc (suc zero)) lt = refl
+  portable-is (suc (suc (suc zero))) lt = refl
+  portable-is (suc (suc (suc (suc zero)))) lt = refl
+  portable-is (suc (suc (suc (suc (suc zero))))) lt = refl
+  portable-is (suc (suc (suc (suc (suc (suc r)))))) lt = absurd (omega (arith, lt))
+
+  argument-is : (j : ℕ) → j < length (argument_registers X86_64)
+      → W (slice_index (argument_registers X86_64) j) ≡ v (slice_index (argument_registers X86_64) j)
+  argument-is zero lt = refl
+  argument-is (suc zero) lt = refl
+  argument-is (suc (suc zero)) lt = refl
+  argument-is (suc (suc (suc zero))) lt = refl
+  argument-is (suc (suc (suc (suc zero)))) lt = refl
+  argument-is (suc (suc (suc (suc (suc zero))))) lt = refl
+  argument-is (suc (suc (suc (suc (suc (suc j)))))) lt = absurd (omega (arith, lt))
+
+  all-long : length all ≡ 6 + min homes 6
+  all-long =
+      let e = stores-before store_word (stored_registers homes) 2 (lowered size) in
+      let long = stored-are homes in omega (arith, e, long)
+
+  pub enters : Entrance (x86_processor code trash) from (behind (x86_rows code trash) from all) sp size homes q
+  enters = record {
+    end = done-it.end;
+    steps = length all;
+    passes = done-it.passes;
+    few = omega (arith, all-long);
+    some = omega arith;
+    runs = done-it.runs;
+    here = done-it.here;
+    back = λ address h. has (return_word sp) address (return-stays address h);
+    caller = has (frame_pointer sp) (v 5) (word-is 0 (omega arith));
+    saved = λ j lt. has (saved_word (frame_pointer sp) j) (v (portable_register X86_64 (j + 3))) (saved-is j lt);
+    homes = λ j read lt. has (home_word (frame_pointer sp) j) (v (slice_index (argument_registers X86_64) j)) (home-is j read lt);
+    pointer = ap (λ g. g 5) registers-are;
+    stack_is = ap (λ g. g 4) registers-are;
+    portable = λ r lt. ap (λ g. g (portable_register X86_64 r)) registers-are ∙ portable-is r lt;
+    arguments = λ j lt. ap (λ g. g (slice_index (argument_registers X86_64) j)) registers-are ∙ argument-is j lt;
+    bytes = λ a h. ap (λ g. g a) bytes-are ∙ outside a h;
+    mark = done-it.mark;
+  }
+
+pub prologs-lead : (code : List ℕ) (trash : ℕ) → length code ≤ most_code → AreBytes code → trash < 2 ^ 64 → PrologsLead (x86_rows code trash) IsInstr prolog_code
+prologs-lead code trash small bytes word frame homes from stack q seen large room top even is k runs at =
+    enters code trash small bytes word frame homes from stack q seen large room top is k runs at

@@ -1,0 +1,116 @@
+-- Instructions of x86-64 that stand in the code, and runs over them.
+use Rattle.std.proofs.Common.{◌≡◌, ℕ, ◌+◌, ◌^◌, ◌<◌, ◌≤◌, List, [], ◌∷◌, ◌++◌, Some, sym, ap, ◌∙◌, subst, arith, length, append-nil, length-append}
+use Rattle.lg_base.specs.Layout.{code_base, most_code}
+use Rattle.lg_base.specs.Runs.{Running}
+use Rattle.lg_base.specs.Words.{add_words}
+use Rattle.lg_x86.specs.Spelling.{spelling, IsInstr}
+use Rattle.lg_x86.specs.declared.instruction.Instr.{Instr}
+use Rattle.lg_x86.proofs.SizeLemmas.{sized}
+use Rattle.lg_cpu.specs.Laws.{AreBytes}
+use Rattle.lg_cpu.specs.States.{CpuState}
+use Rattle.lg_cpu.specs.Steps.{Run, Effect, after, status_of}
+use Rattle.lg_cpu.specs.X86Step.{Scene, scene_of, does, act}
+use Rattle.lg_carry.specs.Blocks.{spellings, done}
+use Rattle.lg_carry.specs.Rows.{AreRows}
+use Rattle.lg_selx_values.specs.Processor.Makings.{makes, AreAbove, RunsMakings}
+use Rattle.lg_selx_values.specs.Processor.X86Rows.{x86_processor, x86_rows, x86_does, acts_above}
+use Rattle.lg_selx_values.proofs.OfProcessor.MakingLemmas.{makes-block, makings-run}
+use Rattle.lg_selx_values.proofs.OfProcessor.RowLemmas.{are-rows, went}
+use Rattle.lg_selx_values.proofs.OfProcessor.SlotLemmas.{pc-next}
+use Rattle.lg_carry.specs.Nodes.Stretches.{StandsAt, behind, PassesIn}
+use Rattle.lg_carry.proofs.OfNodes.StretchLemmas.{spelled-append, part-passes, passages-join}
+use Rattle.lg_sel.proofs.OfControl.StretchLemmas as stretches
+
+-- how many bytes an instruction has behind others
+pub spelled-behind : (front : List Instr) (x : Instr)
+    → length (spellings spelling (front ++ (x ∷ []))) ≡ length (spellings spelling front) + length (spelling x)
+spelled-behind front x =
+    ap length (spelled-append spelling front (x ∷ [])) ∙ length-append (spellings spelling front) (spelling x ++ [])
+    ∙ ap (λ n. length (spellings spelling front) + length n) (append-nil (spelling x))
+
+-- a state with this scene
+abbrev pub state_of : ℕ → Scene → ℕ → CpuState
+state_of pc s mark = record { pc = pc; registers = s.registers; flags = s.flags; bytes = s.bytes; mark = mark }
+
+pub same-state : (q : CpuState) (pc : ℕ) (s : Scene) (mark : ℕ) → q.pc ≡ pc → scene_of q ≡ s → q.mark ≡ mark → q ≡ state_of pc s mark
+same-state q pc s mark here scene-is mark-is = λ j. state_of (here j) (scene-is j) (mark-is j)
+
+module _ (code : List ℕ) (trash : ℕ) (small : length code ≤ most_code) (bytes : AreBytes code) (word : trash < 2 ^ 64) where
+  rows : AreRows (x86_rows code trash) IsInstr
+  rows = are-rows code trash small bytes word
+
+  -- instructions that stand in the code lie in the code part
+  pub stands-high : (from : ℕ) (is : List Instr) → 0 < length (spellings spelling is) → StandsAt (x86_rows code trash) IsInstr from is
+      → behind (x86_rows code trash) from is ≤ code_base + most_code
+  stands-high from is some k = stretches.stands-high (x86_rows code trash) IsInstr rows from is some k
+
+  -- ---- instructions that make a scene, and one behind them
+  module _ (from : ℕ) (front : List Instr) (x : Instr) (q : Run CpuState) (t : Scene) (k : StandsAt (x86_rows code trash) IsInstr from (front ++ (x ∷ [])))
+      (made : makes front (scene_of q.state) ≡ Some t) (runs : status_of q.progress ≡ Running) (at : q.state.pc ≡ from) where
+    abbrev pub front_high : ℕ
+    front_high = behind (x86_rows code trash) from (front ++ (x ∷ []))
+
+    pub front-size : front_high ≡ from + length (spellings spelling front) + length (spelling x)
+    front-size = let e = spelled-behind front x in omega (arith, e)
+
+    pub front-top : front_high ≤ code_base + most_code
+    front-top = let s = (sized x).some in let e = spelled-behind front x in stands-high from (front ++ (x ∷ [])) (omega (arith, s, e)) k
+
+    abbrev pub front_run : Run CpuState
+    front_run = done x86_does front q
+
+    pub front-ran : AreAbove front (scene_of q.state) → RunsMakings front q t
+    front-ran above =
+        let l = k.low in let s = front-size in let h = front-top in makings-run front q t made above runs (omega (arith, l, at)) (omega (arith, s, h, at))
+
+    -- the state before that one
+    abbrev pub front_state : CpuState
+    front_state = state_of (from + length (spellings spelling front)) t q.state.mark
+
+    pub front-behind : AreAbove front (scene_of q.state) → front_run.state.pc ≡ from + length (spellings spelling front)
+    front-behind above = (front-ran above).behind ∙ ap (λ n. n + length (spellings spelling front)) at
+
+    pub front-left : AreAbove front (scene_of q.state) → front_run.state ≡ front_state
+    front-left above =
+        let r = front-ran above in same-state front_run.state (from + length (spellings spelling front)) t q.state.mark (front-behind above) r.scene r.mark
+
+    pub front-next : add_words (from + length (spellings spelling front)) (length (spelling x)) ≡ front_high
+    front-next =
+        let s = front-size in let h = front-top in
+        pc-next (from + length (spellings spelling front)) (length (spelling x)) (omega (arith, s, h)) ∙ sym s
+
+    -- all are passed, by what that one does
+    pub front-passed : AreAbove front (scene_of q.state) → acts_above x front_state → (e : Effect CpuState) → does x front_high front_state ≡ e
+        → PassesIn (x86_processor code trash) from front_high (length front + 1) q (after front_run e)
+    front-passed above here e is =
+        passages-join (x86_processor code trash) from front_high (length front) 1 q front_run (after front_run e)
+        (part-passes (x86_rows code trash) IsInstr rows from [] front (x ∷ []) q k (at ∙ omega arith) (makes-block front (scene_of q.state) t made)
+        (front-ran above).through)
+        (stretches.one-passed (x86_rows code trash) IsInstr rows from front x [] front_run (after front_run e) k (front-ran above).runs
+        (subst (acts_above x) (sym (front-left above)) here) (front-behind above)
+        (went front_run (act x (length (spelling x)) front_run.state) (front-ran above).runs
+        ∙ ap (after front_run) (ap (act x (length (spelling x))) (front-left above) ∙ ap (λ pc. does x pc front_state) front-next ∙ is)))
+
+  -- ---- instructions that make a scene, and no other
+  pub record Made (from : ℕ) (is : List Instr) (t : Scene) (q : Run CpuState) : Type 0 where
+    pub end : Run CpuState
+    pub passes : PassesIn (x86_processor code trash) from (behind (x86_rows code trash) from is) (length is) q end
+    pub runs : status_of end.progress ≡ Running
+    pub here : end.state.pc ≡ behind (x86_rows code trash) from is
+    pub scene : scene_of end.state ≡ t
+    pub mark : end.state.mark ≡ q.state.mark
+
+  pub made-passed : (from : ℕ) (is : List Instr) (q : Run CpuState) (t : Scene) → StandsAt (x86_rows code trash) IsInstr from is
+      → makes is (scene_of q.state) ≡ Some t → AreAbove is (scene_of q.state) → status_of q.progress ≡ Running → q.state.pc ≡ from
+      → behind (x86_rows code trash) from is ≤ code_base + most_code → Made from is t q
+  made-passed from is q t k made above runs at room =
+      let l = k.low in
+      let ran = makings-run is q t made above runs (omega (arith, l, at)) (omega (arith, room, at)) in record {
+        end = done x86_does is q;
+        passes = stretches.all-passed (x86_rows code trash) IsInstr rows from is q (done x86_does is q) k at (makes-block is (scene_of q.state) t made)
+            ran.through (λ j. done x86_does is q);
+        runs = ran.runs;
+        here = ran.behind ∙ ap (λ n. n + length (spellings spelling is)) at;
+        scene = ran.scene;
+        mark = ran.mark;
+      }

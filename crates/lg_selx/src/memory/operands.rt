@@ -1,0 +1,15 @@
+// The operands of nodes, as registers of the processor.
+
+ghost use Rattle.std.specs.Prelude.{◌≡◌};
+ghost use Rattle.lg_selx.specs.Memory.Accesses.{register};
+
+use lg_carry::memory::operands::named;
+use lg_op::Operand;
+use lg_selx_values::register_of;
+
+// The register of an operand that is one, and else that of FP.
+pub(crate) fn register(operand: Operand) -> u8
+    ensures { result ≡ register operand }
+{
+    register_of(named(operand))
+}

@@ -1,6 +1,0 @@
-pub mod GoodLemmas
-pub mod ItemLemmas
-pub mod NodeLemmas
-pub mod PatchLemmas
-pub mod WithinLemmas
-pub mod WordLemmas

@@ -1,0 +1,5 @@
+use Rattle.lg_selx_values.proofs.ItemLemmas.{words_append}
+use Rattle.lg_selx_values.proofs.item_laws.words_append.Goals as goal
+
+pub returns : goal.returns
+returns c = words_append

@@ -1,3 +1,0 @@
-mod FrontCases
-mod GapLemmas
-mod WordLemmas

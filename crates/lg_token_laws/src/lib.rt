@@ -1,4 +1,0 @@
-//! The text between tokens.
-#![tactic(auto)]
-
-pub mod laws;
