@@ -108,7 +108,8 @@ StartStands =
 abbrev pub AlignsStand : Type 0
 AlignsStand =
     (c : Assembled) (l : LabelledNodes) (i number : ℕ) (node : Node) → IsCode c → KeepsOthers is_droppable l c.origin
-    → IsOrigin IsRewrittenNode l c.nodes c.origin → slice_get l.nodes i ≡ Some node → node.op ≡ op.Plain plain.Align → node.operands ≡ operand.Number number ∷ []
+    → IsOrigin IsRewrittenNode l c.nodes c.origin → slice_get l.nodes i ≡ Some node
+    → node.op ≡ op.Plain plain.Align → node.operands ≡ operand.Number number ∷ []
     → (k : ℕ) × (slice_get c.origin k ≡ Some i) × (slice_index c.places (k + 1) % number ≡ 0)
 
 -- ---- refusals

@@ -1,4 +1,4 @@
--- The law on top: whatever changes below the stack pointer between two instructions, the code agrees with the portable meaning.
+-- Whatever changes below the stack pointer between two instructions, code that withstands it agrees with the portable meaning.
 use Rattle.std.specs.Prelude.{◌≡◌, ℕ, ◌+◌, ◌<◌, ◌≤◌, ◌⊎◌, Bool, List, [], length}
 use Rattle.lg_base.specs.Runs.{IsMachine}
 use Rattle.lg_carry.specs.Carries.{Leads}

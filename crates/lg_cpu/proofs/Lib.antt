@@ -8,6 +8,7 @@ mod DecodeLemmas
 mod FaultLemmas
 mod FollowLemmas
 mod OperatorLemmas
+mod RoomLemmas
 pub mod RunLemmas
 mod RvFaultLemmas
 mod SaysLemmas

@@ -1,7 +1,7 @@
 -- What the code of the processors answers and leaves.
 use Rattle.std.specs.Prelude.{◌≡◌, ℕ, ◌+◌, List, [], Option, slice_index}
 use Rattle.std.specs.Io.KnownBytes.{Appends}
-use Rattle.lg_base.specs.Parts.{byte_at}
+use Rattle.lg_base.specs.Parts.{byte_at, heap_base}
 use Rattle.lg_base.specs.declared.target.Target.{Target}
 use Rattle.lg_base.specs.declared.target.Target.TheVariants as target
 use Rattle.lg_io.specs.Counts.{Rose}
@@ -12,8 +12,9 @@ use Rattle.lg_cpu.specs.Answers.{answer_of, progress_of, counted}
 use Rattle.lg_base.specs.declared.flags.Flags.{Flags}
 use Rattle.lg_base.specs.declared.flags.Flags.TheVariants.{NoFlags}
 use Rattle.lg_cpu.specs.HostSteps.{put}
+use Rattle.lg_cpu.specs.Starts.{start_bytes}
 use Rattle.lg_cpu.specs.States.{CpuState}
-use Rattle.lg_cpu.specs.Targets.{effect_of, start_of, run_at}
+use Rattle.lg_cpu.specs.Targets.{effect_of, begins, start_of, run_at}
 use Rattle.lg_cpu.specs.declared.aarch64.Aarch64.{Aarch64}
 use Rattle.lg_cpu.specs.declared.board.Board.{Board}
 use Rattle.lg_cpu.specs.declared.processor.Processor.{Processor}
@@ -71,6 +72,14 @@ inner (processor.Riscv64 p) = rv_inner p
 abbrev pub with_state : Inner → CpuState → Inner
 with_state p state = record p { state = state }
 
+-- over the memory of a start
+abbrev pub with_start : Inner → (image args : List ℕ) → Inner
+with_start p image args = with_state p (record p.state { bytes = start_bytes image args; mark = heap_base })
+
+-- before the first step, with so many arguments, over the memory that it has
+abbrev pub begun : Inner → ℕ → Inner
+begun p count = with_state p (begins p.fixed.target count p.fixed.trash p.state.bytes p.state.mark)
+
 -- what its step does
 abbrev pub effect_in : Inner → Effect CpuState
 effect_in p = effect_of p.fixed.target p.fixed.code p.fixed.trash p.state
@@ -111,6 +120,10 @@ shown c = shown_of (inner c.processor) c.answer c.steps
 -- before its first step
 abbrev pub shown_at_start : Target → (code image args : List ℕ) → ℕ → Shown
 shown_at_start t code image args trash = record { target = t; code = code; trash = trash; state = start_of t image args trash; answer = cpu.Went; steps = 0 }
+
+-- before the first step of a new run of its code
+abbrev pub started_again : Shown → (image args : List ℕ) → Shown
+started_again s image args = shown_at_start s.target s.code image args s.trash
 
 -- behind a step with this effect
 abbrev pub after_step : Effect CpuState → Shown → Shown

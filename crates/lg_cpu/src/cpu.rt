@@ -1,6 +1,6 @@
 // The processor that a run is made on.
 
-ghost use Rattle.std.specs.Prelude.{◌≡◌, ◌<◌, ◌≤◌, ◌⊎◌, ◌+◌, ◌-◌, ◌^◌, length, nat_lt, IfOk, if◌then◌else◌};
+ghost use Rattle.std.specs.Prelude.{◌≡◌, ◌<◌, ◌≤◌, ◌⊎◌, ◌+◌, ◌-◌, ◌^◌, ◌↔◌, length, nat_lt, IfOk, IsTrue, if◌then◌else◌};
 ghost use Rattle.lg_base.specs.Layout.{most_code};
 ghost use Rattle.lg_base.specs.Arguments.{most_args};
 ghost use Rattle.lg_base.specs.Spaces.{loaded, mapped};
@@ -36,8 +36,9 @@ fn is_counted(answer: CpuStep) -> bool
 }
 
 impl Cpu {
-    ghost use Rattle.lg_cpu.specs.Machines.{shown, shown_at_start, CpuSays, StepShows, inner, effect_in, after_set, after_set_flags, after_jump, after_store};
+    ghost use Rattle.lg_cpu.specs.Machines.{shown, shown_at_start, started_again, CpuSays, StepShows, inner, effect_in, after_set, after_set_flags, after_jump, after_store};
     ghost use Rattle.lg_cpu.specs.Series.{AdvancesAfter};
+    ghost use Rattle.lg_cpu.specs.Starts.{HasRoom};
 
     /// A processor of a target before its first step: at the first address of the code, with the data part and the argument part in
     /// memory and zeros elsewhere. It finds the number of the argument part's strings and the part's address in the registers
@@ -69,6 +70,22 @@ impl Cpu {
             answer: CpuStep::Went,
             steps: 0,
         })
+    }
+
+    /// Starts again, and takes no memory: behind it the processor is as `new` makes one of its target, code and trash word with this data
+    /// part and argument part, whether its run was over or not. False exactly where a part has more bytes than the one in memory has now,
+    /// and then nothing changes. A part with fewer bytes leaves only so many: of runs that differ the one with the longest parts comes first.
+    pub fn again(&mut self, image: &DataImage, args: &ArgImage) -> bool
+        ensures done { IsTrue result ↔ HasRoom (shown self.old).state.bytes image.now args.now }
+        ensures changed { shown self.new ≡ (if result then started_again (shown self.old) image.now args.now else shown self.old) }
+    {
+        if !self.processor.renew(image.as_slice(), args.as_slice()) {
+            return false;
+        }
+        self.processor.begin(argument_count(args.as_slice()));
+        self.answer = CpuStep::Went;
+        self.steps = 0;
+        true
     }
 
     /// The program counter.

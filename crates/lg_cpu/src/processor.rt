@@ -1,6 +1,6 @@
 // The processor of a target.
 
-ghost use Rattle.std.specs.Prelude.{◌≡◌, ◌<◌, ◌≤◌, ◌⊎◌, ◌+◌, ◌^◌, if◌then◌else◌, nat_lt};
+ghost use Rattle.std.specs.Prelude.{◌≡◌, ◌<◌, ◌≤◌, ◌⊎◌, ◌+◌, ◌^◌, ◌↔◌, IsTrue, if◌then◌else◌, nat_lt};
 
 use crate::aarch64::Aarch64;
 use crate::answer::CpuStep;
@@ -31,8 +31,9 @@ impl Processor {
     ghost use Rattle.lg_cpu.specs.Answers.{answer_of};
     ghost use Rattle.lg_cpu.specs.Steps.{arrived};
     ghost use Rattle.lg_cpu.specs.Targets.{begins, reads, register_count, has_flags};
-    ghost use Rattle.lg_cpu.specs.Machines.{inner, inner_of, effect_in, with_state, with_register, with_flags, with_bytes, StepSays, shown_of};
+    ghost use Rattle.lg_cpu.specs.Machines.{inner, inner_of, with_start, begun, effect_in, with_state, with_register, with_flags, with_bytes, StepSays, shown_of};
     ghost use Rattle.lg_cpu.specs.Series.{Advances, going_on};
+    ghost use Rattle.lg_cpu.specs.Starts.{HasRoom};
 
     /// The processor of a target before its first step, with the number of arguments.
     pub fn new(target: Target, board: Board, count: u64) -> Processor
@@ -43,6 +44,31 @@ impl Processor {
             Target::X86_64 => Processor::X86_64(X86_64::new(board, count)),
             Target::Aarch64 => Processor::Aarch64(Aarch64::new(board, count)),
             Target::Riscv64 => Processor::Riscv64(Riscv64::new(board, count)),
+        }
+    }
+
+    /// Puts a data part and an argument part into the memory and zeros elsewhere, and nothing of the heap is handed out; takes no
+    /// memory. False exactly where one of them is longer than the part in memory is now, and then nothing changes.
+    pub fn renew(&mut self, image: &[u8], args: &[u8]) -> bool
+        ensures done { IsTrue result ↔ HasRoom (inner self.old).state.bytes image.now args.now }
+        ensures changed { inner self.new ≡ (if result then with_start (inner self.old) image.now args.now else inner self.old) }
+    {
+        match self {
+            Processor::X86_64(p) => p.board.again(image, args),
+            Processor::Aarch64(p) => p.board.again(image, args),
+            Processor::Riscv64(p) => p.board.again(image, args),
+        }
+    }
+
+    /// Stands before the first step again, with the number of arguments, over the memory that it has.
+    pub fn begin(&mut self, count: u64)
+        requires stack { mapped (inner self.old).state.bytes (return_word stack_end) 8 ≡ true }
+        ensures { inner self.new ≡ begun (inner self.old) count }
+    {
+        match self {
+            Processor::X86_64(p) => p.begin(count),
+            Processor::Aarch64(p) => p.begin(count),
+            Processor::Riscv64(p) => p.begin(count),
         }
     }
 

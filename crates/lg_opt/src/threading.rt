@@ -34,8 +34,8 @@ fn threaded(alloc: Global, nodes: &NodeList, shape: &Shape) -> Result<Rewritten,
 /// `jmpi` that leads to the node that follows, until nothing is left to do. A label of a dropped node moves to the next that stays. The shape is
 /// that of the nodes. Memory goes by the number of nodes and labels, and time by that and at most 32 passes over a table of the nodes.
 ///
-/// Every node but a `jmpi` stays. The new run follows the old one over any addresses of the labels in the new nodes, and steps at each node that is no `jmpi`; between two times
-/// at which the old run stands at one node, it steps at a branch, jump, call or return.
+/// Every node but a `jmpi` stays. The new run follows the old one over any addresses of the labels in the new nodes, and steps at each node that is no
+/// `jmpi`; between two times at which the old run stands at one node, it steps at a branch, jump, call or return.
 pub fn thread(alloc: Global, nodes: &NodeList, shape: &Shape) -> Result<Rewritten, OutOfMemory>
     requires { IsShapeOf nodes.now shape.now }
     ensures shape { IfOk result (λ r. IsShapeOf r.nodes r.shape) }

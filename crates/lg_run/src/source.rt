@@ -63,8 +63,9 @@ fn read_rest<T: Texts>(alloc: Global, piece: &mut [u8], texts: &mut T) -> Result
     Err(ReadStop::TooLong)
 }
 
-/// The whole text of a name. A read fault comes exactly where a call of the source failed, and never of a sure source that holds the name; no other call is made
-/// behind it. The text is selected once and read from its start, and not again where a read found its end: at most 16,777,216 bytes and a piece of 65,536 are taken.
+/// The whole text of a name. A read fault comes exactly where a call of the source failed, and never of a sure source that holds the name; no other call is
+/// made behind it. The text is selected once and read from its start, and not again where a read found its end: at most 16,777,216 bytes and a piece of
+/// 65,536 are taken.
 pub fn read_text<T: Texts>(alloc: Global, name: &str, texts: &mut T) -> Result<Vec<u8>, ReadStop>
     ensures text { IfOk result (λ v. IsTextUnder (T.held texts.old) name.now v.items) }
     ensures small { IfOk result (λ v. length v.items ≤ most_text) }

@@ -39,7 +39,7 @@ fn registers_at_start(count: u64, trash: u64) -> [u64; 32]
 impl Aarch64 {
     ghost use Rattle.lg_base.specs.Parts.{byte_at};
     ghost use Rattle.lg_cpu.specs.A64Step.{begins};
-    ghost use Rattle.lg_cpu.specs.Machines.{a64_state};
+    ghost use Rattle.lg_cpu.specs.Machines.{begun, a64_state, a64_inner};
 
     /// The processor before its first step, with the number of arguments.
     pub fn new(board: Board, count: u64) -> Aarch64
@@ -52,5 +52,14 @@ impl Aarch64 {
             registers: registers_at_start(count, board.trash),
             board,
         }
+    }
+
+    /// Stands before the first step again, with the number of arguments, over the memory that it has.
+    pub fn begin(&mut self, count: u64)
+        ensures { a64_inner self.new ≡ begun (a64_inner self.old) count }
+    {
+        self.pc = CODE;
+        self.registers = registers_at_start(count, self.board.trash);
+        self.flags = trash_flags(self.board.trash);
     }
 }

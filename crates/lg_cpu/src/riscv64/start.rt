@@ -26,7 +26,7 @@ fn registers_at_start(count: u64, trash: u64) -> [u64; 32]
 impl Riscv64 {
     ghost use Rattle.lg_base.specs.Parts.{byte_at};
     ghost use Rattle.lg_cpu.specs.RvStep.{begins};
-    ghost use Rattle.lg_cpu.specs.Machines.{rv_state};
+    ghost use Rattle.lg_cpu.specs.Machines.{begun, rv_state, rv_inner};
 
     /// The processor before its first step, with the number of arguments.
     pub fn new(board: Board, count: u64) -> Riscv64
@@ -38,5 +38,13 @@ impl Riscv64 {
             registers: registers_at_start(count, board.trash),
             board,
         }
+    }
+
+    /// Stands before the first step again, with the number of arguments, over the memory that it has.
+    pub fn begin(&mut self, count: u64)
+        ensures { rv_inner self.new ≡ begun (rv_inner self.old) count }
+    {
+        self.pc = CODE;
+        self.registers = registers_at_start(count, self.board.trash);
     }
 }

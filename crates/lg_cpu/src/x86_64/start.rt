@@ -37,7 +37,7 @@ impl X86_64 {
     ghost use Rattle.lg_base.specs.Parts.{byte_at};
     ghost use Rattle.lg_base.specs.Spaces.{mapped};
     ghost use Rattle.lg_cpu.specs.X86Step.{begins};
-    ghost use Rattle.lg_cpu.specs.Machines.{inner_of, x86_inner};
+    ghost use Rattle.lg_cpu.specs.Machines.{inner_of, begun, x86_inner};
     ghost use Rattle.lg_base.specs.declared.target.Target.{Target};
 
     /// The processor before its first step, with the number of arguments; the stop address stands at the stack pointer.
@@ -53,5 +53,17 @@ impl X86_64 {
             flags: no_flags(),
             board,
         }
+    }
+
+    /// Stands before the first step again, with the number of arguments, over the memory that it has; the stop address stands at
+    /// the stack pointer.
+    pub fn begin(&mut self, count: u64)
+        requires stack { mapped (byte_at self.old.board.memory) (return_word stack_end) 8 ≡ true }
+        ensures { x86_inner self.new ≡ begun (x86_inner self.old) count }
+    {
+        self.board.memory.store(RETURN, 8, STOP);
+        self.pc = CODE;
+        self.registers = registers_at_start(count, self.board.trash);
+        self.flags = no_flags();
     }
 }

@@ -49,7 +49,8 @@ pub record Entrance {Q : Type 0} (P : Processor Q) (low high stack size homes_re
 abbrev pub PrologsLead : {Q I : Type 0} → Rows Q I → (I → Type 0) → (ℕ → ℕ → List I) → Type 0
 PrologsLead {Q} R fits code =
     (frame homes from stack : ℕ) (q : Q) → IsSeen (R.processor.seen q) → 272 ≤ frame → least_frame + frame ≤ stack → stack ≤ stack_end → stack % 16 ≡ 0
-    → (R.processor.seen q).registers (stack_register R.processor.target) ≡ arriving (link_register R.processor.target) stack → StandsAt R fits from (code frame homes)
+    → (R.processor.seen q).registers (stack_register R.processor.target) ≡ arriving (link_register R.processor.target) stack
+    → StandsAt R fits from (code frame homes)
     → R.processor.machine.status q ≡ Running → (R.processor.seen q).pc ≡ from → Entrance R.processor from (behind R from (code frame homes)) stack frame homes q
 
 abbrev pub prolog_node : ℕ → Node

@@ -151,7 +151,8 @@ halves v u =
     ∷ instr.Shift shift.Srli u v 48 ∷ instr.Store row.Sb link u (pos 6)
     ∷ instr.Shift shift.Srli u u 8 ∷ instr.Store row.Sb link u (pos 7)
     ∷ instr.Imm imm.Andi u link (pos 1) ∷ instr.Reg reg.Add link link u ∷ instr.Shift shift.Slli u u 3 ∷ instr.Reg reg.Srl u v u
-    ∷ instr.Store row.Sh link u (pos 0) ∷ instr.Shift shift.Srli u u 16 ∷ instr.Store row.Sh link u (pos 2) ∷ instr.Shift shift.Srli u u 16 ∷ instr.Store row.Sh link u (pos 4) ∷ []
+    ∷ instr.Store row.Sh link u (pos 0) ∷ instr.Shift shift.Srli u u 16 ∷ instr.Store row.Sh link u (pos 2)
+    ∷ instr.Shift shift.Srli u u 16 ∷ instr.Store row.Sh link u (pos 4) ∷ []
 
 abbrev pub store_bytes : StoreType → ℕ → ℕ → List Instr
 store_bytes store_type.Long v u = halves v u
@@ -176,7 +177,8 @@ abbrev pub loading : ValueType → ℕ → ℕ → Address → List Instr
 loading t d u at = (place_of (width t) at).code ++ load_at (is_whole (width t) at) t d u (place_of (width t) at).base (place_of (width t) at).offset
 
 abbrev pub storing : StoreType → ℕ → ℕ → Address → List Instr
-storing t v u at = (place_of (store_width t) at).code ++ store_at (is_whole (store_width t) at) t v u (place_of (store_width t) at).base (place_of (store_width t) at).offset
+storing t v u at =
+    (place_of (store_width t) at).code ++ store_at (is_whole (store_width t) at) t v u (place_of (store_width t) at).base (place_of (store_width t) at).offset
 
 -- an access of several bytes needs a temporary
 abbrev pub access_needs : ℕ → List Need

@@ -51,5 +51,5 @@ pub record RunsMakings (is : List Instr) (q : Run CpuState) (t : Scene) : Type 0
 
 abbrev pub MakingsRun : Type 0
 MakingsRun =
-    (is : List Instr) (q : Run CpuState) (t : Scene) → makes is (scene_of q.state) ≡ Some t → AreAbove is (scene_of q.state) → status_of q.progress ≡ Running → code_base ≤ q.state.pc
-    → q.state.pc + length (spellings spelling is) ≤ code_base + most_code → RunsMakings is q t
+    (is : List Instr) (q : Run CpuState) (t : Scene) → makes is (scene_of q.state) ≡ Some t → AreAbove is (scene_of q.state) → status_of q.progress ≡ Running
+    → code_base ≤ q.state.pc → q.state.pc + length (spellings spelling is) ≤ code_base + most_code → RunsMakings is q t
