@@ -45,12 +45,13 @@ fn print_ran(rt: &HostRuntime, argument: &str, ran: &Ran) -> io::Result<()> {
     }
 }
 
-// Runs code with each of the arguments.
+// Runs code with each of the arguments, on one processor as far as its memory has room.
 fn run_all(rt: &HostRuntime, compiled: &Compiled, arguments: &str) -> io::Result<()>
     requires { CanRun compiled.now }
 {
+    let mut last = None;
     for argument in arguments.split(' ') {
-        match run(rt.alloc(), compiled, argument) {
+        match run(rt.alloc(), compiled, argument, &mut last) {
             Ok(ran) => print_ran(rt, argument, &ran)?,
             Err(stop) => print_stop(rt, stop)?,
         }

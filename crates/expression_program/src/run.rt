@@ -1,7 +1,8 @@
 // Code on a processor.
 
-ghost use Rattle.std.specs.Prelude.{◌<◌, ◌≤◌, length, IfOk};
+ghost use Rattle.std.specs.Prelude.{◌≡◌, ◌<◌, ◌≤◌, length, IfOk};
 ghost use Rattle.lg_base.specs.Arguments.{most_args};
+ghost use Rattle.lg_cpu.specs.Machines.{shown};
 ghost use Rattle.expression_program.specs.Compiled.{CanRun};
 
 use crate::compile::Compiled;
@@ -44,34 +45,40 @@ fn args_of(alloc: Global, argument: &str) -> Result<ArgImage, Stop>
     args_image(alloc, &words)
 }
 
-// Runs code with these arguments, from a new processor on, and gives the last step's answer.
-fn run_with(
+// A processor before its first step: that of the last run of this code, where its memory has room, else a new one.
+fn processor_for(
     alloc: Global,
     compiled: &Compiled,
     args: &ArgImage,
-    out: &mut MemorySink,
-) -> Result<CpuStep, Stop>
+    last: Option<Cpu>,
+) -> Result<Cpu, OutOfMemory>
     requires code { CanRun compiled.now }
     requires args { length args.now ≤ most_args }
+    ensures { IfOk result (λ c. (shown c).steps ≡ 0) }
 {
     let code = &compiled.code;
-    let mut cpu = Cpu::new(
-        alloc,
-        code.target(),
-        code.bytes(),
-        &compiled.unit.image,
-        args,
-        ANYTHING,
-    )?;
-    Ok(cpu.run(MOST_STEPS, out))
+    let image = &compiled.unit.image;
+    if let Some(mut cpu) = last {
+        if cpu.again(image, args) {
+            return Ok(cpu);
+        }
+    }
+    Cpu::new(alloc, code.target(), code.bytes(), image, args, ANYTHING)
 }
 
-/// Runs code with an argument.
-pub fn run(alloc: Global, compiled: &Compiled, argument: &str) -> Result<Ran, Stop>
+/// Runs code with an argument. `last` is the processor of the last run of this code, and of this one behind it.
+pub fn run(
+    alloc: Global,
+    compiled: &Compiled,
+    argument: &str,
+    last: &mut Option<Cpu>,
+) -> Result<Ran, Stop>
     requires { CanRun compiled.now }
 {
     let args = args_of(alloc, argument)?;
     let mut out = MemorySink::new(alloc, ROOM, &[])?;
-    let end = run_with(alloc, compiled, &args, &mut out)?;
+    let mut cpu = processor_for(alloc, compiled, &args, last.take())?;
+    let end = cpu.run(MOST_STEPS, &mut out);
+    *last = Some(cpu);
     Ok(Ran { out, end })
 }

@@ -50,13 +50,14 @@ fn print_ran(rt: &HostRuntime, argument: &str, ran: &Ran) -> io::Result<()> {
     }
 }
 
-// Runs code with each of the arguments.
+// Runs code with each of the arguments, on one processor as far as its memory has room.
 fn run_all(rt: &HostRuntime, code: &Code, image: &DataImage) -> io::Result<()>
     requires code { length code.now.bytes ≤ most_code }
     requires image { length image.now ≤ 0x1000000 }
 {
+    let mut last = None;
     for argument in ARGUMENTS {
-        match run(rt.alloc(), code, image, argument) {
+        match run(rt.alloc(), code, image, argument, &mut last) {
             Ok(ran) => print_ran(rt, argument, &ran)?,
             Err(stop) => print_stop(rt, stop)?,
         }

@@ -1,8 +1,9 @@
 // Code on a processor.
 
-ghost use Rattle.std.specs.Prelude.{◌<◌, ◌≤◌, length, IfOk};
+ghost use Rattle.std.specs.Prelude.{◌≡◌, ◌<◌, ◌≤◌, length, IfOk};
 ghost use Rattle.lg_base.specs.Arguments.{most_args};
 ghost use Rattle.lg_base.specs.Layout.{most_code};
+ghost use Rattle.lg_cpu.specs.Machines.{shown};
 
 use lg_asm::Code;
 use lg_base::{ArgImage, DataImage, OutOfMemory, Stop, args_image};
@@ -44,14 +45,42 @@ fn args_of(alloc: Global, argument: &str) -> Result<ArgImage, Stop>
     args_image(alloc, &words)
 }
 
-/// Runs code with an argument, from a new processor on.
-pub fn run(alloc: Global, code: &Code, image: &DataImage, argument: &str) -> Result<Ran, Stop>
+// A processor before its first step: that of the last run of this code, where its memory has room, else a new one.
+fn processor_for(
+    alloc: Global,
+    code: &Code,
+    image: &DataImage,
+    args: &ArgImage,
+    last: Option<Cpu>,
+) -> Result<Cpu, OutOfMemory>
+    requires code { length code.now.bytes ≤ most_code }
+    requires image { length image.now ≤ 0x1000000 }
+    requires args { length args.now ≤ most_args }
+    ensures { IfOk result (λ c. (shown c).steps ≡ 0) }
+{
+    if let Some(mut cpu) = last {
+        if cpu.again(image, args) {
+            return Ok(cpu);
+        }
+    }
+    Cpu::new(alloc, code.target(), code.bytes(), image, args, ANYTHING)
+}
+
+/// Runs code with an argument. `last` is the processor of the last run of this code, and of this one behind it.
+pub fn run(
+    alloc: Global,
+    code: &Code,
+    image: &DataImage,
+    argument: &str,
+    last: &mut Option<Cpu>,
+) -> Result<Ran, Stop>
     requires code { length code.now.bytes ≤ most_code }
     requires image { length image.now ≤ 0x1000000 }
 {
     let args = args_of(alloc, argument)?;
     let mut out = MemorySink::new(alloc, ROOM, &[])?;
-    let mut cpu = Cpu::new(alloc, code.target(), code.bytes(), image, &args, ANYTHING)?;
+    let mut cpu = processor_for(alloc, code, image, &args, last.take())?;
     let end = cpu.run(MOST_STEPS, &mut out);
+    *last = Some(cpu);
     Ok(Ran { out, end })
 }
