@@ -2,7 +2,7 @@
 
 ghost use Rattle.std.specs.Prelude.{◌<◌, length};
 
-use crate::rows::told;
+use crate::rows::refusal;
 use lg_base::{ArgImage, Stop, args_image};
 use std::alloc::{AllocError, Global};
 use std::test::Fail;
@@ -31,19 +31,13 @@ fn are_laid_out(alloc: Global) -> Result<bool, AllocError> {
     }
 }
 
-#[test]
-fn lays_out_words(rt: HostRuntime) -> Result<(), Fail> {
-    assert!(rt; are_laid_out(rt.alloc())?);
-    Ok(())
-}
-
 // How many bytes the part has, or the kind and the line of its refusal.
 fn size_of(alloc: Global, words: &Vec<String>) -> Result<String, AllocError>
     requires { 0 < length words.now.items }
 {
     match part_of(alloc, words) {
         Ok(part) => format!(in alloc; "{} bytes", part.len()),
-        Err(stop) => told(alloc, Err(stop)),
+        Err(stop) => refusal(alloc, stop),
     }
 }
 
@@ -62,7 +56,8 @@ fn long_sizes(alloc: Global) -> Result<String, AllocError> {
 }
 
 #[test]
-fn refuses_words_that_are_too_long(rt: HostRuntime) -> Result<(), Fail> {
+fn lays_out_words(rt: HostRuntime) -> Result<(), Fail> {
+    assert!(rt; are_laid_out(rt.alloc())?);
     assert_eq!(rt;
         long_sizes(rt.alloc())?.as_str(),
         "1048576 bytes, ArgsTooLong 0"

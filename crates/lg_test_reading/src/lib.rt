@@ -24,4 +24,6 @@ mod rows;
 #[cfg(test)]
 mod tokens;
 #[cfg(test)]
+mod units;
+#[cfg(test)]
 mod wide;

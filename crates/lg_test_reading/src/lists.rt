@@ -25,14 +25,6 @@ fn are_images_held(alloc: Global) -> Result<bool, OutOfMemory> {
     Ok(are_same && data.get(1) == b'a' && args.get(0) == b'a')
 }
 
-#[test]
-fn holds_bytes(rt: HostRuntime) -> Result<(), Fail> {
-    assert!(rt; is_code_held(rt.alloc())?);
-    assert!(rt; is_grown_code_held(rt.alloc())?);
-    assert!(rt; are_images_held(rt.alloc())?);
-    Ok(())
-}
-
 fn are_places_held(alloc: Global) -> Result<bool, OutOfMemory> {
     let places = Places::of(alloc, &[4, 8])?;
     let mut grown = Places::with_room(alloc, 1)?;
@@ -53,7 +45,10 @@ fn are_addresses_held(alloc: Global) -> Result<bool, OutOfMemory> {
 }
 
 #[test]
-fn holds_places_and_addresses(rt: HostRuntime) -> Result<(), Fail> {
+fn holds_what_is_put(rt: HostRuntime) -> Result<(), Fail> {
+    assert!(rt; is_code_held(rt.alloc())?);
+    assert!(rt; is_grown_code_held(rt.alloc())?);
+    assert!(rt; are_images_held(rt.alloc())?);
     assert!(rt; are_places_held(rt.alloc())?);
     assert!(rt; is_origin_held(rt.alloc())?);
     assert!(rt; are_addresses_held(rt.alloc())?);

@@ -2,10 +2,10 @@
 
 ghost use Rattle.std.specs.Prelude.{◌≡◌, []};
 
-use crate::rows::told;
-use lg_base::{DataImage, OutOfMemory, Stop};
+use crate::units::read;
+use lg_base::{OutOfMemory, Stop};
 use lg_node::*;
-use std::alloc::{AllocError, Global};
+use std::alloc::Global;
 use std::test::Fail;
 
 // Whether words are labels in the order in which they come.
@@ -49,64 +49,8 @@ fn is_word_bound_once(alloc: Global) -> Result<bool, OutOfMemory> {
     is_bound_once(&mut nodes)
 }
 
-#[test]
-fn numbers_words_in_order(rt: HostRuntime) -> Result<(), Fail> {
-    assert!(rt; are_words_numbered(rt.alloc())?);
-    assert!(rt; is_word_bound_once(rt.alloc())?);
-    Ok(())
-}
-
 // A function with a local of 12 bytes and a label whose address is taken, a node a line.
-const FUNCTION: &[(PlainOp, &[Operand])] = &[
-    (PlainOp::Prolog, &[]),
-    (PlainOp::Allocai, &[Operand::Number(12), Operand::Slot(0)]),
-    (
-        PlainOp::Movi,
-        &[Operand::Reg(Reg::R0), Operand::Label(Label(0))],
-    ),
-    (PlainOp::Epilog, &[]),
-];
-
-// Adds a node, where it is in form.
-fn add(
-    nodes: &mut NodeList,
-    op: PlainOp,
-    operands: &[Operand],
-    line: u32,
-) -> Result<(), OutOfMemory> {
-    if operands.len() <= 4 && nodes.len() < u32::MAX {
-        let node = Node {
-            op: Op::Plain(op),
-            operands: Operands::of(operands),
-            line,
-        };
-        if node.is_in_form() {
-            nodes.push(node)?;
-        }
-    }
-    Ok(())
-}
-
-// Adds the nodes of the function to a list without words.
-fn add_function(nodes: &mut NodeList) -> Result<(), OutOfMemory>
-    requires { nodes.old.words ≡ [] }
-{
-    nodes.label(b"there")?;
-    let mut line = 1u32;
-    for (op, operands) in FUNCTION {
-        add(nodes, *op, operands, line)?;
-        line = line.wrapping_add(1);
-    }
-    Ok(())
-}
-
-// The unit of the function.
-fn one_function(alloc: Global) -> Result<Unit, OutOfMemory> {
-    let image = DataImage::of(alloc, &[])?;
-    let mut nodes = NodeList::new(alloc);
-    add_function(&mut nodes)?;
-    Ok(Unit { nodes, image })
-}
+const FUNCTION: &[u8] = b"prolog\nallocai 12 $l\nmovi %r0 there\nthere: epilog";
 
 // The shape of a unit, made anew once it is checked.
 fn shape_again(alloc: Global, unit: &Unit) -> Result<Shape, Stop> {
@@ -126,54 +70,17 @@ fn is_of_function(shape: &Shape) -> bool {
         && (shape.taken(Label(0)), shape.taken(Label(1))) == (true, false)
 }
 
-// Binds the label of the function to its last node.
-fn bind_label(unit: &mut Unit) -> bool {
-    let is_there = unit.nodes.labels() > 0 && unit.nodes.len() > 3;
-    is_there && unit.nodes.bind(Label(0), Place::Node(3))
-}
-
-// Whether the unit of the function, with its label bound, has that shape.
-fn is_shaped(alloc: Global, unit: &mut Unit) -> Result<bool, Stop> {
-    if bind_label(unit) {
-        let shape = shape_again(alloc, unit)?;
-        Ok(is_of_function(&shape))
-    } else {
-        Ok(false)
-    }
-}
-
-// Makes the unit of the function, and tells whether it is shaped so.
+// Whether the function is shaped so.
 fn is_function_shaped(alloc: Global) -> Result<bool, Stop> {
-    match one_function(alloc) {
-        Ok(mut unit) => is_shaped(alloc, &mut unit),
-        Err(OutOfMemory) => Err(Stop::OutOfMemory),
-    }
+    let unit = read(alloc, FUNCTION)?;
+    let shape = shape_again(alloc, &unit)?;
+    Ok(is_of_function(&shape))
 }
 
 #[test]
-fn shapes_a_function(rt: HostRuntime) -> Result<(), Fail> {
+fn numbers_words_and_shapes_functions(rt: HostRuntime) -> Result<(), Fail> {
+    assert!(rt; are_words_numbered(rt.alloc())?);
+    assert!(rt; is_word_bound_once(rt.alloc())?);
     assert!(rt; is_function_shaped(rt.alloc())?);
-    Ok(())
-}
-
-// `accepted`, or the kind and the line of a unit's refusal.
-fn refusal_of(alloc: Global, unit: &Unit) -> Result<String, AllocError> {
-    match check(alloc, unit) {
-        Ok(_) => told(alloc, Ok(())),
-        Err(stop) => told(alloc, Err(stop)),
-    }
-}
-
-// The refusal of the function, whose label is not bound.
-fn refusal_of_function(alloc: Global) -> Result<String, AllocError> {
-    match one_function(alloc) {
-        Ok(unit) => refusal_of(alloc, &unit),
-        Err(OutOfMemory) => Err(AllocError),
-    }
-}
-
-#[test]
-fn refuses_a_missing_label(rt: HostRuntime) -> Result<(), Fail> {
-    assert_eq!(rt; refusal_of_function(rt.alloc())?.as_str(), "LabelMissing 3");
     Ok(())
 }

@@ -39,11 +39,6 @@ fn names_in(text: &str) -> (u32, u32) {
     (names, words)
 }
 
-#[test]
-fn reads_and_writes_every_name(rt: HostRuntime) {
-    assert_eq!(rt; names_in(NAMES), (196, 196));
-}
-
 // Words, and the operations that they name.
 const OPERATIONS: &[(&[u8], Op)] = &[
     (b"rsbi", Op::Binary(BinaryOp::Rsb, LastOperand::Immediate)),
@@ -106,11 +101,6 @@ fn first_other(table: &[(&'static [u8], Op)]) -> Option<&'static [u8]> {
     None
 }
 
-#[test]
-fn reads_names_as_operations(rt: HostRuntime) {
-    assert_eq!(rt; first_other(OPERATIONS), None);
-}
-
 // Words that name no operation.
 const OTHER_WORDS: &[&[u8]] = &[
     b"", b"add", b"addr_u", b"addr_l", b"ADDR", b"addrr", b"addr ", b"align", b".aligns", b".data",
@@ -126,11 +116,6 @@ fn first_name(words: &[&'static [u8]]) -> Option<&'static [u8]> {
         }
     }
     None
-}
-
-#[test]
-fn knows_no_other_word(rt: HostRuntime) {
-    assert_eq!(rt; first_name(OTHER_WORDS), None);
 }
 
 // Whether an operation's node with these operands is in form.
@@ -227,7 +212,10 @@ fn first_where_not(table: &[(&'static [u8], &[Operand])], taken: bool) -> Option
 }
 
 #[test]
-fn takes_operands_of_its_forms_and_no_others(rt: HostRuntime) {
+fn names_operations_and_takes_operands(rt: HostRuntime) {
+    assert_eq!(rt; names_in(NAMES), (196, 196));
+    assert_eq!(rt; first_other(OPERATIONS), None);
+    assert_eq!(rt; first_name(OTHER_WORDS), None);
     assert_eq!(rt; first_where_not(TAKEN, true), None);
     assert_eq!(rt; first_where_not(NOT_TAKEN, false), None);
 }

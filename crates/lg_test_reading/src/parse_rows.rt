@@ -1,9 +1,8 @@
 // What is made of texts: nodes with their operands, places of labels and bytes of data; and the largest texts.
 
-use crate::rows::{parts, push_other, told};
-use lg_base::Stop;
-use lg_node::{Form, Label, Node, NodeList, Op, Unit};
-use lg_tst::parse;
+use crate::rows::{Kind, Made, Piece, Table, first_other, first_other_made};
+use crate::units::read;
+use lg_node::{Form, Node, NodeList, Op};
 use std::alloc::{AllocError, Global};
 use std::test::Fail;
 
@@ -24,141 +23,83 @@ const NAMES: &str =
         retval_ui retval getarg_c getarg_uc getarg_s getarg_us getarg_i getarg_ui getarg ldr_l ldi_l ldxr_l \
         ldxi_l str_l sti_l stxr_l stxi_l retval_l getarg_l";
 
-// What a text is read as.
-fn read(alloc: Global, text: &[u8]) -> Result<Unit, Stop> {
-    if text.len() > 16_777_216 {
-        return Err(Stop::OutOfMemory);
-    }
-    parse(alloc, text)
-}
+// Labels are bound to nodes and bytes.
+const PLACES: &str =
+    "Node(1)\nNode(3)\nImage(1)\nImage(8)\nImage(9)\n\x1fprolog f: jmpi g .data 16 .c 1 x: .align 8 y: .c 1 z: .code ret g:\x1e\
+        Image(0)\nNode(0)\n\x1f.data 4 word: .s -2 .code main: prolog\nallocai 9 $x movi %r0 $x jmpi main";
 
-// Appends the line and the last operand of each node, in lines.
-fn push_operands(list: &mut String, nodes: &NodeList) -> Result<(), AllocError> {
-    for index in 0..nodes.len() {
-        let node = nodes.node(index);
-        let line = node.line;
-        match node.operands.as_slice().last() {
-            Some(operand) => write!(list, "{line} {operand:?}\n")?,
-            None => write!(list, "{line} none\n")?,
-        }
-    }
-    Ok(())
-}
-
-// Appends the place of each label, in lines.
-fn push_places(list: &mut String, nodes: &NodeList) -> Result<(), AllocError> {
-    for label in 0..nodes.labels() {
-        match nodes.place(Label(label)) {
-            Some(place) => write!(list, "{place:?}\n")?,
-            None => write!(list, "none\n")?,
-        }
-    }
-    Ok(())
-}
-
-// A text, and what is told of it: the places of labels, the lines and last operands of nodes, or the bytes of data.
-struct Reading {
-    text: &'static [u8],
-    places: Option<&'static str>,
-    operands: Option<&'static str>,
-    image: Option<&'static [u8]>,
-}
-
-const READINGS: &[Reading] = &[
-    // labels are bound to nodes and bytes
-    Reading {
-        text: b"prolog f: jmpi g .data 16 .c 1 x: .align 8 y: .c 1 z: .code ret g:",
-        places: Some("Node(1)\nNode(3)\nImage(1)\nImage(8)\nImage(9)\n"),
-        operands: Some("1 none\n1 Label(Label(1))\n1 none\n"),
-        image: None,
-    },
-    // the local stands at -144
-    Reading {
-        text: b".data 4 word: .s -2 .code main: prolog\nallocai 9 $x movi %r0 $x jmpi main",
-        places: Some("Image(0)\nNode(0)\n"),
-        operands: Some("1 none\n2 Slot(0)\n2 Number(18446744073709551472)\n2 Label(Label(1))\n"),
-        image: Some(b"\xfe\xff\0\0"),
-    },
-    // bytes of data
-    Reading {
-        text: b".data 24 .c -1 256 \"a\\n\" 'b' .s 0x1234 .i -2 .align 4 .l $(1 << 40 | 3) .size 1",
-        places: None,
-        operands: None,
-        image: Some(b"\xff\0a\n\0b\x34\x12\xfe\xff\xff\xff\x03\0\0\0\0\x01\0\0\0\0\0\0"),
-    },
-    // arguments and locals: the locals stand at -136, -152 and, in the second function, -136
-    Reading {
-        text: b"prolog arg $a allocai 8 $b arg $c allocai 9 $d\nmovi %r0 $b movi %r0 $d getarg %r0 $c prolog allocai 1 $d movi %r0 $d",
-        places: None,
-        operands: Some(
-            "1 none\n1 Slot(0)\n1 Slot(0)\n1 Slot(1)\n1 Slot(1)\n\
+// Labels; a local that stands at -144; arguments and locals at -136, -152 and, in the second function, -136; and numbers of the first variable argument,
+// which count the `arg`s since the `prolog`.
+const OPERANDS: &str =
+    "1 none\n1 Label(Label(1))\n1 none\n\x1fprolog f: jmpi g .data 16 .c 1 x: .align 8 y: .c 1 z: .code ret g:\x1e\
+        1 none\n2 Slot(0)\n2 Number(18446744073709551472)\n2 Label(Label(1))\n\
+        \x1f.data 4 word: .s -2 .code main: prolog\nallocai 9 $x movi %r0 $x jmpi main\x1e\
+        1 none\n1 Slot(0)\n1 Slot(0)\n1 Slot(1)\n1 Slot(1)\n\
             2 Number(18446744073709551480)\n2 Number(18446744073709551464)\n2 Slot(1)\n\
-            2 none\n2 Slot(0)\n2 Number(18446744073709551480)\n",
-        ),
-        image: None,
-    },
-    // the number of the first variable argument counts the `arg`s since the `prolog`
-    Reading {
-        text: b"prolog va_start %r0 arg $a arg $b ellipsis va_start %r0\nva_arg %r1 %r0 va_end %r0 prolog va_start %v0",
-        places: None,
-        operands: Some(
-            "1 none\n1 Number(0)\n1 Slot(0)\n1 Slot(1)\n1 none\n1 Number(2)\n\
-            2 Reg(R0)\n2 Reg(R0)\n2 none\n2 Number(0)\n",
-        ),
-        image: None,
-    },
+            2 none\n2 Slot(0)\n2 Number(18446744073709551480)\n\
+        \x1fprolog arg $a allocai 8 $b arg $c allocai 9 $d\nmovi %r0 $b movi %r0 $d getarg %r0 $c prolog allocai 1 $d movi %r0 $d\x1e\
+        1 none\n1 Number(0)\n1 Slot(0)\n1 Slot(1)\n1 none\n1 Number(2)\n\
+            2 Reg(R0)\n2 Reg(R0)\n2 none\n2 Number(0)\n\
+        \x1fprolog va_start %r0 arg $a arg $b ellipsis va_start %r0\nva_arg %r1 %r0 va_end %r0 prolog va_start %v0";
+
+// A text of `prolog`, and 1,048,575 times `ret` in lines of their own.
+const FULL: &[Piece] = &[Piece::Of(b"prolog"), Piece::Times(b"\nret", 1_048_575)];
+
+// What stands behind 1,048,576 nodes, and what comes of the whole text.
+const BEHIND_THE_LAST_NODE: &str = "1048576 nodes\x1f x: .data 1 .align 1 note\x1e\
+        TooManyNodes 1048576\x1f ret\x1e\
+        TooManyNodes 1048576\x1f movi\x1e\
+        TooManyNodes 1048576\x1f .align 3\x1e\
+        UnknownName 1048576\x1f nop\x1e\
+        FloatRefused 1048576\x1f x_f";
+
+const TABLES: &[Table] = &[(Kind::Places, &[], PLACES), (Kind::Operands, &[], OPERANDS)];
+
+const LARGEST: &[Table] = &[(Kind::Nodes, FULL, BEHIND_THE_LAST_NODE)];
+
+// A text of 16,777,216 bytes of data, and a label behind them.
+const FULL_DATA: &[Piece] = &[
+    Piece::Of(b".data 16777216 .c \""),
+    Piece::Times(b"a", 16_777_151),
+    Piece::Of(b"\" .size 64 x:"),
 ];
 
-fn are_places(alloc: Global, nodes: &NodeList, wanted: &str) -> Result<bool, AllocError> {
-    let mut list = String::new(alloc);
-    push_places(&mut list, nodes)?;
-    Ok(list.as_str() == wanted)
-}
+// Bytes of data.
+const DATA: &[Made] = &[
+    (
+        Kind::Image,
+        &[Piece::Of(b".data 4 word: .s -2 .code main: prolog\nallocai 9 $x movi %r0 $x jmpi main")],
+        &[Piece::Of(b"\xfe\xff\0\0")],
+    ),
+    (
+        Kind::Image,
+        &[Piece::Of(
+            b".data 24 .c -1 256 \"a\\n\" 'b' .s 0x1234 .i -2 .align 4 .l $(1 << 40 | 3) .size 1",
+        )],
+        &[Piece::Of(b"\xff\0a\n\0b\x34\x12\xfe\xff\xff\xff\x03\0\0\0\0\x01\0\0\0\0\0\0")],
+    ),
+];
 
-fn are_operands(alloc: Global, nodes: &NodeList, wanted: &str) -> Result<bool, AllocError> {
-    let mut list = String::new(alloc);
-    push_operands(&mut list, nodes)?;
-    Ok(list.as_str() == wanted)
-}
-
-// Whether a unit is what is told of it.
-fn is_told(alloc: Global, unit: &Unit, reading: &Reading) -> Result<bool, AllocError> {
-    if let Some(places) = reading.places {
-        if !are_places(alloc, &unit.nodes, places)? {
-            return Ok(false);
-        }
-    }
-    if let Some(operands) = reading.operands {
-        if !are_operands(alloc, &unit.nodes, operands)? {
-            return Ok(false);
-        }
-    }
-    match reading.image {
-        Some(image) => Ok(unit.image.as_slice() == image),
-        None => Ok(true),
-    }
-}
-
-fn is_read(alloc: Global, reading: &Reading) -> Result<bool, AllocError> {
-    match read(alloc, reading.text) {
-        Ok(unit) => is_told(alloc, &unit, reading),
-        Err(_) => Ok(false),
-    }
-}
-
-// The first text of the table that is read otherwise.
-fn first_other(alloc: Global) -> Result<Option<&'static [u8]>, AllocError> {
-    for reading in READINGS {
-        if !is_read(alloc, reading)? {
-            return Ok(Some(reading.text));
-        }
-    }
-    Ok(None)
-}
+const LARGEST_DATA: &[Made] = &[
+    (
+        Kind::Image,
+        FULL_DATA,
+        &[Piece::Times(b"a", 16_777_151), Piece::Times(b"\0", 65)],
+    ),
+    (Kind::Places, FULL_DATA, &[Piece::Of(b"Image(16777216)\n")]),
+];
 
 #[test]
 fn reads_units(rt: HostRuntime) -> Result<(), Fail> {
-    assert_eq!(rt; first_other(rt.alloc())?, None);
+    assert_eq!(rt; first_other(rt.alloc(), TABLES)?, None);
+    assert_eq!(rt; first_other_made(rt.alloc(), DATA)?, None);
+    Ok(())
+}
+
+#[test]
+fn reads_the_largest_units(rt: HostRuntime) -> Result<(), Fail> {
+    assert_eq!(rt; first_other(rt.alloc(), LARGEST)?, None);
+    assert_eq!(rt; first_other_made(rt.alloc(), LARGEST_DATA)?, None);
     Ok(())
 }
 
@@ -225,78 +166,5 @@ fn is_every_instruction_read(alloc: Global) -> Result<bool, AllocError> {
 #[test]
 fn reads_every_instruction(rt: HostRuntime) -> Result<(), Fail> {
     assert!(rt; is_every_instruction_read(rt.alloc())?);
-    Ok(())
-}
-
-// A text of `prolog`, 1,048,575 times `ret` in lines of their own, and what comes behind them.
-fn full(alloc: Global, behind: &str) -> Result<Vec<u8>, AllocError> {
-    let mut text = Vec::new(alloc);
-    text.extend_from_slice(b"prolog")?;
-    for _ in 0..1_048_575u32 {
-        text.extend_from_slice(b"\nret")?;
-    }
-    text.extend_from_slice(behind.as_bytes())?;
-    Ok(text)
-}
-
-// What stands behind 1,048,576 nodes, and what comes of the whole text.
-const BEHIND_THE_LAST_NODE: &str = "1048576 nodes\x1f x: .data 1 .align 1 note\x1e\
-        TooManyNodes 1048576\x1f ret\x1e\
-        TooManyNodes 1048576\x1f movi\x1e\
-        TooManyNodes 1048576\x1f .align 3\x1e\
-        UnknownName 1048576\x1f nop\x1e\
-        FloatRefused 1048576\x1f x_f";
-
-// How many nodes a text has that is full, with these bytes behind it, or the kind and the line of its refusal.
-fn told_of_full(alloc: Global, behind: &str) -> Result<String, AllocError> {
-    let text = full(alloc, behind)?;
-    match read(alloc, &text) {
-        Ok(unit) => format!(in alloc; "{} nodes", unit.nodes.len()),
-        Err(stop) => told(alloc, Err(stop)),
-    }
-}
-
-// The rows of which something else comes.
-fn others_behind(alloc: Global) -> Result<String, AllocError> {
-    let mut others = String::new(alloc);
-    for row in BEHIND_THE_LAST_NODE.split('\x1e') {
-        let (wanted, behind) = parts(row);
-        let found = told_of_full(alloc, behind)?;
-        if found.as_str() != wanted {
-            push_other(&mut others, row, found.as_str())?;
-        }
-    }
-    Ok(others)
-}
-
-#[test]
-fn takes_1048576_nodes_and_no_more(rt: HostRuntime) -> Result<(), Fail> {
-    assert_eq!(rt; others_behind(rt.alloc())?.as_str(), "");
-    Ok(())
-}
-
-// A text of 16,777,216 bytes of data, and a label behind them.
-fn full_data(alloc: Global) -> Result<Vec<u8>, AllocError> {
-    let mut text = Vec::new(alloc);
-    text.extend_from_slice(b".data 16777216 .c \"")?;
-    text.resize(16_777_170, b'a')?;
-    text.extend_from_slice(b"\" .size 64 x:")?;
-    Ok(text)
-}
-
-fn is_full_data_read(alloc: Global) -> Result<bool, AllocError> {
-    let text = full_data(alloc)?;
-    match read(alloc, &text) {
-        Ok(unit) => {
-            let are_placed = are_places(alloc, &unit.nodes, "Image(16777216)\n")?;
-            Ok(are_placed && unit.image.len() == 16_777_216)
-        }
-        Err(_) => Ok(false),
-    }
-}
-
-#[test]
-fn takes_16_mib_of_data(rt: HostRuntime) -> Result<(), Fail> {
-    assert!(rt; is_full_data_read(rt.alloc())?);
     Ok(())
 }

@@ -1,13 +1,10 @@
 // Tokens, values and refusals of texts that were worked out by hand from the grammar.
 
-use crate::rows::parts;
+use crate::rows::{Kind, Made, Piece, Table, first_other, first_other_made, gives, parts};
 use lg_base::{Refusal, RefusalKind};
 use lg_lex::*;
 use std::alloc::{AllocError, Global};
 use std::test::Fail;
-
-// In the tables a row is what comes of its text, then 1F and the text; between rows stands 1E. Of a text comes the kind and the line of its
-// first fault; else `nothing`, the signed value of its one token, or how many tokens it has.
 
 // What is no token.
 const MALFORMED: &str = "BadToken 1\x1f$ (1)\x1e\
@@ -181,23 +178,7 @@ const NO_EXPRESSIONS: &str = "BadExpr 1\x1f$()\x1e\
         BadExpr 1\x1f$(#)\x1e\
         BadExpr 2\x1f\na $(1\n+\n";
 
-// What comes of texts with bytes from 0x80 on.
-const HIGH_BYTES: [(&str, &[u8]); 5] = [
-    ("BadToken 1", b"\x80"),
-    ("BadToken 1", b"a\xc3\xa4"),
-    ("nothing", b"\n# 1 \xff\n"),
-    ("255", b"'\xff'"),
-    ("255", b"$('\xff')"),
-];
-
-// The bytes of strings, and their tokens.
-const STRINGS: &str = "\x1f\"\"\x1e\
-        %ld\n\x1f\"%ld\\n\"\x1e\
-        \x123\x011\x1f\"\\x123\\0011\"\x1e\
-        \t\r\x07\x08\x0c\x0b\\'\"'\x1f\"\\t\\r\\a\\b\\f\\v\\\\\\'\\\"'\"\x1e\
-        /* \x01\n\x534 \0\x1f\"/* \\1\\12\\1234 \0\"";
-
-// The tokens of a text in which most stand with nothing between.
+// The tokens of a text in which most stand with nothing between: kind, line, places and value.
 const GLUED: &str = "Register 1 0 3 0\n\
         Register 1 3 6 0\n\
         Number 1 7 8 1\n\
@@ -213,7 +194,158 @@ const GLUED: &str = "Register 1 0 3 0\n\
         Character 2 38 41 97\n\
         Expression 2 41 45 1\n\
         Number 2 45 46 1\n\
-        Word 2 46 48 0\n";
+        Word 2 46 48 0\n\
+        \x1f%r0%r1 1-2 ret.code\"a\"\"b\"$x$y@puts\n x:'a'$(1)1_a";
+
+const TABLES: &[Table] = &[
+    (Kind::Tokens, &[], MALFORMED),
+    (Kind::Tokens, &[], NOTHING),
+    (Kind::Tokens, &[], NUMBERS),
+    (Kind::Tokens, &[], EXPRESSIONS),
+    (Kind::Tokens, &[], NO_EXPRESSIONS),
+    (Kind::Listed, &[], GLUED),
+];
+
+// Texts with bytes from 0x80 on.
+const HIGH_BYTES: &[Made] = &[
+    (
+        Kind::Tokens,
+        &[Piece::Of(b"\x80")],
+        &[Piece::Of(b"BadToken 1")],
+    ),
+    (
+        Kind::Tokens,
+        &[Piece::Of(b"a\xc3\xa4")],
+        &[Piece::Of(b"BadToken 1")],
+    ),
+    (
+        Kind::Tokens,
+        &[Piece::Of(b"\n# 1 \xff\n")],
+        &[Piece::Of(b"nothing")],
+    ),
+    (Kind::Tokens, &[Piece::Of(b"'\xff'")], &[Piece::Of(b"255")]),
+    (
+        Kind::Tokens,
+        &[Piece::Of(b"$('\xff')")],
+        &[Piece::Of(b"255")],
+    ),
+];
+
+// The most times that a piece may stand in itself, and once more; and long expressions.
+const EXPRESSIONS_OF_PIECES: &[Made] = &[
+    (
+        Kind::Tokens,
+        &[
+            Piece::Of(b"$("),
+            Piece::Times(b"(", 64),
+            Piece::Of(b"1"),
+            Piece::Times(b")", 64),
+            Piece::Of(b")"),
+        ],
+        &[Piece::Of(b"1")],
+    ),
+    (
+        Kind::Tokens,
+        &[
+            Piece::Of(b"$("),
+            Piece::Times(b"(", 65),
+            Piece::Of(b"1"),
+            Piece::Times(b")", 65),
+            Piece::Of(b")"),
+        ],
+        &[Piece::Of(b"BadExpr 1")],
+    ),
+    (
+        Kind::Tokens,
+        &[Piece::Of(b"$("), Piece::Times(b"-", 64), Piece::Of(b"1)")],
+        &[Piece::Of(b"1")],
+    ),
+    (
+        Kind::Tokens,
+        &[Piece::Of(b"$("), Piece::Times(b"-", 65), Piece::Of(b"1)")],
+        &[Piece::Of(b"BadExpr 1")],
+    ),
+    (
+        Kind::Tokens,
+        &[
+            Piece::Of(b"$("),
+            Piece::Times(b"~(", 32),
+            Piece::Of(b"1"),
+            Piece::Times(b")", 32),
+            Piece::Of(b")"),
+        ],
+        &[Piece::Of(b"1")],
+    ),
+    (
+        Kind::Tokens,
+        &[
+            Piece::Of(b"$("),
+            Piece::Times(b"~(", 33),
+            Piece::Of(b"1"),
+            Piece::Times(b")", 33),
+            Piece::Of(b")"),
+        ],
+        &[Piece::Of(b"BadExpr 1")],
+    ),
+    (
+        Kind::Tokens,
+        &[
+            Piece::Of(b"$("),
+            Piece::Times(b"1?1:", 64),
+            Piece::Of(b"1)"),
+        ],
+        &[Piece::Of(b"1")],
+    ),
+    (
+        Kind::Tokens,
+        &[
+            Piece::Of(b"$("),
+            Piece::Times(b"1?1:", 65),
+            Piece::Of(b"1)"),
+        ],
+        &[Piece::Of(b"BadExpr 1")],
+    ),
+    (
+        Kind::Tokens,
+        &[
+            Piece::Of(b"$("),
+            Piece::Times(b"1+", 100_000),
+            Piece::Of(b"1)"),
+        ],
+        &[Piece::Of(b"100001")],
+    ),
+    (
+        Kind::Tokens,
+        &[
+            Piece::Of(b"$("),
+            Piece::Times(b"1?1:", 100_000),
+            Piece::Of(b"1)"),
+        ],
+        &[Piece::Of(b"BadExpr 1")],
+    ),
+    (
+        Kind::Tokens,
+        &[
+            Piece::Of(b"$("),
+            Piece::Times(b" /**/", 1_000_000),
+            Piece::Of(b"1)"),
+        ],
+        &[Piece::Of(b"1")],
+    ),
+    // as many parentheses as a text has room for
+    (
+        Kind::Tokens,
+        &[Piece::Of(b"$"), Piece::Times(b"(", 16_777_215)],
+        &[Piece::Of(b"BadExpr 1")],
+    ),
+];
+
+// The bytes of strings, and their tokens.
+const STRINGS: &str = "\x1f\"\"\x1e\
+        %ld\n\x1f\"%ld\\n\"\x1e\
+        \x123\x011\x1f\"\\x123\\0011\"\x1e\
+        \t\r\x07\x08\x0c\x0b\\'\"'\x1f\"\\t\\r\\a\\b\\f\\v\\\\\\'\\\"'\"\x1e\
+        /* \x01\n\x534 \0\x1f\"/* \\1\\12\\1234 \0\"";
 
 // A lexer, where the text is not too long. What it is promised to give is for proofs, and of no use here.
 fn lexer_of(text: &[u8]) -> Option<Lexer<'_>> {
@@ -255,7 +387,8 @@ fn outcome_of(text: &[u8]) -> Outcome {
     Outcome::TooMany
 }
 
-fn told(alloc: Global, text: &[u8]) -> Result<String, AllocError> {
+/// The value of a text's one token, or how many tokens it has, or the kind and the line of its first fault.
+pub(crate) fn told(alloc: Global, text: &[u8]) -> Result<String, AllocError> {
     match outcome_of(text) {
         Outcome::Nothing => String::from_str(alloc, "nothing"),
         Outcome::One(value) => format!(in alloc; "{value}"),
@@ -263,41 +396,6 @@ fn told(alloc: Global, text: &[u8]) -> Result<String, AllocError> {
         Outcome::Fault(Refusal { kind, line }) => format!(in alloc; "{} {line}", kind.name()),
         Outcome::TooMany => String::from_str(alloc, "too many tokens"),
     }
-}
-
-// Whether this comes of a text.
-fn is_told(alloc: Global, text: &[u8], wanted: &str) -> Result<bool, AllocError> {
-    let found = told(alloc, text)?;
-    Ok(found.as_str() == wanted)
-}
-
-// The first row of a table of which something else comes.
-fn first_other(alloc: Global, table: &'static str) -> Result<Option<&'static str>, AllocError> {
-    for row in table.split('\x1e') {
-        let (wanted, text) = parts(row);
-        if !is_told(alloc, text.as_bytes(), wanted)? {
-            return Ok(Some(row));
-        }
-    }
-    Ok(None)
-}
-
-fn are_high_bytes_told(alloc: Global) -> Result<bool, AllocError> {
-    for (wanted, text) in HIGH_BYTES {
-        if !is_told(alloc, text, wanted)? {
-            return Ok(false);
-        }
-    }
-    Ok(true)
-}
-
-#[test]
-fn reads_texts(rt: HostRuntime) -> Result<(), Fail> {
-    for table in [MALFORMED, NOTHING, NUMBERS, EXPRESSIONS, NO_EXPRESSIONS] {
-        assert_eq!(rt; first_other(rt.alloc(), table)?, None);
-    }
-    assert!(rt; are_high_bytes_told(rt.alloc())?);
-    Ok(())
 }
 
 // Appends a token with its kind, line, places and value, in a line.
@@ -327,16 +425,23 @@ fn push_tokens(list: &mut String, text: &[u8]) -> Result<(), AllocError> {
     Ok(())
 }
 
-fn listed(alloc: Global, text: &[u8]) -> Result<String, AllocError> {
+/// The tokens of a text, each in a line, and then its fault.
+pub(crate) fn listed(alloc: Global, text: &[u8]) -> Result<String, AllocError> {
     let mut list = String::new(alloc);
     push_tokens(&mut list, text)?;
     Ok(list)
 }
 
 #[test]
-fn splits_glued_tokens(rt: HostRuntime) -> Result<(), Fail> {
-    let text = b"%r0%r1 1-2 ret.code\"a\"\"b\"$x$y@puts\n x:'a'$(1)1_a";
-    assert_eq!(rt; listed(rt.alloc(), text)?.as_str(), GLUED);
+fn reads_texts(rt: HostRuntime) -> Result<(), Fail> {
+    assert_eq!(rt; first_other(rt.alloc(), TABLES)?, None);
+    assert_eq!(rt; first_other_made(rt.alloc(), HIGH_BYTES)?, None);
+    Ok(())
+}
+
+#[test]
+fn reads_long_expressions(rt: HostRuntime) -> Result<(), Fail> {
+    assert_eq!(rt; first_other_made(rt.alloc(), EXPRESSIONS_OF_PIECES)?, None);
     Ok(())
 }
 
@@ -352,8 +457,7 @@ fn tokens_of_byte(alloc: Global, byte: u8) -> Result<String, AllocError> {
 
 fn is_byte_read(alloc: Global, byte: u8) -> Result<bool, AllocError> {
     let wanted = tokens_of_byte(alloc, byte)?;
-    let found = listed(alloc, &[byte])?;
-    Ok(found == wanted)
+    gives(alloc, Kind::Listed, &[byte], wanted.as_bytes())
 }
 
 // The first byte that is read otherwise.
@@ -410,7 +514,7 @@ fn has_bytes(token: &[u8], wanted: &[u8]) -> bool {
 fn first_other_string(alloc: Global) -> Result<Option<&'static str>, AllocError> {
     for row in STRINGS.split('\x1e') {
         let (wanted, token) = parts(row);
-        let is_alone = is_told(alloc, token.as_bytes(), "0")?;
+        let is_alone = gives(alloc, Kind::Tokens, token.as_bytes(), b"0")?;
         if !is_alone || !has_bytes(token.as_bytes(), wanted.as_bytes()) {
             return Ok(Some(row));
         }
@@ -422,139 +526,6 @@ fn first_other_string(alloc: Global) -> Result<Option<&'static str>, AllocError>
 fn gives_the_bytes_of_strings(rt: HostRuntime) -> Result<(), Fail> {
     assert_eq!(rt; first_other_string(rt.alloc())?, None);
     assert!(rt; has_bytes(b"\"\xff\\xff\"", b"\xff\xff"));
-    Ok(())
-}
-
-#[test]
-fn gives_no_byte_behind_the_last(rt: HostRuntime) {
     assert!(rt; has_bytes(b"\"/* \\1\\12\\1234 \xff\0\"", b"/* \x01\n\x534 \xff\0"));
-}
-
-// Appends a piece so many times.
-fn repeat(text: &mut Vec<u8>, piece: &[u8], times: u32) -> Result<(), AllocError> {
-    for _ in 0..times {
-        text.extend_from_slice(piece)?;
-    }
-    Ok(())
-}
-
-// An expression of pieces, 1, and what closes each piece: `(1)` from `(`, once, and `)`.
-#[derive(Clone, Copy)]
-struct Nested {
-    piece: &'static [u8],
-    times: u32,
-    close: &'static [u8],
-}
-
-fn push_nested(text: &mut Vec<u8>, nested: Nested) -> Result<(), AllocError> {
-    text.extend_from_slice(b"$(")?;
-    repeat(text, nested.piece, nested.times)?;
-    text.push(b'1')?;
-    repeat(text, nested.close, nested.times)?;
-    text.push(b')')?;
-    Ok(())
-}
-
-// Whether this comes of an expression.
-fn is_nested(alloc: Global, nested: Nested, wanted: &str) -> Result<bool, AllocError> {
-    let mut text = Vec::new(alloc);
-    push_nested(&mut text, nested)?;
-    is_told(alloc, &text, wanted)
-}
-
-// The most times that a piece may stand in itself, and what closes it.
-const LEVELS: &[Nested] = &[
-    Nested {
-        piece: b"(",
-        times: 64,
-        close: b")",
-    },
-    Nested {
-        piece: b"-",
-        times: 64,
-        close: b"",
-    },
-    Nested {
-        piece: b"~(",
-        times: 32,
-        close: b")",
-    },
-    Nested {
-        piece: b"1?1:",
-        times: 64,
-        close: b"",
-    },
-];
-
-// Whether each level is taken, and none more.
-fn are_levels_counted(alloc: Global) -> Result<bool, AllocError> {
-    for nested in LEVELS {
-        let more = Nested {
-            times: nested.times.wrapping_add(1),
-            ..*nested
-        };
-        if !is_nested(alloc, *nested, "1")? || !is_nested(alloc, more, "BadExpr 1")? {
-            return Ok(false);
-        }
-    }
-    Ok(true)
-}
-
-#[test]
-fn counts_levels(rt: HostRuntime) -> Result<(), Fail> {
-    assert!(rt; are_levels_counted(rt.alloc())?);
-    Ok(())
-}
-
-// Long expressions, with what comes of them.
-const LONG: &[(Nested, &str)] = &[
-    (
-        Nested {
-            piece: b"1+",
-            times: 100_000,
-            close: b"",
-        },
-        "100001",
-    ),
-    (
-        Nested {
-            piece: b"1?1:",
-            times: 100_000,
-            close: b"",
-        },
-        "BadExpr 1",
-    ),
-    (
-        Nested {
-            piece: b" /**/",
-            times: 1_000_000,
-            close: b"",
-        },
-        "1",
-    ),
-];
-
-fn are_long_read(alloc: Global) -> Result<bool, AllocError> {
-    for (nested, wanted) in LONG {
-        if !is_nested(alloc, *nested, wanted)? {
-            return Ok(false);
-        }
-    }
-    Ok(true)
-}
-
-// What comes of an expression that opens as many parentheses as a text has room for.
-fn told_of_open(alloc: Global) -> Result<String, AllocError> {
-    let mut open = vec![in alloc; b'('; 16_777_216]?;
-    if let Some(first) = open.first_mut() {
-        *first = b'$';
-    }
-    told(alloc, &open)
-}
-
-#[test]
-fn reads_long_expressions(rt: HostRuntime) -> Result<(), Fail> {
-    assert_eq!(rt; told_of_open(rt.alloc())?.as_str(), "BadExpr 1");
-    assert!(rt; are_long_read(rt.alloc())?);
     Ok(())
 }

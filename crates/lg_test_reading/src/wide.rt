@@ -1,6 +1,5 @@
 // Products and quotients of double words, and parts of words, against values computed with integers of any size.
 
-use crate::rows::push_other;
 use lg_base::wide::{
     div_wide, div_wide_u, mul_high, mul_high_mixed, mul_high_u, sign_part, swap_bytes, zero_part,
 };
@@ -475,15 +474,18 @@ fn is_right(rows: Rows, row: &[u64]) -> bool {
     }
 }
 
-// The rows of a table of which something else comes.
-fn others(alloc: Global, rows: Rows, table: &str) -> Result<String, AllocError> {
-    let mut others = String::new(alloc);
+// The first row of a table of which something else comes.
+fn first_other(
+    alloc: Global,
+    rows: Rows,
+    table: &'static str,
+) -> Result<Option<&'static str>, AllocError> {
     for row in table.lines() {
         if !is_right(rows, &words(alloc, row)?) {
-            push_other(&mut others, row, "something else")?;
+            return Ok(Some(row));
         }
     }
-    Ok(others)
+    Ok(None)
 }
 
 #[test]
@@ -494,7 +496,7 @@ fn computes_wide_words(rt: HostRuntime) -> Result<(), Fail> {
         (Rows::SignedQuotients, SIGNED_QUOTIENTS),
         (Rows::Parts, PARTS),
     ] {
-        assert_eq!(rt; others(rt.alloc(), rows, table)?.as_str(), "");
+        assert_eq!(rt; first_other(rt.alloc(), rows, table)?, None);
     }
     Ok(())
 }

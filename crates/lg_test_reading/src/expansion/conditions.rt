@@ -1,7 +1,6 @@
 // Conditions and their expressions, worked out by hand from the rules of the preprocessor.
 
-use crate::expansion::rows::{first_other_expansion, first_other_refusal, gives};
-use std::alloc::{AllocError, Global};
+use crate::rows::{Kind, Made, Piece, Table, first_other, first_other_made};
 use std::test::Fail;
 
 // Groups that are chosen, and groups that are skipped.
@@ -71,110 +70,149 @@ const REFUSED: &str = "BadDirective 1\x1f#endif\x1e\
         BadMacro 2\x1f#define F(a) a\n#if F(1\n)\n#endif\x1e\
         BadMacro 2\x1f#define F(a) a\n#if F(1, 2)\n#endif";
 
-// So many conditions, one in another, with so many ends.
-fn nested(alloc: Global, condition: &str, count: u32, ends: u32) -> Result<Vec<u8>, AllocError> {
-    let mut text = Vec::new(alloc);
-    for _ in 0..count {
-        text.extend_from_slice(condition.as_bytes())?;
-        text.push(b'\n')?;
-    }
-    text.push(b'x')?;
-    for _ in 0..ends {
-        text.extend_from_slice(b"\n#endif")?;
-    }
-    Ok(text)
-}
+const TABLES: &[Table] = &[
+    (Kind::Lines, &[], GROUPS),
+    (Kind::Lines, &[], EXPRESSIONS),
+    (Kind::Expansion, &[], REFUSED),
+];
 
-// So many line feeds, what stands between, and so many behind it.
-fn around(alloc: Global, before: u32, between: &str, behind: u32) -> Result<Vec<u8>, AllocError> {
-    let mut text = Vec::new(alloc);
-    text.resize(before as usize, b'\n')?;
-    text.extend_from_slice(between.as_bytes())?;
-    for _ in 0..behind {
-        text.push(b'\n')?;
-    }
-    Ok(text)
-}
+// 64 conditions may be open, in skipped groups too, and all have to be closed. Of each condition stand here 64, one more, and one end less.
+const OPEN: &[Made] = &[
+    (
+        Kind::Expansion,
+        &[
+            Piece::Times(b"#if 1\n", 64),
+            Piece::Of(b"x"),
+            Piece::Times(b"\n#endif", 64),
+        ],
+        &[
+            Piece::Times(b"\n", 64),
+            Piece::Of(b"x"),
+            Piece::Times(b"\n", 64),
+        ],
+    ),
+    (
+        Kind::Expansion,
+        &[
+            Piece::Times(b"#if 1\n", 65),
+            Piece::Of(b"x"),
+            Piece::Times(b"\n#endif", 65),
+        ],
+        &[Piece::Of(b"BadDirective 65")],
+    ),
+    (
+        Kind::Expansion,
+        &[
+            Piece::Times(b"#if 1\n", 64),
+            Piece::Of(b"x"),
+            Piece::Times(b"\n#endif", 63),
+        ],
+        &[Piece::Of(b"BadDirective 1")],
+    ),
+    (
+        Kind::Expansion,
+        &[
+            Piece::Times(b"#if 0\n", 64),
+            Piece::Of(b"x"),
+            Piece::Times(b"\n#endif", 64),
+        ],
+        &[Piece::Times(b"\n", 64), Piece::Times(b"\n", 64)],
+    ),
+    (
+        Kind::Expansion,
+        &[
+            Piece::Times(b"#if 0\n", 65),
+            Piece::Of(b"x"),
+            Piece::Times(b"\n#endif", 65),
+        ],
+        &[Piece::Of(b"BadDirective 65")],
+    ),
+    (
+        Kind::Expansion,
+        &[
+            Piece::Times(b"#if 0\n", 64),
+            Piece::Of(b"x"),
+            Piece::Times(b"\n#endif", 63),
+        ],
+        &[Piece::Of(b"BadDirective 1")],
+    ),
+    (
+        Kind::Expansion,
+        &[
+            Piece::Times(b"#ifdef A\n", 64),
+            Piece::Of(b"x"),
+            Piece::Times(b"\n#endif", 64),
+        ],
+        &[Piece::Times(b"\n", 64), Piece::Times(b"\n", 64)],
+    ),
+    (
+        Kind::Expansion,
+        &[
+            Piece::Times(b"#ifdef A\n", 65),
+            Piece::Of(b"x"),
+            Piece::Times(b"\n#endif", 65),
+        ],
+        &[Piece::Of(b"BadDirective 65")],
+    ),
+    (
+        Kind::Expansion,
+        &[
+            Piece::Times(b"#ifdef A\n", 64),
+            Piece::Of(b"x"),
+            Piece::Times(b"\n#endif", 63),
+        ],
+        &[Piece::Of(b"BadDirective 1")],
+    ),
+    (
+        Kind::Expansion,
+        &[
+            Piece::Times(b"#ifndef A\n", 64),
+            Piece::Of(b"x"),
+            Piece::Times(b"\n#endif", 64),
+        ],
+        &[
+            Piece::Times(b"\n", 64),
+            Piece::Of(b"x"),
+            Piece::Times(b"\n", 64),
+        ],
+    ),
+    (
+        Kind::Expansion,
+        &[
+            Piece::Times(b"#ifndef A\n", 65),
+            Piece::Of(b"x"),
+            Piece::Times(b"\n#endif", 65),
+        ],
+        &[Piece::Of(b"BadDirective 65")],
+    ),
+    (
+        Kind::Expansion,
+        &[
+            Piece::Times(b"#ifndef A\n", 64),
+            Piece::Of(b"x"),
+            Piece::Times(b"\n#endif", 63),
+        ],
+        &[Piece::Of(b"BadDirective 1")],
+    ),
+    // one that is closed is open no more
+    (
+        Kind::Expansion,
+        &[
+            Piece::Times(b"#if 1\n", 64),
+            Piece::Of(b"x\n#endif\n#if 1\nx"),
+            Piece::Times(b"\n#endif", 64),
+        ],
+        &[
+            Piece::Times(b"\n", 64),
+            Piece::Of(b"x\n\n\nx"),
+            Piece::Times(b"\n", 64),
+        ],
+    ),
+];
 
 #[test]
 fn chooses_groups(rt: HostRuntime) -> Result<(), Fail> {
-    assert_eq!(rt; first_other_expansion(rt.alloc(), GROUPS)?, None);
-    assert_eq!(rt; first_other_expansion(rt.alloc(), EXPRESSIONS)?, None);
-    Ok(())
-}
-
-#[test]
-fn refuses_conditions(rt: HostRuntime) -> Result<(), Fail> {
-    assert_eq!(rt; first_other_refusal(rt.alloc(), REFUSED)?, None);
-    Ok(())
-}
-
-// Conditions, and what is left of a line between their ends.
-const CONDITIONS: &[(&str, &str)] = &[
-    ("#if 1", "x"),
-    ("#if 0", ""),
-    ("#ifdef A", ""),
-    ("#ifndef A", "x"),
-];
-
-// Whether so many conditions with so many ends give this.
-fn gives_nested(
-    alloc: Global,
-    condition: &str,
-    count: u32,
-    ends: u32,
-    wanted: &[u8],
-) -> Result<bool, AllocError> {
-    let text = nested(alloc, condition, count, ends)?;
-    gives(alloc, wanted, &text)
-}
-
-// Whether 64 of a condition may be open, and all have to be closed.
-fn opens_64(alloc: Global, condition: &str, between: &str) -> Result<bool, AllocError> {
-    let wanted = around(alloc, 64, between, 64)?;
-    Ok(
-        gives_nested(alloc, condition, 64, 64, &wanted)?
-            && gives_nested(alloc, condition, 65, 65, b"BadDirective 65")?
-            && gives_nested(alloc, condition, 64, 63, b"BadDirective 1")?,
-    )
-}
-
-fn first_other_condition(alloc: Global) -> Result<Option<&'static str>, AllocError> {
-    for (condition, between) in CONDITIONS {
-        if !opens_64(alloc, condition, between)? {
-            return Ok(Some(condition));
-        }
-    }
-    Ok(None)
-}
-
-// A text of 64 conditions of which one is closed and another opened, and its expansion: one that is closed is open no more.
-fn push_again(alloc: Global, text: &mut Vec<u8>) -> Result<(), AllocError> {
-    text.extend_from_slice(&nested(alloc, "#if 1", 64, 1)?)?;
-    text.extend_from_slice(b"\n#if 1\n")?;
-    text.extend_from_slice(&nested(alloc, "#if 1", 0, 64)?)?;
-    Ok(())
-}
-
-fn push_expansion(alloc: Global, text: &mut Vec<u8>) -> Result<(), AllocError> {
-    text.extend_from_slice(&around(alloc, 64, "x", 3)?)?;
-    text.push(b'x')?;
-    text.extend_from_slice(&around(alloc, 64, "", 0)?)?;
-    Ok(())
-}
-
-fn opens_again(alloc: Global) -> Result<bool, AllocError> {
-    let mut text = Vec::new(alloc);
-    push_again(alloc, &mut text)?;
-    let mut wanted = Vec::new(alloc);
-    push_expansion(alloc, &mut wanted)?;
-    gives(alloc, &wanted, &text)
-}
-
-// 64 conditions may be open, in skipped groups too.
-#[test]
-fn opens_64_conditions(rt: HostRuntime) -> Result<(), Fail> {
-    assert_eq!(rt; first_other_condition(rt.alloc())?, None);
-    assert!(rt; opens_again(rt.alloc())?);
+    assert_eq!(rt; first_other(rt.alloc(), TABLES)?, None);
+    assert_eq!(rt; first_other_made(rt.alloc(), OPEN)?, None);
     Ok(())
 }

@@ -1,6 +1,6 @@
 // Directives and macros' bodies, worked out by hand from the rules of the preprocessor.
 
-use crate::expansion::rows::{first_other_expansion, first_other_refusal};
+use crate::rows::{Kind, Table, first_other};
 use std::test::Fail;
 
 // What is a directive, and what is none.
@@ -99,16 +99,15 @@ const REFUSED: &str = "BadDirective 1\x1f#define\x1e\
         BadDirective 2\x1f\n#\\\n\\\nfoo\x1e\
         BadDirective 3\x1f#define A 1 \\\n 2\n#foo";
 
-#[test]
-fn expands_around_directives(rt: HostRuntime) -> Result<(), Fail> {
-    assert_eq!(rt; first_other_expansion(rt.alloc(), MARKS)?, None);
-    assert_eq!(rt; first_other_expansion(rt.alloc(), SPLICES)?, None);
-    assert_eq!(rt; first_other_expansion(rt.alloc(), DEFINITIONS)?, None);
-    Ok(())
-}
+const TABLES: &[Table] = &[
+    (Kind::Lines, &[], MARKS),
+    (Kind::Lines, &[], SPLICES),
+    (Kind::Lines, &[], DEFINITIONS),
+    (Kind::Expansion, &[], REFUSED),
+];
 
 #[test]
-fn refuses_directives(rt: HostRuntime) -> Result<(), Fail> {
-    assert_eq!(rt; first_other_refusal(rt.alloc(), REFUSED)?, None);
+fn expands_around_directives(rt: HostRuntime) -> Result<(), Fail> {
+    assert_eq!(rt; first_other(rt.alloc(), TABLES)?, None);
     Ok(())
 }

@@ -1,6 +1,6 @@
 // The replacement of names and of calls, worked out by hand from the rules of the preprocessor.
 
-use crate::expansion::rows::{first_other_expansion, first_other_refusal};
+use crate::rows::{Kind, Table, first_other};
 use std::test::Fail;
 
 // Words that are replaced, hidden or frozen.
@@ -84,16 +84,15 @@ const REFUSED: &str = "BadMacro 2\x1f#define F(a) a\nF(1\n#define X\n)\x1e\
         BadMacro 3\x1f#define F(a) a\n#define C(a) x##a\nC(\nF(1,2))\x1e\
         BadMacro 4\x1f#define F(a) a\n#define A F(1,2)\n\nA\nF(";
 
-#[test]
-fn replaces_words(rt: HostRuntime) -> Result<(), Fail> {
-    assert_eq!(rt; first_other_expansion(rt.alloc(), WORDS)?, None);
-    assert_eq!(rt; first_other_expansion(rt.alloc(), PASTES)?, None);
-    Ok(())
-}
+const TABLES: &[Table] = &[
+    (Kind::Lines, &[], WORDS),
+    (Kind::Lines, &[], PASTES),
+    (Kind::Lines, &[], CALLS),
+    (Kind::Expansion, &[], REFUSED),
+];
 
 #[test]
-fn replaces_calls(rt: HostRuntime) -> Result<(), Fail> {
-    assert_eq!(rt; first_other_expansion(rt.alloc(), CALLS)?, None);
-    assert_eq!(rt; first_other_refusal(rt.alloc(), REFUSED)?, None);
+fn replaces_names(rt: HostRuntime) -> Result<(), Fail> {
+    assert_eq!(rt; first_other(rt.alloc(), TABLES)?, None);
     Ok(())
 }
