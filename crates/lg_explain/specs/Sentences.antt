@@ -23,12 +23,17 @@ text_line file line text = row (file ∷ codes ":" ∷ digits_in Decimal line �
 abbrev pub said_line : (file line sentence : List ℕ) → List ℕ
 said_line file line sentence = row (file ∷ codes ":" ∷ line ∷ codes ": " ∷ sentence ∷ codes "\n" ∷ [])
 
-abbrev pub sentence_line : (file : List ℕ) → Refusal → List ℕ
-sentence_line file refusal = said_line file (digits_in Decimal refusal.line) (sentence_of_kind refusal.kind)
+-- the same with the word that is to blame behind it
+abbrev pub word_line : (file line sentence word : List ℕ) → List ℕ
+word_line file line sentence word = row (file ∷ codes ":" ∷ line ∷ codes ": " ∷ sentence ∷ codes ": " ∷ word ∷ codes "\n" ∷ [])
 
--- the lines behind the line of a refusal of a text
-abbrev pub refusal_lines : (file text : List ℕ) → Refusal → List ℕ
-refusal_lines file text refusal = text_line file refusal.line text ++ sentence_line file refusal
+abbrev pub sentence_line : (file : List ℕ) → Option (List ℕ) → Refusal → List ℕ
+sentence_line file None refusal = said_line file (digits_in Decimal refusal.line) (sentence_of_kind refusal.kind)
+sentence_line file (Some word) refusal = word_line file (digits_in Decimal refusal.line) (sentence_of_kind refusal.kind) word
+
+-- the lines behind the line of a refusal of a text, with the word that it blames
+abbrev pub refusal_lines : (file text : List ℕ) → Option (List ℕ) → Refusal → List ℕ
+refusal_lines file text word refusal = text_line file refusal.line text ++ sentence_line file word refusal
 
 -- ---- undefined steps
 -- a number between words, and two

@@ -1,6 +1,13 @@
-//! What explains an answer: the line of a text, the sentence of a refusal's kind, and why a step is undefined, with what registers hold.
+//! What explains an answer: the line of a text, the sentence of a refusal's kind with the word to blame, and why a step is undefined, with what registers
+//! hold.
 #![tactic(auto)]
 
-mod line;
+mod calls;
+mod homes;
+pub mod line;
+mod made;
 pub mod say;
 pub mod stop;
+mod targets;
+mod twice;
+pub mod word;

@@ -1,7 +1,7 @@
 // What is said of a line.
 
 ghost use Rattle.std.specs.Prelude.{◌≡◌};
-ghost use Rattle.lg_explain.specs.Sentences.{item_words, reason_line, refusal_lines, register_part, register_parts, registers_line, said_line, sentence_line, sentence_of, step_lines, stuck_lines, text_line, where_words, words_of, words_of_two};
+ghost use Rattle.lg_explain.specs.Sentences.{item_words, reason_line, refusal_lines, register_part, register_parts, registers_line, said_line, sentence_line, sentence_of, step_lines, stuck_lines, text_line, where_words, word_line, words_of, words_of_two};
 ghost use Rattle.lg_io.specs.Radixes.{digits_in};
 ghost use Rattle.lg_io.specs.SinkChanges.{WroteTo, on_sink};
 ghost use Rattle.lg_tst.specs.Words.{register_word};
@@ -44,31 +44,53 @@ fn write_said<'a, E: Sink>(
     write_parts(err, &[file, b":", line, b": ", sentence, b"\n"])
 }
 
-// Writes the sentence of a refusal's kind.
-fn write_sentence<E: Sink>(file: &[u8], refusal: Refusal, err: &mut E) -> Result<(), SinkFault>
-    ensures { WroteTo (on_sink E.taken E.faults err.old err.new) result (sentence_line file.now refusal) }
+// Writes a sentence with a word behind it, whose parts are these.
+fn write_blamed<'a, E: Sink>(
+    file: &'a [u8],
+    line: &'a [u8],
+    sentence: &'a [u8],
+    word: &'a [u8],
+    err: &mut E,
+) -> Result<(), SinkFault>
+    ensures { let words = word_line file.entry.now line.entry.now sentence.entry.now word.entry.now in
+        WroteTo (on_sink E.taken E.faults err.old err.new) result words }
 {
-    let number = Digits::of(u64::from(refusal.line), Radix::Decimal);
-    write_said(
-        file,
-        number.as_slice(),
-        refusal.kind.sentence().as_bytes(),
+    write_parts(
         err,
+        &[file, b":", line, b": ", sentence, b": ", word, b"\n"],
     )
 }
 
-/// Writes the line of a text that a refusal names, and the sentence of its kind. After a fault some of the bytes were written, from the first one on,
-/// and not all.
-pub fn write_refused<E: Sink>(
+// Writes the sentence of a refusal's kind, and the word that it blames.
+fn write_sentence<E: Sink>(
     file: &[u8],
-    text: &[u8],
+    word: &Option<Shown>,
     refusal: Refusal,
     err: &mut E,
 ) -> Result<(), SinkFault>
-    ensures { WroteTo (on_sink E.taken E.faults err.old err.new) result (refusal_lines file.now text.now refusal) }
+    ensures { WroteTo (on_sink E.taken E.faults err.old err.new) result (sentence_line file.now word.now refusal) }
+{
+    let number = Digits::of(u64::from(refusal.line), Radix::Decimal);
+    let sentence = refusal.kind.sentence().as_bytes();
+    match word {
+        Some(word) => write_blamed(file, number.as_slice(), sentence, word.as_slice(), err),
+        None => write_said(file, number.as_slice(), sentence, err),
+    }
+}
+
+/// Writes the line of a text that a refusal names, and the sentence of its kind with the word that it blames. After a fault some of the bytes were
+/// written, from the first one on, and not all.
+pub fn write_refused<E: Sink>(
+    file: &[u8],
+    text: &[u8],
+    word: &Option<Shown>,
+    refusal: Refusal,
+    err: &mut E,
+) -> Result<(), SinkFault>
+    ensures { WroteTo (on_sink E.taken E.faults err.old err.new) result (refusal_lines file.now text.now word.now refusal) }
 {
     match write_text(file, refusal.line, text, err) {
-        Ok(()) => write_sentence(file, refusal, err),
+        Ok(()) => write_sentence(file, word, refusal, err),
         Err(fault) => Err(fault),
     }
 }

@@ -20,8 +20,9 @@ use Rattle.lg_io.specs.SinkChanges.{SinkChange}
 use Rattle.lg_node.specs.declared.unit.Unit.{Unit as TextUnit}
 use Rattle.lg_tst.specs.Units.{unit_of}
 use Rattle.lg_prof.specs.declared.tally.Counts.{Counts}
+use Rattle.lg_run.specs.Changes.{TellsWrites}
 use Rattle.lg_run.specs.Explained.{ExplainedIn, IsUndefinedAt, answer_explained, is_explain, is_explained, names_line}
-use Rattle.lg_run.specs.Explanations.{HasStuck, ReadExplains, StuckFor, StuckIn, StuckWhere, WorkExplains, explained_of, is_undefined, read_explained, tells_stuck}
+use Rattle.lg_run.specs.Explanations.{HasStuck, ReadExplains, StuckFor, StuckIn, StuckWhere, WorkExplains, explained_of, is_refused, is_undefined, read_explained, tells_stuck, word_explained, word_of_answer}
 use Rattle.lg_run.specs.ProfileStarts.{RanTells, ReadTold, WorkTells}
 use Rattle.lg_run.specs.Profiles.{TableFor, TableIn, is_run_end, table_of, tells_table}
 use Rattle.lg_run.specs.Refused.{Expands, IsRefusedCall, IsRefusedIn, IsRefusedRead, IsTextIn, IsTextUnder}
@@ -84,8 +85,8 @@ unexplained c held w none other =
     subst (λ b. ExplainedIn b c held w.done.code w.done.steps w.done.answer (explained_of c.mode c.file w)) (sym (ap (λ b. is_explain c.mode && b) other ∙ and_false (is_explain c.mode)))
     (at (is_explain c.mode))
   where
-    at : (b : Bool) → (if b then read_explained c.file w.read w.stuck w.done.answer else []) ≡ []
-    at true = ap (λ r. read_explained c.file r w.stuck w.done.answer) none
+    at : (b : Bool) → (if b then read_explained c.file w.read w.word w.stuck w.done.answer else []) ≡ []
+    at true = ap (λ r. read_explained c.file r w.word w.stuck w.done.answer) none
     at false = refl
 
 -- of what stopped with an answer that is not explained
@@ -101,7 +102,7 @@ stop_unexplained stop.OutOfMemory a refused memory long = ap is_explained (memor
 
 pub not_explained : (c : Command) (held : Option NamedTexts) (w : Worked) → is_explain c.mode ≡ false → WorkExplains c held w
 not_explained c held w other =
-    subst (λ b. ExplainedIn (b && is_explained w.done.answer) c held w.done.code w.done.steps w.done.answer (if b then read_explained c.file w.read w.stuck w.done.answer else [])) (sym other) refl
+    subst (λ b. ExplainedIn (b && is_explained w.done.answer) c held w.done.code w.done.steps w.done.answer (if b then read_explained c.file w.read w.word w.stuck w.done.answer else [])) (sym other) refl
 
 -- ---- the lines of what was read
 -- a text under a name, alone
@@ -162,23 +163,23 @@ module _ (c : Command) (read : List ℕ) (explain : c.mode ≡ mode.Explain) whe
       subst (λ u. IsUndefinedAt c h.ran u steps line) unit
       (subst (λ x. IsUndefinedAt c x r.made.unit steps line) same (record { goes = says.1; bad = says.2; at = says.3 }))
 
-  explained_at : (held : Option NamedTexts) → IsTextUnder held c.file read → (out : SinkChange) (code : Option Assembled) (steps : ℕ) (stuck : Option StuckAt) (a : Answer)
-      → AnswerSays c told code steps out a → StuckIn (is_undefined a) c told code steps stuck
-      → ExplainedIn (is_explained a) c held code steps a (answer_explained c.file read stuck a)
-  explained_at held under out code steps stuck (Ended status) says h = refl
-  explained_at held under out code steps stuck Listed says h = refl
-  explained_at held under out code steps stuck Usage says h = refl
-  explained_at held under out code steps stuck ReadFault says h = refl
-  explained_at held under out code steps stuck WriteFault says h = refl
-  explained_at held under out code steps stuck StepsOut says h = refl
-  explained_at held under out code steps stuck (Fault kind pc) says h = refl
-  explained_at held under out code steps stuck OutOfMemory says h = refl
-  explained_at held under out code steps stuck (Refused r) says h = by (names_line r.kind) refl
+  explained_at : (held : Option NamedTexts) → IsTextUnder held c.file read → (out : SinkChange) (code : Option Assembled) (steps : ℕ) (word : Option (List ℕ)) (stuck : Option StuckAt) (a : Answer)
+      → AnswerSays c told code steps out a → StuckIn (is_undefined a) c told code steps stuck → word ≡ word_of_answer read a
+      → ExplainedIn (is_explained a) c held code steps a (answer_explained c.file read word stuck a)
+  explained_at held under out code steps word stuck (Ended status) says h e = refl
+  explained_at held under out code steps word stuck Listed says h e = refl
+  explained_at held under out code steps word stuck Usage says h e = refl
+  explained_at held under out code steps word stuck ReadFault says h e = refl
+  explained_at held under out code steps word stuck WriteFault says h e = refl
+  explained_at held under out code steps word stuck StepsOut says h e = refl
+  explained_at held under out code steps word stuck (Fault kind pc) says h e = refl
+  explained_at held under out code steps word stuck OutOfMemory says h e = refl
+  explained_at held under out code steps word stuck (Refused r) says h e = by (names_line r.kind) refl
     where
-      by : (b : Bool) → names_line r.kind ≡ b → ExplainedIn b c held code steps (Refused r) (if b then refusal_lines c.file read r else [])
-      by true names = record { read = read; under = under; by = record { refused = read_refused r names says.1; are = refl } }
+      by : (b : Bool) → names_line r.kind ≡ b → ExplainedIn b c held code steps (Refused r) (if b then refusal_lines c.file read word r else [])
+      by true names = record { read = read; under = under; by = record { refused = read_refused r names says.1; are = ap (λ w. refusal_lines c.file read w r) e } }
       by false names = refl
-  explained_at held under out code steps stuck (Undefined line) says h = record {
+  explained_at held under out code steps word stuck (Undefined line) says h e = record {
     read = read;
     under = under;
     by = record {
@@ -194,7 +195,7 @@ module _ (c : Command) (read : List ℕ) (explain : c.mode ≡ mode.Explain) whe
   }
     where
       step_shown : ℕ → Option StuckAt → List ℕ
-      step_shown line s = answer_explained c.file read s (Undefined line)
+      step_shown line s = answer_explained c.file read word s (Undefined line)
 
 -- what is written of what was read explains what was done
 explain_is : (m : Mode) → is_explain m ≡ true → m ≡ mode.Explain
@@ -207,12 +208,12 @@ explain_is mode.Profile e = cc
 explain_is mode.Explain e = refl
 
 pub kept_explains : (c : Command) (read : Vec ℕ) (out : SinkChange) (d : Worked) (w : Worked) → w.done ≡ d.done → w.stuck ≡ d.stuck → w.read ≡ Some read
-    → ReadDone c read.items out d.done → ReadTold c read.items d → ReadExplains c read.items w
-kept_explains c read out d w done stuck kept says told held under = by (is_explain c.mode) refl
+    → w.word ≡ word_explained c.mode read.items d.done.answer → ReadDone c read.items out d.done → ReadTold c read.items d → ReadExplains c read.items w
+kept_explains c read out d w done stuck kept word says told held under = by (is_explain c.mode) refl
   where
     Explains : Bool → Done → Option StuckAt → Option (Vec ℕ) → Type 0
     Explains b e s r =
-        ExplainedIn (b && is_explained e.answer) c held e.code e.steps e.answer (if b then read_explained c.file r s e.answer else [])
+        ExplainedIn (b && is_explained e.answer) c held e.code e.steps e.answer (if b then read_explained c.file r w.word s e.answer else [])
 
     by : (b : Bool) → is_explain c.mode ≡ b → WorkExplains c held w
     by false is = not_explained c held w is
@@ -220,6 +221,39 @@ kept_explains c read out d w done stuck kept says told held under = by (is_expla
         let alike = stands_alone c.file read.items in
         let on = Some (alone c.file read.items) in
         let h = subst (λ b. StuckIn (b && is_undefined d.done.answer) c on d.done.code d.done.steps d.stuck) is (told on alike).1 in
-        let here = explained_at c read.items (explain_is c.mode is) held under out d.done.code d.done.steps d.stuck d.done.answer (says on alike) h in
+        let here = explained_at c read.items (explain_is c.mode is) held under out d.done.code d.done.steps w.word d.stuck d.done.answer (says on alike) h
+        (word ∙ ap (λ b. if b then word_of_answer read.items d.done.answer else None) is) in
         subst (λ b. Explains b w.done w.stuck w.read) (sym is)
         (subst (λ (x : Done × Option StuckAt × Option (Vec ℕ)). Explains true x.0 x.1 x.2) (λ i. (sym done i, sym stuck i, sym kept i)) here)
+
+-- ---- memory that was wanted for the word
+-- a refusal leaves all as it was, so want of memory behind it does too
+still_of : (c : Command) (held : Option NamedTexts) (code : Option Assembled) (steps : ℕ) (out : SinkChange) (a : Answer) → is_refused a ≡ true → AnswerSays c held code steps out a → out.taken' ≡ out.taken
+still_of c held code steps out (Ended status) e h = cc
+still_of c held code steps out Listed e h = cc
+still_of c held code steps out (Undefined line) e h = cc
+still_of c held code steps out (Refused r) e h = h.0.still.out_same
+still_of c held code steps out Usage e h = cc
+still_of c held code steps out ReadFault e h = cc
+still_of c held code steps out WriteFault e h = cc
+still_of c held code steps out StepsOut e h = cc
+still_of c held code steps out (Fault kind pc) e h = cc
+still_of c held code steps out OutOfMemory e h = cc
+
+pub memory_says : (c : Command) (read : List ℕ) (out : SinkChange) (d e : Done) → is_refused d.answer ≡ true → ReadDone c read out d → e.answer ≡ OutOfMemory → e.code ≡ None → e.steps ≡ 0 → ReadDone c read out e
+memory_says c read out d e refused says answer code steps held under =
+    let same = still_of c held d.code d.steps out d.answer refused (says held under) in
+    subst (λ (x : Option Assembled × ℕ × Answer). AnswerSays c held x.0 x.1 out x.2) (λ i. (sym code i, sym steps i, sym answer i))
+    (record { steps_none = refl; out_same = same }, tt)
+
+pub memory_writes : (a : Answer) (out : SinkChange) → is_refused a ≡ true → TellsWrites a out → TellsWrites OutOfMemory out
+memory_writes (Ended status) out e h = cc
+memory_writes Listed out e h = cc
+memory_writes (Undefined line) out e h = cc
+memory_writes (Refused r) out e h = h
+memory_writes Usage out e h = cc
+memory_writes ReadFault out e h = cc
+memory_writes WriteFault out e h = cc
+memory_writes StepsOut out e h = cc
+memory_writes (Fault kind pc) out e h = cc
+memory_writes OutOfMemory out e h = cc

@@ -11,6 +11,7 @@ use Rattle.lg_command.specs.declared.command.Mode.{Mode}
 use Rattle.lg_command.specs.declared.command.Mode.TheVariants as mode
 use Rattle.lg_explain.specs.Sentences.{refusal_lines, step_lines}
 use Rattle.lg_explain.specs.Stops.{IsStuck}
+use Rattle.lg_explain.specs.Words.{word_told}
 use Rattle.lg_explain.specs.declared.stop.StuckAt.{StuckAt}
 use Rattle.lg_io.specs.NamedTexts.{NamedTexts}
 use Rattle.lg_meaning.specs.Texts.{line_at}
@@ -76,10 +77,10 @@ abbrev pub explains : Mode → Answer → Bool
 explains m answer = is_explain m && is_explained answer
 
 -- ---- what they are
--- what was read is refused so, and the lines are those of its line and of the kind
+-- what was read is refused so, and the lines are those of its line, of the kind, and of the word that the kind blames in what was read
 pub record RefusalIsExplained (c : Command) (read : List ℕ) (refusal : Refusal) (lines : List ℕ) : Type 0 where
   pub refused : IsRefusedRead c read refusal
-  pub are : lines ≡ refusal_lines c.file read refusal
+  pub are : lines ≡ refusal_lines c.file read (word_told read refusal.kind) refusal
 
 -- the first step of the meaning that is undefined is the one behind so many, at this line
 pub record IsUndefinedAt (c : Command) (code : Assembled) (unit : TextUnit) (steps line : ℕ) : Type 0 where
@@ -119,22 +120,22 @@ abbrev pub ExplainSays : Option Command → Option NamedTexts → Option Assembl
 ExplainSays None held code steps answer lines = lines ≡ []
 ExplainSays (Some c) held code steps answer lines = ExplainedIn (explains c.mode answer) c held code steps answer lines
 
--- ---- what is written of what was read, and of the step before which the machine stood
+-- ---- what is written of what was read, of the word to blame, and of the step before which the machine stood
 abbrev pub step_explained : (file read : List ℕ) (line : ℕ) → Option StuckAt → List ℕ
 step_explained file read line None = []
 step_explained file read line (Some stuck) = step_lines file read line stuck
 
-abbrev pub refusal_explained : (file read : List ℕ) → Refusal → List ℕ
-refusal_explained file read refusal = if names_line refusal.kind then refusal_lines file read refusal else []
+abbrev pub refusal_explained : (file read : List ℕ) → Option (List ℕ) → Refusal → List ℕ
+refusal_explained file read word refusal = if names_line refusal.kind then refusal_lines file read word refusal else []
 
-abbrev pub answer_explained : (file read : List ℕ) → Option StuckAt → Answer → List ℕ
-answer_explained file read stuck (Ended status) = []
-answer_explained file read stuck Listed = []
-answer_explained file read stuck (Undefined line) = step_explained file read line stuck
-answer_explained file read stuck (Refused refusal) = refusal_explained file read refusal
-answer_explained file read stuck Usage = []
-answer_explained file read stuck ReadFault = []
-answer_explained file read stuck WriteFault = []
-answer_explained file read stuck StepsOut = []
-answer_explained file read stuck (Fault kind pc) = []
-answer_explained file read stuck OutOfMemory = []
+abbrev pub answer_explained : (file read : List ℕ) → (word : Option (List ℕ)) → Option StuckAt → Answer → List ℕ
+answer_explained file read word stuck (Ended status) = []
+answer_explained file read word stuck Listed = []
+answer_explained file read word stuck (Undefined line) = step_explained file read line stuck
+answer_explained file read word stuck (Refused refusal) = refusal_explained file read word refusal
+answer_explained file read word stuck Usage = []
+answer_explained file read word stuck ReadFault = []
+answer_explained file read word stuck WriteFault = []
+answer_explained file read word stuck StepsOut = []
+answer_explained file read word stuck (Fault kind pc) = []
+answer_explained file read word stuck OutOfMemory = []

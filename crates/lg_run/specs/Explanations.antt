@@ -6,6 +6,7 @@ use Rattle.lg_carry.specs.Agreement.{shape_of_unit}
 use Rattle.lg_command.specs.Commands.{Command}
 use Rattle.lg_command.specs.declared.command.Mode.{Mode}
 use Rattle.lg_explain.specs.Stops.{IsStuck}
+use Rattle.lg_explain.specs.Words.{word_told}
 use Rattle.lg_explain.specs.declared.stop.StuckAt.{StuckAt}
 use Rattle.lg_io.specs.NamedTexts.{NamedTexts}
 use Rattle.lg_mean.specs.declared.run.RunEnd.{RunEnd}
@@ -67,14 +68,42 @@ abbrev pub StuckIn : Bool → Command → Option NamedTexts → Option Assembled
 StuckIn false c held code steps stuck = stuck ≡ None
 StuckIn true c held code steps stuck = HasStuck c held code steps stuck
 
+abbrev pub is_refused : Answer → Bool
+is_refused (Ended status) = false
+is_refused Listed = false
+is_refused (Undefined line) = false
+is_refused (Refused refusal) = true
+is_refused Usage = false
+is_refused ReadFault = false
+is_refused WriteFault = false
+is_refused StepsOut = false
+is_refused (Fault kind pc) = false
+is_refused OutOfMemory = false
+
+-- the word that an answer blames in what was read, in the mode `explain`
+abbrev pub word_of_answer : (read : List ℕ) → Answer → Option (List ℕ)
+word_of_answer read (Ended status) = None
+word_of_answer read Listed = None
+word_of_answer read (Undefined line) = None
+word_of_answer read (Refused refusal) = word_told read refusal.kind
+word_of_answer read Usage = None
+word_of_answer read ReadFault = None
+word_of_answer read WriteFault = None
+word_of_answer read StepsOut = None
+word_of_answer read (Fault kind pc) = None
+word_of_answer read OutOfMemory = None
+
+abbrev pub word_explained : Mode → (read : List ℕ) → Answer → Option (List ℕ)
+word_explained m read answer = if is_explain m then word_of_answer read answer else None
+
 -- the lines that explain an answer, where something was read
-abbrev pub read_explained : (file : List ℕ) → Option (Vec ℕ) → Option StuckAt → Answer → List ℕ
-read_explained file None stuck answer = []
-read_explained file (Some read) stuck answer = answer_explained file read.items stuck answer
+abbrev pub read_explained : (file : List ℕ) → Option (Vec ℕ) → (word : Option (List ℕ)) → Option StuckAt → Answer → List ℕ
+read_explained file None word stuck answer = []
+read_explained file (Some read) word stuck answer = answer_explained file read.items word stuck answer
 
 -- and what was done
 abbrev pub explained_of : Mode → (file : List ℕ) → Worked → List ℕ
-explained_of m file w = if is_explain m then read_explained file w.read w.stuck w.done.answer else []
+explained_of m file w = if is_explain m then read_explained file w.read w.word w.stuck w.done.answer else []
 
 -- what is said of them: of what was done for a command, and with what stands under the name of the file
 abbrev pub WorkExplains : Command → Option NamedTexts → Worked → Type 0

@@ -1,6 +1,6 @@
 // Explaining an answer.
 
-ghost use Rattle.std.specs.Prelude.{◌≡◌, ◌≤◌, Ok, None, length};
+ghost use Rattle.std.specs.Prelude.{◌≡◌, ◌≤◌, true, Ok, None, length, IfOk, OnErr};
 ghost use Rattle.lg_base.specs.Arguments.{args_of, most_args, texts_of};
 ghost use Rattle.lg_carry.specs.Agreement.{Agrees};
 ghost use Rattle.lg_command.specs.Commands.{IsInRange, shown};
@@ -12,9 +12,10 @@ ghost use Rattle.lg_meaning.specs.Fits.{Fits};
 ghost use Rattle.lg_node.specs.Shapes.{IsChecked};
 ghost use Rattle.lg_run.specs.Changes.{TellsWrites};
 ghost use Rattle.lg_run.specs.Explained.{answer_explained, is_explain, names_line, refusal_explained, step_explained};
-ghost use Rattle.lg_run.specs.Explanations.{IsStepUndefined, StuckWhere, explained_of, is_undefined, read_explained};
+ghost use Rattle.lg_run.specs.Explanations.{IsStepUndefined, StuckWhere, explained_of, is_refused, is_undefined, read_explained, word_explained};
 ghost use Rattle.lg_run.specs.Means.{MeantFrom, answer_of, meaning_from};
 ghost use Rattle.lg_run.specs.ProfileStarts.{RanTells};
+ghost use Rattle.lg_run.specs.Refused.{most_text};
 ghost use Rattle.lg_run.specs.Work.{RanSays};
 ghost use Rattle.lg_tst.specs.Answers.{IsWhole};
 
@@ -25,10 +26,12 @@ use crate::reading::Accepted;
 use crate::run::Ran;
 use crate::work::not_run;
 use lg_asm::Code;
-use lg_base::{ArgImage, Refusal, RefusalKind};
+use lg_base::{ArgImage, OutOfMemory, Refusal, RefusalKind};
 use lg_command::{Command, Mode};
+use lg_explain::line::Shown;
 use lg_explain::say::{write_refused, write_undefined};
 use lg_explain::stop::{StuckAt, stuck_at};
+use lg_explain::word::blamed_word;
 use lg_io::{Sink, SinkFault};
 use lg_mean::{Portable, RunEnd};
 use lg_meaning::laws::steps_are_those_of_the_meaning;
@@ -108,6 +111,29 @@ pub fn run_explain<O: Sink>(
     }
 }
 
+// ---- the word
+
+/// The word that an answer blames in what was read, which has at most 16,777,216 bytes, where answers are explained in the mode. Memory is wanted for it only
+/// where the answer is a refusal.
+pub fn blamed_word_of(
+    alloc: Global,
+    mode: Mode,
+    read: &[u8],
+    answer: Answer,
+) -> Result<Option<Shown>, OutOfMemory>
+    requires { length read.now ≤ most_text }
+    ensures word { IfOk result (λ word. word ≡ word_explained mode read.now answer) }
+    ensures refused { OnErr result (is_refused answer ≡ true) }
+{
+    if !is_explain(mode) {
+        return Ok(None);
+    }
+    match answer {
+        Answer::Refused(refusal) => blamed_word(alloc, refusal.kind, read),
+        _ => Ok(None),
+    }
+}
+
 // ---- the lines
 
 // Whether a kind of refusal names a line.
@@ -120,17 +146,18 @@ fn names_line(kind: RefusalKind) -> bool
     )
 }
 
-// Writes what explains a refusal of what was read.
+// Writes what explains a refusal of what was read, with the word that it blames.
 fn write_refusal<E: Sink>(
     file: &str,
     read: &[u8],
+    word: &Option<Shown>,
     refusal: Refusal,
     err: &mut E,
 ) -> Result<(), SinkFault>
-    ensures { WroteTo (on_sink E.taken E.faults err.old err.new) result (refusal_explained file.now read.now refusal) }
+    ensures { WroteTo (on_sink E.taken E.faults err.old err.new) result (refusal_explained file.now read.now word.now refusal) }
 {
     if names_line(refusal.kind) {
-        write_refused(file.as_bytes(), read, refusal, err)
+        write_refused(file.as_bytes(), read, word, refusal, err)
     } else {
         Ok(())
     }
@@ -156,15 +183,16 @@ fn write_step<E: Sink>(
 fn write_answer<E: Sink>(
     file: &str,
     read: &[u8],
+    word: &Option<Shown>,
     stuck: &Option<StuckAt>,
     answer: Answer,
     err: &mut E,
 ) -> Result<(), SinkFault>
-    ensures { WroteTo (on_sink E.taken E.faults err.old err.new) result (answer_explained file.now read.now stuck.now answer) }
+    ensures { WroteTo (on_sink E.taken E.faults err.old err.new) result (answer_explained file.now read.now word.now stuck.now answer) }
 {
     match answer {
         Answer::Undefined { line } => write_step(file, read, line, stuck, err),
-        Answer::Refused(refusal) => write_refusal(file, read, refusal, err),
+        Answer::Refused(refusal) => write_refusal(file, read, word, refusal, err),
         _ => Ok(()),
     }
 }
@@ -173,14 +201,15 @@ fn write_answer<E: Sink>(
 fn write_read<E: Sink>(
     file: &str,
     read: &Option<Vec<u8>>,
+    word: &Option<Shown>,
     stuck: &Option<StuckAt>,
     answer: Answer,
     err: &mut E,
 ) -> Result<(), SinkFault>
-    ensures { WroteTo (on_sink E.taken E.faults err.old err.new) result (read_explained file.now read.now stuck.now answer) }
+    ensures { WroteTo (on_sink E.taken E.faults err.old err.new) result (read_explained file.now read.now word.now stuck.now answer) }
 {
     match read {
-        Some(read) => write_answer(file, read, stuck, answer, err),
+        Some(read) => write_answer(file, read, word, stuck, answer, err),
         None => Ok(()),
     }
 }
@@ -202,7 +231,14 @@ pub fn write_explained<E: Sink>(
     ensures { WroteTo (on_sink E.taken E.faults err.old err.new) result (explained_of mode file.now worked.now) }
 {
     if is_explain(mode) {
-        write_read(file, &worked.read, &worked.stuck, worked.done.answer, err)
+        write_read(
+            file,
+            &worked.read,
+            &worked.word,
+            &worked.stuck,
+            worked.done.answer,
+            err,
+        )
     } else {
         Ok(())
     }

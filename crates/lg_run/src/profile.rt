@@ -29,6 +29,7 @@ use lg_asm::Code;
 use lg_base::{ArgImage, OutOfMemory};
 use lg_command::Command;
 use lg_cpu::{Cpu, CpuStep};
+use lg_explain::line::Shown;
 use lg_explain::stop::StuckAt;
 use lg_io::{Sink, SinkFault};
 use lg_mean::Portable;
@@ -58,6 +59,8 @@ pub struct Worked {
     pub stuck: Option<StuckAt>,
     /// What was read and expanded, where that was done.
     pub read: Option<Vec<u8>>,
+    /// The word that a refusal of it blames, in the mode `explain`.
+    pub word: Option<Shown>,
 }
 
 /// What ran, and nothing besides.
@@ -73,13 +76,14 @@ pub fn untold_run(ran: Ran) -> Profiled
 
 /// What was done, and nothing besides.
 pub fn untold(done: Done) -> Worked
-    ensures { (result.done ≡ done) × (result.tally ≡ None) × (result.stuck ≡ None) × (result.read ≡ None) }
+    ensures { (result.done ≡ done) × (result.tally ≡ None) × (result.stuck ≡ None) × (result.read ≡ None) × (result.word ≡ None) }
 {
     Worked {
         done,
         tally: None,
         stuck: None,
         read: None,
+        word: None,
     }
 }
 

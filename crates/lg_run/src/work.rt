@@ -25,7 +25,7 @@ ghost use Rattle.lg_run.specs.Work.{RanSays, ReadDone, TellsNoRead, TextDone, Un
 
 use crate::answer::{Answer, Done};
 use crate::back::do_back;
-use crate::explain::run_explain;
+use crate::explain::{blamed_word_of, run_explain};
 use crate::listing::list_code;
 use crate::made;
 use crate::mean::run_meaning;
@@ -34,9 +34,10 @@ use crate::reading::{Accepted, read_unit};
 use crate::run::{Ran, run};
 use crate::source::{ReadStop, read_text};
 use lg_asm::{Code, assemble};
-use lg_base::{ArgImage, Refusal, RefusalKind, Stop, args_image};
+use lg_base::{ArgImage, OutOfMemory, Refusal, RefusalKind, Stop, args_image};
 use lg_command::{Command, Mode};
 use lg_cpu::Cpu;
+use lg_explain::line::Shown;
 use lg_io::{Sink, Texts};
 use lg_mean::Portable;
 use lg_pre::expand;
@@ -242,6 +243,7 @@ fn do_unit<O: Sink>(
                 tally: profiled.tally,
                 stuck: profiled.stuck,
                 read: None,
+                word: None,
             }
         }
         Err(stop) => untold(without_code(stopped(stop))),
@@ -296,12 +298,13 @@ fn do_read<O: Sink>(
     }
 }
 
-// What was done with what was read, which is kept.
-fn keep(worked: Worked, read: Vec<u8>) -> Worked
+// What was done with what was read, which is kept with the word that is to blame.
+fn keep(worked: Worked, read: Vec<u8>, word: Option<Shown>) -> Worked
     ensures done { result.done ≡ worked.done }
     ensures tally { result.tally ≡ worked.tally }
     ensures stuck { result.stuck ≡ worked.stuck }
     ensures read { result.read ≡ Some read }
+    ensures word { result.word ≡ word }
 {
     let Worked {
         done,
@@ -314,10 +317,11 @@ fn keep(worked: Worked, read: Vec<u8>) -> Worked
         tally,
         stuck,
         read: Some(read),
+        word,
     }
 }
 
-// Expands what was read, does what is asked for, and keeps what was read.
+// Expands what was read, does what is asked for, and keeps what was read, with the word that a refusal blames.
 fn do_kept<O: Sink>(
     alloc: Global,
     command: &Command<'_>,
@@ -337,7 +341,10 @@ fn do_kept<O: Sink>(
     ensures reads { TellsNoRead result.done.answer }
 {
     let worked = do_read(alloc, command, args, &read, out);
-    keep(worked, read)
+    match blamed_word_of(alloc, command.mode, &read, worked.done.answer) {
+        Ok(word) => keep(worked, read, word),
+        Err(OutOfMemory) => untold(without_code(Answer::OutOfMemory)),
+    }
 }
 
 // A file that is expanded is read, and the arguments fit.

@@ -1,0 +1,25 @@
+use Rattle.std.proofs.Common.{◌≡◌, ℕ, Option, None, length, sym, ap, ◌∙◌, arith}
+use Rattle.lg_node.specs.Functions.{home, home_of, open_behind}
+use Rattle.lg_node.proofs.TableLemmas.{count_push, table_push, table_all}
+use Rattle.lg_node.proofs.WalkLemmas.{home_here, home_past, open_start, open_on}
+use Rattle.lg_explain.proofs.homes.homes.Goals as goal
+
+pub loop-index-init : goal.loop-index-init
+loop-index-init c = record {
+  count = ap length c.new-homes.ensures.items;
+  homes = λ k h. absurd (omega arith);
+  current = sym (open_start c.args.nodes.now.nodes);
+}
+
+pub loop-index-preserved : goal.loop-index-preserved
+loop-index-preserved c =
+    let i = c.loop-index.index in
+    let home_is : c.home_of-home.result ≡ home c.args.nodes.now.nodes i = c.home_of-home.ensures ∙ ap (λ (o : Option ℕ). home_of o i c.node-op.result.op) c.loop-index.invariant.current ∙ sym (home_here c.args.nodes.now.nodes i c.node-op.result (sym c.node-op.ensures.node)) in
+    record {
+      count = count_push c.loop-index.homes.items c.push.new.self.items c.home_of-home.result i c.in_ok-push.ensures.items c.loop-index.invariant.count;
+      homes = table_push (home c.args.nodes.now.nodes) c.loop-index.homes.items c.push.new.self.items c.home_of-home.result None i c.in_ok-push.ensures.items c.loop-index.invariant.count home_is c.loop-index.invariant.homes;
+      current = c.open_behind-current.ensures ∙ ap (λ (o : Option ℕ). open_behind o c.node-op.result.op) (home_is ∙ home_here c.args.nodes.now.nodes i c.node-op.result (sym c.node-op.ensures.node)) ∙ sym (open_on c.args.nodes.now.nodes i c.node-op.result (sym c.node-op.ensures.node));
+    }
+
+pub returns : goal.returns
+returns c = table_all (home c.args.nodes.now.nodes) c.loop-index.homes.items None c.loop-index.index (length c.args.nodes.now.nodes) c.loop-index.invariant.count (omega arith) c.loop-index.invariant.homes (home_past c.args.nodes.now.nodes)

@@ -1,0 +1,6 @@
+use Rattle.std.proofs.Common.{◌≡◌, None}
+use Rattle.lg_explain.specs.Blames.{first_of, missing_at, of_node}
+use Rattle.lg_explain.proofs.targets.first_missing.Given as goal
+
+abbrev pub invariant-loop-index : goal.invariant-loop-index
+invariant-loop-index l = first_of (of_node (missing_at l.nodes) l.nodes) l.index ≡ None

@@ -1,0 +1,122 @@
+// Labels that stand where a call is being prepared.
+
+ghost use Rattle.std.specs.Prelude.{◌≡◌, ◌<◌, length, is_some};
+ghost use Rattle.std.specs.Option.{option_flatten};
+ghost use Rattle.lg_explain.specs.Blames.{bad_call_at, first_in, label_at};
+ghost use Rattle.lg_explain.specs.Calls.{is_bad, variadic_behind, varies_by};
+ghost use Rattle.lg_node.specs.Checks.{breaks_preparation, is_arg, is_ellipsis, is_out_of_turn, needs_preparation};
+ghost use Rattle.lg_node.specs.Labels.{is_labelled};
+
+use lg_node::{ControlOp, Label, NodeList, Op, PlainOp};
+
+// Whether an operation stands only where a call is being prepared.
+fn needs_preparation(op: Op) -> bool
+    ensures { result ≡ needs_preparation op }
+{
+    matches!(op, Op::Control(ControlOp::Pusharg | ControlOp::Finish, _))
+}
+
+// Whether an operation may not stand where a call is being prepared.
+fn breaks_preparation(op: Op) -> bool
+    ensures { result ≡ breaks_preparation op }
+{
+    matches!(
+        op,
+        Op::Branch(_, _)
+            | Op::BranchSum(_, _)
+            | Op::Control(ControlOp::Jmp | ControlOp::Call | ControlOp::Ret, _)
+            | Op::Plain(PlainOp::Prepare | PlainOp::Ret | PlainOp::Epilog)
+    )
+}
+
+// Whether an operation is `ellipsis`.
+fn is_ellipsis(op: Op) -> bool
+    ensures { result ≡ is_ellipsis op }
+{
+    matches!(op, Op::Plain(PlainOp::Ellipsis))
+}
+
+// Whether an operation is `arg`.
+fn is_arg(op: Op) -> bool
+    ensures { result ≡ is_arg op }
+{
+    matches!(op, Op::Plain(PlainOp::Arg))
+}
+
+// Whether an operation may not stand behind a function's own `ellipsis`, or only there.
+fn is_out_of_turn(varies: bool, op: Op) -> bool
+    ensures { result ≡ is_out_of_turn varies op }
+{
+    if varies {
+        is_arg(op)
+    } else {
+        matches!(op, Op::Plain(PlainOp::VaStart))
+    }
+}
+
+// Whether an operation is out of place: of a call that is being prepared it is known whether an `ellipsis` came.
+fn is_bad(call: Option<bool>, varies: bool, labelled: bool, op: Op) -> bool
+    ensures { result ≡ is_bad call varies labelled op }
+{
+    match call {
+        None => {
+            needs_preparation(op) || (varies && is_ellipsis(op)) || is_out_of_turn(varies, op)
+        }
+        Some(variadic) => {
+            labelled
+                || breaks_preparation(op)
+                || (variadic && is_ellipsis(op))
+                || is_out_of_turn(varies, op)
+        }
+    }
+}
+
+// What is known of it behind an operation.
+fn variadic_behind(call: Option<bool>, op: Op) -> Option<bool>
+    ensures { result ≡ variadic_behind call op }
+{
+    match (call, op) {
+        (_, Op::Plain(PlainOp::Prepare)) => Some(false),
+        (_, Op::Control(ControlOp::Finish, _)) => None,
+        (Some(_), Op::Plain(PlainOp::Ellipsis)) => Some(true),
+        _ => call,
+    }
+}
+
+// Whether the open function has variable arguments, behind an operation.
+fn varies_by(varies: bool, call: Option<bool>, op: Op) -> bool
+    ensures { result ≡ varies_by varies call op }
+{
+    match (call, op) {
+        (_, Op::Plain(PlainOp::Prolog)) => false,
+        (None, Op::Plain(PlainOp::Ellipsis)) => true,
+        _ => varies,
+    }
+}
+
+// The first label that is bound at a node.
+fn label_at(nodes: &NodeList, index: u32) -> Option<Label>
+    requires { index < length nodes.now.nodes }
+    ensures label { result ≡ label_at nodes.now.places index }
+    ensures labelled { is_labelled nodes.now.places index ≡ is_some result }
+{
+    nodes.first_at(index)
+}
+
+/// The label that is bound at the first node that is out of place in the preparing of a call, where a call is being prepared there.
+pub fn first_between(nodes: &NodeList) -> Option<Label>
+    ensures { result ≡ option_flatten (first_in (bad_call_at nodes.now) nodes.now) }
+{
+    let mut call = None;
+    let mut varies = false;
+    for index in 0..nodes.len() {
+        let op = nodes.node(index).op;
+        let label = label_at(nodes, index);
+        if is_bad(call, varies, label.is_some(), op) {
+            return if call.is_some() { label } else { None };
+        }
+        varies = varies_by(varies, call, op);
+        call = variadic_behind(call, op);
+    }
+    None
+}
