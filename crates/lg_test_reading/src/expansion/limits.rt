@@ -176,12 +176,18 @@ const CALLS: &[Table] = &[
     (Kind::Expansion, CALLS_201, "ExpandTooMuch 2\x1f 2"),
 ];
 
-const TABLES: &[Table] = &[
-    (Kind::Expansion, SUM, SUMS),
+const REPLACED: &[Table] = &[(Kind::Expansion, SUM, SUMS)];
+
+const KEPT: &[Table] = &[
     (Kind::Expansion, SPACED, BEHIND_SPACED),
     (Kind::Expansion, PASTED, BEHIND_PASTED),
-    (Kind::Expansion, FULL, BEHIND_THE_LAST_BYTE),
-    (Kind::Expansion, LONG_COMMENT, FIRST),
+];
+
+const FILLED: &[Table] = &[(Kind::Expansion, FULL, BEHIND_THE_LAST_BYTE)];
+
+const FAULTS: &[Table] = &[(Kind::Expansion, LONG_COMMENT, FIRST)];
+
+const LISTS: &[Table] = &[
     (Kind::Expansion, DOUBLED_40, "out of memory\x1f)"),
     (Kind::Expansion, DOUBLED_10, "\n\n\x1f)"),
     (Kind::Expansion, LISTS_12, "\n\n\x1f)"),
@@ -204,9 +210,38 @@ fn nests_200_expansions(rt: HostRuntime) -> Result<(), Fail> {
 }
 
 #[test]
-fn keeps_limits(rt: HostRuntime) -> Result<(), Fail> {
+fn replaces_16_mib(rt: HostRuntime) -> Result<(), Fail> {
+    assert_eq!(rt; first_other(rt.alloc(), REPLACED)?, None);
+    Ok(())
+}
+
+#[test]
+fn counts_bodies_as_they_are_kept(rt: HostRuntime) -> Result<(), Fail> {
+    assert_eq!(rt; first_other(rt.alloc(), KEPT)?, None);
+    Ok(())
+}
+
+#[test]
+fn gives_16_mib(rt: HostRuntime) -> Result<(), Fail> {
     assert_eq!(rt; made(rt.alloc(), FULL_EXPANSION)?.len(), 16_777_216);
-    assert_eq!(rt; first_other(rt.alloc(), TABLES)?, None);
+    assert_eq!(rt; first_other(rt.alloc(), FILLED)?, None);
+    Ok(())
+}
+
+#[test]
+fn tells_the_first_fault(rt: HostRuntime) -> Result<(), Fail> {
+    assert_eq!(rt; first_other(rt.alloc(), FAULTS)?, None);
+    Ok(())
+}
+
+#[test]
+fn wants_memory_for_long_lists(rt: HostRuntime) -> Result<(), Fail> {
+    assert_eq!(rt; first_other(rt.alloc(), LISTS)?, None);
+    Ok(())
+}
+
+#[test]
+fn keeps_whole_texts(rt: HostRuntime) -> Result<(), Fail> {
     assert_eq!(rt; first_other_made(rt.alloc(), LONG)?, None);
     Ok(())
 }
