@@ -9,6 +9,7 @@ pub mod field;
 pub mod flags;
 pub mod host_name;
 pub mod image;
+pub mod layout;
 pub mod memory;
 pub mod number;
 pub mod piece;

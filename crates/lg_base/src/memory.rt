@@ -6,10 +6,9 @@ ghost use Rattle.lg_base.specs.Parts.{byte_at, lies_in, LiesInOnePart, IsSized, 
 
 use crate::refusal::OutOfMemory;
 use crate::space::Space;
+use crate::layout::DATA_BASE;
 use std::alloc::Global;
 use std::marker::Model;
-
-const DATA: u64 = 0x2000_0000;
 
 const ARGS: u64 = 0x2800_0000;
 
@@ -164,8 +163,8 @@ impl Memory {
         ensures value { result ≡ loaded (byte_at self.now) address width }
         ensures one_part { IsSome result ↔ LiesInOnePart self.now address width }
     {
-        if lies_in(&self.data, DATA, address, width) {
-            return Some(number_in(&self.data, (address - DATA) as usize, width));
+        if lies_in(&self.data, DATA_BASE, address, width) {
+            return Some(number_in(&self.data, (address - DATA_BASE) as usize, width));
         }
         if lies_in(&self.args, ARGS, address, width) {
             return Some(number_in(&self.args, (address - ARGS) as usize, width));
@@ -188,8 +187,8 @@ impl Memory {
         ensures bytes { byte_at self.new ≡ (if result then stored (byte_at self.old) address width value else byte_at self.old) }
         ensures unchanged { result ≡ false → self.new ≡ self.old }
     {
-        if lies_in(&self.data, DATA, address, width) {
-            write_number(&mut self.data, (address - DATA) as usize, width, value);
+        if lies_in(&self.data, DATA_BASE, address, width) {
+            write_number(&mut self.data, (address - DATA_BASE) as usize, width, value);
             return true;
         }
         if lies_in(&self.args, ARGS, address, width) {
@@ -217,8 +216,8 @@ impl Space for Memory {
     ghost room = { λ m. readable (byte_at m) };
 
     fn get(&self, address: u64) -> Option<u8> {
-        if address >= DATA && address - DATA < self.data.len() as u64 {
-            return Some(self.data[(address - DATA) as usize]);
+        if address >= DATA_BASE && address - DATA_BASE < self.data.len() as u64 {
+            return Some(self.data[(address - DATA_BASE) as usize]);
         }
         if address >= ARGS && address - ARGS < self.args.len() as u64 {
             return Some(self.args[(address - ARGS) as usize]);

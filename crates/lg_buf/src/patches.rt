@@ -9,12 +9,10 @@ ghost use Rattle.lg_buf.specs.Buffers.{AreSound, AreDone, IsReady, place_of};
 use crate::fixes::{CodeLabel, Fix, FixKind};
 use crate::store::Store;
 use crate::words::{
+use lg_base::layout::CODE_BASE_WORD;
     distance, far_distance, with_branch, with_branch_26, with_cond_19, with_immediate, with_jump,
     with_move_16, with_upper,
 };
-
-// the first address of code
-const CODE: u32 = 0x1000_0000;
 
 fn patch_rel_8(store: &mut Store, place: u32, target: u32)
     requires inside { place + 1 ≤ length store.old.items }
@@ -42,7 +40,7 @@ fn patch_abs_32(store: &mut Store, place: u32, target: u32)
     ensures patched { Patched FixKind.X86Abs32 place target store.old.items store.new.items }
     ensures size { store.new.size ≡ store.old.size }
 {
-    store.rewrite(place, CODE + target);
+    store.rewrite(place, CODE_BASE_WORD + target);
 }
 
 fn patch_branch_26(store: &mut Store, place: u32, target: u32)
@@ -75,7 +73,7 @@ fn patch_mov_pair(store: &mut Store, place: u32, target: u32)
 {
     // places fit 32 bits
     let _len = store.len();
-    let address = CODE + target;
+    let address = CODE_BASE_WORD + target;
     let low = store.reread(place);
     let high = store.reread(place + 4);
     store.rewrite(place, with_move_16(low, address % 0x1_0000));
@@ -113,7 +111,7 @@ fn patch_lui_addi(store: &mut Store, place: u32, target: u32)
 {
     // places fit 32 bits
     let _len = store.len();
-    let address = CODE + target;
+    let address = CODE_BASE_WORD + target;
     let upper = store.reread(place);
     let lower = store.reread(place + 4);
     store.rewrite(place, with_upper(upper, (address + 0x800) / 0x1000));

@@ -7,10 +7,9 @@ ghost use Rattle.lg_cells.specs.Memories.{byte_at, room_at, place_of, without, o
 
 use crate::cell::{Cell, closed_cells, fill, put_bytes};
 use lg_base::{OutOfMemory, Space};
+use lg_base::layout::DATA_BASE;
 use std::alloc::Global;
 use std::marker::Model;
-
-const DATA: u64 = 0x2000_0000;
 
 const ARGS: u64 = 0x2800_0000;
 
@@ -50,8 +49,8 @@ fn place(data_size: u64, args_size: u64, mark: u64, address: u64) -> Option<usiz
     requires mark { (0x30000000 ≤ mark) × (mark ≤ 0x30400000) }
     ensures { result ≡ place_of data_size args_size mark address }
 {
-    if DATA <= address && address < DATA + data_size {
-        Some((address - DATA) as usize)
+    if DATA_BASE <= address && address < DATA_BASE + data_size {
+        Some((address - DATA_BASE) as usize)
     } else if ARGS <= address && address < ARGS + args_size {
         Some((address - ARGS + data_size) as usize)
     } else if HEAP <= address && address < mark {

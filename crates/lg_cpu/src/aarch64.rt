@@ -16,7 +16,7 @@ use self::operators::{
     csinc_value, imm_number, imm_value, mul_add_value, reg_value, reverse_value, wide_value,
 };
 use crate::answer::CpuStep;
-use crate::board::{Board, CODE, STOP};
+use crate::board::{Board, STOP};
 use lg_a64::{BranchOp, BranchRegOp, ImmOp, Instr, RegOp, ScaledOp, UnscaledOp, decode};
 use lg_base::number::sign_extended;
 use lg_base::wide::sign_part;
@@ -338,7 +338,7 @@ impl Aarch64 {
         if self.pc % 4 != 0 {
             return CpuStep::Fault(FaultKind::Align);
         }
-        match decode(&self.board.code.as_slice()[(self.pc - CODE) as usize..]) {
+        match decode(&self.board.code.as_slice()[(self.pc - CODE_BASE) as usize..]) {
             Some((instr, _)) => self.act(instr),
             None => CpuStep::Fault(FaultKind::Decode),
         }

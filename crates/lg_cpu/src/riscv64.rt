@@ -9,7 +9,7 @@ mod start;
 
 use self::operators::{is_taken, reg_value, shift_value};
 use crate::answer::CpuStep;
-use crate::board::{Board, CODE, STOP};
+use crate::board::{Board, STOP};
 use lg_base::FaultKind;
 use lg_base::number::sign_extended;
 use lg_base::wide::sign_part;
@@ -222,7 +222,7 @@ impl Riscv64 {
         if self.pc % 4 != 0 {
             return CpuStep::Fault(FaultKind::Align);
         }
-        match decode(&self.board.code.as_slice()[(self.pc - CODE) as usize..]) {
+        match decode(&self.board.code.as_slice()[(self.pc - CODE_BASE) as usize..]) {
             Some((instr, _)) => self.act(instr),
             None => CpuStep::Fault(FaultKind::Decode),
         }

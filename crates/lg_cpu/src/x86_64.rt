@@ -18,7 +18,7 @@ use self::operators::{
     sign_word,
 };
 use crate::answer::CpuStep;
-use crate::board::{Board, CODE, STOP};
+use crate::board::{Board, STOP};
 use lg_base::number::sign_extended;
 use lg_base::wide::{div_wide_u, div_wide_words, mul_high_u, sign_part, swap_bytes};
 use lg_base::{FaultKind, Flags};
@@ -543,7 +543,7 @@ impl X86_64 {
         requires { in_code self.old.board.code.items self.old.pc ≡ true }
         ensures { Does (fetch self.old.board.code.items (x86_state self.old)) (x86_inner self.old) (x86_inner self.new) result }
     {
-        match decode(&self.board.code.as_slice()[(self.pc - CODE) as usize..]) {
+        match decode(&self.board.code.as_slice()[(self.pc - CODE_BASE) as usize..]) {
             Some((instr, len)) => self.act_registers(self.pc.wrapping_add(u64::from(len)), instr),
             None => CpuStep::Fault(FaultKind::Decode),
         }

@@ -4,55 +4,10 @@ ghost use Rattle.std.specs.Prelude.{◌≡◌, ◌<◌, length, is_some};
 ghost use Rattle.std.specs.Option.{option_flatten};
 ghost use Rattle.lg_explain.specs.Blames.{bad_call_at, first_in, label_at};
 ghost use Rattle.lg_explain.specs.Calls.{is_bad, variadic_behind, varies_by};
-ghost use Rattle.lg_node.specs.Checks.{breaks_preparation, is_arg, is_ellipsis, is_out_of_turn, needs_preparation};
 ghost use Rattle.lg_node.specs.Labels.{is_labelled};
 
+use lg_node::refusals::{breaks_preparation, is_ellipsis, is_out_of_turn, needs_preparation};
 use lg_node::{ControlOp, Label, NodeList, Op, PlainOp};
-
-// Whether an operation stands only where a call is being prepared.
-fn needs_preparation(op: Op) -> bool
-    ensures { result ≡ needs_preparation op }
-{
-    matches!(op, Op::Control(ControlOp::Pusharg | ControlOp::Finish, _))
-}
-
-// Whether an operation may not stand where a call is being prepared.
-fn breaks_preparation(op: Op) -> bool
-    ensures { result ≡ breaks_preparation op }
-{
-    matches!(
-        op,
-        Op::Branch(_, _)
-            | Op::BranchSum(_, _)
-            | Op::Control(ControlOp::Jmp | ControlOp::Call | ControlOp::Ret, _)
-            | Op::Plain(PlainOp::Prepare | PlainOp::Ret | PlainOp::Epilog)
-    )
-}
-
-// Whether an operation is `ellipsis`.
-fn is_ellipsis(op: Op) -> bool
-    ensures { result ≡ is_ellipsis op }
-{
-    matches!(op, Op::Plain(PlainOp::Ellipsis))
-}
-
-// Whether an operation is `arg`.
-fn is_arg(op: Op) -> bool
-    ensures { result ≡ is_arg op }
-{
-    matches!(op, Op::Plain(PlainOp::Arg))
-}
-
-// Whether an operation may not stand behind a function's own `ellipsis`, or only there.
-fn is_out_of_turn(varies: bool, op: Op) -> bool
-    ensures { result ≡ is_out_of_turn varies op }
-{
-    if varies {
-        is_arg(op)
-    } else {
-        matches!(op, Op::Plain(PlainOp::VaStart))
-    }
-}
 
 // Whether an operation is out of place: of a call that is being prepared it is known whether an `ellipsis` came.
 fn is_bad(call: Option<bool>, varies: bool, labelled: bool, op: Op) -> bool

@@ -3,7 +3,6 @@
 #![tactic(auto)]
 
 mod calls;
-mod homes;
 pub mod line;
 mod made;
 pub mod say;

@@ -4,12 +4,11 @@ ghost use Rattle.std.specs.Prelude.{◌≡◌};
 ghost use Rattle.std.specs.List.{find};
 ghost use Rattle.lg_explain.specs.Blames.{astray_at, first_in, found_by_form, label_in, missing_at, missing_in};
 ghost use Rattle.lg_node.specs.Checks.{is_astray, is_missing};
-ghost use Rattle.lg_node.specs.Functions.{home};
-ghost use Rattle.lg_node.specs.Labels.{is_code, is_entry, is_inside, takes_address};
 ghost use Rattle.lg_node.specs.Tables.{AreHomes};
 
-use crate::homes::{home_in, is_prolog};
-use lg_node::{ControlOp, Form, Label, LastOperand, NodeList, Op, Operand, Place, PlainOp};
+use lg_node::labels::home_in;
+use lg_node::refusals::{is_astray, is_missing};
+use lg_node::{Form, Label, NodeList, Op, Operand};
 
 // The label that an operand is.
 fn label_in(operand: Operand) -> Option<Label>
@@ -22,16 +21,6 @@ fn label_in(operand: Operand) -> Option<Label>
 }
 
 // ---- labels that nothing binds
-
-// Whether an operand is a label that nothing binds.
-fn is_missing(nodes: &NodeList, operand: Operand) -> bool
-    ensures { result ≡ is_missing nodes.now.places operand }
-{
-    match operand {
-        Operand::Label(label) => nodes.place_of(label).is_none(),
-        _ => false,
-    }
-}
 
 // The first of them among operands.
 fn missing_operand(nodes: &NodeList, operands: &[Operand]) -> Option<Operand>
@@ -67,72 +56,6 @@ pub fn first_missing(nodes: &NodeList) -> Option<Label>
 }
 
 // ---- labels that lead where they may not
-
-// Whether a place is in the code.
-fn is_code(place: Option<Place>) -> bool
-    ensures { result ≡ is_code place }
-{
-    matches!(place, Some(Place::Node(_)))
-}
-
-// Whether a place is a `prolog`.
-fn is_entry(nodes: &NodeList, place: Option<Place>) -> bool
-    ensures { result ≡ is_entry nodes.now.nodes place }
-{
-    match place {
-        Some(Place::Node(index)) => index < nodes.len() && is_prolog(nodes.node(index).op),
-        _ => false,
-    }
-}
-
-// Whether a place is a node of a function behind its `prolog`.
-fn is_inside(homes: &[Option<u32>], function: u32, place: Option<Place>) -> bool
-    ensures { (nodes : _) → AreHomes nodes homes.now → result ≡ is_inside nodes function place }
-{
-    match place {
-        Some(Place::Node(index)) => match home_in(homes, index) {
-            Some(home) => home == function && index != function,
-            None => false,
-        },
-        _ => false,
-    }
-}
-
-// Whether an operation may have the address of a node as an immediate.
-fn takes_address(op: Op) -> bool
-    ensures { result ≡ takes_address op }
-{
-    matches!(
-        op,
-        Op::Plain(PlainOp::Movi)
-            | Op::Control(ControlOp::Pusharg | ControlOp::Ret, LastOperand::Immediate)
-    )
-}
-
-// Whether an operand leads where it may not.
-fn is_astray(
-    nodes: &NodeList,
-    homes: &[Option<u32>],
-    home: Option<u32>,
-    op: Op,
-    form: Form,
-    operand: Operand,
-) -> bool
-    requires { AreHomes nodes.now.nodes homes.now }
-    ensures { result ≡ is_astray nodes.now home op form operand }
-{
-    let Operand::Label(label) = operand else {
-        return false;
-    };
-    let place = nodes.place_of(label);
-    match (form, home) {
-        (Form::Target, None) => !is_entry(nodes, place),
-        (Form::Target, Some(function)) => !is_inside(homes, function, place),
-        (Form::Callee, _) => !is_entry(nodes, place),
-        (Form::Immediate, _) => is_code(place) && !takes_address(op),
-        _ => false,
-    }
-}
 
 // The first of the operands that does, by its form.
 fn astray_in(

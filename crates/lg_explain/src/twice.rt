@@ -8,11 +8,11 @@ ghost use Rattle.lg_tst.specs.Streams.{text_of, without_last};
 ghost use Rattle.lg_tst.specs.Units.{written_forms};
 ghost use Rattle.lg_tst.specs.Words.{op_of};
 
-use crate::homes::is_prolog;
 use crate::line::Shown;
 use crate::made::Made;
 use lg_base::OutOfMemory;
 use lg_lex::{Lexer, Token, TokenKind};
+use lg_node::walk::is_prolog;
 use lg_node::{Form, Op, PlainOp};
 use std::alloc::Global;
 

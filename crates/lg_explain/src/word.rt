@@ -9,11 +9,11 @@ ghost use Rattle.lg_pre.specs.Expanded.{expanded};
 ghost use Rattle.lg_tst.specs.Units.{unit_of};
 
 use crate::calls::first_between;
-use crate::homes::homes;
 use crate::line::Shown;
 use crate::targets::{first_astray, first_missing};
 use crate::twice::made_twice;
 use lg_base::{OutOfMemory, RefusalKind, Stop};
+use lg_node::tables::homes;
 use lg_node::{Label, NodeList};
 use lg_pre::expand;
 use lg_tst::parse;

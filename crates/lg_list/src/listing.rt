@@ -12,11 +12,9 @@ use crate::instruction::decode;
 use crate::line::Line;
 use crate::lines::{first_line, write_node_line};
 use lg_base::{CodeBytes, Places, Target};
+use lg_base::layout::CODE_BASE_WORD;
 use lg_io::{Sink, SinkFault, write_all, write_parts};
 use lg_node::{LabelAddresses, NodeList};
-
-// The address of the first byte of the code.
-const CODE_BASE: u32 = 0x1000_0000;
 
 fn write_label<O: Sink>(at: u32, word: &[u8], out: &mut O) -> Result<(), SinkFault>
     ensures { Wrote (O.taken out.old) (O.taken out.new) (O.faults out.old) (O.faults out.new) result (label_line at word.now) }
@@ -101,7 +99,7 @@ fn node_address(places: &Places, index: u32) -> u32
     ensures address { result ≡ code_base + slice_index places.now.items index }
     ensures small { slice_index places.now.items index ≤ most_code }
 {
-    CODE_BASE + places.get(index)
+    CODE_BASE_WORD + places.get(index)
 }
 
 // Writes the lines of a node, whose bytes stand from an address on, each in this line.

@@ -5,22 +5,18 @@ ghost use Rattle.lg_node.specs.Nodes.{MayStand};
 ghost use Rattle.lg_meaning.specs.Addresses.{AreAddresses, plain_address, plain_addresses};
 
 use lg_base::OutOfMemory;
+use lg_base::layout::{CODE_BASE, DATA_BASE};
 use lg_meaning::laws::plain_addresses_are_addresses;
 use lg_node::{Label, LabelAddresses, NodeList, Place};
 use std::alloc::Global;
-
-// The first addresses of the code part and the data part.
-const CODE: u64 = 0x1000_0000;
-
-const DATA: u64 = 0x2000_0000;
 
 // The plain address of a label that is bound at a place.
 fn plain_address(place: Option<Place>) -> u64
     ensures { result ≡ plain_address place }
 {
     match place {
-        Some(Place::Node(node)) => CODE + 256 * node as u64,
-        Some(Place::Image(at)) => DATA + at as u64,
+        Some(Place::Node(node)) => CODE_BASE + 256 * node as u64,
+        Some(Place::Image(at)) => DATA_BASE + at as u64,
         None => 0,
     }
 }

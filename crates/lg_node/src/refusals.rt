@@ -16,8 +16,8 @@ use crate::walk::{Walk, is_arg, is_prolog, local_size};
 use lg_base::RefusalKind;
 use lg_op::{ControlOp, Form, LastOperand, Node, Op, Operand, PlainOp};
 
-// Whether an operand is a label that nothing binds.
-fn is_missing(nodes: &NodeList, operand: Operand) -> bool
+/// Whether an operand is a label that nothing binds.
+pub fn is_missing(nodes: &NodeList, operand: Operand) -> bool
     ensures { result ≡ is_missing nodes.now.places operand }
 {
     match operand {
@@ -44,8 +44,8 @@ fn may_stand_outside(op: Op, begun: bool) -> bool
     }
 }
 
-// Whether an operand leads where it may not.
-fn is_astray(
+/// Whether an operand leads where it may not.
+pub fn is_astray(
     nodes: &NodeList,
     homes: &[Option<u32>],
     home: Option<u32>,
@@ -93,15 +93,15 @@ fn goes_astray(
     }
 }
 
-// Whether an operation stands only where a call is being prepared.
-fn needs_preparation(op: Op) -> bool
+/// Whether an operation stands only where a call is being prepared.
+pub fn needs_preparation(op: Op) -> bool
     ensures { result ≡ needs_preparation op }
 {
     matches!(op, Op::Control(ControlOp::Pusharg | ControlOp::Finish, _))
 }
 
-// Whether an operation may not stand where a call is being prepared.
-fn breaks_preparation(op: Op) -> bool
+/// Whether an operation may not stand where a call is being prepared.
+pub fn breaks_preparation(op: Op) -> bool
     ensures { result ≡ breaks_preparation op }
 {
     matches!(
@@ -113,15 +113,15 @@ fn breaks_preparation(op: Op) -> bool
     )
 }
 
-// Whether an operation is `ellipsis`.
-fn is_ellipsis(op: Op) -> bool
+/// Whether an operation is `ellipsis`.
+pub fn is_ellipsis(op: Op) -> bool
     ensures { result ≡ is_ellipsis op }
 {
     matches!(op, Op::Plain(PlainOp::Ellipsis))
 }
 
-// Whether an operation may not stand behind a function's own `ellipsis`, or only there.
-fn is_out_of_turn(varies: bool, op: Op) -> bool
+/// Whether an operation may not stand behind a function's own `ellipsis`, or only there.
+pub fn is_out_of_turn(varies: bool, op: Op) -> bool
     ensures { result ≡ is_out_of_turn varies op }
 {
     if varies {

@@ -31,8 +31,8 @@ impl Tables {
     }
 }
 
-// The function of each node.
-fn homes(alloc: Global, nodes: &NodeList) -> Result<Vec<Option<u32>>, OutOfMemory>
+/// The function of each node, by its `prolog`.
+pub fn homes(alloc: Global, nodes: &NodeList) -> Result<Vec<Option<u32>>, OutOfMemory>
     ensures { IfOk result (λ homes. AreHomes nodes.now.nodes homes.items) }
 {
     let mut homes = Vec::new(alloc);

@@ -10,6 +10,7 @@ use crate::marks::Marks;
 use crate::pieces::{PieceKind, Pieces};
 use crate::plain_text::PlainText;
 use lg_base::OutOfMemory;
+use lg_base::layout::MOST_TEXT;
 use std::alloc::Global;
 
 /// A body as far as it was read: its pieces with their marks, the white space behind them that a `##` takes away, whether a `##` stands
@@ -165,8 +166,6 @@ pub(crate) fn body_of(
     Ok(body)
 }
 
-const MOST: usize = 16_777_216;
-
 // A number of bytes with those of a piece, as far as they matter.
 fn with_len(n: usize, pieces: &Pieces, at: usize) -> usize
     requires inside { at < length pieces.now }
@@ -174,10 +173,10 @@ fn with_len(n: usize, pieces: &Pieces, at: usize) -> usize
     ensures { result ≡ with_len n (piece_at pieces.now at) }
 {
     let len = pieces.text(at).len();
-    if len > MOST {
-        return MOST + 1;
+    if len > MOST_TEXT {
+        return MOST_TEXT + 1;
     }
-    (n + len).min(MOST + 1)
+    (n + len).min(MOST_TEXT + 1)
 }
 
 /// The bytes of pieces, as far as they matter: at most 16,777,217.

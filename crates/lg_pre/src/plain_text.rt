@@ -3,11 +3,9 @@
 ghost use Rattle.std.specs.Prelude.{◌≡◌, ◌≤◌, ◌++◌, [], length, OnOk, IfOk};
 
 use lg_base::OutOfMemory;
+use lg_base::layout::MOST_TEXT;
 use std::alloc::Global;
 use std::marker::Model;
-
-// The most bytes of a text.
-const MOST: usize = 16_777_216;
 
 /// Bytes of a text, as its expansion: at most 16,777,216. A contract sees them as a list.
 #[derive(Drop)]
@@ -39,7 +37,7 @@ impl PlainText {
     pub(crate) fn of(alloc: Global, text: &[u8]) -> Result<PlainText, OutOfMemory>
         ensures { IfOk result (λ r. r ≡ text.now) }
     {
-        if text.len() > MOST {
+        if text.len() > MOST_TEXT {
             return Err(OutOfMemory);
         }
         let bytes = Vec::from_slice(alloc, text)?;
@@ -65,7 +63,7 @@ impl PlainText {
     pub(crate) fn extend(&mut self, text: &[u8]) -> Result<(), OutOfMemory>
         ensures { OnOk result (self.new ≡ self.old ++ text.now) }
     {
-        if text.len() > MOST - self.bytes.len() {
+        if text.len() > MOST_TEXT - self.bytes.len() {
             return Err(OutOfMemory);
         }
         self.bytes.extend_from_slice(text)?;

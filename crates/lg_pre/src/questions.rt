@@ -13,6 +13,7 @@ use crate::macros::{MOST_HELD, Table, Work, refused};
 use crate::pieces::{PieceKind, Pieces};
 use crate::plain_text::PlainText;
 use lg_base::{OutOfMemory, RefusalKind, Stop};
+use lg_base::layout::MOST_TEXT;
 use lg_lex::{Lexer, TokenKind};
 use std::alloc::Global;
 
@@ -180,8 +181,6 @@ fn token_text(alloc: Global, pieces: &Pieces) -> Result<PlainText, OutOfMemory>
     Ok(text)
 }
 
-const MOST: usize = 16_777_216;
-
 // The value of the expression that a token's text is.
 fn value_in(text: &[u8]) -> Option<u64>
     requires { length text.now ≤ 16777216 }
@@ -210,7 +209,7 @@ fn is_chosen(alloc: Global, line: u32, pieces: &Pieces) -> Result<bool, Stop>
 {
     match token_text(alloc, pieces) {
         Err(OutOfMemory) => Err(Stop::OutOfMemory),
-        Ok(text) if text.len() > MOST => Err(Stop::OutOfMemory),
+        Ok(text) if text.len() > MOST_TEXT => Err(Stop::OutOfMemory),
         Ok(text) => match value_in(text.as_bytes()) {
             None => Err(refused(RefusalKind::BadDirective, line)),
             Some(value) => Ok(value != 0),

@@ -7,11 +7,9 @@ ghost use Rattle.lg_prof.specs.Tallies.{ran_at, spent_at};
 ghost use Rattle.lg_prof.specs.Spent.{spent, table_line};
 
 use crate::{LineTable, Tally};
+use lg_base::layout::CODE_BASE;
 use lg_cpu::{Cpu, CpuStep};
 use lg_io::Sink;
-
-// The address of the first byte of the code.
-const CODE_BASE: u64 = 0x1000_0000;
 
 // The line of a program counter, and the one before where it lies in no node's bytes.
 fn line_at(lines: &LineTable, pc: u64, before: u32) -> u32

@@ -4,11 +4,9 @@ ghost use Rattle.std.specs.Prelude.{◌≡◌, ◌≤◌, ◌++◌, [], length, 
 ghost use Rattle.lg_io.specs.Wrote.{joined};
 
 use lg_base::OutOfMemory;
+use lg_base::layout::MOST_TEXT;
 use std::alloc::Global;
 use std::marker::Model;
-
-// The most bytes of a text.
-const MOST: usize = 16_777_216;
 
 /// Bytes of a text, at most 16,777,216. A contract sees them as a list.
 #[derive(Drop)]
@@ -48,7 +46,7 @@ impl CodeText {
     fn push(&mut self, part: &[u8]) -> Result<(), OutOfMemory>
         ensures { OnOk result (self.new ≡ self.old ++ part.now) }
     {
-        if part.len() > MOST - self.bytes.len() {
+        if part.len() > MOST_TEXT - self.bytes.len() {
             return Err(OutOfMemory);
         }
         self.bytes.extend_from_slice(part)?;

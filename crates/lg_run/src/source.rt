@@ -8,11 +8,9 @@ ghost use Rattle.lg_run.specs.Reads.{IsLongText, ReadTells, ReadsFew, ReadsFewOf
 ghost use Rattle.lg_run.specs.Refused.{IsTextUnder, most_text};
 
 use lg_base::OutOfMemory;
+use lg_base::layout::MOST_TEXT;
 use lg_io::Texts;
 use std::alloc::Global;
-
-// The most bytes of a text.
-const MOST_TEXT: usize = 16_777_216;
 
 // How many bytes are read at a time.
 const PIECE: usize = 65_536;

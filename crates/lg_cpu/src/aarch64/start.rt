@@ -4,7 +4,7 @@ ghost use Rattle.std.specs.Prelude.{◌≡◌, slice_index};
 ghost use Rattle.lg_cpu.specs.A64Step.{start_registers, trash_flags};
 
 use crate::aarch64::Aarch64;
-use crate::board::{Board, CODE, STOP, trash_registers};
+use crate::board::{Board, STOP, trash_registers};
 use lg_base::Flags;
 
 // the first address of the argument part, and the address behind the stack
@@ -47,7 +47,7 @@ impl Aarch64 {
         ensures board { result.board ≡ board }
     {
         Aarch64 {
-            pc: CODE,
+            pc: CODE_BASE,
             flags: trash_flags(board.trash),
             registers: registers_at_start(count, board.trash),
             board,
@@ -58,7 +58,7 @@ impl Aarch64 {
     pub fn begin(&mut self, count: u64)
         ensures { a64_inner self.new ≡ begun (a64_inner self.old) count }
     {
-        self.pc = CODE;
+        self.pc = CODE_BASE;
         self.registers = registers_at_start(count, self.board.trash);
         self.flags = trash_flags(self.board.trash);
     }

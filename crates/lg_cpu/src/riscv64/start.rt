@@ -3,7 +3,7 @@
 ghost use Rattle.std.specs.Prelude.{◌≡◌, slice_index};
 ghost use Rattle.lg_cpu.specs.RvStep.{start_registers};
 
-use crate::board::{Board, CODE, STOP, trash_registers};
+use crate::board::{Board, STOP, trash_registers};
 use crate::riscv64::Riscv64;
 
 // the first address of the argument part, and the address behind the stack
@@ -34,7 +34,7 @@ impl Riscv64 {
         ensures board { result.board ≡ board }
     {
         Riscv64 {
-            pc: CODE,
+            pc: CODE_BASE,
             registers: registers_at_start(count, board.trash),
             board,
         }
@@ -44,7 +44,7 @@ impl Riscv64 {
     pub fn begin(&mut self, count: u64)
         ensures { rv_inner self.new ≡ begun (rv_inner self.old) count }
     {
-        self.pc = CODE;
+        self.pc = CODE_BASE;
         self.registers = registers_at_start(count, self.board.trash);
     }
 }

@@ -3,7 +3,7 @@
 ghost use Rattle.std.specs.Prelude.{◌≡◌, ◌-◌, length, slice_index, if◌then◌else◌, nat_lt};
 ghost use Rattle.lg_cpu.specs.X86Step.{start_registers};
 
-use crate::board::{Board, CODE, STOP};
+use crate::board::{Board, STOP};
 use crate::x86_64::X86_64;
 use crate::x86_64::flags::no_flags;
 
@@ -48,7 +48,7 @@ impl X86_64 {
         let mut board = board;
         board.memory.store(RETURN, 8, STOP);
         X86_64 {
-            pc: CODE,
+            pc: CODE_BASE,
             registers: registers_at_start(count, board.trash),
             flags: no_flags(),
             board,
@@ -62,7 +62,7 @@ impl X86_64 {
         ensures { x86_inner self.new ≡ begun (x86_inner self.old) count }
     {
         self.board.memory.store(RETURN, 8, STOP);
-        self.pc = CODE;
+        self.pc = CODE_BASE;
         self.registers = registers_at_start(count, self.board.trash);
         self.flags = no_flags();
     }
