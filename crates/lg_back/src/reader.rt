@@ -10,8 +10,8 @@ ghost use Rattle.lg_back.specs.Refused.{IsBadListing};
 
 use crate::entry::read_entry;
 use crate::head::{Head, read_head};
-use lg_base::{CodeBytes, Refusal, RefusalKind, Stop, Target};
 use lg_base::layout::CODE_BASE_WORD;
+use lg_base::{CodeBytes, Refusal, RefusalKind, Stop, Target};
 use lg_list::Line;
 use std::alloc::Global;
 
@@ -84,7 +84,12 @@ fn read_lines(text: &[u8], head: Head, mut bytes: CodeBytes) -> Result<Back, Sto
     let mut line = 2;
     let mut done = 0;
     while at < text.len() {
-        match read_entry(head.target, CODE_BASE_WORD + done, &text[at..], &mut written) {
+        match read_entry(
+            head.target,
+            CODE_BASE_WORD + done,
+            &text[at..],
+            &mut written,
+        ) {
             None => return Err(bad_listing(line)),
             Some(entry) => {
                 let own = entry.bytes.as_slice();

@@ -4,9 +4,9 @@ ghost use Rattle.std.specs.Prelude.{◌≡◌, ℕ, ◌+◌, ◌-◌, ◌^◌, �
 ghost use Rattle.lg_base.specs.Spaces.{number_at, written, loaded, mapped, stored};
 ghost use Rattle.lg_base.specs.Parts.{byte_at, lies_in, LiesInOnePart, IsSized, IsZeroed};
 
+use crate::layout::DATA_BASE;
 use crate::refusal::OutOfMemory;
 use crate::space::Space;
-use crate::layout::DATA_BASE;
 use std::alloc::Global;
 use std::marker::Model;
 

@@ -9,10 +9,10 @@ ghost use Rattle.lg_buf.specs.Buffers.{AreSound, AreDone, IsReady, place_of};
 use crate::fixes::{CodeLabel, Fix, FixKind};
 use crate::store::Store;
 use crate::words::{
-use lg_base::layout::CODE_BASE_WORD;
     distance, far_distance, with_branch, with_branch_26, with_cond_19, with_immediate, with_jump,
     with_move_16, with_upper,
 };
+use lg_base::layout::CODE_BASE_WORD;
 
 fn patch_rel_8(store: &mut Store, place: u32, target: u32)
     requires inside { place + 1 ≤ length store.old.items }

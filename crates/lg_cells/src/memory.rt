@@ -6,8 +6,8 @@ ghost use Rattle.lg_cells.specs.Cells.{cell_of, is_room, first_cells};
 ghost use Rattle.lg_cells.specs.Memories.{byte_at, room_at, place_of, without, opened, closed, first_bytes, first_room, writable, cell_at, IsSameSize};
 
 use crate::cell::{Cell, closed_cells, fill, put_bytes};
-use lg_base::{OutOfMemory, Space};
 use lg_base::layout::DATA_BASE;
+use lg_base::{OutOfMemory, Space};
 use std::alloc::Global;
 use std::marker::Model;
 

@@ -62,7 +62,8 @@ label_between (Some call) places i = label_at places i
 -- a node that is out of place gives the label, or that there is none
 abbrev pub bad_call_at : LabelledNodes → ℕ → Node → Option (Option Label)
 bad_call_at l i n =
-    if is_bad_call (prepared_before l.nodes i) (varies_before l.nodes i) (is_labelled l.places i) n.op then Some (label_between (prepared_before l.nodes i) l.places i)
+    if is_bad_call (prepared_before l.nodes i) (varies_before l.nodes i) (is_labelled l.places i) n.op
+    then Some (label_between (prepared_before l.nodes i) l.places i)
     else None
 
 -- ---- the kinds

@@ -89,7 +89,8 @@ again forms kind text labels names =
 unfoldable pub twice_from : List ℕ → List Token → (labels names : List (List ℕ)) → List Form → Option (List ℕ)
 twice_from text [] labels names forms = None
 twice_from text (t ∷ more) labels names forms = option_or (again forms t.kind (text_of text t) labels names)
-    (twice_from text more (labels_behind forms t.kind (text_of text t) labels) (names_behind forms t.kind (text_of text t) names) (forms_behind forms t.kind (text_of text t)))
+    (twice_from text more (labels_behind forms t.kind (text_of text t) labels) (names_behind forms t.kind (text_of text t) names)
+    (forms_behind forms t.kind (text_of text t)))
 
 -- of a whole text
 abbrev pub made_twice : List ℕ → Option (List ℕ)

@@ -60,8 +60,8 @@ NodesWorkExpressionsOut =
     → Holds x before s → behind_steps x steps before ≡ Some after
     → Comes l shape addresses s (length (nodes_of (length before) steps)) x after
 
--- each byte of a local that takes so many bytes, behind others that take some, is among the locals of a frame that has room for them: by its offset from FP, which
--- points 16 below the stack pointer at the call
+-- each byte of a local that takes so many bytes, behind others that take some, is among the locals of a frame that has room for them: by its offset from FP,
+-- which points 16 below the stack pointer at the call
 abbrev pub LocalsLieInTheFrame : Type 0
 LocalsLieInTheFrame =
     (f : Frame) (before bytes k : ℕ) → before + bytes ≤ f.locals → f.locals + 144 ≤ f.sp → f.sp < 2 ^ 64 → k < bytes

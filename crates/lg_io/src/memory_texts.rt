@@ -35,7 +35,12 @@ impl Model for MemoryTexts {
 
     ghost Value = { TextsState };
 
-    ghost view = { λ texts. record { held = texts.texts.items; left = rest_of texts.texts.items texts.selected texts.offset; reading = texts.reading; calls = texts.calls } };
+    ghost view = { λ texts. record {
+      held = texts.texts.items;
+      left = rest_of texts.texts.items texts.selected texts.offset;
+      reading = texts.reading;
+      calls = texts.calls;
+    } };
 
     ghost invariant = { λ texts. ForSome texts.selected (λ place. place < vec_len texts.texts) };
 }

@@ -11,8 +11,8 @@ ghost use Rattle.lg_list.specs.Listing.{labels_at, bytes_between, node_entries, 
 use crate::instruction::decode;
 use crate::line::Line;
 use crate::lines::{first_line, write_node_line};
-use lg_base::{CodeBytes, Places, Target};
 use lg_base::layout::CODE_BASE_WORD;
+use lg_base::{CodeBytes, Places, Target};
 use lg_io::{Sink, SinkFault, write_all, write_parts};
 use lg_node::{LabelAddresses, NodeList};
 

@@ -316,7 +316,8 @@ impl Machine {
     // 6: a load from an address.
     fn row_6_load(&self, value_type: ValueType, address: u64) -> Option<Reason>
         ensures { let wide = width value_type in
-            result ≡ first (outside (state_of self.now) address wide ∷ where_none (loaded (state_of self.now).mem address wide) (Reason.Unwritten wide address) ∷ []) }
+            result ≡ first (outside (state_of self.now) address wide
+            ∷ where_none (loaded (state_of self.now).mem address wide) (Reason.Unwritten wide address) ∷ []) }
     {
         let width = operators::width(value_type);
         match self.outside(address, width) {

@@ -54,7 +54,8 @@ pub record IsOneLine (given : List Piece) : Type 0 where
 abbrev pub outermost : List Macro → Piece → List Piece → ℕ → Step
 outermost table p rest sum = step table (expand_in table 200) [] p rest ([], sum)
 
--- such a piece, by the bytes that are given before it: it comes on its line, is given as it is where it names no macro, and else what comes of it is on that line
+-- such a piece, by the bytes that are given before it: it comes on its line, is given as it is where it names no macro, and else what
+-- comes of it is on that line
 pub record IsOnItsLine (table : List Macro) (p : Piece) (rest : List Piece) (given : List ℕ) (sum : ℕ) : Type 0 where
   pub line : p.line ≡ 1 + feeds_of given
   pub stays : named table p ≡ None → outermost table p rest sum ≡ Ok (0, (p ∷ [], sum))

@@ -12,8 +12,8 @@ use crate::expansion::expand;
 use crate::macros::{MOST_HELD, Table, Work, refused};
 use crate::pieces::{PieceKind, Pieces};
 use crate::plain_text::PlainText;
-use lg_base::{OutOfMemory, RefusalKind, Stop};
 use lg_base::layout::MOST_TEXT;
+use lg_base::{OutOfMemory, RefusalKind, Stop};
 use lg_lex::{Lexer, TokenKind};
 use std::alloc::Global;
 

@@ -40,7 +40,8 @@ ChoicesAreForNeeds = (a : Around) (needs : List Need) (choices : List Choice) �
 
 -- the first of a list that is not refused
 abbrev pub IsFirst : (ℕ → Bool) → List ℕ → ℕ → Type 0
-IsFirst refused registers r = (before : List ℕ) × (behind : List ℕ) × (registers ≡ before ++ r ∷ behind) × (list_all refused before ≡ true) × (refused r ≡ false)
+IsFirst refused registers r =
+    (before : List ℕ) × (behind : List ℕ) × (registers ≡ before ++ r ∷ behind) × (list_all refused before ≡ true) × (refused r ≡ false)
 
 -- whether a need that names no register can only have one that is saved
 abbrev pub is_refused : Around → List Need → List Choice → ℕ → Bool

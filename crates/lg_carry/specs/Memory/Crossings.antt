@@ -18,7 +18,8 @@ use Rattle.lg_carry.specs.Nodes.Stretches.{StandsAt, behind, PassesIn}
 
 -- so many steps at most lead from an address to another one, behind the code, and leave the registers W but for those of T, the bytes M but for the slots,
 -- and this mark and flags; the first n slots are kept
-pub record Crosses {Q I : Type 0} (R : Rows Q I) (low high most fp n : ℕ) (W : ℕ → ℕ) (M : ℕ → Option ℕ) (mark : ℕ) (flags : Flags) (T : ℕ → Bool) (q : Q) : Type 0 where
+pub record Crosses {Q I : Type 0} (R : Rows Q I) (low high most fp n : ℕ) (W : ℕ → ℕ) (M : ℕ → Option ℕ) (mark : ℕ) (flags : Flags)
+    (T : ℕ → Bool) (q : Q) : Type 0 where
   pub end : Q
   pub steps : ℕ
   pub few : steps ≤ most
