@@ -13,20 +13,18 @@ use lg_base::OutOfMemory;
 use lg_live::needs::needs;
 use lg_node::{NodeList, Shape};
 use lg_opt::Rewritten;
-use lg_opt::rebuilding::rebuilt;
-use lg_opt::rewritten::finished;
+use lg_opt::rewritten::remade;
 use std::alloc::Global;
 
 // The nodes without the definitions that nothing needs.
-fn dropped(alloc: Global, nodes: &NodeList, shape: &Shape) -> Result<Rewritten, OutOfMemory>
-    requires { IsShapeOf nodes.now shape.now }
-    ensures { IfOk result (λ r. IsDroppedTo nodes.now shape.now r.nodes r.shape r.origin.items) }
+fn dropped(alloc: Global, nodes: NodeList, shape: Shape) -> Result<Rewritten, OutOfMemory>
+    requires { IsShapeOf nodes shape }
+    ensures { IfOk result (λ r. IsDroppedTo nodes shape r.nodes r.shape r.origin.items) }
 {
     nodes.what_holds();
-    let needs = needs(alloc, nodes, shape)?;
-    let stays = staying(alloc, nodes, &needs)?;
-    let list = rebuilt(alloc, nodes, &stays, &[])?;
-    finished(alloc, list, shape, &stays)
+    let needs = needs(alloc, &nodes, &shape)?;
+    let stays = staying(alloc, &nodes, &needs)?;
+    remade(alloc, nodes, shape, &stays, &[])
 }
 
 /// Drops each definition whose words can come to no node that is no definition, in one pass. A label of a dropped node moves to the next that stays.
@@ -46,6 +44,25 @@ pub fn drop_dead(alloc: Global, nodes: &NodeList, shape: &Shape) -> Result<Rewri
     ensures folds { IfOk result (λ r. HasNoFolds nodes.now → HasNoFolds r.nodes) }
     ensures addresses { IfOk result (λ r. CarriesAddresses nodes.now r.nodes) }
     ensures runs { IfOk result (λ r. RunsAreDropped nodes.now shape.now r.nodes r.shape r.origin.items) }
+{
+    let nodes = nodes.copy(alloc)?;
+    let shape = shape.copy(alloc)?;
+    without_dead_definitions(alloc, nodes, shape)
+}
+
+/// `drop_dead` of nodes that are handed over: where nothing is dropped they are handed back, with no copy.
+pub fn without_dead_definitions(alloc: Global, nodes: NodeList, shape: Shape) -> Result<Rewritten, OutOfMemory>
+    requires { IsShapeOf nodes shape }
+    ensures shape { IfOk result (λ r. IsShapeOf r.nodes r.shape) }
+    ensures taken { IfOk result (λ r. r.shape.taken ≡ shape.taken) }
+    ensures origin { IfOk result (λ r. IsOrigin IsSameNode nodes r.nodes r.origin.items) }
+    ensures others { IfOk result (λ r. KeepsOthers defines nodes r.origin.items) }
+    ensures few { IfOk result (λ r. length r.nodes.nodes ≤ length nodes.nodes) }
+    ensures labels { IfOk result (λ r. KeepsLabels nodes r.nodes r.origin.items) }
+    ensures of_use { IfOk result (λ r. AllAreOfUse r.nodes r.shape) }
+    ensures folds { IfOk result (λ r. HasNoFolds nodes → HasNoFolds r.nodes) }
+    ensures addresses { IfOk result (λ r. CarriesAddresses nodes r.nodes) }
+    ensures runs { IfOk result (λ r. RunsAreDropped nodes shape r.nodes r.shape r.origin.items) }
 {
     nodes.what_holds();
     dropped(alloc, nodes, shape)

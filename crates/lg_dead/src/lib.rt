@@ -11,6 +11,6 @@ pub mod near_laws;
 mod rewriting;
 mod staying;
 
-pub use dropping::drop_dead;
+pub use dropping::{drop_dead, without_dead_definitions};
 pub use list::fold;
 pub use rewriting::rewrite;

@@ -9,11 +9,11 @@ ghost use Rattle.lg_dead.specs.Known.{HasNoFolds};
 ghost use Rattle.lg_dead.specs.Dead.{AllAreOfUse, HasNoDeadButMoves};
 ghost use Rattle.lg_dead.specs.Rewritten.{is_droppable, AreFinal, RunsRest};
 
-use crate::dropping::drop_dead;
+use crate::dropping::without_dead_definitions;
 use crate::list::fold;
 use lg_base::{Origin, OutOfMemory};
 use lg_node::{NodeList, Shape};
-use lg_opt::{Rewritten, drop_moves, thread};
+use lg_opt::{Rewritten, with_threaded_jumps, without_idle_moves};
 use std::alloc::Global;
 
 // Where nodes come from that were rewritten twice.
@@ -43,8 +43,12 @@ fn without_dead(alloc: Global, nodes: &NodeList, shape: &Shape) -> Result<Rewrit
     ensures addresses { IfOk result (λ r. CarriesAddresses nodes.now r.nodes) }
     ensures runs { IfOk result (λ r. RunsRest nodes.now shape.now r.nodes r.shape) }
 {
-    let folded = fold(alloc, nodes, shape)?;
-    drop_dead(alloc, &folded.nodes, &folded.shape)
+    let Rewritten {
+        nodes,
+        shape,
+        origin: _,
+    } = fold(alloc, nodes, shape)?;
+    without_dead_definitions(alloc, nodes, shape)
 }
 
 // Drops the moves that do nothing besides.
@@ -63,14 +67,18 @@ fn without_moves(alloc: Global, nodes: &NodeList, shape: &Shape) -> Result<Rewri
     ensures addresses { IfOk result (λ r. CarriesAddresses nodes.now r.nodes) }
     ensures runs { IfOk result (λ r. RunsRest nodes.now shape.now r.nodes r.shape) }
 {
-    let needed = without_dead(alloc, nodes, shape)?;
-    needed.nodes.what_holds();
+    let Rewritten {
+        nodes: needed,
+        shape: needed_shape,
+        origin: needed_origin,
+    } = without_dead(alloc, nodes, shape)?;
+    needed.what_holds();
     let Rewritten {
         nodes,
         shape,
         origin,
-    } = drop_moves(alloc, &needed.nodes, &needed.shape)?;
-    let origin = joined(alloc, &needed.origin, &origin)?;
+    } = without_idle_moves(alloc, needed, needed_shape)?;
+    let origin = joined(alloc, &needed_origin, &origin)?;
     Ok(Rewritten {
         nodes,
         shape,
@@ -91,14 +99,18 @@ pub fn rewrite(alloc: Global, nodes: &NodeList, shape: &Shape) -> Result<Rewritt
     ensures addresses { IfOk result (λ r. CarriesAddresses nodes.now r.nodes) }
     ensures runs { IfOk result (λ r. RunsAreFollowed nodes.now shape.now r.nodes r.shape) }
 {
-    let moved = without_moves(alloc, nodes, shape)?;
-    moved.nodes.what_holds();
+    let Rewritten {
+        nodes: moved,
+        shape: moved_shape,
+        origin: moved_origin,
+    } = without_moves(alloc, nodes, shape)?;
+    moved.what_holds();
     let Rewritten {
         nodes,
         shape,
         origin,
-    } = thread(alloc, &moved.nodes, &moved.shape)?;
-    let origin = joined(alloc, &moved.origin, &origin)?;
+    } = with_threaded_jumps(alloc, moved, moved_shape)?;
+    let origin = joined(alloc, &moved_origin, &origin)?;
     Ok(Rewritten {
         nodes,
         shape,

@@ -6,7 +6,7 @@ ghost use Rattle.lg_live.specs.RegSets.{has, IsSmall};
 ghost use Rattle.lg_live.specs.Uses.{is_for, is_register, names, is_call, is_read, is_written};
 
 use crate::reg_set::RegSet;
-use lg_op::{ControlOp, Form, Node, Op, Operand, Reg};
+use lg_op::{ControlOp, Form, LastOperand, Node, Op, Operand, PlainOp, Reg};
 
 /// What a node does with a register.
 #[derive(Clone, Copy, Debug, PartialEq, Eq)]
@@ -62,17 +62,32 @@ fn is_call(op: Op) -> bool
     matches!(op, Op::Control(ControlOp::Call | ControlOp::Finish, _))
 }
 
+// A set with the register that an operand is.
+fn with_register(found: RegSet, operand: Operand) -> RegSet
+    ensures registers { (r : Reg) → has result r ≡ (has found r || is_register r operand) }
+    ensures small { IsSmall found → IsSmall result }
+{
+    match operand {
+        Operand::Reg(reg) => found.with(reg),
+        _ => found,
+    }
+}
+
 /// The registers of R0 to V2 that a node reads.
 pub fn reads(node: &Node) -> RegSet
     ensures registers { (r : Reg) → has result r ≡ is_read node.now r }
     ensures small { IsSmall result }
 {
-    named(
-        Access::Read,
-        node.op.forms(),
-        node.operands.as_slice(),
-        RegSet::none(),
-    )
+    let none = RegSet::none();
+    match (node.op, node.operands.as_slice()) {
+        (Op::Binary(_, LastOperand::Register), [_, a, b]) => {
+            with_register(with_register(none, *b), *a)
+        }
+        (Op::Binary(_, LastOperand::Immediate), [_, a, _]) | (Op::Unary(_), [_, a]) => {
+            with_register(none, *a)
+        }
+        (op, operands) => named(Access::Read, op.forms(), operands, none),
+    }
 }
 
 /// The registers of R0 to V2 that a node writes. A call writes R0, R1 and R2.
@@ -80,15 +95,18 @@ pub fn writes(node: &Node) -> RegSet
     ensures registers { (r : Reg) → has result r ≡ is_written node.now r }
     ensures small { IsSmall result }
 {
-    let written = named(
-        Access::Write,
-        node.op.forms(),
-        node.operands.as_slice(),
-        RegSet::none(),
-    );
-    if is_call(node.op) {
-        written.with(Reg::R0).with(Reg::R1).with(Reg::R2)
-    } else {
-        written
+    let none = RegSet::none();
+    match (node.op, node.operands.as_slice()) {
+        (Op::Binary(_, _), [d, _, _]) | (Op::Unary(_) | Op::Plain(PlainOp::Movi), [d, _]) => {
+            with_register(none, *d)
+        }
+        (op, operands) => {
+            let written = named(Access::Write, op.forms(), operands, none);
+            if is_call(op) {
+                written.with(Reg::R0).with(Reg::R1).with(Reg::R2)
+            } else {
+                written
+            }
+        }
     }
 }

@@ -60,5 +60,6 @@ module _ (l : LabelledNodes) (stays : ℕ → Bool) (targets : ℕ → Option La
       from-parts l (rewritten l stays targets).nodes l.words (rewritten l stays targets).places
       (sym (nodes-same (length l.nodes) (omega arith) ∙ take-length l.nodes)) refl (sym (places-same l.places placed))
 
-pub copied : (l m : LabelledNodes) (stays : List Bool) (targets : List (Option Label)) → m ≡ l → length stays ≡ length l.nodes → All (MayStand (length l.nodes)) l.places → list_all (λ s. s) stays ≡ true → list_all is_none targets ≡ true → m ≡ rewritten l (marked stays) (target_in targets)
-copied l m stays targets same count placed all none = same ∙ whole-same l (marked stays) (target_in targets) (λ i lt. all-marked stays all i (omega (arith, lt, count))) (none-given targets none) placed
+pub whole : (l : LabelledNodes) (stays : List Bool) (targets : List (Option Label)) → length stays ≡ length l.nodes → All (MayStand (length l.nodes)) l.places
+    → list_all (λ s. s) stays ≡ true → list_all is_none targets ≡ true → l ≡ rewritten l (marked stays) (target_in targets)
+whole l stays targets count placed all none = whole-same l (marked stays) (target_in targets) (λ i lt. all-marked stays all i (omega (arith, lt, count))) (none-given targets none) placed

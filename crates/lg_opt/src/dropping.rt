@@ -7,22 +7,20 @@ ghost use Rattle.lg_opt.specs.Rewritings.{IsOrigin, IsSameNode, KeepsOthers, Kee
 
 use crate::labels::labels_at;
 use crate::moves::staying;
-use crate::rebuilding::rebuilt;
-use crate::rewritten::{Rewritten, finished};
+use crate::rewritten::{Rewritten, remade};
 use lg_base::OutOfMemory;
 use lg_node::{NodeList, Shape};
 use std::alloc::Global;
 
 // The nodes without the moves that do nothing.
-fn dropped(alloc: Global, nodes: &NodeList, shape: &Shape) -> Result<Rewritten, OutOfMemory>
-    requires { IsShapeOf nodes.now shape.now }
-    ensures { IfOk result (λ r. IsDroppedTo nodes.now shape.now r.nodes r.shape r.origin.items) }
+fn dropped(alloc: Global, nodes: NodeList, shape: Shape) -> Result<Rewritten, OutOfMemory>
+    requires { IsShapeOf nodes shape }
+    ensures { IfOk result (λ r. IsDroppedTo nodes shape r.nodes r.shape r.origin.items) }
 {
     nodes.what_holds();
-    let labels = labels_at(alloc, nodes)?;
-    let stays = staying(alloc, nodes, &labels)?;
-    let list = rebuilt(alloc, nodes, &stays, &[])?;
-    finished(alloc, list, shape, &stays)
+    let labels = labels_at(alloc, &nodes)?;
+    let stays = staying(alloc, &nodes, &labels)?;
+    remade(alloc, nodes, shape, &stays, &[])
 }
 
 /// Drops each move that does nothing: of a register to itself, and of one to another where an earlier move of the same straight run has moved one
@@ -43,6 +41,25 @@ pub fn drop_moves(alloc: Global, nodes: &NodeList, shape: &Shape) -> Result<Rewr
     ensures addresses { IfOk result (λ r. CarriesAddresses nodes.now r.nodes) }
     ensures runs { IfOk result (λ r. RunsAreDropped nodes.now shape.now r.nodes r.shape r.origin.items) }
     ensures made { IfOk result (λ r. IsDroppedTo nodes.now shape.now r.nodes r.shape r.origin.items) }
+{
+    let nodes = nodes.copy(alloc)?;
+    let shape = shape.copy(alloc)?;
+    without_idle_moves(alloc, nodes, shape)
+}
+
+/// `drop_moves` of nodes that are handed over: where nothing is dropped they are handed back, with no copy.
+pub fn without_idle_moves(alloc: Global, nodes: NodeList, shape: Shape) -> Result<Rewritten, OutOfMemory>
+    requires { IsShapeOf nodes shape }
+    ensures shape { IfOk result (λ r. IsShapeOf r.nodes r.shape) }
+    ensures taken { IfOk result (λ r. r.shape.taken ≡ shape.taken) }
+    ensures origin { IfOk result (λ r. IsOrigin IsSameNode nodes r.nodes r.origin.items) }
+    ensures others { IfOk result (λ r. KeepsOthers is_movr nodes r.origin.items) }
+    ensures few { IfOk result (λ r. length r.nodes.nodes ≤ length nodes.nodes) }
+    ensures labels { IfOk result (λ r. KeepsLabels nodes r.nodes r.origin.items) }
+    ensures moves { IfOk result (λ r. HasNoIdleMoves r.nodes) }
+    ensures addresses { IfOk result (λ r. CarriesAddresses nodes r.nodes) }
+    ensures runs { IfOk result (λ r. RunsAreDropped nodes shape r.nodes r.shape r.origin.items) }
+    ensures made { IfOk result (λ r. IsDroppedTo nodes shape r.nodes r.shape r.origin.items) }
 {
     nodes.what_holds();
     dropped(alloc, nodes, shape)

@@ -16,6 +16,6 @@ mod sources;
 mod targets;
 mod threading;
 
-pub use dropping::drop_moves;
+pub use dropping::{drop_moves, without_idle_moves};
 pub use rewritten::Rewritten;
-pub use threading::thread;
+pub use threading::{thread, with_threaded_jumps};

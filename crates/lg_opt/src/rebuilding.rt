@@ -164,8 +164,8 @@ pub fn bind_moved(list: &mut NodeList, nodes: &NodeList, numbers: &[u32])
     }
 }
 
-// The nodes that stay, with their targets and the labels in their new places, built one by one.
-fn rebuilt_anew(
+/// The nodes that stay, with their targets and the labels in their new places, built one by one.
+pub fn rebuilt(
     alloc: Global,
     nodes: &NodeList,
     stays: &[bool],
@@ -183,38 +183,18 @@ fn rebuilt_anew(
     Ok(list)
 }
 
-// Whether all nodes stay.
-fn all_stay(stays: &[bool]) -> bool
+/// Whether all nodes stay.
+pub fn all_stay(stays: &[bool]) -> bool
     ensures { result ≡ list_all (λ s. s) stays.now }
 {
     stays.iter().all(|stays| *stays)
 }
 
-// Whether no other target is given.
-fn none_given(targets: &[Option<Label>]) -> bool
+/// Whether no other target is given.
+pub fn none_given(targets: &[Option<Label>]) -> bool
     ensures { result ≡ list_all is_none targets.now }
 {
     targets.iter().all(|target| target.is_none())
-}
-
-/// The nodes that stay, with their targets and the labels in their new places. Where all stay as they are the list is copied.
-#[tactic(auto, using(crate::proofs::WholeLemmas::copied))]
-pub fn rebuilt(
-    alloc: Global,
-    nodes: &NodeList,
-    stays: &[bool],
-    targets: &[Option<Label>],
-) -> Result<NodeList, OutOfMemory>
-    requires count { length stays.now ≡ length nodes.now.nodes }
-    requires targets { TargetsAreOfJumps nodes.now targets.now }
-    ensures { IfOk result (λ l. l ≡ rewritten nodes.now (marked stays.now) (target_in targets.now)) }
-{
-    nodes.what_holds();
-    if all_stay(stays) && none_given(targets) {
-        nodes.copy(alloc)
-    } else {
-        rebuilt_anew(alloc, nodes, stays, targets)
-    }
 }
 
 // Appends the number of a node that stays.

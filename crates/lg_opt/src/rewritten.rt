@@ -3,12 +3,12 @@
 ghost use Rattle.std.specs.Prelude.{◌≡◌, ◌<◌, ◌^◌, length, IfOk};
 ghost use Rattle.lg_node.specs.Checks.{IsAccepted};
 ghost use Rattle.lg_node.specs.Shapes.{IsShapeOf};
-ghost use Rattle.lg_opt.specs.Remaining.{origins};
-ghost use Rattle.lg_opt.specs.Rewritings.{marked};
+ghost use Rattle.lg_opt.specs.Remaining.{origins, rewritten};
+ghost use Rattle.lg_opt.specs.Rewritings.{marked, target_in, TargetsAreOfJumps};
 
-use crate::rebuilding::origin;
+use crate::rebuilding::{all_stay, none_given, origin, rebuilt};
 use lg_base::{Origin, OutOfMemory};
-use lg_node::{NodeList, Shape, reshape};
+use lg_node::{Label, NodeList, Shape, reshape};
 use std::alloc::Global;
 
 /// Nodes that others were rewritten to.
@@ -43,4 +43,35 @@ pub fn finished(
         shape,
         origin,
     })
+}
+
+/// The nodes that stay, with their targets and the labels in their new places, with their shape. Where all stay as they are it is the same list.
+#[tactic(auto, using(crate::proofs::WholeLemmas::whole))]
+pub fn remade(
+    alloc: Global,
+    nodes: NodeList,
+    shape: Shape,
+    stays: &[bool],
+    targets: &[Option<Label>],
+) -> Result<Rewritten, OutOfMemory>
+    requires count { length stays.now ≡ length nodes.nodes }
+    requires targets { TargetsAreOfJumps nodes targets.now }
+    requires shaped { IsShapeOf nodes shape }
+    requires accepted { IsAccepted (rewritten nodes (marked stays.now) (target_in targets.now)) }
+    ensures nodes { IfOk result (λ r. r.nodes ≡ rewritten nodes (marked stays.now) (target_in targets.now)) }
+    ensures shape { IfOk result (λ r. IsShapeOf r.nodes r.shape) }
+    ensures taken { IfOk result (λ r. r.shape.taken ≡ shape.taken) }
+    ensures origin { IfOk result (λ r. r.origin.items ≡ origins (marked stays.now) (length stays.now)) }
+{
+    nodes.what_holds();
+    if all_stay(stays) && none_given(targets) {
+        let origin = origin(alloc, stays)?;
+        return Ok(Rewritten {
+            nodes,
+            shape,
+            origin,
+        });
+    }
+    let list = rebuilt(alloc, &nodes, stays, targets)?;
+    finished(alloc, list, &shape, stays)
 }

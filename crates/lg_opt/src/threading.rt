@@ -9,25 +9,23 @@ ghost use Rattle.lg_opt.specs.Rewritings.{IsOrigin, IsThreadedNode, KeepsOthers,
 
 use crate::drops::{ends, staying};
 use crate::labels::labels_at;
-use crate::rebuilding::rebuilt;
-use crate::rewritten::{Rewritten, finished};
+use crate::rewritten::{Rewritten, remade};
 use crate::targets::targets;
 use lg_base::OutOfMemory;
 use lg_node::{NodeList, Shape};
 use std::alloc::Global;
 
 // The nodes with their jumps threaded.
-fn threaded(alloc: Global, nodes: &NodeList, shape: &Shape) -> Result<Rewritten, OutOfMemory>
-    requires { IsShapeOf nodes.now shape.now }
-    ensures { IfOk result (λ r. IsThreadedTo nodes.now shape.now r.nodes r.shape r.origin.items) }
+fn threaded(alloc: Global, nodes: NodeList, shape: Shape) -> Result<Rewritten, OutOfMemory>
+    requires { IsShapeOf nodes shape }
+    ensures { IfOk result (λ r. IsThreadedTo nodes shape r.nodes r.shape r.origin.items) }
 {
     nodes.what_holds();
-    let ends = ends(alloc, nodes)?;
-    let stays = staying(alloc, nodes, &ends)?;
-    let labels = labels_at(alloc, nodes)?;
-    let targets = targets(alloc, nodes, &ends, &labels)?;
-    let list = rebuilt(alloc, nodes, &stays, &targets)?;
-    finished(alloc, list, shape, &stays)
+    let ends = ends(alloc, &nodes)?;
+    let stays = staying(alloc, &nodes, &ends)?;
+    let labels = labels_at(alloc, &nodes)?;
+    let targets = targets(alloc, &nodes, &ends, &labels)?;
+    remade(alloc, nodes, shape, &stays, &targets)
 }
 
 /// Leads each branch and `jmpi` that goes to a `jmpi` to where that leads in the end, unless the jumps from there turn for ever, and drops each
@@ -49,6 +47,26 @@ pub fn thread(alloc: Global, nodes: &NodeList, shape: &Shape) -> Result<Rewritte
     ensures addresses { IfOk result (λ r. CarriesAddresses nodes.now r.nodes) }
     ensures runs { IfOk result (λ r. RunsAreThreaded nodes.now shape.now r.nodes r.shape) }
     ensures made { IfOk result (λ r. IsThreadedTo nodes.now shape.now r.nodes r.shape r.origin.items) }
+{
+    let nodes = nodes.copy(alloc)?;
+    let shape = shape.copy(alloc)?;
+    with_threaded_jumps(alloc, nodes, shape)
+}
+
+/// `thread` of nodes that are handed over: where nothing is threaded they are handed back, with no copy.
+pub fn with_threaded_jumps(alloc: Global, nodes: NodeList, shape: Shape) -> Result<Rewritten, OutOfMemory>
+    requires { IsShapeOf nodes shape }
+    ensures shape { IfOk result (λ r. IsShapeOf r.nodes r.shape) }
+    ensures taken { IfOk result (λ r. r.shape.taken ≡ shape.taken) }
+    ensures origin { IfOk result (λ r. IsOrigin IsThreadedNode nodes r.nodes r.origin.items) }
+    ensures others { IfOk result (λ r. KeepsOthers is_jump nodes r.origin.items) }
+    ensures few { IfOk result (λ r. length r.nodes.nodes ≤ length nodes.nodes) }
+    ensures labels { IfOk result (λ r. KeepsLabels nodes r.nodes r.origin.items) }
+    ensures jumps { IfOk result (λ r. HasNoIdleJumps r.nodes has_target) }
+    ensures moves { IfOk result (λ r. HasNoIdleMoves nodes → HasNoIdleMoves r.nodes) }
+    ensures addresses { IfOk result (λ r. CarriesAddresses nodes r.nodes) }
+    ensures runs { IfOk result (λ r. RunsAreThreaded nodes shape r.nodes r.shape) }
+    ensures made { IfOk result (λ r. IsThreadedTo nodes shape r.nodes r.shape r.origin.items) }
 {
     nodes.what_holds();
     threaded(alloc, nodes, shape)

@@ -1,8 +1,8 @@
 use Rattle.std.proofs.Common.{◌≡◌, ℕ, ◌<◌, [], length, refl, sym, ap, ◌∙◌, subst, arith}
 use Rattle.lg_node.specs.Checks.{IsAccepted}
 use Rattle.lg_node.specs.Shapes.{IsShapeOf}
-use Rattle.lg_opt.specs.Remaining.{no_targets, origins}
-use Rattle.lg_opt.specs.Rewritings.{marked}
+use Rattle.lg_opt.specs.Remaining.{no_targets, origins, rewritten}
+use Rattle.lg_opt.specs.Rewritings.{marked, target_in}
 use Rattle.lg_opt.proofs.AcceptLemmas.{accepted}
 use Rattle.lg_opt.proofs.ClauseLemmas.{all-ok, list-is, from-is}
 use Rattle.lg_dead.specs.Dead.{stays, needs_in}
@@ -12,42 +12,43 @@ use Rattle.lg_dead.proofs.NeededLemmas.{are-needs}
 use Rattle.lg_dead.proofs.StayingLemmas.{exact-in, no-fp-in}
 use Rattle.lg_dead.proofs.dropping.dropped.Goals as goal
 
-pub rebuilt-requires : goal.rebuilt-requires
-rebuilt-requires c = record { count = ap length c.deref-2.ensures.value ∙ c.in_ok-stays.ensures.0; targets = λ i n y e t. cc }
-
-pub finished-requires-clause-accepted : goal.finished-requires-clause-accepted
-finished-requires-clause-accepted c =
-    let l = c.args.nodes.now in
-    let s = c.args.shape.now in
+pub remade-requires : goal.remade-requires
+remade-requires c =
+    let l = c.args.nodes in
+    let s = c.args.shape in
     let sets = c.in_ok-needs.needs.items in
     let keep = stays (needs_in sets) l in
     let now = c.deref-2.result.now in
     let count = ap length c.deref-2.ensures.value ∙ c.in_ok-stays.ensures.0 in
     let are : (i : ℕ) → i < length l.nodes → marked now i ≡ stays (needs_in sets) l i = λ i lt. ap (λ xs. marked xs i) c.deref-2.ensures.value ∙ c.in_ok-stays.ensures.1 i (omega (arith, lt, c.in_ok-stays.ensures.0)) ∙ ap (λ ys. stays (needs_in ys) l i) c.deref.ensures.value in
-    let list = list-is l keep now count are [] no_targets (λ i lt. refl) c.what_holds.ensures.placed c.in_ok-list.list c.in_ok-list.ensures in
+    let list = list-is l keep now count are [] no_targets (λ i lt. refl) c.what_holds.ensures.placed (rewritten l (marked now) (target_in [])) refl in
     let needs = are-needs l s (needs_in sets) (exact-in l s sets c.in_ok-needs.ensures) (no-fp-in sets) in
-    subst IsAccepted (sym list) (accepted l keep no_targets (gone-rewrite l s s keep (needs_in sets) [] c.requires c.what_holds.ensures.formed needs) c.requires.accepted)
+    record {
+      count = count;
+      targets = λ i n y e t. cc;
+      shaped = c.requires;
+      accepted = subst IsAccepted (sym list) (accepted l keep no_targets (gone-rewrite l s s keep (needs_in sets) [] c.requires c.what_holds.ensures.formed needs) c.requires.accepted);
+    }
 
 pub returns : goal.returns
 returns c =
-    let l = c.args.nodes.now in
-    let s = c.args.shape.now in
+    let l = c.args.nodes in
+    let s = c.args.shape in
     let sets = c.in_ok-needs.needs.items in
     let keep = stays (needs_in sets) l in
     let now = c.deref-2.result.now in
     let count = ap length c.deref-2.ensures.value ∙ c.in_ok-stays.ensures.0 in
     let are : (i : ℕ) → i < length l.nodes → marked now i ≡ stays (needs_in sets) l i = λ i lt. ap (λ xs. marked xs i) c.deref-2.ensures.value ∙ c.in_ok-stays.ensures.1 i (omega (arith, lt, c.in_ok-stays.ensures.0)) ∙ ap (λ ys. stays (needs_in ys) l i) c.deref.ensures.value in
-    let list = list-is l keep now count are [] no_targets (λ i lt. refl) c.what_holds.ensures.placed c.in_ok-list.list c.in_ok-list.ensures in
-    let last = c.deref-3.ensures.value ∙ sym c.deref-2.ensures.value in
-    all-ok (λ r. r.nodes ≡ c.in_ok-list.list) (λ r. IsShapeOf c.in_ok-list.list r.shape) (λ r. r.shape.taken ≡ s.taken) (λ r. r.origin.items ≡ origins (marked c.deref-3.result.now) (length c.deref-3.result.now))
-    (λ r. IsDroppedTo l s r.nodes r.shape r.origin.items) c.finished.result
+    let list = list-is l keep now count are [] no_targets (λ i lt. refl) c.what_holds.ensures.placed (rewritten l (marked now) (target_in [])) refl in
+    all-ok (λ r. r.nodes ≡ rewritten l (marked now) (target_in [])) (λ r. IsShapeOf r.nodes r.shape) (λ r. r.shape.taken ≡ s.taken) (λ r. r.origin.items ≡ origins (marked now) (length now))
+    (λ r. IsDroppedTo l s r.nodes r.shape r.origin.items) c.remade.result
     (λ r n f t o. record {
       needs = needs_in sets;
       exact = exact-in l s sets c.in_ok-needs.ensures;
       fp = no-fp-in sets;
       nodes = n ∙ list;
-      shaped = subst (λ m. IsShapeOf m r.shape) (sym n) f;
+      shaped = f;
       taken = t;
-      from = o ∙ ap (λ xs. origins (marked xs) (length xs)) last ∙ from-is l keep now count are;
+      from = o ∙ from-is l keep now count are;
     })
-    c.finished.ensures.nodes c.finished.ensures.shape c.finished.ensures.taken c.finished.ensures.origin
+    c.remade.ensures.nodes c.remade.ensures.shape c.remade.ensures.taken c.remade.ensures.origin

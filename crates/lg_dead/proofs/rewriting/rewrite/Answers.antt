@@ -16,7 +16,7 @@ use Rattle.lg_dead.proofs.rewriting.rewrite.Goals as goal
 pub joined-requires : goal.joined-requires
 joined-requires c =
     let l = c.args.nodes.now in
-    let m = c.in_ok-moved.moved in
+    let m = c.in_ok-moved.field-0 in
     let t = c.in_ok-nodes.field-0 in
     joined-within IsFoldedNode IsThreadedNode l m.nodes t.nodes m.origin.items t.origin.items c.in_ok-moved.ensures.origin c.in_ok-nodes.ensures.origin
 
@@ -24,7 +24,7 @@ pub returns : goal.returns
 returns c =
     let l = c.args.nodes.now in
     let s = c.args.shape.now in
-    let m = c.in_ok-moved.moved in
+    let m = c.in_ok-moved.field-0 in
     let t = c.in_ok-nodes.field-0 in
     let first = c.in_ok-moved.ensures in
     let second = c.in_ok-nodes.ensures in

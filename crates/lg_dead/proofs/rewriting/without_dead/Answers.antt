@@ -13,11 +13,11 @@ pub returns : goal.returns
 returns c =
     let l = c.args.nodes.now in
     let s = c.args.shape.now in
-    let f = c.in_ok-folded.folded in
-    let first = c.in_ok-folded.ensures in
+    let f = c.in_ok-nodes.field-0 in
+    let first = c.in_ok-nodes.ensures in
     let to = first.made in
-    let r = c.drop_dead.result in
-    let e = c.drop_dead.ensures in
+    let r = c.without_dead_definitions.result in
+    let e = c.without_dead_definitions.ensures in
     record {
       shape = e.shape;
       taken = ok-weaker (λ r. r.shape.taken ≡ f.shape.taken) (λ r. r.shape.taken ≡ s.taken) r (λ x t. t ∙ first.taken) e.taken;

@@ -17,7 +17,7 @@ use Rattle.lg_dead.proofs.rewriting.without_moves.Goals as goal
 pub joined-requires : goal.joined-requires
 joined-requires c =
     let l = c.args.nodes.now in
-    let n = c.in_ok-needed.needed in
+    let n = c.in_ok-needed.field-0 in
     let t = c.in_ok-nodes.field-0 in
     joined-within IsFoldedNode IsSameNode l n.nodes t.nodes n.origin.items t.origin.items c.in_ok-needed.ensures.origin c.in_ok-nodes.ensures.origin
 
@@ -25,7 +25,7 @@ pub returns : goal.returns
 returns c =
     let l = c.args.nodes.now in
     let s = c.args.shape.now in
-    let n = c.in_ok-needed.needed in
+    let n = c.in_ok-needed.field-0 in
     let t = c.in_ok-nodes.field-0 in
     let first = c.in_ok-needed.ensures in
     let second = c.in_ok-nodes.ensures in

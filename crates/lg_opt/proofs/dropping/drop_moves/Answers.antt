@@ -1,27 +1,11 @@
-use Rattle.std.proofs.Common.{◌≡◌, ◌≤◌, length}
-use Rattle.lg_node.specs.Shapes.{IsShapeOf}
-use Rattle.lg_opt.specs.Moves.{HasNoIdleMoves, is_movr}
-use Rattle.lg_opt.specs.Rewritings.{IsOrigin, IsSameNode, KeepsOthers, KeepsLabels, CarriesAddresses, RunsAreDropped, IsDroppedTo}
-use Rattle.lg_opt.proofs.ClauseLemmas.{ok-weaker, dropped-origin, dropped-others, dropped-few, dropped-labels, dropped-moves, dropped-addresses, dropped-runs}
+use Rattle.std.proofs.Common.{IfOk, subst}
+use Rattle.lg_opt.specs.Rewritings.{CarriesAddresses, RunsAreDropped}
 use Rattle.lg_opt.proofs.dropping.drop_moves.Goals as goal
 
-pub returns : goal.returns
-returns c =
-    let l = c.args.nodes.now in
-    let s = c.args.shape.now in
-    let formed = c.what_holds.ensures.formed in
-    let placed = c.what_holds.ensures.placed in
-    let r = c.dropped.result in
-    let is = c.dropped.ensures in
-    record {
-      shape = ok-weaker (λ r. IsDroppedTo l s r.nodes r.shape r.origin.items) (λ r. IsShapeOf r.nodes r.shape) r (λ x d. d.shaped) is;
-      taken = ok-weaker (λ r. IsDroppedTo l s r.nodes r.shape r.origin.items) (λ r. r.shape.taken ≡ s.taken) r (λ x d. d.taken) is;
-      origin = ok-weaker (λ r. IsDroppedTo l s r.nodes r.shape r.origin.items) (λ r. IsOrigin IsSameNode l r.nodes r.origin.items) r (λ x d. dropped-origin l s c.requires formed placed x.nodes x.shape x.origin.items d) is;
-      others = ok-weaker (λ r. IsDroppedTo l s r.nodes r.shape r.origin.items) (λ r. KeepsOthers is_movr l r.origin.items) r (λ x d. dropped-others l s c.requires formed placed x.nodes x.shape x.origin.items d) is;
-      few = ok-weaker (λ r. IsDroppedTo l s r.nodes r.shape r.origin.items) (λ r. length r.nodes.nodes ≤ length l.nodes) r (λ x d. dropped-few l s c.requires formed placed x.nodes x.shape x.origin.items d) is;
-      labels = ok-weaker (λ r. IsDroppedTo l s r.nodes r.shape r.origin.items) (λ r. KeepsLabels l r.nodes r.origin.items) r (λ x d. dropped-labels l s c.requires formed placed x.nodes x.shape x.origin.items d) is;
-      moves = ok-weaker (λ r. IsDroppedTo l s r.nodes r.shape r.origin.items) (λ r. HasNoIdleMoves r.nodes) r (λ x d. dropped-moves l s c.requires formed placed x.nodes x.shape x.origin.items d) is;
-      addresses = ok-weaker (λ r. IsDroppedTo l s r.nodes r.shape r.origin.items) (λ r. CarriesAddresses l r.nodes) r (λ x d. dropped-addresses l s c.requires formed placed x.nodes x.shape x.origin.items d) is;
-      runs = ok-weaker (λ r. IsDroppedTo l s r.nodes r.shape r.origin.items) (λ r. RunsAreDropped l s r.nodes r.shape r.origin.items) r (λ x d. dropped-runs l s c.requires formed placed x.nodes x.shape x.origin.items d) is;
-      made = is;
-    }
+pub returns-clause-addresses : goal.returns-clause-addresses
+returns-clause-addresses c = subst (λ l. IfOk c.without_idle_moves.result (λ r. CarriesAddresses l r.nodes)) c.in_ok-nodes.ensures c.without_idle_moves.ensures.addresses
+
+pub returns-clause-runs : goal.returns-clause-runs
+returns-clause-runs c =
+    subst (λ s. IfOk c.without_idle_moves.result (λ r. RunsAreDropped c.args.nodes.now s r.nodes r.shape r.origin.items)) c.in_ok-shape.ensures
+    (subst (λ l. IfOk c.without_idle_moves.result (λ r. RunsAreDropped l c.in_ok-shape.shape r.nodes r.shape r.origin.items)) c.in_ok-nodes.ensures c.without_idle_moves.ensures.runs)

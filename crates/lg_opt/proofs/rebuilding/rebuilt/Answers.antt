@@ -5,7 +5,7 @@ use Rattle.lg_opt.specs.Rewritings.{marked, target_in}
 use Rattle.lg_opt.proofs.RemainingLemmas.{number-le}
 use Rattle.lg_opt.proofs.MovedLemmas.{new-count}
 use Rattle.lg_opt.proofs.RebuildLemmas.{from-parts, moved-same}
-use Rattle.lg_opt.proofs.rebuilding.rebuilt_anew.Goals as goal
+use Rattle.lg_opt.proofs.rebuilding.rebuilt.Goals as goal
 
 pub bind_moved-requires-clause-few : goal.bind_moved-requires-clause-few
 bind_moved-requires-clause-few c = λ k le.
