@@ -18,6 +18,7 @@ use self::operators::{
 use crate::answer::CpuStep;
 use crate::board::{Board, STOP};
 use lg_a64::{BranchOp, BranchRegOp, ImmOp, Instr, RegOp, ScaledOp, UnscaledOp, decode};
+use lg_base::layout::CODE_BASE;
 use lg_base::number::sign_extended;
 use lg_base::wide::sign_part;
 use lg_base::{FaultKind, Flags};

@@ -11,6 +11,7 @@ use self::operators::{is_taken, reg_value, shift_value};
 use crate::answer::CpuStep;
 use crate::board::{Board, STOP};
 use lg_base::FaultKind;
+use lg_base::layout::CODE_BASE;
 use lg_base::number::sign_extended;
 use lg_base::wide::sign_part;
 use lg_base::word::sign_extend_32;

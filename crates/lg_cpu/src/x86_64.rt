@@ -19,6 +19,7 @@ use self::operators::{
 };
 use crate::answer::CpuStep;
 use crate::board::{Board, STOP};
+use lg_base::layout::CODE_BASE;
 use lg_base::number::sign_extended;
 use lg_base::wide::{div_wide_u, div_wide_words, mul_high_u, sign_part, swap_bytes};
 use lg_base::{FaultKind, Flags};

@@ -34,7 +34,7 @@ fn stays_here(node: &Node, next: RegSet) -> bool
 pub fn staying(alloc: Global, nodes: &NodeList, needs: &[RegSet]) -> Result<Vec<bool>, OutOfMemory>
     ensures { IfOk result (λ table. (length table.items ≡ length nodes.now.nodes) × AreStays nodes.now needs.now table.items) }
 {
-    let mut table = Vec::new(alloc);
+    let mut table = Vec::with_capacity(alloc, nodes.len() as usize)?;
     for index in 0..nodes.len() {
         let node = nodes.node(index);
         let next = needed_at(needs, index as u64 + 1);

@@ -39,7 +39,7 @@ impl Chains {
         ensures { IfOk result (λ chains. AreChains points.now count chains) }
     {
         let mut last = vec![in alloc; None; count]?;
-        let mut earlier = Vec::new(alloc);
+        let mut earlier = Vec::with_capacity(alloc, points.len())?;
         for (index, point) in points.iter().enumerate() {
             earlier.push(link(&mut last, point.jumps, index))?;
         }

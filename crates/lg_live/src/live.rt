@@ -60,7 +60,7 @@ impl Live {
     {
         let points = points_of(alloc, nodes, shape, Sought::Live)?;
         let mut before = wanted(alloc, &points, 2 * nodes.len() as usize)?;
-        let mut after = Vec::new(alloc);
+        let mut after = Vec::with_capacity(alloc, points.len())?;
         for index in 0..points.len() {
             after.push(behind(&points, &before, index))?;
         }

@@ -188,7 +188,7 @@ pub fn points_of(
     ensures { IfOk result (λ points. ArePoints (feeding sought) nodes.now shape.now points.items) }
 {
     let marks = marked(alloc, nodes, shape)?;
-    let mut points = Vec::new(alloc);
+    let mut points = Vec::with_capacity(alloc, nodes.len() as usize)?;
     for index in 0..nodes.len() {
         let node = nodes.node(index);
         let marked = marks[index as usize];

@@ -1,4 +1,5 @@
 pub mod AcceptedLaws
+pub mod AstrayLemmas
 pub mod BindingLemmas
 pub mod ChainLemmas
 pub mod EndedLemmas

@@ -38,6 +38,11 @@ may_stand_outside op begun = false
 abbrev pub is_begun : List Node → ℕ → Bool
 is_begun nodes i = list_any is_prolog_node (take i nodes)
 
+-- whether an operand is a label
+abbrev pub is_label : Operand → Bool
+is_label (operand.Label x) = true
+is_label x = false
+
 -- TargetOutside: the target of a branch or jump is not in the same function behind its `prolog`, or, outside of every function, no
 -- `prolog`; a call's is no `prolog`; or the address of a node stands as an immediate where it may not
 abbrev pub is_astray : LabelledNodes → Option ℕ → Op → Form → Operand → Bool

@@ -51,6 +51,19 @@ impl NodeList {
         }
     }
 
+    /// The list of no nodes and no labels, with memory for so many nodes.
+    pub fn with_room(alloc: Global, nodes: u32) -> Result<NodeList, OutOfMemory>
+        ensures { IfOk result (λ l. l ≡ record { nodes = []; words = []; places = [] }) }
+    {
+        let nodes = Vec::with_capacity(alloc, nodes as usize)?;
+        Ok(NodeList {
+            alloc,
+            nodes,
+            words: IndexSet::new(alloc),
+            bindings: Bindings::new(alloc),
+        })
+    }
+
     /// A list of the same nodes, with the same labels at the same places, in memory of its own.
     pub fn copy(&self, alloc: Global) -> Result<NodeList, OutOfMemory>
         ensures { IfOk result (λ l. l ≡ self.now) }

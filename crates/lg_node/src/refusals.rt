@@ -6,7 +6,7 @@ ghost use Rattle.lg_op.specs.Nodes.{InForm};
 ghost use Rattle.lg_node.specs.Labels.{is_labelled};
 ghost use Rattle.lg_node.specs.Tables.{AreHomes, AreTables};
 ghost use Rattle.lg_node.specs.Walks.{walk_at, IsWithinLimits};
-ghost use Rattle.lg_node.specs.Checks.{is_missing, may_stand_outside, is_astray, any_by_form, needs_preparation, breaks_preparation, is_ellipsis, is_out_of_turn, is_bad_call, is_too_many, is_too_big, refuses, kinds};
+ghost use Rattle.lg_node.specs.Checks.{is_missing, may_stand_outside, is_label, is_astray, any_by_form, needs_preparation, breaks_preparation, is_ellipsis, is_out_of_turn, is_bad_call, is_too_many, is_too_big, refuses, kinds};
 
 use crate::labels::{home_in, is_code, is_entry, is_inside, takes_address};
 use crate::node_list::NodeList;
@@ -69,8 +69,22 @@ pub fn is_astray(
     }
 }
 
-// Whether one of the operands leads where it may not.
-fn goes_astray(
+// Whether an operand is a label.
+fn is_label(operand: Operand) -> bool
+    ensures { result ≡ is_label operand }
+{
+    matches!(operand, Operand::Label(_))
+}
+
+// Whether a node names a label.
+fn names_label(operands: &[Operand]) -> bool
+    ensures { result ≡ list_any is_label operands.now }
+{
+    operands.iter().any(|operand| is_label(*operand))
+}
+
+// Whether one of the operands leads where it may not, form by form.
+fn leads_astray(
     nodes: &NodeList,
     homes: &[Option<u32>],
     home: Option<u32>,
@@ -87,10 +101,25 @@ fn goes_astray(
             [] => false,
             [operand, operands @ ..] => {
                 is_astray(nodes, homes, home, op, *form, *operand)
-                    || goes_astray(nodes, homes, home, op, forms, operands)
+                    || leads_astray(nodes, homes, home, op, forms, operands)
             }
         },
     }
+}
+
+// Whether one of the operands leads where it may not: most nodes name no label.
+fn goes_astray(
+    nodes: &NodeList,
+    homes: &[Option<u32>],
+    home: Option<u32>,
+    op: Op,
+    forms: &[Form],
+    operands: &[Operand],
+) -> bool
+    requires { AreHomes nodes.now.nodes homes.now }
+    ensures { result ≡ any_by_form (is_astray nodes.now home op) forms.now operands.now }
+{
+    names_label(operands) && leads_astray(nodes, homes, home, op, forms, operands)
 }
 
 /// Whether an operation stands only where a call is being prepared.

@@ -162,6 +162,7 @@ impl Walk {
     }
 
     /// What is known behind the next node, which is in form. Within a function only a mark changes it.
+    #[inline(always)]
     #[tactic(auto, using(crate::proofs::MarkLemmas::unmarked))]
     pub fn behind(self, index: u32, node: &Node) -> Walk
         requires form { InForm node.now }

@@ -57,7 +57,7 @@ pub fn is_jump(op: Op) -> bool
 fn hops(alloc: Global, nodes: &NodeList) -> Result<Vec<u32>, OutOfMemory>
     ensures { IfOk result (λ table. (length table.items ≡ length nodes.now.nodes) × AreHops nodes.now table.items) }
 {
-    let mut table = Vec::new(alloc);
+    let mut table = Vec::with_capacity(alloc, nodes.len() as usize)?;
     for index in 0..nodes.len() {
         table.push(hop(nodes, index))?;
     }

@@ -64,7 +64,7 @@ pub fn staying(
     requires labels { AreLabelsAt nodes.now labels.now }
     ensures { IfOk result (λ table. (length table.items ≡ length nodes.now.nodes) × AreStays nodes.now table.items) }
 {
-    let mut table = Vec::new(alloc);
+    let mut table = Vec::with_capacity(alloc, nodes.len() as usize)?;
     let mut sources = Sources::none();
     for index in 0..nodes.len() {
         let node = nodes.node(index);

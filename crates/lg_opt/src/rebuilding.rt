@@ -19,7 +19,7 @@ use std::alloc::Global;
 pub fn unbound(alloc: Global, old: &NodeList) -> Result<NodeList, OutOfMemory>
     ensures { IfOk result (λ l. l ≡ unbound old.now.words) }
 {
-    let mut list = NodeList::new(alloc);
+    let mut list = NodeList::with_room(alloc, old.len())?;
     for index in 0..old.labels() {
         let label = list.label(old.word(Label(index)))?;
         if label.0 != index {
@@ -113,7 +113,7 @@ pub fn numbers(alloc: Global, stays: &[bool]) -> Result<Vec<u32>, OutOfMemory>
     ensures count { IfOk result (λ table. length table.items ≡ length stays.now + 1) }
     ensures numbers { IfOk result (λ table. (k : ℕ) → k ≤ length stays.now → slice_index table.items k ≡ new_number (marked stays.now) k) }
 {
-    let mut table = Vec::new(alloc);
+    let mut table = Vec::with_capacity(alloc, stays.len() + 1)?;
     let mut number: u32 = 0;
     for index in 0..stays.len() {
         table.push(number)?;

@@ -6,6 +6,7 @@ ghost use Rattle.lg_cpu.specs.A64Step.{start_registers, trash_flags};
 use crate::aarch64::Aarch64;
 use crate::board::{Board, STOP, trash_registers};
 use lg_base::Flags;
+use lg_base::layout::CODE_BASE;
 
 // the first address of the argument part, and the address behind the stack
 const ARGS: u64 = 0x2800_0000;

@@ -5,6 +5,7 @@ ghost use Rattle.lg_cpu.specs.RvStep.{start_registers};
 
 use crate::board::{Board, STOP, trash_registers};
 use crate::riscv64::Riscv64;
+use lg_base::layout::CODE_BASE;
 
 // the first address of the argument part, and the address behind the stack
 const ARGS: u64 = 0x2800_0000;

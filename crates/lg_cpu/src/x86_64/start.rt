@@ -6,6 +6,7 @@ ghost use Rattle.lg_cpu.specs.X86Step.{start_registers};
 use crate::board::{Board, STOP};
 use crate::x86_64::X86_64;
 use crate::x86_64::flags::no_flags;
+use lg_base::layout::CODE_BASE;
 
 // the first address of the argument part, and the address of the return address of the first function
 const ARGS: u64 = 0x2800_0000;

@@ -8,7 +8,7 @@ use Rattle.lg_opt.proofs.rebuilding.numbers.Goals as goal
 
 pub loop-index-init : goal.loop-index-init
 loop-index-init c = record {
-  count = ap length c.new-table.ensures.items;
+  count = ap length c.in_ok-table.ensures.items;
   numbers = λ k lt. absurd (omega (arith, lt));
   here = sym (number-zero (marked c.args.stays.now));
   few = omega arith;

@@ -4,7 +4,7 @@ use Rattle.lg_live.proofs.ChainLemmas.{linked_on, linked_start, put_back}
 use Rattle.lg_live.proofs.chains.Chains.of.Goals as goal
 
 pub loop-index-init : goal.loop-index-init
-loop-index-init c = linked_start c.args.points.now c.args.count c.in_ok-last.last.items c.new-earlier.result.items (c.in_ok-last.ensures.items_if_clones_equal (λ y p. search rules)) c.new-earlier.ensures.items
+loop-index-init c = linked_start c.args.points.now c.args.count c.in_ok-last.last.items c.in_ok-earlier.earlier.items (c.in_ok-last.ensures.items_if_clones_equal (λ y p. search rules)) c.in_ok-earlier.ensures.items
 
 pub loop-index-preserved : goal.loop-index-preserved
 loop-index-preserved c =

@@ -22,7 +22,7 @@ loop-index-preserved c =
 
 pub returns : goal.returns
 returns c =
-    let count : c.len-2.result ≡ length c.in_ok-points.points.items = omega (arith, c.len-2.ensures, c.in_ok-points.points.ok.0) in
+    let count : c.len-3.result ≡ length c.in_ok-points.points.items = omega (arith, c.len-3.ensures, c.in_ok-points.points.ok.0) in
     let end : c.loop-index.index ≡ length c.in_ok-points.points.items = omega (arith, c.len-index-end.ensures, c.in_ok-points.points.ok.0) in
     all_live c.args.nodes.now c.args.shape.now c.in_ok-points.points.items (2 * c.len.result) c.in_ok-before.before.items c.truncate.new.self.items c.loop-index.after.items c.in_ok-points.ensures
     (let P : List Point → Type 0 = λ points. AreWanted points (2 * c.len.result) c.in_ok-before.before.items in subst P c.deref.ensures.value c.in_ok-before.ensures) (ap (λ n. 2 * n) c.len.ensures)
