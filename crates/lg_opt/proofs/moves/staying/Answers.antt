@@ -8,8 +8,8 @@ use Rattle.lg_opt.proofs.moves.staying.Goals as goal
 
 pub loop-index-init : goal.loop-index-init
 loop-index-init c = record {
-  count = omega arith;
-  stays = λ i lt. absurd (omega arith);
+  count = ap length c.in_ok-table.ensures.items;
+  stays = λ i lt. absurd (omega (arith, ap length c.in_ok-table.ensures.items, lt));
   sources = first-behind c.args.nodes.now c.none-sources.result c.none-sources.ensures;
 }
 
