@@ -15,5 +15,6 @@ pub mod NearLemmas
 pub mod NeedLemmas
 pub mod NeededLemmas
 pub mod NoFoldLemmas
+pub mod NoneLemmas
 pub mod StayingLemmas
 pub mod ThreadLiveLemmas

@@ -1,5 +1,5 @@
 -- Which numbers registers are known to hold, and what nodes become by that.
-use Rattle.std.specs.Prelude.{◌≡◌, ◌↔◌, ℕ, ◌<◌, ◌≤◌, zero, suc, Bool, false, ◌||◌, if◌then◌else◌, List, [], ◌∷◌, Option, Some, None, is_some, length, slice_get, slice_index_or}
+use Rattle.std.specs.Prelude.{◌≡◌, ◌↔◌, ℕ, ◌<◌, ◌≤◌, zero, suc, Bool, true, false, ◌||◌, if◌then◌else◌, List, [], ◌∷◌, Option, Some, None, is_some, length, slice_get, slice_index_or}
 use Rattle.std.specs.Option.{option_map, option_and_then}
 use Rattle.std.specs.List.{All}
 use Rattle.lg_op.specs.Nodes.{InForm}
@@ -70,6 +70,10 @@ can_be_folded known n = is_some (made known n.op n.operands) || is_some (last_kn
 -- what is known behind a node that goes on: the number of a `movi`, and what the node does not write
 abbrev pub none_known : Reg → Option ℕ
 none_known r = None
+
+abbrev pub is_movi : Op → Bool
+is_movi (op.Plain plain.Movi) = true
+is_movi o = false
 
 abbrev pub moved_number : Op → List Operand → Reg → Option ℕ
 moved_number (op.Plain plain.Movi) (operand.Reg q ∷ operand.Number v ∷ []) r = if is_same q r then Some v else None

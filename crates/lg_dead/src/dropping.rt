@@ -51,7 +51,11 @@ pub fn drop_dead(alloc: Global, nodes: &NodeList, shape: &Shape) -> Result<Rewri
 }
 
 /// `drop_dead` of nodes that are handed over: where nothing is dropped they are handed back, with no copy.
-pub fn without_dead_definitions(alloc: Global, nodes: NodeList, shape: Shape) -> Result<Rewritten, OutOfMemory>
+pub fn without_dead_definitions(
+    alloc: Global,
+    nodes: NodeList,
+    shape: Shape,
+) -> Result<Rewritten, OutOfMemory>
     requires { IsShapeOf nodes shape }
     ensures shape { IfOk result (λ r. IsShapeOf r.nodes r.shape) }
     ensures taken { IfOk result (λ r. r.shape.taken ≡ shape.taken) }

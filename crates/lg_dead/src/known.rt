@@ -1,12 +1,12 @@
 // Which numbers registers are known to hold.
 
-ghost use Rattle.std.specs.Prelude.{◌≡◌, if◌then◌else◌, None, Some};
+ghost use Rattle.std.specs.Prelude.{◌≡◌, if◌then◌else◌, true, None, Some};
 ghost use Rattle.lg_op.specs.declared.operand.Reg.{Reg};
 ghost use Rattle.lg_op.specs.declared.operand.Reg.TheVariants.{R0, R1, R2, V0, V1, V2};
 ghost use Rattle.lg_live.specs.Registers.{is_same};
 ghost use Rattle.lg_live.specs.RegSets.{has};
 ghost use Rattle.lg_live.specs.Uses.{is_written};
-ghost use Rattle.lg_dead.specs.Known.{number_in, known_behind, moved_number, or_else};
+ghost use Rattle.lg_dead.specs.Known.{is_movi, number_in, known_behind, moved_number, or_else};
 ghost use Rattle.lg_dead.specs.Tables.{known_of};
 
 use lg_live::{RegSet, writes};
@@ -41,6 +41,13 @@ fn moved_number(node: &Node, register: Reg) -> Option<u64>
         [Operand::Reg(into), Operand::Number(number)] if is_same(*into, register) => Some(*number),
         _ => None,
     }
+}
+
+// Whether an operation moves an immediate.
+fn is_movi(op: Op) -> bool
+    ensures { result ≡ is_movi op }
+{
+    matches!(op, Op::Plain(PlainOp::Movi))
 }
 
 // What is known of a register behind a node that writes these.
@@ -95,8 +102,25 @@ impl Known {
         }
     }
 
-    /// What is known behind a node of the straight run.
-    pub fn behind(self, node: &Node) -> Known
+    // Whether nothing is known.
+    fn is_none(self) -> bool
+        ensures r0 { result ≡ true → self.r0 ≡ None }
+        ensures r1 { result ≡ true → self.r1 ≡ None }
+        ensures r2 { result ≡ true → self.r2 ≡ None }
+        ensures v0 { result ≡ true → self.v0 ≡ None }
+        ensures v1 { result ≡ true → self.v1 ≡ None }
+        ensures v2 { result ≡ true → self.v2 ≡ None }
+    {
+        self.r0.is_none()
+            && self.r1.is_none()
+            && self.r2.is_none()
+            && self.v0.is_none()
+            && self.v1.is_none()
+            && self.v2.is_none()
+    }
+
+    // What is known behind a node, register by register.
+    fn behind_each(self, node: &Node) -> Known
         ensures r0 { known_of result R0 ≡ known_behind (known_of self) node.now R0 }
         ensures r1 { known_of result R1 ≡ known_behind (known_of self) node.now R1 }
         ensures r2 { known_of result R2 ≡ known_behind (known_of self) node.now R2 }
@@ -112,6 +136,23 @@ impl Known {
             v0: behind(node, written, Reg::V0, self.v0),
             v1: behind(node, written, Reg::V1, self.v1),
             v2: behind(node, written, Reg::V2, self.v2),
+        }
+    }
+
+    /// What is known behind a node of the straight run: where nothing was known, only a `movi` makes something known.
+    #[tactic(auto, using(crate::proofs::NoneLemmas::none_behind))]
+    pub fn behind(self, node: &Node) -> Known
+        ensures r0 { known_of result R0 ≡ known_behind (known_of self) node.now R0 }
+        ensures r1 { known_of result R1 ≡ known_behind (known_of self) node.now R1 }
+        ensures r2 { known_of result R2 ≡ known_behind (known_of self) node.now R2 }
+        ensures v0 { known_of result V0 ≡ known_behind (known_of self) node.now V0 }
+        ensures v1 { known_of result V1 ≡ known_behind (known_of self) node.now V1 }
+        ensures v2 { known_of result V2 ≡ known_behind (known_of self) node.now V2 }
+    {
+        if self.is_none() && !is_movi(node.op) {
+            self
+        } else {
+            self.behind_each(node)
         }
     }
 }
