@@ -1,9 +1,9 @@
 -- The code of the operations on a register and a number.
-use Rattle.std.proofs.Common.{◌≡◌, ◌≢◌, ℕ, ◌+◌, ◌-◌, ◌/◌, ◌%◌, ◌^◌, ◌<◌, ◌×◌, Bool, true, false, List, [], ◌∷◌, Some, refl, sym, ap, ◌∙◌, arith}
-use Rattle.std.specs.Prelude.{◌==◌, ◌&&◌, nat_lt, bit_and, if◌then◌else◌}
+use Rattle.std.proofs.Common.{◌≡◌, ◌≢◌, ℕ, ◌+◌, ◌-◌, ◌/◌, ◌%◌, ◌^◌, ◌<◌, Bool, true, false, List, [], ◌∷◌, Some, refl, sym, ap, ◌∙◌, arith}
+use Rattle.std.specs.Prelude.{◌==◌, ◌&&◌, nat_lt, nat_le, bit_and, if◌then◌else◌}
 use Rattle.std.proofs.lemmas.Bool.{and_parts}
 use Rattle.std.proofs.lemmas.Nat.{and_mask}
-use Rattle.lg_base.specs.Words.{negated}
+use Rattle.lg_base.specs.Words.{negated, shifted_left, shifted_right}
 use Rattle.lg_op.specs.declared.op.BinaryOp.{BinaryOp}
 use Rattle.lg_op.specs.declared.op.BinaryOp.TheVariants as binary
 use Rattle.lg_op.specs.Operators.{binary_value, is_carried}
@@ -80,13 +80,17 @@ field-is : (x n : ℕ) → 0 < n → bitfield_value Ubfm x 0 (n - 1) ≡ x % 2 ^
 field-is x n some =
     let whole : x / 2 ^ 0 ≡ x = omega arith in
     let count : n - 1 - 0 + 1 ≡ n = omega (arith, some) in
-    (λ i. whole i % 2 ^ count i)
+    ap (λ (b : Bool). if b then shifted_right x 0 % 2 ^ (n - 1 - 0 + 1) else shifted_left (x % 2 ^ (n - 1 + 1)) (64 - 0)) (lowest (n - 1))
+    ∙ (λ i. whole i % 2 ^ count i)
+  where
+    lowest : (k : ℕ) → nat_le 0 k ≡ true
+    lowest k = grind arith
 
 mask-makes : (d a v : ℕ) → d < 31 → a < 31 → is_mask v ≡ true → Makes binary.And d a (λ w. v) [] (mask_code d a v)
 mask-makes d a v dl al h =
     let m = mask-of v h in
     shift-makes binary.And Ubfm d a v 0 (mask_width v - 1) dl al (λ e. cc)
-    (λ x z small e. field-is x (mask_width v) m.0.0 ∙ sym (and_mask x (mask_width v)) ∙ ap (bit_and x) (sym m.1) ∙ some-same _ z e)
+    (λ x z small e. field-is x (mask_width v) m.0 ∙ sym (and_mask x (mask_width v)) ∙ ap (bit_and x) (sym m.1.1) ∙ some-same _ z e)
 
 -- ---- every operation
 module _ (u d a v : ℕ) (dl : d < 31) (al : a < 30) (small : v < 2 ^ 64) (choices : List Choice) where

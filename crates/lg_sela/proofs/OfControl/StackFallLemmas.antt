@@ -1,6 +1,6 @@
 -- The stack pointer falls by the size of a frame.
 use Rattle.lg_carry.proofs.BlockLemmas.{no-width}
-use Rattle.std.proofs.Common.{◌≡◌, ◌≢◌, ℕ, suc, ◌+◌, ◌-◌, ◌*◌, ◌/◌, ◌%◌, ◌≤◌, ◌×◌, Bool, true, false, List, [], ◌∷◌, refl, ◌∙◌, subst, arith, length}
+use Rattle.std.proofs.Common.{◌≡◌, ◌≢◌, ℕ, suc, ◌+◌, ◌-◌, ◌*◌, ◌/◌, ◌%◌, ◌≤◌, Bool, true, false, List, [], ◌∷◌, refl, ◌∙◌, subst, arith, length}
 use Rattle.std.specs.Prelude.{◌==◌, nat_le, nat_lt, if◌then◌else◌}
 use Rattle.std.proofs.lemmas.Bool.{and_parts}
 use Rattle.lg_base.specs.Words.{sub_words}
