@@ -107,7 +107,7 @@ mask-form-good : (u d a v : ℕ) → Fine u → Fine d → a < 32 → AreGood (m
 mask-form-good u d a v g h k = by (is_mask v) refl
   where
     by : (b : Bool) → is_mask v ≡ b → AreGood (if b then mask_code d a v else loaded_code binary.And u d a v)
-    by true e = let m = mask-of v e in let less = m.1.0 in (((h.0, k, omega arith, omega (arith, less)), h.1, refl), tt)
+    by true e = let m = mask-of v e in let less = m.1 in (((h.0, k, omega arith, omega (arith, less)), h.1, refl), tt)
     by false e = loaded-good binary.And u d a v g h k
 
 form-good : (o : BinaryOp) (u d a v : ℕ) → Fine u → Fine d → a < 32 → AreGood (number_form_code o u d a v)

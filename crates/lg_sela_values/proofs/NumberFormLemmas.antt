@@ -90,7 +90,7 @@ mask-makes : (d a v : ℕ) → d < 31 → a < 31 → is_mask v ≡ true → Make
 mask-makes d a v dl al h =
     let m = mask-of v h in
     shift-makes binary.And Ubfm d a v 0 (mask_width v - 1) dl al (λ e. cc)
-    (λ x z small e. field-is x (mask_width v) m.0 ∙ sym (and_mask x (mask_width v)) ∙ ap (bit_and x) (sym m.1.1) ∙ some-same _ z e)
+    (λ x z small e. field-is x (mask_width v) m.0 ∙ sym (and_mask x (mask_width v)) ∙ ap (bit_and x) (sym m.2) ∙ some-same _ z e)
 
 -- ---- every operation
 module _ (u d a v : ℕ) (dl : d < 31) (al : a < 30) (small : v < 2 ^ 64) (choices : List Choice) where
