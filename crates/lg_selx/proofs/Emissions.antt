@@ -17,12 +17,11 @@ use Rattle.lg_selx_values.specs.declared.items.JumpKind.TheVariants.{Near, NearI
 use Rattle.lg_x86.specs.declared.instruction.Instr.{Instr}
 use Rattle.lg_x86.specs.declared.instruction.Instr.TheVariants.{Movi32, Movs32, Movi64}
 
--- the label of an item passes a test; a jump is near, or the reach of the node is short
+-- the label of an item passes a test; a jump is near
 abbrev pub Names : Reach → (ℕ → Bool) → Item → Type 0
 Names r is (One i) = ⊤
 Names r is (Jump (Near op) label) = is label ≡ true
 Names r is (Jump (NearIf cond) label) = is label ≡ true
-Names reaches.Short is (Jump Short label) = is label ≡ true
 Names reaches.Short is (Jump (ShortIf cond) label) = is label ≡ true
 Names r is (Jump kind label) = ⊥
 Names r is (Address reg label) = is label ≡ true

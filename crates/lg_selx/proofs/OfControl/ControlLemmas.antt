@@ -32,8 +32,7 @@ use Rattle.lg_sel.specs.declared.reach.Reach.{Reach}
 use Rattle.lg_sel.specs.declared.reach.Reach.TheVariants.{Short, Near, Far}
 use Rattle.lg_selx.specs.Control.Alignments.{align_code}
 use Rattle.lg_selx.specs.Control.Branches.{before_branch, taken}
-use Rattle.lg_selx.specs.Control.ControlItems.{jump_kind, always_kind, branch_if_items, branch_items, sum_items, jump_items, call_items}
-use Rattle.lg_selx.specs.Control.Jumps.{jump_code}
+use Rattle.lg_selx.specs.Control.ControlItems.{jump_kind, branch_if_items, branch_items, sum_items, jump_items, call_items}
 use Rattle.lg_selx.specs.Control.ControlItems.{register_jump_items, register_call_items, leap_items, ret_items, result_items, align_items, plain_items, control_items}
 use Rattle.lg_selx.specs.Control.ControlLaws.{ControlNodesCarry}
 use Rattle.lg_selx.specs.Control.HostCalls.{host_code, x86_ready}
@@ -57,11 +56,6 @@ jump-settled Short to at c l = refl
 jump-settled Near to at c l = refl
 jump-settled Far to at c l = refl
 
-always-settled : (r : Reach) (to : ℕ → ℕ) (at : ℕ) (l : Label) → settled to at (Jump (always_kind r) l.0 ∷ []) ≡ jump_code r at (to l.0)
-always-settled Short to at l = refl
-always-settled Near to at l = refl
-always-settled Far to at l = refl
-
 -- a jump behind instructions
 pub branch-settled : (r : Reach) (to : ℕ → ℕ) (at : ℕ) (front : List Instr) (c : Cond) (l : Label) → settled to at (branch_if_items r front c l) ≡ branch_if r front c at (to l.0)
 branch-settled r to at front c l =
@@ -79,8 +73,8 @@ module _ (r : Reach) (to : ℕ → ℕ) (frame homes at : ℕ) where
   sum-branches o (operand.Label l ∷ operand.Reg a ∷ x ∷ []) = branch-settled r to at (before_sum_branch frame o a x) (sum_taken o) l
   sum-branches o xs = refl
 
-  jumps : (xs : List Operand) → settled to at (jump_items r xs) ≡ jump_of (x86_control r) to at xs
-  jumps (operand.Label l ∷ []) = always-settled r to at l
+  jumps : (xs : List Operand) → settled to at (jump_items xs) ≡ jump_of (x86_control r) to at xs
+  jumps (operand.Label l ∷ []) = refl
   jumps xs = refl
 
   calls : (xs : List Operand) → settled to at (call_items xs) ≡ call_of (x86_control r) to at xs
@@ -108,7 +102,7 @@ module _ (r : Reach) (to : ℕ → ℕ) (frame homes at : ℕ) where
   returns (x ∷ []) = results x
   returns xs = refl
 
-  leaps : (o : ControlOp) (last : LastOperand) (xs : List Operand) → settled to at (leap_items r o last xs) ≡ leap_of (x86_control r) to frame at o last xs
+  leaps : (o : ControlOp) (last : LastOperand) (xs : List Operand) → settled to at (leap_items o last xs) ≡ leap_of (x86_control r) to frame at o last xs
   leaps control.Jmp last_operand.Immediate xs = jumps xs
   leaps control.Jmp last_operand.Register xs = register-jumps xs
   leaps control.Call last_operand.Immediate xs = calls xs
