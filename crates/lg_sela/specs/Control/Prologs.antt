@@ -1,6 +1,6 @@
 -- `prolog`: the stack pointer falls by the size of the frame, or first by so much of it that the frame's words lie near; the return address, the caller's
 -- frame pointer, V0, V1 and V2 and the register arguments that are read are stored above it, FP is set, and the stack pointer falls by what is left.
-use Rattle.std.specs.Prelude.{ℕ, ◌+◌, ◌-◌, ◌*◌, ◌/◌, ◌%◌, ◌==◌, ◌&&◌, nat_lt, nat_le, Bool, true, false, if◌then◌else◌, List, [], ◌∷◌, ◌++◌}
+use Rattle.std.specs.Prelude.{ℕ, ◌+◌, ◌-◌, ◌/◌, ◌%◌, ◌==◌, ◌&&◌, nat_lt, nat_le, Bool, true, false, if◌then◌else◌, List, [], ◌∷◌, ◌++◌}
 use Rattle.lg_base.specs.declared.target.Target.TheVariants.{Aarch64}
 use Rattle.lg_a64.specs.declared.instruction.ImmOp.TheVariants.{Addi, Subi}
 use Rattle.lg_a64.specs.declared.instruction.Instr.{Instr}
