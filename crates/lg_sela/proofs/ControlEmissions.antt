@@ -1,6 +1,6 @@
 -- The items of the nodes that branch, jump, call and return, of `prolog`, `.align` and of those without code; none but those of a `prolog` store.
 use Rattle.std.proofs.Common.{◌≡◌, ℕ, zero, suc, ◌-◌, ◌≤◌, Bool, true, false, List, [], ◌∷◌, refl, arith, length}
-use Rattle.std.specs.Prelude.{pos, nat_lt, if◌then◌else◌}
+use Rattle.std.specs.Prelude.{◌/◌, ◌%◌, pos, nat_lt, if◌then◌else◌}
 use Rattle.lg_a64.specs.declared.instruction.BranchOp.TheVariants.{B, Bl}
 use Rattle.lg_a64.specs.declared.instruction.BranchRegOp.{BranchRegOp}
 use Rattle.lg_a64.specs.declared.instruction.BranchRegOp.TheVariants.{Br, Blr}
@@ -38,7 +38,7 @@ use Rattle.lg_base.specs.Words.{negated}
 use Rattle.lg_sela_values.specs.BinaryCode.{is_small}
 use Rattle.lg_sela.specs.Control.Branches.{comparison, is_held, number_comparison, taken, turned}
 use Rattle.lg_sela.specs.Control.ControlItems.{second_register, word_items, second_items, compared_items, comparing, leads_items, branch_if_items, branch_items, sum_items, jump_items, call_items, result_items, ret_items, register_leap_items, leap_items, align_items, control_items}
-use Rattle.lg_sela.specs.Control.Prologs.{prolog_code, stored_registers, store_word, fall_code}
+use Rattle.lg_sela.specs.Control.Prologs.{prolog_code, framed_code, is_near, stored_registers, store_word}
 use Rattle.lg_sel.proofs.OfControl.StoreLemmas.{stored-few}
 use Rattle.lg_sela.specs.Control.RegisterLeaps.{register_leap_code}
 use Rattle.lg_sela.specs.Control.Returns.{result, near_return, far_return, return_code}
@@ -80,10 +80,20 @@ idle-none (suc k) = idle-none k
 
 -- a `prolog` stores at most 13 registers
 prolog-few : (frame homes : ℕ) → stores.stores_among a64_stores (prolog_code frame homes) ≤ 16
-prolog-few frame homes =
-    let h : stores.stores_among a64_stores (prolog_code frame homes) ≤ length (stored_registers homes) =
-    stores.among-stores a64_stores store_word (stored_registers homes) 0 (instr.Imm Addi frame_pointer stack_pointer 96 false ∷ fall_code (frame - 112)) refl in
-    let few = stored-few Aarch64 link homes in omega (arith, h, few)
+prolog-few frame homes = by (is_near frame) (nat_lt (frame - 112) 4096)
+  where
+    framed : (first : ℕ) (rest : List Instr) → NoneStores rest → stores.stores_among a64_stores (framed_code first homes rest) ≤ 16
+    framed first rest none =
+        let h : stores.stores_among a64_stores (framed_code first homes rest) ≤ length (stored_registers homes) =
+        stores.among-stores a64_stores (store_word first) (stored_registers homes) 0 (instr.Imm Addi frame_pointer stack_pointer (first - 16) false ∷ rest) none in
+        let few = stored-few Aarch64 link homes in omega (arith, h, few)
+
+    by : (b b' : Bool) → stores.stores_among a64_stores (if b then framed_code frame homes [] else framed_code 112 homes
+        (if b' then instr.Imm Subi stack_pointer stack_pointer (frame - 112) false ∷ []
+        else instr.Imm Subi stack_pointer stack_pointer ((frame - 112) / 4096 % 4096) true ∷ instr.Imm Subi stack_pointer stack_pointer ((frame - 112) % 4096) false ∷ [])) ≤ 16
+    by true b' = framed frame [] refl
+    by false true = framed 112 _ refl
+    by false false = framed 112 _ refl
 
 -- what leads to a label
 leads-emit : (reach : Reach) (is : ℕ → Bool) (holds : Cond) (l : Label) → is l.0 ≡ true → Emits reach is 1 0 (leads_items reach holds l)

@@ -2,7 +2,7 @@
 use Rattle.std.proofs.Common.{◌≡◌, ℕ, ◌+◌, ◌≤◌, Bool, true, List, [], ◌∷◌, ◌++◌, refl, arith}
 use Rattle.std.specs.Prelude.{⊤, ◌/◌, ◌%◌, ◌^◌, ◌==◌, nat_lt, if◌then◌else◌}
 use Rattle.lg_base.specs.Words.{complement}
-use Rattle.lg_sela_values.specs.Processor.Numbers.{quarter_code, positive_code, negative_code, number_code}
+use Rattle.lg_sela_values.specs.Processor.Numbers.{quarter_code, first_code, second_code, third_code, fourth_code, is_low, upper_code, positive_code, negative_code, number_code}
 use Rattle.lg_a64.specs.declared.instruction.BranchOp.{BranchOp}
 use Rattle.lg_a64.specs.declared.instruction.Cond.{Cond}
 use Rattle.lg_a64.specs.declared.instruction.Instr.{Instr}
@@ -36,8 +36,12 @@ positive-none rd v =
     let second : ℕ = v / 2 ^ 16 % 2 ^ 16 in
     let third : ℕ = v / 2 ^ 32 % 2 ^ 16 in
     let fourth : ℕ = v / 2 ^ 48 % 2 ^ 16 in
-    stores.none-append a64_stores (quarter_code rd second 1) (quarter_code rd third 2 ++ quarter_code rd fourth 3) (quarter-none rd second 1)
-    (stores.none-append a64_stores (quarter_code rd third 2) (quarter_code rd fourth 3) (quarter-none rd third 2) (quarter-none rd fourth 3))
+    let upper : NoneStores (quarter_code rd third 2 ++ quarter_code rd fourth 3) =
+    stores.none-append a64_stores (quarter_code rd third 2) (quarter_code rd fourth 3) (quarter-none rd third 2) (quarter-none rd fourth 3) in
+    stores.none-if a64_stores (is_low v) (first_code rd v) (upper_code rd v)
+    (stores.none-append a64_stores (quarter_code rd second 1) (quarter_code rd third 2 ++ quarter_code rd fourth 3) (quarter-none rd second 1) upper)
+    (stores.none-if a64_stores (v % 2 ^ 32 == 0) (if v % 2 ^ 48 == 0 then fourth_code rd v else third_code rd v) (second_code rd v)
+    (stores.none-if a64_stores (v % 2 ^ 48 == 0) (fourth_code rd v) (third_code rd v) refl (quarter-none rd fourth 3)) upper)
 
 negative-none : (rd v : ℕ) → NoneStores (negative_code rd v)
 negative-none rd v = stores.none-if a64_stores (v / 2 ^ 16 % 2 ^ 16 == 65535) [] (instr.Wide Movk rd (v / 2 ^ 16 % 2 ^ 16) 1 ∷ []) refl refl

@@ -13,7 +13,7 @@ use Rattle.lg_buf.specs.declared.fixes.FixKind.TheVariants.{A64Branch26, A64Cond
 use Rattle.lg_carry.specs.Blocks.{spellings}
 use Rattle.lg_carry.specs.FinalNodes.{Code}
 use Rattle.lg_sela_values.specs.Processor.A64Rows.{link, zero_register}
-use Rattle.lg_sela_values.specs.Processor.Numbers.{quarter_code, positive_code, negative_code, number_code}
+use Rattle.lg_sela_values.specs.Processor.Numbers.{quarter_code, first_code, second_code, third_code, fourth_code, is_low, positive_code, negative_code, number_code}
 use Rattle.lg_sela_values.proofs.OfProcessor.ComputerLemmas.{spellings-long}
 use Rattle.lg_op.specs.Forms.{admit, admits, forms_of, last_form}
 use Rattle.lg_op.specs.declared.form.Form.TheVariants as form
@@ -73,11 +73,19 @@ positive-apart : (rd v : ℕ) → Each Apart (positive_code rd v)
 positive-apart rd v =
     let second : ℕ = v / 2 ^ 16 % 2 ^ 16 in
     let third : ℕ = v / 2 ^ 32 % 2 ^ 16 in
-    let fourth : ℕ = v / 2 ^ 48 % 2 ^ 16 in (
-      refl,
-      each-append Apart (quarter_code rd second 1) (quarter_code rd third 2 ++ quarter_code rd fourth 3) (quarter-apart rd second 1)
-          (each-append Apart (quarter_code rd third 2) (quarter_code rd fourth 3) (quarter-apart rd third 2) (quarter-apart rd fourth 3)),
-    )
+    let fourth : ℕ = v / 2 ^ 48 % 2 ^ 16 in
+    let upper : Each Apart (quarter_code rd third 2 ++ quarter_code rd fourth 3) =
+    each-append Apart (quarter_code rd third 2) (quarter_code rd fourth 3) (quarter-apart rd third 2) (quarter-apart rd fourth 3) in
+    by (is_low v) (v % 2 ^ 32 == 0) (v % 2 ^ 48 == 0)
+    (refl, each-append Apart (quarter_code rd second 1) (quarter_code rd third 2 ++ quarter_code rd fourth 3) (quarter-apart rd second 1) upper)
+    (refl, upper) (refl, quarter-apart rd fourth 3)
+  where
+    by : (a b c : Bool) → Each Apart (first_code rd v) → Each Apart (second_code rd v) → Each Apart (third_code rd v)
+        → Each Apart (if a then first_code rd v else if b then (if c then fourth_code rd v else third_code rd v) else second_code rd v)
+    by true b c x y z = x
+    by false true true x y z = (refl, tt)
+    by false true false x y z = z
+    by false false c x y z = y
 
 negative-apart : (rd v : ℕ) → Each Apart (negative_code rd v)
 negative-apart rd v = (refl, by (v / 2 ^ 16 % 2 ^ 16 == 65535))

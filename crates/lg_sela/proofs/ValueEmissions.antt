@@ -32,7 +32,7 @@ use Rattle.lg_sel.specs.declared.reach.Reach.{Reach}
 use Rattle.lg_sela.proofs.Emissions.{NoneStores, number-none, Emits, none, append, more, instructions, plain, number, address, behind}
 use Rattle.lg_sela_values.specs.Items.{ones}
 use Rattle.lg_sela_values.specs.declared.items.Item.{Item}
-use Rattle.lg_sela_values.specs.BinaryCode.{register_code, second_register, loaded_code, is_small, takes_small, small_code, takes_negative, negative_code, negative_form_code, small_form_code, number_form_code}
+use Rattle.lg_sela_values.specs.BinaryCode.{register_code, second_register, loaded_code, is_small, takes_small, small_code, takes_negative, negative_code, negative_form_code, small_form_code, is_mask, mask_code, mask_form_code, number_form_code}
 use Rattle.lg_carry.specs.Values.ValueNodes.{extension}
 use Rattle.lg_sela_values.specs.UnaryCode.{unary_code, retval_code}
 use Rattle.lg_carry.specs.Values.Parts.{operand_in, first_taken}
@@ -82,7 +82,10 @@ negative-none : (o : BinaryOp) (d a v : ℕ) → NoneStores (negative_code o d a
 negative-none binary.Add d a v = refl
 negative-none o d a v = refl
 
-negative-form-none : (o : BinaryOp) (u d a v : ℕ) → NoneStores (negative_form_code o u d a v)
+negative-mask-form-none : (u d a v : ℕ) → NoneStores (mask_form_code u d a v)
+mask-form-none u d a v = stores.none-if a64_stores (is_mask v) (mask_code d a v) (loaded_code binary.And u d a v) refl (loaded-none binary.And u d a v)
+
+form-none : (o : BinaryOp) (u d a v : ℕ) → NoneStores (negative_form_code o u d a v)
 negative-form-none o u d a v =
     let loaded = loaded-none o u d a v in
     stores.none-if a64_stores (takes_negative o) (if is_small (negated v) then negative_code o d a v else loaded_code o u d a v) (loaded_code o u d a v)
@@ -97,6 +100,7 @@ form-none : (o : BinaryOp) (u d a v : ℕ) → NoneStores (number_form_code o u 
 form-none binary.Lsh u d a v = refl
 form-none binary.Rsh u d a v = refl
 form-none binary.RshU u d a v = refl
+form-none binary.And u d a v = mask-form-none u d a v
 form-none o u d a v = small-form-none o u d a v
 
 -- ---- items

@@ -30,7 +30,8 @@ use Rattle.lg_sela_values.specs.Items.{ones}
 use Rattle.lg_sela_values.specs.GoodItems.{Fine, AreGood, IsGoodItem}
 use Rattle.lg_sela_values.proofs.WithinLemmas.{portable}
 use Rattle.lg_sela_values.proofs.GoodLemmas.{good-append, link-fine, number-good, ones-good, items-good}
-use Rattle.lg_sela_values.specs.BinaryCode.{register_code, second_register, loaded_code, is_small, takes_small, small_code, takes_negative, negative_code, negative_form_code, small_form_code, number_form_code}
+use Rattle.lg_sela_values.specs.BinaryCode.{register_code, second_register, loaded_code, is_small, takes_small, small_code, takes_negative, negative_code, negative_form_code, small_form_code, is_mask, mask_code, mask_form_code, number_form_code}
+use Rattle.lg_sela_values.proofs.NumberFormLemmas.{mask-of}
 use Rattle.lg_carry.specs.Values.ValueNodes.{extension}
 use Rattle.lg_sela_values.specs.UnaryCode.{unary_code, retval_code}
 use Rattle.lg_sela_values.specs.WideCode.{product_by_link, quotient_by_link, wide_code, wide_by_link}
@@ -102,10 +103,18 @@ module _ (o : BinaryOp) (u d a v : ℕ) (g : Fine u) (h : Fine d) (k : a < 32) w
       by true false e = negative-form-good
       by false c e = loaded-good o u d a v g h k
 
+mask-form-good : (u d a v : ℕ) → Fine u → Fine d → a < 32 → AreGood (mask_form_code u d a v)
+mask-form-good u d a v g h k = by (is_mask v) refl
+  where
+    by : (b : Bool) → is_mask v ≡ b → AreGood (if b then mask_code d a v else loaded_code binary.And u d a v)
+    by true e = let m = mask-of v e in let less = m.1 in (((h.0, k, omega arith, omega (arith, less)), h.1, refl), tt)
+    by false e = loaded-good binary.And u d a v g h k
+
 form-good : (o : BinaryOp) (u d a v : ℕ) → Fine u → Fine d → a < 32 → AreGood (number_form_code o u d a v)
 form-good binary.Lsh u d a v g h k = (((h.0, k, omega arith, omega arith), h.1, refl), tt)
 form-good binary.Rsh u d a v g h k = (((h.0, k, omega arith, omega arith), h.1, refl), tt)
 form-good binary.RshU u d a v g h k = (((h.0, k, omega arith, omega arith), h.1, refl), tt)
+form-good binary.And u d a v g h k = mask-form-good u d a v g h k
 form-good o u d a v g h k = small-form-good o u d a v g h k
 
 -- ---- one register

@@ -1,7 +1,7 @@
 -- Items whose instructions are in range, within the conventions and followed by the next.
 use Rattle.std.proofs.Common.{◌≡◌, ℕ, ◌/◌, ◌%◌, ◌^◌, ◌<◌, Bool, true, false, List, [], ◌∷◌, ◌++◌, refl, arith}
 use Rattle.std.specs.Prelude.{◌==◌, nat_lt, if◌then◌else◌}
-use Rattle.lg_sela_values.specs.Processor.Numbers.{quarter_code, positive_code, number_code}
+use Rattle.lg_sela_values.specs.Processor.Numbers.{quarter_code, first_code, second_code, third_code, fourth_code, is_low, positive_code, number_code}
 use Rattle.lg_sela_values.specs.Processor.Destinations.{WritesWithin}
 use Rattle.lg_sela_values.specs.Processor.A64Rows.{is_straight}
 use Rattle.lg_a64.specs.declared.instruction.Instr.{Instr}
@@ -35,18 +35,31 @@ quarter-good rd part hw h lt few = by (part == 0)
     by true = tt
     by false = (((h.0, lt, few), h.1, refl), tt)
 
+positive-good : (rd v : ℕ) → Fine rd → AreGood (positive_code rd v)
+positive-good rd v h = by (is_low v) (v % 2 ^ 32 == 0) (v % 2 ^ 48 == 0)
+  where
+    last : AreGood (quarter_code rd (v / 2 ^ 48 % 2 ^ 16) 3)
+    last = quarter-good rd (v / 2 ^ 48 % 2 ^ 16) 3 h (omega arith) (omega arith)
+
+    second : AreGood (quarter_code rd (v / 2 ^ 32 % 2 ^ 16) 2 ++ quarter_code rd (v / 2 ^ 48 % 2 ^ 16) 3)
+    second = good-append (quarter_code rd (v / 2 ^ 32 % 2 ^ 16) 2) (quarter_code rd (v / 2 ^ 48 % 2 ^ 16) 3) (quarter-good rd (v / 2 ^ 32 % 2 ^ 16) 2 h (omega arith) (omega arith)) last
+
+    by : (a b c : Bool) → AreGood (if a then first_code rd v else if b then (if c then fourth_code rd v else third_code rd v) else second_code rd v)
+    by true b c = (
+      ((h.0, omega arith, omega arith), h.1, refl),
+      good-append (quarter_code rd (v / 2 ^ 16 % 2 ^ 16) 1) _ (quarter-good rd (v / 2 ^ 16 % 2 ^ 16) 1 h (omega arith) (omega arith)) second,
+    )
+    by false true true = (((h.0, omega arith, omega arith), h.1, refl), tt)
+    by false true false = (((h.0, omega arith, omega arith), h.1, refl), last)
+    by false false c = (((h.0, omega arith, omega arith), h.1, refl), second)
+
 pub number-good : (rd v : ℕ) → Fine rd → AreGood (number_code rd v)
 number-good rd v h = by (nat_lt (complement v) (2 ^ 32)) (v / 2 ^ 16 % 2 ^ 16 == 65535)
   where
     by : (a b : Bool) → AreGood (if a then Wide Movn rd (complement v % 2 ^ 16) 0 ∷ (if b then [] else Wide Movk rd (v / 2 ^ 16 % 2 ^ 16) 1 ∷ []) else positive_code rd v)
     by true true = (((h.0, omega arith, omega arith), h.1, refl), tt)
     by true false = (((h.0, omega arith, omega arith), h.1, refl), (((h.0, omega arith, omega arith), h.1, refl), tt))
-    by false b = (
-      ((h.0, omega arith, omega arith), h.1, refl),
-      good-append (quarter_code rd (v / 2 ^ 16 % 2 ^ 16) 1) _ (quarter-good rd (v / 2 ^ 16 % 2 ^ 16) 1 h (omega arith) (omega arith))
-          (good-append (quarter_code rd (v / 2 ^ 32 % 2 ^ 16) 2) (quarter_code rd (v / 2 ^ 48 % 2 ^ 16) 3) (quarter-good rd (v / 2 ^ 32 % 2 ^ 16) 2 h (omega arith) (omega arith))
-          (quarter-good rd (v / 2 ^ 48 % 2 ^ 16) 3 h (omega arith) (omega arith))),
-    )
+    by false b = positive-good rd v h
 
 -- ---- items
 fit : (x : Item) → IsGoodItem x → IsItem x

@@ -1,7 +1,9 @@
 -- The code of the operations on a register and a number.
-use Rattle.std.proofs.Common.{◌≡◌, ◌≢◌, ℕ, ◌-◌, ◌%◌, ◌^◌, ◌<◌, Bool, true, false, List, [], ◌∷◌, Some, refl, ap, ◌∙◌, arith}
-use Rattle.std.specs.Prelude.{if◌then◌else◌}
-use Rattle.lg_base.specs.Words.{negated}
+use Rattle.std.proofs.Common.{◌≡◌, ◌≢◌, ℕ, ◌+◌, ◌-◌, ◌/◌, ◌%◌, ◌^◌, ◌<◌, Bool, true, false, List, [], ◌∷◌, Some, refl, sym, ap, ◌∙◌, arith}
+use Rattle.std.specs.Prelude.{◌==◌, ◌&&◌, nat_lt, nat_le, bit_and, if◌then◌else◌}
+use Rattle.std.proofs.lemmas.Bool.{and_parts}
+use Rattle.std.proofs.lemmas.Nat.{and_mask}
+use Rattle.lg_base.specs.Words.{negated, shifted_left, shifted_right}
 use Rattle.lg_op.specs.declared.op.BinaryOp.{BinaryOp}
 use Rattle.lg_op.specs.declared.op.BinaryOp.TheVariants as binary
 use Rattle.lg_op.specs.Operators.{binary_value, is_carried}
@@ -16,7 +18,7 @@ use Rattle.lg_carry.specs.Nodes.Straight.{is_taken}
 use Rattle.lg_carry.specs.Values.Computers.{Held}
 use Rattle.lg_sela_values.specs.Processor.A64Rows.{link}
 use Rattle.lg_sela_values.proofs.OfProcessor.HeldLemmas.{read-is}
-use Rattle.lg_sela_values.specs.BinaryCode.{second_register, loaded_code, is_small, takes_small, small_code, takes_negative, negative_code, negative_form_code, small_form_code, number_form_code}
+use Rattle.lg_sela_values.specs.BinaryCode.{second_register, loaded_code, is_small, takes_small, small_code, takes_negative, negative_code, negative_form_code, small_form_code, mask_width, is_mask, mask_code, mask_form_code, number_form_code}
 use Rattle.lg_sela_values.proofs.BinaryCodeLemmas.{IsApartFor, write-same, write-other, some-same}
 use Rattle.lg_sela_values.proofs.LoadCodeLemmas.{loads-number}
 use Rattle.lg_sela_values.proofs.MadeLemmas.{Makes, loaded-makes}
@@ -64,6 +66,32 @@ right-signed-makes : (d a v : ℕ) → d < 31 → a < 31 → Makes binary.Rsh d 
 right-signed-makes d a v dl al = shift-makes binary.Rsh Sbfm d a v (v % 64) 63 dl al (λ e. cc)
     (λ x z small e. ap (λ n. bitfield_value Sbfm x n 63) (twice v) ∙ right-signed-is x (v % 64) small (few v) ∙ some-same _ z e)
 
+-- ---- masks
+-- what is known of the width of a mask
+pub mask-of : (v : ℕ) → is_mask v ≡ true → (0 < mask_width v) × (mask_width v < 64) × (v ≡ 2 ^ mask_width v - 1)
+mask-of v h =
+    let p = and_parts (nat_lt 0 (mask_width v)) (nat_lt (mask_width v) 64 && (v == 2 ^ mask_width v - 1)) h in
+    let q = and_parts (nat_lt (mask_width v) 64) (v == 2 ^ mask_width v - 1) p.1 in
+    let some = p.0 in
+    let less = q.0 in
+    let same = q.1 in (grind (arith, some), grind (arith, less), grind (arith, same))
+
+field-is : (x n : ℕ) → 0 < n → bitfield_value Ubfm x 0 (n - 1) ≡ x % 2 ^ n
+field-is x n some =
+    let whole : x / 2 ^ 0 ≡ x = omega arith in
+    let count : n - 1 - 0 + 1 ≡ n = omega (arith, some) in
+    ap (λ (b : Bool). if b then shifted_right x 0 % 2 ^ (n - 1 - 0 + 1) else shifted_left (x % 2 ^ (n - 1 + 1)) (64 - 0)) (lowest (n - 1))
+    ∙ (λ i. whole i % 2 ^ count i)
+  where
+    lowest : (k : ℕ) → nat_le 0 k ≡ true
+    lowest k = grind arith
+
+mask-makes : (d a v : ℕ) → d < 31 → a < 31 → is_mask v ≡ true → Makes binary.And d a (λ w. v) [] (mask_code d a v)
+mask-makes d a v dl al h =
+    let m = mask-of v h in
+    shift-makes binary.And Ubfm d a v 0 (mask_width v - 1) dl al (λ e. cc)
+    (λ x z small e. field-is x (mask_width v) m.0 ∙ sym (and_mask x (mask_width v)) ∙ ap (bit_and x) (sym m.2) ∙ some-same _ z e)
+
 -- ---- every operation
 module _ (u d a v : ℕ) (dl : d < 31) (al : a < 30) (small : v < 2 ^ 64) (choices : List Choice) where
   loaded : (o : BinaryOp) → IsSecond o a (second_register o u) choices → Makes o d a (λ w. v) choices (loaded_code o u d a v)
@@ -91,8 +119,16 @@ module _ (u d a v : ℕ) (dl : d < 31) (al : a < 30) (small : v < 2 ^ 64) (choic
       by true e = inner (is_small v) e
       by false e = loaded o s
 
+  mask-form : IsSecond binary.And a link choices → Makes binary.And d a (λ w. v) choices (mask_form_code u d a v)
+  mask-form s = by (is_mask v) refl
+    where
+      by : (b : Bool) → is_mask v ≡ b → Makes binary.And d a (λ w. v) choices (if b then mask_code d a v else loaded_code binary.And u d a v)
+      by true e = with-choices binary.And d a (λ w. v) choices (mask_code d a v) (mask-makes d a v dl (omega (arith, al)) e)
+      by false e = loaded binary.And s
+
   pub number-makes : (o : BinaryOp) → IsSecond o a (second_register o u) choices → Makes o d a (λ w. v) choices (number_form_code o u d a v)
   number-makes binary.Lsh s = with-choices binary.Lsh d a (λ w. v) choices _ (left-makes d a v dl (omega (arith, al)))
   number-makes binary.Rsh s = with-choices binary.Rsh d a (λ w. v) choices _ (right-signed-makes d a v dl (omega (arith, al)))
   number-makes binary.RshU s = with-choices binary.RshU d a (λ w. v) choices _ (right-makes d a v dl (omega (arith, al)))
+  number-makes binary.And s = mask-form s
   number-makes o s = small-form o s

@@ -4,7 +4,7 @@ use Rattle.std.specs.Prelude.{◌==◌, nat_lt, if◌then◌else◌}
 use Rattle.lg_base.specs.declared.target.Target.TheVariants.{Aarch64}
 use Rattle.lg_carry.specs.Outside.{is_outside}
 use Rattle.lg_sela_values.specs.Processor.Destinations.{WritesWithin}
-use Rattle.lg_sela_values.specs.Processor.Numbers.{quarter_code, positive_code, number_code}
+use Rattle.lg_sela_values.specs.Processor.Numbers.{quarter_code, first_code, second_code, third_code, fourth_code, is_low, positive_code, number_code}
 use Rattle.lg_op.specs.declared.operand.Reg.{Reg}
 use Rattle.lg_op.specs.declared.operand.Reg.TheVariants.{R0, R1, R2, V0, V1, V2, Fp}
 use Rattle.lg_a64.specs.declared.instruction.Instr.{Instr}
@@ -51,14 +51,22 @@ quarter rd part hw h = by (part == 0)
     by true = tt
     by false = (h, tt)
 
+positive : (rd v : ℕ) → In rd → Within (positive_code rd v)
+positive rd v h = by (is_low v) (v % 2 ^ 32 == 0) (v % 2 ^ 48 == 0)
+  where
+    second : Within (quarter_code rd (v / 2 ^ 32 % 2 ^ 16) 2 ++ quarter_code rd (v / 2 ^ 48 % 2 ^ 16) 3)
+    second = join (quarter_code rd (v / 2 ^ 32 % 2 ^ 16) 2) (quarter_code rd (v / 2 ^ 48 % 2 ^ 16) 3) (quarter rd (v / 2 ^ 32 % 2 ^ 16) 2 h) (quarter rd (v / 2 ^ 48 % 2 ^ 16) 3 h)
+
+    by : (a b c : Bool) → Within (if a then first_code rd v else if b then (if c then fourth_code rd v else third_code rd v) else second_code rd v)
+    by true b c = (h, join (quarter_code rd (v / 2 ^ 16 % 2 ^ 16) 1) _ (quarter rd (v / 2 ^ 16 % 2 ^ 16) 1 h) second)
+    by false true true = (h, tt)
+    by false true false = (h, quarter rd (v / 2 ^ 48 % 2 ^ 16) 3 h)
+    by false false c = (h, second)
+
 pub number : (rd v : ℕ) → In rd → Within (number_code rd v)
 number rd v h = by (nat_lt (complement v) (2 ^ 32)) (v / 2 ^ 16 % 2 ^ 16 == 65535)
   where
     by : (a b : Bool) → Within (if a then Wide Movn rd (complement v % 2 ^ 16) 0 ∷ (if b then [] else Wide Movk rd (v / 2 ^ 16 % 2 ^ 16) 1 ∷ []) else positive_code rd v)
     by true true = (h, tt)
     by true false = (h, (h, tt))
-    by false b = (
-      h,
-      join (quarter_code rd (v / 2 ^ 16 % 2 ^ 16) 1) _ (quarter rd (v / 2 ^ 16 % 2 ^ 16) 1 h)
-          (join (quarter_code rd (v / 2 ^ 32 % 2 ^ 16) 2) (quarter_code rd (v / 2 ^ 48 % 2 ^ 16) 3) (quarter rd (v / 2 ^ 32 % 2 ^ 16) 2 h) (quarter rd (v / 2 ^ 48 % 2 ^ 16) 3 h)),
-    )
+    by false b = positive rd v h

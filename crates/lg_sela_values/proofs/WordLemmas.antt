@@ -30,7 +30,7 @@ use Rattle.lg_sela_values.specs.declared.items.Item.{Item}
 use Rattle.lg_sela_values.specs.declared.items.Item.TheVariants.{One}
 use Rattle.lg_sela_values.specs.Items.{words_in, ones}
 use Rattle.lg_sela_values.proofs.ItemLemmas.{words_append, words-ones}
-use Rattle.lg_sela_values.specs.BinaryCode.{register_code, second_register, loaded_code, is_small, takes_small, small_code, takes_negative, negative_code, negative_form_code, small_form_code, number_form_code}
+use Rattle.lg_sela_values.specs.BinaryCode.{register_code, second_register, loaded_code, is_small, takes_small, small_code, takes_negative, negative_code, negative_form_code, small_form_code, is_mask, mask_code, mask_form_code, number_form_code}
 use Rattle.lg_carry.specs.Values.ValueNodes.{extension}
 use Rattle.lg_sela_values.specs.UnaryCode.{unary_code, retval_code}
 use Rattle.lg_sela_values.specs.WideCode.{product_by_link, quotient_by_link, wide_code, wide_by_link}
@@ -74,10 +74,18 @@ small-form-few o u d a v = by (takes_small o) (is_small v)
     by true false = negative-form-few o u d a v
     by false c = loaded-few o u d a v
 
+mask-form-few : (u d a v : ℕ) → length (mask_form_code u d a v) ≤ 6
+mask-form-few u d a v = by (is_mask v)
+  where
+    by : (b : Bool) → length (if b then mask_code d a v else loaded_code binary.And u d a v) ≤ 6
+    by true = omega arith
+    by false = loaded-few binary.And u d a v
+
 number-form-few : (o : BinaryOp) (u d a v : ℕ) → length (number_form_code o u d a v) ≤ 6
 number-form-few binary.Lsh u d a v = omega arith
 number-form-few binary.Rsh u d a v = omega arith
 number-form-few binary.RshU u d a v = omega arith
+number-form-few binary.And u d a v = mask-form-few u d a v
 number-form-few o u d a v = small-form-few o u d a v
 
 wide-few : (o : WideOp) (d e a b : ℕ) → length (wide_code o d e a b) ≤ 3

@@ -1,5 +1,6 @@
 -- The code of the operations on two words, from two registers or from a register and a number.
-use Rattle.std.specs.Prelude.{ℕ, ◌-◌, ◌%◌, nat_lt, Bool, true, false, if◌then◌else◌, List, [], ◌∷◌, ◌++◌}
+use Rattle.std.specs.Int.{w64, trailing_ones}
+use Rattle.std.specs.Prelude.{ℕ, ◌-◌, ◌%◌, ◌^◌, ◌==◌, ◌&&◌, nat_lt, Bool, true, false, if◌then◌else◌, List, [], ◌∷◌, ◌++◌}
 use Rattle.lg_base.specs.Words.{negated}
 use Rattle.lg_op.specs.declared.op.BinaryOp.{BinaryOp}
 use Rattle.lg_op.specs.declared.op.BinaryOp.TheVariants as binary
@@ -117,9 +118,24 @@ negative_form_code o u d a v =
 abbrev pub small_form_code : BinaryOp → ℕ → ℕ → ℕ → ℕ → List Instr
 small_form_code o u d a v = if takes_small o then (if is_small v then small_code o d a v else negative_form_code o u d a v) else loaded_code o u d a v
 
+-- how many of the lowest bits of a number are ones, one behind the other
+unfoldable pub mask_width : ℕ → ℕ
+mask_width v = trailing_ones w64 v
+
+-- a number that has no other bits, and not all 64: what it leaves of a word is a field of so many bits
+abbrev pub is_mask : ℕ → Bool
+is_mask v = nat_lt 0 (mask_width v) && (nat_lt (mask_width v) 64 && (v == 2 ^ mask_width v - 1))
+
+abbrev pub mask_code : ℕ → ℕ → ℕ → List Instr
+mask_code d a v = Bitfield Ubfm d a 0 (mask_width v - 1) ∷ []
+
+abbrev pub mask_form_code : ℕ → ℕ → ℕ → ℕ → List Instr
+mask_form_code u d a v = if is_mask v then mask_code d a v else loaded_code binary.And u d a v
+
 -- d = a op v; a shift by 64 or more is undefined
 abbrev pub number_form_code : BinaryOp → ℕ → ℕ → ℕ → ℕ → List Instr
 number_form_code binary.Lsh u d a v = Bitfield Ubfm d a ((64 - v % 64) % 64) (63 - v % 64) ∷ []
 number_form_code binary.Rsh u d a v = Bitfield Sbfm d a (v % 64) 63 ∷ []
 number_form_code binary.RshU u d a v = Bitfield Ubfm d a (v % 64) 63 ∷ []
+number_form_code binary.And u d a v = mask_form_code u d a v
 number_form_code o u d a v = small_form_code o u d a v

@@ -4,7 +4,7 @@ ghost use Rattle.std.specs.Prelude.{◌≡◌, ◌+◌, ◌<◌, ◌≤◌, ◌+
 ghost use Rattle.lg_base.specs.Words.{negated};
 ghost use Rattle.lg_sela_values.specs.Processor.A64Rows.{zero_register};
 ghost use Rattle.lg_sela_values.specs.Items.{ones, words_in};
-ghost use Rattle.lg_sela_values.specs.BinaryCode.{failing, remainder_code, register_code, second_register, loaded_code, is_small, takes_small, small_code, takes_negative, negative_code, negative_form_code, small_form_code, number_form_code};
+ghost use Rattle.lg_sela_values.specs.BinaryCode.{failing, remainder_code, register_code, second_register, loaded_code, is_small, takes_small, small_code, takes_negative, negative_code, negative_form_code, small_form_code, mask_width, is_mask, mask_code, mask_form_code, number_form_code};
 
 use crate::{Item, LINK, ZERO, bitfield, imm, mul_add, put_number, row};
 use lg_a64::{BitfieldOp, Cond, ImmOp, Instr, MulAddOp, RegOp};
@@ -191,6 +191,34 @@ fn small_form_code(op: BinaryOp, u: u8, d: u8, a: u8, value: u64, items: &mut It
     }
 }
 
+// How many of the lowest bits of a number are ones, one behind the other.
+#[tactic(auto, unfolding(crate::specs::BinaryCode::mask_width))]
+fn mask_width(value: u64) -> u32
+    ensures { result ≡ mask_width value }
+{
+    value.trailing_ones()
+}
+
+// Whether a number has no other bits, and not all 64.
+fn is_mask(value: u64) -> bool
+    ensures { result ≡ is_mask value }
+{
+    let width = mask_width(value);
+    0 < width && width < 64 && value == (1 << width) - 1
+}
+
+// Appends the code of `and` with a number: at most 6 instructions, for which there is room.
+fn mask_form_code(u: u8, d: u8, a: u8, value: u64, items: &mut Items<Item>)
+    requires { words_in items.old + 6 ≤ 64 }
+    ensures { items.new ≡ items.old ++ ones (mask_form_code u d a value) }
+{
+    if is_mask(value) {
+        items.one(bitfield(BitfieldOp::Ubfm, d, a, 0, (mask_width(value) - 1) as u8));
+    } else {
+        loaded_code(BinaryOp::And, u, d, a, value, items);
+    }
+}
+
 /// Appends the code of `d = a op value`, where `u` is a temporary: at most 6 instructions, for which there is room.
 pub fn number_form_code(op: BinaryOp, u: u8, d: u8, a: u8, value: u64, items: &mut Items<Item>)
     requires { words_in items.old + 6 ≤ 64 }
@@ -201,6 +229,7 @@ pub fn number_form_code(op: BinaryOp, u: u8, d: u8, a: u8, value: u64, items: &m
         BinaryOp::Lsh => items.one(bitfield(BitfieldOp::Ubfm, d, a, (64 - count) % 64, 63 - count)),
         BinaryOp::Rsh => items.one(bitfield(BitfieldOp::Sbfm, d, a, count, 63)),
         BinaryOp::RshU => items.one(bitfield(BitfieldOp::Ubfm, d, a, count, 63)),
+        BinaryOp::And => mask_form_code(u, d, a, value, items),
         _ => small_form_code(op, u, d, a, value, items),
     }
 }

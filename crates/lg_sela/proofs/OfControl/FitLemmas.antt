@@ -1,6 +1,6 @@
 -- The items of the nodes can be appended to a buffer.
 use Rattle.std.proofs.Common.{◌≡◌, ℕ, zero, suc, ◌+◌, ◌*◌, ◌^◌, ◌<◌, ◌≤◌, Bool, true, false, List, [], ◌∷◌, ◌++◌, refl, sym, ap, subst, arith, length}
-use Rattle.std.specs.Prelude.{◌&&◌, ◌||◌, ◌-◌, pos, negsuc, ◌≤ℤ◌, nat_lt, if◌then◌else◌}
+use Rattle.std.specs.Prelude.{◌&&◌, ◌||◌, ◌-◌, ◌/◌, ◌%◌, nat_lt, if◌then◌else◌}
 use Rattle.std.specs.List.{list_all}
 use Rattle.std.proofs.lemmas.Bool.{and_parts}
 use Rattle.lg_base.specs.Conventions.{argument_registers}
@@ -38,7 +38,7 @@ use Rattle.lg_sela_values.specs.Processor.A64Rows.{frame_pointer, stack_pointer,
 use Rattle.lg_sela_values.specs.Processor.Numbers.{number_code}
 use Rattle.lg_sela_values.proofs.OfProcessor.NumberCodeLemmas.{numbers-are-loaded}
 use Rattle.lg_sela_values.proofs.OfProcessor.RegisterLemmas.{register-small}
-use Rattle.lg_sel.proofs.OfControl.StoreLemmas.{stored-few, take-all}
+use Rattle.lg_sel.proofs.OfControl.StoreLemmas.{take-all}
 use Rattle.lg_sel.proofs.OfControl.ControlLemmas.{differ, never, never-sum, host-small}
 use Rattle.lg_sela_values.specs.declared.items.Item.{Item}
 use Rattle.lg_sela_values.specs.declared.items.Item.TheVariants.{One, Branch}
@@ -55,12 +55,13 @@ use Rattle.lg_carry.specs.Nodes.Operands.{IsGiven, AreGiven}
 use Rattle.lg_sela.specs.Control.ControlFits.{AreEmitted, ControlItemsFit}
 use Rattle.lg_sela.specs.Control.ControlItems.{second_register, second_items, comparing, branch_if_items, register_leap_items, control_items, is_control}
 use Rattle.lg_sela.specs.Control.ControlLaws.{ends_in_label}
-use Rattle.lg_sela.specs.Control.Prologs.{stored_registers, stores_below, fall_code, prolog_code}
+use Rattle.lg_sela.specs.Control.Prologs.{stored_registers, stores_below, fall_code, framed_code, is_near, prolog_code}
 use Rattle.lg_sela.specs.Control.RegisterLeaps.{register_leap_code}
 use Rattle.lg_sela.specs.Control.Returns.{result, near_return, far_return, return_code}
 use Rattle.lg_sela.specs.Control.SumBranches.{sum_instruction, sum_taken}
 use Rattle.lg_sela.specs.Control.TwoWays.{second_code, compared_code}
 use Rattle.lg_sela.proofs.OfControl.ControlLemmas.{second-is, compared-is}
+use Rattle.lg_sela.proofs.OfControl.StackFallLemmas.{near-size}
 
 -- ---- instructions alone have no fix and name no label
 -- what is said of a list of instructions that fit
@@ -162,8 +163,8 @@ idle-fits : (k : ℕ) → AreItems (ones (idle k))
 idle-fits zero = tt
 idle-fits (suc k) = (tt, idle-fits k)
 
-store-high : (k : ℕ) → pos (112 - (8 + 8 * k)) ≤ℤ pos 255
-store-high k = grind arith
+store-high : (first k : ℕ) → first ≤ 2048 → first / 8 - (1 + k) < 2 ^ 12
+store-high first k h = grind (arith, h)
 
 abbrev all-below : List ℕ → Bool
 all-below rs = list_all (λ r. nat_lt r 32) rs
@@ -174,24 +175,38 @@ below r h = grind (arith, h)
 stored-below : (homes : ℕ) → all-below (stored_registers homes) ≡ true
 stored-below homes = take-all (λ r. nat_lt r 32) (argument_registers Aarch64) homes refl
 
-stores-fit : (rs : List ℕ) (k : ℕ) → all-below rs ≡ true → k + length rs ≤ 13 → AreItems (ones (stores_below rs k))
-stores-fit [] k h few = tt
-stores-fit (r ∷ rs) k h few =
+stores-fit : (first : ℕ) (rs : List ℕ) (k : ℕ) → first ≤ 2048 → all-below rs ≡ true → AreItems (ones (stores_below first rs k))
+stores-fit first [] k near h = tt
+stores-fit first (r ∷ rs) k near h =
     let p = and_parts (nat_lt r 32) (all-below rs) h in
-    ((below r p.0, omega arith, grind arith, store-high k), stores-fit rs (suc k) p.1 (omega (arith, few)))
+    ((below r p.0, omega arith, store-high first k near), stores-fit first rs (suc k) near p.1)
+
+twelve-bits : (n : ℕ) → nat_lt n 4096 ≡ true → n < 4096
+twelve-bits n h = grind (arith, h)
 
 fall-fits : (size : ℕ) → AreItems (ones (fall_code size))
-fall-fits size = ((omega arith, omega arith, omega arith), ((omega arith, omega arith, omega arith), tt))
+fall-fits size = by (nat_lt size 4096) refl
+  where
+    by : (b : Bool) → nat_lt size 4096 ≡ b → AreItems (ones (if b then instr.Imm Subi stack_pointer stack_pointer size false ∷ []
+        else instr.Imm Subi stack_pointer stack_pointer (size / 4096 % 4096) true ∷ instr.Imm Subi stack_pointer stack_pointer (size % 4096) false ∷ []))
+    by true e = let small = twelve-bits size e in ((omega arith, omega arith, omega (arith, small)), tt)
+    by false e = ((omega arith, omega arith, omega arith), ((omega arith, omega arith, omega arith), tt))
+
+framed-fits : (first homes : ℕ) (rest : List Instr) → first ≤ 2048 → AreItems (ones rest) → AreItems (ones (framed_code first homes rest))
+framed-fits first homes rest near h =
+    let end = instr.Imm Addi frame_pointer stack_pointer (first - 16) false ∷ rest in (
+      (omega arith, omega arith, omega (arith, near)),
+      subst AreItems (sym (ones-append (stores_below first (stored_registers homes) 0) end))
+          (items-append (ones (stores_below first (stored_registers homes) 0)) (ones end) (stores-fit first (stored_registers homes) 0 near (stored-below homes))
+          ((omega arith, omega arith, omega (arith, near)), h)),
+    )
 
 prolog-fits : (size homes : ℕ) → AreItems (ones (prolog_code size homes))
-prolog-fits size homes =
-    let rest = instr.Imm Addi frame_pointer stack_pointer 96 false ∷ fall_code (size - 112) in (
-      (omega arith, omega arith, omega arith),
-      subst AreItems (sym (ones-append (stores_below (stored_registers homes) 0) rest))
-          (items-append (ones (stores_below (stored_registers homes) 0)) (ones rest)
-          (stores-fit (stored_registers homes) 0 (stored-below homes) (let few = stored-few Aarch64 link homes in omega (arith, few)))
-          ((omega arith, omega arith, omega arith), fall-fits (size - 112))),
-    )
+prolog-fits size homes = by (is_near size) refl
+  where
+    by : (b : Bool) → is_near size ≡ b → AreItems (ones (if b then framed_code size homes [] else framed_code 112 homes (fall_code (size - 112))))
+    by true e = framed-fits size homes [] (near-size size e).0 tt
+    by false e = framed-fits 112 homes (fall_code (size - 112)) (omega arith) (fall-fits (size - 112))
 
 -- ---- the nodes
 module _ (r : Reach) (labels frame homes at : ℕ) where

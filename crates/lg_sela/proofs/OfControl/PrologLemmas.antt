@@ -1,11 +1,10 @@
 -- A `prolog` makes the frame.
 use Rattle.lg_carry.proofs.BelowLemmas.{not-below}
 use Rattle.lg_carry.proofs.BlockLemmas.{no-width}
-use Rattle.std.proofs.Common.{◌≡◌, ℕ, suc, ◌+◌, ◌-◌, ◌*◌, ◌^◌, ◌<◌, ◌≤◌, Bool, true, List, ◌∷◌, refl, ap, ◌∙◌, arith, length, inr}
+use Rattle.std.proofs.Common.{◌≡◌, ℕ, suc, ◌+◌, ◌-◌, ◌*◌, ◌/◌, ◌%◌, ◌^◌, ◌<◌, ◌≤◌, Bool, true, false, List, [], ◌∷◌, refl, ap, ◌∙◌, subst, arith, length, inr}
 use Rattle.std.specs.List.{list_all}
-use Rattle.std.specs.Prelude.{◌==◌, not, pos, false, if◌then◌else◌}
+use Rattle.std.specs.Prelude.{◌==◌, not, nat_lt, if◌then◌else◌}
 use Rattle.lg_base.specs.Conventions.{argument_registers}
-use Rattle.lg_base.specs.Fields.{word_of}
 use Rattle.lg_base.specs.Layout.{most_code, stack_end, least_frame}
 use Rattle.lg_base.specs.Runs.{Running}
 use Rattle.lg_base.specs.Spaces.{mapped, stored}
@@ -28,14 +27,31 @@ use Rattle.lg_sela_values.proofs.OfProcessor.ComputerLemmas.{spellings-long}
 use Rattle.lg_sela_values.proofs.OfProcessor.HeldLemmas.{put-same, put-other}
 use Rattle.lg_carry.specs.Nodes.Stretches.{StandsAt, behind, PassesIn}
 use Rattle.lg_sel.specs.Control.Prologs.{Entrance, PrologsLead}
-use Rattle.lg_sel.proofs.OfControl.ChainLemmas.{RunsAt, next-at, Chain, chain-more, straight-block}
+use Rattle.lg_sel.proofs.OfControl.ChainLemmas.{RunsAt, next-at, Chain, chain-end, chain-more, straight-block}
 use Rattle.lg_sel.proofs.OfControl.EntranceLemmas.{IsEntered, entrance}
-use Rattle.lg_sel.proofs.OfControl.StoreLemmas.{word_below, address-above, HasStack, mapped-below, run_stored, stored-at, stored-registers}
+use Rattle.lg_sel.proofs.OfControl.StoreLemmas.{word_below, HasStack, mapped-below, run_stored, stored-at, stored-registers}
 use Rattle.lg_sel.proofs.OfControl.StoreLemmas.{stored-mark, stored-bytes, stored-chain, stored-few, take-all}
 use Rattle.lg_sel.proofs.OfControl.StoreLemmas.{stores-before, stores-all, stored-besides}
-use Rattle.lg_sela.specs.Control.Prologs.{stored_registers, store_word, fall_code, prolog_code}
-use Rattle.lg_sela.proofs.OfControl.StackFallLemmas.{Falls, falls}
+use Rattle.lg_sela.specs.Control.Prologs.{stored_registers, store_word, fall_code, framed_code, is_near, prolog_code}
+use Rattle.lg_sela.proofs.OfControl.StackFallLemmas.{Falls, falls, near-size}
 use Rattle.lg_sela.proofs.OfControl.StretchLemmas.{stands-high, all-passed}
+
+-- ---- the code
+straight-falls : (size : ℕ) → list_all is_straight (fall_code size) ≡ true
+straight-falls size = by (nat_lt size 4096)
+  where
+    by : (b : Bool) → list_all is_straight (if b then instr.Imm Subi stack_pointer stack_pointer size false ∷ []
+        else instr.Imm Subi stack_pointer stack_pointer (size / 4096 % 4096) true ∷ instr.Imm Subi stack_pointer stack_pointer (size % 4096) false ∷ []) ≡ true
+    by true = refl
+    by false = refl
+
+few-falls : (size : ℕ) → length (fall_code size) ≤ 2
+few-falls size = by (nat_lt size 4096)
+  where
+    by : (b : Bool) → length (if b then instr.Imm Subi stack_pointer stack_pointer size false ∷ []
+        else instr.Imm Subi stack_pointer stack_pointer (size / 4096 % 4096) true ∷ instr.Imm Subi stack_pointer stack_pointer (size % 4096) false ∷ []) ≤ 2
+    by true = omega arith
+    by false = omega arith
 
 -- ---- a store
 -- 31 would be stored as 0
@@ -58,52 +74,63 @@ are-stored homes = take-all can-store (argument_registers Aarch64) homes argumen
 are-others : (homes : ℕ) → list_all (λ r. not (r == stack_pointer)) (stored_registers homes) ≡ true
 are-others homes = take-all (λ r. not (r == stack_pointer)) (argument_registers Aarch64) homes refl
 
-module _ (sp : ℕ) (low : 0x3FF00010 + 272 ≤ sp) (high : sp ≤ 0x40000000) where
-  store-act : (q : CpuState) (r k : ℕ) → k < 13 → can-store r ≡ true → q.registers stack_pointer ≡ sp - 112 → HasStack q.bytes
-      → act (store_word r k) q ≡ arrives (add_words q.pc 4) q.registers q.flags (stored q.bytes (word_below sp k) 8 (q.registers r)) q.mark
+-- the row counts words
+words-above : (sp first k : ℕ) → k < 13 → first % 8 ≡ 0 → 104 ≤ first → first ≤ 2048 → 0x3FF00010 + 272 ≤ sp → sp ≤ 0x40000000
+    → add_words (sp - first) ((first / 8 - (1 + k)) * 8) ≡ word_below sp k
+words-above sp first k few whole least most low high = grind (arith, few, whole, least, most, low, high)
+
+module _ (sp first : ℕ) (low : 0x3FF00010 + 272 ≤ sp) (high : sp ≤ 0x40000000) (whole : first % 8 ≡ 0) (least : 104 ≤ first) (most : first ≤ 2048) where
+  store-act : (q : CpuState) (r k : ℕ) → k < 13 → can-store r ≡ true → q.registers stack_pointer ≡ sp - first → HasStack q.bytes
+      → act (store_word first r k) q ≡ arrives (add_words q.pc 4) q.registers q.flags (stored q.bytes (word_below sp k) 8 (q.registers r)) q.mark
   store-act q r k few can at there =
-      let address : add_words (q.registers stack_pointer) (word_of (pos (112 - (8 + 8 * k)))) ≡ word_below sp k =
-      ap (λ x. add_words x (word_of (pos (112 - (8 + 8 * k))))) at ∙ address-above sp 112 k few (omega arith) (omega arith) low high in
+      let address : add_words (q.registers stack_pointer) ((first / 8 - (1 + k)) * 8) ≡ word_below sp k =
+      ap (λ x. add_words x ((first / 8 - (1 + k)) * 8)) at ∙ words-above sp first k few whole least most low high in
       let value : read q.registers r ≡ q.registers r = ap (λ b. if b then 0 else q.registers r) (is-register r can) in
       let is-there : mapped q.bytes (word_below sp k) 8 ≡ true = mapped-below q.bytes sp k few low high there in
       rw (address, value, is-there) refl
 
   -- it lies at or above the stack pointer, which has fallen
-  store-above : (q : CpuState) (r k : ℕ) → k < 13 → q.registers stack_pointer ≡ sp - 112 → acts_above (store_word r k) q
+  store-above : (q : CpuState) (r k : ℕ) → k < 13 → q.registers stack_pointer ≡ sp - first → acts_above (store_word first r k) q
   store-above q r k few at a le lt =
-      let address : add_words (q.registers stack_pointer) (word_of (pos (112 - (8 + 8 * k)))) ≡ word_below sp k =
-      ap (λ x. add_words x (word_of (pos (112 - (8 + 8 * k))))) at ∙ address-above sp 112 k few (omega arith) (omega arith) low high in
-      not-below Aarch64 (q.registers stack_pointer) a (inr (omega (arith, le, address, at, few, low)))
+      let address : add_words (q.registers stack_pointer) ((first / 8 - (1 + k)) * 8) ≡ word_below sp k =
+      ap (λ x. add_words x ((first / 8 - (1 + k)) * 8)) at ∙ words-above sp first k few whole least most low high in
+      not-below Aarch64 (q.registers stack_pointer) a (inr (omega (arith, le, address, at, few, least, low)))
 
--- ---- the code
+fallen : (sp first : ℕ) → first ≤ 2048 → 0x3FF00010 + 272 ≤ sp → sp ≤ 0x40000000 → sub_words sp first ≡ sp - first
+fallen sp first most low high = grind (arith, most, low, high)
+
+pointer-above : (sp first : ℕ) → 104 ≤ first → first ≤ 2048 → 0x3FF00010 + 272 ≤ sp → sp ≤ 0x40000000 → add_words (sp - first) (first - 16) ≡ sp - 16
+pointer-above sp first least most low high = grind (arith, least, most, low, high)
+
+-- the first fall, the stores and FP are so many instructions
+abbrev framed_size : ℕ → ℕ
+framed_size homes = suc (1 + length (stored_registers homes))
+
+-- a part of the frame first, its words, and then what is left
 module _ (code : List ℕ) (trash : ℕ) (small : length code ≤ most_code) (bytes-small : AreBytes code) (trash-word : trash < 2 ^ 64)
-    (size homes from sp : ℕ) (q : Run CpuState) (seen : IsSeen (a64_seen q)) (size-few : 272 ≤ size) (room : least_frame + size ≤ sp) (top : sp ≤ stack_end)
-    (stack-is : q.state.registers stack_pointer ≡ sp) (k : StandsAt (a64_rows code trash) IsInstr from (prolog_code size homes)) (runs : status_of q.progress ≡ Running)
-    (at : q.state.pc ≡ from) where
-  low : 0x3FF00010 + 272 ≤ sp
-  low = omega (arith, room, size-few)
+    (first left homes : ℕ) (rest : List Instr) (whole : first % 8 ≡ 0) (least : 104 ≤ first) (most : first ≤ 2048) (straight-rest : list_all is_straight rest ≡ true) (few-rest : length rest ≤ 2)
+    (from sp : ℕ) (q : Run CpuState) (seen : IsSeen (a64_seen q)) (low : 0x3FF00010 + 272 ≤ sp) (top : sp ≤ stack_end)
+    (stack-is : q.state.registers stack_pointer ≡ sp) (k : StandsAt (a64_rows code trash) IsInstr from (framed_code first homes rest)) (runs : status_of q.progress ≡ Running)
+    (at : q.state.pc ≡ from)
+    (lowers : (r : Run CpuState) → RunsAt from (framed_size homes + length rest) (framed_size homes) r → r.state.registers stack_pointer ≡ sp - first
+    → Falls rest from (framed_size homes + length rest) (framed_size homes) left r) where
+  abbrev n : ℕ
+  n = framed_size homes + length rest
 
   abbrev registers : List ℕ
   registers = stored_registers homes
 
+  abbrev all : List Instr
+  all = framed_code first homes rest
+
+  abbrev fp-code : Instr
+  fp-code = instr.Imm Addi rows.frame_pointer stack_pointer (first - 16) false
+
   few-stored : length registers ≤ 13
   few-stored = stored-few Aarch64 link homes
 
-  -- so many instructions end with that of FP
-  abbrev m : ℕ
-  m = suc (1 + length registers)
-
-  abbrev n : ℕ
-  n = m + 2
-
-  abbrev all : List Instr
-  all = prolog_code size homes
-
-  abbrev fp-code : Instr
-  fp-code = instr.Imm Addi rows.frame_pointer stack_pointer 96 false
-
   code-size : length all ≡ n
-  code-size = let e = stores-before store_word registers 0 (fp-code ∷ fall_code (size - 112)) in omega (arith, e)
+  code-size = let e = stores-before (store_word first) registers 0 (fp-code ∷ rest) in omega (arith, e)
 
   begins : RunsAt from n 0 q
   begins = let h = stands-high code trash small bytes-small trash-word from all (omega arith) k in record {
@@ -115,7 +142,7 @@ module _ (code : List ℕ) (trash : ℕ) (small : length code ≤ most_code) (by
 
   -- the first fall
   abbrev w0 : ℕ
-  w0 = sub_words (q.state.registers stack_pointer) 112
+  w0 = sub_words (q.state.registers stack_pointer) first
 
   abbrev q0 : Run CpuState
   q0 = after q (computes q.state (put q.state.registers stack_pointer w0) q.state.flags)
@@ -123,11 +150,8 @@ module _ (code : List ℕ) (trash : ℕ) (small : length code ≤ most_code) (by
   a0 : RunsAt from n 1 q0
   a0 = next-at from n 0 q _ _ _ _ (omega arith) begins
 
-  stack0 : q0.state.registers stack_pointer ≡ sp - 112
-  stack0 = put-same q.state.registers stack_pointer w0 ∙ ap (λ y. sub_words y 112) stack-is ∙ first-word
-    where
-      first-word : sub_words sp 112 ≡ sp - 112
-      first-word = grind (arith, low, top)
+  stack0 : q0.state.registers stack_pointer ≡ sp - first
+  stack0 = put-same q.state.registers stack_pointer w0 ∙ ap (λ y. sub_words y first) stack-is ∙ fallen sp first most low top
 
   -- the stores
   abbrev q1 : Run CpuState
@@ -141,25 +165,25 @@ module _ (code : List ℕ) (trash : ℕ) (small : length code ≤ most_code) (by
 
   -- FP
   abbrev fp : ℕ
-  fp = add_words (q1.state.registers stack_pointer) 96
+  fp = add_words (q1.state.registers stack_pointer) (first - 16)
 
   abbrev q2 : Run CpuState
   q2 = after q1 (computes q1.state (put q1.state.registers rows.frame_pointer fp) q1.state.flags)
 
-  a2 : RunsAt from n m q2
+  a2 : RunsAt from n (framed_size homes) q2
   a2 = next-at from n (1 + length registers) q1 _ _ _ _ (omega arith) a1
 
-  stack1 : q1.state.registers stack_pointer ≡ sp - 112
+  stack1 : q1.state.registers stack_pointer ≡ sp - first
   stack1 = ap (λ g. g stack_pointer) regs1 ∙ stack0
 
-  stack2 : q2.state.registers stack_pointer ≡ sp - 112
+  stack2 : q2.state.registers stack_pointer ≡ sp - first
   stack2 = stack1
 
-  fp-word : (x : ℕ) → x ≡ sp - 112 → add_words x 96 ≡ sp - 16
-  fp-word x e = ap (λ y. add_words y 96) e ∙ grind (arith, low, top)
+  fp-word : fp ≡ sp - 16
+  fp-word = ap (λ y. add_words y (first - 16)) stack1 ∙ pointer-above sp first least most low top
 
-  fall : Falls (fall_code (size - 112)) from n m (size - 112) q2
-  fall = falls from n m (size - 112) q2 a2 (omega (arith, room, top)) (omega (arith, stack2, room, size-few)) (omega (arith, stack2, top)) (omega arith)
+  fall : Falls rest from n (framed_size homes) left q2
+  fall = lowers q2 a2 stack2
 
   abbrev u : Run CpuState
   u = fall.end
@@ -167,33 +191,66 @@ module _ (code : List ℕ) (trash : ℕ) (small : length code ≤ most_code) (by
   chain : Chain act acts_above all q u
   chain =
       chain-more act acts_above _ _ q u (computes q.state (put q.state.registers stack_pointer w0) q.state.flags) begins.runs (no-width _ _) refl
-      (stored-chain act acts_above store_word (λ f. f) can-store stack_pointer (sp - 112) sp (store-act sp low top) (store-above sp low top) registers 0 (fp-code ∷ fall_code (size - 112)) from n 1 q0 u
-      (omega (arith, few-stored)) (are-stored homes) (omega arith) a0 stack0 (λ a e. seen.stack a e)
-      (chain-more act acts_above fp-code (fall_code (size - 112)) q1 u (computes q1.state (put q1.state.registers rows.frame_pointer fp) q1.state.flags) a1.runs (no-width _ _) refl fall.chain))
+      (stored-chain act acts_above (store_word first) (λ f. f) can-store stack_pointer (sp - first) sp (store-act sp first low top whole least most) (store-above sp first low top whole least most) registers 0
+      (fp-code ∷ rest) from n 1 q0 u (omega (arith, few-stored)) (are-stored homes) (omega arith) a0 stack0 (λ a e. seen.stack a e)
+      (chain-more act acts_above fp-code rest q1 u (computes q1.state (put q1.state.registers rows.frame_pointer fp) q1.state.flags) a1.runs (no-width _ _) refl fall.chain))
 
   straight : list_all is_straight all ≡ true
-  straight = stores-all store_word is_straight (λ r j. refl) registers 0 (fp-code ∷ fall_code (size - 112)) refl
+  straight = stores-all (store_word first) is_straight (λ r j. refl) registers 0 (fp-code ∷ rest) straight-rest
 
   pass : PassesIn (a64_processor code trash) from (behind (a64_rows code trash) from all) (length all) q u
   pass = all-passed code trash small bytes-small trash-word from all q u k at (straight-block is_straight all straight) chain
 
-  is-entered : IsEntered (a64_processor code trash) link size homes sp q u
+  is-entered : IsEntered (a64_processor code trash) link (first + left) homes sp q u
   is-entered = record {
     bytes = fall.bytes ∙ stored-bytes (λ f. f) sp registers 0 q0
         ∙ stored-besides q.state.registers stack_pointer w0 sp registers 0 q.state.bytes (are-others homes);
-    pointer = fall.others rows.frame_pointer (conventions-apart Aarch64).pointers ∙ put-same q1.state.registers rows.frame_pointer fp ∙ fp-word (q1.state.registers stack_pointer) stack1;
-    stack = fall.stack ∙ ap (λ x. x - (size - 112)) stack2 ∙ omega (arith, size-few);
+    pointer = fall.others rows.frame_pointer (conventions-apart Aarch64).pointers ∙ put-same q1.state.registers rows.frame_pointer fp ∙ fp-word;
+    stack = fall.stack ∙ ap (λ x. x - left) stack2 ∙ omega arith;
     others = λ r no-link no-stack no-pointer. fall.others r no-stack ∙ put-other q1.state.registers rows.frame_pointer fp r no-pointer ∙ ap (λ g. g r) regs1
         ∙ put-other q.state.registers stack_pointer w0 r no-stack;
     mark = fall.mark ∙ stored-mark (λ f. f) sp registers 0 q0;
   }
 
-  pub enters : Entrance (a64_processor code trash) from (behind (a64_rows code trash) from all) sp size homes q
+  pub enters : Entrance (a64_processor code trash) from (behind (a64_rows code trash) from all) sp (first + left) homes q
   enters =
-      entrance (a64_processor code trash) link size homes sp refl refl low q u seen.words is-entered from (behind (a64_rows code trash) from all) (length all)
-      pass (omega (arith, code-size, few-stored)) (omega (arith, code-size)) fall.at.runs
+      entrance (a64_processor code trash) link (first + left) homes sp refl refl low q u seen.words is-entered from (behind (a64_rows code trash) from all) (length all)
+      pass (omega (arith, code-size, few-stored, few-rest)) (omega (arith, code-size)) fall.at.runs
       (let h = fall.at.here in let l = spellings-long all in omega (arith, h, l, code-size))
 
+no-fall : (base n k : ℕ) (q : Run CpuState) → RunsAt base n k q → Falls [] base n k 0 q
+no-fall base n k q at = record {
+  end = q;
+  chain = chain-end act acts_above q;
+  at = subst (λ x. RunsAt base n x q) (omega arith) at;
+  stack = omega arith;
+  others = λ r ne. refl;
+  bytes = refl;
+  mark = refl;
+}
+
+abbrev code-by : ℕ → ℕ → Bool → List Instr
+code-by frame homes b = if b then framed_code frame homes [] else framed_code 112 homes (fall_code (frame - 112))
+
 pub prologs-lead : (code : List ℕ) (trash : ℕ) → length code ≤ most_code → AreBytes code → trash < 2 ^ 64 → PrologsLead (a64_rows code trash) IsInstr prolog_code
-prologs-lead code trash small bytes word frame homes from stack q seen large room top even is k runs at =
-    enters code trash small bytes word frame homes from stack q seen large room top is k runs at
+prologs-lead code trash small bytes word frame homes from stack q seen large room top even is k runs at = by (is_near frame) refl k
+  where
+    low : 0x3FF00010 + 272 ≤ stack
+    low = omega (arith, room, large)
+
+    by : (b : Bool) → is_near frame ≡ b → StandsAt (a64_rows code trash) IsInstr from (code-by frame homes b)
+        → Entrance (a64_processor code trash) from (behind (a64_rows code trash) from (code-by frame homes b)) stack frame homes q
+    by true e k =
+        let near = near-size frame e in
+        let sum : frame + 0 ≡ frame = omega arith in
+        subst (λ x. Entrance (a64_processor code trash) from (behind (a64_rows code trash) from (framed_code frame homes [])) stack x homes q) sum
+        (enters code trash small bytes word frame 0 homes [] near.1 (omega (arith, large)) near.0 refl (omega arith) from stack q seen low top is k runs at
+        (λ r a z. no-fall from (framed_size homes + 0) (framed_size homes) r a))
+    by false e k =
+        let sum : 112 + (frame - 112) ≡ frame = omega (arith, large) in
+        let rest = fall_code (frame - 112) in
+        subst (λ x. Entrance (a64_processor code trash) from (behind (a64_rows code trash) from (framed_code 112 homes rest)) stack x homes q) sum
+        (enters code trash small bytes word 112 (frame - 112) homes rest refl (omega arith) (omega arith) (straight-falls (frame - 112)) (few-falls (frame - 112)) from
+        stack q seen low top is k runs at
+        (λ r a z. falls from (framed_size homes + length rest) (framed_size homes) (frame - 112) r a (omega (arith, room, top)) (omega (arith, z, room, large))
+        (omega (arith, z, top)) (omega arith)))

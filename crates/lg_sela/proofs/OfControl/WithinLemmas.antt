@@ -1,6 +1,6 @@
 -- No item of a node that branches, jumps, calls or returns, of `prolog` or `.align` writes a register that is outside of the conventions.
 use Rattle.std.proofs.Common.{ℕ, zero, suc, Bool, true, List, [], ◌∷◌, refl}
-use Rattle.std.specs.Prelude.{◌-◌, false, nat_lt, if◌then◌else◌}
+use Rattle.std.specs.Prelude.{◌-◌, ◌/◌, ◌%◌, false, nat_lt, if◌then◌else◌}
 use Rattle.lg_base.specs.HostNames.{host_address}
 use Rattle.lg_base.specs.declared.target.Target.TheVariants.{Aarch64}
 use Rattle.lg_op.specs.declared.op.BranchSumOp.{BranchSumOp}
@@ -39,7 +39,7 @@ use Rattle.lg_sela.specs.Control.Branches.{comparison, is_held, number_compariso
 use Rattle.lg_sela.specs.Control.ControlFits.{ControlItemsStay}
 use Rattle.lg_sela.specs.Control.ControlItems.{second_register, word_items, second_items, compared_items, comparing, leads_items, branch_items, sum_items, jump_items, call_items, result_items, ret_items}
 use Rattle.lg_sela.specs.Control.ControlItems.{register_leap_items, leap_items, align_items, plain_items, control_items}
-use Rattle.lg_sela.specs.Control.Prologs.{stored_registers, stores_below, fall_code, prolog_code}
+use Rattle.lg_sela.specs.Control.Prologs.{stored_registers, stores_below, fall_code, framed_code, is_near, prolog_code}
 use Rattle.lg_sela.specs.Control.Returns.{result, near_return, far_return, return_code}
 use Rattle.lg_sela.specs.Control.SumBranches.{sum_instruction}
 
@@ -170,16 +170,31 @@ aligned : (at : ℕ) (xs : List Operand) → StayWithin (align_items at xs)
 aligned at (operand.Number n ∷ []) = stay-ones (align_code at n) (idles (padding at n))
 aligned at xs = tt
 
-below : (rs : List ℕ) (k : ℕ) → Within (stores_below rs k)
-below [] k = tt
-below (r ∷ rs) k = (tt, below rs (suc k))
+below : (first : ℕ) (rs : List ℕ) (k : ℕ) → Within (stores_below first rs k)
+below first [] k = tt
+below first (r ∷ rs) k = (tt, below first rs (suc k))
+
+falls : (n : ℕ) → Within (fall_code n)
+falls n = by (nat_lt n 4096)
+  where
+    by : (b : Bool) → Within (if b then instr.Imm Subi stack_pointer stack_pointer n false ∷ []
+        else instr.Imm Subi stack_pointer stack_pointer (n / 4096 % 4096) true ∷ instr.Imm Subi stack_pointer stack_pointer (n % 4096) false ∷ [])
+    by true = (refl, tt)
+    by false = (refl, (refl, tt))
 
 begins : (frame homes : ℕ) → Within (prolog_code frame homes)
-begins frame homes = (
-  refl,
-  join (stores_below (stored_registers homes) 0) (instr.Imm Addi frame_pointer stack_pointer 96 false ∷ fall_code (frame - 112))
-      (below (stored_registers homes) 0) (refl, (refl, (refl, tt))),
-)
+begins frame homes = by (is_near frame)
+  where
+    framed : (first : ℕ) (rest : List Instr) → Within rest → Within (framed_code first homes rest)
+    framed first rest h = (
+      refl,
+      join (stores_below first (stored_registers homes) 0) (instr.Imm Addi frame_pointer stack_pointer (first - 16) false ∷ rest)
+          (below first (stored_registers homes) 0) (refl, h),
+    )
+
+    by : (b : Bool) → Within (if b then framed_code frame homes [] else framed_code 112 homes (fall_code (frame - 112)))
+    by true = framed frame [] tt
+    by false = framed 112 (fall_code (frame - 112)) (falls (frame - 112))
 
 plainly : (o : PlainOp) (xs : List Operand) (frame homes at : ℕ) → StayWithin (plain_items o xs frame homes at)
 plainly plain.Prolog xs frame homes at = stay-ones (prolog_code frame homes) (begins frame homes)

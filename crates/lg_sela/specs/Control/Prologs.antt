@@ -1,11 +1,11 @@
--- `prolog`: the stack pointer falls by 112 bytes, the return address, the caller's frame pointer, V0, V1 and V2 and the register arguments that are read are
--- stored above it, FP is set, and the stack pointer falls by what is left of the frame.
-use Rattle.std.specs.Prelude.{ℕ, ◌+◌, ◌-◌, ◌*◌, ◌/◌, ◌%◌, true, false, pos, List, [], ◌∷◌, ◌++◌}
+-- `prolog`: the stack pointer falls by the size of the frame, or first by so much of it that the frame's words lie near; the return address, the caller's
+-- frame pointer, V0, V1 and V2 and the register arguments that are read are stored above it, FP is set, and the stack pointer falls by what is left.
+use Rattle.std.specs.Prelude.{ℕ, ◌+◌, ◌-◌, ◌/◌, ◌%◌, ◌==◌, ◌&&◌, nat_lt, nat_le, Bool, true, false, if◌then◌else◌, List, [], ◌∷◌, ◌++◌}
 use Rattle.lg_base.specs.declared.target.Target.TheVariants.{Aarch64}
 use Rattle.lg_a64.specs.declared.instruction.ImmOp.TheVariants.{Addi, Subi}
 use Rattle.lg_a64.specs.declared.instruction.Instr.{Instr}
 use Rattle.lg_a64.specs.declared.instruction.Instr.TheVariants as instr
-use Rattle.lg_a64.specs.declared.instruction.UnscaledOp.TheVariants.{Stur}
+use Rattle.lg_a64.specs.declared.instruction.ScaledOp.TheVariants.{Str64}
 use Rattle.lg_sela_values.specs.Processor.A64Rows.{frame_pointer, stack_pointer, link}
 use Rattle.lg_sel.specs.Control.Stores as stores
 
@@ -13,19 +13,30 @@ use Rattle.lg_sel.specs.Control.Stores as stores
 abbrev pub stored_registers : ℕ → List ℕ
 stored_registers homes = stores.stored_registers Aarch64 link homes
 
--- one is stored in word k below the caller's stack pointer
-abbrev pub store_word : ℕ → ℕ → Instr
-store_word r k = instr.Unscaled Stur r stack_pointer (pos (112 - (8 + 8 * k)))
+-- one is stored in word k below the caller's stack pointer, where the stack pointer has fallen by so many bytes, a multiple of 8: the row counts words
+abbrev pub store_word : ℕ → ℕ → ℕ → Instr
+store_word first r k = instr.Scaled Str64 r stack_pointer (first / 8 - (1 + k))
 
 -- each is stored below the one before, from word k on
-abbrev pub stores_below : List ℕ → ℕ → List Instr
-stores_below rs k = stores.stores_below store_word rs k
+abbrev pub stores_below : ℕ → List ℕ → ℕ → List Instr
+stores_below first rs k = stores.stores_below (store_word first) rs k
 
--- the stack pointer falls by so many bytes, of less than 2 ^ 24: by whole multiples of 4,096, and by what is left
+-- the stack pointer falls by so many bytes, of less than 2 ^ 24: where it is no number of 12 bits by whole multiples of 4,096, and then by what is left
 abbrev pub fall_code : ℕ → List Instr
-fall_code n = instr.Imm Subi stack_pointer stack_pointer (n / 4096 % 4096) true ∷ instr.Imm Subi stack_pointer stack_pointer (n % 4096) false ∷ []
+fall_code n =
+    if nat_lt n 4096 then instr.Imm Subi stack_pointer stack_pointer n false ∷ []
+    else instr.Imm Subi stack_pointer stack_pointer (n / 4096 % 4096) true ∷ instr.Imm Subi stack_pointer stack_pointer (n % 4096) false ∷ []
+
+-- so much of a frame, with its words, and then what is left
+abbrev pub framed_code : ℕ → ℕ → List Instr → List Instr
+framed_code first homes rest =
+    instr.Imm Subi stack_pointer stack_pointer first false
+    ∷ (stores_below first (stored_registers homes) 0 ++ (instr.Imm Addi frame_pointer stack_pointer (first - 16) false ∷ rest))
+
+-- a frame of at most 2,048 bytes, in whole words, is made at once, and another in two falls
+abbrev pub is_near : ℕ → Bool
+is_near size = nat_le size 2048 && (size % 8 == 0)
 
 -- with so many homes
 abbrev pub prolog_code : ℕ → ℕ → List Instr
-prolog_code size homes = instr.Imm Subi stack_pointer stack_pointer 112 false
-    ∷ (stores_below (stored_registers homes) 0 ++ (instr.Imm Addi frame_pointer stack_pointer 96 false ∷ fall_code (size - 112)))
+prolog_code size homes = if is_near size then framed_code size homes [] else framed_code 112 homes (fall_code (size - 112))

@@ -1,17 +1,17 @@
 // Functions that begin and return, and places at a multiple.
 
-ghost use Rattle.std.specs.Prelude.{◌≡◌, ◌+◌, ◌-◌, ◌*◌, ◌<◌, ◌≤◌, true, [], ◌∷◌, ◌++◌};
+ghost use Rattle.std.specs.Prelude.{◌≡◌, ◌+◌, ◌-◌, ◌/◌, ◌%◌, ◌<◌, ◌≤◌, true, false, [], ◌∷◌, ◌++◌};
 ghost use Rattle.lg_base.specs.Conventions.{argument_registers};
 ghost use Rattle.lg_base.specs.declared.target.Target.TheVariants.{Aarch64};
 ghost use Rattle.lg_sela_values.specs.Processor.A64Rows.{stack_pointer, frame_pointer, link};
 ghost use Rattle.lg_op.specs.declared.form.Form.TheVariants as form;
 ghost use Rattle.lg_sela.specs.Control.ControlItems.{align_items, plain_items};
-ghost use Rattle.lg_sela.specs.Control.Prologs.{stored_registers, stores_below, fall_code, prolog_code};
+ghost use Rattle.lg_sela.specs.Control.Prologs.{stored_registers, store_word, stores_below, fall_code, framed_code, is_near, prolog_code};
 ghost use Rattle.lg_sela.specs.Control.Returns.{near_return, far_return, return_code};
 ghost use Rattle.lg_sela_values.specs.Items.{words_in, ones};
 ghost use Rattle.lg_op.specs.Forms.{admit, plain_forms};
 
-use lg_a64::{BranchRegOp, ImmOp, Instr, UnscaledOp};
+use lg_a64::{BranchRegOp, ImmOp, Instr, ScaledOp, UnscaledOp};
 use lg_op::{Operand, PlainOp};
 use lg_sel::Items;
 use lg_sel::control::{gap, put_idle};
@@ -27,50 +27,67 @@ const V1: u8 = 20;
 
 const V2: u8 = 21;
 
-// A word of the frame is stored by the stack pointer.
-fn store(reg: u8, imm: i32) -> Instr
-    ensures { result ≡ Instr.Unscaled (UnscaledOp.Stur) reg stack_pointer imm }
+// A word of the frame is stored by the stack pointer, which has fallen by so many bytes.
+fn store(first: u32, reg: u8, word: u32) -> Instr
+    requires large { 104 ≤ first }
+    requires small { first ≤ 2048 }
+    requires few { word < 13 }
+    ensures { result ≡ store_word first reg word }
 {
-    Instr::Unscaled {
-        op: UnscaledOp::Stur,
+    Instr::Scaled {
+        op: ScaledOp::Str64,
         rt: reg,
         rn: STACK_POINTER,
-        imm,
+        imm: (first / 8 - (1 + word)) as u16,
     }
 }
 
 // What each `prolog` stores: the link, FP, V0, V1 and V2.
-fn saves() -> [Instr; 5]
-    ensures { result ≡ stores_below (stored_registers 0) 0 }
+fn saves(first: u32) -> [Instr; 5]
+    requires large { 104 ≤ first }
+    requires small { first ≤ 2048 }
+    ensures { result ≡ stores_below first (stored_registers 0) 0 }
 {
     [
-        store(LINK, 104),
-        store(FRAME_POINTER, 96),
-        store(V0, 88),
-        store(V1, 80),
-        store(V2, 72),
+        store(first, LINK, 0),
+        store(first, FRAME_POINTER, 1),
+        store(first, V0, 2),
+        store(first, V1, 3),
+        store(first, V2, 4),
     ]
 }
 
 // The stores of the register arguments into their homes.
-fn home_stores() -> [Instr; 8]
-    ensures { result ≡ stores_below (argument_registers Aarch64) 5 }
+fn home_stores(first: u32) -> [Instr; 8]
+    requires large { 104 ≤ first }
+    requires small { first ≤ 2048 }
+    ensures { result ≡ stores_below first (argument_registers Aarch64) 5 }
 {
     [
-        store(0, 64),
-        store(1, 56),
-        store(2, 48),
-        store(3, 40),
-        store(4, 32),
-        store(5, 24),
-        store(6, 16),
-        store(7, 8),
+        store(first, 0, 5),
+        store(first, 1, 6),
+        store(first, 2, 7),
+        store(first, 3, 8),
+        store(first, 4, 9),
+        store(first, 5, 10),
+        store(first, 6, 11),
+        store(first, 7, 12),
     ]
 }
 
-// The stack pointer falls: by whole multiples of 4,096, and by what is left.
-fn fall(size: u32) -> [Instr; 2]
-    ensures { result ≡ fall_code size }
+// The stack pointer falls by a number of 12 bits.
+fn short_fall(size: u32) -> Instr
+    requires { size < 4096 }
+    ensures { result ≡ Instr.Imm (ImmOp.Subi) stack_pointer stack_pointer size false }
+{
+    imm(ImmOp::Subi, STACK_POINTER, STACK_POINTER, size as u16)
+}
+
+// By whole multiples of 4,096, and by what is left.
+fn long_fall(size: u32) -> [Instr; 2]
+    ensures { result ≡ Instr.Imm (ImmOp.Subi) stack_pointer stack_pointer (size / 4096 % 4096) true
+        ∷ Instr.Imm (ImmOp.Subi) stack_pointer stack_pointer (size % 4096) false
+        ∷ [] }
 {
     let high = Instr::Imm {
         op: ImmOp::Subi,
@@ -79,24 +96,58 @@ fn fall(size: u32) -> [Instr; 2]
         imm: (size / 4096 % 4096) as u16,
         shifted: true,
     };
-    let low = imm(
-        ImmOp::Subi,
-        STACK_POINTER,
-        STACK_POINTER,
-        (size % 4096) as u16,
-    );
-    [high, low]
+    [high, short_fall(size % 4096)]
+}
+
+// Appends the fall of the stack pointer.
+fn put_fall(size: u32, items: &mut Items<Item>)
+    requires room { words_in items.old ≤ 60 }
+    ensures { items.new ≡ items.old ++ ones (fall_code size) }
+{
+    if size < 4096 {
+        items.one(short_fall(size));
+    } else {
+        items.all(&long_fall(size));
+    }
 }
 
 // Appends the stores of a `prolog` with so many homes.
 #[tactic(auto, using(lg_sela_values::proofs::ItemLemmas::words_append))]
-fn put_stores(homes: u32, items: &mut Items<Item>)
+fn put_stores(first: u32, homes: u32, items: &mut Items<Item>)
     requires room { words_in items.old ≤ 50 }
-    ensures stored { items.new ≡ items.old ++ ones (stores_below (stored_registers homes) 0) }
+    requires large { 104 ≤ first }
+    requires small { first ≤ 2048 }
+    ensures stored { items.new ≡ items.old ++ ones (stores_below first (stored_registers homes) 0) }
     ensures few { words_in items.new ≤ words_in items.old + 13 }
 {
-    items.all(&saves());
-    items.all(&home_stores()[..homes.min(8) as usize]);
+    items.all(&saves(first));
+    items.all(&home_stores(first)[..homes.min(8) as usize]);
+}
+
+// Appends the fall of the stack pointer by so much of a frame, its words, with so many homes, and FP to none.
+#[tactic(auto, using(lg_sela_values::proofs::ItemLemmas::words_append))]
+fn put_words(first: u32, homes: u32, items: &mut Items<Item>)
+    requires empty { items.old ≡ [] }
+    requires large { 104 ≤ first }
+    requires small { first ≤ 2048 }
+    ensures framed { items.new ≡ ones (framed_code first homes []) }
+    ensures few { words_in items.new ≤ 15 }
+{
+    items.one(short_fall(first));
+    put_stores(first, homes, items);
+    items.one(imm(
+        ImmOp::Addi,
+        FRAME_POINTER,
+        STACK_POINTER,
+        (first - 16) as u16,
+    ));
+}
+
+// Whether a frame of so many bytes is made at once.
+fn is_near(size: u32) -> bool
+    ensures { result ≡ is_near size }
+{
+    size <= 2048 && size % 8 == 0
 }
 
 // Appends the code of a `prolog` with so many homes to none.
@@ -106,10 +157,12 @@ fn put_prolog(size: u32, homes: u32, items: &mut Items<Item>)
     requires large { 272 ≤ size }
     ensures { items.new ≡ ones (prolog_code size homes) }
 {
-    items.one(imm(ImmOp::Subi, STACK_POINTER, STACK_POINTER, 112));
-    put_stores(homes, items);
-    items.one(imm(ImmOp::Addi, FRAME_POINTER, STACK_POINTER, 96));
-    items.all(&fall(size - 112));
+    if is_near(size) {
+        put_words(size, homes, items);
+    } else {
+        put_words(112, homes, items);
+        put_fall(size - 112, items);
+    }
 }
 
 // A word of the frame is loaded by FP.

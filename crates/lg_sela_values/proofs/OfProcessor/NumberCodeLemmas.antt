@@ -1,6 +1,6 @@
 -- Code that loads a number into a register.
 use Rattle.std.proofs.Common.{◌≡◌, ℕ, zero, suc, ◌*◌, ◌/◌, ◌%◌, ◌^◌, ◌<◌, ◌≤◌, Bool, true, false, List, [], ◌∷◌, ◌++◌, refl, ap, ◌∙◌, arith, length, length-append}
-use Rattle.std.specs.Prelude.{◌==◌, nat_lt, if◌then◌else◌}
+use Rattle.std.specs.Prelude.{◌==◌, ◌||◌, not, nat_lt, if◌then◌else◌}
 use Rattle.std.specs.List.{All}
 use Rattle.lg_base.specs.Words.{complement}
 use Rattle.lg_a64.specs.Spelling.{IsInstr}
@@ -13,7 +13,7 @@ use Rattle.lg_cpu.specs.A64Step.{read, write}
 use Rattle.lg_carry.specs.Values.Computers.{Held}
 use Rattle.lg_carry.proofs.OfValues.ComputationLemmas.{computed-append}
 use Rattle.lg_sela_values.specs.Processor.Computations.{holding, all_compute, computed, computed_by}
-use Rattle.lg_sela_values.specs.Processor.Numbers.{quarter_code, positive_code, negative_code, number_code, LoadsNumber, NumbersAreLoaded}
+use Rattle.lg_sela_values.specs.Processor.Numbers.{quarter_code, first_code, second_code, third_code, fourth_code, is_low, upper_code, positive_code, negative_code, number_code, LoadsNumber, NumbersAreLoaded}
 use Rattle.lg_sela_values.proofs.OfProcessor.HeldLemmas.{read-is, write-is, put-same, put-twice}
 
 all-nil : {A : Type 0} (P : A → Type 0) → All P []
@@ -45,6 +45,24 @@ third-none v e = omega (arith, e)
 
 last-none : (v : ℕ) → v < 2 ^ 64 → v / 2 ^ 48 % 2 ^ 16 ≡ 0 → v % 2 ^ 48 ≡ v
 last-none v small e = omega (arith, small, e)
+
+-- the quarters below are 0
+second-alone : (v : ℕ) → v % 2 ^ 16 ≡ 0 → v / 2 ^ 16 % 2 ^ 16 * 2 ^ 16 ≡ v % 2 ^ 32
+second-alone v e = omega (arith, e)
+
+third-alone : (v : ℕ) → v % 2 ^ 32 ≡ 0 → v / 2 ^ 32 % 2 ^ 16 * 2 ^ 32 ≡ v % 2 ^ 48
+third-alone v e = omega (arith, e)
+
+fourth-alone : (v : ℕ) → v < 2 ^ 64 → v % 2 ^ 48 ≡ 0 → v / 2 ^ 48 % 2 ^ 16 * 2 ^ 48 ≡ v
+fourth-alone v small e = omega (arith, small, e)
+
+not-low : (v : ℕ) → is_low v ≡ false → v % 2 ^ 16 ≡ 0
+not-low v h = by (nat_lt v (2 ^ 16)) (v % 2 ^ 16 == 0) refl h
+  where
+    by : (a b : Bool) → (v % 2 ^ 16 == 0) ≡ b → (a || not b) ≡ false → v % 2 ^ 16 ≡ 0
+    by true b e h = cc
+    by false true e h = grind (arith, e)
+    by false false e h = cc
 
 negative-done : (v : ℕ) → v < 2 ^ 64 → complement v < 2 ^ 32 → v / 2 ^ 16 % 2 ^ 16 ≡ 65535 → complement (complement v % 2 ^ 16 * 1) ≡ v
 negative-done v small near e = omega (arith, small, near, e)
@@ -84,14 +102,29 @@ module _ (rd : ℕ) (within : rd < 31) where
     one : (w : Held) → holding (write w.registers rd (v % 2 ^ 16 * 1)) w.flags ≡ holding (put w.registers rd (v % 2 ^ 16)) w.flags
     one w = first w (v % 2 ^ 16 * 1) ∙ ap (λ z. holding (put w.registers rd z) w.flags) (let z : v % 2 ^ 16 * 1 ≡ v % 2 ^ 16 = omega arith in z)
 
-    positive : (w : Held) → computed (positive_code rd v) w ≡ holding (put w.registers rd v) w.flags
-    positive w =
+    from-first : (w : Held) → computed (first_code rd v) w ≡ holding (put w.registers rd v) w.flags
+    from-first w =
         ap (computed (p1 ++ (p2 ++ p3))) (one w)
         ∙ computed-append computed_by p1 (p2 ++ p3) (holding (put w.registers rd (v % 2 ^ 16)) w.flags)
         ∙ ap (computed (p2 ++ p3)) (put-quarter w (v % 2 ^ 16) (v % 2 ^ 32) (v / 2 ^ 16 % 2 ^ 16) 1 (second-none v) (second-quarter v))
         ∙ computed-append computed_by p2 p3 (holding (put w.registers rd (v % 2 ^ 32)) w.flags)
         ∙ ap (computed p3) (put-quarter w (v % 2 ^ 32) (v % 2 ^ 48) (v / 2 ^ 32 % 2 ^ 16) 2 (third-none v) (third-quarter v))
         ∙ put-quarter w (v % 2 ^ 48) v (v / 2 ^ 48 % 2 ^ 16) 3 (last-none v small) (last-quarter v small)
+
+    from-second : v % 2 ^ 16 ≡ 0 → (w : Held) → computed (second_code rd v) w ≡ holding (put w.registers rd v) w.flags
+    from-second none w =
+        ap (computed (p2 ++ p3)) (first w (v / 2 ^ 16 % 2 ^ 16 * 2 ^ 16) ∙ ap (λ z. holding (put w.registers rd z) w.flags) (second-alone v none))
+        ∙ computed-append computed_by p2 p3 (holding (put w.registers rd (v % 2 ^ 32)) w.flags)
+        ∙ ap (computed p3) (put-quarter w (v % 2 ^ 32) (v % 2 ^ 48) (v / 2 ^ 32 % 2 ^ 16) 2 (third-none v) (third-quarter v))
+        ∙ put-quarter w (v % 2 ^ 48) v (v / 2 ^ 48 % 2 ^ 16) 3 (last-none v small) (last-quarter v small)
+
+    from-third : v % 2 ^ 32 ≡ 0 → (w : Held) → computed (third_code rd v) w ≡ holding (put w.registers rd v) w.flags
+    from-third none w =
+        ap (computed p3) (first w (v / 2 ^ 32 % 2 ^ 16 * 2 ^ 32) ∙ ap (λ z. holding (put w.registers rd z) w.flags) (third-alone v none))
+        ∙ put-quarter w (v % 2 ^ 48) v (v / 2 ^ 48 % 2 ^ 16) 3 (last-none v small) (last-quarter v small)
+
+    from-fourth : v % 2 ^ 48 ≡ 0 → (w : Held) → computed (fourth_code rd v) w ≡ holding (put w.registers rd v) w.flags
+    from-fourth none w = first w (v / 2 ^ 48 % 2 ^ 16 * 2 ^ 48) ∙ ap (λ z. holding (put w.registers rd z) w.flags) (fourth-alone v small none)
 
     negative : complement v < 2 ^ 32 → (w : Held) → computed (negative_code rd v) w ≡ holding (put w.registers rd v) w.flags
     negative near w = by (v / 2 ^ 16 % 2 ^ 16 == 65535) refl
@@ -135,19 +168,71 @@ module _ (rd : ℕ) (within : rd < 31) where
     few-four : (a b c : List Instr) → length a ≤ 1 → length b ≤ 1 → length c ≤ 1 → length (a ++ (b ++ c)) ≤ 3
     few-four a b c x y z = let l = length-append a (b ++ c) in let k = length-append b c in omega (arith, l, k, x, y, z)
 
-    positive-load : IsLoad (positive_code rd v)
-    positive-load = record {
-      computes = quarter-computes (v / 2 ^ 16 % 2 ^ 16) 1 (p2 ++ p3) (quarter-computes (v / 2 ^ 32 % 2 ^ 16) 2 p3 (last (v / 2 ^ 48 % 2 ^ 16 == 0)));
-      whole = positive;
+    last-computes : (b : Bool) → all_compute (if b then [] else Wide Movk rd (v / 2 ^ 48 % 2 ^ 16) 3 ∷ []) ≡ true
+    last-computes true = refl
+    last-computes false = refl
+
+    fits-2 : All IsInstr p2
+    fits-2 = quarter-fits (v / 2 ^ 32 % 2 ^ 16) 2 (omega arith) (omega arith)
+
+    fits-3 : All IsInstr p3
+    fits-3 = quarter-fits (v / 2 ^ 48 % 2 ^ 16) 3 (omega arith) (omega arith)
+
+    second-load : v % 2 ^ 16 ≡ 0 → IsLoad (second_code rd v)
+    second-load none = record {
+      computes = quarter-computes (v / 2 ^ 32 % 2 ^ 16) 2 p3 (last-computes (v / 2 ^ 48 % 2 ^ 16 == 0));
+      whole = from-second none;
+      some = omega arith;
+      few = let l = length-append p2 p3 in
+          let a = quarter-few (v / 2 ^ 32 % 2 ^ 16) 2 in
+          let b = quarter-few (v / 2 ^ 48 % 2 ^ 16) 3 in omega (arith, l, a, b);
+      fits = all-cons IsInstr (Wide Movz rd (v / 2 ^ 16 % 2 ^ 16) 1) (p2 ++ p3) (omega (arith, within), omega arith, omega arith)
+          (all-append IsInstr p2 p3 fits-2 fits-3);
+    }
+
+    third-load : v % 2 ^ 32 ≡ 0 → IsLoad (third_code rd v)
+    third-load none = record {
+      computes = last-computes (v / 2 ^ 48 % 2 ^ 16 == 0);
+      whole = from-third none;
+      some = omega arith;
+      few = let b = quarter-few (v / 2 ^ 48 % 2 ^ 16) 3 in omega (arith, b);
+      fits = all-cons IsInstr (Wide Movz rd (v / 2 ^ 32 % 2 ^ 16) 2) p3 (omega (arith, within), omega arith, omega arith) fits-3;
+    }
+
+    fourth-load : v % 2 ^ 48 ≡ 0 → IsLoad (fourth_code rd v)
+    fourth-load none = record {
+      computes = refl;
+      whole = from-fourth none;
+      some = omega arith;
+      few = omega arith;
+      fits = all-cons IsInstr (Wide Movz rd (v / 2 ^ 48 % 2 ^ 16) 3) [] (omega (arith, within), omega arith, omega arith) (all-nil IsInstr);
+    }
+
+    upper-load : v % 2 ^ 16 ≡ 0 → IsLoad (upper_code rd v)
+    upper-load none = by (v % 2 ^ 32 == 0) (v % 2 ^ 48 == 0) refl refl
+      where
+        by : (a b : Bool) → (v % 2 ^ 32 == 0) ≡ a → (v % 2 ^ 48 == 0) ≡ b
+            → IsLoad (if a then (if b then fourth_code rd v else third_code rd v) else second_code rd v)
+        by true true e f = fourth-load (grind (arith, f))
+        by true false e f = third-load (grind (arith, e))
+        by false b e f = second-load none
+
+    first-load : IsLoad (first_code rd v)
+    first-load = record {
+      computes = quarter-computes (v / 2 ^ 16 % 2 ^ 16) 1 (p2 ++ p3) (quarter-computes (v / 2 ^ 32 % 2 ^ 16) 2 p3 (last-computes (v / 2 ^ 48 % 2 ^ 16 == 0)));
+      whole = from-first;
       some = omega arith;
       few = let m = few-four p1 p2 p3 (quarter-few (v / 2 ^ 16 % 2 ^ 16) 1) (quarter-few (v / 2 ^ 32 % 2 ^ 16) 2) (quarter-few (v / 2 ^ 48 % 2 ^ 16) 3) in omega (arith, m);
       fits = all-cons IsInstr (Wide Movz rd (v % 2 ^ 16) 0) (p1 ++ (p2 ++ p3)) (omega (arith, within), omega arith, omega arith)
-          (all-append IsInstr p1 (p2 ++ p3) (quarter-fits (v / 2 ^ 16 % 2 ^ 16) 1 (omega arith) (omega arith)) (all-append IsInstr p2 p3 (quarter-fits (v / 2 ^ 32 % 2 ^ 16) 2 (omega arith) (omega arith)) (quarter-fits (v / 2 ^ 48 % 2 ^ 16) 3 (omega arith) (omega arith))));
+          (all-append IsInstr p1 (p2 ++ p3) (quarter-fits (v / 2 ^ 16 % 2 ^ 16) 1 (omega arith) (omega arith)) (all-append IsInstr p2 p3 fits-2 fits-3));
     }
+
+    positive-load : IsLoad (positive_code rd v)
+    positive-load = by (is_low v) refl
       where
-        last : (b : Bool) → all_compute (if b then [] else Wide Movk rd (v / 2 ^ 48 % 2 ^ 16) 3 ∷ []) ≡ true
-        last true = refl
-        last false = refl
+        by : (b : Bool) → is_low v ≡ b → IsLoad (if b then first_code rd v else upper_code rd v)
+        by true e = first-load
+        by false e = upper-load (not-low v e)
 
     negative-load : complement v < 2 ^ 32 → IsLoad (negative_code rd v)
     negative-load near = by (v / 2 ^ 16 % 2 ^ 16 == 65535) refl
@@ -199,10 +284,25 @@ number-few rd v = by (nat_lt (complement v) (2 ^ 32)) (v / 2 ^ 16 % 2 ^ 16 == 65
     three : (a b c : List Instr) → length a ≤ 1 → length b ≤ 1 → length c ≤ 1 → length (a ++ (b ++ c)) ≤ 3
     three a b c x y z = let l = length-append a (b ++ c) in let k = length-append b c in omega (arith, l, k, x, y, z)
 
+    q1 : length (quarter_code rd (v / 2 ^ 16 % 2 ^ 16) 1) ≤ 1
+    q1 = quarter-short (v / 2 ^ 16 % 2 ^ 16) 1
+
+    q2 : length (quarter_code rd (v / 2 ^ 32 % 2 ^ 16) 2) ≤ 1
+    q2 = quarter-short (v / 2 ^ 32 % 2 ^ 16) 2
+
+    q3 : length (quarter_code rd (v / 2 ^ 48 % 2 ^ 16) 3) ≤ 1
+    q3 = quarter-short (v / 2 ^ 48 % 2 ^ 16) 3
+
+    positive : (a b c : Bool) → length (if a then first_code rd v else if b then (if c then fourth_code rd v else third_code rd v) else second_code rd v) ≤ 4
+    positive true b c =
+        let m = three (quarter_code rd (v / 2 ^ 16 % 2 ^ 16) 1) (quarter_code rd (v / 2 ^ 32 % 2 ^ 16) 2) (quarter_code rd (v / 2 ^ 48 % 2 ^ 16) 3) q1 q2 q3 in
+        omega (arith, m)
+    positive false true true = omega arith
+    positive false true false = omega (arith, q3)
+    positive false false c =
+        let l = length-append (quarter_code rd (v / 2 ^ 32 % 2 ^ 16) 2) (quarter_code rd (v / 2 ^ 48 % 2 ^ 16) 3) in omega (arith, l, q2, q3)
+
     by : (a b : Bool) → length (if a then Wide Movn rd (complement v % 2 ^ 16) 0 ∷ (if b then [] else Wide Movk rd (v / 2 ^ 16 % 2 ^ 16) 1 ∷ []) else positive_code rd v) ≤ 4
     by true true = omega arith
     by true false = omega arith
-    by false b =
-        let m = three (quarter_code rd (v / 2 ^ 16 % 2 ^ 16) 1) (quarter_code rd (v / 2 ^ 32 % 2 ^ 16) 2) (quarter_code rd (v / 2 ^ 48 % 2 ^ 16) 3)
-        (quarter-short (v / 2 ^ 16 % 2 ^ 16) 1) (quarter-short (v / 2 ^ 32 % 2 ^ 16) 2) (quarter-short (v / 2 ^ 48 % 2 ^ 16) 3) in
-        omega (arith, m)
+    by false b = positive (is_low v) (v % 2 ^ 32 == 0) (v % 2 ^ 48 == 0)

@@ -12,19 +12,19 @@ pub all-requires-2 : goal.all-requires-2
 all-requires-2 c =
     let room = c.requires.room in
     let front = ap length c.saves.ensures in
-    let fit = stores-fit-in a64_holes One (λ i. refl) store_word (argument_registers Aarch64) 8 5 refl c.args.homes c.min.result c.min.ensures c.saves.result
+    let fit = stores-fit-in a64_holes One (λ i. refl) (store_word c.args.first) (argument_registers Aarch64) 8 5 refl c.args.homes c.min.result c.min.ensures c.saves.result
     c.home_stores.result c.args.items.now c.all.new.self c.home_stores.ensures c.all.ensures in
     (omega arith, omega (arith, room, front, fit))
 
 pub returns-clause-stored : goal.returns-clause-stored
 returns-clause-stored c =
-    stores-put a64_holes One (λ i. refl) store_word (argument_registers Aarch64) 8 5 refl c.args.homes c.min.result c.min.ensures c.saves.result
+    stores-put a64_holes One (λ i. refl) (store_word c.args.first) (argument_registers Aarch64) 8 5 refl c.args.homes c.min.result c.min.ensures c.saves.result
     c.home_stores.result c.args.items.now c.all.new.self c.home_stores.ensures c.all.ensures c.all-2.new.self c.all-2.ensures
-    ∙ ap (λ xs. c.args.items.now ++ ones (xs ++ stores_below (take c.args.homes (argument_registers Aarch64)) 5)) c.saves.ensures
+    ∙ ap (λ xs. c.args.items.now ++ ones (xs ++ stores_below c.args.first (take c.args.homes (argument_registers Aarch64)) 5)) c.saves.ensures
 
 pub returns-clause-few : goal.returns-clause-few
 returns-clause-few c =
     let front = ap length c.saves.ensures in
-    let most = stores-words a64_holes One (λ i. refl) store_word (argument_registers Aarch64) 8 5 refl c.args.homes c.min.result c.min.ensures c.saves.result
+    let most = stores-words a64_holes One (λ i. refl) (store_word c.args.first) (argument_registers Aarch64) 8 5 refl c.args.homes c.min.result c.min.ensures c.saves.result
     c.home_stores.result c.args.items.now c.all.new.self c.home_stores.ensures c.all.ensures c.all-2.new.self c.all-2.ensures in
     omega (arith, front, most)
