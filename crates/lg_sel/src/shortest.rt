@@ -98,34 +98,61 @@ pub fn shortest_items<E: Emitter>(
     requires labels { NameBelow (length buf.now.labels) node.now.operands }
     requires emittable { (r : Reach) → words_in E.Item.holes (E.items_of homes r node.now frame choices.now staged.now.arguments (length buf.now.bytes)) ≤ 64
         → AreEmittable E.Item.holes E.Item.is_item E.Item.names_one_of (length buf.now.labels)
-            (E.items_of homes r node.now frame choices.now staged.now.arguments (length buf.now.bytes)) }
+        (E.items_of homes r node.now frame choices.now staged.now.arguments (length buf.now.bytes)) }
     ensures made { E.List.items items.new ≡ E.items_of homes result node.now frame choices.now staged.now.arguments (length buf.now.bytes) }
     ensures few { words_in E.Item.holes (E.List.items items.new) ≤ 64 }
     ensures emittable { AreEmittable E.Item.holes E.Item.is_item E.Item.names_one_of (length buf.now.labels) (E.List.items items.new) }
     ensures checked { Each (IsChecked result buf.now) (fixes_of E.Item.holes (length buf.now.bytes) (E.List.items items.new)) }
     ensures least { (l : Label) (goal : ℕ) → slice_get node.now.operands 0 ≡ Some (Operand.Label l) → place_of buf.now.labels l.0 ≡ Some goal
         → length buf.now.bytes ≤ most_code → IsLeast (λ r. Each (Leads buf.now) (fixes_of E.Item.holes (length buf.now.bytes)
-            (E.items_of homes r node.now frame choices.now staged.now.arguments (length buf.now.bytes)))) result }
+        (E.items_of homes r node.now frame choices.now staged.now.arguments (length buf.now.bytes)))) result }
     ensures ahead { (l : Label) → slice_get node.now.operands 0 ≡ Some (Operand.Label l) → place_of buf.now.labels l.0 ≡ None
         → length buf.now.bytes ≤ most_code → IsLeastAhead (nat_le buf.now.size near_size) (λ r. Each (Leads buf.now) (fixes_of E.Item.holes (length buf.now.bytes)
-            (E.items_of homes r node.now frame choices.now staged.now.arguments (length buf.now.bytes)))) result }
+        (E.items_of homes r node.now frame choices.now staged.now.arguments (length buf.now.bytes)))) result }
 {
     let place = buf.here();
     let first = first_reach(node.operands.as_slice(), buf);
     if let Reach::Short = first {
-        E::put(Reach::Short, node, frame, homes, choices, staged, place, items);
+        E::put(
+            Reach::Short,
+            node,
+            frame,
+            homes,
+            choices,
+            staged,
+            place,
+            items,
+        );
         if lead(items.items(), place, buf) {
             return Reach::Short;
         }
         items.clear();
     }
     if let Reach::Short | Reach::Near = first {
-        E::put(Reach::Near, node, frame, homes, choices, staged, place, items);
+        E::put(
+            Reach::Near,
+            node,
+            frame,
+            homes,
+            choices,
+            staged,
+            place,
+            items,
+        );
         if lead(items.items(), place, buf) {
             return Reach::Near;
         }
         items.clear();
     }
-    E::put(Reach::Far, node, frame, homes, choices, staged, place, items);
+    E::put(
+        Reach::Far,
+        node,
+        frame,
+        homes,
+        choices,
+        staged,
+        place,
+        items,
+    );
     Reach::Far
 }

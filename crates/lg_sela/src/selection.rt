@@ -72,8 +72,6 @@ pub fn select(
     let operands = node.operands.as_slice();
     see_numbers(operands);
     let mut items = Items::new(buf.allocator());
-    let _reach = shortest_items::<Emitter>(
-        node, frame, homes, choices, &staged, buf, &mut items,
-    );
+    let _reach = shortest_items::<Emitter>(node, frame, homes, choices, &staged, buf, &mut items);
     append(&items, buf)
 }
