@@ -67,6 +67,13 @@ impl<L: Item> Items<L> {
         }
     }
 
+    /// Lets all items go.
+    pub fn clear(&mut self)
+        ensures { self.new ≡ [] }
+    {
+        self.list.clear();
+    }
+
     /// The items.
     pub fn as_slice(&self) -> &[L]
         ensures value { result.now ≡ self.now }

@@ -16,4 +16,4 @@ pub use emission::append;
 pub use item::Item;
 pub use items::Items;
 pub use reach::{NEAR_SIZE, Reach, lead};
-pub use shortest::{ItemList, shortest_items};
+pub use shortest::{Emitter, ItemList, shortest_items};

@@ -1,21 +1,22 @@
 // The items of a node with the shortest reach.
 
-ghost use Rattle.std.specs.Prelude.{◌≡◌, ℕ, ◌≤◌, nat_le, List, None, Some, length, slice_get};
+ghost use Rattle.std.specs.Prelude.{◌≡◌, ℕ, ◌≤◌, nat_le, List, [], None, Some, length, slice_get};
 ghost use Rattle.lg_base.specs.Layout.{most_code};
 ghost use Rattle.lg_buf.specs.Buffers.{place_of};
 ghost use Rattle.lg_op.specs.declared.operand.Label.{Label};
 ghost use Rattle.lg_op.specs.declared.operand.Operand.{Operand};
 ghost use Rattle.lg_sel.specs.Emittable.{AreEmittable};
-ghost use Rattle.lg_sel.specs.Holes.{fixes_of, Each};
+ghost use Rattle.lg_sel.specs.Holes.{words_in, fixes_of, Each};
 ghost use Rattle.lg_sel.specs.Reaches.{near_size, Leads, IsChecked, IsLeast, IsLeastAhead};
 ghost use Rattle.lg_carry.specs.Nodes.Operands.{NameBelow};
 
 use crate::operands::first_reach;
 use crate::{Item, Items, Reach, lead};
 use lg_buf::CodeBuf;
-use lg_op::Operand;
+use lg_op::Node;
+use lg_temp::{Choices, Staged};
 
-/// What holds a list of items: the result of a closure that makes them. `Items` stands in no bound, since what it is rests on its items.
+/// What holds a list of items. `Items` stands in no bound, since what it is rests on its items.
 pub trait ItemList<L>: Drop {
     /// The list.
     ghost items: { Self → List L };
@@ -23,6 +24,10 @@ pub trait ItemList<L>: Drop {
     /// The items.
     fn items(&self) -> &[L]
         ensures { result.now ≡ items self.now };
+
+    /// Lets all items go.
+    fn clear(&mut self)
+        ensures { items self.new ≡ [] };
 }
 
 impl<L: Item> ItemList<L> for Items<L> {
@@ -31,44 +36,123 @@ impl<L: Item> ItemList<L> for Items<L> {
     fn items(&self) -> &[L] {
         self.as_slice()
     }
+
+    fn clear(&mut self) {
+        Items::clear(self)
+    }
 }
 
-/// The items that a closure makes with the shortest reach with which they lead to the labels that are bound, and may wait for the others, and that
-/// reach. Ahead, to a label that is not bound yet, the near reach is the shortest, or in a buffer that is too large for it the far one. Only the longest
-/// is taken without a trial.
+/// A target, by the items of its nodes.
+pub trait Emitter {
+    ghost use Rattle.std.specs.Prelude.{Bool};
+    ghost use Rattle.lg_op.specs.declared.node.Node.{Node};
+    ghost use Rattle.lg_sel.specs.declared.reach.Reach.{Reach};
+    ghost use Rattle.lg_temp.specs.declared.choice.Choice.{Choice};
+
+    /// An item.
+    type Item: Item;
+
+    /// A list of items.
+    type List: ItemList<Self::Item>;
+
+    /// What is asked of a node, the frame of its function in bytes, its choices, and the arguments that are staged.
+    ghost is_given: { Node → ℕ → List Choice → List Bool → Type 0 };
+
+    /// The items of a node of a function that reads so many homes, with a reach, by the frame, the choices, the arguments that are staged, and the place at
+    /// which its code begins.
+    ghost items_of: { ℕ → Reach → Node → ℕ → List Choice → List Bool → ℕ → List Self.Item };
+
+    /// Appends the items of a node with a reach to none. Its code begins at a place of the buffer, and has at most 64 instructions.
+    fn put(
+        reach: Reach,
+        node: &Node,
+        frame: u32,
+        homes: u32,
+        choices: &Choices,
+        staged: &Staged,
+        place: u32,
+        items: &mut Self::List,
+    )
+        requires given { is_given node.now frame choices.now staged.now.arguments }
+        requires empty { Self.List.items items.old ≡ [] }
+        ensures made { Self.List.items items.new ≡ items_of homes reach node.now frame choices.now staged.now.arguments place }
+        ensures few { words_in Self.Item.holes (Self.List.items items.new) ≤ 64 };
+}
+
+/// Appends to none the items of a node with the shortest reach with which they lead to the labels that are bound, and may wait for the others, and tells
+/// that reach. Ahead, to a label that is not bound yet, the near reach is the shortest, or in a buffer that is too large for it the far one. Only the
+/// longest is taken without a trial.
 ///
-/// The operands name labels of the buffer, and what the closure makes of each reach can be appended to it.
-pub fn shortest_items<L: Item, C: ItemList<L>, F: Fn(Reach) -> C>(
-    operands: &[Operand],
+/// The operands name labels of the buffer, and the items of each reach, where they have at most 64 instructions, can be appended to it.
+pub fn shortest_items<E: Emitter>(
+    node: &Node,
+    frame: u32,
+    homes: u32,
+    choices: &Choices,
+    staged: &Staged,
     buf: &CodeBuf,
-    items_by: F,
-) -> (Reach, C)
-    requires callable { F.IsAlwaysCallable items_by }
-    requires labels { NameBelow (length buf.now.labels) operands.now }
-    requires emittable { (r : Reach) (xs : _) → F.post items_by r xs
-        → AreEmittable L.holes L.is_item L.names_one_of (length buf.now.labels) (C.items xs) }
-    ensures made { F.post items_by result.0 result.1 }
-    ensures emittable { AreEmittable L.holes L.is_item L.names_one_of (length buf.now.labels) (C.items result.1) }
-    ensures checked { Each (IsChecked result.0 buf.now) (fixes_of L.holes (length buf.now.bytes) (C.items result.1)) }
-    ensures least { (family : Reach → List L) → ((r : Reach) (xs : _) → F.post items_by r xs → C.items xs ≡ family r)
-        → (l : Label) (goal : ℕ) → slice_get operands.now 0 ≡ Some (Operand.Label l) → place_of buf.now.labels l.0 ≡ Some goal
-        → length buf.now.bytes ≤ most_code → IsLeast (λ r. Each (Leads buf.now) (fixes_of L.holes (length buf.now.bytes) (family r))) result.0 }
-    ensures ahead { (family : Reach → List L) → ((r : Reach) (xs : _) → F.post items_by r xs → C.items xs ≡ family r)
-        → (l : Label) → slice_get operands.now 0 ≡ Some (Operand.Label l) → place_of buf.now.labels l.0 ≡ None → length buf.now.bytes ≤ most_code
-        → IsLeastAhead (nat_le buf.now.size near_size) (λ r. Each (Leads buf.now) (fixes_of L.holes (length buf.now.bytes) (family r))) result.0 }
+    items: &mut E::List,
+) -> Reach
+    requires given { E.is_given node.now frame choices.now staged.now.arguments }
+    requires empty { E.List.items items.old ≡ [] }
+    requires labels { NameBelow (length buf.now.labels) node.now.operands }
+    requires emittable { (r : Reach) → words_in E.Item.holes (E.items_of homes r node.now frame choices.now staged.now.arguments (length buf.now.bytes)) ≤ 64
+        → AreEmittable E.Item.holes E.Item.is_item E.Item.names_one_of (length buf.now.labels)
+        (E.items_of homes r node.now frame choices.now staged.now.arguments (length buf.now.bytes)) }
+    ensures made { E.List.items items.new ≡ E.items_of homes result node.now frame choices.now staged.now.arguments (length buf.now.bytes) }
+    ensures few { words_in E.Item.holes (E.List.items items.new) ≤ 64 }
+    ensures emittable { AreEmittable E.Item.holes E.Item.is_item E.Item.names_one_of (length buf.now.labels) (E.List.items items.new) }
+    ensures checked { Each (IsChecked result buf.now) (fixes_of E.Item.holes (length buf.now.bytes) (E.List.items items.new)) }
+    ensures least { (l : Label) (goal : ℕ) → slice_get node.now.operands 0 ≡ Some (Operand.Label l) → place_of buf.now.labels l.0 ≡ Some goal
+        → length buf.now.bytes ≤ most_code → IsLeast (λ r. Each (Leads buf.now) (fixes_of E.Item.holes (length buf.now.bytes)
+        (E.items_of homes r node.now frame choices.now staged.now.arguments (length buf.now.bytes)))) result }
+    ensures ahead { (l : Label) → slice_get node.now.operands 0 ≡ Some (Operand.Label l) → place_of buf.now.labels l.0 ≡ None
+        → length buf.now.bytes ≤ most_code → IsLeastAhead (nat_le buf.now.size near_size) (λ r. Each (Leads buf.now) (fixes_of E.Item.holes (length buf.now.bytes)
+        (E.items_of homes r node.now frame choices.now staged.now.arguments (length buf.now.bytes)))) result }
 {
-    let first = first_reach(operands, buf);
+    let place = buf.here();
+    let first = first_reach(node.operands.as_slice(), buf);
     if let Reach::Short = first {
-        let items = items_by(Reach::Short);
-        if lead(items.items(), buf.here(), buf) {
-            return (Reach::Short, items);
+        E::put(
+            Reach::Short,
+            node,
+            frame,
+            homes,
+            choices,
+            staged,
+            place,
+            items,
+        );
+        if lead(items.items(), place, buf) {
+            return Reach::Short;
         }
+        items.clear();
     }
     if let Reach::Short | Reach::Near = first {
-        let items = items_by(Reach::Near);
-        if lead(items.items(), buf.here(), buf) {
-            return (Reach::Near, items);
+        E::put(
+            Reach::Near,
+            node,
+            frame,
+            homes,
+            choices,
+            staged,
+            place,
+            items,
+        );
+        if lead(items.items(), place, buf) {
+            return Reach::Near;
         }
+        items.clear();
     }
-    (Reach::Far, items_by(Reach::Far))
+    E::put(
+        Reach::Far,
+        node,
+        frame,
+        homes,
+        choices,
+        staged,
+        place,
+        items,
+    );
+    Reach::Far
 }

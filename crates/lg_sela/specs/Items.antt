@@ -1,8 +1,11 @@
 -- The items of each node on AArch64.
-use Rattle.std.specs.Prelude.{ℕ, Bool, List}
+use Rattle.std.specs.Prelude.{◌≡◌, ℕ, ◌≤◌, Bool, true, List, length}
+use Rattle.lg_carry.specs.Values.Parts.{HaveSlots}
+use Rattle.lg_op.specs.Nodes.{InForm}
 use Rattle.lg_op.specs.declared.node.Node.{Node}
 use Rattle.lg_sel.specs.Families.{Families}
 use Rattle.lg_sel.specs.Families as families
+use Rattle.lg_sel.specs.Selected.{IsFrame, AreFirst, is_pusharg}
 use Rattle.lg_sel.specs.declared.reach.Reach.{Reach}
 use Rattle.lg_sela.specs.Control.ControlItems.{control_items}
 use Rattle.lg_sela_values.specs.declared.items.Item.{Item}
@@ -29,3 +32,11 @@ a64_families homes reach = record {
 -- those of a node of a function with such a frame and so many homes, with these choices, where these arguments are staged and the code begins at a place
 abbrev pub node_items : ℕ → Reach → Node → ℕ → List Choice → List Bool → ℕ → List Item
 node_items homes reach n frame choices staged place = families.node_items (a64_families homes reach) n frame choices staged place
+
+-- what is asked of a node, the size of the frame, the choices, and the arguments that are staged
+pub record IsGiven (n : Node) (frame : ℕ) (choices : List Choice) (staged : List Bool) : Type 0 where
+  pub formed : InForm n
+  pub sized : IsFrame frame
+  pub few : length choices ≤ 1
+  pub slots : HaveSlots choices
+  pub first : is_pusharg n.op ≡ true → AreFirst staged

@@ -1,18 +1,14 @@
 // The items of a node.
 
 ghost use Rattle.std.specs.Prelude.{◌≡◌, ◌<◌, ◌≤◌, [], true, length};
-ghost use Rattle.lg_live.specs.RegSets.{has};
 ghost use Rattle.lg_op.specs.Nodes.{InForm};
-ghost use Rattle.lg_sela.specs.Items.{node_items};
+ghost use Rattle.lg_sela.specs.Items.{node_items, IsGiven};
 ghost use Rattle.lg_sel.specs.Selected.{IsFrame, AreFirst, is_pusharg};
-ghost use Rattle.lg_sela.specs.Selected.{AreChosen};
 ghost use Rattle.lg_sela_values.specs.Items.{words_in};
 ghost use Rattle.lg_carry.specs.Values.Parts.{HaveSlots};
 
 use crate::control::put_control;
 use crate::memory::{put_argument, put_getarg, put_load, put_next_argument, put_store};
-use lg_buf::CodeBuf;
-use lg_live::RegSet;
 use lg_op::{ControlOp, Node, Op, PlainOp};
 use lg_sel::operands::staged_count;
 use lg_sel::{Items, Reach};
@@ -53,36 +49,35 @@ fn put_items(
     }
 }
 
-/// The items of a node with a reach. Its code begins where the buffer ends.
-pub(crate) fn items_by(
-    reach: Reach,
-    node: &Node,
-    frame: u32,
-    homes: u32,
-    choices: &Choices,
-    live_after: RegSet,
-    staged: &Staged,
-    buf: &CodeBuf,
-) -> Items<Item>
-    requires formed { InForm node.now }
-    requires frame { IsFrame frame }
-    requires choices { AreChosen node.now (has live_after) staged.now.arguments choices.now }
-    requires staged { is_pusharg node.now.op ≡ true → AreFirst staged.now.arguments }
-    ensures items { result ≡ node_items homes reach node.now frame choices.now staged.now.arguments (length buf.now.bytes) }
-    ensures few { words_in result ≤ 64 }
-{
-    let mut items = Items::new(buf.allocator());
-    put_items(
-        reach,
-        node,
-        frame,
-        homes,
-        choices,
-        staged,
-        buf.here(),
-        &mut items,
-    );
-    // They are few.
-    let _list = items.as_slice();
-    items
+/// The target, by the items of its nodes.
+pub(crate) struct Emitter;
+
+impl lg_sel::Emitter for Emitter {
+    type Item = Item;
+
+    type List = Items<Item>;
+
+    ghost is_given = { IsGiven };
+
+    ghost items_of = { node_items };
+
+    fn put(
+        reach: Reach,
+        node: &Node,
+        frame: u32,
+        homes: u32,
+        choices: &Choices,
+        staged: &Staged,
+        place: u32,
+        items: &mut Items<Item>,
+    )
+        requires given { IsGiven node.now frame choices.now staged.now.arguments }
+        requires empty { items.old ≡ [] }
+        ensures made { items.new ≡ node_items homes reach node.now frame choices.now staged.now.arguments place }
+        ensures few { words_in items.new ≤ 64 }
+    {
+        put_items(reach, node, frame, homes, choices, staged, place, items);
+        // They are few.
+        let _list = items.as_slice();
+    }
 }

@@ -1,8 +1,11 @@
 -- The items of each node on x86-64.
-use Rattle.std.specs.Prelude.{ℕ, Bool, List}
+use Rattle.std.specs.Prelude.{◌≡◌, ℕ, ◌≤◌, Bool, true, List, length}
+use Rattle.lg_carry.specs.Values.Parts.{HaveSlots}
+use Rattle.lg_op.specs.Nodes.{InForm}
 use Rattle.lg_op.specs.declared.node.Node.{Node}
 use Rattle.lg_sel.specs.Families.{Families}
 use Rattle.lg_sel.specs.Families as families
+use Rattle.lg_sel.specs.Selected.{IsFrame, AreFirst, is_pusharg}
 use Rattle.lg_sel.specs.declared.reach.Reach.{Reach}
 use Rattle.lg_selx.specs.Control.ControlItems.{control_items}
 use Rattle.lg_selx_values.specs.declared.items.Item.{Item}
@@ -11,6 +14,7 @@ use Rattle.lg_selx.specs.Memory.Accesses.{load_code, store_items}
 use Rattle.lg_selx.specs.Memory.ArgumentCode.{argument_code}
 use Rattle.lg_selx.specs.Memory.PushCode.{push_code}
 use Rattle.lg_selx.specs.Memory.VariableArgumentCode.{next_argument_code}
+use Rattle.lg_selx.specs.Selected.{is_store}
 use Rattle.lg_selx_values.specs.ValueItems.{value_items}
 use Rattle.lg_temp.specs.declared.choice.Choice.{Choice}
 
@@ -29,3 +33,12 @@ x86_families homes reach = record {
 -- those of a node of a function with such a frame and so many homes, with these choices, where these arguments are staged and the code begins at a place
 abbrev pub node_items : ℕ → Reach → Node → ℕ → List Choice → List Bool → ℕ → List Item
 node_items homes reach n frame choices staged place = families.node_items (x86_families homes reach) n frame choices staged place
+
+-- what is asked of a node, the size of the frame, the choices, and the arguments that are staged
+pub record IsGiven (n : Node) (frame : ℕ) (choices : List Choice) (staged : List Bool) : Type 0 where
+  pub formed : InForm n
+  pub sized : IsFrame frame
+  pub few : length choices ≤ 2
+  pub stores : is_store n.op ≡ true → length choices ≤ 1
+  pub slots : HaveSlots choices
+  pub first : is_pusharg n.op ≡ true → AreFirst staged

@@ -11,12 +11,12 @@ ghost use Rattle.lg_sel.specs.Promises.{IsCarriedWhenFinished, IsShortWhenFinish
 ghost use Rattle.lg_selx.specs.Selected.{AreChosen};
 ghost use Rattle.lg_base.specs.declared.target.Target.{Target};
 
-use crate::items::items_by;
+use crate::items::Emitter;
 use lg_buf::CodeBuf;
 use lg_live::RegSet;
 use lg_op::Node;
 use lg_sel::operands::see_numbers;
-use lg_sel::{append, shortest_items};
+use lg_sel::{Items, append, shortest_items};
 use lg_temp::{Choices, Staged};
 
 /// Appends the code of a node to a buffer, or answers false and changes nothing, which it does only where fewer than 256 bytes are free.
@@ -68,8 +68,7 @@ pub fn select(
 {
     let operands = node.operands.as_slice();
     see_numbers(operands);
-    let (_reach, items) = shortest_items(operands, buf, |reach| {
-        items_by(reach, node, frame, homes, choices, live_after, &staged, buf)
-    });
+    let mut items = Items::new(buf.allocator());
+    let _reach = shortest_items::<Emitter>(node, frame, homes, choices, &staged, buf, &mut items);
     append(&items, buf)
 }

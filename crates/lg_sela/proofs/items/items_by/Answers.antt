@@ -1,9 +1,0 @@
-use Rattle.lg_live.specs.RegSets.{has}
-use Rattle.lg_sela.proofs.NodeFits.{choices-fit}
-use Rattle.lg_sela.proofs.items.items_by.Goals as goal
-
-pub put_items-requires-clause-few : goal.put_items-requires-clause-few
-put_items-requires-clause-few c = (choices-fit c.args.node.now (has c.args.live_after) c.args.staged.now.arguments c.args.choices.now c.requires.choices).0
-
-pub put_items-requires-clause-slots : goal.put_items-requires-clause-slots
-put_items-requires-clause-slots c = (choices-fit c.args.node.now (has c.args.live_after) c.args.staged.now.arguments c.args.choices.now c.requires.choices).1
