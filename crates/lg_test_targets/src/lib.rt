@@ -1,19 +1,19 @@
-//! Tests of what code is made of: the spelling of instructions, the buffer, the processor, and the choices of registers.
+//! Tests of what stands around code and below it: host functions, streams and texts, memories, the buffer, the processor, and the choices of registers.
 #![tactic(auto)]
 
 #[cfg(test)]
-mod a64;
-#[cfg(test)]
 mod buffer;
 #[cfg(test)]
+mod cells;
+#[cfg(test)]
 mod edges;
+#[cfg(test)]
+mod host;
 #[cfg(test)]
 mod live;
 #[cfg(test)]
 mod processor;
 #[cfg(test)]
-mod rv;
+mod streams;
 #[cfg(test)]
 mod temporaries;
-#[cfg(test)]
-mod x86;
