@@ -1,6 +1,7 @@
 -- What `select` appends carries the node once the buffer is finished, and what is known of the buffer.
 use Rattle.std.proofs.Common.{◌≡◌, ℕ, ◌+◌, ◌*◌, ◌%◌, ◌<◌, ◌≤◌, Bool, true, false, List, [], ◌∷◌, ◌++◌, length, drop, sym, ap, ◌∙◌, subst, arith, length-append}
-use Rattle.std.specs.Prelude.{IsTrue}
+use Rattle.std.specs.Prelude.{IsTrue, ◌-◌, if◌then◌else◌}
+use Rattle.lg_sela.specs.Control.Prologs.{fall_code, framed_code, is_near}
 use Rattle.std.specs.List.{All, AllByRecursion}
 use Rattle.lg_base.specs.declared.target.Target.TheVariants.{Aarch64}
 use Rattle.lg_buf.specs.Buffers.{Buffer, place_of}
@@ -69,7 +70,11 @@ appended-whole b old new items refused went even =
 
 -- a `prolog` has some
 prolog-some : (homes : ℕ) (reach : Reach) (o : Op) (xs : List Operand) (line frame : ℕ) (choices : List Choice) (staged : List Bool) (place : ℕ) → is_prolog o ≡ true → 0 < words_in (node_items homes reach (node_of o xs line) frame choices staged place)
-prolog-some homes reach (op.Plain plain.Prolog) xs line frame choices staged place is = omega arith
+prolog-some homes reach (op.Plain plain.Prolog) xs line frame choices staged place is = by (is_near frame)
+  where
+    by : (b : Bool) → 0 < words_in (ones (if b then framed_code frame homes [] else framed_code 112 homes (fall_code (frame - 112))))
+    by true = omega arith
+    by false = omega arith
 prolog-some homes reach o xs line frame choices staged place is = cc
 
 -- the items of each node, as `select` asks for them

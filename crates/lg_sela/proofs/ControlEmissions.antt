@@ -5,7 +5,7 @@ use Rattle.lg_a64.specs.declared.instruction.BranchOp.TheVariants.{B, Bl}
 use Rattle.lg_a64.specs.declared.instruction.BranchRegOp.{BranchRegOp}
 use Rattle.lg_a64.specs.declared.instruction.BranchRegOp.TheVariants.{Br, Blr}
 use Rattle.lg_a64.specs.declared.instruction.Cond.{Cond}
-use Rattle.lg_a64.specs.declared.instruction.ImmOp.TheVariants.{Addsi, Subsi, Addi}
+use Rattle.lg_a64.specs.declared.instruction.ImmOp.TheVariants.{Addsi, Subi, Subsi, Addi}
 use Rattle.lg_a64.specs.declared.instruction.Instr.{Instr}
 use Rattle.lg_a64.specs.declared.instruction.Instr.TheVariants as instr
 use Rattle.lg_a64.specs.declared.instruction.RegOp.TheVariants.{Orr}
@@ -83,9 +83,9 @@ prolog-few : (frame homes : ℕ) → stores.stores_among a64_stores (prolog_code
 prolog-few frame homes = by (is_near frame) (nat_lt (frame - 112) 4096)
   where
     framed : (first : ℕ) (rest : List Instr) → NoneStores rest → stores.stores_among a64_stores (framed_code first homes rest) ≤ 16
-    framed first rest none =
+    framed first rest free =
         let h : stores.stores_among a64_stores (framed_code first homes rest) ≤ length (stored_registers homes) =
-        stores.among-stores a64_stores (store_word first) (stored_registers homes) 0 (instr.Imm Addi frame_pointer stack_pointer (first - 16) false ∷ rest) none in
+        stores.among-stores a64_stores (store_word first) (stored_registers homes) 0 (instr.Imm Addi frame_pointer stack_pointer (first - 16) false ∷ rest) free in
         let few = stored-few Aarch64 link homes in omega (arith, h, few)
 
     by : (b b' : Bool) → stores.stores_among a64_stores (if b then framed_code frame homes [] else framed_code 112 homes

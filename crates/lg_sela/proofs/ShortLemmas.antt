@@ -13,7 +13,8 @@ use Rattle.lg_buf.specs.declared.fixes.FixKind.TheVariants.{A64Branch26, A64Cond
 use Rattle.lg_carry.specs.Blocks.{spellings}
 use Rattle.lg_carry.specs.FinalNodes.{Code}
 use Rattle.lg_sela_values.specs.Processor.A64Rows.{link, zero_register}
-use Rattle.lg_sela_values.specs.Processor.Numbers.{quarter_code, first_code, second_code, third_code, fourth_code, is_low, positive_code, negative_code, number_code}
+use Rattle.lg_sela_values.specs.Processor.Numbers.{quarter_code, is_low, positive_code, negative_code, number_code}
+use Rattle.lg_sela_values.specs.Processor.Numbers as numbers
 use Rattle.lg_sela_values.proofs.OfProcessor.ComputerLemmas.{spellings-long}
 use Rattle.lg_op.specs.Forms.{admit, admits, forms_of, last_form}
 use Rattle.lg_op.specs.declared.form.Form.TheVariants as form
@@ -80,8 +81,8 @@ positive-apart rd v =
     (refl, each-append Apart (quarter_code rd second 1) (quarter_code rd third 2 ++ quarter_code rd fourth 3) (quarter-apart rd second 1) upper)
     (refl, upper) (refl, quarter-apart rd fourth 3)
   where
-    by : (a b c : Bool) → Each Apart (first_code rd v) → Each Apart (second_code rd v) → Each Apart (third_code rd v)
-        → Each Apart (if a then first_code rd v else if b then (if c then fourth_code rd v else third_code rd v) else second_code rd v)
+    by : (a b c : Bool) → Each Apart (numbers.first_code rd v) → Each Apart (numbers.second_code rd v) → Each Apart (numbers.third_code rd v)
+        → Each Apart (if a then numbers.first_code rd v else if b then (if c then numbers.fourth_code rd v else numbers.third_code rd v) else numbers.second_code rd v)
     by true b c x y z = x
     by false true true x y z = (refl, tt)
     by false true false x y z = z

@@ -82,10 +82,7 @@ negative-none : (o : BinaryOp) (d a v : ℕ) → NoneStores (negative_code o d a
 negative-none binary.Add d a v = refl
 negative-none o d a v = refl
 
-negative-mask-form-none : (u d a v : ℕ) → NoneStores (mask_form_code u d a v)
-mask-form-none u d a v = stores.none-if a64_stores (is_mask v) (mask_code d a v) (loaded_code binary.And u d a v) refl (loaded-none binary.And u d a v)
-
-form-none : (o : BinaryOp) (u d a v : ℕ) → NoneStores (negative_form_code o u d a v)
+negative-form-none : (o : BinaryOp) (u d a v : ℕ) → NoneStores (negative_form_code o u d a v)
 negative-form-none o u d a v =
     let loaded = loaded-none o u d a v in
     stores.none-if a64_stores (takes_negative o) (if is_small (negated v) then negative_code o d a v else loaded_code o u d a v) (loaded_code o u d a v)
@@ -95,6 +92,9 @@ small-form-none : (o : BinaryOp) (u d a v : ℕ) → NoneStores (small_form_code
 small-form-none o u d a v =
     stores.none-if a64_stores (takes_small o) (if is_small v then small_code o d a v else negative_form_code o u d a v) (loaded_code o u d a v)
     (stores.none-if a64_stores (is_small v) (small_code o d a v) (negative_form_code o u d a v) (small-none o d a v) (negative-form-none o u d a v)) (loaded-none o u d a v)
+
+mask-form-none : (u d a v : ℕ) → NoneStores (mask_form_code u d a v)
+mask-form-none u d a v = stores.none-if a64_stores (is_mask v) (mask_code d a v) (loaded_code binary.And u d a v) refl (loaded-none binary.And u d a v)
 
 form-none : (o : BinaryOp) (u d a v : ℕ) → NoneStores (number_form_code o u d a v)
 form-none binary.Lsh u d a v = refl

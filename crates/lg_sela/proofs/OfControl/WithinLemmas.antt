@@ -22,6 +22,7 @@ use Rattle.lg_a64.specs.declared.instruction.BranchRegOp.{BranchRegOp}
 use Rattle.lg_a64.specs.declared.instruction.BranchRegOp.TheVariants.{Br, Blr, Ret}
 use Rattle.lg_a64.specs.declared.instruction.ImmOp.TheVariants.{Addi, Addsi, Subi, Subsi}
 use Rattle.lg_a64.specs.declared.instruction.Cond.{Cond}
+use Rattle.lg_a64.specs.declared.instruction.Instr.{Instr}
 use Rattle.lg_a64.specs.declared.instruction.Instr.TheVariants as instr
 use Rattle.lg_temp.specs.Abis.{register_of}
 use Rattle.lg_sela_values.specs.Processor.A64Rows.{frame_pointer, stack_pointer, link, zero_register}
