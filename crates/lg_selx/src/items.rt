@@ -3,6 +3,7 @@
 ghost use Rattle.std.specs.Prelude.{◌≡◌, ◌<◌, ◌≤◌, [], true, length};
 ghost use Rattle.lg_op.specs.Nodes.{InForm};
 ghost use Rattle.lg_selx.specs.Items.{node_items, IsGiven};
+ghost use Rattle.lg_selx.specs.Selected.{is_store};
 ghost use Rattle.lg_sel.specs.Selected.{IsFrame, AreFirst, is_pusharg};
 ghost use Rattle.lg_selx_values.specs.Items.{words_in};
 ghost use Rattle.lg_carry.specs.Values.Parts.{HaveSlots};

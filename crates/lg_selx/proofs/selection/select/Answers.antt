@@ -1,5 +1,4 @@
-use Rattle.std.proofs.Common.{◌≡◌, refl, ◌≤◌, length, ap, ◌∙◌, arith, rules}
-use Rattle.std.specs.Prelude.{slice_get}
+use Rattle.std.proofs.Common.{◌≡◌, refl, ◌≤◌, length, arith, rules}
 use Rattle.lg_live.specs.RegSets.{has}
 use Rattle.lg_sel.proofs.AppendedLemmas.{short-appended, one-fixed}
 use Rattle.lg_sel.proofs.SelectionLemmas.{selected-whole, selected-spares, selected-shortest, selected-ahead, appended-begins}
