@@ -17,7 +17,7 @@ use lg_io::StdSink;
 use run::{Ran, run};
 use std::{fs, io};
 
-const TARGETS: [(Target, &str); 3] = [
+const TARGETS: &[(Target, &str)] = &[
     (Target::X86_64, "x86_64"),
     (Target::Aarch64, "aarch64"),
     (Target::Riscv64, "riscv64"),
@@ -45,13 +45,12 @@ fn print_ran(rt: &HostRuntime, argument: &str, ran: &Ran) -> io::Result<()> {
     }
 }
 
-// Runs code with each of the arguments, on one processor as far as its memory has room.
+// Runs code with each of the arguments.
 fn run_all(rt: &HostRuntime, compiled: &Compiled, arguments: &str) -> io::Result<()>
     requires { CanRun compiled.now }
 {
-    let mut last = None;
     for argument in arguments.split(' ') {
-        match run(rt.alloc(), compiled, argument, &mut last) {
+        match run(rt.alloc(), compiled, argument) {
             Ok(ran) => print_ran(rt, argument, &ran)?,
             Err(stop) => print_stop(rt, stop)?,
         }
@@ -59,24 +58,14 @@ fn run_all(rt: &HostRuntime, compiled: &Compiled, arguments: &str) -> io::Result
     Ok(())
 }
 
-// Compiles an expression for a target, and runs its code.
-fn run_on(
-    rt: &HostRuntime,
-    target: Target,
-    expression: &Expression,
-    arguments: &str,
-) -> io::Result<()> {
-    match compile(rt.alloc(), target, expression) {
-        Ok(compiled) => run_all(rt, &compiled, arguments),
-        Err(stop) => print_stop(rt, stop),
-    }
-}
-
 // Compiles an expression for each target, and runs its code.
 fn run_everywhere(rt: &HostRuntime, expression: &Expression, arguments: &str) -> io::Result<()> {
     for (target, name) in TARGETS {
         println!(rt; "  {name}")?;
-        run_on(rt, target, expression, arguments)?;
+        match compile(rt.alloc(), *target, expression) {
+            Ok(compiled) => run_all(rt, &compiled, arguments)?,
+            Err(stop) => print_stop(rt, stop)?,
+        }
     }
     Ok(())
 }

@@ -45,40 +45,24 @@ fn args_of(alloc: Global, argument: &str) -> Result<ArgImage, Stop>
     args_image(alloc, &words)
 }
 
-// A processor before its first step: that of the last run of this code, where its memory has room, else a new one.
-fn processor_for(
-    alloc: Global,
-    compiled: &Compiled,
-    args: &ArgImage,
-    last: Option<Cpu>,
-) -> Result<Cpu, OutOfMemory>
+// A processor before its first step.
+fn processor(alloc: Global, compiled: &Compiled, args: &ArgImage) -> Result<Cpu, OutOfMemory>
     requires code { CanRun compiled.now }
     requires args { length args.now ≤ most_args }
     ensures { IfOk result (λ c. (shown c).steps ≡ 0) }
 {
     let code = &compiled.code;
     let image = &compiled.unit.image;
-    if let Some(mut cpu) = last {
-        if cpu.again(image, args) {
-            return Ok(cpu);
-        }
-    }
     Cpu::new(alloc, code.target(), code.bytes(), image, args, ANYTHING)
 }
 
-/// Runs code with an argument. `last` is the processor of the last run of this code, and of this one behind it.
-pub fn run(
-    alloc: Global,
-    compiled: &Compiled,
-    argument: &str,
-    last: &mut Option<Cpu>,
-) -> Result<Ran, Stop>
+/// Runs code with an argument, on a processor of its own.
+pub fn run(alloc: Global, compiled: &Compiled, argument: &str) -> Result<Ran, Stop>
     requires { CanRun compiled.now }
 {
     let args = args_of(alloc, argument)?;
     let mut out = MemorySink::new(alloc, ROOM, &[])?;
-    let mut cpu = processor_for(alloc, compiled, &args, last.take())?;
+    let mut cpu = processor(alloc, compiled, &args)?;
     let end = cpu.run(MOST_STEPS, &mut out);
-    *last = Some(cpu);
     Ok(Ran { out, end })
 }

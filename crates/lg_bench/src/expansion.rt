@@ -1,33 +1,21 @@
 // Texts that the preprocessor expands.
 
+use crate::texts::{Parts, text};
 use lg_base::{OutOfMemory, Stop};
 use lg_pre::expand;
 use std::alloc::Global;
 
-/// What the lines of a text are.
-#[derive(Clone, Copy)]
-pub enum Lines {
-    /// Instructions, in which no macro is named.
-    Plain,
-    /// Calls of a macro with two parameters, whose body names another.
-    Calls,
-    /// Macros, each in a line of its own, behind which it is named.
-    Names,
-}
+/// Instructions, in which no macro is named.
+pub const PLAIN: Parts = (b"", b"addi %r0 %r1 12345\n", b"");
 
-// The lines before all others, and each of the others.
-fn parts(lines: Lines) -> (&'static [u8], &'static [u8]) {
-    match lines {
-        Lines::Plain => (b"", b"addi %r0 %r1 12345\n"),
-        Lines::Calls => (
-            b"#define INTO(r) %r0 r\n#define ADD(r, n) addi INTO(r) n\n",
-            b"ADD(%r1, 12345)\n",
-        ),
-        Lines::Names => (b"", b""),
-    }
-}
+/// Calls of a macro with two parameters, whose body names another.
+pub const CALLS: Parts = (
+    b"#define INTO(r) %r0 r\n#define ADD(r, n) addi INTO(r) n\n",
+    b"ADD(%r1, 12345)\n",
+    b"",
+);
 
-// So many bytes of macros, each with a use of it, or some less.
+// So many bytes of macros, each in a line of its own, behind which it is named, or some less.
 fn names(alloc: Global, size: usize) -> Result<Vec<u8>, OutOfMemory> {
     let mut text = Vec::new(alloc);
     for number in 0..size {
@@ -40,25 +28,20 @@ fn names(alloc: Global, size: usize) -> Result<Vec<u8>, OutOfMemory> {
     Ok(text)
 }
 
-// So many bytes of such lines, or some less.
-fn text(alloc: Global, lines: Lines, size: usize) -> Result<Vec<u8>, OutOfMemory> {
-    if let Lines::Names = lines {
-        return names(alloc, size);
-    }
-    let (first, line) = parts(lines);
-    let mut text = Vec::from_slice(alloc, first)?;
-    for _ in 0..size {
-        if size.saturating_sub(text.len()) < line.len() {
-            break;
+// So many bytes of the lines of parts, or of macros where there are none, or some less.
+fn text_of(alloc: Global, parts: Option<Parts>, size: usize) -> Result<Vec<u8>, OutOfMemory> {
+    match parts {
+        Some(parts) if !parts.1.is_empty() => {
+            let lines = size.saturating_sub(parts.0.len()) / parts.1.len();
+            text(alloc, parts, lines)
         }
-        text.extend_from_slice(line)?;
+        _ => names(alloc, size),
     }
-    Ok(text)
 }
 
-/// Expands a text of so many bytes, at most 16,777,216, and tells how many its expansion has.
-pub fn expand_lines(alloc: Global, lines: Lines, size: u32) -> Result<u64, Stop> {
-    match text(alloc, lines, size as usize) {
+/// Expands a text of so many bytes, at most 16,777,216, of the lines of parts, or of macros, and tells how many its expansion has.
+pub fn expand_lines(alloc: Global, parts: Option<Parts>, size: u32) -> Result<u64, Stop> {
+    match text_of(alloc, parts, size as usize) {
         Ok(text) if text.len() <= 16_777_216 => {
             let given = expand(alloc, &text)?;
             Ok(given.len() as u64)

@@ -1,7 +1,6 @@
 // Lists of nodes of seven shapes, of any length: longer than a text may be.
 
-ghost use Rattle.std.specs.Prelude.{◌≡◌, ◌≤◌, length, true};
-ghost use Rattle.lg_base.specs.WordBytes.{is_word_byte};
+ghost use Rattle.std.specs.Prelude.{◌≤◌, length};
 
 use lg_base::{OutOfMemory, Stop};
 use lg_node::{Label, Node, NodeList, Op, Operand, Operands, Place, Reg, Unit};
@@ -27,51 +26,17 @@ pub enum Flow {
     Dead,
 }
 
-// A letter for each digit.
-fn letter(digit: u32) -> u8
-    ensures { is_word_byte result ≡ true }
-{
-    match digit % 10 {
-        0 => b'a',
-        1 => b'b',
-        2 => b'c',
-        3 => b'd',
-        4 => b'e',
-        5 => b'f',
-        6 => b'g',
-        7 => b'h',
-        8 => b'i',
-        _ => b'j',
+// A new label, bound to the next node, as an operand. They are numbered from 0 on.
+fn bind(list: &mut NodeList) -> Result<Operand, OutOfMemory> {
+    if list.labels() == u32::MAX {
+        return Err(OutOfMemory);
     }
-}
-
-// The label of an index.
-fn label(list: &mut NodeList, index: u32) -> Result<Label, OutOfMemory> {
-    let word = [
-        b'L',
-        letter(index / 1_000_000),
-        letter(index / 100_000),
-        letter(index / 10_000),
-        letter(index / 1_000),
-        letter(index / 100),
-        letter(index / 10),
-        letter(index),
-    ];
-    if list.labels() < u32::MAX {
-        list.label(&word)
-    } else {
-        Err(OutOfMemory)
-    }
-}
-
-// Binds the label of an index to the next node.
-fn bind(list: &mut NodeList, index: u32) -> Result<(), OutOfMemory> {
-    let label = label(list, index)?;
+    let label = list.fresh()?;
     let place = Place::Node(list.len());
     if label.0 < list.labels() {
         list.bind(label, place);
     }
-    Ok(())
+    Ok(Operand::Label(label))
 }
 
 // Adds the node of a name with its operands.
@@ -95,6 +60,7 @@ fn add(list: &mut NodeList, name: &[u8], operands: &[Operand]) -> Result<(), Out
 fn add_line(list: &mut NodeList, flow: Flow, index: u32) -> Result<(), OutOfMemory> {
     let one = Operand::Number(1);
     let [first, second] = [Operand::Reg(Reg::V0), Operand::Reg(Reg::V1)];
+    let before = Operand::Label(Label(index));
     match flow {
         Flow::Straight => add(list, b"addi", &[first, first, one]),
         Flow::Moves => add(list, b"movr", &[second, first]),
@@ -102,41 +68,36 @@ fn add_line(list: &mut NodeList, flow: Flow, index: u32) -> Result<(), OutOfMemo
         Flow::Known => add(list, b"addr", &[first, first, second]),
         Flow::Dead => add(list, b"addi", &[second, first, one]),
         Flow::Branches => {
-            let target = Operand::Label(label(list, index)?);
-            bind(list, index.wrapping_add(1))?;
-            add(list, b"bnei", &[target, first, one])
+            bind(list)?;
+            add(list, b"bnei", &[before, first, one])
         }
         Flow::Chain => {
-            let target = Operand::Label(label(list, index)?);
-            bind(list, index.wrapping_add(1))?;
-            add(list, b"jmpi", &[target])
+            bind(list)?;
+            add(list, b"jmpi", &[before])
         }
         Flow::Jumps => {
-            let next = index.wrapping_add(1);
-            bind(list, next)?;
-            let target = Operand::Label(label(list, next)?);
-            add(list, b"movi", &[second, target])?;
+            let here = bind(list)?;
+            add(list, b"movi", &[second, here])?;
             add(list, b"jmpr", &[second])
         }
     }
 }
 
-/// A unit of one function with so many lines of a shape.
-pub fn unit(alloc: Global, flow: Flow, lines: u32) -> Result<Unit, Stop> {
-    let mut unit = parse(alloc, b"prolog movi %v0 0 movi %v1 0")?;
-    let list = &mut unit.nodes;
-    add_lines(list, flow, lines)?;
-    Ok(unit)
-}
-
 // Adds so many lines, and the end of the function.
 fn add_lines(list: &mut NodeList, flow: Flow, lines: u32) -> Result<(), OutOfMemory> {
     let first = Operand::Reg(Reg::V0);
-    bind(list, 0)?;
+    bind(list)?;
     add(list, b"sti", &[Operand::Number(0), first])?;
     for index in 0..lines {
         add_line(list, flow, index)?;
     }
     add(list, b"retr", &[first])?;
     add(list, b"epilog", &[])
+}
+
+/// A unit of one function with so many lines of a shape.
+pub fn unit(alloc: Global, flow: Flow, lines: u32) -> Result<Unit, Stop> {
+    let mut unit = parse(alloc, b"prolog movi %v0 0 movi %v1 0")?;
+    add_lines(&mut unit.nodes, flow, lines)?;
+    Ok(unit)
 }

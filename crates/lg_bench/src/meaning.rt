@@ -10,8 +10,8 @@ use lg_node::{Unit, check};
 use lg_tst::parse;
 use std::alloc::Global;
 
-/// A text that never ends.
-pub const TEXT: &[u8] =
+// A text that never ends.
+const TEXT: &[u8] =
     b".code prolog movi %v0 0 movi %v1 0 again: addi %v0 %v0 1 addr %v1 %v1 %v0 xorr %v2 %v1 %v0 ltr_u %r0 %v2 %v1 bnei again %v0 0 ret epilog";
 
 // Follows the meaning of a unit.

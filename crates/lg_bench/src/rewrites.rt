@@ -1,17 +1,20 @@
-// The rewrites of long lists of nodes.
+// The registers that are live in long lists of nodes, and the rewrites of such lists.
 
 ghost use Rattle.lg_node.specs.Shapes.{IsShapeOf};
 
 use crate::lists::{Flow, unit};
 use lg_base::{OutOfMemory, Stop};
 use lg_dead::{drop_dead, fold, rewrite};
-use lg_node::{Shape, Unit, check};
+use lg_live::Live;
+use lg_node::{Reg, Shape, Unit, check};
 use std::alloc::Global;
 
-/// Which rewriting is made.
+/// What is made of a list.
 #[derive(Clone, Copy)]
 pub enum Pass {
-    /// All four, one behind the other.
+    /// Its live registers are found.
+    Live,
+    /// All four rewrites, one behind the other.
     All,
     /// Numbers that are known are folded.
     Fold,
@@ -19,11 +22,26 @@ pub enum Pass {
     Dead,
 }
 
-// How many nodes are left.
+// At how many nodes V0 is live.
+fn live_nodes(alloc: Global, unit: &Unit, shape: &Shape) -> Result<u64, OutOfMemory>
+    requires { IsShapeOf unit.now.nodes shape.now }
+{
+    let live = Live::of(alloc, &unit.nodes, shape)?;
+    let mut count = 0u64;
+    for index in 0..unit.nodes.len() {
+        if live.before(index).has(Reg::V0) {
+            count = count.wrapping_add(1);
+        }
+    }
+    Ok(count)
+}
+
+// How many nodes are left, or, where live registers are found, at how many V0 is live.
 fn nodes_left(alloc: Global, pass: Pass, unit: &Unit, shape: &Shape) -> Result<u64, OutOfMemory>
     requires { IsShapeOf unit.now.nodes shape.now }
 {
     let rewritten = match pass {
+        Pass::Live => return live_nodes(alloc, unit, shape),
         Pass::All => rewrite(alloc, &unit.nodes, shape)?,
         Pass::Fold => fold(alloc, &unit.nodes, shape)?,
         Pass::Dead => drop_dead(alloc, &unit.nodes, shape)?,
@@ -31,8 +49,18 @@ fn nodes_left(alloc: Global, pass: Pass, unit: &Unit, shape: &Shape) -> Result<u
     Ok(u64::from(rewritten.nodes.len()))
 }
 
-/// Rewrites a list of so many lines so many times, and tells how many nodes are left.
-pub fn rewrite_list(
+// The same so many times.
+fn pass_unit(alloc: Global, pass: Pass, unit: &Unit, times: u32) -> Result<u64, Stop> {
+    let shape = check(alloc, unit)?;
+    let mut left = 0;
+    for _ in 0..times {
+        left = nodes_left(alloc, pass, unit, &shape)?;
+    }
+    Ok(left)
+}
+
+/// Makes a list of so many lines, and a pass of it so many times, and tells how many nodes are left, or at how many V0 is live.
+pub fn pass_list(
     alloc: Global,
     flow: Flow,
     pass: Pass,
@@ -40,14 +68,5 @@ pub fn rewrite_list(
     times: u32,
 ) -> Result<u64, Stop> {
     let unit = unit(alloc, flow, lines)?;
-    rewrite_unit(alloc, pass, &unit, times)
-}
-
-fn rewrite_unit(alloc: Global, pass: Pass, unit: &Unit, times: u32) -> Result<u64, Stop> {
-    let shape = check(alloc, unit)?;
-    let mut left = 0;
-    for _ in 0..times {
-        left = nodes_left(alloc, pass, unit, &shape)?;
-    }
-    Ok(left)
+    pass_unit(alloc, pass, &unit, times)
 }

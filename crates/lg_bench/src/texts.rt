@@ -1,4 +1,4 @@
-// Texts of many instructions.
+// Texts of many lines.
 
 ghost use Rattle.std.specs.Prelude.{◌≤◌, length, IfOk};
 ghost use Rattle.lg_tst.specs.Answers.{IsWhole};
@@ -9,62 +9,40 @@ use lg_node::{Unit, check};
 use lg_tst::parse;
 use std::alloc::Global;
 
-/// What a text of many additions is.
-#[derive(Clone, Copy)]
-pub enum Shape {
-    /// One function.
-    Straight,
-    /// A function with a branch over the additions, and two calls of it behind them.
-    Far,
-}
+/// What stands in front of a line that comes many times, the line, and what stands behind.
+pub type Parts = (&'static [u8], &'static [u8], &'static [u8]);
 
-// So many additions, at most 1,000,000.
-fn additions(text: &mut Vec<u8>, instructions: u32, addition: &[u8]) -> Result<(), OutOfMemory> {
-    let times = if instructions < 1_000_000 {
-        instructions
-    } else {
-        1_000_000
-    };
-    for _ in 0..times {
-        text.extend_from_slice(addition)?;
-    }
-    Ok(())
-}
+/// One function of additions.
+pub const STRAIGHT: Parts = (
+    b"prolog movi %r0 0 more:\n",
+    b"addi %r0 %r0 1\n",
+    b"retr %r0 epilog\n",
+);
 
-// A function of so many additions.
-fn put_straight(text: &mut Vec<u8>, instructions: u32) -> Result<(), OutOfMemory> {
-    text.extend_from_slice(b"prolog movi %r0 0 more:\n")?;
-    additions(text, instructions, b"addi %r0 %r0 1\n")?;
-    text.extend_from_slice(b"retr %r0 epilog\n")?;
-    Ok(())
-}
-
-// A function with a branch over so many additions, and two calls of it.
-fn put_far(text: &mut Vec<u8>, instructions: u32) -> Result<(), OutOfMemory> {
-    text.extend_from_slice(b"jmpi main f: prolog arg $a getarg %v0 $a blei out %v0 0\n")?;
-    additions(text, instructions, b"addi %v0 %v0 99999\n")?;
-    text.extend_from_slice(
-        b"out: retr %v0 epilog main: prolog\nprepare pushargi 0 finishi f\n\
+/// A function with a branch over additions, and two calls of it behind them.
+pub const FAR: Parts = (
+    b"jmpi main f: prolog arg $a getarg %v0 $a blei out %v0 0\n",
+    b"addi %v0 %v0 99999\n",
+    b"out: retr %v0 epilog main: prolog\nprepare pushargi 0 finishi f\n\
         prepare pushargi 5 finishi f ret epilog\n",
-    )?;
-    Ok(())
-}
+);
 
-// A text with so many additions, at most 1,000,000.
-fn text(alloc: Global, shape: Shape, instructions: u32) -> Result<Vec<u8>, OutOfMemory> {
-    let mut text = Vec::new(alloc);
-    match shape {
-        Shape::Straight => put_straight(&mut text, instructions)?,
-        Shape::Far => put_far(&mut text, instructions)?,
+/// The text of parts with so many lines.
+pub fn text(alloc: Global, parts: Parts, lines: usize) -> Result<Vec<u8>, OutOfMemory> {
+    let (front, line, behind) = parts;
+    let mut text = Vec::from_slice(alloc, front)?;
+    for _ in 0..lines {
+        text.extend_from_slice(line)?;
     }
+    text.extend_from_slice(behind)?;
     Ok(text)
 }
 
-// The same text, where it is not too long to be read.
-fn short_text(alloc: Global, shape: Shape, instructions: u32) -> Result<Vec<u8>, Stop>
+// The text of parts with so many lines, at most 1,000,000, where it is not too long to be read.
+fn short_text(alloc: Global, parts: Parts, lines: u32) -> Result<Vec<u8>, Stop>
     ensures { IfOk result (λ t. length t.items ≤ 16777216) }
 {
-    match text(alloc, shape, instructions) {
+    match text(alloc, parts, lines.min(1_000_000) as usize) {
         Ok(text) if text.len() <= 16_777_216 => Ok(text),
         Ok(_) => Err(Stop::Refused(Refusal {
             kind: RefusalKind::TextTooLong,
@@ -91,15 +69,15 @@ fn unit_bytes(alloc: Global, unit: &Unit, target: Target) -> Result<u64, Stop>
     Ok(u64::from(code.bytes().len()))
 }
 
-/// Reads, checks and assembles a text of so many additions, at most 1,000,000, so many times, and tells how many bytes its code has.
+/// Reads, checks and assembles a text of so many lines, at most 1,000,000, so many times, and tells how many bytes its code has.
 pub fn read_and_assemble(
     alloc: Global,
-    shape: Shape,
-    instructions: u32,
+    parts: Parts,
+    lines: u32,
     times: u32,
     target: Target,
 ) -> Result<u64, Stop> {
-    let text = short_text(alloc, shape, instructions)?;
+    let text = short_text(alloc, parts, lines)?;
     let mut bytes = 0;
     for _ in 0..times {
         bytes = code_bytes(alloc, &text, target)?;
@@ -108,13 +86,8 @@ pub fn read_and_assemble(
 }
 
 /// Reads a text of so many additions, at most 1,000,000, once, and checks and assembles its nodes so many times; tells how many bytes the code has.
-pub fn assemble_nodes(
-    alloc: Global,
-    instructions: u32,
-    times: u32,
-    target: Target,
-) -> Result<u64, Stop> {
-    let text = short_text(alloc, Shape::Straight, instructions)?;
+pub fn assemble_nodes(alloc: Global, lines: u32, times: u32, target: Target) -> Result<u64, Stop> {
+    let text = short_text(alloc, STRAIGHT, lines)?;
     let unit = parse(alloc, &text)?;
     let mut bytes = 0;
     for _ in 0..times {

@@ -2,9 +2,8 @@
 
 ghost use Rattle.std.specs.Prelude.{pos, ◌≤ℤ◌};
 
-use crate::table::{Found, Table, spoken};
+use crate::table::{Found, Operands, Table, spoken};
 use lg_a64::{Instr, ScaledOp, decode, encode};
-use lg_base::Piece;
 use std::alloc::{AllocError, Global};
 
 /// A64.
@@ -15,7 +14,7 @@ impl Table for Aarch64 {
         match decode(bytes) {
             None => Ok(None),
             Some((instr, length)) => {
-                let operation = operation(alloc, &instr)?;
+                let operation = spoken(alloc, &instr.name(), operands(&instr))?;
                 let spelling = encode(&instr);
                 Ok(Some(Found {
                     operation,
@@ -29,79 +28,69 @@ impl Table for Aarch64 {
 
 // The operands are in the order of assembly text: rd rn rm ra, then numbers, then the condition.
 // Displacements and distances are in bytes.
-fn operation(alloc: Global, instr: &Instr) -> Result<String, AllocError> {
-    let name = instr.name();
+fn operands(instr: &Instr) -> Operands {
     match *instr {
-        Instr::Reg { rd, rn, rm, .. } => spoken(alloc, &name, &[rd.into(), rn.into(), rm.into()]),
-        Instr::Wide { rd, imm, hw, .. } => spoken(
-            alloc,
-            &name,
-            &[rd.into(), imm.into(), hw.into()],
-        ),
-        Instr::MulAdd { rd, rn, rm, ra, .. } => spoken(
-            alloc,
-            &name,
-            &[rd.into(), rn.into(), rm.into(), ra.into()],
-        ),
-        Instr::Csinc { rd, rn, rm, cond } => spoken(
-            alloc,
-            &name,
-            &[rd.into(), rn.into(), rm.into(), cond.number().into()],
-        ),
-        Instr::Reverse { rd, rn, .. } => spoken(alloc, &name, &[rd.into(), rn.into()]),
-        Instr::Ldrx { rt, rn, rm } => spoken(alloc, &name, &[rt.into(), rn.into(), rm.into()]),
-        Instr::Branch { words, .. } => spoken(alloc, &name, &[i64::from(words) * 4]),
-        Instr::BranchIf { words, .. } => spoken(alloc, &name, &[i64::from(words) * 4]),
-        Instr::BranchReg { rn, .. } => spoken(alloc, &name, &[rn.into()]),
-        Instr::Nop => spoken(alloc, &name, &[]),
-        Instr::Imm { .. } | Instr::Bitfield { .. } => two_numbers(alloc, &name, instr),
-        Instr::Scaled { .. } | Instr::Unscaled { .. } => access(alloc, &name, instr),
-    }
-}
-
-// a row with two numbers
-fn two_numbers(alloc: Global, name: &Piece, instr: &Instr) -> Result<String, AllocError> {
-    match *instr {
+        Instr::Reg { rd, rn, rm, .. } => [Some(rd.into()), Some(rn.into()), Some(rm.into()), None],
+        Instr::Wide { rd, imm, hw, .. } => [
+            Some(rd.into()),
+            Some(imm.into()),
+            Some(hw.into()),
+            None,
+        ],
+        Instr::MulAdd { rd, rn, rm, ra, .. } => [
+            Some(rd.into()),
+            Some(rn.into()),
+            Some(rm.into()),
+            Some(ra.into()),
+        ],
+        Instr::Csinc { rd, rn, rm, cond } => [
+            Some(rd.into()),
+            Some(rn.into()),
+            Some(rm.into()),
+            Some(cond.number().into()),
+        ],
+        Instr::Reverse { rd, rn, .. } => [Some(rd.into()), Some(rn.into()), None, None],
+        Instr::Ldrx { rt, rn, rm } => [Some(rt.into()), Some(rn.into()), Some(rm.into()), None],
+        Instr::Branch { words, .. } => [Some(i64::from(words) * 4), None, None, None],
+        Instr::BranchIf { words, .. } => [Some(i64::from(words) * 4), None, None, None],
+        Instr::BranchReg { rn, .. } => [Some(rn.into()), None, None, None],
+        Instr::Nop => [None; 4],
         Instr::Imm {
             rd,
             rn,
             imm,
             shifted,
             ..
-        } => spoken(
-            alloc,
-            name,
-            &[rd.into(), rn.into(), imm.into(), shifted.into()],
-        ),
+        } => [
+            Some(rd.into()),
+            Some(rn.into()),
+            Some(imm.into()),
+            Some(shifted.into()),
+        ],
         Instr::Bitfield {
             rd,
             rn,
             immr,
             imms,
             ..
-        } => spoken(
-            alloc,
-            name,
-            &[rd.into(), rn.into(), immr.into(), imms.into()],
-        ),
-        _ => spoken(alloc, name, &[]),
-    }
-}
-
-// a load or store with a displacement
-fn access(alloc: Global, name: &Piece, instr: &Instr) -> Result<String, AllocError> {
-    match *instr {
-        Instr::Scaled { op, rt, rn, imm } => spoken(
-            alloc,
-            name,
-            &[rt.into(), rn.into(), i64::from(imm) * width(op)],
-        ),
-        Instr::Unscaled { rt, rn, imm, .. } => spoken(
-            alloc,
-            name,
-            &[rt.into(), rn.into(), imm.into()],
-        ),
-        _ => spoken(alloc, name, &[]),
+        } => [
+            Some(rd.into()),
+            Some(rn.into()),
+            Some(immr.into()),
+            Some(imms.into()),
+        ],
+        Instr::Scaled { op, rt, rn, imm } => [
+            Some(rt.into()),
+            Some(rn.into()),
+            Some(i64::from(imm) * width(op)),
+            None,
+        ],
+        Instr::Unscaled { rt, rn, imm, .. } => [
+            Some(rt.into()),
+            Some(rn.into()),
+            Some(imm.into()),
+            None,
+        ],
     }
 }
 

@@ -11,34 +11,37 @@ use std::alloc::{AllocError, Global};
 use std::rt::Files;
 use std::{fs, io};
 
-/// Checks a file of encodings. Of each line the bytes, with others behind them, must be read as the
-/// instruction that the line names, which must be encoded as the bytes again.
-pub fn check_spelled<T: Table>(
+/// What the lines of a file are.
+#[derive(Clone, Copy)]
+pub enum Lines {
+    /// Encodings. The bytes, with others behind them, must be read as the instruction that the line names, which must be encoded as
+    /// the bytes again.
+    Spelled,
+    /// Bytes that are no instruction. The bytes, which stand alone, must be read as none.
+    Refused,
+}
+
+/// Checks a file.
+pub fn check_file<T: Table>(
     rt: &(impl Files + Print + AllocGlobal),
     file: &str,
+    kind: Lines,
 ) -> io::Result<()> {
     let text = fs::read_to_string(rt, file)?;
     let mut counts = Counts::new();
     for line in text.as_str().lines() {
-        let outcome = spelled_outcome::<T>(rt.alloc(), line)?;
+        let outcome = outcome_of::<T>(rt.alloc(), kind, line)?;
         counts.take(rt, file, line, &outcome)?;
     }
     counts.print(rt, file)
 }
 
-/// Checks a file of bytes that are no instruction. Of each line the bytes, which stand alone, must be
-/// read as none.
-pub fn check_refused<T: Table>(
-    rt: &(impl Files + Print + AllocGlobal),
-    file: &str,
-) -> io::Result<()> {
-    let text = fs::read_to_string(rt, file)?;
-    let mut counts = Counts::new();
-    for line in text.as_str().lines() {
-        let outcome = refused_outcome::<T>(rt.alloc(), line)?;
-        counts.take(rt, file, line, &outcome)?;
+// What comes of a line.
+fn outcome_of<T: Table>(alloc: Global, kind: Lines, line: &str) -> Result<Outcome, AllocError> {
+    match kind {
+        Lines::Spelled => spelled_outcome::<T>(alloc, line),
+        Lines::Refused => refused_outcome::<T>(alloc, line),
     }
-    counts.print(rt, file)
 }
 
 fn spelled_outcome<T: Table>(alloc: Global, line: &str) -> Result<Outcome, AllocError> {

@@ -16,7 +16,7 @@ mod vector;
 mod x86_64;
 
 use aarch64::Aarch64;
-use check::{check_refused, check_spelled};
+use check::{Lines, check_file};
 use lg_base::Target;
 use programs::check_programs;
 use riscv64::Riscv64;
@@ -32,17 +32,17 @@ const STEPS: [(Target, &str); 3] = [
 ];
 
 fn main(rt: HostRuntime) -> io::Result<()> {
-    check_spelled::<Aarch64>(&rt, "encode_aarch64.tsv")?;
-    check_refused::<Aarch64>(&rt, "decode_none_aarch64.tsv")?;
-    check_spelled::<Riscv64>(&rt, "encode_riscv64.tsv")?;
-    check_refused::<Riscv64>(&rt, "decode_none_riscv64.tsv")?;
-    check_spelled::<X86>(&rt, "encode_x86_64.tsv")?;
-    check_refused::<X86>(&rt, "decode_none_x86_64.tsv")?;
+    check_file::<Aarch64>(&rt, "encode_aarch64.tsv", Lines::Spelled)?;
+    check_file::<Aarch64>(&rt, "decode_none_aarch64.tsv", Lines::Refused)?;
+    check_file::<Riscv64>(&rt, "encode_riscv64.tsv", Lines::Spelled)?;
+    check_file::<Riscv64>(&rt, "decode_none_riscv64.tsv", Lines::Refused)?;
+    check_file::<X86>(&rt, "encode_x86_64.tsv", Lines::Spelled)?;
+    check_file::<X86>(&rt, "decode_none_x86_64.tsv", Lines::Refused)?;
     for (target, steps) in STEPS {
         check_steps(&rt, steps, target)?;
         check_programs(&rt, target)?;
     }
-    check_spelled::<Riscv64>(&rt, "wrong_encode_riscv64.tsv")?;
-    check_refused::<Riscv64>(&rt, "wrong_decode_none_riscv64.tsv")?;
+    check_file::<Riscv64>(&rt, "wrong_encode_riscv64.tsv", Lines::Spelled)?;
+    check_file::<Riscv64>(&rt, "wrong_decode_none_riscv64.tsv", Lines::Refused)?;
     check_steps(&rt, "wrong_step_riscv64.tsv", Target::Riscv64)
 }

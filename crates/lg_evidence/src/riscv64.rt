@@ -1,6 +1,6 @@
 // The table of RV64IM.
 
-use crate::table::{Found, Table, spoken};
+use crate::table::{Found, Operands, Table, spoken};
 use lg_rv::{Instr, decode, encode};
 use std::alloc::{AllocError, Global};
 
@@ -12,7 +12,7 @@ impl Table for Riscv64 {
         match decode(bytes) {
             None => Ok(None),
             Some((instr, length)) => {
-                let operation = operation(alloc, &instr)?;
+                let operation = spoken(alloc, &instr.name(), operands(&instr))?;
                 let spelling = encode(&instr);
                 Ok(Some(Found {
                     operation,
@@ -26,37 +26,44 @@ impl Table for Riscv64 {
 
 // The operands are in the order of assembly text: a store's rs2 is first, and a base register comes
 // before its displacement.
-fn operation(alloc: Global, instr: &Instr) -> Result<String, AllocError> {
-    let name = instr.name();
+fn operands(instr: &Instr) -> Operands {
     match *instr {
-        Instr::Upper { rd, imm, .. } => spoken(alloc, &name, &[rd.into(), imm.into()]),
-        Instr::Jal { rd, offset } => spoken(alloc, &name, &[rd.into(), offset.into()]),
+        Instr::Upper { rd, imm, .. } => [Some(rd.into()), Some(imm.into()), None, None],
+        Instr::Jal { rd, offset } => [Some(rd.into()), Some(offset.into()), None, None],
         Instr::Branch {
             rs1,
             rs2,
             offset,
             ..
-        } => spoken(alloc, &name, &[rs1.into(), rs2.into(), offset.into()]),
-        Instr::Imm { rd, rs1, imm, .. } => spoken(
-            alloc,
-            &name,
-            &[rd.into(), rs1.into(), imm.into()],
-        ),
+        } => [
+            Some(rs1.into()),
+            Some(rs2.into()),
+            Some(offset.into()),
+            None,
+        ],
+        Instr::Imm { rd, rs1, imm, .. } => [
+            Some(rd.into()),
+            Some(rs1.into()),
+            Some(imm.into()),
+            None,
+        ],
         Instr::Shift {
             rd,
             rs1,
             amount,
             ..
-        } => spoken(alloc, &name, &[rd.into(), rs1.into(), amount.into()]),
-        Instr::Store { rs1, rs2, imm, .. } => spoken(
-            alloc,
-            &name,
-            &[rs2.into(), rs1.into(), imm.into()],
-        ),
-        Instr::Reg { rd, rs1, rs2, .. } => spoken(
-            alloc,
-            &name,
-            &[rd.into(), rs1.into(), rs2.into()],
-        ),
+        } => [Some(rd.into()), Some(rs1.into()), Some(amount.into()), None],
+        Instr::Store { rs1, rs2, imm, .. } => [
+            Some(rs2.into()),
+            Some(rs1.into()),
+            Some(imm.into()),
+            None,
+        ],
+        Instr::Reg { rd, rs1, rs2, .. } => [
+            Some(rd.into()),
+            Some(rs1.into()),
+            Some(rs2.into()),
+            None,
+        ],
     }
 }

@@ -25,12 +25,17 @@ pub trait Table {
         ensures { IfOk result (λ answer. IfSome answer (StandsInFront bytes.now)) };
 }
 
+/// The operands of an instruction, at most four, from the front on.
+pub type Operands = [Option<i64>; 4];
+
 /// A row's name and the operands as the evidence writes them.
-pub fn spoken(alloc: Global, name: &Piece, operands: &[i64]) -> Result<String, AllocError> {
+pub fn spoken(alloc: Global, name: &Piece, operands: Operands) -> Result<String, AllocError> {
     let name = str::from_utf8(name.as_slice()).unwrap_or("a name that is no text");
     let mut text = String::from_str(alloc, name)?;
-    for operand in operands {
-        write!(text, " {operand}")?;
+    for operand in &operands {
+        if let Some(operand) = operand {
+            write!(text, " {operand}")?;
+        }
     }
     Ok(text)
 }

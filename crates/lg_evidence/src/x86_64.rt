@@ -1,6 +1,6 @@
 // The table of x86-64.
 
-use crate::table::{Found, Table, spoken};
+use crate::table::{Found, Operands, Table, spoken};
 use lg_x86::{Instr, decode, encode};
 use std::alloc::{AllocError, Global};
 
@@ -24,50 +24,53 @@ impl Table for X86 {
     }
 }
 
+// The name and the operands. The number of `movi64` may pass the signed numbers.
+fn operation(alloc: Global, instr: &Instr) -> Result<String, AllocError> {
+    let mut text = spoken(alloc, &instr.name(), operands(instr))?;
+    if let Instr::Movi64 { imm, .. } = *instr {
+        write!(text, " {imm}")?;
+    }
+    Ok(text)
+}
+
 // The operands are in the order of assembly text: what is written is first, and a base register comes
 // before its displacement.
-fn operation(alloc: Global, instr: &Instr) -> Result<String, AllocError> {
-    let name = instr.name();
+fn operands(instr: &Instr) -> Operands {
     match *instr {
-        Instr::RmReg { rm, reg, .. } => spoken(alloc, &name, &[rm.into(), reg.into()]),
-        Instr::Imm { rm, imm, .. } => spoken(alloc, &name, &[rm.into(), imm.into()]),
-        Instr::RegRm { reg, rm, .. } => spoken(alloc, &name, &[reg.into(), rm.into()]),
+        Instr::RmReg { rm, reg, .. } => [Some(rm.into()), Some(reg.into()), None, None],
+        Instr::Imm { rm, imm, .. } => [Some(rm.into()), Some(imm.into()), None, None],
+        Instr::RegRm { reg, rm, .. } => [Some(reg.into()), Some(rm.into()), None, None],
         Instr::Load {
             reg,
             base,
             disp,
             ..
-        } => spoken(alloc, &name, &[reg.into(), base.into(), disp.into()]),
+        } => [Some(reg.into()), Some(base.into()), Some(disp.into()), None],
         Instr::Store {
             base,
             disp,
             reg,
             ..
-        } => spoken(alloc, &name, &[base.into(), disp.into(), reg.into()]),
-        Instr::Lea2 { reg, base, index } => spoken(
-            alloc,
-            &name,
-            &[reg.into(), base.into(), index.into()],
-        ),
-        Instr::Movi32 { reg, imm } => spoken(alloc, &name, &[reg.into(), imm.into()]),
-        Instr::Movs32 { rm, imm } => spoken(alloc, &name, &[rm.into(), imm.into()]),
-        Instr::Movi64 { reg, imm } => spoken_with(spoken(alloc, &name, &[reg.into()])?, imm),
-        Instr::Unary { rm, .. } => spoken(alloc, &name, &[rm.into()]),
-        Instr::Shift { rm, count, .. } => spoken(alloc, &name, &[rm.into(), count.into()]),
-        Instr::Bswap { reg } => spoken(alloc, &name, &[reg.into()]),
-        Instr::Stack { reg, .. } => spoken(alloc, &name, &[reg.into()]),
-        Instr::JumpIfShort { distance, .. } => spoken(alloc, &name, &[distance.into()]),
-        Instr::JumpIfNear { distance, .. } => spoken(alloc, &name, &[distance.into()]),
-        Instr::Set { rm, .. } => spoken(alloc, &name, &[rm.into()]),
-        Instr::JumpShort { distance } => spoken(alloc, &name, &[distance.into()]),
-        Instr::JumpNear { distance, .. } => spoken(alloc, &name, &[distance.into()]),
-        Instr::JumpReg { rm, .. } => spoken(alloc, &name, &[rm.into()]),
-        Instr::Bare { .. } => spoken(alloc, &name, &[]),
+        } => [Some(base.into()), Some(disp.into()), Some(reg.into()), None],
+        Instr::Lea2 { reg, base, index } => [
+            Some(reg.into()),
+            Some(base.into()),
+            Some(index.into()),
+            None,
+        ],
+        Instr::Movi32 { reg, imm } => [Some(reg.into()), Some(imm.into()), None, None],
+        Instr::Movs32 { rm, imm } => [Some(rm.into()), Some(imm.into()), None, None],
+        Instr::Movi64 { reg, .. } => [Some(reg.into()), None, None, None],
+        Instr::Unary { rm, .. } => [Some(rm.into()), None, None, None],
+        Instr::Shift { rm, count, .. } => [Some(rm.into()), Some(count.into()), None, None],
+        Instr::Bswap { reg } => [Some(reg.into()), None, None, None],
+        Instr::Stack { reg, .. } => [Some(reg.into()), None, None, None],
+        Instr::JumpIfShort { distance, .. } => [Some(distance.into()), None, None, None],
+        Instr::JumpIfNear { distance, .. } => [Some(distance.into()), None, None, None],
+        Instr::Set { rm, .. } => [Some(rm.into()), None, None, None],
+        Instr::JumpShort { distance } => [Some(distance.into()), None, None, None],
+        Instr::JumpNear { distance, .. } => [Some(distance.into()), None, None, None],
+        Instr::JumpReg { rm, .. } => [Some(rm.into()), None, None, None],
+        Instr::Bare { .. } => [None; 4],
     }
-}
-
-// and one more operand, which may pass the signed numbers
-fn spoken_with(mut text: String, operand: u64) -> Result<String, AllocError> {
-    write!(text, " {operand}")?;
-    Ok(text)
 }

@@ -1,6 +1,6 @@
 -- Code that can run.
 use Rattle.std.specs.Prelude.{◌≤◌, length}
-use Rattle.lg_test_calls.specs.declared.disturbed.code.Made.{Made}
+use Rattle.lg_test_calls.specs.declared.disturbed.Made.{Made}
 
 -- the code and the data part fit the memory
 pub record CanRun (m : Made) : Type 0 where

@@ -3,15 +3,24 @@
 // on the standard error exactly where the answer has one. Prints how many calls came to what, and of the refused ones how many to which kind.
 
 mod changes;
-mod runs;
-mod tally;
 
-use runs::run_all;
+use crate::call::words_of;
+use crate::tally::{Tally, count_call};
+use changes::changed;
+use lg_base::OutOfMemory;
+use lg_tally::Random;
+use std::alloc::Global;
 use std::{fs, io};
-use tally::{KINDS, Tally};
+
+// How many calls are made.
+const CALLS: usize = 20_000;
+
+const TARGETS: [&str; 3] = ["x86_64", "aarch64", "riscv64"];
+
+const MODES: [&str; 4] = ["run", "mean", "run", "list"];
 
 // The texts that a list names.
-fn texts(rt: &HostRuntime, list: &str) -> io::Result<Vec<Vec<u8>>> {
+fn texts_of(rt: &HostRuntime, list: &str) -> io::Result<Vec<Vec<u8>>> {
     let mut texts = Vec::new(rt.alloc());
     for name in list.lines() {
         texts.push(fs::read(rt, format!(in rt.alloc(); "{name}.tst")?)?)?;
@@ -19,41 +28,34 @@ fn texts(rt: &HostRuntime, list: &str) -> io::Result<Vec<Vec<u8>>> {
     Ok(texts)
 }
 
-// Prints what the calls came to.
-fn print(rt: &HostRuntime, tally: &Tally) -> io::Result<()> {
-    let Tally {
-        ended,
-        listed,
-        undefined,
-        refused,
-        steps_out,
-        fault,
-        write,
-        other,
-        odd,
-        ..
-    } = *tally;
-    println!(rt;
-        "{ended} ended, {listed} listed, {undefined} undefined, {refused} refused, {steps_out} out of steps"
-    )?;
-    println!(rt;
-        "{fault} faults, {write} failed to write, {other} other answers, {odd} odd lines"
-    )?;
-    for kind in 0..KINDS {
-        let count = tally.kinds[kind];
-        if count > 0 {
-            println!(rt; "kind {kind}: {count}")?;
-        }
+// The words of a call.
+fn words_in(alloc: Global, target: &str, mode: &str) -> Result<Vec<String>, OutOfMemory> {
+    let line = format!(in alloc; "lightning --target {target} --mode {mode} --steps 1000 t.tst 7")?;
+    words_of(alloc, line.as_str(), "")
+}
+
+// What the calls come to, in turn on each text, target and mode.
+fn tally_of(alloc: Global, texts: &[Vec<u8>]) -> Result<Tally, OutOfMemory> {
+    let mut random = Random { state: 1 };
+    let mut tally = Tally::new();
+    if texts.is_empty() {
+        return Ok(tally);
     }
-    Ok(())
+    for round in 0..CALLS {
+        let text = &texts[round % texts.len()];
+        let words = words_in(alloc, TARGETS[round % 3], MODES[round / 3 % 4])?;
+        let text = changed(alloc, text, &mut random)?;
+        count_call(alloc, &words, &text, &mut tally)?;
+    }
+    Ok(tally)
 }
 
 /// Makes the calls, and prints what they came to.
 pub fn change_texts(rt: &HostRuntime) -> io::Result<()> {
     let list = fs::read_to_string(rt, "any_text/texts.txt")?;
-    let texts = texts(rt, list.as_str())?;
-    match run_all(rt.alloc(), &texts) {
-        Ok(tally) => print(rt, &tally),
+    let texts = texts_of(rt, list.as_str())?;
+    match tally_of(rt.alloc(), &texts) {
+        Ok(tally) => tally.print(rt),
         Err(_) => println!(rt; "out of memory"),
     }
 }

@@ -1,7 +1,5 @@
 // Calls of the program. What the top call promises is for proofs, and of no use here: so each function that makes it only hands on its answer.
 
-ghost use Rattle.std.specs.Prelude.{◌<◌, length, IfOk};
-
 use lg_base::OutOfMemory;
 use lg_io::{MemorySink, MemoryTexts, StdTexts};
 use lg_run::{Answer, lightning};
@@ -9,32 +7,42 @@ use std::alloc::{AllocError, Global};
 use std::io::Input;
 use std::rt::Files;
 
-/// A first word, and behind it the words of a line, which has this character between them.
-pub fn words_of(
+/// The room for lines on the standard error, and for an output that names no other.
+pub const ROOM: usize = 65_536;
+
+// Appends the words of a line, which has this character between them.
+fn push_words(
     alloc: Global,
-    first: &str,
+    words: &mut Vec<String>,
     line: &str,
     between: char,
-) -> Result<Vec<String>, AllocError>
-    ensures { IfOk result (λ words. 0 < length words.items) }
-{
-    let mut words = Vec::new(alloc);
-    words.push(String::from_str(alloc, first)?)?;
+) -> Result<(), AllocError> {
     for word in line.split(between) {
         if !word.is_empty() {
             words.push(String::from_str(alloc, word)?)?;
         }
     }
+    Ok(())
+}
+
+/// The words of a line, with blanks between them, and behind them those of another, with bars between.
+pub fn words_of(alloc: Global, line: &str, further: &str) -> Result<Vec<String>, OutOfMemory> {
+    let mut words = Vec::new(alloc);
+    push_words(alloc, &mut words, line, ' ')?;
+    push_words(alloc, &mut words, further, '|')?;
     Ok(words)
 }
 
-/// The words of a command: the program's name, and those of a line, with blanks between them.
-pub fn command(alloc: Global, line: &str) -> Result<Vec<String>, AllocError> {
-    words_of(alloc, "lightning", line, ' ')
+/// What a call comes to: its answer, and what it wrote to both outputs.
+#[derive(Drop)]
+pub struct Called {
+    pub answer: Answer,
+    pub out: MemorySink,
+    pub err: MemorySink,
 }
 
-/// The answer of a call over the real files.
-pub fn call_on_files(
+// The answer of a call over the real files.
+fn answer_on_files(
     rt: &(impl Files + Input + AllocGlobal),
     words: &Vec<String>,
     out: &mut MemorySink,
@@ -44,8 +52,20 @@ pub fn call_on_files(
     lightning(rt.alloc(), words, &mut texts, out, err).answer
 }
 
+/// What a call over the real files comes to, with so much room for its output.
+pub fn call_on_files(
+    rt: &(impl Files + Input + AllocGlobal),
+    words: &Vec<String>,
+    room: usize,
+) -> Result<Called, OutOfMemory> {
+    let mut out = MemorySink::new(rt.alloc(), room, &[])?;
+    let mut err = MemorySink::new(rt.alloc(), ROOM, &[])?;
+    let answer = answer_on_files(rt, words, &mut out, &mut err);
+    Ok(Called { answer, out, err })
+}
+
 /// The answer of a call over texts in memory.
-pub fn call_on_texts(
+pub fn answer_on_texts(
     alloc: Global,
     words: &Vec<String>,
     texts: &mut MemoryTexts,
@@ -56,13 +76,13 @@ pub fn call_on_texts(
 }
 
 /// Calls that fail, by their numbers from 1 on, or 0 for none: of the texts, of the standard output and of the standard error; and how many bytes the
-/// standard output takes, where that is not 0.
+/// standard output takes.
 #[derive(Clone, Copy)]
 pub struct Faults {
-    pub read: u32,
-    pub write: u32,
-    pub line: u32,
-    pub room: u32,
+    pub read: u64,
+    pub write: u64,
+    pub line: u64,
+    pub room: usize,
 }
 
 /// Nothing fails.
@@ -70,31 +90,20 @@ pub const NO_FAULTS: Faults = Faults {
     read: 0,
     write: 0,
     line: 0,
-    room: 0,
+    room: ROOM,
 };
 
-// One text in memory, under its name.
-fn texts_of(
-    alloc: Global,
-    name: &str,
-    text: &[u8],
-    faults: Faults,
-) -> Result<MemoryTexts, OutOfMemory> {
-    let mut texts = MemoryTexts::new(alloc, &[u64::from(faults.read)])?;
-    match texts.add(name, text) {
-        Ok(()) => Ok(texts),
-        Err(OutOfMemory) => Err(OutOfMemory),
-    }
-}
-
-/// The answer of a call over one text in memory, with its name.
+/// What a call over one text in memory comes to, by its name.
 pub fn call_on_text(
     alloc: Global,
     words: &Vec<String>,
     (name, text): (&str, &[u8]),
     faults: Faults,
-    (out, err): (&mut MemorySink, &mut MemorySink),
-) -> Result<Answer, OutOfMemory> {
-    let mut texts = texts_of(alloc, name, text, faults)?;
-    Ok(call_on_texts(alloc, words, &mut texts, out, err))
+) -> Result<Called, OutOfMemory> {
+    let mut texts = MemoryTexts::new(alloc, &[faults.read])?;
+    texts.add(name, text)?;
+    let mut out = MemorySink::new(alloc, faults.room, &[faults.write])?;
+    let mut err = MemorySink::new(alloc, ROOM, &[faults.line])?;
+    let answer = answer_on_texts(alloc, words, &mut texts, &mut out, &mut err);
+    Ok(Called { answer, out, err })
 }

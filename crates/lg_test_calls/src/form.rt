@@ -1,19 +1,16 @@
 // Whether bytes have a form: `#` stands for any number, `+` for any but 0, and `~` for all up to the end of a line.
 
-// The bytes behind the digits that they begin with.
-fn behind_digits(bytes: &[u8]) -> &[u8] {
-    for (place, byte) in bytes.iter().enumerate() {
-        if !byte.is_ascii_digit() {
-            return &bytes[place..];
-        }
-    }
-    &[]
-}
+use std::{fs, io};
 
-// The bytes from the next line feed on.
-fn behind_line(bytes: &[u8]) -> &[u8] {
+// The bytes behind the digits that they begin with, or, for `~`, from the next line feed on.
+fn behind_all(form: u8, bytes: &[u8]) -> &[u8] {
     for (place, byte) in bytes.iter().enumerate() {
-        if *byte == b'\n' {
+        let is_behind = if form == b'~' {
+            *byte == b'\n'
+        } else {
+            !byte.is_ascii_digit()
+        };
+        if is_behind {
             return &bytes[place..];
         }
     }
@@ -26,9 +23,9 @@ fn behind_piece(form: u8, bytes: &[u8]) -> Option<&[u8]> {
         return None;
     };
     match form {
-        b'~' => Some(behind_line(bytes)),
-        b'#' if first.is_ascii_digit() => Some(behind_digits(bytes)),
-        b'+' if first.is_ascii_digit() && *first != b'0' => Some(behind_digits(bytes)),
+        b'~' => Some(behind_all(form, bytes)),
+        b'#' if first.is_ascii_digit() => Some(behind_all(form, bytes)),
+        b'+' if first.is_ascii_digit() && *first != b'0' => Some(behind_all(form, bytes)),
         _ if form == *first => Some(behind),
         _ => None,
     }
@@ -44,4 +41,15 @@ pub fn has_form(form: &[u8], bytes: &[u8]) -> bool {
         }
     }
     rest.is_empty()
+}
+
+/// Prints for each line of `forms.tsv`, a form and bytes with a tab between, whether the bytes have the form.
+pub fn try_forms(rt: &HostRuntime) -> io::Result<()> {
+    let forms = fs::read_to_string(rt, "forms.tsv")?;
+    for line in forms.as_str().lines() {
+        let (form, bytes) = line.split_once('\t').unwrap_or((line, ""));
+        let has = has_form(form.as_bytes(), bytes.as_bytes());
+        println!(rt; "'{form}' of '{bytes}': {has}")?;
+    }
+    Ok(())
 }

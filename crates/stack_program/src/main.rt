@@ -18,13 +18,13 @@ use lg_stack_language::compile;
 use run::{Ran, run};
 use std::{fs, io};
 
-const TARGETS: [(Target, &str); 3] = [
+const TARGETS: &[(Target, &str)] = &[
     (Target::X86_64, "x86_64"),
     (Target::Aarch64, "aarch64"),
     (Target::Riscv64, "riscv64"),
 ];
 
-const ARGUMENTS: [&str; 4] = ["0", "1", "5", "20"];
+const ARGUMENTS: &[&str] = &["0", "1", "5", "20"];
 
 // Prints why there is no code, or no run.
 fn print_stop(rt: &HostRuntime, stop: Stop) -> io::Result<()> {
@@ -72,7 +72,7 @@ fn run_unit(rt: &HostRuntime, unit: &Unit) -> io::Result<()>
 {
     for (target, name) in TARGETS {
         println!(rt; "{name}")?;
-        match code_of(rt.alloc(), unit, target) {
+        match code_of(rt.alloc(), unit, *target) {
             Ok(code) => run_all(rt, &code, &unit.image)?,
             Err(stop) => print_stop(rt, stop)?,
         }

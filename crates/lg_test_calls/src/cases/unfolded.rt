@@ -12,9 +12,11 @@ fn push_times(bytes: &mut Vec<u8>, times: u32, piece: &[u8]) -> Result<(), Alloc
 }
 
 // Appends what a line stands for.
-fn push_line(bytes: &mut Vec<u8>, line: &str) -> Result<(), AllocError> {
+fn push_line(bytes: &mut Vec<u8>, head: &str, line: &str) -> Result<(), AllocError> {
     let words = line.strip_suffix('\n').unwrap_or(line);
-    if let Some(repeated) = words.strip_prefix("REPEAT ") {
+    if words == "HEAD" {
+        bytes.extend_from_slice(head.as_bytes())
+    } else if let Some(repeated) = words.strip_prefix("REPEAT ") {
         let (times, piece) = repeated.split_once(' ').unwrap_or((repeated, ""));
         push_times(bytes, str::parse(times).unwrap_or(0), piece.as_bytes())
     } else if let Some(byte) = words.strip_prefix("BYTE ") {
@@ -24,12 +26,12 @@ fn push_line(bytes: &mut Vec<u8>, line: &str) -> Result<(), AllocError> {
     }
 }
 
-/// The bytes that lines stand for: `REPEAT N PIECE` for so many times the piece, `BYTE N` for that byte, both with no line feed behind, and every other line
-/// for itself.
-pub fn unfolded(alloc: Global, lines: &str) -> Result<Vec<u8>, AllocError> {
+/// The bytes that lines stand for: `REPEAT N PIECE` for so many times the piece, `BYTE N` for that byte, both with no line feed behind, `HEAD` for the head of
+/// the file, and every other line for itself.
+pub fn unfolded(alloc: Global, head: &str, lines: &str) -> Result<Vec<u8>, AllocError> {
     let mut bytes = Vec::new(alloc);
     for line in lines.split_inclusive('\n') {
-        push_line(&mut bytes, line)?;
+        push_line(&mut bytes, head, line)?;
     }
     Ok(bytes)
 }
