@@ -13,7 +13,7 @@ use Rattle.lg_op.specs.declared.operand.Reg.TheVariants.{R0, R1, R2, V0, V1, V2,
 use Rattle.lg_live.specs.Uses.{is_written}
 use Rattle.lg_op.specs.declared.carry.Carry.{Carry}
 use Rattle.lg_op.specs.declared.carry.Carry.TheVariants as carry
-use Rattle.lg_op.specs.Operators.{is_carried, binary_value, wide_value, unary_value, keeps_carry, width, extended_by_type}
+use Rattle.lg_op.specs.Operators.{sets_carry, binary_value, wide_value, unary_value, keeps_carry, width, extended_by_type}
 use Rattle.lg_node.specs.Functions.{functions}
 use Rattle.lg_node.specs.Nodes.{LabelledNodes}
 use Rattle.lg_node.specs.Shapes.{TextShape, IsShapeOf, IsSuccessor, GoesBy, Way, Next, way_of}
@@ -24,7 +24,7 @@ use Rattle.lg_meaning.specs.Addresses.{AreAddresses}
 use Rattle.lg_meaning.specs.Fits.{FitsWell}
 use Rattle.lg_meaning.specs.Starts.{start_state}
 use Rattle.lg_meaning.specs.States.{State, reg, value}
-use Rattle.lg_meaning.specs.Steps.{Outcome, Goes, Ends, Undefined, Text, need, quiet, operand_at, on, on_with_carry, with_reg, operate, binary_step, carried_step, read, address, slot, node_step}
+use Rattle.lg_meaning.specs.Steps.{Outcome, Goes, Ends, Undefined, Text, need, quiet, operand_at, on, on_with_carry, with_reg, operate, binary_step, carry_step, read, address, slot, node_step}
 use Rattle.lg_meaning.specs.Texts.{text, step_at, step}
 use Rattle.lg_meaning.proofs.MeanLemmas.{formed_at, mean_fits}
 use Rattle.lg_carry.specs.Carries.{leaps, leaps_at}
@@ -110,9 +110,9 @@ module _ (t : Text) (n : Node) (s : State) where
   moved false d v = with-none d v
 
   by-defining : (o : Op) → defines o ≡ true → IsDefined s (node_step t n o s)
-  by-defining (op.Binary b last) e = by (is_carried b) e
+  by-defining (op.Binary b last) e = by (sets_carry b) e
     where
-      by : (c : Bool) → not c ≡ true → IsDefined s (if c then carried_step t.addresses n b s else binary_step t.addresses n (binary_value b) s)
+      by : (c : Bool) → not c ≡ true → IsDefined s (if c then carry_step t.addresses n b s else binary_step t.addresses n (binary_value b) s)
       by true e = cc
       by false e = defined (value t.addresses s (operand_at n 1)) _ (λ x. defined (value t.addresses s (operand_at n 2)) _ (λ y. operated (operand_at n 0) (binary_value b x y)))
   by-defining (op.Wide b last) e =

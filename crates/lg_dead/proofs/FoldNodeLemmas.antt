@@ -16,7 +16,7 @@ use Rattle.lg_op.specs.declared.form.Form.TheVariants as form
 use Rattle.lg_op.specs.declared.operand.Operand.{Operand}
 use Rattle.lg_op.specs.declared.operand.Operand.TheVariants as operand
 use Rattle.lg_op.specs.declared.operand.Reg.{Reg}
-use Rattle.lg_op.specs.Operators.{is_carried, binary_value, unary_value}
+use Rattle.lg_op.specs.Operators.{sets_carry, binary_value, unary_value}
 use Rattle.lg_dead.specs.Known.{number_in, both_known, made, last_known, as_movi, as_immediate, folded_by, folded, can_be_folded}
 
 module _ (known : Reg → Option ℕ) where
@@ -31,7 +31,7 @@ module _ (known : Reg → Option ℕ) where
     pub y : ℕ
     pub op_is : o ≡ op.Binary name last
     pub operands_are : xs ≡ into ∷ first ∷ second ∷ []
-    pub plain_is : is_carried name ≡ false
+    pub plain_is : sets_carry name ≡ false
     pub first_is : number_in known first ≡ Some x
     pub second_is : number_in known second ≡ Some y
     pub word : binary_value name x y ≡ Some v
@@ -53,9 +53,9 @@ module _ (known : Reg → Option ℕ) where
   same-number u v e = cc
 
   pub made-cases : (o : Op) (xs : List Operand) (v : ℕ) → made known o xs ≡ Some v → BinaryMade o xs v ⊎ UnaryMade o xs v
-  made-cases (op.Binary b last) (d ∷ a ∷ c ∷ []) v e = by (is_carried b) (number_in known a) (number_in known c) refl refl refl e
+  made-cases (op.Binary b last) (d ∷ a ∷ c ∷ []) v e = by (sets_carry b) (number_in known a) (number_in known c) refl refl refl e
     where
-      by : (k : Bool) (p q : Option ℕ) → is_carried b ≡ k → number_in known a ≡ p → number_in known c ≡ q → (if k then None else both_known p q (binary_value b)) ≡ Some v → BinaryMade (op.Binary b last) (d ∷ a ∷ c ∷ []) v ⊎ UnaryMade (op.Binary b last) (d ∷ a ∷ c ∷ []) v
+      by : (k : Bool) (p q : Option ℕ) → sets_carry b ≡ k → number_in known a ≡ p → number_in known c ≡ q → (if k then None else both_known p q (binary_value b)) ≡ Some v → BinaryMade (op.Binary b last) (d ∷ a ∷ c ∷ []) v ⊎ UnaryMade (op.Binary b last) (d ∷ a ∷ c ∷ []) v
       by true p q ek ep eq e = absurd (no-number v e)
       by false None q ek ep eq e = absurd (no-number v e)
       by false (Some x) None ek ep eq e = absurd (no-number v e)
@@ -75,7 +75,7 @@ module _ (known : Reg → Option ℕ) where
     pub second : Reg
     pub op_is : o ≡ op.Binary name last_operand.Register
     pub operands_are : xs ≡ into ∷ first ∷ operand.Reg second ∷ []
-    pub plain_is : is_carried name ≡ false
+    pub plain_is : sets_carry name ≡ false
     pub second_is : known second ≡ Some v
 
   pub record BranchLast (o : Op) (xs : List Operand) (v : ℕ) : Type 0 where
@@ -88,9 +88,9 @@ module _ (known : Reg → Option ℕ) where
     pub second_is : known second ≡ Some v
 
   pub last-cases : (o : Op) (xs : List Operand) (v : ℕ) → last_known known o xs ≡ Some v → BinaryLast o xs v ⊎ BranchLast o xs v
-  last-cases (op.Binary b last_operand.Register) (d ∷ a ∷ operand.Reg r ∷ []) v e = by (is_carried b) refl e
+  last-cases (op.Binary b last_operand.Register) (d ∷ a ∷ operand.Reg r ∷ []) v e = by (sets_carry b) refl e
     where
-      by : (k : Bool) → is_carried b ≡ k → (if k then None else known r) ≡ Some v → BinaryLast (op.Binary b last_operand.Register) (d ∷ a ∷ operand.Reg r ∷ []) v ⊎ BranchLast (op.Binary b last_operand.Register) (d ∷ a ∷ operand.Reg r ∷ []) v
+      by : (k : Bool) → sets_carry b ≡ k → (if k then None else known r) ≡ Some v → BinaryLast (op.Binary b last_operand.Register) (d ∷ a ∷ operand.Reg r ∷ []) v ⊎ BranchLast (op.Binary b last_operand.Register) (d ∷ a ∷ operand.Reg r ∷ []) v
       by true ek e = absurd (no-number v e)
       by false ek e = inl record { name = b; into = d; first = a; second = r; op_is = refl; operands_are = refl; plain_is = ek; second_is = e }
   last-cases (op.Branch c last_operand.Register) (t ∷ a ∷ operand.Reg r ∷ []) v e = inr record { name = c; to = t; first = a; second = r; op_is = refl; operands_are = refl; second_is = e }
@@ -99,7 +99,7 @@ module _ (known : Reg → Option ℕ) where
   -- ---- a folded node can't be folded again
   made-immediate : (b : BinaryOp) (d a : Operand) (r : Reg) (v : ℕ) → known r ≡ Some v → made known (op.Binary b last_operand.Register) (d ∷ a ∷ operand.Reg r ∷ []) ≡ None
       → made known (op.Binary b last_operand.Immediate) (d ∷ a ∷ operand.Number v ∷ []) ≡ None
-  made-immediate b d a r v k e = ap (λ o. if is_carried b then None else both_known (number_in known a) o (binary_value b)) (sym k) ∙ e
+  made-immediate b d a r v k e = ap (λ o. if sets_carry b then None else both_known (number_in known a) o (binary_value b)) (sym k) ∙ e
 
   folded-once : (n : Node) (p q : Option ℕ) → made known n.op n.operands ≡ p → last_known known n.op n.operands ≡ q → can_be_folded known (folded_by n p q) ≡ false
   folded-once n (Some v) q ep eq = refl
@@ -175,8 +175,8 @@ module _ (known : Reg → Option ℕ) where
 
   -- what three operands make
   pub three-made : (b : BinaryOp) (last : LastOperand) (xs : List Operand) (d : Operand) (p q r : Option ℕ) → 3 ≤ length xs → length xs < 4 → p ≡ number_in known (get_or xs 1 d) → q ≡ number_in known (get_or xs 2 d)
-      → r ≡ (if is_carried b then None else both_known p q (binary_value b)) → r ≡ made known (op.Binary b last) xs
-  three-made b last (x ∷ y ∷ z ∷ []) d p q r low high ep eq e = e ∙ ap (λ o. if is_carried b then None else both_known o q (binary_value b)) ep ∙ ap (λ o. if is_carried b then None else both_known (number_in known y) o (binary_value b)) eq
+      → r ≡ (if sets_carry b then None else both_known p q (binary_value b)) → r ≡ made known (op.Binary b last) xs
+  three-made b last (x ∷ y ∷ z ∷ []) d p q r low high ep eq e = e ∙ ap (λ o. if sets_carry b then None else both_known o q (binary_value b)) ep ∙ ap (λ o. if sets_carry b then None else both_known (number_in known y) o (binary_value b)) eq
   three-made b last [] d p q r low high ep eq e = absurd (omega arith)
   three-made b last (x ∷ []) d p q r low high ep eq e = absurd (omega arith)
   three-made b last (x ∷ y ∷ []) d p q r low high ep eq e = absurd (omega arith)

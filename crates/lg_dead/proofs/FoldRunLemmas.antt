@@ -34,7 +34,7 @@ use Rattle.lg_meaning.specs.Fits.{FitsWell, AreLinked}
 use Rattle.lg_meaning.specs.Means.{mean_from}
 use Rattle.lg_meaning.specs.Starts.{start_state}
 use Rattle.lg_meaning.specs.States.{Frame, State, reg, value}
-use Rattle.lg_meaning.specs.Steps.{Goes, Text, need, quiet, operand_at, on, on_with_carry, with_reg, with_word, operate, branch, binary_step, carried_step, node_step}
+use Rattle.lg_meaning.specs.Steps.{Goes, Text, need, quiet, operand_at, on, on_with_carry, with_reg, with_word, operate, branch, binary_step, carry_step, node_step}
 use Rattle.lg_meaning.specs.Texts.{text, step_at, step}
 use Rattle.lg_meaning.proofs.KeepLemmas.{steps_fit}
 use Rattle.lg_meaning.proofs.MeanLemmas.{always, formed_at, start_fits_well}
@@ -108,7 +108,7 @@ module _ (t : Text) (s : State) (known : Reg → Option ℕ) (are : AreKnown s k
   binary-makes n v b =
       subst (λ o. node_step t (record n { op = o }) o s ≡ quiet (on (with_reg s (operand_at n 0) v))) (sym b.op_is)
       (subst (λ xs. node_step t (record n { op = op.Binary b.name b.last; operands = xs }) (op.Binary b.name b.last) s ≡ quiet (on (with_reg s (operand_at (record n { operands = xs }) 0) v))) (sym b.operands_are)
-      (ap (λ c. if c then carried_step t.addresses there b.name s else binary_step t.addresses there (binary_value b.name) s) b.plain_is
+      (ap (λ c. if c then carry_step t.addresses there b.name s else binary_step t.addresses there (binary_value b.name) s) b.plain_is
       ∙ ap (λ o. need o (λ x. need (value t.addresses s b.second) (λ y. operate s b.into (binary_value b.name x y)))) (known-value t.addresses s known are b.first b.x b.first_is)
       ∙ ap (λ o. need o (λ y. operate s b.into (binary_value b.name b.x y))) (known-value t.addresses s known are b.second b.y b.second_is)
       ∙ ap (operate s b.into) b.word))
@@ -156,9 +156,9 @@ module _ (t : Text) (s : State) (known : Reg → Option ℕ) (are : AreKnown s k
       binary b =
           subst (λ o. node_step t (as_immediate (record n { op = o }) v) (as_immediate (record n { op = o }) v).op s ≡ node_step t (record n { op = o }) o s) (sym b.op_is)
           (subst (λ xs. node_step t (as_immediate (record n { op = op.Binary b.name last_operand.Register; operands = xs }) v) (op.Binary b.name last_operand.Immediate) s ≡ node_step t (record n { op = op.Binary b.name last_operand.Register; operands = xs }) (op.Binary b.name last_operand.Register) s) (sym b.operands_are)
-          (ap (λ c. if c then carried_step t.addresses new b.name s else binary_step t.addresses new (binary_value b.name) s) b.plain_is
+          (ap (λ c. if c then carry_step t.addresses new b.name s else binary_step t.addresses new (binary_value b.name) s) b.plain_is
           ∙ ap (λ o. need (value t.addresses s b.first) (λ x. need o (λ y. operate s b.into (binary_value b.name x y)))) (sym (are b.second v b.second_is))
-          ∙ sym (ap (λ c. if c then carried_step t.addresses old b.name s else binary_step t.addresses old (binary_value b.name) s) b.plain_is)))
+          ∙ sym (ap (λ c. if c then carry_step t.addresses old b.name s else binary_step t.addresses old (binary_value b.name) s) b.plain_is)))
         where
           old : Node
           old = record n { op = op.Binary b.name last_operand.Register; operands = b.into ∷ b.first ∷ operand.Reg b.second ∷ [] }

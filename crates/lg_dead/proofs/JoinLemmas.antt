@@ -16,7 +16,7 @@ use Rattle.lg_opt.specs.Rewritings.{IsOrigin, IsSameNode, KeepsOthers, KeepsLabe
 use Rattle.lg_opt.proofs.ClauseLemmas.{Joined, origins-join}
 use Rattle.lg_dead.specs.Folds.{IsFoldedNode, IsFoldedTo, ComesFolded}
 use Rattle.lg_dead.specs.Known.{number_in, both_known, made, last_known, with_immediate, folded_by, folded, known_before}
-use Rattle.lg_op.specs.Operators.{is_carried, binary_value}
+use Rattle.lg_op.specs.Operators.{sets_carry, binary_value}
 use Rattle.lg_dead.specs.Rewritten.{is_droppable}
 
 pub origin-weaker : (R S : Node → Node → Type 0) (l m : LabelledNodes) (origin : List ℕ) → ((old n : Node) → R old n → S old n) → IsOrigin R l m origin → IsOrigin S l m origin
@@ -58,7 +58,7 @@ no-movr o e = by o (no-definition o e)
     by p f = refl
 
 made-defines : (known : Reg → Option ℕ) (o : Op) (xs : List Operand) (v : ℕ) → made known o xs ≡ Some v → defines o ≡ true
-made-defines known (op.Binary o last) (d ∷ a ∷ b ∷ []) v e = by (is_carried o) e
+made-defines known (op.Binary o last) (d ∷ a ∷ b ∷ []) v e = by (sets_carry o) e
   where
     by : (c : Bool) → (if c then None else both_known (number_in known a) (number_in known b) (binary_value o)) ≡ Some v → not c ≡ true
     by true f = cc

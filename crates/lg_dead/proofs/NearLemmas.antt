@@ -37,10 +37,10 @@ use Rattle.lg_node.specs.Functions.{frame_of}
 use Rattle.lg_cells.specs.Cells.{within}
 use Rattle.lg_cells.specs.Memories.{writable, without}
 use Rattle.lg_op.specs.declared.carry.Carry.TheVariants as carry
-use Rattle.lg_op.specs.Operators.{binary_value, is_carried, carry_in, carried_value, carried_out, wide_value, unary_value, keeps_carry, holds, branch_sum_goes, branch_sum_value, width, extended_by_type, store_width}
+use Rattle.lg_op.specs.Operators.{binary_value, sets_carry, carry_in, value_with_carry, carry_made, wide_value, unary_value, keeps_carry, holds, branch_sum_goes, branch_sum_value, width, extended_by_type, store_width}
 use Rattle.lg_meaning.specs.Reaching.{is_return}
 use Rattle.lg_meaning.specs.States.{Frame, State, reg, value, named, in_locals, in_any_locals, is_open}
-use Rattle.lg_meaning.specs.Steps.{Outcome, Goes, Ends, Undefined, Text, need, when, quiet, operand_at, to, on, on_with_carry, is_marked, with_word, with_reg, operate, binary_step, carried_step, branch, node_of_label, jump_target, read, address, sum_value, stored_operand, function_here, started, kept, called, enter, begun, back_to, leave, host_end, call_host, call_node, call_operand, entry_target, call_named, call_word, slot, node_step, bit_word}
+use Rattle.lg_meaning.specs.Steps.{Outcome, Goes, Ends, Undefined, Text, need, when, quiet, operand_at, to, on, on_with_carry, is_marked, with_word, with_reg, operate, binary_step, carry_step, branch, node_of_label, jump_target, read, address, sum_value, stored_operand, function_here, started, kept, called, enter, begun, back_to, leave, host_end, call_host, call_node, call_operand, entry_target, call_named, call_word, slot, node_step, bit_word}
 use Rattle.lg_dead.specs.Near.{Meets}
 use Rattle.lg_dead.specs.Near.{Holds, word_of, is_kept, SavesAlike, FramesAlike, Near}
 
@@ -395,9 +395,9 @@ module _ (needs : ℕ → Reg → Bool) (t : Text) (n : Node) (S : Reg → Bool)
         let fs = form.Read ∷ last_form last ∷ [] in
         let w : none-writes fs ≡ true = last-reads last in
         let i = at-input (op.Binary b last) (forms-at _ e) (reads-at _ e) (flow-at _ e) in
-        either R (is_carried b) _ _ _ _
+        either R (sets_carry b) _ _ _ _
         (held R _ _ (i 1 refl) _ _ (λ x. held R _ _ (i 2 (takes-last last)) _ _ (λ y. same-need R (carry_in b s.carry) _ _ (λ bit.
-        (near _ (with_word regs (named (operand_at n 0)) (carried_value b x y (bit_word bit))) (record s.frame { saved = saved }) callers (one (op.Binary b last) (forms-at _ e) (reads-at _ e) (flow-at _ e) fs refl w refl (carried_value b x y (bit_word bit))) (the-top s.frame refl refl) below, refl)))))
+        (near _ (with_word regs (named (operand_at n 0)) (value_with_carry b x y (bit_word bit))) (record s.frame { saved = saved }) callers (one (op.Binary b last) (forms-at _ e) (reads-at _ e) (flow-at _ e) fs refl w refl (value_with_carry b x y (bit_word bit))) (the-top s.frame refl refl) below, refl)))))
         (held R _ _ (i 1 refl) _ _ (λ x. held R _ _ (i 2 (takes-last last)) _ _ (λ y. operated (op.Binary b last) (forms-at _ e) (reads-at _ e) (flow-at _ e) (binary_value b x y) fs refl w refl)))
       where
         last-reads : (last : LastOperand) → none-writes (form.Read ∷ last_form last ∷ []) ≡ true

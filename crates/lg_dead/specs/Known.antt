@@ -13,7 +13,7 @@ use Rattle.lg_op.specs.declared.operand.Operand.TheVariants as operand
 use Rattle.lg_op.specs.declared.operand.Reg.{Reg}
 use Rattle.lg_live.specs.Registers.{is_same}
 use Rattle.lg_live.specs.Uses.{is_written}
-use Rattle.lg_op.specs.Operators.{is_carried, binary_value, unary_value}
+use Rattle.lg_op.specs.Operators.{sets_carry, binary_value, unary_value}
 use Rattle.lg_carry.specs.Carries.{leaps}
 use Rattle.lg_node.specs.Nodes.{LabelledNodes}
 use Rattle.lg_node.specs.Labels.{is_labelled}
@@ -30,13 +30,13 @@ abbrev pub both_known : Option ℕ → Option ℕ → (ℕ → ℕ → Option �
 both_known a b f = option_and_then (λ x. option_and_then (f x) b) a
 
 abbrev pub made : (Reg → Option ℕ) → Op → List Operand → Option ℕ
-made known (op.Binary o last) (d ∷ a ∷ b ∷ []) = if is_carried o then None else both_known (number_in known a) (number_in known b) (binary_value o)
+made known (op.Binary o last) (d ∷ a ∷ b ∷ []) = if sets_carry o then None else both_known (number_in known a) (number_in known b) (binary_value o)
 made known (op.Unary o) (d ∷ a ∷ []) = option_map (unary_value o) (number_in known a)
 made known o xs = None
 
 -- the second way: the last operand is a register that is known
 abbrev pub last_known : (Reg → Option ℕ) → Op → List Operand → Option ℕ
-last_known known (op.Binary o last_operand.Register) (d ∷ a ∷ operand.Reg r ∷ []) = if is_carried o then None else known r
+last_known known (op.Binary o last_operand.Register) (d ∷ a ∷ operand.Reg r ∷ []) = if sets_carry o then None else known r
 last_known known (op.Branch c last_operand.Register) (t ∷ a ∷ operand.Reg r ∷ []) = known r
 last_known known o xs = None
 

@@ -4,19 +4,19 @@ ghost use Rattle.std.specs.Prelude.{◌≡◌, if◌then◌else◌, None};
 ghost use Rattle.lg_op.specs.declared.op.LastOperand.{LastOperand};
 ghost use Rattle.lg_op.specs.declared.op.Op.TheVariants as variant;
 ghost use Rattle.lg_op.specs.Nodes.{InForm};
-ghost use Rattle.lg_op.specs.Operators.{is_carried, binary_value};
+ghost use Rattle.lg_op.specs.Operators.{sets_carry, binary_value};
 ghost use Rattle.lg_dead.specs.Known.{both_known, made, last_known, as_movi, as_immediate, with_immediate, with_third, folded};
 ghost use Rattle.lg_dead.specs.Tables.{known_of};
 
 use crate::known::Known;
-use lg_op::operators::{binary, is_carried, unary};
+use lg_op::operators::{binary, sets_carry, unary};
 use lg_op::{BinaryOp, LastOperand, Node, Op, Operand, Operands, PlainOp, UnaryOp};
 
 // The word of two words that are known.
 fn made_of_two(op: BinaryOp, a: Option<u64>, b: Option<u64>) -> Option<u64>
-    ensures { result ≡ (if is_carried op then None else both_known a b (binary_value op)) }
+    ensures { result ≡ (if sets_carry op then None else both_known a b (binary_value op)) }
 {
-    if is_carried(op) {
+    if sets_carry(op) {
         return None;
     }
     match a {
@@ -69,7 +69,7 @@ fn last_known(known: Known, node: &Node) -> Option<u64>
     match node.op {
         Op::Binary(op, LastOperand::Register) => match node.operands.as_slice() {
             [_, _, Operand::Reg(register)] => {
-                if is_carried(op) {
+                if sets_carry(op) {
                     None
                 } else {
                     known.of(*register)

@@ -29,7 +29,7 @@ use Rattle.lg_op.specs.declared.op.StoreType.TheVariants as store
 use Rattle.lg_op.specs.declared.op.UnaryOp.TheVariants.{Mov, Neg}
 use Rattle.lg_op.specs.declared.op.ValueType.TheVariants as value
 use Rattle.lg_op.specs.declared.operand.Operand.TheVariants as operand
-use Rattle.lg_op.specs.Operators.{binary_value, is_carried, word_where}
+use Rattle.lg_op.specs.Operators.{binary_value, sets_carry, word_where}
 use Rattle.lg_expression.specs.Steps.{behind, finds, is_whole}
 use Rattle.lg_expression.specs.Units.{aside, fp, node, nodes_of, r0, step_nodes, v0, v1, waiting}
 use Rattle.lg_expression.specs.declared.step.Step.{Step}
@@ -111,7 +111,7 @@ binary_word binary.RemU a b v h k e = word_where_of _ _ v e (remainder_word a b 
 binary_word o a b v h k e = no_value v e
 
 -- an operation with a value sets no carry
-not_carried : (o : BinaryOp) (a b v : ℕ) → binary_value o a b ≡ Some v → is_carried o ≡ false
+not_carried : (o : BinaryOp) (a b v : ℕ) → binary_value o a b ≡ Some v → sets_carry o ≡ false
 not_carried binary.Addc a b v e = no_value v e
 not_carried binary.Subc a b v e = no_value v e
 not_carried binary.Addx a b v e = no_value v e

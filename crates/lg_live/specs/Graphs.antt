@@ -24,7 +24,7 @@ pub data IsArc (points : List Point) : ℕ → ℕ → Type 0 where
 pub data IsWanted (points : List Point) : Reg → ℕ → Type 0 where
   read_here : (r : Reg) (i : ℕ) → has (point_at points i).reads r ≡ true → IsWanted points r i
   read_for : (r q : Reg) (i k : ℕ) → has (point_at points i).feeds r ≡ true → has (point_at points i).writes q ≡ true → IsArc points i k
-    → IsWanted points q k → IsWanted points r i
+      → IsWanted points q k → IsWanted points r i
   kept_to : (r : Reg) (i k : ℕ) → has (point_at points i).writes r ≡ false → IsArc points i k → IsWanted points r k → IsWanted points r i
 
 -- all points are below this number

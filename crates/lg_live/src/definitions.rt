@@ -2,7 +2,7 @@
 
 ghost use Rattle.std.specs.Prelude.{◌≡◌, not};
 ghost use Rattle.lg_live.specs.Definitions.{defines, feeding};
-ghost use Rattle.lg_op.specs.Operators.{is_carried};
+ghost use Rattle.lg_op.specs.Operators.{sets_carry};
 
 use lg_node::{BinaryOp, Op, PlainOp};
 
@@ -16,8 +16,8 @@ pub enum Sought {
 }
 
 // Whether an operation sets the carry.
-fn is_carried(op: BinaryOp) -> bool
-    ensures { result ≡ is_carried op }
+fn sets_carry(op: BinaryOp) -> bool
+    ensures { result ≡ sets_carry op }
 {
     matches!(
         op,
@@ -30,7 +30,7 @@ pub fn defines(op: Op) -> bool
     ensures { result ≡ defines op }
 {
     match op {
-        Op::Binary(op, _) => !is_carried(op),
+        Op::Binary(op, _) => !sets_carry(op),
         Op::Wide(_, _)
         | Op::Unary(_)
         | Op::Plain(PlainOp::Movi)

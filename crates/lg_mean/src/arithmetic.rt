@@ -1,8 +1,8 @@
 // Arithmetic, branches and jumps of the portable machine. Each method answers whether the step is defined.
 
 ghost use Rattle.std.specs.Prelude.{◌≡◌, ◌<◌, ◌-◌, ◌^◌, ◌∷◌, [], ℕ, length, slice_get, IfSome, Bool, true, false, if◌then◌else◌};
-ghost use Rattle.lg_op.specs.Operators.{binary_value, is_carried};
-ghost use Rattle.lg_meaning.specs.Steps.{binary_step, carried_step, carried_to, wide_step, unary_step, movi_step, branch, branch_step, branch_sum_step, jump_step, retval_step, getarg_step, va_start_step, va_arg_step, va_end_step, quiet, on};
+ghost use Rattle.lg_op.specs.Operators.{binary_value, sets_carry};
+ghost use Rattle.lg_meaning.specs.Steps.{binary_step, carry_step, goes_with_carry, wide_step, unary_step, movi_step, branch, branch_step, branch_sum_step, jump_step, retval_step, getarg_step, va_start_step, va_arg_step, va_end_step, quiet, on};
 ghost use Rattle.lg_mean.specs.Machines.{state_of};
 ghost use Rattle.lg_mean.specs.Programs.{text_of};
 ghost use Rattle.lg_mean.specs.Says.{AreKnown, IsKnown, Does};
@@ -38,19 +38,19 @@ impl Machine {
     }
 
     // Writes a register and the carry, and goes to the next node.
-    fn operate_carried(&mut self, operand: Operand, word: u64, carry: Carry)
+    fn operate_and_set_carry(&mut self, operand: Operand, word: u64, carry: Carry)
         requires { self.old.at < 2 ^ 32 - 1 }
-        ensures { state_of self.new ≡ carried_to (state_of self.old) operand word carry }
+        ensures { state_of self.new ≡ goes_with_carry (state_of self.old) operand word carry }
     {
         self.operate_with_carry(operand, word);
         self.set_carry(carry);
     }
 
     // O1 = O2 op O3, with the carry.
-    fn carried(&mut self, op: BinaryOp, node: &Node, labels: &[u64]) -> bool
+    fn binary_with_carry(&mut self, op: BinaryOp, node: &Node, labels: &[u64]) -> bool
         requires room { self.old.at < 2 ^ 32 - 1 }
         requires known { AreKnown (length labels.now) node.now }
-        ensures { Does (carried_step labels.now node.now op (state_of self.old)) (state_of self.old) result (state_of self.new) }
+        ensures { Does (carry_step labels.now node.now op (state_of self.old)) (state_of self.old) result (state_of self.new) }
     {
         let Some(a) = self.value(labels, operand(node, 1)) else {
             return false;
@@ -61,9 +61,9 @@ impl Machine {
         let Some(bit) = operators::carry_in(op, self.carry) else {
             return false;
         };
-        let word = operators::carried(op, a, b, bit);
+        let word = operators::with_carry(op, a, b, bit);
         let carry = operators::carry_out(op, a, b, bit);
-        self.operate_carried(operand(node, 0), word, carry);
+        self.operate_and_set_carry(operand(node, 0), word, carry);
         true
     }
 
@@ -71,11 +71,11 @@ impl Machine {
     pub(crate) fn binary_node(&mut self, op: BinaryOp, node: &Node, labels: &[u64]) -> bool
         requires room { self.old.at < 2 ^ 32 - 1 }
         requires known { AreKnown (length labels.now) node.now }
-        ensures { Does (if is_carried op then carried_step labels.now node.now op (state_of self.old) else binary_step labels.now node.now
+        ensures { Does (if sets_carry op then carry_step labels.now node.now op (state_of self.old) else binary_step labels.now node.now
             (binary_value op) (state_of self.old)) (state_of self.old) result (state_of self.new) }
     {
-        if operators::is_carried(op) {
-            self.carried(op, node, labels)
+        if operators::sets_carry(op) {
+            self.binary_with_carry(op, node, labels)
         } else {
             self.binary(op, node, labels)
         }

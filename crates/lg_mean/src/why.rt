@@ -257,7 +257,7 @@ impl Machine {
     {
         match node.op {
             Op::Binary(op, _) => where_so(
-                operators::is_carried(op) && operators::carry_in(op, self.carry).is_none(),
+                operators::sets_carry(op) && operators::carry_in(op, self.carry).is_none(),
                 Reason::NoCarry,
             ),
             _ => None,

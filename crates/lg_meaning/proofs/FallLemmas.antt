@@ -11,9 +11,9 @@ use Rattle.lg_op.specs.declared.op.UnaryOp.{UnaryOp}
 use Rattle.lg_op.specs.declared.op.ValueType.{ValueType}
 use Rattle.lg_op.specs.declared.op.WideOp.{WideOp}
 use Rattle.lg_op.specs.declared.carry.Carry.{Carry}
-use Rattle.lg_op.specs.Operators.{is_carried, keeps_carry, binary_value, unary_value, carry_in, wide_value, width}
+use Rattle.lg_op.specs.Operators.{sets_carry, keeps_carry, binary_value, unary_value, carry_in, wide_value, width}
 use Rattle.lg_meaning.specs.States.{State, value}
-use Rattle.lg_meaning.specs.Steps.{Outcome, Text, slot, operand_at, on, on_with_carry, with_reg, operate, binary_step, carried_step, wide_step, unary_step, movi_step, read, address, load_step, retval_step, getarg_step, va_start_step, va_arg_step, va_end_step, node_step}
+use Rattle.lg_meaning.specs.Steps.{Outcome, Text, slot, operand_at, on, on_with_carry, with_reg, operate, binary_step, carry_step, wide_step, unary_step, movi_step, read, address, load_step, retval_step, getarg_step, va_start_step, va_arg_step, va_end_step, node_step}
 use Rattle.lg_meaning.proofs.Outcomes.{OnGoes, need_on}
 
 -- a state at a node that differs in registers, carry and answer alone
@@ -45,7 +45,7 @@ module _ (s : State) where
   binary_falls : (A : List ℕ) (n : Node) (f : ℕ → ℕ → Option ℕ) → OnGoes (Falls s) (binary_step A n f s)
   binary_falls A n f = need_on (Falls s) (value A s (operand_at n 1)) _ (λ a e. need_on (Falls s) (value A s (operand_at n 2)) _ (λ b g. operate_falls (operand_at n 0) (f a b)))
 
-  carried_falls : (A : List ℕ) (n : Node) (o : BinaryOp) → OnGoes (Falls s) (carried_step A n o s)
+  carried_falls : (A : List ℕ) (n : Node) (o : BinaryOp) → OnGoes (Falls s) (carry_step A n o s)
   carried_falls A n o = need_on (Falls s) (value A s (operand_at n 1)) _ (λ a e. need_on (Falls s) (value A s (operand_at n 2)) _ (λ b g. need_on (Falls s) (carry_in o s.carry) _ (λ bit h. fall _ _ _)))
 
   on_either : (t : Bool) (x y : Outcome) → OnGoes (Falls s) x → OnGoes (Falls s) y → OnGoes (Falls s) (if t then x else y)
@@ -53,7 +53,7 @@ module _ (s : State) where
   on_either false x y h k = k
 
   pub binary_node_falls : (t : Text) (n : Node) (o : BinaryOp) (last : LastOperand) → OnGoes (Falls s) (node_step t n (op.Binary o last) s)
-  binary_node_falls t n o last = on_either (is_carried o) (carried_step t.addresses n o s) (binary_step t.addresses n (binary_value o) s) (carried_falls t.addresses n o) (binary_falls t.addresses n (binary_value o))
+  binary_node_falls t n o last = on_either (sets_carry o) (carry_step t.addresses n o s) (binary_step t.addresses n (binary_value o) s) (carried_falls t.addresses n o) (binary_falls t.addresses n (binary_value o))
 
   pub wide_falls : (A : List ℕ) (n : Node) (o : WideOp) → OnGoes (Falls s) (wide_step A n o s)
   wide_falls A n o = need_on (Falls s) (value A s (operand_at n 2)) _ (λ a e. need_on (Falls s) (value A s (operand_at n 3)) _ (λ b g. need_on (Falls s) (wide_value o a b) _ (λ p h. fall _ _ _)))

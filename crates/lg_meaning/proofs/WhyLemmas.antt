@@ -37,7 +37,7 @@ use Rattle.lg_node.specs.Shapes.{TextShape, IsShapeOf}
 use Rattle.lg_node.proofs.FunctionLaws.{node_within}
 use Rattle.lg_node.proofs.WellShaped.{well_shaped}
 use Rattle.lg_cells.specs.Memories.{writable}
-use Rattle.lg_op.specs.Operators.{binary_value, is_carried, carry_in, is_least_by_minus_one, wide_value, word_where, pair_where, width, store_width}
+use Rattle.lg_op.specs.Operators.{binary_value, sets_carry, carry_in, is_least_by_minus_one, wide_value, word_where, pair_where, width, store_width}
 use Rattle.lg_meaning.specs.States.{Frame, State, value, is_open}
 use Rattle.lg_meaning.specs.Steps.{Outcome, Undefined, Text, need, when, is_indexed, quiet, operand_at, operate, node_step, jump_target, load_to, store_to, back_to, host_end, call_host, is_marked, call_node, call_operand, call_named, call_word, enter, entry_target, node_of_label, function_here, slot}
 use Rattle.lg_meaning.specs.Texts.{text, step}
@@ -85,7 +85,7 @@ module _ (s : State) (d : Operand) where
   divided true q r = refl
   divided false q r = refl
 
-  quotient_why : (o : BinaryOp) (a b : ℕ) → is_carried o ≡ false → IsWhy (operate s d (binary_value o a b)) (first (where_so (cannot_divide o a b) (NoQuotient a b) ∷ none_8))
+  quotient_why : (o : BinaryOp) (a b : ℕ) → sets_carry o ≡ false → IsWhy (operate s d (binary_value o a b)) (first (where_so (cannot_divide o a b) (NoQuotient a b) ∷ none_8))
   quotient_why binary.Div a b e = divided ((b == 0) || is_least_by_minus_one a b) _ (NoQuotient a b)
   quotient_why binary.Rem a b e = divided ((b == 0) || is_least_by_minus_one a b) _ (NoQuotient a b)
   quotient_why binary.DivU a b e = divided (b == 0) _ (NoQuotient a b)
@@ -96,7 +96,7 @@ module _ (s : State) (d : Operand) where
   quotient_why binary.Subx a b e = cc
   quotient_why o a b e = refl
 
-carried_divides : (o : BinaryOp) (a b : ℕ) → is_carried o ≡ true → cannot_divide o a b ≡ false
+carried_divides : (o : BinaryOp) (a b : ℕ) → sets_carry o ≡ true → cannot_divide o a b ≡ false
 carried_divides binary.Div a b e = cc
 carried_divides binary.Rem a b e = cc
 carried_divides binary.DivU a b e = cc
@@ -183,7 +183,7 @@ module _ (t : Text) (n : Node) (s : State) where
   unset i = Unset (register (operand_at n i))
 
   -- arithmetic and branches
-  carried_by : (o : BinaryOp) (last : LastOperand) (c : Bool) → is_carried o ≡ c → IsWhy (node_step t n (op.Binary o last) s) (why_of t n (op.Binary o last) s)
+  carried_by : (o : BinaryOp) (last : LastOperand) (c : Bool) → sets_carry o ≡ c → IsWhy (node_step t n (op.Binary o last) s) (why_of t n (op.Binary o last) s)
   carried_by o last true e = rw e
       (reads_two (value_of 1) (value_of 2) (unset 1) (unset 2) _ _ (λ a b f g. rw (f, g, carried_divides o a b e) (carry_why (carry_in o s.carry) _)))
   carried_by o last false e = rw e
@@ -267,7 +267,7 @@ module _ (t : Text) (n : Node) (s : State) where
 
   -- the step of a node is undefined exactly where the table has a reason
   pub node_why : (o : Op) → n.op ≡ o → InForm n → (o ≡ op.Plain plain.Prolog → (f : Function) × (function_here t.functions s.at ≡ Some f)) → IsWhy (node_step t n o s) (why_of t n o s)
-  node_why (op.Binary o last) e formed h = carried_by o last (is_carried o) refl
+  node_why (op.Binary o last) e formed h = carried_by o last (sets_carry o) refl
   node_why (op.Wide o last) e formed h = wide_by o last
   node_why (op.Branch c last) e formed h = reads_two (value_of 1) (value_of 2) (unset 1) (unset 2) _ _ (λ a b f g. refl)
   node_why (op.BranchSum o last) e formed h = reads_two (value_of 1) (value_of 2) (unset 1) (unset 2) _ _ (λ a b f g. refl)

@@ -28,7 +28,7 @@ use Rattle.lg_node.specs.Functions.{frame_of}
 use Rattle.lg_node.specs.Nodes.{LabelledNodes}
 use Rattle.lg_node.specs.Shapes.{TextShape}
 use Rattle.lg_cells.specs.Memories.{writable}
-use Rattle.lg_op.specs.Operators.{is_least_by_minus_one, is_carried, carry_in, width, store_width}
+use Rattle.lg_op.specs.Operators.{is_least_by_minus_one, sets_carry, carry_in, width, store_width}
 use Rattle.lg_meaning.specs.States.{State, value, is_open}
 use Rattle.lg_meaning.specs.Steps.{Text, operand_at, is_indexed, address, stored_operand, jump_target, node_of_label, entry_target, function_here, is_marked, slot}
 use Rattle.lg_meaning.specs.Texts.{text}
@@ -102,7 +102,7 @@ row_1 t n o s = unset_among t.addresses n s (operands_read o)
 
 -- ---- 2: `addx` or `subx` finds no carry of its kind
 abbrev pub row_2 : Op → State → Option Reason
-row_2 (op.Binary o last) s = where_so (is_carried o && is_none (carry_in o s.carry)) NoCarry
+row_2 (op.Binary o last) s = where_so (sets_carry o && is_none (carry_in o s.carry)) NoCarry
 row_2 o s = None
 
 -- ---- 4: a divisor is 0, or the least number is divided by -1 with sign

@@ -35,7 +35,7 @@ use Rattle.lg_node.specs.Labels.{place_of}
 use Rattle.lg_cells.specs.Memories.{without, writable}
 use Rattle.lg_op.specs.declared.carry.Carry.{Carry}
 use Rattle.lg_op.specs.declared.carry.Carry.TheVariants as carry
-use Rattle.lg_op.specs.Operators.{binary_value, is_carried, carry_in, carried_value, carried_out, holds, branch_sum_value, branch_sum_goes, wide_value, unary_value, keeps_carry, width, extended_by_type, store_width}
+use Rattle.lg_op.specs.Operators.{binary_value, sets_carry, carry_in, value_with_carry, carry_made, holds, branch_sum_value, branch_sum_goes, wide_value, unary_value, keeps_carry, width, extended_by_type, store_width}
 use Rattle.lg_meaning.specs.States.{Frame, State, value, named, is_open}
 
 -- what a step does: it goes to a state and writes bytes, ends the run with a status, or is undefined
@@ -98,13 +98,13 @@ abbrev pub bit_word : Bool → ℕ
 bit_word bit = if bit then 1 else 0
 
 -- the state behind an operation that sets the carry
-abbrev pub carried_to : State → Operand → ℕ → Carry → State
-carried_to s d v c = record (with_reg s d v) { at = s.at + 1; answer = None; carry = c }
+abbrev pub goes_with_carry : State → Operand → ℕ → Carry → State
+goes_with_carry s d v c = record (with_reg s d v) { at = s.at + 1; answer = None; carry = c }
 
-abbrev pub carried_step : List ℕ → Node → BinaryOp → State → Outcome
-carried_step A n o s =
+abbrev pub carry_step : List ℕ → Node → BinaryOp → State → Outcome
+carry_step A n o s =
     need (value A s (operand_at n 1)) (λ a. need (value A s (operand_at n 2)) (λ b. need (carry_in o s.carry) (λ bit.
-    quiet (carried_to s (operand_at n 0) (carried_value o a b (bit_word bit)) (carried_out o a b (bit_word bit))))))
+    quiet (goes_with_carry s (operand_at n 0) (value_with_carry o a b (bit_word bit)) (carry_made o a b (bit_word bit))))))
 
 abbrev pub wide_step : List ℕ → Node → WideOp → State → Outcome
 wide_step A n o s =
@@ -364,7 +364,7 @@ plain_step t n plain.VaArg s = va_arg_step t.addresses n s
 plain_step t n plain.VaEnd s = va_end_step t.addresses n s
 
 abbrev pub node_step : Text → Node → Op → State → Outcome
-node_step t n (op.Binary o last) s = if is_carried o then carried_step t.addresses n o s else binary_step t.addresses n (binary_value o) s
+node_step t n (op.Binary o last) s = if sets_carry o then carry_step t.addresses n o s else binary_step t.addresses n (binary_value o) s
 node_step t n (op.Wide o last) s = wide_step t.addresses n o s
 node_step t n (op.Branch c last) s = branch_step t n c s
 node_step t n (op.BranchSum o last) s = branch_sum_step t n o s

@@ -64,12 +64,12 @@ binary_value binary.RshU a b = Some (shifted_right a (b % 64))
 binary_value op a b = partial_value op a b
 
 -- the operations that set the carry
-abbrev pub is_carried : BinaryOp → Bool
-is_carried binary.Addc = true
-is_carried binary.Subc = true
-is_carried binary.Addx = true
-is_carried binary.Subx = true
-is_carried op = false
+abbrev pub sets_carry : BinaryOp → Bool
+sets_carry binary.Addc = true
+sets_carry binary.Subc = true
+sets_carry binary.Addx = true
+sets_carry binary.Subx = true
+sets_carry op = false
 
 -- the carry that they take: none, or that of their own family
 abbrev pub carry_in : BinaryOp → Carry → Option Bool
@@ -85,12 +85,12 @@ is_sum binary.Addx = true
 is_sum op = false
 
 -- O2 + O3 + carry, or O2 - (O3 + carry)
-abbrev pub carried_value : BinaryOp → ℕ → ℕ → ℕ → ℕ
-carried_value op a b c = if is_sum op then (a + b + c) % 2 ^ 64 else (a + (2 ^ 65 - (b + c))) % 2 ^ 64
+abbrev pub value_with_carry : BinaryOp → ℕ → ℕ → ℕ → ℕ
+value_with_carry op a b c = if is_sum op then (a + b + c) % 2 ^ 64 else (a + (2 ^ 65 - (b + c))) % 2 ^ 64
 
 -- the carry out, or the borrow of the whole
-abbrev pub carried_out : BinaryOp → ℕ → ℕ → ℕ → Carry
-carried_out op a b c = if is_sum op then carry.Sum (carry_out a b c) else carry.Difference (borrow_out a b c)
+abbrev pub carry_made : BinaryOp → ℕ → ℕ → ℕ → Carry
+carry_made op a b c = if is_sum op then carry.Sum (carry_out a b c) else carry.Difference (borrow_out a b c)
 
 -- whether a branch goes
 abbrev pub holds : Condition → ℕ → ℕ → Bool

@@ -1,7 +1,7 @@
 // What the operations of the instruction set make of words.
 
 ghost use Rattle.std.specs.Prelude.{◌≡◌, ◌⊎◌, ◌≤◌, ◌<◌, Bool, if◌then◌else◌};
-ghost use Rattle.lg_op.specs.Operators.{binary_value, partial_value, is_carried, carry_in, is_sum, carried_value, carried_out, holds, branch_sum_value, branch_sum_goes, wide_value, unary_value, keeps_carry, width, extended_by_type, store_width, divides};
+ghost use Rattle.lg_op.specs.Operators.{binary_value, partial_value, sets_carry, carry_in, is_sum, value_with_carry, carry_made, holds, branch_sum_value, branch_sum_goes, wide_value, unary_value, keeps_carry, width, extended_by_type, store_width, divides};
 
 use crate::carry::Carry;
 use crate::{BinaryOp, BranchSumOp, Condition, StoreType, UnaryOp, ValueType, WideOp};
@@ -62,8 +62,8 @@ pub fn binary(op: BinaryOp, a: u64, b: u64) -> Option<u64>
 }
 
 /// Whether an operation sets the carry: `addc`, `subc`, `addx` and `subx`.
-pub fn is_carried(op: BinaryOp) -> bool
-    ensures { result ≡ is_carried op }
+pub fn sets_carry(op: BinaryOp) -> bool
+    ensures { result ≡ sets_carry op }
 {
     matches!(
         op,
@@ -92,8 +92,8 @@ fn is_sum(op: BinaryOp) -> bool
 }
 
 /// The word of an operation that sets the carry: the sum with the carry, or the difference less the borrow, modulo 2^64.
-pub fn carried(op: BinaryOp, a: u64, b: u64, bit: bool) -> u64
-    ensures { result ≡ carried_value op a b (if bit then 1 else 0) }
+pub fn with_carry(op: BinaryOp, a: u64, b: u64, bit: bool) -> u64
+    ensures { result ≡ value_with_carry op a b (if bit then 1 else 0) }
 {
     if is_sum(op) {
         a.wrapping_add(b).wrapping_add(u64::from(bit))
@@ -105,7 +105,7 @@ pub fn carried(op: BinaryOp, a: u64, b: u64, bit: bool) -> u64
 /// The carry that `addc`, `addx`, `subc` and `subx` leave, for the carry `bit` that they take: that of the sum, or the borrow of the whole
 /// difference.
 pub fn carry_out(op: BinaryOp, a: u64, b: u64, bit: bool) -> Carry
-    ensures { result ≡ carried_out op a b (if bit then 1 else 0) }
+    ensures { result ≡ carry_made op a b (if bit then 1 else 0) }
 {
     if is_sum(op) {
         Carry::Sum(u128::from(a) + u128::from(b) + u128::from(bit) >= 1 << 64)

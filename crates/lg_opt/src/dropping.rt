@@ -48,7 +48,11 @@ pub fn drop_moves(alloc: Global, nodes: &NodeList, shape: &Shape) -> Result<Rewr
 }
 
 /// `drop_moves` of nodes that are handed over: where nothing is dropped they are handed back, with no copy.
-pub fn without_idle_moves(alloc: Global, nodes: NodeList, shape: Shape) -> Result<Rewritten, OutOfMemory>
+pub fn without_idle_moves(
+    alloc: Global,
+    nodes: NodeList,
+    shape: Shape,
+) -> Result<Rewritten, OutOfMemory>
     requires { IsShapeOf nodes shape }
     ensures shape { IfOk result (λ r. IsShapeOf r.nodes r.shape) }
     ensures taken { IfOk result (λ r. r.shape.taken ≡ shape.taken) }

@@ -54,7 +54,11 @@ pub fn thread(alloc: Global, nodes: &NodeList, shape: &Shape) -> Result<Rewritte
 }
 
 /// `thread` of nodes that are handed over: where nothing is threaded they are handed back, with no copy.
-pub fn with_threaded_jumps(alloc: Global, nodes: NodeList, shape: Shape) -> Result<Rewritten, OutOfMemory>
+pub fn with_threaded_jumps(
+    alloc: Global,
+    nodes: NodeList,
+    shape: Shape,
+) -> Result<Rewritten, OutOfMemory>
     requires { IsShapeOf nodes shape }
     ensures shape { IfOk result (λ r. IsShapeOf r.nodes r.shape) }
     ensures taken { IfOk result (λ r. r.shape.taken ≡ shape.taken) }

@@ -6,7 +6,7 @@ use Rattle.lg_base.specs.Words.{add_words, mul_words, sub_words, quotient, quoti
 use Rattle.lg_base.specs.declared.target.Target.TheVariants.{Aarch64}
 use Rattle.lg_op.specs.declared.op.BinaryOp.{BinaryOp}
 use Rattle.lg_op.specs.declared.op.BinaryOp.TheVariants as binary
-use Rattle.lg_op.specs.Operators.{binary_value, is_carried, divides, is_least_by_minus_one, word_where, carry_in, carried_value}
+use Rattle.lg_op.specs.Operators.{binary_value, sets_carry, divides, is_least_by_minus_one, word_where, carry_in, value_with_carry}
 use Rattle.lg_op.specs.declared.carry.Carry.{Carry}
 use Rattle.lg_op.specs.declared.carry.Carry.TheVariants as carry
 use Rattle.lg_meaning.specs.Steps.{bit_word}
@@ -17,7 +17,7 @@ use Rattle.lg_cpu.specs.A64Operators.{reg_value, divided, divided_signed, differ
 use Rattle.lg_cpu.specs.A64Step.{read, write}
 use Rattle.lg_carry.specs.Registers.{HoldsCarry}
 use Rattle.lg_carry.specs.Values.Computers.{Held}
-use Rattle.lg_carry.specs.Values.Values.{HoldsCarried}
+use Rattle.lg_carry.specs.Values.Values.{HoldsWithCarry}
 use Rattle.lg_sela_values.specs.Processor.Computations.{carry_or_false, known, all_compute, computed}
 use Rattle.lg_sela_values.proofs.OfProcessor.HeldLemmas.{read-is, write-is, put-same, put-other}
 use Rattle.lg_sela_values.specs.BinaryCode.{failing, register_code}
@@ -92,7 +92,7 @@ module _ (d a b : ℕ) (dl : d < 31) (al : a < 30) (bl : b < 31) (w : Held) (xs 
       made-link : read (write w.registers 30 (divide (read w.registers a) (read w.registers b))) 30 ≡ divide x y
       made-link = (λ i. divide (read-is w.registers a (omega (arith, al)) i) (read-is w.registers b bl i))
 
-  pub register-value : (o : BinaryOp) (z : ℕ) → is_carried o ≡ false → IsApartFor o b → binary_value o x y ≡ Some z → (computed (register_code o d a b) w).registers d ≡ z
+  pub register-value : (o : BinaryOp) (z : ℕ) → sets_carry o ≡ false → IsApartFor o b → binary_value o x y ≡ Some z → (computed (register_code o d a b) w).registers d ≡ z
   register-value binary.Add z h p e = made add_words z (some-same _ z e)
   register-value binary.Sub z h p e = made sub_words z (some-same _ z e)
   register-value binary.Rsb z h p e = made (λ m n. sub_words n m) z (some-same _ z e)
@@ -148,30 +148,30 @@ module _ (d a b : ℕ) (dl : d < 31) (al : a < 30) (bl : b < 31) (w : Held) (xs 
   set : (f : ℕ → ℕ → Bool) (c : Bool) → f x y ≡ c → Some (f (read w.registers a) (read w.registers b)) ≡ Some c
   set f c e = ap Some ((λ i. f (read-is w.registers a (omega (arith, al)) i) (read-is w.registers b bl i)) ∙ e)
 
-  pub carried-holds : (o : BinaryOp) (k : Carry) (bit : Bool) → is_carried o ≡ true → carry_in o k ≡ Some bit → HoldsCarry Aarch64 w.registers (carry_of w.flags) k
-      → HoldsCarried Aarch64 o d x y (bit_word bit) (computed (register_code o d a b) w)
+  pub carried-holds : (o : BinaryOp) (k : Carry) (bit : Bool) → sets_carry o ≡ true → carry_in o k ≡ Some bit → HoldsCarry Aarch64 w.registers (carry_of w.flags) k
+      → HoldsWithCarry Aarch64 o d x y (bit_word bit) (computed (register_code o d a b) w)
   carried-holds binary.Addc k bit h e c =
       let z : false ≡ bit = some-same false bit e in
       record {
-        value = made add_words (carried_value binary.Addc x y (bit_word bit)) (add-sum x y ∙ ap (λ t. (x + y + bit_word t) % 2 ^ 64) z);
+        value = made add_words (value_with_carry binary.Addc x y (bit_word bit)) (add-sum x y ∙ ap (λ t. (x + y + bit_word t) % 2 ^ 64) z);
         carry = set (λ m n. carry_flag (sum_flags m n 0)) (carry_out x y (bit_word bit)) (ap (λ t. carry_out x y (bit_word t)) z);
       }
   carried-holds binary.Subc k bit h e c =
       let z : false ≡ bit = some-same false bit e in
       record {
-        value = made sub_words (carried_value binary.Subc x y (bit_word bit)) (sym (difference-same x y xs ys) ∙ ap (λ t. difference_of x y (bit_word t)) z);
+        value = made sub_words (value_with_carry binary.Subc x y (bit_word bit)) (sym (difference-same x y xs ys) ∙ ap (λ t. difference_of x y (bit_word t)) z);
         carry = set (λ m n. carry_flag (difference_flags m n 0)) (not (borrow_out x y (bit_word bit))) (ap (λ t. not (borrow_out x y (bit_word t))) z);
       }
   carried-holds binary.Addx k bit h e c =
       let z : carry_flag (known w.flags) ≡ bit = taken-sum k bit e c in
       record {
-        value = made (λ m n. sum_of m n (carry_word (known w.flags))) (carried_value binary.Addx x y (bit_word bit)) (ap (λ t. sum_of x y (word_of_test t)) z);
+        value = made (λ m n. sum_of m n (carry_word (known w.flags))) (value_with_carry binary.Addx x y (bit_word bit)) (ap (λ t. sum_of x y (word_of_test t)) z);
         carry = set (λ m n. carry_flag (sum_flags m n (carry_word (known w.flags)))) (carry_out x y (bit_word bit)) (ap (λ t. carry_out x y (word_of_test t)) z);
       }
   carried-holds binary.Subx k bit h e c =
       let z : not (carry_flag (known w.flags)) ≡ bit = ap not (taken-difference k bit e c) ∙ twice bit in
       record {
-        value = made (λ m n. difference_of m n (borrow_word (known w.flags))) (carried_value binary.Subx x y (bit_word bit)) (ap (λ t. difference_of x y (word_of_test t)) z);
+        value = made (λ m n. difference_of m n (borrow_word (known w.flags))) (value_with_carry binary.Subx x y (bit_word bit)) (ap (λ t. difference_of x y (word_of_test t)) z);
         carry = set (λ m n. carry_flag (difference_flags m n (borrow_word (known w.flags)))) (not (borrow_out x y (bit_word bit))) (ap (λ t. not (borrow_out x y (word_of_test t))) z);
       }
   carried-holds o k bit h e c = cc

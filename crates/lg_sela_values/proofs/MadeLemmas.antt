@@ -8,7 +8,7 @@ use Rattle.lg_op.specs.declared.operand.Operand.{Operand}
 use Rattle.lg_op.specs.declared.operand.Reg.{Reg}
 use Rattle.lg_op.specs.declared.operand.Reg.TheVariants.{Fp}
 use Rattle.lg_op.specs.declared.carry.Carry.{Carry}
-use Rattle.lg_op.specs.Operators.{binary_value, is_carried, carry_in}
+use Rattle.lg_op.specs.Operators.{binary_value, sets_carry, carry_in}
 use Rattle.lg_meaning.specs.States.{State, value}
 use Rattle.lg_meaning.specs.Steps.{bit_word}
 use Rattle.lg_a64.specs.declared.instruction.Instr.{Instr}
@@ -21,7 +21,7 @@ use Rattle.lg_carry.specs.TextNodes.{IsInText}
 use Rattle.lg_carry.specs.Nodes.Straight.{is_taken}
 use Rattle.lg_carry.specs.Values.Computers.{Held, HeldRead}
 use Rattle.lg_carry.specs.Values.ValueNodes.{binary_node}
-use Rattle.lg_carry.specs.Values.Values.{HoldsCarried}
+use Rattle.lg_carry.specs.Values.Values.{HoldsWithCarry}
 use Rattle.lg_carry.proofs.OfValues.ComputationLemmas.{computed-append}
 use Rattle.lg_carry.proofs.OfValues.OneResultLemmas.{binary-nodes-compute, carried-nodes-compute}
 use Rattle.lg_sela_values.specs.Processor.A64Computers.{a64_scratch, a64_computer, IsComputed}
@@ -41,9 +41,9 @@ pub record Makes (o : BinaryOp) (d a : ℕ) (y : Held → ℕ) (choices : List C
   pub some : 0 < length body
   pub computes : all_compute body ≡ true
   pub keeps : (w : Held) (r : ℕ) → r ≢ d → r ≢ link → is_taken choices r ≡ false → (computed body w).registers r ≡ w.registers r
-  pub word : (w : Held) (z : ℕ) → AreWords w → is_carried o ≡ false → binary_value o (w.registers a) (y w) ≡ Some z → (computed body w).registers d ≡ z
-  pub carried : (w : Held) (k : Carry) (bit : Bool) → AreWords w → is_carried o ≡ true → carry_in o k ≡ Some bit → HoldsCarry Aarch64 w.registers (carry_of w.flags) k
-      → HoldsCarried Aarch64 o d (w.registers a) (y w) (bit_word bit) (computed body w)
+  pub word : (w : Held) (z : ℕ) → AreWords w → sets_carry o ≡ false → binary_value o (w.registers a) (y w) ≡ Some z → (computed body w).registers d ≡ z
+  pub carried : (w : Held) (k : Carry) (bit : Bool) → AreWords w → sets_carry o ≡ true → carry_in o k ≡ Some bit → HoldsCarry Aarch64 w.registers (carry_of w.flags) k
+      → HoldsWithCarry Aarch64 o d (w.registers a) (y w) (bit_word bit) (computed body w)
 
 -- ---- the node
 module _ (c : Code) (i : ℕ) (o : BinaryOp) (last : LastOperand) (d a : Reg) (x : Operand) (line : ℕ) (named : d ≢ Fp) (t : IsInText c i (binary_node o last d a x line))
@@ -53,9 +53,9 @@ module _ (c : Code) (i : ℕ) (o : BinaryOp) (last : LastOperand) (d a : Reg) (x
   rd = register_of Aarch64 d
 
   pub made-computes : IsComputed c i (binary_node o last d a x line) choices body
-  made-computes code trash = by (is_carried o) refl code trash
+  made-computes code trash = by (sets_carry o) refl code trash
     where
-      by : (b : Bool) → is_carried o ≡ b → IsComputed c i (binary_node o last d a x line) choices body
+      by : (b : Bool) → sets_carry o ≡ b → IsComputed c i (binary_node o last d a x line) choices body
       by false plain code trash = binary-nodes-compute (a64_computer code trash) a64_scratch c i o last d a x line choices body plain named t
           (into code trash (d ∷ []) choices body record { some = m.some; computes = m.computes; keeps = λ w r apart taken off. m.keeps w r apart.0 off taken })
           (λ s w p k z h ep ek ez. m.word w z h.words plain ((λ j. binary_value o (ep j) (gives s w k h ek j)) ∙ ez))
@@ -63,8 +63,8 @@ module _ (c : Code) (i : ℕ) (o : BinaryOp) (last : LastOperand) (d a : Reg) (x
           (into code trash (d ∷ []) choices body record { some = m.some; computes = m.computes; keeps = λ w r apart taken off. m.keeps w r apart.0 off taken })
           (λ s w p k bit h ep ek eb.
           let holds = m.carried w s.carry bit h.words carries eb h.carry in
-          subst (λ z. HoldsCarried Aarch64 o rd p z (bit_word bit) (computed body w)) (gives s w k h ek)
-          (subst (λ z. HoldsCarried Aarch64 o rd z (y w) (bit_word bit) (computed body w)) ep holds))
+          subst (λ z. HoldsWithCarry Aarch64 o rd p z (bit_word bit) (computed body w)) (gives s w k h ek)
+          (subst (λ z. HoldsWithCarry Aarch64 o rd z (y w) (bit_word bit) (computed body w)) ep holds))
 
 -- ---- two registers
 pub register-makes : (o : BinaryOp) (d a b : ℕ) → d < 31 → a < 30 → b < 31 → IsApartFor o b → Makes o d a (λ w. w.registers b) [] (register_code o d a b)
@@ -98,9 +98,9 @@ module _ (o : BinaryOp) (d a t v : ℕ) (dl : d < 31) (al : a < 30) (tl : t < 31
         let ea : w1.registers a ≡ w.registers a = put-other w.registers t v a (λ z. other (sym z)) in
         let et : w1.registers t ≡ v = put-same w.registers t v in
         let holds = carried-holds d a t dl al tl w1 (put-small w.registers t v l.small words a) (put-small w.registers t v l.small words t) o k bit carries e (same-carry w k h) in
-        subst (λ u. HoldsCarried Aarch64 o d (w.registers a) v (bit_word bit) u) (sym (before w))
-        (subst (λ z. HoldsCarried Aarch64 o d (w.registers a) z (bit_word bit) (computed (register_code o d a t) w1)) et
-        (subst (λ z. HoldsCarried Aarch64 o d z (w1.registers t) (bit_word bit) (computed (register_code o d a t) w1)) ea holds));
+        subst (λ u. HoldsWithCarry Aarch64 o d (w.registers a) v (bit_word bit) u) (sym (before w))
+        (subst (λ z. HoldsWithCarry Aarch64 o d (w.registers a) z (bit_word bit) (computed (register_code o d a t) w1)) et
+        (subst (λ z. HoldsWithCarry Aarch64 o d z (w1.registers t) (bit_word bit) (computed (register_code o d a t) w1)) ea holds));
   }
     where
       same-carry : (w : Held) (k : Carry) → HoldsCarry Aarch64 w.registers (carry_of w.flags) k → HoldsCarry Aarch64 (put w.registers t v) (carry_of w.flags) k

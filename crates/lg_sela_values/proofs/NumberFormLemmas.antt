@@ -6,7 +6,7 @@ use Rattle.std.proofs.lemmas.Nat.{and_mask}
 use Rattle.lg_base.specs.Words.{negated, shifted_left, shifted_right}
 use Rattle.lg_op.specs.declared.op.BinaryOp.{BinaryOp}
 use Rattle.lg_op.specs.declared.op.BinaryOp.TheVariants as binary
-use Rattle.lg_op.specs.Operators.{binary_value, is_carried}
+use Rattle.lg_op.specs.Operators.{binary_value, sets_carry}
 use Rattle.lg_a64.specs.declared.instruction.Instr.{Instr}
 use Rattle.lg_a64.specs.declared.instruction.Instr.TheVariants.{Bitfield}
 use Rattle.lg_a64.specs.declared.instruction.BitfieldOp.{BitfieldOp}
@@ -38,7 +38,7 @@ pub with-choices : (o : BinaryOp) (d a : ℕ) (y : Held → ℕ) (choices : List
 with-choices o d a y choices body m = record { some = m.some; computes = m.computes; keeps = λ w r ne off taken. m.keeps w r ne off refl; word = m.word; carried = m.carried }
 
 -- ---- shifts
-shift-makes : (o : BinaryOp) (op : BitfieldOp) (d a v immr imms : ℕ) → d < 31 → a < 31 → (is_carried o ≡ true → ⊥)
+shift-makes : (o : BinaryOp) (op : BitfieldOp) (d a v immr imms : ℕ) → d < 31 → a < 31 → (sets_carry o ≡ true → ⊥)
     → ((x z : ℕ) → x < 2 ^ 64 → binary_value o x v ≡ Some z → bitfield_value op x immr imms ≡ z) → Makes o d a (λ w. v) [] (Bitfield op d a immr imms ∷ [])
 shift-makes o op d a v immr imms dl al plain is = record {
   some = omega arith;

@@ -6,13 +6,13 @@ use Rattle.lg_base.specs.declared.target.Target.TheVariants.{Aarch64}
 use Rattle.lg_op.specs.declared.op.BinaryOp.{BinaryOp}
 use Rattle.lg_op.specs.declared.op.BinaryOp.TheVariants as binary
 use Rattle.lg_op.specs.declared.carry.Carry.{Carry}
-use Rattle.lg_op.specs.Operators.{binary_value, is_carried, carry_in}
+use Rattle.lg_op.specs.Operators.{binary_value, sets_carry, carry_in}
 use Rattle.lg_meaning.specs.Steps.{bit_word}
 use Rattle.lg_a64.specs.declared.instruction.Cond.{Cond}
 use Rattle.lg_cpu.specs.A64Operators.{difference_flags, difference_of, csinc_value, condition_holds}
 use Rattle.lg_cpu.specs.A64Step.{write}
 use Rattle.lg_carry.specs.Values.Computers.{Held}
-use Rattle.lg_carry.specs.Values.Values.{HoldsCarried}
+use Rattle.lg_carry.specs.Values.Values.{HoldsWithCarry}
 use Rattle.lg_sela_values.specs.Processor.Computations.{all_compute, computed}
 use Rattle.lg_sela_values.proofs.OfProcessor.HeldLemmas.{put-same, put-other}
 use Rattle.lg_sela_values.specs.BinaryCode.{failing, takes_small, small_code, takes_negative, negative_code}
@@ -28,7 +28,7 @@ module _ (d a v : ℕ) (dl : d < 31) (w : Held) (xs : w.registers a < 2 ^ 64) (y
   tested : (c : Cond) (t : Bool) → csinc_value (condition_holds c (difference_flags x v 0)) 0 0 ≡ word_of_test t → write w.registers d (csinc_value (condition_holds c (difference_flags x v 0)) 0 0) d ≡ word_of_test t
   tested c t e = write-same w.registers d (csinc_value (condition_holds c (difference_flags x v 0)) 0 0) dl ∙ e
 
-  pub small-value : (o : BinaryOp) (z : ℕ) → takes_small o ≡ true → is_carried o ≡ false → binary_value o x v ≡ Some z → (computed (small_code o d a v) w).registers d ≡ z
+  pub small-value : (o : BinaryOp) (z : ℕ) → takes_small o ≡ true → sets_carry o ≡ false → binary_value o x v ≡ Some z → (computed (small_code o d a v) w).registers d ≡ z
   small-value binary.Add z h p e = put-same w.registers d (add_words x v) ∙ some-same _ z e
   small-value binary.Sub z h p e = put-same w.registers d (sub_words x v) ∙ some-same _ z e
   small-value binary.Lt z h p e = tested (failing binary.Lt) (is_less_signed x v) (test-word _ (is_less_signed x v) (holds-ge x v xs ys)) ∙ some-same _ z e
@@ -46,8 +46,8 @@ module _ (d a v : ℕ) (dl : d < 31) (w : Held) (xs : w.registers a < 2 ^ 64) (y
   add-sum : (m n : ℕ) → add_words m n ≡ (m + n + 0) % 2 ^ 64
   add-sum m n = ap (λ z. z % 2 ^ 64) (let z : m + n ≡ m + n + 0 = omega arith in z)
 
-  pub small-holds : (o : BinaryOp) (k : Carry) (bit : Bool) → takes_small o ≡ true → is_carried o ≡ true → carry_in o k ≡ Some bit
-      → HoldsCarried Aarch64 o d x v (bit_word bit) (computed (small_code o d a v) w)
+  pub small-holds : (o : BinaryOp) (k : Carry) (bit : Bool) → takes_small o ≡ true → sets_carry o ≡ true → carry_in o k ≡ Some bit
+      → HoldsWithCarry Aarch64 o d x v (bit_word bit) (computed (small_code o d a v) w)
   small-holds binary.Addc k bit h p e =
       let z : false ≡ bit = some-same false bit e in
       record {
@@ -111,7 +111,7 @@ small-makes o d a v dl small takes = record {
   carried = λ w k bit words carries e h. small-holds d a v dl w (words a) small o k bit takes carries e;
 }
 
-plain-negative : (o : BinaryOp) → takes_negative o ≡ true → is_carried o ≡ true → ⊥
+plain-negative : (o : BinaryOp) → takes_negative o ≡ true → sets_carry o ≡ true → ⊥
 plain-negative binary.Add h k = cc
 plain-negative binary.Sub h k = cc
 plain-negative o h k = cc

@@ -5,7 +5,7 @@ use Rattle.lg_base.specs.Fields.{word_of}
 use Rattle.lg_base.specs.Words.{add_words, sub_words, negated, shifted_left, shifted_right, shifted_right_signed, is_less, is_less_signed, word_of_test}
 use Rattle.lg_op.specs.declared.op.BinaryOp.{BinaryOp}
 use Rattle.lg_op.specs.declared.op.BinaryOp.TheVariants as binary
-use Rattle.lg_op.specs.Operators.{word_where, is_least_by_minus_one, binary_value, is_carried}
+use Rattle.lg_op.specs.Operators.{word_where, is_least_by_minus_one, binary_value, sets_carry}
 use Rattle.lg_rv.specs.declared.instruction.Instr.{Instr}
 use Rattle.lg_rv.specs.declared.instruction.Instr.TheVariants.{Imm, Reg}
 use Rattle.lg_rv.specs.declared.instruction.ImmOp.TheVariants.{Addi, Slti, Sltiu, Xori, Ori, Andi}
@@ -72,7 +72,7 @@ module _ (d a b : ℕ) (some : d ≢ 0) (w : ℕ → ℕ) (words : (r : ℕ) →
   abbrev y : ℕ
   y = read w b
 
-  pub register-value : (o : BinaryOp) → is_carried o ≡ false → binary_value o x y ≡ Some z → computed (register_code o d a b) w d ≡ z
+  pub register-value : (o : BinaryOp) → sets_carry o ≡ false → binary_value o x y ≡ Some z → computed (register_code o d a b) w d ≡ z
   register-value binary.Add h e = puts w d _ z (some-same _ z e)
   register-value binary.Sub h e = puts w d _ z (some-same _ z e)
   register-value binary.Rsb h e = puts w d _ z (some-same _ z e)
@@ -116,7 +116,7 @@ pub register-computes : (o : BinaryOp) (d a b : ℕ) → all_compute (register_c
 register-computes binary.Add d a b = refl
 register-computes o d a b = refl
 
-pub register-some : (o : BinaryOp) (d a b : ℕ) → is_carried o ≡ false → 0 < length (register_code o d a b)
+pub register-some : (o : BinaryOp) (d a b : ℕ) → sets_carry o ≡ false → 0 < length (register_code o d a b)
 register-some binary.Addc d a b h = cc
 register-some binary.Subc d a b h = cc
 register-some binary.Addx d a b h = cc
@@ -128,7 +128,7 @@ module _ (load : List Instr) (v : ℕ) (l : LoadsWord load 1 v) (d a : ℕ) (w :
   before : computed (load ++ register_code o d a 1) w ≡ computed (register_code o d a 1) (put w 1 v)
   before = computed-append load (register_code o d a 1) w ∙ ap (computed (register_code o d a 1)) (l.value w)
 
-  pub loaded-value : d ≢ 0 → a ≢ 1 → ((r : ℕ) → w r < 2 ^ 64) → (z : ℕ) → is_carried o ≡ false → binary_value o (read w a) v ≡ Some z → computed (load ++ register_code o d a 1) w d ≡ z
+  pub loaded-value : d ≢ 0 → a ≢ 1 → ((r : ℕ) → w r < 2 ^ 64) → (z : ℕ) → sets_carry o ≡ false → binary_value o (read w a) v ≡ Some z → computed (load ++ register_code o d a 1) w d ≡ z
   loaded-value some apart words z h e =
       let ea : read (put w 1 v) a ≡ read w a = read-other w 1 v a apart in
       let ev : read (put w 1 v) 1 ≡ v = read-put w 1 v (λ n. absurd (omega (arith, n))) in
@@ -149,7 +149,7 @@ negated-small : (v : ℕ) → negated v < 2 ^ 64
 negated-small v = omega arith
 
 module _ (d a v : ℕ) (some : d ≢ 0) (apart : a ≢ 1) (small : v < 2 ^ 64) (w : ℕ → ℕ) (words : (r : ℕ) → w r < 2 ^ 64) where
-  loaded : (o : BinaryOp) (z : ℕ) → is_carried o ≡ false → binary_value o (read w a) v ≡ Some z → computed (loaded_code o d a v) w d ≡ z
+  loaded : (o : BinaryOp) (z : ℕ) → sets_carry o ≡ false → binary_value o (read w a) v ≡ Some z → computed (loaded_code o d a v) w d ≡ z
   loaded o z h e = loaded-value (number_code 1 v) v (loads-number 1 v (λ n. absurd (omega (arith, n))) (omega arith) small) d a w o some apart words z h e
 
   add-value : (b : Bool) (z : ℕ) → is_addend v ≡ b → add_words (read w a) v ≡ z → computed (if b then Imm Addi d a (low_part v) ∷ [] else loaded_code binary.Add d a v) w d ≡ z
@@ -229,11 +229,11 @@ module _ (d a v : ℕ) (some : d ≢ 0) (apart : a ≢ 1) (small : v < 2 ^ 64) (
   unequal-value false z far e = loaded binary.Ne z refl (ap Some e)
 
   -- x0 is the number 0
-  zero-value : (o : BinaryOp) (b : Bool) (z : ℕ) → (v == 0) ≡ b → is_carried o ≡ false → binary_value o (read w a) v ≡ Some z → computed (if b then register_code o d a 0 else loaded_code o d a v) w d ≡ z
+  zero-value : (o : BinaryOp) (b : Bool) (z : ℕ) → (v == 0) ≡ b → sets_carry o ≡ false → binary_value o (read w a) v ≡ Some z → computed (if b then register_code o d a 0 else loaded_code o d a v) w d ≡ z
   zero-value o true z zero h e = register-value d a 0 some w words z o h (ap (binary_value o (read w a)) (is-zero v zero) ∙ e)
   zero-value o false z other h e = loaded o z h e
 
-  pub number-value : (o : BinaryOp) (z : ℕ) → is_carried o ≡ false → binary_value o (read w a) v ≡ Some z → computed (number_form_code o d a v) w d ≡ z
+  pub number-value : (o : BinaryOp) (z : ℕ) → sets_carry o ≡ false → binary_value o (read w a) v ≡ Some z → computed (number_form_code o d a v) w d ≡ z
   number-value binary.Add z h e = add-value (is_addend v) z refl (some-same _ z e)
   number-value binary.Sub z h e = sub-value (is_addend v) z refl (some-same _ z e)
   number-value binary.Rsb z h e = rsb-value (is_addend v) z refl (some-same _ z e)

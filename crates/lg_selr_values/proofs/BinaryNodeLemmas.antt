@@ -8,7 +8,7 @@ use Rattle.lg_op.specs.declared.operand.Reg.{Reg}
 use Rattle.lg_op.specs.declared.operand.Reg.TheVariants.{Fp}
 use Rattle.lg_op.specs.declared.operand.Operand.{Operand}
 use Rattle.lg_op.specs.declared.operand.Operand.TheVariants as operand
-use Rattle.lg_op.specs.Operators.{binary_value, is_carried}
+use Rattle.lg_op.specs.Operators.{binary_value, sets_carry}
 use Rattle.lg_live.specs.Registers.{is_same}
 use Rattle.lg_rv.specs.declared.instruction.Instr.{Instr}
 use Rattle.lg_cpu.specs.RvStep.{read}
@@ -28,7 +28,7 @@ use Rattle.lg_selr_values.proofs.BinaryCodeLemmas.{register-value, register-keep
 use Rattle.lg_carry.proofs.OfValues.OneResultLemmas.{binary-nodes-compute}
 
 -- ---- two registers
-module _ (c : Code) (i : ℕ) (o : BinaryOp) (d a b : Reg) (line : ℕ) (plain : is_carried o ≡ false) (named : d ≢ Fp) (t : IsInText c i (binary_node o last_operand.Register d a (operand.Reg b) line)) where
+module _ (c : Code) (i : ℕ) (o : BinaryOp) (d a b : Reg) (line : ℕ) (plain : sets_carry o ≡ false) (named : d ≢ Fp) (t : IsInText c i (binary_node o last_operand.Register d a (operand.Reg b) line)) where
   abbrev rd : ℕ
   rd = register_of Riscv64 d
 
@@ -50,7 +50,7 @@ module _ (c : Code) (i : ℕ) (o : BinaryOp) (d a b : Reg) (line : ℕ) (plain :
       held-at body w rd z (register-value rd ra rb (register-nonzero d) w.registers h.words z o plain (same ∙ ez)))
 
 -- ---- a register and a word that the text gives
-module _ (c : Code) (i : ℕ) (o : BinaryOp) (d a : Reg) (x : Operand) (v line : ℕ) (plain : is_carried o ≡ false) (named : d ≢ Fp) (given : (s : State) → value c.addresses s x ≡ Some v)
+module _ (c : Code) (i : ℕ) (o : BinaryOp) (d a : Reg) (x : Operand) (v line : ℕ) (plain : sets_carry o ≡ false) (named : d ≢ Fp) (given : (s : State) → value c.addresses s x ≡ Some v)
     (t : IsInText c i (binary_node o last_operand.Immediate d a x line)) where
   abbrev to : ℕ
   to = register_of Riscv64 d

@@ -16,7 +16,7 @@ use Rattle.lg_op.specs.declared.op.UnaryOp.TheVariants as unary
 use Rattle.lg_op.specs.declared.op.PlainOp.TheVariants as plain
 use Rattle.lg_op.specs.declared.operand.Operand.{Operand}
 use Rattle.lg_op.specs.declared.operand.Operand.TheVariants as operand
-use Rattle.lg_op.specs.Operators.{is_carried}
+use Rattle.lg_op.specs.Operators.{sets_carry}
 use Rattle.lg_rv.specs.Spelling.{IsInstr}
 use Rattle.lg_rv.specs.declared.instruction.ImmOp.{ImmOp}
 use Rattle.lg_rv.specs.declared.instruction.ImmOp.TheVariants.{Addi, Slti, Sltiu, Xori, Ori, Andi}
@@ -24,12 +24,12 @@ use Rattle.lg_temp.specs.Abis.{register_of}
 use Rattle.lg_selr_values.proofs.OfProcessor.NumberCodeLemmas.{low-small}
 use Rattle.lg_selr_values.proofs.OfProcessor.RegisterLemmas.{register-small}
 use Rattle.lg_selr_values.specs.BinaryCode.{register_code, is_addend, loaded_code, zero_or_loaded_code, equal_code, unequal_code, held_code, held_or_loaded_code, number_form_code}
-use Rattle.lg_selr_values.specs.CarriedCode.{carried_code}
+use Rattle.lg_selr_values.specs.CarryCode.{carry_code}
 use Rattle.lg_carry.specs.Values.ValueNodes.{extension}
 use Rattle.lg_selr_values.specs.UnaryCode.{more_bytes_code, swapped_code, unary_code, retval_code}
 use Rattle.lg_selr_values.specs.WideCode.{wide_code}
 use Rattle.lg_carry.specs.Values.Parts.{register_for, operand_in}
-use Rattle.lg_selr_values.specs.ValueItems.{load_items, binary_items, second_items, carried_items, wide_items, operation_items, register_in, body_items}
+use Rattle.lg_selr_values.specs.ValueItems.{load_items, binary_items, second_items, carry_items, wide_items, operation_items, register_in, body_items}
 use Rattle.lg_selr_values.specs.Processor.Numbers.{low_part, number_code}
 use Rattle.lg_rv.specs.declared.instruction.Instr.{Instr}
 use Rattle.lg_rv.specs.declared.instruction.Instr.TheVariants.{Imm, Reg}
@@ -165,7 +165,7 @@ unary-good unary.ExtrS d a h k = (((h.0, k, omega arith, λ e. absurd (omega (ar
 unary-good unary.ExtrUs d a h k = (((h.0, k, omega arith, λ e. absurd (omega (arith, e))), h.1, refl), (((h.0, h.0, omega arith, λ e. absurd (omega (arith, e))), h.1, refl), tt))
 unary-good unary.ExtrUi d a h k = (((h.0, k, omega arith, λ e. absurd (omega (arith, e))), h.1, refl), (((h.0, h.0, omega arith, λ e. absurd (omega (arith, e))), h.1, refl), tt))
 
-carried-good : (o : BinaryOp) (u d a : ℕ) → Fine u → Fine d → a < 32 → AreGood (carried_code o u d a)
+carried-good : (o : BinaryOp) (u d a : ℕ) → Fine u → Fine d → a < 32 → AreGood (carry_code o u d a)
 carried-good binary.Addc u d a g h k = (((h.0, k, omega arith), h.1, refl), (((omega arith, h.0, omega arith), refl, refl), tt))
 carried-good binary.Subc u d a g h k = (((omega arith, k, omega arith), refl, refl), (((h.0, k, omega arith), h.1, refl), tt))
 carried-good binary.Addx u d a g h k = (
@@ -230,10 +230,10 @@ wide-items-good o d e a (operand.Label l) h i k = behind-good 31 (operand.Label 
 wide-items-good o d e a (operand.Slot j) h i k = behind-good 31 (operand.Slot j) (wide_code o d e a 31) carry-fine (wide-good o d e a 31 h i k (omega arith))
 
 operation-good : (o : BinaryOp) (u d a : ℕ) (x : Operand) → Fine u → Fine d → a < 32 → Each IsGoodItem (operation_items o u d a x)
-operation-good o u d a x g h k = by (is_carried o)
+operation-good o u d a x g h k = by (sets_carry o)
   where
-    by : (b : Bool) → Each IsGoodItem (if b then carried_items o u d a x else binary_items o d a x)
-    by true = items-good (second_items x) (ones (carried_code o u d a)) (second-good x) (ones-good (carried_code o u d a) (carried-good o u d a g h k))
+    by : (b : Bool) → Each IsGoodItem (if b then carry_items o u d a x else binary_items o d a x)
+    by true = items-good (second_items x) (ones (carry_code o u d a)) (second-good x) (ones-good (carry_code o u d a) (carried-good o u d a g h k))
     by false = binary-good o d a x h k
 
 register-fine : (x : Operand) → Fine (register_for Riscv64 x)

@@ -1,8 +1,8 @@
 pub mod BinaryCodeLemmas
 pub mod BinaryNodeLemmas
-pub mod CarriedCodeLemmas
-pub mod CarriedItemLemmas
-pub mod CarriedNodeLemmas
+pub mod CarryCodeLemmas
+pub mod CarryItemLemmas
+pub mod CarryNodeLemmas
 pub mod ComputedNodeLemmas
 pub mod EmissionLemmas
 pub mod FitLemmas

@@ -16,7 +16,7 @@ use Rattle.lg_op.specs.declared.operand.Reg.{Reg}
 use Rattle.lg_op.specs.declared.operand.Reg.TheVariants.{Fp}
 use Rattle.lg_op.specs.declared.operand.Operand.{Operand}
 use Rattle.lg_op.specs.declared.operand.Operand.TheVariants as operand
-use Rattle.lg_op.specs.Operators.{is_carried}
+use Rattle.lg_op.specs.Operators.{sets_carry}
 use Rattle.lg_rv.specs.declared.instruction.Instr.{Instr}
 use Rattle.lg_temp.specs.Abis.{register_of}
 use Rattle.lg_selr_values.specs.Processor.Numbers.{number_code}
@@ -26,7 +26,7 @@ use Rattle.lg_selr_values.specs.BinaryCode.{register_code, number_form_code}
 use Rattle.lg_selr_values.specs.UnaryCode.{unary_code, retval_code}
 use Rattle.lg_selr_values.specs.WideCode.{wide_code}
 use Rattle.lg_carry.specs.Values.ValueNodes.{binary_node, wide_node, unary_node, movi_node, va_start_node, retval_node}
-use Rattle.lg_selr_values.specs.ValueItems.{value_needs, load_items, binary_items, carried_items, wide_items}
+use Rattle.lg_selr_values.specs.ValueItems.{value_needs, load_items, binary_items, carry_items, wide_items}
 use Rattle.lg_selr_values.proofs.ImmediateLemmas.{is-load}
 use Rattle.lg_selr_values.proofs.BinaryNodeLemmas.{registers-compute, number-computed, loaded-computed}
 use Rattle.lg_selr_values.proofs.LoadCodeLemmas.{loads-number}
@@ -61,25 +61,25 @@ retval-carried t d line named = carried-plain (retval_node t d line) refl refl r
     record { body = code; settles = settles-ones (slice_index c.addresses) code; computes = retval-computes c i t d line named x })
 
 -- ---- two words
-no-needs : (o : BinaryOp) (last : LastOperand) → is_carried o ≡ false → value_needs (op.Binary o last) ≡ []
+no-needs : (o : BinaryOp) (last : LastOperand) → sets_carry o ≡ false → value_needs (op.Binary o last) ≡ []
 no-needs binary.Addx last h = cc
 no-needs binary.Subx last h = cc
 no-needs o last h = refl
 
 -- the items of an operation that sets no carry
-plain-items : (o : BinaryOp) (u d a : ℕ) (x : Operand) → is_carried o ≡ false → (if is_carried o then carried_items o u d a x else binary_items o d a x) ≡ binary_items o d a x
-plain-items o u d a x plain = ap (λ b. if b then carried_items o u d a x else binary_items o d a x) plain
+plain-items : (o : BinaryOp) (u d a : ℕ) (x : Operand) → sets_carry o ≡ false → (if sets_carry o then carry_items o u d a x else binary_items o d a x) ≡ binary_items o d a x
+plain-items o u d a x plain = ap (λ b. if b then carry_items o u d a x else binary_items o d a x) plain
 
-settles-plain : (to : ℕ → ℕ) (o : BinaryOp) (u d a : ℕ) (x : Operand) (is : List Instr) → is_carried o ≡ false → Settles to (binary_items o d a x) is → Settles to (if is_carried o then carried_items o u d a x else binary_items o d a x) is
+settles-plain : (to : ℕ → ℕ) (o : BinaryOp) (u d a : ℕ) (x : Operand) (is : List Instr) → sets_carry o ≡ false → Settles to (binary_items o d a x) is → Settles to (if sets_carry o then carry_items o u d a x else binary_items o d a x) is
 settles-plain to o u d a x is plain h = subst (λ items. Settles to items is) (sym (plain-items o u d a x plain)) h
 
-pub registers-carried : (o : BinaryOp) (d a b : Reg) (line : ℕ) → is_carried o ≡ false → d ≢ Fp → IsCarried (binary_node o last_operand.Register d a (operand.Reg b) line)
+pub registers-carried : (o : BinaryOp) (d a b : Reg) (line : ℕ) → sets_carry o ≡ false → d ≢ Fp → IsCarried (binary_node o last_operand.Register d a (operand.Reg b) line)
 registers-carried o d a b line plain named = carried-plain (binary_node o last_operand.Register d a (operand.Reg b) line) refl refl (no-needs o last_operand.Register plain)
     (λ c i t words. let code = register_code o (register_of Riscv64 d) (register_of Riscv64 a) (register_of Riscv64 b) in
     record { body = code; settles = settles-plain (slice_index c.addresses) o 0 (register_of Riscv64 d) (register_of Riscv64 a) (operand.Reg b) code plain (settles-ones (slice_index c.addresses) code); computes = registers-compute c i o d a b line plain named t })
 
 -- a host function or a label
-loaded-carried : (o : BinaryOp) (d a : Reg) (x : Operand) (line : ℕ) → is_carried o ≡ false → d ≢ Fp → admits Immediate x ≡ true → binary_items o (register_of Riscv64 d) (register_of Riscv64 a) x ≡ load_items 1 x ++ ones (register_code o (register_of Riscv64 d) (register_of Riscv64 a) 1)
+loaded-carried : (o : BinaryOp) (d a : Reg) (x : Operand) (line : ℕ) → sets_carry o ≡ false → d ≢ Fp → admits Immediate x ≡ true → binary_items o (register_of Riscv64 d) (register_of Riscv64 a) x ≡ load_items 1 x ++ ones (register_code o (register_of Riscv64 d) (register_of Riscv64 a) 1)
     → IsCarried (binary_node o last_operand.Immediate d a x line)
 loaded-carried o d a x line plain named immediate are = carried-plain (binary_node o last_operand.Immediate d a x line) refl refl (no-needs o last_operand.Immediate plain)
     (λ c i t words.
@@ -92,7 +92,7 @@ loaded-carried o d a x line plain named immediate are = carried-plain (binary_no
       computes = loaded-computed c i o d a x l.word line plain named l.given t l.code l.loads;
     })
 
-pub immediate-carried : (o : BinaryOp) (d a : Reg) (x : Operand) (line : ℕ) → is_carried o ≡ false → d ≢ Fp → admits Immediate x ≡ true → IsCarried (binary_node o last_operand.Immediate d a x line)
+pub immediate-carried : (o : BinaryOp) (d a : Reg) (x : Operand) (line : ℕ) → sets_carry o ≡ false → d ≢ Fp → admits Immediate x ≡ true → IsCarried (binary_node o last_operand.Immediate d a x line)
 immediate-carried o d a (operand.Reg r) line plain named h = cc
 immediate-carried o d a (operand.Slot k) line plain named h = cc
 immediate-carried o d a (operand.Host name) line plain named h = loaded-carried o d a (operand.Host name) line plain named h refl

@@ -13,7 +13,7 @@ use Rattle.lg_op.specs.declared.op.PlainOp.TheVariants as plain
 use Rattle.lg_op.specs.declared.node.Node.{Node}
 use Rattle.lg_op.specs.declared.operand.Operand.{Operand}
 use Rattle.lg_op.specs.declared.operand.Operand.TheVariants as operand
-use Rattle.lg_op.specs.Operators.{is_carried}
+use Rattle.lg_op.specs.Operators.{sets_carry}
 use Rattle.lg_temp.specs.declared.choice.Need.{Need}
 use Rattle.lg_temp.specs.declared.choice.Need.TheVariants.{Any}
 use Rattle.lg_temp.specs.declared.choice.Choice.{Choice}
@@ -28,11 +28,11 @@ use Rattle.lg_selr_values.specs.declared.items.Item.{Item}
 use Rattle.lg_selr_values.specs.Items.{words_in, ones, NameLabels}
 use Rattle.lg_selr_values.proofs.ItemLemmas.{names-append, names-ones}
 use Rattle.lg_selr_values.specs.BinaryCode.{register_code, number_form_code}
-use Rattle.lg_selr_values.specs.CarriedCode.{carried_code}
+use Rattle.lg_selr_values.specs.CarryCode.{carry_code}
 use Rattle.lg_selr_values.specs.UnaryCode.{unary_code, retval_code}
 use Rattle.lg_selr_values.specs.WideCode.{wide_code}
 use Rattle.lg_carry.specs.Values.Parts.{first_taken, operand_in, HaveSlots}
-use Rattle.lg_selr_values.specs.ValueItems.{value_needs, load_items, binary_items, second_items, carried_items, wide_items, operation_items, register_in, body_items, saved_items, value_items}
+use Rattle.lg_selr_values.specs.ValueItems.{value_needs, load_items, binary_items, second_items, carry_items, wide_items, operation_items, register_in, body_items, saved_items, value_items}
 use Rattle.lg_carry.specs.Nodes.Operands.{NamesBelow, NameBelow}
 use Rattle.lg_selr_values.specs.ValueFits.{AreValueItems, ValueItemsFit, ValueItemsStay, ValueItemsName}
 use Rattle.lg_selr_values.specs.GoodItems.{Fine, IsGoodItem}
@@ -168,10 +168,10 @@ wide-names labels o d e a (operand.Label l) h = wide-loaded-names labels o d e a
 wide-names labels o d e a (operand.Slot k) h = wide-loaded-names labels o d e a (operand.Slot k) h
 
 operation-names : (labels : ℕ) (o : BinaryOp) (u d a : ℕ) (x : Operand) → NamesBelow labels x → NameLabels labels (operation_items o u d a x)
-operation-names labels o u d a x h = by (is_carried o)
+operation-names labels o u d a x h = by (sets_carry o)
   where
-    by : (b : Bool) → NameLabels labels (if b then carried_items o u d a x else binary_items o d a x)
-    by true = names-append labels (second_items x) (ones (carried_code o u d a)) (second-names labels x h) (names-ones labels (carried_code o u d a))
+    by : (b : Bool) → NameLabels labels (if b then carry_items o u d a x else binary_items o d a x)
+    by true = names-append labels (second_items x) (ones (carry_code o u d a)) (second-names labels x h) (names-ones labels (carry_code o u d a))
     by false = binary-names labels o d a x h
 
 operand-below : (labels : ℕ) (xs : List Operand) (i : ℕ) → NameBelow labels xs → NamesBelow labels (operand_in xs i)

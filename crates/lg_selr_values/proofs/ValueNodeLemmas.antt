@@ -10,7 +10,7 @@ use Rattle.lg_op.specs.declared.operand.Reg.{Reg}
 use Rattle.lg_op.specs.declared.operand.Reg.TheVariants.{Fp}
 use Rattle.lg_op.specs.declared.operand.Operand.{Operand}
 use Rattle.lg_op.specs.declared.operand.Operand.TheVariants as operand
-use Rattle.lg_op.specs.Operators.{is_carried}
+use Rattle.lg_op.specs.Operators.{sets_carry}
 use Rattle.lg_live.specs.Registers.{is_same}
 use Rattle.lg_live.specs.Uses.{is_read, is_written}
 use Rattle.lg_meaning.specs.States.{value}
@@ -21,7 +21,7 @@ use Rattle.lg_selr_values.specs.ValueLaws.{ValueNodesCarry}
 use Rattle.lg_carry.proofs.OfValues.FormLemmas.{is-source}
 use Rattle.lg_selr_values.proofs.SettledLemmas.{IsCarried}
 use Rattle.lg_selr_values.proofs.PlainItemLemmas.{unary-carried, movi-carried, va-start-carried, retval-carried, registers-carried, immediate-carried, wide-registers-carried, wide-immediate-carried}
-use Rattle.lg_selr_values.proofs.CarriedItemLemmas.{HasForm, register-second, immediate-second, sum-carried, temporary-carried}
+use Rattle.lg_selr_values.proofs.CarryItemLemmas.{HasForm, register-second, immediate-second, sum-carried, temporary-carried}
 use Rattle.lg_carry.proofs.OfValues.ResultLemmas.{or-false, or-middle}
 
 true-false : (b : Bool) → (b ≡ true) ⊎ (b ≡ false)
@@ -35,7 +35,7 @@ writes o last_operand.Immediate d a x line named = or-false (is_same d d) ∙ sa
 reads : (o : BinaryOp) (last : LastOperand) (d a : Reg) (x : Operand) (line : ℕ) → a ≢ Fp → is_read (binary_node o last d a x line) a ≡ true
 reads o last d a x line ne = or-middle _ (is_same a a) false (same-self a ne)
 
-carry-carried : (o : BinaryOp) (last : LastOperand) (d a : Reg) (x : Operand) (line : ℕ) → is_carried o ≡ true → d ≢ Fp → HasForm o last d a x line → IsCarried (binary_node o last d a x line)
+carry-carried : (o : BinaryOp) (last : LastOperand) (d a : Reg) (x : Operand) (line : ℕ) → sets_carry o ≡ true → d ≢ Fp → HasForm o last d a x line → IsCarried (binary_node o last d a x line)
 carry-carried binary.Addc last d a x line h named form = sum-carried binary.Addc last d a x line refl refl tt (λ r. tt) named form
 carry-carried binary.Subc last d a x line h named form = sum-carried binary.Subc last d a x line refl refl tt (λ r. tt) named form
 carry-carried binary.Addx last d a x line h named form =
@@ -47,14 +47,14 @@ carry-carried o last d a x line h named form = cc
 binary-carried : (o : BinaryOp) (last : LastOperand) (d a : Reg) (x : Operand) (line : ℕ) → d ≢ Fp → admits (last_form last) x ≡ true → IsCarried (binary_node o last d a x line)
 binary-carried o last_operand.Register d a x line named h =
     let b = is-source x h in
-    subst (λ y. IsCarried (binary_node o last_operand.Register d a y line)) (sym b.is) (by b.register (true-false (is_carried o)))
+    subst (λ y. IsCarried (binary_node o last_operand.Register d a y line)) (sym b.is) (by b.register (true-false (sets_carry o)))
   where
-    by : (b : Reg) → (is_carried o ≡ true) ⊎ (is_carried o ≡ false) → IsCarried (binary_node o last_operand.Register d a (operand.Reg b) line)
+    by : (b : Reg) → (sets_carry o ≡ true) ⊎ (sets_carry o ≡ false) → IsCarried (binary_node o last_operand.Register d a (operand.Reg b) line)
     by b (inl e) = carry-carried o last_operand.Register d a (operand.Reg b) line e named (λ c small. register-second c o d a b line)
     by b (inr e) = registers-carried o d a b line e named
-binary-carried o last_operand.Immediate d a x line named h = by (true-false (is_carried o))
+binary-carried o last_operand.Immediate d a x line named h = by (true-false (sets_carry o))
   where
-    by : (is_carried o ≡ true) ⊎ (is_carried o ≡ false) → IsCarried (binary_node o last_operand.Immediate d a x line)
+    by : (sets_carry o ≡ true) ⊎ (sets_carry o ≡ false) → IsCarried (binary_node o last_operand.Immediate d a x line)
     by (inl e) = carry-carried o last_operand.Immediate d a x line e named (λ c small. immediate-second c o d a x line h small)
     by (inr e) = immediate-carried o d a x line e named h
 

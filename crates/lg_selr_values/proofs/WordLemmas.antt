@@ -12,7 +12,7 @@ use Rattle.lg_op.specs.declared.op.UnaryOp.TheVariants as unary
 use Rattle.lg_op.specs.declared.op.PlainOp.TheVariants as plain
 use Rattle.lg_op.specs.declared.operand.Operand.{Operand}
 use Rattle.lg_op.specs.declared.operand.Operand.TheVariants as operand
-use Rattle.lg_op.specs.Operators.{is_carried}
+use Rattle.lg_op.specs.Operators.{sets_carry}
 use Rattle.lg_rv.specs.declared.instruction.Instr.{Instr}
 use Rattle.lg_rv.specs.declared.instruction.Instr.TheVariants.{Imm, Reg}
 use Rattle.lg_rv.specs.declared.instruction.ImmOp.TheVariants.{Addi, Sltiu, Ld}
@@ -29,12 +29,12 @@ use Rattle.lg_selr_values.specs.declared.items.Item.TheVariants.{One}
 use Rattle.lg_selr_values.specs.Items.{words_in, ones}
 use Rattle.lg_selr_values.proofs.ItemLemmas.{words_append, words-ones}
 use Rattle.lg_selr_values.specs.BinaryCode.{register_code, is_addend, loaded_code, zero_or_loaded_code, equal_code, unequal_code, held_code, held_or_loaded_code, number_form_code}
-use Rattle.lg_selr_values.specs.CarriedCode.{carried_code}
+use Rattle.lg_selr_values.specs.CarryCode.{carry_code}
 use Rattle.lg_carry.specs.Values.ValueNodes.{extension}
 use Rattle.lg_selr_values.specs.UnaryCode.{unary_code, retval_code}
 use Rattle.lg_selr_values.specs.WideCode.{wide_code}
 use Rattle.lg_carry.specs.Values.Parts.{operand_in}
-use Rattle.lg_selr_values.specs.ValueItems.{load_items, binary_items, second_items, carried_items, wide_items, operation_items, register_in, body_items, saved_items}
+use Rattle.lg_selr_values.specs.ValueItems.{load_items, binary_items, second_items, carry_items, wide_items, operation_items, register_in, body_items, saved_items}
 use Rattle.lg_selr_values.proofs.EmissionLemmas.{number_few, load_words, second_words}
 
 register-few : (o : BinaryOp) (d a b : ℕ) → length (register_code o d a b) ≤ 2
@@ -99,7 +99,7 @@ number-form-few binary.Gt d a v = zero-few binary.Gt d a v
 number-form-few binary.GtU d a v = zero-few binary.GtU d a v
 number-form-few o d a v = loaded-few o d a v
 
-carried-few : (o : BinaryOp) (u d a : ℕ) → length (carried_code o u d a) ≤ 5
+carried-few : (o : BinaryOp) (u d a : ℕ) → length (carry_code o u d a) ≤ 5
 carried-few binary.Addc u d a = omega arith
 carried-few o u d a = omega arith
 
@@ -139,10 +139,10 @@ wide-items-few o d e a (operand.Label l) = both-few (load_items 31 (operand.Labe
 wide-items-few o d e a (operand.Slot k) = both-few (load_items 31 (operand.Slot k)) (wide_code o d e a 31) 8 3 (load-few 31 (operand.Slot k)) (wide-few o d e a 31)
 
 operation-few : (o : BinaryOp) (u d a : ℕ) (x : Operand) → words_in (operation_items o u d a x) ≤ 13
-operation-few o u d a x = by (is_carried o)
+operation-few o u d a x = by (sets_carry o)
   where
-    by : (b : Bool) → words_in (if b then carried_items o u d a x else binary_items o d a x) ≤ 13
-    by true = both-few (second_items x) (carried_code o u d a) 8 5 (second-few x) (carried-few o u d a)
+    by : (b : Bool) → words_in (if b then carry_items o u d a x else binary_items o d a x) ≤ 13
+    by true = both-few (second_items x) (carry_code o u d a) 8 5 (second-few x) (carried-few o u d a)
     by false = let h = binary-few o d a x in omega (arith, h)
 
 pub body_few : (o : Op) (xs : List Operand) (u : ℕ) → words_in (body_items o xs u) ≤ 30

@@ -10,7 +10,7 @@ use Rattle.lg_rv.specs.declared.instruction.ShiftOp.TheVariants.{Slli, Srli, Sra
 use Rattle.lg_rv.specs.declared.instruction.RegOp.TheVariants as row
 use Rattle.lg_selr_values.specs.Processor.Numbers.{low_part, number_code}
 
--- d = a op b; the operations that set the carry stand in CarriedCode
+-- d = a op b; the operations that set the carry stand in CarryCode
 abbrev pub register_code : BinaryOp → ℕ → ℕ → ℕ → List Instr
 register_code binary.Add d a b = Reg row.Add d a b ∷ []
 register_code binary.Sub d a b = Reg row.Sub d a b ∷ []

@@ -11,7 +11,7 @@ use Rattle.lg_op.specs.declared.op.PlainOp.TheVariants as plain
 use Rattle.lg_op.specs.declared.node.Node.{Node}
 use Rattle.lg_op.specs.declared.operand.Operand.{Operand}
 use Rattle.lg_op.specs.declared.operand.Operand.TheVariants as operand
-use Rattle.lg_op.specs.Operators.{is_carried}
+use Rattle.lg_op.specs.Operators.{sets_carry}
 use Rattle.lg_rv.specs.declared.instruction.Instr.TheVariants.{Imm, Store}
 use Rattle.lg_rv.specs.declared.instruction.ImmOp.TheVariants.{Addi, Ld}
 use Rattle.lg_rv.specs.declared.instruction.StoreOp.TheVariants.{Sd}
@@ -27,7 +27,7 @@ use Rattle.lg_selr_values.specs.declared.items.Item.{Item}
 use Rattle.lg_selr_values.specs.declared.items.Item.TheVariants.{One, Address}
 use Rattle.lg_selr_values.specs.Items.{ones}
 use Rattle.lg_selr_values.specs.BinaryCode.{register_code, number_form_code}
-use Rattle.lg_selr_values.specs.CarriedCode.{carried_code}
+use Rattle.lg_selr_values.specs.CarryCode.{carry_code}
 use Rattle.lg_selr_values.specs.UnaryCode.{unary_code, retval_code}
 use Rattle.lg_selr_values.specs.WideCode.{wide_code}
 
@@ -55,8 +55,8 @@ abbrev pub second_items : Operand → List Item
 second_items (operand.Reg b) = One (Imm Addi 1 (register_of Riscv64 b) (pos 0)) ∷ []
 second_items x = load_items 1 x
 
-abbrev pub carried_items : BinaryOp → ℕ → ℕ → ℕ → Operand → List Item
-carried_items o u d a x = second_items x ++ ones (carried_code o u d a)
+abbrev pub carry_items : BinaryOp → ℕ → ℕ → ℕ → Operand → List Item
+carry_items o u d a x = second_items x ++ ones (carry_code o u d a)
 
 -- d and e = a op x
 abbrev pub wide_items : WideOp → ℕ → ℕ → ℕ → Operand → List Item
@@ -64,7 +64,7 @@ wide_items o d e a (operand.Reg b) = ones (wide_code o d e a (register_of Riscv6
 wide_items o d e a x = load_items 31 x ++ ones (wide_code o d e a 31)
 
 abbrev pub operation_items : BinaryOp → ℕ → ℕ → ℕ → Operand → List Item
-operation_items o u d a x = if is_carried o then carried_items o u d a x else binary_items o d a x
+operation_items o u d a x = if sets_carry o then carry_items o u d a x else binary_items o d a x
 
 -- the register of an operand, by its place
 abbrev pub register_in : List Operand → ℕ → ℕ

@@ -3,7 +3,7 @@
 #![tactic(auto)]
 
 mod binary;
-mod carried;
+mod carry;
 mod emission;
 pub mod item_laws;
 mod items;

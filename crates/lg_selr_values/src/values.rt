@@ -2,18 +2,18 @@
 
 ghost use Rattle.std.specs.Prelude.{◌≡◌, ◌+◌, ◌<◌, ◌≤◌, [], ◌∷◌, ◌++◌, length};
 ghost use Rattle.lg_base.specs.declared.target.Target.TheVariants.{Riscv64};
-ghost use Rattle.lg_op.specs.Operators.{is_carried};
+ghost use Rattle.lg_op.specs.Operators.{sets_carry};
 ghost use Rattle.lg_selr_values.specs.Items.{words_in};
 ghost use Rattle.lg_carry.specs.Values.Parts.{register_for, HaveSlots};
-ghost use Rattle.lg_selr_values.specs.ValueItems.{load_items, binary_items, second_items, carried_items, wide_items, operation_items, body_items, value_items};
+ghost use Rattle.lg_selr_values.specs.ValueItems.{load_items, binary_items, second_items, carry_items, wide_items, operation_items, body_items, value_items};
 
 use crate::binary::{number_form_code, register_code};
-use crate::carried::carried_code;
+use crate::carry::carry_code;
 use crate::unary::{retval_code, unary_code};
 use crate::wide_values::wide_code;
 use crate::{CARRY, Item, LINK, imm, put_number, register_of, restore, save};
 use lg_carry::values::operand_in;
-use lg_op::operators::is_carried;
+use lg_op::operators::sets_carry;
 use lg_op::{BinaryOp, Label, Node, Op, Operand, PlainOp, Reg, WideOp};
 use lg_rv::ImmOp;
 use lg_sel::Items;
@@ -78,12 +78,12 @@ fn second_items(x: Operand, items: &mut Items<Item>)
 }
 
 // Appends the code of `d = a op x`, which sets the carry, where `u` is a temporary: at most 13 instructions, for which there is room.
-fn carried_items(op: BinaryOp, u: u8, d: u8, a: u8, x: Operand, items: &mut Items<Item>)
+fn carry_items(op: BinaryOp, u: u8, d: u8, a: u8, x: Operand, items: &mut Items<Item>)
     requires { words_in items.old + 13 ≤ 64 }
-    ensures { items.new ≡ items.old ++ carried_items op u d a x }
+    ensures { items.new ≡ items.old ++ carry_items op u d a x }
 {
     second_items(x, items);
-    carried_code(op, u, d, a, items);
+    carry_code(op, u, d, a, items);
 }
 
 // Appends the code of `d, e = a op x`: at most 11 instructions, for which there is room.
@@ -106,8 +106,8 @@ fn operation_items(op: BinaryOp, u: u8, d: u8, a: u8, x: Operand, items: &mut It
     requires { words_in items.old + 13 ≤ 64 }
     ensures { items.new ≡ items.old ++ operation_items op u d a x }
 {
-    if is_carried(op) {
-        carried_items(op, u, d, a, x, items);
+    if sets_carry(op) {
+        carry_items(op, u, d, a, x, items);
     } else {
         binary_items(op, d, a, x, items);
     }

@@ -8,7 +8,7 @@ use Rattle.lg_base.specs.Words.{add_words, sub_words, mul_words, differ, is_nega
 use Rattle.lg_base.specs.Wide.{zero_part_of, quotient_wide, quotient_wide_signed}
 use Rattle.lg_op.specs.declared.op.BinaryOp.{BinaryOp}
 use Rattle.lg_op.specs.declared.op.BinaryOp.TheVariants as binary
-use Rattle.lg_op.specs.Operators.{word_where, divides, binary_value, is_carried}
+use Rattle.lg_op.specs.Operators.{word_where, divides, binary_value, sets_carry}
 use Rattle.lg_x86.specs.declared.instruction.Instr.{Instr}
 use Rattle.lg_x86.specs.declared.instruction.Instr.TheVariants.{RmReg, RegRm, Lea2, Unary}
 use Rattle.lg_x86.specs.declared.instruction.RmRegOp.TheVariants as alu
@@ -252,7 +252,7 @@ module _ (choices : List Choice) (frame d a b : ℕ) (q : Held) (d5 : d ≢ 5) (
   abbrev y : ℕ
   y = q.registers b
 
-  pub register-word : (o : BinaryOp) (z : ℕ) → is_carried o ≡ false → ((r : ℕ) → is_taken choices r ≡ false → r ≢ d → spoils o r ≡ false) → binary_value o x y ≡ Some z → MakesWord choices (register_code o frame d a b) d z q
+  pub register-word : (o : BinaryOp) (z : ℕ) → sets_carry o ≡ false → ((r : ℕ) → is_taken choices r ≡ false → r ≢ d → spoils o r ≡ false) → binary_value o x y ≡ Some z → MakesWord choices (register_code o frame d a b) d z q
   register-word binary.Add z p l e = as-word choices (register_code binary.Add frame d a b) d (add_words x y) z q (added-word choices d a b q) (some-same _ z e)
   register-word binary.And z p l e = as-word choices (register_code binary.And frame d a b) d (bit_and x y) z q (commuting-word choices alu.And d a b false q refl refl (λ m n k. and_comm m n)) (some-same _ z e)
   register-word binary.Or z p l e = as-word choices (register_code binary.Or frame d a b) d (bit_or x y) z q (commuting-word choices alu.Or d a b false q refl refl (λ m n k. or_comm m n)) (some-same _ z e)

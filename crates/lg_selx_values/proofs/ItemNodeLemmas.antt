@@ -14,7 +14,7 @@ use Rattle.lg_op.specs.declared.operand.Reg.{Reg}
 use Rattle.lg_op.specs.declared.operand.Reg.TheVariants.{Fp}
 use Rattle.lg_op.specs.declared.operand.Operand.{Operand}
 use Rattle.lg_op.specs.declared.operand.Operand.TheVariants as operand
-use Rattle.lg_op.specs.Operators.{is_carried}
+use Rattle.lg_op.specs.Operators.{sets_carry}
 use Rattle.lg_node.specs.Preparations.{pushed}
 use Rattle.lg_temp.specs.declared.choice.Choice.{Choice}
 use Rattle.lg_temp.specs.Abis.{register_of}
@@ -31,7 +31,7 @@ use Rattle.lg_selx_values.specs.Processor.X86Rows.{x86_processor}
 use Rattle.lg_selx_values.specs.declared.items.Item.{Item}
 use Rattle.lg_selx_values.specs.Items.{settled}
 use Rattle.lg_selx_values.specs.BinaryCode.{register_code, number_form_code}
-use Rattle.lg_selx_values.specs.CarriedCode.{carried_register_code, carried_number_code}
+use Rattle.lg_selx_values.specs.CarryCode.{carry_register_code, carry_number_code}
 use Rattle.lg_selx_values.specs.Needs.{value_needs}
 use Rattle.lg_selx_values.specs.RegisterNodes.{IsChosen}
 use Rattle.lg_selx_values.specs.UnaryCode.{unary_code, retval_code}
@@ -93,10 +93,10 @@ retval-carried t d line named code trash c i frame live choices words labels k =
 
 -- ---- two words
 -- by whether the operation sets the carry
-by-carry : {A : Type 0} (o : BinaryOp) → (is_carried o ≡ true → A) → (is_carried o ≡ false → A) → A
-by-carry {A} o f g = by (is_carried o) refl
+by-carry : {A : Type 0} (o : BinaryOp) → (sets_carry o ≡ true → A) → (sets_carry o ≡ false → A) → A
+by-carry {A} o f g = by (sets_carry o) refl
   where
-    by : (z : Bool) → is_carried o ≡ z → A
+    by : (z : Bool) → sets_carry o ≡ z → A
     by true e = f e
     by false e = g e
 
@@ -108,7 +108,7 @@ registers-carried o d a b line named code trash c i frame live choices words lab
     let ra = register_of X86_64 a in
     let rb = register_of X86_64 b in
     let plain : List Instr = register_code o frame rd ra rb in
-    let carried : List Instr = carried_register_code o frame rd ra rb in
+    let carried : List Instr = carry_register_code o frame rd ra rb in
     let all : List Instr = binary_code o frame rd ra rb in
     by-carry o
     (λ e. carried-registers-carry code trash c i frame o d a b line live choices e named (is-chosen code trash c i frame n live choices carried k (settles-ones to all carried (ap (λ z. if z then carried else plain) e))))
@@ -122,7 +122,7 @@ immediate-carried o d a x line named immediate code trash c i frame live choices
     let ra = register_of X86_64 a in
     let g = is-given c.addresses x immediate words.1.1.0 (labels refl).1.1.0 in
     let plain : List Instr = number_form_code o frame rd ra g.word in
-    let carried : List Instr = carried_number_code o frame rd ra g.word in
+    let carried : List Instr = carry_number_code o frame rd ra g.word in
     let all : List Instr = binary_number_code o frame rd ra g.word in
     let settles : (js : List Instr) → all ≡ js → Settles to (body_items frame n.op n.operands) js = λ js e. subst (λ (xs : List Item). Settles to xs js) (sym (g.binary o frame rd ra)) (settles-ones to all js e) in
     by-carry o

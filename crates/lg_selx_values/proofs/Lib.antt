@@ -1,6 +1,6 @@
 pub mod AluLemmas
 pub mod BinaryCodeLemmas
-pub mod CarriedCodeLemmas
+pub mod CarryCodeLemmas
 pub mod ChoiceLemmas
 pub mod EmissionLemmas
 pub mod EndLemmas

@@ -12,11 +12,11 @@ use Rattle.lg_op.specs.declared.operand.Reg.{Reg}
 use Rattle.lg_op.specs.declared.operand.Reg.TheVariants.{Fp}
 use Rattle.lg_op.specs.declared.operand.Operand.{Operand}
 use Rattle.lg_op.specs.declared.operand.Operand.TheVariants as operand
-use Rattle.lg_op.specs.Operators.{binary_value, is_carried, carry_in, carried_value, carried_out}
+use Rattle.lg_op.specs.Operators.{binary_value, sets_carry, carry_in, value_with_carry, carry_made}
 use Rattle.lg_live.specs.Registers.{is_same}
 use Rattle.lg_live.specs.Uses.{is_read, is_written}
 use Rattle.lg_meaning.specs.States.{State, reg, value}
-use Rattle.lg_meaning.specs.Steps.{Undefined, on, with_reg, bit_word, carried_to, binary_step, carried_step}
+use Rattle.lg_meaning.specs.Steps.{Undefined, on, with_reg, bit_word, goes_with_carry, binary_step, carry_step}
 use Rattle.lg_meaning.specs.Texts.{step}
 use Rattle.lg_temp.specs.Abis.{register_of}
 use Rattle.lg_temp.specs.declared.choice.Choice.{Choice}
@@ -34,7 +34,7 @@ use Rattle.lg_x86.specs.declared.instruction.Instr.{Instr}
 use Rattle.lg_x86.proofs.SizeLemmas.{sized}
 use Rattle.lg_selx_values.specs.Processor.MakingNodes.{StepsBy, MakesNode}
 use Rattle.lg_selx_values.specs.Processor.X86Computers.{x86_scratch}
-use Rattle.lg_selx_values.specs.WordLaws.{IsInFrame, MakesCarried}
+use Rattle.lg_selx_values.specs.WordLaws.{IsInFrame, MakesWithCarry}
 use Rattle.lg_selx_values.specs.Words.{MakesWord}
 
 -- ---- what is seen
@@ -52,11 +52,11 @@ some-spelled [] h = absurd (omega (arith, h))
 some-spelled (i ∷ is) h = let s = (sized i).some in let l = length-append (spelling i) (spellings spelling is) in omega (arith, s, l)
 
 -- ---- the step
-plain-step : (c : Code) (o : BinaryOp) (s : State) (n : Node) → is_carried o ≡ false → (if is_carried o then carried_step c.addresses n o s else binary_step c.addresses n (binary_value o) s) ≡ binary_step c.addresses n (binary_value o) s
-plain-step c o s n plain = ap (λ z. if z then carried_step c.addresses n o s else binary_step c.addresses n (binary_value o) s) plain
+plain-step : (c : Code) (o : BinaryOp) (s : State) (n : Node) → sets_carry o ≡ false → (if sets_carry o then carry_step c.addresses n o s else binary_step c.addresses n (binary_value o) s) ≡ binary_step c.addresses n (binary_value o) s
+plain-step c o s n plain = ap (λ z. if z then carry_step c.addresses n o s else binary_step c.addresses n (binary_value o) s) plain
 
-only-carried : (c : Code) (o : BinaryOp) (s : State) (n : Node) → is_carried o ≡ true → (if is_carried o then carried_step c.addresses n o s else binary_step c.addresses n (binary_value o) s) ≡ carried_step c.addresses n o s
-only-carried c o s n h = ap (λ z. if z then carried_step c.addresses n o s else binary_step c.addresses n (binary_value o) s) h
+only-carried : (c : Code) (o : BinaryOp) (s : State) (n : Node) → sets_carry o ≡ true → (if sets_carry o then carry_step c.addresses n o s else binary_step c.addresses n (binary_value o) s) ≡ carry_step c.addresses n o s
+only-carried c o s n h = ap (λ z. if z then carry_step c.addresses n o s else binary_step c.addresses n (binary_value o) s) h
 
 -- ---- two words into one register
 module _ (c : Code) (i frame : ℕ) (o : BinaryOp) (last : LastOperand) (d a : Reg) (x : Operand) (line : ℕ) (named : d ≢ Fp) (t : IsInText c i (binary_node o last d a x line)) (choices : List Choice) (body : List Instr) (some : 0 < length body) where
@@ -76,7 +76,7 @@ module _ (c : Code) (i frame : ℕ) (o : BinaryOp) (last : LastOperand) (d a : R
   abbrev Given : State → Type 0
   Given s = TwoGiven (reg s a) (value c.addresses s x) (binary_value o) (λ m k v. on (with_reg s (operand.Reg d) v)) (step c.nodes c.shape c.addresses s)
 
-  pub binary-makes : is_carried o ≡ false
+  pub binary-makes : sets_carry o ≡ false
       → ((s : State) (q : Seen) (m k z : ℕ) → HoldsRead X86_64 n frame s q → q.registers (register_of X86_64 a) ≡ m → value c.addresses s x ≡ Some k → binary_value o m k ≡ Some z → MakesWord choices body (register_of X86_64 d) z (holding q))
       → MakesNode c i n frame choices body
   binary-makes plain word = record {
@@ -101,14 +101,14 @@ module _ (c : Code) (i frame : ℕ) (o : BinaryOp) (last : LastOperand) (d a : R
 
   -- and the carry
   abbrev reached : State → ℕ → ℕ → Bool → State
-  reached s m k bit = carried_to s (operand.Reg d) (carried_value o m k (bit_word bit)) (carried_out o m k (bit_word bit))
+  reached s m k bit = goes_with_carry s (operand.Reg d) (value_with_carry o m k (bit_word bit)) (carry_made o m k (bit_word bit))
 
   abbrev CarriedGiven : State → Type 0
   CarriedGiven s = TwoGiven (reg s a) (value c.addresses s x) (λ m k. carry_in o s.carry) (reached s) (step c.nodes c.shape c.addresses s)
 
-  pub carried-makes : is_carried o ≡ true
+  pub carried-makes : sets_carry o ≡ true
       → ((s : State) (q : Seen) (m k : ℕ) (bit : Bool) → HoldsRead X86_64 n frame s q → q.registers (register_of X86_64 a) ≡ m → value c.addresses s x ≡ Some k → carry_in o s.carry ≡ Some bit
-      → MakesCarried o body (register_of X86_64 d) m k (bit_word bit) (holding q)) → MakesNode c i n frame choices body
+      → MakesWithCarry o body (register_of X86_64 d) m k (bit_word bit) (holding q)) → MakesNode c i n frame choices body
   carried-makes carries word = record {
     some = some-spelled body some;
     steps = λ s q at h. by s q h (two-given (reg s a) (value c.addresses s x) (λ m k. carry_in o s.carry) (reached s) (step c.nodes c.shape c.addresses s) (step-is c i n s t at ∙ only-carried c o s n carries));
@@ -126,5 +126,5 @@ module _ (c : Code) (i frame : ℕ) (o : BinaryOp) (last : LastOperand) (d a : R
             flags = m.word.flags;
             makes_it = λ bytes. m.word.makes_it bytes;
             keeps = λ r k. m.word.keeps r (kept-apart X86_64 n d named writes x86_scratch choices r k) refl;
-            holds = holds-one X86_64 n d named writes s (reached s g.x g.y g.v) (carried_value o g.x g.y (bit_word g.v)) record { registers = m.word.registers; flags = m.word.flags } refl m.word.value m.holds;
+            holds = holds-one X86_64 n d named writes s (reached s g.x g.y g.v) (value_with_carry o g.x g.y (bit_word g.v)) record { registers = m.word.registers; flags = m.word.flags } refl m.word.value m.holds;
           }

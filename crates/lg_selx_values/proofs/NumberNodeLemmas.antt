@@ -7,7 +7,7 @@ use Rattle.lg_op.specs.declared.op.BinaryOp.{BinaryOp}
 use Rattle.lg_op.specs.declared.op.BinaryOp.TheVariants as binary
 use Rattle.lg_op.specs.declared.op.LastOperand.TheVariants as last_operand
 use Rattle.lg_op.specs.declared.carry.Carry.{Carry}
-use Rattle.lg_op.specs.Operators.{binary_value, is_carried, carry_in}
+use Rattle.lg_op.specs.Operators.{binary_value, sets_carry, carry_in}
 use Rattle.lg_live.specs.Registers.{is_same}
 use Rattle.lg_meaning.specs.Steps.{bit_word}
 use Rattle.lg_x86.specs.declared.instruction.ImmOp.TheVariants as imm
@@ -20,13 +20,13 @@ use Rattle.lg_carry.specs.Values.ValueNodes.{binary_node}
 use Rattle.lg_carry.proofs.OfValues.ResultLemmas.{or-false}
 use Rattle.lg_base.specs.Words.{is_half, negated}
 use Rattle.lg_selx_values.specs.BinaryCode.{is_near, number_form_code}
-use Rattle.lg_selx_values.specs.CarriedCode.{carried_number_code}
+use Rattle.lg_selx_values.specs.CarryCode.{carry_number_code}
 use Rattle.lg_selx_values.specs.Needs.{value_needs}
 use Rattle.lg_selx_values.specs.NumberWords.{number_spoils}
-use Rattle.lg_selx_values.specs.RegisterNodes.{BinaryNumbersCarry, CarriedNumbersCarry}
-use Rattle.lg_selx_values.specs.WordLaws.{IsInFrame, MakesCarried}
+use Rattle.lg_selx_values.specs.RegisterNodes.{BinaryNumbersCarry, FlagNumbersCarry}
+use Rattle.lg_selx_values.specs.WordLaws.{IsInFrame, MakesWithCarry}
 use Rattle.lg_selx_values.proofs.BinaryCodeLemmas.{some-same}
-use Rattle.lg_selx_values.proofs.CarriedCodeLemmas.{taken-sum, taken-difference, sum-word, difference-word}
+use Rattle.lg_selx_values.proofs.CarryCodeLemmas.{taken-sum, taken-difference, sum-word, difference-word}
 use Rattle.lg_selx_values.proofs.NeedLemmas.{named-apart, same-register}
 use Rattle.lg_selx_values.proofs.NodeLemmas.{holding, in-frame, binary-makes, carried-makes}
 use Rattle.lg_selx_values.proofs.NumberLemmas.{number-rows-are-made}
@@ -55,7 +55,7 @@ needs-few binary.Rem = omega arith
 needs-few binary.RemU = omega arith
 needs-few o = omega arith
 
-code-some : (o : BinaryOp) (frame d a v : ℕ) → is_carried o ≡ false → 0 < length (number_form_code o frame d a v)
+code-some : (o : BinaryOp) (frame d a v : ℕ) → sets_carry o ≡ false → 0 < length (number_form_code o frame d a v)
 code-some binary.Add frame d a v p = some-either (is_near d a v) _ _ (omega arith) (some-either (is_half v) _ _ (some-moved d a _ (omega arith)) (some-moved d a _ (omega arith)))
 code-some binary.Sub frame d a v p = some-either (is_near d a (negated v)) _ _ (omega arith) (some-either (is_half v) _ _ (some-moved d a _ (omega arith)) (some-moved d a _ (omega arith)))
 code-some binary.And frame d a v p = some-either (is_half v) _ _ (some-moved d a _ (omega arith)) (some-moved d a _ (omega arith))
@@ -100,57 +100,57 @@ module _ (frame d a v : ℕ) (q : Held) (d5 : d ≢ 5) (d4 : d ≢ 4) (small : v
   abbrev m : ℕ
   m = q.registers a
 
-  sum-carried : MakesCarried binary.Addc (carried_number_code binary.Addc frame d a v) d m v 0 q
+  sum-carried : MakesWithCarry binary.Addc (carry_number_code binary.Addc frame d a v) d m v 0 q
   sum-carried =
       let l = number-rows-are-made frame d a v q d5 d4 small f imm.Addi false refl refl in
       let e = sum-word m v in
       let w = l.word in
       record { word = record { registers = w.registers; flags = w.flags; value = w.value ∙ e; keeps = w.keeps; makes_it = w.makes_it }; holds = l.carry_is }
 
-  difference-carried : MakesCarried binary.Subc (carried_number_code binary.Subc frame d a v) d m v 0 q
+  difference-carried : MakesWithCarry binary.Subc (carry_number_code binary.Subc frame d a v) d m v 0 q
   difference-carried =
       let l = number-rows-are-made frame d a v q d5 d4 small f imm.Subi false refl refl in
       let e = difference-word m v (f.words a) small in
       let w = l.word in
       record { word = record { registers = w.registers; flags = w.flags; value = w.value ∙ e; keeps = w.keeps; makes_it = w.makes_it }; holds = l.carry_is }
 
-  pub number-carried : (o : BinaryOp) (k : Carry) (c : Bool) → is_carried o ≡ true → carry_in o k ≡ Some c → HoldsCarry X86_64 q.registers (carry_of q.flags) k → MakesCarried o (carried_number_code o frame d a v) d m v (bit_word c) q
+  pub number-carried : (o : BinaryOp) (k : Carry) (c : Bool) → sets_carry o ≡ true → carry_in o k ≡ Some c → HoldsCarry X86_64 q.registers (carry_of q.flags) k → MakesWithCarry o (carry_number_code o frame d a v) d m v (bit_word c) q
   number-carried binary.Addc k c is e h =
-      let z : false ≡ c = some-same false c e in subst (λ t. MakesCarried binary.Addc (carried_number_code binary.Addc frame d a v) d m v (bit_word t) q) z sum-carried
+      let z : false ≡ c = some-same false c e in subst (λ t. MakesWithCarry binary.Addc (carry_number_code binary.Addc frame d a v) d m v (bit_word t) q) z sum-carried
   number-carried binary.Subc k c is e h =
-      let z : false ≡ c = some-same false c e in subst (λ t. MakesCarried binary.Subc (carried_number_code binary.Subc frame d a v) d m v (bit_word t) q) z difference-carried
+      let z : false ≡ c = some-same false c e in subst (λ t. MakesWithCarry binary.Subc (carry_number_code binary.Subc frame d a v) d m v (bit_word t) q) z difference-carried
   number-carried binary.Addx k c is e h =
       let l = number-rows-are-made frame d a v q d5 d4 small f imm.Adci c refl (taken-sum k c q.registers (carry_of q.flags) e h) in record { word = l.word; holds = l.carry_is }
   number-carried binary.Subx k c is e h =
       let l = number-rows-are-made frame d a v q d5 d4 small f imm.Sbbi c refl (taken-difference k c q.registers (carry_of q.flags) e h) in record { word = l.word; holds = l.carry_is }
   number-carried o k c is e h = cc
 
-carried-some : (o : BinaryOp) (frame d a v : ℕ) → is_carried o ≡ true → 0 < length (carried_number_code o frame d a v)
+carried-some : (o : BinaryOp) (frame d a v : ℕ) → sets_carry o ≡ true → 0 < length (carry_number_code o frame d a v)
 carried-some binary.Addc frame d a v p = some-either (is_half v) _ _ (some-moved d a _ (omega arith)) (some-moved d a _ (omega arith))
 carried-some binary.Addx frame d a v p = some-either (is_half v) _ _ (some-moved d a _ (omega arith)) (some-moved d a _ (omega arith))
 carried-some binary.Subc frame d a v p = some-either (is_half v) _ _ (some-moved d a _ (omega arith)) (some-moved d a _ (omega arith))
 carried-some binary.Subx frame d a v p = some-either (is_half v) _ _ (some-moved d a _ (omega arith)) (some-moved d a _ (omega arith))
 carried-some o frame d a v p = cc
 
-carried-needs : (o : BinaryOp) → is_carried o ≡ true → value_needs (op.Binary o last_operand.Immediate) ≡ []
+carried-needs : (o : BinaryOp) → sets_carry o ≡ true → value_needs (op.Binary o last_operand.Immediate) ≡ []
 carried-needs binary.Addc h = refl
 carried-needs binary.Addx h = refl
 carried-needs binary.Subc h = refl
 carried-needs binary.Subx h = refl
 carried-needs o h = cc
 
-pub carried-numbers-carry : CarriedNumbersCarry
+pub carried-numbers-carry : FlagNumbersCarry
 carried-numbers-carry code trash c i frame o d a x v line live choices carries named small given k =
     let rd = register_of X86_64 d in
     let ra = register_of X86_64 a in
-    let body = carried_number_code o frame rd ra v in
+    let body = carry_number_code o frame rd ra v in
     let n = binary_node o last_operand.Immediate d a x line in
     let none = carried-needs o carries in
     chosen-carries code trash c i frame n live choices body refl refl (λ r e. absurd (unnamed r (ap (λ needs. is_named needs r) (sym none) ∙ e))) (subst (λ needs. length needs ≤ 3) (sym none) (omega arith)) k
     (carried-makes c i frame o last_operand.Immediate d a x line named k.in_text choices body (carried-some o frame rd ra v carries) carries
     (λ s q m y bit h em ey ek.
     let e : v ≡ y = some-same v y (sym (given s) ∙ ey) in
-    subst (λ t. MakesCarried o body rd t y (bit_word bit) (holding q)) em (subst (λ t. MakesCarried o body rd (q.registers ra) t (bit_word bit) (holding q)) e
+    subst (λ t. MakesWithCarry o body rd t y (bit_word bit) (holding q)) em (subst (λ t. MakesWithCarry o body rd (q.registers ra) t (bit_word bit) (holding q)) e
     (number-carried frame rd ra v (holding q) (register-not-frame d named) (register-portable d).no_stack small (in-frame n frame s q h) o s.carry bit carries ek h.carry))))
   where
     unnamed : (r : ℕ) → is_named [] r ≡ true → ⊥

@@ -7,7 +7,7 @@ use Rattle.lg_base.specs.Wide.{zero_part_of, quotient_wide, quotient_wide_signed
 use Rattle.lg_base.specs.declared.flags.Flags.{Flags}
 use Rattle.lg_op.specs.declared.op.BinaryOp.{BinaryOp}
 use Rattle.lg_op.specs.declared.op.BinaryOp.TheVariants as binary
-use Rattle.lg_op.specs.Operators.{word_where, divides, binary_value, is_carried}
+use Rattle.lg_op.specs.Operators.{word_where, divides, binary_value, sets_carry}
 use Rattle.lg_x86.specs.declared.instruction.BareOp.TheVariants.{Cqo}
 use Rattle.lg_x86.specs.declared.instruction.Cond.{Cond}
 use Rattle.lg_x86.specs.declared.instruction.Cond.TheVariants as cond
@@ -259,7 +259,7 @@ module _ (choices : List Choice) (frame d a v : ℕ) (q : Held) (d5 : d ≢ 5) (
   answered : (c : Cond) (t : Bool) (z : ℕ) → condition_holds c (difference_flags m v 0 (sub_words m v)) ≡ Some t → Some (word_of_test t) ≡ Some z → MakesWord choices (compared_number c frame d a v) d z q
   answered c t z is e = as-word choices (compared_number c frame d a v) d (word_of_test t) z q (answer-number frame d a v q d5 d4 small words pointer c t is) (some-same _ z e)
 
-  pub number-word : (o : BinaryOp) (z : ℕ) → is_carried o ≡ false → ((r : ℕ) → is_taken choices r ≡ false → r ≢ d → number_spoils o r ≡ false) → binary_value o m v ≡ Some z → MakesWord choices (number_form_code o frame d a v) d z q
+  pub number-word : (o : BinaryOp) (z : ℕ) → sets_carry o ≡ false → ((r : ℕ) → is_taken choices r ≡ false → r ≢ d → number_spoils o r ≡ false) → binary_value o m v ≡ Some z → MakesWord choices (number_form_code o frame d a v) d z q
   number-word binary.Add z p l e = near-word v small (with_number imm.Addi alu.Add frame d a v) z (some-same _ z e) (rowed imm.Addi (add_words m v) z refl refl refl e)
   number-word binary.Sub z p l e = near-word (negated v) (negated-small v) (with_number imm.Subi alu.Sub frame d a v) z (plus-negated m v (words a) small ∙ some-same _ z e) (rowed imm.Subi (sub_words m v) z refl refl refl e)
   number-word binary.And z p l e = row-word binary.And imm.Andi (bit_and m v) z refl refl refl refl e

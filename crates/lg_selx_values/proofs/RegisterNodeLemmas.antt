@@ -10,7 +10,7 @@ use Rattle.lg_op.specs.declared.node.Node.{Node}
 use Rattle.lg_op.specs.declared.operand.Reg.{Reg}
 use Rattle.lg_op.specs.declared.operand.Reg.TheVariants.{Fp}
 use Rattle.lg_op.specs.declared.operand.Operand.TheVariants as operand
-use Rattle.lg_op.specs.Operators.{binary_value, is_carried}
+use Rattle.lg_op.specs.Operators.{binary_value, sets_carry}
 use Rattle.lg_live.specs.Registers.{is_same}
 use Rattle.lg_live.specs.Uses.{is_read}
 use Rattle.lg_meaning.specs.Steps.{bit_word}
@@ -37,13 +37,13 @@ use Rattle.lg_selx_values.specs.Processor.X86Rows.{x86_processor, x86_rows, can_
 use Rattle.lg_selx_values.proofs.OfProcessor.IsaLemmas.{is-isa}
 use Rattle.lg_selx_values.proofs.OfProcessor.MakingNodeLemmas.{making-nodes-compute}
 use Rattle.lg_selx_values.specs.BinaryCode.{register_code}
-use Rattle.lg_selx_values.specs.CarriedCode.{carried_register_code}
+use Rattle.lg_selx_values.specs.CarryCode.{carry_register_code}
 use Rattle.lg_selx_values.specs.Needs.{value_needs, spoils}
-use Rattle.lg_selx_values.specs.RegisterNodes.{IsChosen, binary_registers, BinaryRegistersCarry, CarriedRegistersCarry}
+use Rattle.lg_selx_values.specs.RegisterNodes.{IsChosen, binary_registers, BinaryRegistersCarry, FlagRegistersCarry}
 use Rattle.lg_selx_values.specs.Scratch.{moved}
-use Rattle.lg_selx_values.specs.WordLaws.{MakesCarried}
+use Rattle.lg_selx_values.specs.WordLaws.{MakesWithCarry}
 use Rattle.lg_selx_values.proofs.BinaryCodeLemmas.{binaries-are-made}
-use Rattle.lg_selx_values.proofs.CarriedCodeLemmas.{carried-are-made}
+use Rattle.lg_selx_values.proofs.CarryCodeLemmas.{carried-are-made}
 use Rattle.lg_selx_values.proofs.NeedLemmas.{named-apart, same-register}
 use Rattle.lg_selx_values.proofs.NodeLemmas.{holding, in-frame, binary-makes, carried-makes}
 use Rattle.lg_selx_values.proofs.RegisterLemmas.{register-portable, register-not-frame}
@@ -114,7 +114,7 @@ pub some-either : (b : Bool) (xs ys : List Instr) → 0 < length xs → 0 < leng
 some-either true xs ys h k = h
 some-either false xs ys h k = k
 
-code-some : (o : BinaryOp) (frame d a b : ℕ) → is_carried o ≡ false → 0 < length (register_code o frame d a b)
+code-some : (o : BinaryOp) (frame d a b : ℕ) → sets_carry o ≡ false → 0 < length (register_code o frame d a b)
 code-some binary.Add frame d a b p = some-either ((d == a) || (d == b)) _ _ (some-either (d == b) _ _ (omega arith) (some-moved d a _ (omega arith))) (omega arith)
 code-some binary.And frame d a b p = some-either (d == b) _ _ (omega arith) (some-moved d a _ (omega arith))
 code-some binary.Or frame d a b p = some-either (d == b) _ _ (omega arith) (some-moved d a _ (omega arith))
@@ -131,14 +131,14 @@ code-some binary.Rsh frame d a b p = omega arith
 code-some binary.RshU frame d a b p = omega arith
 code-some o frame d a b p = omega arith
 
-carried-some : (o : BinaryOp) (frame d a b : ℕ) → is_carried o ≡ true → 0 < length (carried_register_code o frame d a b)
+carried-some : (o : BinaryOp) (frame d a b : ℕ) → sets_carry o ≡ true → 0 < length (carry_register_code o frame d a b)
 carried-some binary.Addc frame d a b is = some-either (d == b) _ _ (omega arith) (some-moved d a _ (omega arith))
 carried-some binary.Addx frame d a b is = some-either (d == b) _ _ (omega arith) (some-moved d a _ (omega arith))
 carried-some binary.Subc frame d a b is = some-either (d == b) _ _ (omega arith) (some-moved d a _ (omega arith))
 carried-some binary.Subx frame d a b is = some-either (d == b) _ _ (omega arith) (some-moved d a _ (omega arith))
 carried-some o frame d a b is = cc
 
-pub carried-needs : (o : BinaryOp) → is_carried o ≡ true → value_needs (op.Binary o last_operand.Register) ≡ []
+pub carried-needs : (o : BinaryOp) → sets_carry o ≡ true → value_needs (op.Binary o last_operand.Register) ≡ []
 carried-needs binary.Addc h = refl
 carried-needs binary.Addx h = refl
 carried-needs binary.Subc h = refl
@@ -171,19 +171,19 @@ binary-registers-carry code trash c i frame o d a b line live choices plain name
         absurd (ne (sym (same-register d s.register s.among ∙ s.is)))
     kept r free ne false e = refl
 
-pub carried-registers-carry : CarriedRegistersCarry
+pub carried-registers-carry : FlagRegistersCarry
 carried-registers-carry code trash c i frame o d a b line live choices carries named k =
     let n = binary_registers o d a b line in
     let rd = register_of X86_64 d in
     let ra = register_of X86_64 a in
     let rb = register_of X86_64 b in
-    let body = carried_register_code o frame rd ra rb in
+    let body = carry_register_code o frame rd ra rb in
     let none = carried-needs o carries in
     chosen-carries code trash c i frame n live choices body refl refl (λ r e. absurd (unnamed r (ap (λ needs. is_named needs r) (sym none) ∙ e))) (subst (λ needs. length needs ≤ 3) (sym none) (omega arith)) k
     (carried-makes c i frame o last_operand.Register d a (operand.Reg b) line named k.in_text choices body (carried-some o frame rd ra rb carries) carries
     (λ s q x y bit h ex ey ek.
     let eb : q.registers rb ≡ y = h.registers b y (reads-second o d a b line) ey in
-    subst (λ m. MakesCarried o body rd m y (bit_word bit) (holding q)) ex (subst (λ m. MakesCarried o body rd (q.registers ra) m (bit_word bit) (holding q)) eb
+    subst (λ m. MakesWithCarry o body rd m y (bit_word bit) (holding q)) ex (subst (λ m. MakesWithCarry o body rd (q.registers ra) m (bit_word bit) (holding q)) eb
     (carried-are-made frame rd ra rb (holding q) (register-not-frame d named) (register-portable d).no_stack (in-frame n frame s q h) o s.carry bit carries ek h.carry))))
   where
     unnamed : (r : ℕ) → is_named [] r ≡ true → ⊥

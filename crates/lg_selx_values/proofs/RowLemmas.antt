@@ -11,7 +11,7 @@ use Rattle.lg_op.specs.declared.op.ValueType.{ValueType}
 use Rattle.lg_op.specs.declared.op.ValueType.TheVariants as value_type
 use Rattle.lg_op.specs.declared.op.WideOp.{WideOp}
 use Rattle.lg_op.specs.declared.op.WideOp.TheVariants as wide
-use Rattle.lg_op.specs.Operators.{is_carried}
+use Rattle.lg_op.specs.Operators.{sets_carry}
 use Rattle.lg_x86.specs.declared.instruction.BareOp.TheVariants.{Cqo}
 use Rattle.lg_x86.specs.declared.instruction.Cond.{Cond}
 use Rattle.lg_x86.specs.declared.instruction.ImmOp.{ImmOp}
@@ -32,7 +32,7 @@ use Rattle.lg_sel.specs.Holes.{Each}
 use Rattle.lg_sel.proofs.ListLemmas.{each-append}
 use Rattle.lg_selx_values.specs.GoodItems.{Fine}
 use Rattle.lg_selx_values.specs.BinaryCode.{ordered, commuting, added, difference, product, answer, compared, shifted, divided, cond_of, register_code, with_number, is_near, added_number, less_number, compared_number, shifted_number, divided_number, number_form_code}
-use Rattle.lg_selx_values.specs.CarriedCode.{taken_away, carried_register_code, carried_number_code}
+use Rattle.lg_selx_values.specs.CarryCode.{taken_away, carry_register_code, carry_number_code}
 use Rattle.lg_selx_values.specs.Scratch.{moved, again}
 use Rattle.lg_selx_values.specs.UnaryCode.{unary_code, retval_code}
 use Rattle.lg_selx_values.specs.ValueItems.{binary_code, binary_number_code}
@@ -151,7 +151,7 @@ module _ (frame : ℕ) (P : Instr → Type 0) (S : ℕ → Type 0) (h : HoldsOfR
         record { each = (h.two alu.Mov 5 a rbp-fine fa.0, (h.two op 5 b rbp-fine fb.0, (h.two alu.Mov d 5 fd (omega arith), (h.again, tt)))); few = omega arith }
         (wider 2 4 (ordered op d a b) (omega arith) (ordered-made op))
 
-    carried-made : (o : BinaryOp) → Made 7 (carried_register_code o frame d a b)
+    carried-made : (o : BinaryOp) → Made 7 (carry_register_code o frame d a b)
     carried-made binary.Addc = wider 2 7 (commuting alu.Add d a b) (omega arith) (commuting-made alu.Add)
     carried-made binary.Addx = wider 2 7 (commuting alu.Adc d a b) (omega arith) (commuting-made alu.Adc)
     carried-made binary.Subc = wider 4 7 (taken_away alu.Sub frame d a b) (omega arith) (taken-made alu.Sub)
@@ -176,7 +176,7 @@ module _ (frame : ℕ) (P : Instr → Type 0) (S : ℕ → Type 0) (h : HoldsOfR
   register-made o d a b fd fa fb b4 = wider 3 7 (compared (cond_of o) d a b) (omega arith) (compared-made d a b fd fa fb (cond_of o))
 
   pub binary-made : (o : BinaryOp) (d a b : ℕ) → Fine d → Fine a → Fine b → b ≢ 4 → Made 7 (binary_code o frame d a b)
-  binary-made o d a b fd fa fb b4 = either 7 (is_carried o) (carried_register_code o frame d a b) (register_code o frame d a b) (carried-made d a b fd fa fb o) (register-made o d a b fd fa fb b4)
+  binary-made o d a b fd fa fb b4 = either 7 (sets_carry o) (carry_register_code o frame d a b) (register_code o frame d a b) (carried-made d a b fd fa fb o) (register-made o d a b fd fa fb b4)
 
   -- ---- a register and a number
   module _ (d a v : ℕ) (fd : Fine d) (fa : Fine a) (small : S v) where
@@ -218,7 +218,7 @@ module _ (frame : ℕ) (P : Instr → Type 0) (S : ℕ → Type 0) (h : HoldsOfR
     product-number-made =
         wider 4 6 _ (omega arith) (behind 3 d a (number_row 5 v ∷ (RegRm ext.Imul d 5 ∷ again frame)) fd fa.0 record { each = (h.number 5 v rbp-fine small, (h.ext ext.Imul d 5 fd (omega arith), (h.again, tt))); few = omega arith })
 
-    carried-number-made : (o : BinaryOp) → Made 6 (carried_number_code o frame d a v)
+    carried-number-made : (o : BinaryOp) → Made 6 (carry_number_code o frame d a v)
     carried-number-made binary.Addc = wider 4 6 (with_number imm.Addi alu.Add frame d a v) (omega arith) (number-made imm.Addi alu.Add)
     carried-number-made binary.Addx = wider 4 6 (with_number imm.Adci alu.Adc frame d a v) (omega arith) (number-made imm.Adci alu.Adc)
     carried-number-made binary.Subc = wider 4 6 (with_number imm.Subi alu.Sub frame d a v) (omega arith) (number-made imm.Subi alu.Sub)
@@ -251,7 +251,7 @@ module _ (frame : ℕ) (P : Instr → Type 0) (S : ℕ → Type 0) (h : HoldsOfR
     form-made o = compared-number-made d a v fd fa small (cond_of o)
 
     pub binary-number-made : (o : BinaryOp) → Made 6 (binary_number_code o frame d a v)
-    binary-number-made o = either 6 (is_carried o) (carried_number_code o frame d a v) (number_form_code o frame d a v) (carried-number-made d a v fd fa small o) (form-made o)
+    binary-number-made o = either 6 (sets_carry o) (carry_number_code o frame d a v) (number_form_code o frame d a v) (carried-number-made d a v fd fa small o) (form-made o)
 
   -- ---- one register
   pub unary-made : (o : portable.UnaryOp) (d a : ℕ) → Fine d → a < 16 → Made 3 (unary_code o d a)

@@ -1,5 +1,5 @@
 pub mod BinaryCode
-pub mod CarriedCode
+pub mod CarryCode
 pub mod GoodItems
 pub mod Items
 pub mod Needs

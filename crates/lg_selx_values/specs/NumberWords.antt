@@ -3,7 +3,7 @@ use Rattle.std.specs.Prelude.{◌≡◌, ◌≢◌, ℕ, ◌==◌, ◌||◌, ◌
 use Rattle.lg_op.specs.declared.op.BinaryOp.{BinaryOp}
 use Rattle.lg_op.specs.declared.op.BinaryOp.TheVariants as binary
 use Rattle.lg_op.specs.declared.op.WideOp.{WideOp}
-use Rattle.lg_op.specs.Operators.{binary_value, is_carried, wide_value}
+use Rattle.lg_op.specs.Operators.{binary_value, sets_carry, wide_value}
 use Rattle.lg_temp.specs.declared.choice.Choice.{Choice}
 use Rattle.lg_carry.specs.Nodes.Straight.{is_taken}
 use Rattle.lg_carry.specs.Values.Computers.{Held}
@@ -23,7 +23,7 @@ number_spoils o r = false
 abbrev pub NumbersAreMade : Type 0
 NumbersAreMade =
     (choices : List Choice) (frame d a v : ℕ) (q : Held) → d ≢ 5 → d ≢ 4 → v < 2 ^ 64 → IsInFrame frame q
-    → (o : BinaryOp) (z : ℕ) → is_carried o ≡ false → ((r : ℕ) → is_taken choices r ≡ false → r ≢ d → number_spoils o r ≡ false)
+    → (o : BinaryOp) (z : ℕ) → sets_carry o ≡ false → ((r : ℕ) → is_taken choices r ≡ false → r ≢ d → number_spoils o r ≡ false)
     → binary_value o (q.registers a) v ≡ Some z → MakesWord choices (number_form_code o frame d a v) d z q
 
 -- and that of an operation on a register and a number with two results gives two registers theirs

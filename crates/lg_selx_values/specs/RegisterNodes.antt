@@ -13,7 +13,7 @@ use Rattle.lg_op.specs.declared.operand.Reg.TheVariants.{Fp}
 use Rattle.lg_op.specs.declared.operand.Operand.{Operand}
 use Rattle.lg_op.specs.declared.operand.Operand.TheVariants as operand
 use Rattle.lg_meaning.specs.States.{State, value}
-use Rattle.lg_op.specs.Operators.{is_carried}
+use Rattle.lg_op.specs.Operators.{sets_carry}
 use Rattle.lg_node.specs.Preparations.{pushed}
 use Rattle.lg_temp.specs.declared.choice.Choice.{Choice}
 use Rattle.lg_temp.specs.Abis.{register_of}
@@ -29,7 +29,7 @@ use Rattle.lg_selx_values.specs.Processor.Numbers.{number_row}
 use Rattle.lg_selx_values.specs.Processor.Places.{IsInCode}
 use Rattle.lg_selx_values.specs.Processor.X86Rows.{x86_processor, x86_rows}
 use Rattle.lg_selx_values.specs.BinaryCode.{register_code, number_form_code}
-use Rattle.lg_selx_values.specs.CarriedCode.{carried_register_code, carried_number_code}
+use Rattle.lg_selx_values.specs.CarryCode.{carry_register_code, carry_number_code}
 use Rattle.lg_selx_values.specs.Needs.{value_needs}
 use Rattle.lg_selx_values.specs.UnaryCode.{unary_code, retval_code}
 use Rattle.lg_selx_values.specs.WideCode.{wide_code, wide_number_code}
@@ -53,17 +53,17 @@ wide_registers o d e a b line = wide_node o last_operand.Register d e a (operand
 abbrev pub BinaryRegistersCarry : Type 0
 BinaryRegistersCarry =
     (code : List ℕ) (trash : ℕ) (c : Code) (i frame : ℕ) (o : BinaryOp) (d a b : Reg) (line : ℕ) (live : Reg → Bool) (choices : List Choice)
-    → is_carried o ≡ false → d ≢ Fp
+    → sets_carry o ≡ false → d ≢ Fp
     → IsChosen code trash c i frame (binary_registers o d a b line) live choices
     (register_code o frame (register_of X86_64 d) (register_of X86_64 a) (register_of X86_64 b))
     → CarriesNode (x86_processor code trash) c i (binary_registers o d a b line) (numbered live)
 
-abbrev pub CarriedRegistersCarry : Type 0
-CarriedRegistersCarry =
+abbrev pub FlagRegistersCarry : Type 0
+FlagRegistersCarry =
     (code : List ℕ) (trash : ℕ) (c : Code) (i frame : ℕ) (o : BinaryOp) (d a b : Reg) (line : ℕ) (live : Reg → Bool) (choices : List Choice)
-    → is_carried o ≡ true → d ≢ Fp
+    → sets_carry o ≡ true → d ≢ Fp
     → IsChosen code trash c i frame (binary_registers o d a b line) live choices
-    (carried_register_code o frame (register_of X86_64 d) (register_of X86_64 a) (register_of X86_64 b))
+    (carry_register_code o frame (register_of X86_64 d) (register_of X86_64 a) (register_of X86_64 b))
     → CarriesNode (x86_processor code trash) c i (binary_registers o d a b line) (numbered live)
 
 abbrev pub WideRegistersCarry : Type 0
@@ -104,17 +104,17 @@ RetvalsCarry =
 abbrev pub BinaryNumbersCarry : Type 0
 BinaryNumbersCarry =
     (code : List ℕ) (trash : ℕ) (c : Code) (i frame : ℕ) (o : BinaryOp) (d a : Reg) (x : Operand) (v line : ℕ) (live : Reg → Bool) (choices : List Choice)
-    → is_carried o ≡ false → d ≢ Fp → v < 2 ^ 64 → ((s : State) → value c.addresses s x ≡ Some v)
+    → sets_carry o ≡ false → d ≢ Fp → v < 2 ^ 64 → ((s : State) → value c.addresses s x ≡ Some v)
     → IsChosen code trash c i frame (binary_node o last_operand.Immediate d a x line) live choices
     (number_form_code o frame (register_of X86_64 d) (register_of X86_64 a) v)
     → CarriesNode (x86_processor code trash) c i (binary_node o last_operand.Immediate d a x line) (numbered live)
 
-abbrev pub CarriedNumbersCarry : Type 0
-CarriedNumbersCarry =
+abbrev pub FlagNumbersCarry : Type 0
+FlagNumbersCarry =
     (code : List ℕ) (trash : ℕ) (c : Code) (i frame : ℕ) (o : BinaryOp) (d a : Reg) (x : Operand) (v line : ℕ) (live : Reg → Bool) (choices : List Choice)
-    → is_carried o ≡ true → d ≢ Fp → v < 2 ^ 64 → ((s : State) → value c.addresses s x ≡ Some v)
+    → sets_carry o ≡ true → d ≢ Fp → v < 2 ^ 64 → ((s : State) → value c.addresses s x ≡ Some v)
     → IsChosen code trash c i frame (binary_node o last_operand.Immediate d a x line) live choices
-    (carried_number_code o frame (register_of X86_64 d) (register_of X86_64 a) v)
+    (carry_number_code o frame (register_of X86_64 d) (register_of X86_64 a) v)
     → CarriesNode (x86_processor code trash) c i (binary_node o last_operand.Immediate d a x line) (numbered live)
 
 abbrev pub WideNumbersCarry : Type 0

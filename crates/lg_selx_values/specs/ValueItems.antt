@@ -10,7 +10,7 @@ use Rattle.lg_op.specs.declared.op.PlainOp.TheVariants as plain
 use Rattle.lg_op.specs.declared.node.Node.{Node}
 use Rattle.lg_op.specs.declared.operand.Operand.{Operand}
 use Rattle.lg_op.specs.declared.operand.Operand.TheVariants as operand
-use Rattle.lg_op.specs.Operators.{is_carried}
+use Rattle.lg_op.specs.Operators.{sets_carry}
 use Rattle.lg_temp.specs.declared.choice.Choice.{Choice}
 use Rattle.lg_temp.specs.declared.choice.Choice.TheVariants.{Free, Own, Spill}
 use Rattle.lg_temp.specs.Abis.{register_of}
@@ -25,7 +25,7 @@ use Rattle.lg_selx_values.specs.declared.items.Item.{Item}
 use Rattle.lg_selx_values.specs.declared.items.Item.TheVariants.{One, Address}
 use Rattle.lg_selx_values.specs.Items.{ones}
 use Rattle.lg_selx_values.specs.BinaryCode.{register_code, number_form_code}
-use Rattle.lg_selx_values.specs.CarriedCode.{carried_register_code, carried_number_code}
+use Rattle.lg_selx_values.specs.CarryCode.{carry_register_code, carry_number_code}
 use Rattle.lg_selx_values.specs.UnaryCode.{unary_code, retval_code}
 use Rattle.lg_selx_values.specs.WideCode.{wide_code, wide_number_code}
 
@@ -38,10 +38,10 @@ load_items t x = []
 
 -- d = a op b, and d = a op v, with the carry of the operations that set it
 abbrev pub binary_code : BinaryOp → ℕ → ℕ → ℕ → ℕ → List Instr
-binary_code o frame d a b = if is_carried o then carried_register_code o frame d a b else register_code o frame d a b
+binary_code o frame d a b = if sets_carry o then carry_register_code o frame d a b else register_code o frame d a b
 
 abbrev pub binary_number_code : BinaryOp → ℕ → ℕ → ℕ → ℕ → List Instr
-binary_number_code o frame d a v = if is_carried o then carried_number_code o frame d a v else number_form_code o frame d a v
+binary_number_code o frame d a v = if sets_carry o then carry_number_code o frame d a v else number_form_code o frame d a v
 
 -- d = a op x; labels are operands of `movi` alone
 abbrev pub binary_items : BinaryOp → ℕ → ℕ → ℕ → Operand → List Item

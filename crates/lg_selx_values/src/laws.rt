@@ -2,12 +2,12 @@
 
 ghost use Rattle.lg_selx_values.specs.NumberLaws.{NumberRowsAreMade};
 ghost use Rattle.lg_selx_values.specs.NumberWords.{NumbersAreMade, WideNumbersAreMade};
-ghost use Rattle.lg_selx_values.specs.RegisterNodes.{BinaryRegistersCarry, CarriedRegistersCarry, WideRegistersCarry};
-ghost use Rattle.lg_selx_values.specs.RegisterNodes.{BinaryNumbersCarry, CarriedNumbersCarry, WideNumbersCarry, UnariesCarry, MovisCarry, VaStartsCarry};
+ghost use Rattle.lg_selx_values.specs.RegisterNodes.{BinaryRegistersCarry, FlagRegistersCarry, WideRegistersCarry};
+ghost use Rattle.lg_selx_values.specs.RegisterNodes.{BinaryNumbersCarry, FlagNumbersCarry, WideNumbersCarry, UnariesCarry, MovisCarry, VaStartsCarry};
 ghost use Rattle.lg_selx_values.specs.RegisterNodes.{RetvalsCarry};
 ghost use Rattle.lg_selx_values.specs.ValueFits.{ChoicesHaveSlots, ValueItemsFit, ValueItemsName, ValueItemsStay};
 ghost use Rattle.lg_selx_values.specs.ValueLaws.{ValueNodesCarry};
-ghost use Rattle.lg_selx_values.specs.WordLaws.{BinariesAreMade, CarriedAreMade, WidePairsAreMade};
+ghost use Rattle.lg_selx_values.specs.WordLaws.{BinariesAreMade, CarryCodesAreMade, WidePairsAreMade};
 
 /// The code of an operation on two registers that sets no carry gives a register its word, whichever of the registers are equal.
 pub fn binaries_are_made()
@@ -15,8 +15,8 @@ pub fn binaries_are_made()
 {}
 
 /// That of an operation that sets the carry sets it too.
-pub fn carried_are_made()
-    ensures { CarriedAreMade }
+pub fn carry_codes_are_made()
+    ensures { CarryCodesAreMade }
 {}
 
 /// That of an operation with two results gives two registers their words.
@@ -30,8 +30,8 @@ pub fn binary_registers_are_carried()
 {}
 
 /// So is one that sets the carry.
-pub fn carried_registers_are_carried()
-    ensures { CarriedRegistersCarry }
+pub fn flag_registers_are_carried()
+    ensures { FlagRegistersCarry }
 {}
 
 /// So is one of one register.
@@ -75,8 +75,8 @@ pub fn binary_numbers_are_carried()
 {}
 
 /// So is one that sets the carry.
-pub fn carried_numbers_are_carried()
-    ensures { CarriedNumbersCarry }
+pub fn flag_numbers_are_carried()
+    ensures { FlagNumbersCarry }
 {}
 
 /// The code of an operation on a register and a number with two results gives two registers their words.

@@ -2,18 +2,18 @@
 
 ghost use Rattle.std.specs.Prelude.{◌≡◌, ◌+◌, ◌*◌, ◌<◌, ◌≤◌, [], ◌++◌, length};
 ghost use Rattle.lg_base.specs.declared.target.Target.TheVariants.{X86_64};
-ghost use Rattle.lg_op.specs.Operators.{is_carried};
+ghost use Rattle.lg_op.specs.Operators.{sets_carry};
 ghost use Rattle.lg_selx_values.specs.Items.{ones, words_in};
 ghost use Rattle.lg_carry.specs.Values.Parts.{register_for, HaveSlots};
 ghost use Rattle.lg_selx_values.specs.ValueItems.{load_items, binary_code, binary_number_code, binary_items, wide_items, body_items, saved_items, value_items};
 
 use crate::binary::{number_form_code, register_code};
-use crate::carried::{carried_number_code, carried_register_code};
+use crate::carry::{carry_number_code, carry_register_code};
 use crate::unary::{retval_code, unary_code};
 use crate::wide_values::{wide_code, wide_number_code};
 use crate::{Item, put_number, register_of, restore, save};
 use lg_carry::values::operand_in;
-use lg_op::operators::is_carried;
+use lg_op::operators::sets_carry;
 use lg_op::{BinaryOp, Label, Node, Op, Operand, PlainOp, Reg, WideOp};
 use lg_sel::Items;
 use lg_temp::{Choice, Choices};
@@ -48,8 +48,8 @@ fn binary_code(op: BinaryOp, frame: u32, d: u8, a: u8, b: u8, items: &mut Items<
     requires room { words_in items.old + 7 ≤ 64 }
     ensures { items.new ≡ items.old ++ ones (binary_code op frame d a b) }
 {
-    if is_carried(op) {
-        carried_register_code(op, frame, d, a, b, items);
+    if sets_carry(op) {
+        carry_register_code(op, frame, d, a, b, items);
     } else {
         register_code(op, frame, d, a, b, items);
     }
@@ -62,8 +62,8 @@ fn binary_number_code(op: BinaryOp, frame: u32, d: u8, a: u8, value: u64, items:
     requires room { words_in items.old + 6 ≤ 64 }
     ensures { items.new ≡ items.old ++ ones (binary_number_code op frame d a value) }
 {
-    if is_carried(op) {
-        carried_number_code(op, frame, d, a, value, items);
+    if sets_carry(op) {
+        carry_number_code(op, frame, d, a, value, items);
     } else {
         number_form_code(op, frame, d, a, value, items);
     }

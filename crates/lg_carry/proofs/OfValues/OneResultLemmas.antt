@@ -9,11 +9,11 @@ use Rattle.lg_op.specs.declared.operand.Reg.{Reg}
 use Rattle.lg_op.specs.declared.operand.Reg.TheVariants.{Fp}
 use Rattle.lg_op.specs.declared.operand.Operand.{Operand}
 use Rattle.lg_op.specs.declared.operand.Operand.TheVariants as operand
-use Rattle.lg_op.specs.Operators.{binary_value, is_carried, carry_in, carried_value, carried_out}
+use Rattle.lg_op.specs.Operators.{binary_value, sets_carry, carry_in, value_with_carry, carry_made}
 use Rattle.lg_live.specs.Registers.{is_same}
 use Rattle.lg_live.specs.Uses.{is_read, is_written}
 use Rattle.lg_meaning.specs.States.{State, reg, value}
-use Rattle.lg_meaning.specs.Steps.{Undefined, on, with_reg, bit_word, carried_to, binary_step, carried_step}
+use Rattle.lg_meaning.specs.Steps.{Undefined, on, with_reg, bit_word, goes_with_carry, binary_step, carry_step}
 use Rattle.lg_meaning.specs.Texts.{step}
 use Rattle.lg_temp.specs.Abis.{register_of}
 use Rattle.lg_carry.specs.FinalNodes.{Code}
@@ -22,15 +22,15 @@ use Rattle.lg_carry.specs.TextNodes.{IsInText}
 use Rattle.lg_carry.specs.Values.ValueNodes.{binary_node}
 use Rattle.lg_carry.specs.Values.Computers.{Held, Computer, computed, HeldRead, HeldTo, ComputingNode}
 use Rattle.lg_carry.proofs.OfNodes.RegisterLemmas.{same-self}
-use Rattle.lg_carry.specs.Values.Values.{ComputesInto, HoldsCarried, BinaryNodesCompute, CarriedNodesCompute}
+use Rattle.lg_carry.specs.Values.Values.{ComputesInto, HoldsWithCarry, BinaryNodesCompute, CarryNodesCompute}
 use Rattle.lg_carry.proofs.OfValues.ResultLemmas.{or-false, or-middle, step-is, TwoGiven, two-given, holds-one, kept-apart}
 
 -- ---- the step
-plain-step : (c : Code) (o : BinaryOp) (s : State) (n : Node) → is_carried o ≡ false → (if is_carried o then carried_step c.addresses n o s else binary_step c.addresses n (binary_value o) s) ≡ binary_step c.addresses n (binary_value o) s
-plain-step c o s n plain = ap (λ z. if z then carried_step c.addresses n o s else binary_step c.addresses n (binary_value o) s) plain
+plain-step : (c : Code) (o : BinaryOp) (s : State) (n : Node) → sets_carry o ≡ false → (if sets_carry o then carry_step c.addresses n o s else binary_step c.addresses n (binary_value o) s) ≡ binary_step c.addresses n (binary_value o) s
+plain-step c o s n plain = ap (λ z. if z then carry_step c.addresses n o s else binary_step c.addresses n (binary_value o) s) plain
 
 -- a node whose code makes the word of the operation from the two words that are given
-module _ {Q I : Type 0} (M : Computer Q I) (scratch : ℕ → Bool) (c : Code) (i : ℕ) (o : BinaryOp) (last : LastOperand) (d a : Reg) (x : Operand) (line : ℕ) (plain : is_carried o ≡ false) (named : d ≢ Fp) (t : IsInText c i (binary_node o last d a x line))
+module _ {Q I : Type 0} (M : Computer Q I) (scratch : ℕ → Bool) (c : Code) (i : ℕ) (o : BinaryOp) (last : LastOperand) (d a : Reg) (x : Operand) (line : ℕ) (plain : sets_carry o ≡ false) (named : d ≢ Fp) (t : IsInText c i (binary_node o last d a x line))
     (choices : List Choice) (body : List I) (into : ComputesInto M scratch (d ∷ []) choices body)
     (makes : (s : State) (w : Held) (m k z : ℕ) → HeldRead M.rows.processor.target (binary_node o last d a x line) s w → w.registers (register_of M.rows.processor.target a) ≡ m → value c.addresses s x ≡ Some k → binary_value o m k ≡ Some z
     → (computed M.computed_by body w).registers (register_of M.rows.processor.target d) ≡ z) where
@@ -68,18 +68,18 @@ module _ {Q I : Type 0} (M : Computer Q I) (scratch : ℕ → Bool) (c : Code) (
       }
 
 -- ---- operations that set the carry
-only-carried : (c : Code) (o : BinaryOp) (s : State) (n : Node) → is_carried o ≡ true → (if is_carried o then carried_step c.addresses n o s else binary_step c.addresses n (binary_value o) s) ≡ carried_step c.addresses n o s
-only-carried c o s n h = ap (λ z. if z then carried_step c.addresses n o s else binary_step c.addresses n (binary_value o) s) h
+only-carried : (c : Code) (o : BinaryOp) (s : State) (n : Node) → sets_carry o ≡ true → (if sets_carry o then carry_step c.addresses n o s else binary_step c.addresses n (binary_value o) s) ≡ carry_step c.addresses n o s
+only-carried c o s n h = ap (λ z. if z then carry_step c.addresses n o s else binary_step c.addresses n (binary_value o) s) h
 
-module _ {Q I : Type 0} (M : Computer Q I) (scratch : ℕ → Bool) (c : Code) (i : ℕ) (o : BinaryOp) (last : LastOperand) (d a : Reg) (x : Operand) (line : ℕ) (carries : is_carried o ≡ true) (named : d ≢ Fp) (t : IsInText c i (binary_node o last d a x line))
+module _ {Q I : Type 0} (M : Computer Q I) (scratch : ℕ → Bool) (c : Code) (i : ℕ) (o : BinaryOp) (last : LastOperand) (d a : Reg) (x : Operand) (line : ℕ) (carries : sets_carry o ≡ true) (named : d ≢ Fp) (t : IsInText c i (binary_node o last d a x line))
     (choices : List Choice) (body : List I) (into : ComputesInto M scratch (d ∷ []) choices body)
     (makes : (s : State) (w : Held) (m k : ℕ) (bit : Bool) → HeldRead M.rows.processor.target (binary_node o last d a x line) s w → w.registers (register_of M.rows.processor.target a) ≡ m → value c.addresses s x ≡ Some k → carry_in o s.carry ≡ Some bit
-    → HoldsCarried M.rows.processor.target o (register_of M.rows.processor.target d) m k (bit_word bit) (computed M.computed_by body w)) where
+    → HoldsWithCarry M.rows.processor.target o (register_of M.rows.processor.target d) m k (bit_word bit) (computed M.computed_by body w)) where
   abbrev cn : Node
   cn = binary_node o last d a x line
 
   abbrev reached : State → ℕ → ℕ → Bool → State
-  reached s m k bit = carried_to s (operand.Reg d) (carried_value o m k (bit_word bit)) (carried_out o m k (bit_word bit))
+  reached s m k bit = goes_with_carry s (operand.Reg d) (value_with_carry o m k (bit_word bit)) (carry_made o m k (bit_word bit))
 
   abbrev CarriedGiven : State → Type 0
   CarriedGiven s = TwoGiven (reg s a) (value c.addresses s x) (λ m k. carry_in o s.carry) (reached s) (step c.nodes c.shape c.addresses s)
@@ -110,13 +110,13 @@ module _ {Q I : Type 0} (M : Computer Q I) (scratch : ℕ → Bool) (c : Code) (
             to = reached s g.x g.y g.v;
             goes = g.goes;
             on = record { at = refl; frame = refl; callers = refl; pushed = refl; mem = refl; mark = refl; data_size = refl; args_size = refl; answer = refl };
-            holds = holds-one M.rows.processor.target cn d named carried-writes s (reached s g.x g.y g.v) (carried_value o g.x g.y (bit_word g.v)) (computed M.computed_by body w) refl m.value m.carry;
+            holds = holds-one M.rows.processor.target cn d named carried-writes s (reached s g.x g.y g.v) (value_with_carry o g.x g.y (bit_word g.v)) (computed M.computed_by body w) refl m.value m.carry;
           }
 
 pub binary-nodes-compute : {Q I : Type 0} (M : Computer Q I) → BinaryNodesCompute M
 binary-nodes-compute M scratch c i o last d a x line choices body plain named t into makes =
     binary-computes M scratch c i o last d a x line plain named t choices body into makes
 
-pub carried-nodes-compute : {Q I : Type 0} (M : Computer Q I) → CarriedNodesCompute M
+pub carried-nodes-compute : {Q I : Type 0} (M : Computer Q I) → CarryNodesCompute M
 carried-nodes-compute M scratch c i o last d a x line choices body carries named t into makes =
     carried-computes M scratch c i o last d a x line carries named t choices body into makes

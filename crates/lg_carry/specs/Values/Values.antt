@@ -12,7 +12,7 @@ use Rattle.lg_op.specs.declared.operand.Operand.{Operand}
 use Rattle.lg_op.specs.declared.operand.Reg.{Reg}
 use Rattle.lg_op.specs.declared.operand.Reg.TheVariants.{Fp}
 use Rattle.lg_op.specs.declared.carry.Carry.{Carry}
-use Rattle.lg_op.specs.Operators.{binary_value, is_carried, carry_in, carried_value, carried_out, wide_value, unary_value, keeps_carry, extended_by_type}
+use Rattle.lg_op.specs.Operators.{binary_value, sets_carry, carry_in, value_with_carry, carry_made, wide_value, unary_value, keeps_carry, extended_by_type}
 use Rattle.lg_meaning.specs.States.{State, value}
 use Rattle.lg_meaning.specs.Steps.{bit_word}
 use Rattle.lg_temp.specs.Abis.{register_of}
@@ -45,9 +45,9 @@ KeepsCarry M body =
     → HoldsCarry M.rows.processor.target (computed M.computed_by body w).registers (carry_of (computed M.computed_by body w).flags) k
 
 -- what is held behind the code of an operation that sets the carry, for the bit that it takes
-pub record HoldsCarried (target : Target) (o : BinaryOp) (d x y c : ℕ) (u : Held) : Type 0 where
-  pub value : u.registers d ≡ carried_value o x y c
-  pub carry : HoldsCarry target u.registers (carry_of u.flags) (carried_out o x y c)
+pub record HoldsWithCarry (target : Target) (o : BinaryOp) (d x y c : ℕ) (u : Held) : Type 0 where
+  pub value : u.registers d ≡ value_with_carry o x y c
+  pub carry : HoldsCarry target u.registers (carry_of u.flags) (carry_made o x y c)
 
 -- two words are in their registers
 pub record HoldsPair (d e : ℕ) (p : ℕ × ℕ) (u : ℕ → ℕ) : Type 0 where
@@ -59,20 +59,20 @@ pub record HoldsPair (d e : ℕ) (p : ℕ × ℕ) (u : ℕ → ℕ) : Type 0 whe
 abbrev pub BinaryNodesCompute : {Q I : Type 0} → Computer Q I → Type 0
 BinaryNodesCompute {Q} {I} M =
     (scratch : ℕ → Bool) (c : Code) (i : ℕ) (o : BinaryOp) (last : LastOperand) (d a : Reg) (x : Operand) (line : ℕ) (choices : List Choice) (body : List I)
-    → is_carried o ≡ false → d ≢ Fp → IsInText c i (binary_node o last d a x line) → ComputesInto M scratch (d ∷ []) choices body
+    → sets_carry o ≡ false → d ≢ Fp → IsInText c i (binary_node o last d a x line) → ComputesInto M scratch (d ∷ []) choices body
     → ((s : State) (w : Held) (m k z : ℕ) → HeldRead M.rows.processor.target (binary_node o last d a x line) s w
     → w.registers (register_of M.rows.processor.target a) ≡ m → value c.addresses s x ≡ Some k → binary_value o m k ≡ Some z
     → (computed M.computed_by body w).registers (register_of M.rows.processor.target d) ≡ z)
     → ComputingNode M scratch c i (binary_node o last d a x line) choices body
 
 -- and the carry, where the operation sets it
-abbrev pub CarriedNodesCompute : {Q I : Type 0} → Computer Q I → Type 0
-CarriedNodesCompute {Q} {I} M =
+abbrev pub CarryNodesCompute : {Q I : Type 0} → Computer Q I → Type 0
+CarryNodesCompute {Q} {I} M =
     (scratch : ℕ → Bool) (c : Code) (i : ℕ) (o : BinaryOp) (last : LastOperand) (d a : Reg) (x : Operand) (line : ℕ) (choices : List Choice) (body : List I)
-    → is_carried o ≡ true → d ≢ Fp → IsInText c i (binary_node o last d a x line) → ComputesInto M scratch (d ∷ []) choices body
+    → sets_carry o ≡ true → d ≢ Fp → IsInText c i (binary_node o last d a x line) → ComputesInto M scratch (d ∷ []) choices body
     → ((s : State) (w : Held) (m k : ℕ) (bit : Bool) → HeldRead M.rows.processor.target (binary_node o last d a x line) s w
     → w.registers (register_of M.rows.processor.target a) ≡ m → value c.addresses s x ≡ Some k → carry_in o s.carry ≡ Some bit
-    → HoldsCarried M.rows.processor.target o (register_of M.rows.processor.target d) m k (bit_word bit) (computed M.computed_by body w))
+    → HoldsWithCarry M.rows.processor.target o (register_of M.rows.processor.target d) m k (bit_word bit) (computed M.computed_by body w))
     → ComputingNode M scratch c i (binary_node o last d a x line) choices body
 
 -- two words from two

@@ -1,7 +1,7 @@
 // The nodes whose code only computes, on every target. The functions do nothing: their contracts are the laws.
 
 ghost use Rattle.lg_carry.specs.Values.Computers.{Computer, IsComputer, ComputingNodesCompute};
-ghost use Rattle.lg_carry.specs.Values.Values.{BinaryNodesCompute, CarriedNodesCompute, WideNodesCompute, UnaryNodesCompute, MoviNodesCompute, VaStartNodesCompute};
+ghost use Rattle.lg_carry.specs.Values.Values.{BinaryNodesCompute, CarryNodesCompute, WideNodesCompute, UnaryNodesCompute, MoviNodesCompute, VaStartNodesCompute};
 ghost use Rattle.lg_carry.specs.Values.Values.{RetvalNodesCompute};
 ghost use Rattle.lg_carry.specs.Values.ValueNodes.{TypesExtend};
 
@@ -31,8 +31,8 @@ pub fn binary_nodes_compute<T: Computing>()
 {}
 
 /// So is one that sets the carry, by code that sets it too.
-pub fn carried_nodes_compute<T: Computing>()
-    ensures { CarriedNodesCompute T.computer }
+pub fn carry_nodes_compute<T: Computing>()
+    ensures { CarryNodesCompute T.computer }
 {}
 
 /// So is one with two results.

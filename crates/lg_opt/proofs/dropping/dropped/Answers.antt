@@ -32,5 +32,5 @@ returns c =
     let list = list-is l (stays l) now count are [] no_targets (λ i lt. refl) c.what_holds.ensures.placed (rewritten l (marked now) (target_in [])) refl in
     all-ok (λ r. r.nodes ≡ rewritten l (marked now) (target_in [])) (λ r. IsShapeOf r.nodes r.shape) (λ r. r.shape.taken ≡ c.args.shape.taken) (λ r. r.origin.items ≡ origins (marked now) (length now))
     (λ r. IsDroppedTo l c.args.shape r.nodes r.shape r.origin.items) c.remade.result
-    (λ r n s t o. record { nodes = n ∙ list; shaped = s; taken = t; from = o ∙ from-is l (stays l) now count are; })
+    (λ r n s t o. record { nodes = n ∙ list; shaped = s; taken = t; from = o ∙ from-is l (stays l) now count are })
     c.remade.ensures.nodes c.remade.ensures.shape c.remade.ensures.taken c.remade.ensures.origin

@@ -51,5 +51,5 @@ returns c =
     let list = list-is l (stays l) now count are c.deref-5.result.now targets (λ i lt. refl) c.what_holds.ensures.placed (rewritten l (marked now) targets) refl in
     all-ok (λ r. r.nodes ≡ rewritten l (marked now) targets) (λ r. IsShapeOf r.nodes r.shape) (λ r. r.shape.taken ≡ c.args.shape.taken) (λ r. r.origin.items ≡ origins (marked now) (length now))
     (λ r. IsThreadedTo l c.args.shape r.nodes r.shape r.origin.items) c.remade.result
-    (λ r n s t o. record { targets = targets; are = ok; nodes = n ∙ list; shaped = s; taken = t; from = o ∙ from-is l (stays l) now count are; })
+    (λ r n s t o. record { targets = targets; are = ok; nodes = n ∙ list; shaped = s; taken = t; from = o ∙ from-is l (stays l) now count are })
     c.remade.ensures.nodes c.remade.ensures.shape c.remade.ensures.taken c.remade.ensures.origin

@@ -10,7 +10,7 @@ use Rattle.lg_op.specs.declared.op.BinaryOp.{BinaryOp}
 use Rattle.lg_op.specs.declared.op.BinaryOp.TheVariants as binary
 use Rattle.lg_op.specs.declared.carry.Carry.{Carry}
 use Rattle.lg_op.specs.declared.carry.Carry.TheVariants as carry
-use Rattle.lg_op.specs.Operators.{is_carried, carry_in}
+use Rattle.lg_op.specs.Operators.{sets_carry, carry_in}
 use Rattle.lg_x86.specs.declared.instruction.Instr.{Instr}
 use Rattle.lg_x86.specs.declared.instruction.Instr.TheVariants.{RmReg}
 use Rattle.lg_x86.specs.declared.instruction.RmRegOp.{RmRegOp}
@@ -24,9 +24,9 @@ use Rattle.lg_carry.specs.Values.Computers.{Held}
 use Rattle.lg_selx_values.specs.Processor.MakingNodes.{scene}
 use Rattle.lg_selx_values.specs.Processor.Makings.{makes}
 use Rattle.lg_selx_values.specs.BinaryCode.{ordered, commuting}
-use Rattle.lg_selx_values.specs.CarriedCode.{taken_away, carried_register_code}
+use Rattle.lg_selx_values.specs.CarryCode.{taken_away, carry_register_code}
 use Rattle.lg_selx_values.specs.Scratch.{again}
-use Rattle.lg_selx_values.specs.WordLaws.{MakesCarried, CarriedAreMade}
+use Rattle.lg_selx_values.specs.WordLaws.{MakesWithCarry, CarryCodesAreMade}
 use Rattle.lg_selx_values.specs.Words.{MakesWord}
 use Rattle.lg_selx_values.proofs.AluLemmas.{alu-made, ordered-word, turned-word}
 use Rattle.lg_selx_values.proofs.BinaryCodeLemmas.{some-same}
@@ -131,22 +131,22 @@ module _ (frame d a b : ℕ) (q : Held) (d5 : d ≢ 5) (d4 : d ≢ 4) (words : (
   abbrev y : ℕ
   y = q.registers b
 
-  pub carried-word : (o : BinaryOp) (k : Carry) (c : Bool) → is_carried o ≡ true → carry_in o k ≡ Some c → HoldsCarry X86_64 q.registers (carry_of q.flags) k → MakesCarried o (carried_register_code o frame d a b) d x y (bit_word c) q
+  pub carried-word : (o : BinaryOp) (k : Carry) (c : Bool) → sets_carry o ≡ true → carry_in o k ≡ Some c → HoldsCarry X86_64 q.registers (carry_of q.flags) k → MakesWithCarry o (carry_register_code o frame d a b) d x y (bit_word c) q
   carried-word binary.Addc k c is e h =
       let z : false ≡ c = some-same false c e in
-      let m = as-left (carried_register_code binary.Addc frame d a b) d _ _ _ q (commuting-leaves alu.Add d a b false q refl refl (λ m n t. add-swap m n) (λ m n t. ap Some (swapped-carry m n 0))) (sum-word x y) in
-      subst (λ t. MakesCarried binary.Addc (carried_register_code binary.Addc frame d a b) d x y (bit_word t) q) z record { word = m.word; holds = m.carry_is }
+      let m = as-left (carry_register_code binary.Addc frame d a b) d _ _ _ q (commuting-leaves alu.Add d a b false q refl refl (λ m n t. add-swap m n) (λ m n t. ap Some (swapped-carry m n 0))) (sum-word x y) in
+      subst (λ t. MakesWithCarry binary.Addc (carry_register_code binary.Addc frame d a b) d x y (bit_word t) q) z record { word = m.word; holds = m.carry_is }
   carried-word binary.Addx k c is e h =
       let m = commuting-leaves alu.Adc d a b c q refl (taken-sum k c q.registers (carry_of q.flags) e h) (λ m n t. swapped-sum m n t) (λ m n t. ap Some (swapped-carry m n t)) in
       record { word = m.word; holds = m.carry_is }
   carried-word binary.Subc k c is e h =
       let z : false ≡ c = some-same false c e in
-      let m = as-left (carried_register_code binary.Subc frame d a b) d _ _ _ q (taken-word alu.Sub frame d a b false q refl refl d5 d4 pointer) (difference-word x y (words a) (words b)) in
-      subst (λ t. MakesCarried binary.Subc (carried_register_code binary.Subc frame d a b) d x y (bit_word t) q) z record { word = m.word; holds = m.carry_is }
+      let m = as-left (carry_register_code binary.Subc frame d a b) d _ _ _ q (taken-word alu.Sub frame d a b false q refl refl d5 d4 pointer) (difference-word x y (words a) (words b)) in
+      subst (λ t. MakesWithCarry binary.Subc (carry_register_code binary.Subc frame d a b) d x y (bit_word t) q) z record { word = m.word; holds = m.carry_is }
   carried-word binary.Subx k c is e h =
       let m = taken-word alu.Sbb frame d a b c q refl (taken-difference k c q.registers (carry_of q.flags) e h) d5 d4 pointer in
       record { word = m.word; holds = m.carry_is }
   carried-word o k c is e h = cc
 
-pub carried-are-made : CarriedAreMade
+pub carried-are-made : CarryCodesAreMade
 carried-are-made frame d a b q d5 d4 f o k c is e h = carried-word frame d a b q d5 d4 f.words f.pointer o k c is e h

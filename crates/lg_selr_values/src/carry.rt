@@ -2,7 +2,7 @@
 
 ghost use Rattle.std.specs.Prelude.{◌≡◌, ◌+◌, ◌≤◌, ◌++◌};
 ghost use Rattle.lg_selr_values.specs.Items.{ones, words_in};
-ghost use Rattle.lg_selr_values.specs.CarriedCode.{carried_code};
+ghost use Rattle.lg_selr_values.specs.CarryCode.{carry_code};
 
 use crate::{CARRY, Item, LINK, row};
 use lg_op::BinaryOp;
@@ -11,9 +11,9 @@ use lg_sel::Items;
 
 /// Appends the code of an operation that sets the carry, on `a` and the word in the link, into `d`, where `u` is a temporary: at most 5
 /// instructions, for which there is room. Of every other operation nothing is appended.
-pub fn carried_code(op: BinaryOp, u: u8, d: u8, a: u8, items: &mut Items<Item>)
+pub fn carry_code(op: BinaryOp, u: u8, d: u8, a: u8, items: &mut Items<Item>)
     requires { words_in items.old + 5 ≤ 64 }
-    ensures { items.new ≡ items.old ++ ones (carried_code op u d a) }
+    ensures { items.new ≡ items.old ++ ones (carry_code op u d a) }
 {
     match op {
         BinaryOp::Addc => items.all(&[

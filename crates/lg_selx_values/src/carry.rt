@@ -2,7 +2,7 @@
 
 ghost use Rattle.std.specs.Prelude.{◌≡◌, ◌+◌, ◌≤◌, ◌++◌};
 ghost use Rattle.lg_selx_values.specs.Items.{ones, words_in};
-ghost use Rattle.lg_selx_values.specs.CarriedCode.{taken_away, carried_register_code, carried_number_code};
+ghost use Rattle.lg_selx_values.specs.CarryCode.{taken_away, carry_register_code, carry_number_code};
 
 use crate::binary::{commuting, ordered, with_number};
 use crate::moves::{SCRATCH, again};
@@ -33,7 +33,7 @@ fn taken_away(op: RmRegOp, frame: u32, d: u8, a: u8, b: u8, items: &mut Items<It
 
 /// Appends the code of `d = a op b` with its carry: at most 4 instructions, for which there is room. Of an operation that sets no carry nothing
 /// is appended.
-pub(crate) fn carried_register_code(
+pub(crate) fn carry_register_code(
     op: BinaryOp,
     frame: u32,
     d: u8,
@@ -44,7 +44,7 @@ pub(crate) fn carried_register_code(
     requires low { 272 ≤ frame }
     requires high { frame ≤ 65808 }
     requires room { words_in items.old + 4 ≤ 64 }
-    ensures { items.new ≡ items.old ++ ones (carried_register_code op frame d a b) }
+    ensures { items.new ≡ items.old ++ ones (carry_register_code op frame d a b) }
 {
     match op {
         BinaryOp::Addc => commuting(RmRegOp::Add, d, a, b, items),
@@ -57,7 +57,7 @@ pub(crate) fn carried_register_code(
 
 /// Appends the code of `d = a op value` with its carry: at most 4 instructions, for which there is room. Of an operation that sets no carry
 /// nothing is appended.
-pub(crate) fn carried_number_code(
+pub(crate) fn carry_number_code(
     op: BinaryOp,
     frame: u32,
     d: u8,
@@ -68,7 +68,7 @@ pub(crate) fn carried_number_code(
     requires low { 272 ≤ frame }
     requires high { frame ≤ 65808 }
     requires room { words_in items.old + 4 ≤ 64 }
-    ensures { items.new ≡ items.old ++ ones (carried_number_code op frame d a value) }
+    ensures { items.new ≡ items.old ++ ones (carry_number_code op frame d a value) }
 {
     match op {
         BinaryOp::Addc => with_number(ImmOp::Addi, RmRegOp::Add, frame, d, a, value, items),

@@ -13,7 +13,7 @@ use Rattle.lg_op.specs.declared.operand.Reg.{Reg}
 use Rattle.lg_op.specs.declared.operand.Reg.TheVariants.{R0, R1, R2, V0, V1, V2, Fp}
 use Rattle.lg_op.specs.declared.operand.Operand.{Operand}
 use Rattle.lg_op.specs.declared.operand.Operand.TheVariants as operand
-use Rattle.lg_op.specs.Operators.{is_carried}
+use Rattle.lg_op.specs.Operators.{sets_carry}
 use Rattle.lg_node.specs.Preparations.{pushed}
 use Rattle.lg_cpu.specs.RvStep.{read}
 use Rattle.lg_live.specs.Registers.{is_same}
@@ -41,14 +41,14 @@ use Rattle.lg_selr_values.proofs.OfProcessor.RegisterLemmas.{read-of}
 use Rattle.lg_carry.proofs.OfNodes.RegisterLemmas.{stands-for, number-few, numbered-at, same-self}
 use Rattle.lg_selr_values.proofs.OfProcessor.IsaLemmas.{tried-saved}
 use Rattle.lg_selr_values.specs.Items.{settled, ones}
-use Rattle.lg_selr_values.specs.CarriedCode.{carried_code}
+use Rattle.lg_selr_values.specs.CarryCode.{carry_code}
 use Rattle.lg_carry.specs.Values.ValueNodes.{binary_node}
-use Rattle.lg_selr_values.specs.ValueItems.{value_needs, load_items, binary_items, second_items, carried_items, body_items, value_items}
+use Rattle.lg_selr_values.specs.ValueItems.{value_needs, load_items, binary_items, second_items, carry_items, body_items, value_items}
 use Rattle.lg_carry.specs.Nodes.Operands.{IsWord, AreWords}
 use Rattle.lg_selr_values.proofs.ImmediateLemmas.{is-load}
-use Rattle.lg_selr_values.proofs.CarriedCodeLemmas.{IsOtherThan}
+use Rattle.lg_selr_values.proofs.CarryCodeLemmas.{IsOtherThan}
 use Rattle.lg_selr_values.proofs.LoadCodeLemmas.{some-same}
-use Rattle.lg_selr_values.proofs.CarriedNodeLemmas.{IsTemporaryFor, HasTemporary, PutsSecond, second-register, second-loaded, carried-computes-node}
+use Rattle.lg_selr_values.proofs.CarryNodeLemmas.{IsTemporaryFor, HasTemporary, PutsSecond, second-register, second-loaded, carried-computes-node}
 use Rattle.lg_selr_values.proofs.SettledLemmas.{Settles, settles-ones, settles-append, settles-saved, IsCarried, carried-plain}
 use Rattle.lg_carry.specs.TextNodes.{IsInText}
 
@@ -90,17 +90,17 @@ abbrev pub HasForm : BinaryOp → LastOperand → Reg → Reg → Operand → �
 HasForm o last d a x line = (c : Code) → IsWord c.addresses x → HasSecond c (binary_node o last d a x line) x
 
 -- the items of an operation that sets the carry
-carry-items : (to : ℕ → ℕ) (o : BinaryOp) (u d a : ℕ) (x : Operand) (second : List Instr) → is_carried o ≡ true → Settles to (second_items x) second
-    → Settles to (if is_carried o then carried_items o u d a x else binary_items o d a x) (second ++ carried_code o u d a)
+carry-items : (to : ℕ → ℕ) (o : BinaryOp) (u d a : ℕ) (x : Operand) (second : List Instr) → sets_carry o ≡ true → Settles to (second_items x) second
+    → Settles to (if sets_carry o then carry_items o u d a x else binary_items o d a x) (second ++ carry_code o u d a)
 carry-items to o u d a x second carries h =
-    subst (λ items. Settles to items (second ++ carried_code o u d a)) (sym (ap (λ b. if b then carried_items o u d a x else binary_items o d a x) carries)) (settles-append to (second_items x) (ones (carried_code o u d a)) second (carried_code o u d a) h (settles-ones to (carried_code o u d a)))
+    subst (λ items. Settles to items (second ++ carry_code o u d a)) (sym (ap (λ b. if b then carry_items o u d a x else binary_items o d a x) carries)) (settles-append to (second_items x) (ones (carry_code o u d a)) second (carry_code o u d a) h (settles-ones to (carry_code o u d a)))
 
 -- without a temporary
-pub sum-carried : (o : BinaryOp) (last : LastOperand) (d a : Reg) (x : Operand) (line : ℕ) → is_carried o ≡ true → value_needs (op.Binary o last) ≡ [] → HasTemporary o d a 0 → ((r : ℕ) → IsOtherThan o 0 r) → d ≢ Fp → HasForm o last d a x line → IsCarried (binary_node o last d a x line)
+pub sum-carried : (o : BinaryOp) (last : LastOperand) (d a : Reg) (x : Operand) (line : ℕ) → sets_carry o ≡ true → value_needs (op.Binary o last) ≡ [] → HasTemporary o d a 0 → ((r : ℕ) → IsOtherThan o 0 r) → d ≢ Fp → HasForm o last d a x line → IsCarried (binary_node o last d a x line)
 sum-carried o last d a x line carries none temp other named form = carried-plain (binary_node o last d a x line) refl refl none
     (λ c i t words. let f = form c words.1.1.0 in
     record {
-      body = f.code ++ carried_code o 0 (register_of Riscv64 d) (register_of Riscv64 a);
+      body = f.code ++ carry_code o 0 (register_of Riscv64 d) (register_of Riscv64 a);
       settles = carry-items (slice_index c.addresses) o 0 (register_of Riscv64 d) (register_of Riscv64 a) x f.code carries f.settles;
       computes = carried-computes-node c i o last d a x line carries named t [] 0 temp (λ r e. other r) f.code f.word f.puts f.gives;
     })
@@ -151,7 +151,7 @@ not-taken a (Free x) r h off = λ e. absurd (grind (arith, off, e))
 not-taken a (Own x) r h off = absurd h.0
 not-taken a (Spill x k) r h off = λ e. absurd (grind (arith, off, e))
 
-module _ (o : BinaryOp) (last : LastOperand) (d a : Reg) (x : Operand) (line : ℕ) (carries : is_carried o ≡ true) (needs : value_needs (op.Binary o last) ≡ Any ∷ [])
+module _ (o : BinaryOp) (last : LastOperand) (d a : Reg) (x : Operand) (line : ℕ) (carries : sets_carry o ≡ true) (needs : value_needs (op.Binary o last) ≡ Any ∷ [])
     (temp : (u : ℕ) → IsTemporaryFor d a u → HasTemporary o d a u) (other : (u r : ℕ) → r ≢ u → IsOtherThan o u r) (named : d ≢ Fp)
     (writes : is_written (binary_node o last d a x line) d ≡ true) (reads : a ≢ Fp → is_read (binary_node o last d a x line) a ≡ true) (form : HasForm o last d a x line) where
   abbrev n : Node
@@ -165,7 +165,7 @@ module _ (o : BinaryOp) (last : LastOperand) (d a : Reg) (x : Operand) (line : �
   one-chosen code trash c i live staged (choice ∷ []) words chosen pushes t k =
       let f = form c words.1.1.0 in
       let u = taken_by choice in
-      let body = f.code ++ carried_code o u (register_of Riscv64 d) (register_of Riscv64 a) in
+      let body = f.code ++ carry_code o u (register_of Riscv64 d) (register_of Riscv64 a) in
       let items = settles-saved (slice_index c.addresses) code trash (choice ∷ []) (body_items n.op n.operands u) body (carry-items (slice_index c.addresses) o u (register_of Riscv64 d) (register_of Riscv64 a) x f.code carries f.settles) in
       computed-carries code trash c i n refl refl t live staged (Any ∷ []) (choice ∷ []) body (λ y e. cc) (omega arith) chosen pushes (subst (IsInCode code trash c i) (items.become (c.place i)) k)
       (carried-computes-node c i o last d a x line carries named t (choice ∷ []) u (temp u (is-temporary n d a live staged choice named writes reads chosen)) (λ r e. other u r (not-taken (around Riscv64 n live staged) choice r chosen e)) f.code f.word f.puts f.gives)

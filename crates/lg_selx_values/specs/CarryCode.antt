@@ -14,16 +14,16 @@ use Rattle.lg_selx_values.specs.BinaryCode.{ordered, commuting, with_number}
 abbrev pub taken_away : RmRegOp → ℕ → ℕ → ℕ → ℕ → List Instr
 taken_away op frame d a b = if d == b then RmReg alu.Mov 5 a ∷ RmReg op 5 b ∷ RmReg alu.Mov d 5 ∷ again frame else ordered op d a b
 
-abbrev pub carried_register_code : BinaryOp → ℕ → ℕ → ℕ → ℕ → List Instr
-carried_register_code binary.Addc frame d a b = commuting alu.Add d a b
-carried_register_code binary.Addx frame d a b = commuting alu.Adc d a b
-carried_register_code binary.Subc frame d a b = taken_away alu.Sub frame d a b
-carried_register_code binary.Subx frame d a b = taken_away alu.Sbb frame d a b
-carried_register_code o frame d a b = []
+abbrev pub carry_register_code : BinaryOp → ℕ → ℕ → ℕ → ℕ → List Instr
+carry_register_code binary.Addc frame d a b = commuting alu.Add d a b
+carry_register_code binary.Addx frame d a b = commuting alu.Adc d a b
+carry_register_code binary.Subc frame d a b = taken_away alu.Sub frame d a b
+carry_register_code binary.Subx frame d a b = taken_away alu.Sbb frame d a b
+carry_register_code o frame d a b = []
 
-abbrev pub carried_number_code : BinaryOp → ℕ → ℕ → ℕ → ℕ → List Instr
-carried_number_code binary.Addc frame d a v = with_number imm.Addi alu.Add frame d a v
-carried_number_code binary.Addx frame d a v = with_number imm.Adci alu.Adc frame d a v
-carried_number_code binary.Subc frame d a v = with_number imm.Subi alu.Sub frame d a v
-carried_number_code binary.Subx frame d a v = with_number imm.Sbbi alu.Sbb frame d a v
-carried_number_code o frame d a v = []
+abbrev pub carry_number_code : BinaryOp → ℕ → ℕ → ℕ → ℕ → List Instr
+carry_number_code binary.Addc frame d a v = with_number imm.Addi alu.Add frame d a v
+carry_number_code binary.Addx frame d a v = with_number imm.Adci alu.Adc frame d a v
+carry_number_code binary.Subc frame d a v = with_number imm.Subi alu.Sub frame d a v
+carry_number_code binary.Subx frame d a v = with_number imm.Sbbi alu.Sbb frame d a v
+carry_number_code o frame d a v = []

@@ -1,5 +1,5 @@
 use Rattle.lg_selx_values.proofs.NumberNodeLemmas.{carried-numbers-carry}
-use Rattle.lg_selx_values.proofs.laws.carried_numbers_are_carried.Goals as goal
+use Rattle.lg_selx_values.proofs.laws.flag_numbers_are_carried.Goals as goal
 
 pub returns : goal.returns
 returns c = carried-numbers-carry

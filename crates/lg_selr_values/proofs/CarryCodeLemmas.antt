@@ -4,14 +4,14 @@ use Rattle.std.specs.Prelude.{◌||◌, bit_or, if◌then◌else◌}
 use Rattle.lg_base.specs.Words.{add_words, sub_words, is_less, word_of_test, carry_out, borrow_out}
 use Rattle.lg_op.specs.declared.op.BinaryOp.{BinaryOp}
 use Rattle.lg_op.specs.declared.op.BinaryOp.TheVariants as binary
-use Rattle.lg_op.specs.Operators.{is_sum, carried_value}
+use Rattle.lg_op.specs.Operators.{is_sum, value_with_carry}
 use Rattle.lg_rv.specs.declared.instruction.Instr.TheVariants.{Reg}
 use Rattle.lg_rv.specs.declared.instruction.RegOp.TheVariants as row
 use Rattle.lg_cpu.specs.HostSteps.{put}
 use Rattle.lg_cpu.specs.RvStep.{read}
 use Rattle.lg_selr_values.specs.Processor.Computations.{all_compute, computed}
 use Rattle.lg_selr_values.proofs.OfProcessor.ComputationLemmas.{read-put, read-other, put-same, put-other}
-use Rattle.lg_selr_values.specs.CarriedCode.{carried_code}
+use Rattle.lg_selr_values.specs.CarryCode.{carry_code}
 
 -- ---- words
 sum-carry : (a b : ℕ) → a < 2 ^ 64 → b < 2 ^ 64 → word_of_test (is_less (add_words a b) b) ≡ word_of_test (carry_out a b 0)
@@ -49,13 +49,13 @@ abbrev pub carry_behind : BinaryOp → ℕ → ℕ → ℕ → Bool
 carry_behind o a b c = if is_sum o then carry_out a b c else borrow_out a b c
 
 -- the registers behind the code hold the word and the carry
-pub record HoldsCarried (o : BinaryOp) (d x y c : ℕ) (u : ℕ → ℕ) : Type 0 where
-  pub value : u d ≡ carried_value o x y c
+pub record HoldsWithCarry (o : BinaryOp) (d x y c : ℕ) (u : ℕ → ℕ) : Type 0 where
+  pub value : u d ≡ value_with_carry o x y c
   pub carry : u 31 ≡ word_of_test (carry_behind o x y c)
 
 -- the operations that take no carry
 module _ (u d a : ℕ) (d1 : d ≢ 1) (d31 : d ≢ 31) (d0 : d ≢ 0) (a31 : a ≢ 31) (w : ℕ → ℕ) (x y : ℕ) (xs : x < 2 ^ 64) (ys : y < 2 ^ 64) (ex : read w a ≡ x) (ey : w 1 ≡ y) where
-  addc-behind : computed (carried_code binary.Addc u d a) w ≡ put (put w d (add_words x y)) 31 (word_of_test (is_less (add_words x y) y))
+  addc-behind : computed (carry_code binary.Addc u d a) w ≡ put (put w d (add_words x y)) 31 (word_of_test (is_less (add_words x y) y))
   addc-behind =
       let w1 = put w d (add_words x y) in
       let e1 : put w d (add_words (read w a) (w 1)) ≡ w1 = λ i. put w d (add_words (ex i) (ey i)) in
@@ -63,13 +63,13 @@ module _ (u d a : ℕ) (d1 : d ≢ 1) (d31 : d ≢ 31) (d0 : d ≢ 0) (a31 : a �
       let r2 : w1 1 ≡ y = put-other w d (add_words x y) 1 (λ e. d1 (sym e)) ∙ ey in
       ap (λ v. computed (Reg row.Sltu 31 d 1 ∷ []) v) e1 ∙ (λ i. put w1 31 (word_of_test (is_less (r1 i) (r2 i))))
 
-  pub addc-holds : HoldsCarried binary.Addc d x y 0 (computed (carried_code binary.Addc u d a) w)
+  pub addc-holds : HoldsWithCarry binary.Addc d x y 0 (computed (carry_code binary.Addc u d a) w)
   addc-holds = record {
     value = ap (λ v. v d) addc-behind ∙ put-other (put w d (add_words x y)) 31 _ d d31 ∙ put-same w d (add_words x y) ∙ sum-value x y;
     carry = ap (λ v. v 31) addc-behind ∙ put-same (put w d (add_words x y)) 31 _ ∙ sum-carry x y xs ys;
   }
 
-  subc-behind : computed (carried_code binary.Subc u d a) w ≡ put (put w 31 (word_of_test (is_less x y))) d (sub_words x y)
+  subc-behind : computed (carry_code binary.Subc u d a) w ≡ put (put w 31 (word_of_test (is_less x y))) d (sub_words x y)
   subc-behind =
       let w1 = put w 31 (word_of_test (is_less x y)) in
       let e1 : put w 31 (word_of_test (is_less (read w a) (w 1))) ≡ w1 = λ i. put w 31 (word_of_test (is_less (ex i) (ey i))) in
@@ -77,7 +77,7 @@ module _ (u d a : ℕ) (d1 : d ≢ 1) (d31 : d ≢ 31) (d0 : d ≢ 0) (a31 : a �
       let r2 : w1 1 ≡ y = put-other w 31 (word_of_test (is_less x y)) 1 (λ e. absurd (omega (arith, e))) ∙ ey in
       ap (λ v. computed (Reg row.Sub d a 1 ∷ []) v) e1 ∙ (λ i. put w1 d (sub_words (r1 i) (r2 i)))
 
-  pub subc-holds : HoldsCarried binary.Subc d x y 0 (computed (carried_code binary.Subc u d a) w)
+  pub subc-holds : HoldsWithCarry binary.Subc d x y 0 (computed (carry_code binary.Subc u d a) w)
   subc-holds = record {
     value = ap (λ v. v d) subc-behind ∙ put-same (put w 31 (word_of_test (is_less x y))) d (sub_words x y) ∙ difference-value x y xs ys;
     carry = ap (λ v. v 31) subc-behind ∙ put-other (put w 31 (word_of_test (is_less x y))) d _ 31 (λ e. d31 (sym e)) ∙ put-same w 31 (word_of_test (is_less x y)) ∙ difference-carry x y;
@@ -114,7 +114,7 @@ module _ (u d a : ℕ) (u0 : u ≢ 0) (u1 : u ≢ 1) (u31 : u ≢ 31) (ud : u �
   abbrev t2 : ℕ
   t2 = word_of_test (is_less v k)
 
-  addx-behind : computed (carried_code binary.Addx u d a) w ≡ put (put (put (put (put w u s) 1 t1) d v) 31 t2) 31 (bit_or t2 t1)
+  addx-behind : computed (carry_code binary.Addx u d a) w ≡ put (put (put (put (put w u s) 1 t1) d v) 31 t2) 31 (bit_or t2 t1)
   addx-behind =
       let w1 = put w u s in
       let w2 = put w1 1 t1 in
@@ -138,7 +138,7 @@ module _ (u d a : ℕ) (u0 : u ≢ 0) (u1 : u ≢ 1) (u31 : u ≢ 31) (ud : u �
       ∙ ap (λ z. computed (Reg row.Or 31 31 1 ∷ []) z) e4
       ∙ (λ i. put w4 31 (bit_or (a4 i) (b4 i)))
 
-  pub addx-holds : HoldsCarried binary.Addx d x y k (computed (carried_code binary.Addx u d a) w)
+  pub addx-holds : HoldsWithCarry binary.Addx d x y k (computed (carry_code binary.Addx u d a) w)
   addx-holds =
       let w2 = put (put w u s) 1 t1 in
       record {
@@ -155,7 +155,7 @@ module _ (u d a : ℕ) (u0 : u ≢ 0) (u1 : u ≢ 1) (u31 : u ≢ 31) (ud : u �
   abbrev g : ℕ
   g = word_of_test (is_less f k)
 
-  subx-behind : computed (carried_code binary.Subx u d a) w ≡ put (put (put (put (put w u b) 1 f) d (sub_words f k)) 31 g) 31 (bit_or g b)
+  subx-behind : computed (carry_code binary.Subx u d a) w ≡ put (put (put (put (put w u b) 1 f) d (sub_words f k)) 31 g) 31 (bit_or g b)
   subx-behind =
       let w1 = put w u b in
       let w2 = put w1 1 f in
@@ -179,7 +179,7 @@ module _ (u d a : ℕ) (u0 : u ≢ 0) (u1 : u ≢ 1) (u31 : u ≢ 31) (ud : u �
       ∙ ap (λ z. computed (Reg row.Or 31 31 u ∷ []) z) e4
       ∙ (λ i. put w4 31 (bit_or (p4 i) (q4 i)))
 
-  pub subx-holds : HoldsCarried binary.Subx d x y k (computed (carried_code binary.Subx u d a) w)
+  pub subx-holds : HoldsWithCarry binary.Subx d x y k (computed (carry_code binary.Subx u d a) w)
   subx-holds =
       let w2 = put (put w u b) 1 f in
       record {
@@ -193,7 +193,7 @@ IsOtherThan binary.Addx u r = r ≢ u
 IsOtherThan binary.Subx u r = r ≢ u
 IsOtherThan o u r = Unit {0}
 
-pub carried-keeps : (o : BinaryOp) (u d a : ℕ) (w : ℕ → ℕ) (r : ℕ) → IsOtherThan o u r → r ≢ d → r ≢ 1 → r ≢ 31 → computed (carried_code o u d a) w r ≡ w r
+pub carried-keeps : (o : BinaryOp) (u d a : ℕ) (w : ℕ → ℕ) (r : ℕ) → IsOtherThan o u r → r ≢ d → r ≢ 1 → r ≢ 31 → computed (carry_code o u d a) w r ≡ w r
 carried-keeps binary.Addc u d a w r ru rd r1 r31 = put-other (put w d _) 31 _ r r31 ∙ put-other w d _ r rd
 carried-keeps binary.Subc u d a w r ru rd r1 r31 = put-other (put w 31 _) d _ r rd ∙ put-other w 31 _ r r31
 carried-keeps binary.Addx u d a w r ru rd r1 r31 =
@@ -202,6 +202,6 @@ carried-keeps binary.Subx u d a w r ru rd r1 r31 =
     put-other (put (put (put (put w u _) 1 _) d _) 31 _) 31 _ r r31 ∙ put-other (put (put (put w u _) 1 _) d _) 31 _ r r31 ∙ put-other (put (put w u _) 1 _) d _ r rd ∙ put-other (put w u _) 1 _ r r1 ∙ put-other w u _ r ru
 carried-keeps o u d a w r ru rd r1 r31 = refl
 
-pub carried-computes : (o : BinaryOp) (u d a : ℕ) → all_compute (carried_code o u d a) ≡ true
+pub carried-computes : (o : BinaryOp) (u d a : ℕ) → all_compute (carry_code o u d a) ≡ true
 carried-computes binary.Addc u d a = refl
 carried-computes o u d a = refl

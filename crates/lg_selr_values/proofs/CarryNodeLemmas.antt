@@ -13,7 +13,7 @@ use Rattle.lg_op.specs.declared.operand.Reg.TheVariants.{Fp}
 use Rattle.lg_op.specs.declared.operand.Operand.{Operand}
 use Rattle.lg_op.specs.declared.carry.Carry.{Carry}
 use Rattle.lg_op.specs.declared.carry.Carry.TheVariants as carry
-use Rattle.lg_op.specs.Operators.{is_carried, carry_in, carried_value, carried_out}
+use Rattle.lg_op.specs.Operators.{sets_carry, carry_in, value_with_carry, carry_made}
 use Rattle.lg_rv.specs.declared.instruction.Instr.{Instr}
 use Rattle.lg_rv.specs.declared.instruction.Instr.TheVariants.{Imm}
 use Rattle.lg_rv.specs.declared.instruction.ImmOp.TheVariants.{Addi}
@@ -34,10 +34,10 @@ use Rattle.lg_carry.specs.Values.Computers.{Held, HeldRead}
 use Rattle.lg_carry.specs.Values.Computers as computer
 use Rattle.lg_selr_values.proofs.OfProcessor.ComputationLemmas.{computed-append, all-compute-append, read-other, put-same, put-other}
 use Rattle.lg_selr_values.proofs.OfProcessor.RegisterLemmas.{register-apart, register-nonzero, read-of}
-use Rattle.lg_selr_values.specs.CarriedCode.{carried_code}
+use Rattle.lg_selr_values.specs.CarryCode.{carry_code}
 use Rattle.lg_carry.specs.Values.ValueNodes.{binary_node}
 use Rattle.lg_selr_values.proofs.LoadCodeLemmas.{some-same, read-small, LoadsWord, longer}
-use Rattle.lg_selr_values.proofs.CarriedCodeLemmas.{IsOtherThan, addc-holds, subc-holds, addx-holds, subx-holds, carried-keeps, carried-computes}
+use Rattle.lg_selr_values.proofs.CarryCodeLemmas.{IsOtherThan, addc-holds, subc-holds, addx-holds, subx-holds, carried-keeps, carried-computes}
 use Rattle.lg_carry.proofs.OfValues.OneResultLemmas.{carried-nodes-compute}
 use Rattle.lg_selr_values.proofs.UnaryCodeLemmas.{add-none}
 
@@ -69,8 +69,8 @@ taken-difference (carry.Difference b) bit w e h = let z : b ≡ bit = some-same 
 
 -- what is said of the registers behind the code, for the bit that is taken
 pub record HoldsResult (o : BinaryOp) (d x y c : ℕ) (u : ℕ → ℕ) : Type 0 where
-  pub value : u d ≡ carried_value o x y c
-  pub carry : HoldsCarry Riscv64 u None (carried_out o x y c)
+  pub value : u d ≡ value_with_carry o x y c
+  pub carry : HoldsCarry Riscv64 u None (carry_made o x y c)
 
 -- ---- the code, where the link holds the second word
 module _ (u : ℕ) (d a : Reg) (w : ℕ → ℕ) (x y : ℕ) (xs : x < 2 ^ 64) (ys : y < 2 ^ 64) (ex : read w (register_of Riscv64 a) ≡ x) (ey : w 1 ≡ y) where
@@ -80,15 +80,15 @@ module _ (u : ℕ) (d a : Reg) (w : ℕ → ℕ) (x y : ℕ) (xs : x < 2 ^ 64) (
   abbrev ra : ℕ
   ra = register_of Riscv64 a
 
-  code-holds : (o : BinaryOp) (k : Carry) (bit : Bool) → HasTemporary o d a u → is_carried o ≡ true → carry_in o k ≡ Some bit → HoldsCarry Riscv64 w None k → HoldsResult o rd x y (bit_word bit) (computed (carried_code o u rd ra) w)
+  code-holds : (o : BinaryOp) (k : Carry) (bit : Bool) → HasTemporary o d a u → sets_carry o ≡ true → carry_in o k ≡ Some bit → HoldsCarry Riscv64 w None k → HoldsResult o rd x y (bit_word bit) (computed (carry_code o u rd ra) w)
   code-holds binary.Addc k bit t h e c =
       let z : false ≡ bit = some-same false bit e in
       let m = addc-holds u rd ra (register-apart d).0 (register-apart d).1 (register-nonzero d) (register-apart a).1 w x y xs ys ex ey in
-      subst (λ b. HoldsResult binary.Addc rd x y (bit_word b) (computed (carried_code binary.Addc u rd ra) w)) z record { value = m.value; carry = m.carry }
+      subst (λ b. HoldsResult binary.Addc rd x y (bit_word b) (computed (carry_code binary.Addc u rd ra) w)) z record { value = m.value; carry = m.carry }
   code-holds binary.Subc k bit t h e c =
       let z : false ≡ bit = some-same false bit e in
       let m = subc-holds u rd ra (register-apart d).0 (register-apart d).1 (register-nonzero d) (register-apart a).1 w x y xs ys ex ey in
-      subst (λ b. HoldsResult binary.Subc rd x y (bit_word b) (computed (carried_code binary.Subc u rd ra) w)) z record { value = m.value; carry = m.carry }
+      subst (λ b. HoldsResult binary.Subc rd x y (bit_word b) (computed (carry_code binary.Subc u rd ra) w)) z record { value = m.value; carry = m.carry }
   code-holds binary.Addx k bit t h e c =
       let m = addx-holds u rd ra t.nonzero t.link t.carry t.written (register-apart d).0 (register-apart d).1 (register-nonzero d) (register-apart a).0 t.read w x y bit xs ys ex ey (taken-sum k bit w e c) in
       record { value = m.value; carry = m.carry }
@@ -113,7 +113,7 @@ pub second-loaded : (load : List Instr) (v : ℕ) → LoadsWord load 1 v → Put
 second-loaded load v l = record { computes = l.computes; value = λ w words. l.value w; keeps = λ w r ne. ap (λ u. u r) (l.value w) ∙ put-other w 1 v r ne; some = l.some; small = λ w words. l.small }
 
 -- ---- the nodes
-module _ (c : Code) (i : ℕ) (o : BinaryOp) (last : LastOperand) (d a : Reg) (x : Operand) (line : ℕ) (carries : is_carried o ≡ true) (named : d ≢ Fp) (t : IsInText c i (binary_node o last d a x line))
+module _ (c : Code) (i : ℕ) (o : BinaryOp) (last : LastOperand) (d a : Reg) (x : Operand) (line : ℕ) (carries : sets_carry o ≡ true) (named : d ≢ Fp) (t : IsInText c i (binary_node o last d a x line))
     (choices : List Choice) (u : ℕ) (temp : HasTemporary o d a u) (other : (r : ℕ) → is_taken choices r ≡ false → IsOtherThan o u r)
     (second : List Instr) (y : (ℕ → ℕ) → ℕ) (puts : PutsSecond second y)
     (gives : (s : State) (w : Held) (k : ℕ) → HeldRead Riscv64 (binary_node o last d a x line) s w → value c.addresses s x ≡ Some k → y w.registers ≡ k) where
@@ -127,10 +127,10 @@ module _ (c : Code) (i : ℕ) (o : BinaryOp) (last : LastOperand) (d a : Reg) (x
   from = register_of Riscv64 a
 
   abbrev body : List Instr
-  body = second ++ carried_code o u to from
+  body = second ++ carry_code o u to from
 
-  before : (w : ℕ → ℕ) → ((r : ℕ) → w r < 2 ^ 64) → computed body w ≡ computed (carried_code o u to from) (put w 1 (y w))
-  before w words = computed-append second (carried_code o u to from) w ∙ ap (computed (carried_code o u to from)) (puts.value w words)
+  before : (w : ℕ → ℕ) → ((r : ℕ) → w r < 2 ^ 64) → computed body w ≡ computed (carry_code o u to from) (put w 1 (y w))
+  before w words = computed-append second (carry_code o u to from) w ∙ ap (computed (carry_code o u to from)) (puts.value w words)
 
   made : (s : State) (w : Held) (m k : ℕ) (bit : Bool) → HeldRead Riscv64 n s w → w.registers from ≡ m → value c.addresses s x ≡ Some k → carry_in o s.carry ≡ Some bit → HoldsResult o to m k (bit_word bit) (computed body w.registers)
   made s w m k bit h em ek eb =
@@ -147,14 +147,14 @@ module _ (c : Code) (i : ℕ) (o : BinaryOp) (last : LastOperand) (d a : Reg) (x
   pub carried-computes-node : IsComputed c i n choices body
   carried-computes-node code trash = carried-nodes-compute (rv_computer code trash) rv_scratch c i o last d a x line choices body carries named t
       (into code trash (d ∷ []) choices body record {
-        some = longer second (carried_code o u to from) puts.some;
-        computes = all-compute-append second (carried_code o u to from) puts.computes (carried-computes o u to from);
-        keeps = λ w r apart taken link carry. ap (λ z. z r) (computed-append second (carried_code o u to from) w) ∙ carried-keeps o u to from (computed second w) r (other r taken) apart.0 link carry ∙ puts.keeps w r link;
+        some = longer second (carry_code o u to from) puts.some;
+        computes = all-compute-append second (carry_code o u to from) puts.computes (carried-computes o u to from);
+        keeps = λ w r apart taken link carry. ap (λ z. z r) (computed-append second (carry_code o u to from) w) ∙ carried-keeps o u to from (computed second w) r (other r taken) apart.0 link carry ∙ puts.keeps w r link;
       })
       (λ s w m k bit h em ek eb.
       let e = made s w m k bit h em ek eb in
       let end = computer.computed held_by body w in
       record {
-        value = held-at body w to (carried_value o m k (bit_word bit)) e.value;
-        carry = carry-again (carried_out o m k (bit_word bit)) (computed body w.registers) end.registers None (carry_of end.flags) (held-at body w 31 (computed body w.registers 31) refl) e.carry;
+        value = held-at body w to (value_with_carry o m k (bit_word bit)) e.value;
+        carry = carry-again (carry_made o m k (bit_word bit)) (computed body w.registers) end.registers None (carry_of end.flags) (held-at body w 31 (computed body w.registers 31) refl) e.carry;
       })
