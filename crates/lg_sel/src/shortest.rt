@@ -107,7 +107,8 @@ pub fn shortest_items<E: Emitter>(
         → length buf.now.bytes ≤ most_code → IsLeast (λ r. Each (Leads buf.now) (fixes_of E.Item.holes (length buf.now.bytes)
         (E.items_of homes r node.now frame choices.now staged.now.arguments (length buf.now.bytes)))) result }
     ensures ahead { (l : Label) → slice_get node.now.operands 0 ≡ Some (Operand.Label l) → place_of buf.now.labels l.0 ≡ None
-        → length buf.now.bytes ≤ most_code → IsLeastAhead (nat_le buf.now.size near_size) (λ r. Each (Leads buf.now) (fixes_of E.Item.holes (length buf.now.bytes)
+        → length buf.now.bytes ≤ most_code
+        → IsLeastAhead (nat_le buf.now.size near_size) (λ r. Each (Leads buf.now) (fixes_of E.Item.holes (length buf.now.bytes)
         (E.items_of homes r node.now frame choices.now staged.now.arguments (length buf.now.bytes)))) result }
 {
     let place = buf.here();
