@@ -2,8 +2,8 @@
 """Builds a program of this tree optimised and unproved, to measure a change before it is proved: unproved.py CRATE OUT.
 
 `rt try` makes one LLVM module of a program, with a check for each clause. This script keeps that module, takes the checks and the fills of fresh memory out of it, gives
-functions the hints to inline that their sources have, and compiles it by the kit's clang at -O3 to OUT/CRATE; OUT/module.ll stays. Some three minutes. The program counts 4
-to 6 of a hundred instructions more than the proved one (`valgrind --tool=callgrind`). What it does where a clause does not hold is anyone's guess. Not part of the gate.
+functions the hints to inline that their sources have, and compiles it by the kit's clang at -O3 to OUT/CRATE; OUT/module.ll stays. Some three minutes. The program counts some
+10 of a hundred instructions more than the proved one (`valgrind --tool=callgrind`). What it does where a clause does not hold is anyone's guess. Not part of the gate.
 """
 import os
 import pathlib
