@@ -55,6 +55,14 @@ fn operands(instr: &Instr) -> Operands {
         Instr::BranchIf { words, .. } => [Some(i64::from(words) * 4), None, None, None],
         Instr::BranchReg { rn, .. } => [Some(rn.into()), None, None, None],
         Instr::Nop => [None; 4],
+        Instr::Imm { .. } | Instr::Bitfield { .. } => two_numbers(instr),
+        Instr::Scaled { .. } | Instr::Unscaled { .. } => access(instr),
+    }
+}
+
+// The operands of a row with two numbers.
+fn two_numbers(instr: &Instr) -> Operands {
+    match *instr {
         Instr::Imm {
             rd,
             rn,
@@ -79,6 +87,13 @@ fn operands(instr: &Instr) -> Operands {
             Some(immr.into()),
             Some(imms.into()),
         ],
+        _ => [None; 4],
+    }
+}
+
+// The operands of a load or store with a displacement.
+fn access(instr: &Instr) -> Operands {
+    match *instr {
         Instr::Scaled { op, rt, rn, imm } => [
             Some(rt.into()),
             Some(rn.into()),
@@ -91,6 +106,7 @@ fn operands(instr: &Instr) -> Operands {
             Some(imm.into()),
             None,
         ],
+        _ => [None; 4],
     }
 }
 
