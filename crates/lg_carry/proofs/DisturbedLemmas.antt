@@ -4,15 +4,16 @@ use Rattle.lg_base.specs.HostNames.{host_by_address}
 use Rattle.lg_base.specs.Runs.{Status, Running, Ended, Bad, iter}
 use Rattle.lg_base.specs.declared.target.Target.{Target}
 use Rattle.lg_base.specs.declared.target.Target.TheVariants.{X86_64, Aarch64, Riscv64}
-use Rattle.lg_carry.specs.Carries.{BeginsInside, IsHostStep, KeepsOutside, Meets, Leads}
+use Rattle.std.specs.Prelude.{slice_get}
+use Rattle.lg_carry.specs.Carries.{moves_at, BeginsInside, IsHostStep, KeepsOutside, Meets, Leads}
 use Rattle.lg_carry.specs.FinalNodes.{Code}
 use Rattle.lg_carry.specs.Places.{ArePassedFew}
-use Rattle.lg_carry.specs.Processors.{Seen, IsSeen, Processor, zone, is_below, stack_of}
+use Rattle.lg_carry.specs.Processors.{Seen, IsSeen, Processor, zone, is_below, stack_of, DoesNotFall, DoesNotRise}
 use Rattle.lg_carry.specs.Stands.{Stands}
 use Rattle.lg_meaning.specs.States.{Frame, State}
 use Rattle.lg_meaning.specs.Steps.{Outcome, Goes, Ends, Undefined}
 use Rattle.lg_carry.specs.Below.{LooksSame, Disturbs}
-use Rattle.lg_carry.specs.Disturbed.{AreSame, hidden_in, Overlooks, DoesNotFall, IsDisturber, next_of, disturbed, IsSteady, SteadyWaysLead}
+use Rattle.lg_carry.specs.Disturbed.{AreSame, hidden_in, Overlooks, IsDisturber, next_of, disturbed, IsSteady, SteadyWaysLead}
 use Rattle.lg_carry.proofs.BelowLemmas.{not-below, state-kept, touches-same}
 
 -- where the stack pointer does not fall, what did not count does not count
@@ -90,10 +91,21 @@ module _ {Q : Type 0} (P : Processor Q) where
         host : (j : ℕ) → j ≤ steps → IsHostStep c i steps j (P.seen (at j)) → IsHostStep c i steps j (P.seen (at' j).0)
         host j le h = (h.0, h.1, h.2, ap host_by_address (follows j le).0.look.pc ∙ h.3)
 
-        keeps : (j : ℕ) → j < steps → KeepsOutside P (at j) → KeepsOutside (disturbed P d) (at' j)
+        keeps : (moves : Bool) (j : ℕ) → j < steps → KeepsOutside P moves (at j) → KeepsOutside (disturbed P d) moves (at' j)
         unfolding iter
-        keeps j lt k r o =
+        keeps moves j lt k r o =
             ap (λ w. w r) (follows (suc j) (omega (arith, lt))).0.look.registers ∙ k r o ∙ sym (ap (λ w. w r) (follows j (omega (arith, lt))).0.look.registers)
+
+        level : (j : ℕ) → j ≤ steps → stack_of P.target (P.seen (at' j).0) ≡ stack_of P.target (P.seen (at j))
+        level j le = ap (λ w. stack_of P.target (record (P.seen (at j)) { registers = w })) (follows j le).0.look.registers
+
+        lowers : (j : ℕ) → j < steps → DoesNotRise P (at j) → DoesNotRise (disturbed P d) (at' j)
+        unfolding iter
+        lowers j lt h = let a = level j (omega (arith, lt)) in let b = level (suc j) (omega (arith, lt)) in omega (arith, h, a, b)
+
+        raises : (j : ℕ) → j < steps → DoesNotFall P (at j) → DoesNotFall (disturbed P d) (at' j)
+        unfolding iter
+        raises j lt h = let a = level j (omega (arith, lt)) in let b = level (suc j) (omega (arith, lt)) in omega (arith, h, a, b)
 
         meets : (o : Outcome) → Meets P c live after q o out (at steps) → Meets (disturbed P d) c live after (q, n) o out (at' steps)
         meets (Goes t bytes) st =
@@ -122,11 +134,18 @@ steady-leads P d c live after i next out q n disturbs few seen way steady = reco
       (λ b. inl (begins P d disturbs q n way.steps seen steady c live after i out few j (omega (arith, lt)) b))
       (λ h. inr (host P d disturbs q n way.steps seen steady c live after i out few j (omega (arith, lt)) h)) (way.inside j lt);
   outside = λ j lt. ⊎_elim
-      (λ k. inl (keeps P d disturbs q n way.steps seen steady c live after i out few j lt k))
+      (λ k. inl (keeps P d disturbs q n way.steps seen steady c live after i out few (moves_at P.target (slice_get c.nodes.nodes i)) j lt k))
       (λ h. inr (host P d disturbs q n way.steps seen steady c live after i out few j (omega (arith, lt)) h)) (way.outside j lt);
   above = λ j lt. ⊎_elim
       (λ a. inl (touches-same P _ (iter P.machine.step j q) (iter (disturbed P d).machine.step j (q, n)).0 (follows P d disturbs q n way.steps seen steady j (omega (arith, lt))).0.look a))
       (λ h. inr (host P d disturbs q n way.steps seen steady c live after i out few j (omega (arith, lt)) h)) (way.above j lt);
+  falls = λ e j lt. ⊎_elim
+      (λ k. inl (lowers P d disturbs q n way.steps seen steady c live after i out few j lt k))
+      (λ h. inr (host P d disturbs q n way.steps seen steady c live after i out few j (omega (arith, lt)) h)) (way.falls e j lt);
+  ahead = λ e j some lt. ⊎_elim
+      (λ k. let same = (follows P d disturbs q n way.steps seen steady j (omega (arith, lt))).0.look.pc in inl (omega (arith, k, same)))
+      (λ h. inr (host P d disturbs q n way.steps seen steady c live after i out few j (omega (arith, lt)) h)) (way.ahead e j some lt);
+  rises = λ e j lt. raises P d disturbs q n way.steps seen steady c live after i out few j lt (way.rises e j lt);
   none = way.none;
   some = way.some;
   way = λ j lt. let e = (follows P d disturbs q n way.steps seen steady j (omega (arith, lt))).0.out in

@@ -1,22 +1,32 @@
 -- The way of a node that lets the stack pointer fall leads there with changes below the stack pointer too: such a change might have come before the node.
 use Rattle.std.proofs.Common.{◌≡◌, ℕ, zero, suc, ◌+◌, ◌-◌, ◌^◌, ◌<◌, ◌≤◌, ◌⊎◌, inl, inr, Bool, true, false, List, ◌++◌, Option, refl, sym, ap, ◌∙◌, subst, arith, ⊎_elim}
-use Rattle.std.specs.Prelude.{if◌then◌else◌, is_some, Some}
+use Rattle.std.specs.Prelude.{◌||◌, if◌then◌else◌, is_some, Some, None, length, slice_get}
+use Rattle.std.proofs.lemmas.Bool.{cases_lt}
 use Rattle.lg_base.specs.HostNames.{host_by_address}
 use Rattle.lg_base.specs.Parts.{heap_base, stack_base}
 use Rattle.lg_base.specs.Runs.{Status, Running, Ended, Bad, iter}
 use Rattle.lg_base.specs.declared.target.Target.{Target}
 use Rattle.lg_base.specs.declared.target.Target.TheVariants.{X86_64, Aarch64, Riscv64}
 use Rattle.lg_cells.specs.Cells.{within}
-use Rattle.lg_carry.specs.Carries.{BeginsInside, IsHostStep, KeepsMemory, KeepsOutside, Meets, Leads}
+use Rattle.lg_carry.specs.Carries.{moves_at, sinks_at, rises_at, written, BeginsInside, IsHostStep, KeepsMemory, KeepsOutside, Meets, Leads}
 use Rattle.lg_carry.specs.FinalNodes.{Code}
-use Rattle.lg_carry.specs.Outside.{is_outside}
+use Rattle.lg_base.specs.Conventions.{stack_register}
+use Rattle.lg_base.specs.declared.host_name.HostName.{HostName}
+use Rattle.lg_meaning.specs.Fits.{is_call}
+use Rattle.lg_meaning.specs.Reaching.{is_return}
+use Rattle.lg_node.specs.Functions.{is_prolog}
+use Rattle.lg_op.specs.declared.node.Node.{Node}
+use Rattle.lg_op.specs.declared.op.ControlOp.TheVariants as control
+use Rattle.lg_op.specs.declared.op.Op.{Op}
+use Rattle.lg_op.specs.declared.op.Op.TheVariants as op
+use Rattle.lg_op.specs.declared.op.PlainOp.TheVariants as plain
 use Rattle.lg_carry.specs.Places.{ArePassedFew}
-use Rattle.lg_carry.specs.Processors.{Seen, IsSeen, TouchesAbove, Processor, zone, is_below, stack_of}
+use Rattle.lg_carry.specs.Processors.{Seen, IsSeen, TouchesAbove, Processor, zone, is_below, stack_of, DoesNotRise}
 use Rattle.lg_carry.specs.Stands.{Stands}
 use Rattle.lg_meaning.specs.States.{Frame, State}
 use Rattle.lg_meaning.specs.Steps.{Outcome, Goes, Ends, Undefined}
 use Rattle.lg_carry.specs.Below.{LooksSame, Disturbs}
-use Rattle.lg_carry.specs.Disturbed.{AreSame, hidden_in, IsDisturber, next_of, disturbed, LeavesAlone, IsSinking, Patches, SinksTo, SinkingWaysLead}
+use Rattle.lg_carry.specs.Disturbed.{AreSame, hidden_in, IsDisturber, next_of, disturbed, LeavesAlone, IsSinking, Patches, SinksTo, LiesApart, SinkingWaysLead}
 use Rattle.lg_carry.proofs.BelowLemmas.{not-below, state-kept, stands-kept, touches-same}
 use Rattle.lg_carry.proofs.DisturbedLemmas.{same-more, same-self, disturbs-same, same-stack}
 
@@ -28,6 +38,17 @@ below-more Riscv64 s t a h e = grind (arith, h, e)
 off-more : (b c : Bool) → (b ≡ true → c ≡ true) → c ≡ false → b ≡ false
 off-more true c h e = let z : true ≡ false = sym (h refl) ∙ e in cc
 off-more false c h e = refl
+
+-- a node whose way sinks is no return
+sink-no-rise : (o : Op) → (is_prolog o || is_call o) ≡ true → is_return o ≡ true → ⊥
+sink-no-rise (op.Control control.Ret last) h k = cc
+sink-no-rise (op.Plain plain.Ret) h k = cc
+sink-no-rise (op.Plain plain.Epilog) h k = cc
+sink-no-rise o h k = cc
+
+sinks-no-rise : (o : Option Node) → sinks_at o ≡ true → rises_at o ≡ true → ⊥
+sinks-no-rise None h k = cc
+sinks-no-rise (Some n) h k = sink-no-rise n.op h k
 
 le-self : (x : ℕ) → x ≤ x
 le-self x = omega arith
@@ -183,8 +204,9 @@ module _ {Q : Type 0} (P : Processor Q) where
 
   -- ---- the processor with changes
   module _ (d : ℕ → Q → Q) (c : Code) (live : Frame → ℕ → Bool) (after : State → ℕ → Bool) (i : ℕ) (s : State) (S : ℕ → Bool) (next : Outcome) (out : List ℕ)
-      (steps n : ℕ) (q : Q) (pt : Patches P) (disturbs : IsDisturber P d) (few : ArePassedFew c.nodes.nodes) (st : Stands P c live s out q S)
-      (leads : (p : Q) → Stands P c live s out p S → SinksTo P c live after i next out steps p) where
+      (n : ℕ) (q : Q) (pt : Patches P) (disturbs : IsDisturber P d) (few : ArePassedFew c.nodes.nodes)
+      (falls-here : sinks_at (slice_get c.nodes.nodes i) ≡ true) (apart : LiesApart c i) (st : Stands P c live s out q S)
+      (leads : (p : Q) → Stands P c live s out p S → SinksTo P c live after i next out p) where
     abbrev step' : Q × ℕ → Q × ℕ
     step' = (disturbed P d).machine.step
 
@@ -194,27 +216,58 @@ module _ {Q : Type 0} (P : Processor Q) where
     goes : (x : Q × ℕ) → P.machine.status x.0 ≡ Running → step' x ≡ (d x.1 (P.machine.step x.0), suc x.1)
     goes x e = ap (λ z. next_of P d z x) e
 
-    -- a state at the node from which so many steps lead to the same without changes
+    -- where a way has gone on, no other way from a state that stands there has ended
+    goes-on : (p r : Q) (w : SinksTo P c live after i next out p) (v : SinksTo P c live after i next out r) → v.way.steps < w.way.steps
+        → (h : ℕ → Bool) → AreSame P h (iter P.machine.step v.way.steps p) (iter P.machine.step v.way.steps r) → ⊥
+    goes-on p r w v lt h same = by next v.way.there
+      where
+        runs : P.machine.status (iter P.machine.step v.way.steps p) ≡ Running
+        runs = w.sinks.runs v.way.steps lt
+
+        not-there : (k : ℕ) → k < length c.nodes.nodes → (P.seen (iter P.machine.step v.way.steps p)).pc ≡ c.place k → ⊥
+        not-there k within here =
+            let a = apart k within in
+            let host : IsHostStep c i w.way.steps v.way.steps (P.seen (iter P.machine.step v.way.steps p)) → ⊥ =
+                λ z. no-host (sym (ap host_by_address here ∙ a.1) ∙ z.3) in
+            ⊎_elim (λ (b : BeginsInside c i (P.seen (iter P.machine.step v.way.steps p))). ⊎_elim
+                (λ (up : c.place i < (P.seen (iter P.machine.step v.way.steps p)).pc). ⊎_elim
+                    (λ (le : c.place k ≤ c.place i). absurd (omega (arith, le, here, up)))
+                    (λ (le : c.place (i + 1) ≤ c.place k). let z = b.1 in absurd (omega (arith, le, here, z))) a.0)
+                host (w.way.ahead falls-here v.way.steps v.some lt)) host (w.way.inside v.way.steps lt)
+          where
+            no-host : {name : HostName} → None ≡ Some name → ⊥
+            no-host e = cc
+
+        by : (x : Outcome) → Meets P c live after r x out (iter P.machine.step v.way.steps r) → ⊥
+        by (Goes t bytes) there = not-there t.at there.state.fits.inside (sym same.look.pc ∙ there.state.here)
+        by (Ends status) there = no-end (sym runs ∙ sym same.status ∙ there.0)
+          where
+            no-end : Running ≡ Ended status → ⊥
+            no-end e = cc
+        by Undefined there = there
+
+    -- a state at the node from which so many steps lead to the same without changes, and at least one leads on
     record Origin (j : ℕ) : Type 0 where
       pub from : Q
       pub stands : Stands P c live s out from S
       pub low : KeepsMemory (P.seen q) (P.seen from)
       pub same : AreSame P none (iter P.machine.step j from) (at' j).0
       pub seen : IsSeen (P.seen (at' j).0)
+      pub more : j < (leads from stands).way.steps
 
-    stepped : (j : ℕ) → j < steps → (o : Origin j) → AreSame P none (P.machine.step (iter P.machine.step j o.from)) (P.machine.step (at' j).0)
-    stepped j lt o = (leads o.from o.stands).sinks.alike j lt (at' j).0 o.same
+    stepped : (j : ℕ) → (o : Origin j) → AreSame P none (P.machine.step (iter P.machine.step j o.from)) (P.machine.step (at' j).0)
+    stepped j o = (leads o.from o.stands).sinks.alike j o.more (at' j).0 o.same
 
-    reaches : (j : ℕ) → j < steps → (o : Origin j) → at' (suc j) ≡ (d (at' j).1 (P.machine.step (at' j).0), suc (at' j).1)
+    reaches : (j : ℕ) → (o : Origin j) → at' (suc j) ≡ (d (at' j).1 (P.machine.step (at' j).0), suc (at' j).1)
     unfolding iter
-    reaches j lt o = goes (at' j) (o.same.status ∙ (leads o.from o.stands).sinks.runs j lt)
+    reaches j o = goes (at' j) (o.same.status ∙ (leads o.from o.stands).sinks.runs j o.more)
 
     -- behind a step and the change behind it
-    behind-step : (j : ℕ) → j < steps → (o : Origin j)
+    behind-step : (j : ℕ) → (o : Origin j)
         → AreSame P (hidden_in P (iter P.machine.step (suc j) o.from)) (iter P.machine.step (suc j) o.from) (d (at' j).1 (P.machine.step (at' j).0))
     unfolding iter
-    behind-step j lt o =
-        let more = stepped j lt o in
+    behind-step j o =
+        let more = stepped j o in
         let v = d (at' j).1 (P.machine.step (at' j).0) in
         let change = disturbs (at' j).1 (P.machine.step (at' j).0) in
         let h = hidden_in P (iter P.machine.step (suc j) o.from) in
@@ -222,23 +275,25 @@ module _ {Q : Type 0} (P : Processor Q) where
         same-more P none h (P.machine.step (iter P.machine.step j o.from)) (P.machine.step (at' j).0) v (λ a e. refl) more
         (subst (λ z. AreSame P (is_below P.target z) (P.machine.step (at' j).0) v) level (disturbs-same P (P.machine.step (at' j).0) v change))
 
-    behind-seen : (j : ℕ) → j < steps → (o : Origin j) → IsSeen (P.seen (iter P.machine.step (suc j) o.from))
+    behind-seen : (j : ℕ) → (o : Origin j) → IsSeen (P.seen (iter P.machine.step (suc j) o.from))
         → IsSeen (P.seen (d (at' j).1 (P.machine.step (at' j).0)))
     unfolding iter
-    behind-seen j lt o seen = (disturbs (at' j).1 (P.machine.step (at' j).0)).seen
-        (same-seen (P.machine.step (iter P.machine.step j o.from)) (P.machine.step (at' j).0) (stepped j lt o) seen)
+    behind-seen j o seen = (disturbs (at' j).1 (P.machine.step (at' j).0)).seen
+        (same-seen (P.machine.step (iter P.machine.step j o.from)) (P.machine.step (at' j).0) (stepped j o) seen)
 
-    onward : (j : ℕ) → suc j < steps → Origin j → Origin (suc j)
+    onward : (j : ℕ) → (o : Origin j) → suc j < (leads o.from o.stands).way.steps → Origin (suc j)
     unfolding iter
-    onward j lt o =
-        let sinks = (leads o.from o.stands).sinks in
+    onward j o lt =
         let p = o.from in
+        let w = leads p o.stands in
+        let steps = w.way.steps in
+        let sinks = w.sinks in
         let v = d (at' j).1 (P.machine.step (at' j).0) in
         let h = hidden_in P (iter P.machine.step (suc j) p) in
-        let big : AreSame P h (iter P.machine.step (suc j) p) v = behind-step j (omega (arith, lt)) o in
+        let big : AreSame P h (iter P.machine.step (suc j) p) v = behind-step j o in
         let seen-here = same-seen (at' j).0 (iter P.machine.step j p) (same-back (iter P.machine.step j p) (at' j).0 o.same) o.seen in
         let step-seen = (sinks.leaves j (omega (arith, lt)) none (λ a e. cc) (iter P.machine.step j p) seen-here (same-self P none (iter P.machine.step j p))).1 in
-        let v-seen = behind-seen j (omega (arith, lt)) o step-seen in
+        let v-seen = behind-seen j o step-seen in
         let p' = with-bytes pt h p (P.seen v).bytes in
         let close = patched pt h p (P.seen v).bytes in
         let p-seen = patched-seen pt h p (P.seen v).bytes o.stands.state.seen v-seen.bytes v-seen.heap v-seen.stack in
@@ -255,11 +310,13 @@ module _ {Q : Type 0} (P : Processor Q) where
             flags = close.look.flags;
           };
         } in
+        let stands' = stands-kept P c live s out p p' S few o.stands kept in
+        let w' = leads p' stands' in
         let t = tracked p steps sinks (suc j) lt p' p-seen close (suc j) (omega arith) in
-        let e = reaches j (omega (arith, lt)) o in
+        let e = reaches j o in
         record {
           from = p';
-          stands = stands-kept P c live s out p p' S few o.stands kept;
+          stands = stands';
           low = record {
             bytes = λ a lt. close.look.bytes a (not-below P.target _ a (inl lt)) ∙ o.low.bytes a lt;
             mark = close.look.mark ∙ o.low.mark;
@@ -268,35 +325,89 @@ module _ {Q : Type 0} (P : Processor Q) where
               (alike h (iter P.machine.step (suc j) p) (iter P.machine.step (suc j) p') v t.0 big
               (λ a on. sym (t.2 a on ∙ patched-on pt h p (P.seen v).bytes a on)));
           seen = subst (λ x. IsSeen (P.seen x.0)) (sym e) v-seen;
+          more = ⊎_elim {C = suc j < w'.way.steps} (λ (more : suc j < w'.way.steps). more)
+              (λ (le : w'.way.steps ≤ suc j). absurd (goes-on p p' w w' (omega (arith, le, lt)) h
+              (tracked p steps sinks (suc j) lt p' p-seen close w'.way.steps le).0)) (cases_lt (suc j) w'.way.steps);
         }
 
-    origin : (j : ℕ) → j ≤ steps - 1 → Origin j
-    unfolding iter
-    origin zero le = record { from = q; stands = st; low = record { bytes = λ a lt. refl; mark = refl }; same = same-self P none q; seen = st.state.seen }
-    origin (suc j) le = onward j (omega (arith, le)) (origin j (omega (arith, le)))
-
     -- ---- the node
-    begins : (j k : ℕ) (o : Origin j) → k ≡ steps → BeginsInside c i (P.seen (iter P.machine.step j o.from)) ⊎ IsHostStep c i k j (P.seen (iter P.machine.step j o.from))
-        → BeginsInside c i (P.seen (at' j).0) ⊎ IsHostStep c i steps j (P.seen (at' j).0)
-    begins j k o same (inl b) = let e = o.same.look.pc in inl (omega (arith, b.0, e), omega (arith, b.1, e))
-    begins j k o same (inr h) = let last = h.1 in inr (h.0, omega (arith, last, same), h.2, ap host_by_address o.same.look.pc ∙ h.3)
+    abbrev moves : Bool
+    moves = moves_at P.target (slice_get c.nodes.nodes i)
 
-    keeps : (j k : ℕ) → j < steps → (o : Origin j) → k ≡ steps
-        → KeepsOutside P (iter P.machine.step j o.from) ⊎ IsHostStep c i k j (P.seen (iter P.machine.step j o.from))
-        → KeepsOutside (disturbed P d) (at' j) ⊎ IsHostStep c i steps j (P.seen (at' j).0)
+    -- what is said of a step of the way, or it is a host function's
+    OrHost : (j : ℕ) → (o : Origin j) → Type 0 → Type 0
+    OrHost j o T = T ⊎ IsHostStep c i (leads o.from o.stands).way.steps j (P.seen (at' j).0)
+
+    or-host : (j : ℕ) (o : Origin j) (T U : Type 0) → (T → U) → T ⊎ IsHostStep c i (leads o.from o.stands).way.steps j (P.seen (iter P.machine.step j o.from)) → OrHost j o U
+    unfolding OrHost
+    or-host j o T U f (inl t) = inl (f t)
+    or-host j o T U f (inr h) = inr (h.0, h.1, h.2, ap host_by_address o.same.look.pc ∙ h.3)
+
+    begins : (j : ℕ) (o : Origin j) → OrHost j o (BeginsInside c i (P.seen (at' j).0))
+    begins j o = or-host j o (BeginsInside c i (P.seen (iter P.machine.step j o.from))) (BeginsInside c i (P.seen (at' j).0))
+        (λ b. let e = o.same.look.pc in (omega (arith, b.0, e), omega (arith, b.1, e))) ((leads o.from o.stands).way.inside j o.more)
+
+    keeps : (j : ℕ) (o : Origin j) → OrHost j o (KeepsOutside (disturbed P d) moves (at' j))
     unfolding iter
-    keeps j k lt o same (inl kept) =
-        let change = disturbs (at' j).1 (P.machine.step (at' j).0) in
-        let e = reaches j lt o in
-        inl (λ r out-of. ap (λ x. (P.seen x.0).registers r) e ∙ ap (λ w. w r) change.look.registers ∙ ap (λ w. w r) (stepped j lt o).look.registers
-        ∙ kept r out-of ∙ sym (ap (λ w. w r) o.same.look.registers))
-    keeps j k lt o same (inr h) = let last = h.1 in inr (h.0, omega (arith, last, same), h.2, ap host_by_address o.same.look.pc ∙ h.3)
+    keeps j o = or-host j o (KeepsOutside P moves (iter P.machine.step j o.from)) (KeepsOutside (disturbed P d) moves (at' j)) (by j o) ((leads o.from o.stands).way.outside j o.more)
+      where
+        by : (j : ℕ) (o : Origin j) → KeepsOutside P moves (iter P.machine.step j o.from) → KeepsOutside (disturbed P d) moves (at' j)
+        by j o kept r out-of =
+            let change = disturbs (at' j).1 (P.machine.step (at' j).0) in
+            let e = reaches j o in
+            ap (λ x. (P.seen x.0).registers r) e ∙ ap (λ w. w r) change.look.registers ∙ ap (λ w. w r) (stepped j o).look.registers
+            ∙ kept r out-of ∙ sym (ap (λ w. w r) o.same.look.registers)
 
-    touches : (j k : ℕ) (o : Origin j) → k ≡ steps
-        → TouchesAbove P (iter P.machine.step j o.from) ⊎ IsHostStep c i k j (P.seen (iter P.machine.step j o.from))
-        → TouchesAbove (disturbed P d) (at' j) ⊎ IsHostStep c i steps j (P.seen (at' j).0)
-    touches j k o same (inl a) = inl (touches-same P none (iter P.machine.step j o.from) (at' j).0 o.same.look a)
-    touches j k o same (inr h) = let last = h.1 in inr (h.0, omega (arith, last, same), h.2, ap host_by_address o.same.look.pc ∙ h.3)
+    touches : (j : ℕ) (o : Origin j) → OrHost j o (TouchesAbove (disturbed P d) (at' j))
+    touches j o = or-host j o (TouchesAbove P (iter P.machine.step j o.from)) (TouchesAbove (disturbed P d) (at' j))
+        (touches-same P none (iter P.machine.step j o.from) (at' j).0 o.same.look) ((leads o.from o.stands).way.above j o.more)
+
+    lowers : (j : ℕ) (o : Origin j) → OrHost j o (DoesNotRise (disturbed P d) (at' j))
+    unfolding iter
+    lowers j o = or-host j o (DoesNotRise P (iter P.machine.step j o.from)) (DoesNotRise (disturbed P d) (at' j)) (by j o) ((leads o.from o.stands).way.falls falls-here j o.more)
+      where
+        by : (j : ℕ) (o : Origin j) → DoesNotRise P (iter P.machine.step j o.from) → DoesNotRise (disturbed P d) (at' j)
+        by j o h =
+            let change = disturbs (at' j).1 (P.machine.step (at' j).0) in
+            let e : stack_of P.target (P.seen (at' (suc j)).0) ≡ stack_of P.target (P.seen (d (at' j).1 (P.machine.step (at' j).0))) = ap (λ x. stack_of P.target (P.seen x.0)) (reaches j o) in
+            let changed : stack_of P.target (P.seen (d (at' j).1 (P.machine.step (at' j).0))) ≡ stack_of P.target (P.seen (P.machine.step (at' j).0)) = ap (λ w. w (stack_register P.target)) change.look.registers in
+            let now = same-stack P none (P.machine.step (iter P.machine.step j o.from)) (P.machine.step (at' j).0) (stepped j o) in
+            let before = same-stack P none (iter P.machine.step j o.from) (at' j).0 o.same in
+            omega (arith, h, e, changed, now, before)
+
+    leaves-front : (j : ℕ) (o : Origin j) → OrHost j o (0 < j → c.place i < (P.seen (at' j).0).pc)
+    unfolding OrHost
+    leaves-front j o = by (cases_lt 0 j)
+      where
+        by : (0 < j) ⊎ (j ≤ 0) → OrHost j o (0 < j → c.place i < (P.seen (at' j).0).pc)
+        by (inl some) = or-host j o (c.place i < (P.seen (iter P.machine.step j o.from)).pc) (0 < j → c.place i < (P.seen (at' j).0).pc)
+            (λ a z. let e = o.same.look.pc in omega (arith, a, e)) ((leads o.from o.stands).way.ahead falls-here j some o.more)
+        by (inr le) = inl (λ z. absurd (omega (arith, z, le)))
+
+    wrote : (j : ℕ) → (o : Origin j) → (P.machine.out (at' j).0 ≡ out) ⊎ (P.machine.out (at' j).0 ≡ written next out)
+    wrote j o = ⊎_elim (λ a. inl (o.same.out ∙ a)) (λ b. inr (o.same.out ∙ b)) ((leads o.from o.stands).way.way j o.more)
+
+    -- what is known of each step of the front, which is no host function's
+    record IsQuiet (k : ℕ) : Type 0 where
+      pub inside : BeginsInside c i (P.seen (at' k).0)
+      pub outside : KeepsOutside (disturbed P d) moves (at' k)
+      pub above : TouchesAbove (disturbed P d) (at' k)
+      pub falls : DoesNotRise (disturbed P d) (at' k)
+      pub ahead : 0 < k → c.place i < (P.seen (at' k).0).pc
+      pub wrote : (P.machine.out (at' k).0 ≡ out) ⊎ (P.machine.out (at' k).0 ≡ written next out)
+
+    quiet : (j : ℕ) (o : Origin j) → suc j < (leads o.from o.stands).way.steps → IsQuiet j
+    unfolding OrHost
+    quiet j o lt =
+        let no : (T : Type 0) → IsHostStep c i (leads o.from o.stands).way.steps j (P.seen (at' j).0) → T = λ T h. let e = h.1 in absurd (omega (arith, e, lt)) in
+        record {
+          inside = ⊎_elim (λ x. x) (no (BeginsInside c i (P.seen (at' j).0))) (begins j o);
+          outside = ⊎_elim (λ x. x) (no (KeepsOutside (disturbed P d) moves (at' j))) (keeps j o);
+          above = ⊎_elim (λ x. x) (no (TouchesAbove (disturbed P d) (at' j))) (touches j o);
+          falls = ⊎_elim (λ x. x) (no (DoesNotRise (disturbed P d) (at' j))) (lowers j o);
+          ahead = ⊎_elim (λ x. x) (no (0 < j → c.place i < (P.seen (at' j).0).pc)) (leaves-front j o);
+          wrote = wrote j o;
+        }
 
     meets : (p : Q) → KeepsMemory (P.seen q) (P.seen p) → (x : Outcome) (u v : Q) → AreSame P (hidden_in P u) u v → (IsSeen (P.seen u) → IsSeen (P.seen v)) → Meets P c live after p x out u → (j : ℕ)
         → Meets (disturbed P d) c live after (q, n) x out (v, j)
@@ -315,43 +426,63 @@ module _ {Q : Type 0} (P : Processor Q) where
     )
     meets p low Undefined u v f seen there j = absurd there
 
-    arrives : (k : ℕ) → k ≡ steps → Meets (disturbed P d) c live after (q, n) next out (at' k)
+    arrives : (j : ℕ) (o : Origin j) → (leads o.from o.stands).way.steps ≡ suc j → Meets (disturbed P d) c live after (q, n) next out (at' (suc j))
     unfolding iter
-    arrives zero e =
-        let o = origin 0 (omega arith) in
-        let w = leads o.from o.stands in
-        meets o.from o.low next o.from (at' 0).0 (weaker (hidden_in P o.from) o.from (at' 0).0 o.same) (λ z. o.seen)
-        (subst (λ x. Meets P c live after o.from next out (iter P.machine.step x o.from)) (w.same ∙ sym e) w.way.there) (at' 0).1
-    arrives (suc k) e =
-        let o = origin k (omega (arith, e)) in
-        let w = leads o.from o.stands in
-        let lt : k < steps = omega (arith, e) in
-        subst (Meets (disturbed P d) c live after (q, n) next out) (sym (reaches k lt o))
-        (meets o.from o.low next (iter P.machine.step (suc k) o.from) (d (at' k).1 (P.machine.step (at' k).0)) (behind-step k lt o) (behind-seen k lt o)
-        (subst (λ x. Meets P c live after o.from next out (iter P.machine.step x o.from)) (w.same ∙ sym e) w.way.there) (suc (at' k).1))
+    arrives j o last =
+        subst (Meets (disturbed P d) c live after (q, n) next out) (sym (reaches j o))
+        (meets o.from o.low next (iter P.machine.step (suc j) o.from) (d (at' j).1 (P.machine.step (at' j).0)) (behind-step j o) (behind-seen j o)
+        (subst (λ x. Meets P c live after o.from next out (iter P.machine.step x o.from)) last (leads o.from o.stands).way.there) (suc (at' j).1))
+
+    -- the last step, behind a front of quiet ones
+    module _ (j : ℕ) (o : Origin j) (last : (leads o.from o.stands).way.steps ≡ suc j) (front : (k : ℕ) → k < j → IsQuiet k) where
+      each : (T : ℕ → Type 0) → ((k : ℕ) → k < j → T k) → OrHost j o (T j) → (k : ℕ) → k < suc j → T k ⊎ IsHostStep c i (suc j) k (P.seen (at' k).0)
+      unfolding OrHost
+      each T before here k lt = ⊎_elim
+          (λ (l : k < j). inl (before k l))
+          (λ (g : j ≤ k). let e : j ≡ k = omega (arith, lt, g) in subst (λ x. T x ⊎ IsHostStep c i (suc j) x (P.seen (at' x).0)) e
+          (subst (λ x. T j ⊎ IsHostStep c i x j (P.seen (at' j).0)) last here)) (cases_lt k j)
+
+      done : Leads (disturbed P d) c live after i next out (q, n)
+      done =
+          let most = (leads o.from o.stands).way.few in
+          record {
+            steps = suc j;
+            few = omega (arith, most, last);
+            inside = each (λ k. BeginsInside c i (P.seen (at' k).0)) (λ k l. (front k l).inside) (begins j o);
+            outside = each (λ k. KeepsOutside (disturbed P d) moves (at' k)) (λ k l. (front k l).outside) (keeps j o);
+            above = each (λ k. TouchesAbove (disturbed P d) (at' k)) (λ k l. (front k l).above) (touches j o);
+            falls = λ e. each (λ k. DoesNotRise (disturbed P d) (at' k)) (λ k l. (front k l).falls) (lowers j o);
+            ahead = λ e k some lt. ⊎_elim (λ f. inl (f some)) (λ h. inr h)
+                (each (λ k. 0 < k → c.place i < (P.seen (at' k).0).pc) (λ k l. (front k l).ahead) (leaves-front j o) k lt);
+            rises = λ e. absurd (sinks-no-rise (slice_get c.nodes.nodes i) falls-here e);
+            none = λ e. absurd (omega (arith, e));
+            some = λ e. omega arith;
+            way = λ k lt. ⊎_elim
+                (λ (l : k < j). (front k l).wrote)
+                (λ (g : j ≤ k). let e : j ≡ k = omega (arith, lt, g) in
+                subst (λ x. (P.machine.out (at' x).0 ≡ out) ⊎ (P.machine.out (at' x).0 ≡ written next out)) e (wrote j o)) (cases_lt k j);
+            there = arrives j o last;
+          }
+
+    -- from a state to which so many steps lead, the last one is found
+    front-more : (j : ℕ) (o : Origin j) → ((k : ℕ) → k < j → IsQuiet k) → suc j < (leads o.from o.stands).way.steps → (k : ℕ) → k < suc j → IsQuiet k
+    front-more j o front lt k l = ⊎_elim
+        (λ (b : k < j). front k b)
+        (λ (g : j ≤ k). let e : j ≡ k = omega (arith, l, g) in subst IsQuiet e (quiet j o lt)) (cases_lt k j)
+
+    search : (fuel j : ℕ) → 64 ≤ j + fuel → Origin j → ((k : ℕ) → k < j → IsQuiet k) → Leads (disturbed P d) c live after i next out (q, n)
+    search zero j enough o front = ⊎_elim
+        (λ (lt : suc j < (leads o.from o.stands).way.steps). let most = (leads o.from o.stands).way.few in absurd (omega (arith, most, lt, enough)))
+        (λ (le : (leads o.from o.stands).way.steps ≤ suc j). let m = o.more in done j o (omega (arith, le, m)) front) (cases_lt (suc j) (leads o.from o.stands).way.steps)
+    search (suc fuel) j enough o front = ⊎_elim
+        (λ (lt : suc j < (leads o.from o.stands).way.steps). search fuel (suc j) (omega (arith, enough)) (onward j o lt) (front-more j o front lt))
+        (λ (le : (leads o.from o.stands).way.steps ≤ suc j). let m = o.more in done j o (omega (arith, le, m)) front) (cases_lt (suc j) (leads o.from o.stands).way.steps)
 
     sinking : Leads (disturbed P d) c live after i next out (q, n)
-    sinking =
-        let first = leads q st in
-        let few-steps = first.way.few in
-        let same = first.same in
-        let none-steps = first.way.none in
-        let some-steps = first.way.some in
-        record {
-          steps = steps;
-          few = omega (arith, few-steps, same);
-          inside = λ j lt. let o = origin j (omega (arith, lt)) in let w = leads o.from o.stands in let k = w.same in
-              begins j w.way.steps o k (w.way.inside j (omega (arith, lt, k)));
-          outside = λ j lt. let o = origin j (omega (arith, lt)) in let w = leads o.from o.stands in let k = w.same in
-              keeps j w.way.steps lt o k (w.way.outside j (omega (arith, lt, k)));
-          above = λ j lt. let o = origin j (omega (arith, lt)) in let w = leads o.from o.stands in let k = w.same in
-              touches j w.way.steps o k (w.way.above j (omega (arith, lt, k)));
-          none = λ e. none-steps (same ∙ e);
-          some = λ e. let z = some-steps e in omega (arith, z, same);
-          way = λ j lt. let o = origin j (omega (arith, lt)) in let w = leads o.from o.stands in let k = w.same in
-              ⊎_elim (λ a. inl (o.same.out ∙ a)) (λ b. inr (o.same.out ∙ b)) (w.way.way j (omega (arith, lt, k)));
-          there = arrives steps refl;
-        }
+    unfolding iter
+    sinking = search 64 0 (omega arith)
+        record { from = q; stands = st; low = record { bytes = λ a lt. refl; mark = refl }; same = same-self P none q; seen = st.state.seen; more = (leads q st).some }
+        (λ k lt. absurd (omega (arith, lt)))
 
 pub sinking-leads : {Q : Type 0} (P : Processor Q) → SinkingWaysLead P
-sinking-leads P d c live after i s S next out steps n q pt disturbs few st leads = sinking P d c live after i s S next out steps n q pt disturbs few st leads
+sinking-leads P d c live after i s S next out n q pt disturbs few falls-here apart st leads = sinking P d c live after i s S next out n q pt disturbs few falls-here apart st leads

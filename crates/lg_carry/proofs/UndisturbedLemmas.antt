@@ -44,7 +44,7 @@ module _ {Q : Type 0} (P : Processor Q) (d : ℕ → Q → Q) (disturbs : IsDist
             → HoldsUp P c (λ f. before f.back) (λ t. before t.at) i s (before i) out x.0
             → Leads (disturbed P d) c (λ f. before f.back) (λ t. before t.at) i (step c.nodes c.shape c.addresses s) out x
         leads s out x st (inl h) = steady-leads P d c (λ f. before f.back) (λ t. before t.at) i _ out x.0 x.1 disturbs few st.state.seen h.0 h.1
-        leads s out x st (inr h) = sinking-leads P d c (λ f. before f.back) (λ t. before t.at) i s (before i) _ out h.0 x.1 x.0 pt disturbs few st h.1
+        leads s out x st (inr h) = sinking-leads P d c (λ f. before f.back) (λ t. before t.at) i s (before i) _ out x.1 x.0 pt disturbs few h.0 w.apart st h.1
 
 pub disturbed-agrees : {Q : Type 0} (P : Processor Q) → DisturbedCodeAgrees P
 disturbed-agrees P d c before image args q k n pt disturbs machine few nodes st =

@@ -1,12 +1,13 @@
 -- A processor whose bytes below the stack pointer change in any way behind each step, as a signal's handler on its stack changes them; and when the
 -- code of a node leads there where it leads without that.
-use Rattle.std.specs.Prelude.{◌≡◌, ℕ, suc, ◌+◌, ◌<◌, ◌≤◌, ◌⊎◌, Bool, true, false, List, Option}
+use Rattle.std.specs.Prelude.{◌≡◌, ℕ, suc, ◌+◌, ◌<◌, ◌≤◌, ◌⊎◌, Bool, true, false, List, Option, None, length, slice_get}
 use Rattle.lg_base.specs.Runs.{Status, Running, Ended, Bad, Machine, IsMachine, iter}
 use Rattle.lg_base.specs.declared.target.Target.{Target}
-use Rattle.lg_carry.specs.Carries.{Leads, Carries}
+use Rattle.lg_base.specs.HostNames.{host_by_address}
+use Rattle.lg_carry.specs.Carries.{sinks_at, Leads, Carries}
 use Rattle.lg_carry.specs.FinalNodes.{Code}
 use Rattle.lg_carry.specs.Places.{ArePassedFew}
-use Rattle.lg_carry.specs.Processors.{Seen, IsSeen, Processor, is_below, stack_of}
+use Rattle.lg_carry.specs.Processors.{Seen, IsSeen, Processor, is_below, stack_of, DoesNotFall, DoesNotRise}
 use Rattle.lg_carry.specs.Stands.{Stands}
 use Rattle.lg_meaning.specs.States.{Frame, State}
 use Rattle.lg_meaning.specs.Steps.{Outcome}
@@ -27,14 +28,6 @@ hidden_in P q a = is_below P.target (stack_of P.target (P.seen q)) a
 abbrev pub Overlooks : {Q : Type 0} → Processor Q → Q → Type 0
 Overlooks {Q} P q = (r : Q) → IsSeen (P.seen r) → AreSame P (hidden_in P q) q r
     → AreSame P (hidden_in P q) (P.machine.step q) (P.machine.step r) × IsSeen (P.seen (P.machine.step r))
-
--- the stack pointer does not fall in a step
-abbrev pub DoesNotFall : {Q : Type 0} → Processor Q → Q → Type 0
-DoesNotFall P q = stack_of P.target (P.seen q) ≤ stack_of P.target (P.seen (P.machine.step q))
-
--- nor rise
-abbrev pub DoesNotRise : {Q : Type 0} → Processor Q → Q → Type 0
-DoesNotRise P q = stack_of P.target (P.seen (P.machine.step q)) ≤ stack_of P.target (P.seen q)
 
 -- ---- the processor
 -- what changes the bytes that do not count, behind each step by its number
@@ -94,16 +87,22 @@ pub record Patches {Q : Type 0} (P : Processor Q) : Type 0 where
   pub is : (m : ℕ → Option ℕ) (q : Q) → AreSame P (λ a. true) q (patch m q)
   pub bytes : (m : ℕ → Option ℕ) (q : Q) → (P.seen (patch m q)).bytes ≡ m
 
--- the way of a node, in so many steps
+-- the way of a node has steps, and sinks
 pub record SinksTo {Q : Type 0} (P : Processor Q) (c : Code) (live : Frame → ℕ → Bool) (after : State → ℕ → Bool) (i : ℕ) (next : Outcome) (out : List ℕ)
-    (steps : ℕ) (q : Q) : Type 0 where
+    (q : Q) : Type 0 where
   pub way : Leads P c live after i next out q
-  pub same : way.steps ≡ steps
-  pub sinks : IsSinking P steps q
+  pub some : 0 < way.steps
+  pub sinks : IsSinking P way.steps q
 
--- where the ways from all states that stand for one have so many steps and sink, they lead there with such changes too
+-- no node begins within the bytes of node i, but at the first, nor at the entry of a host function
+abbrev pub LiesApart : Code → ℕ → Type 0
+LiesApart c i =
+    (k : ℕ) → k < length c.nodes.nodes → ((c.place k ≤ c.place i) ⊎ (c.place (i + 1) ≤ c.place k)) × (host_by_address (c.place k) ≡ None)
+
+-- where the ways of a `prolog` or call from all states that stand for one sink, they lead there with such changes too
 abbrev pub SinkingWaysLead : {Q : Type 0} → Processor Q → Type 0
 SinkingWaysLead {Q} P =
     (d : ℕ → Q → Q) (c : Code) (live : Frame → ℕ → Bool) (after : State → ℕ → Bool) (i : ℕ) (s : State) (S : ℕ → Bool) (next : Outcome) (out : List ℕ)
-    (steps n : ℕ) (q : Q) → Patches P → IsDisturber P d → ArePassedFew c.nodes.nodes → Stands P c live s out q S
-    → ((p : Q) → Stands P c live s out p S → SinksTo P c live after i next out steps p) → Leads (disturbed P d) c live after i next out (q, n)
+    (n : ℕ) (q : Q) → Patches P → IsDisturber P d → ArePassedFew c.nodes.nodes → sinks_at (slice_get c.nodes.nodes i) ≡ true → LiesApart c i
+    → Stands P c live s out q S → ((p : Q) → Stands P c live s out p S → SinksTo P c live after i next out p)
+    → Leads (disturbed P d) c live after i next out (q, n)

@@ -24,7 +24,7 @@ use Rattle.lg_carry.specs.Memory.Crossings.{Crosses, CrossesCode, LeadsTo, Skips
 use Rattle.lg_carry.proofs.OfMemory.BehindLemmas.{more-slots}
 
 -- what is passed within a part is passed within the whole
-pub passes-within : {Q : Type 0} (P : Processor Q) (low high low' high' steps : ℕ) (q u : Q) → low' ≤ low → high ≤ high' → PassesIn P low high steps q u → PassesIn P low' high' steps q u
+pub passes-within : {Q : Type 0} (P : Processor Q) (low high low' high' steps : ℕ) (q u : Q) → low' ≤ low → high ≤ high' → PassesIn P false low high steps q u → PassesIn P false low' high' steps q u
 passes-within P low high low' high' steps q u le ge h = record {
   leads = h.leads;
   inside = λ j lt. let i = h.inside j lt in (omega (arith, le, i.0), omega (arith, ge, i.1));
@@ -41,12 +41,12 @@ size-of spelling xs ys = ap length (spelled-append spelling xs ys) ∙ length-ap
 pub straight-crosses : {Q I : Type 0} (R : Rows Q I) (fits : I → Type 0) → AreRows R fits → (w : Work) (code : List I) (fp n : ℕ) (T : ℕ → Bool) → IsBlock R.is_straight code → Does R w code fp n T → CrossesCode R fits w code fp n T
 straight-crosses R fits ok w code fp n T block does q from looks k high at =
     let l = does q looks record { low = omega (arith, at, k.low); high = omega (arith, at, high) } in
-    let pass = part-passes R fits ok from [] code [] q (subst (StandsAt R fits from) (sym (append-nil code)) k) (at ∙ omega arith) block l.through in
+    let pass = part-passes R fits ok false from [] code [] q (subst (StandsAt R false fits from) (sym (append-nil code)) k) (at ∙ omega arith) block l.through in
     record {
       end = done R.does code q;
       steps = length code;
       few = omega arith;
-      passes = subst (λ z. PassesIn R.processor from (behind R from z) (length code) q (done R.does code q)) (append-nil code) pass;
+      passes = subst (λ z. PassesIn R.processor false from (behind R from z) (length code) q (done R.does code q)) (append-nil code) pass;
       runs = l.runs;
       here = l.behind ∙ ap (λ z. z + length (spellings R.spelling code)) at;
       registers = l.registers;
@@ -93,10 +93,10 @@ all-back : {I : Type 0} (fits : I → Type 0) (xs ys : List I) → All fits (xs 
 all-back fits [] ys h = h
 all-back fits (x ∷ xs) ys h = all-back fits xs ys (λ k d lt. h (suc k) d (omega (arith, lt)))
 
-places-behind : {Q I : Type 0} (R : Rows Q I) (fits : I → Type 0) → AreRows R fits → (from : ℕ) (xs ys : List I) → StandsAt R fits from (xs ++ ys) → R.is_place (behind R from xs) ≡ true
+places-behind : {Q I : Type 0} (R : Rows Q I) (fits : I → Type 0) → AreRows R fits → (from : ℕ) (xs ys : List I) → StandsAt R false fits from (xs ++ ys) → R.is_place (behind R from xs) ≡ true
 places-behind R fits ok from xs ys k = places-from R fits ok xs from (all-front fits xs ys k.fit) k.place
 
-part-stands : {Q I : Type 0} (R : Rows Q I) (fits : I → Type 0) → AreRows R fits → (from : ℕ) (front part back : List I) → StandsAt R fits from (front ++ (part ++ back)) → StandsAt R fits (behind R from front) part
+part-stands : {Q I : Type 0} (R : Rows Q I) (fits : I → Type 0) → AreRows R fits → (from : ℕ) (front part back : List I) → StandsAt R false fits from (front ++ (part ++ back)) → StandsAt R false fits (behind R from front) part
 part-stands R fits ok from front part back k =
     let front-bytes = spellings R.spelling front in
     let part-bytes = spellings R.spelling part in
@@ -109,16 +109,16 @@ part-stands R fits ok from front part back k =
       more = back-bytes ++ k.more;
       stands = behind-front R (from - code_base) (behind R from front - code_base) front-bytes ((part-bytes ++ back-bytes) ++ k.more) here (omega (arith, k.low)) ∙ append_assoc part-bytes back-bytes k.more;
       fit = all-front fits part back (all-back fits front (part ++ back) k.fit);
-      outside = all-front (StaysOutside R) part back (all-back (StaysOutside R) front (part ++ back) k.outside);
+      outside = all-front (StaysOutside R false) part back (all-back (StaysOutside R false) front (part ++ back) k.outside);
     }
 
 -- ---- a part of code that stands somewhere
 module _ {Q I : Type 0} (R : Rows Q I) (fits : I → Type 0) (ok : AreRows R fits) where
-  pub piece-passes : (from : ℕ) (code front part back : List I) (q : Q) → code ≡ front ++ (part ++ back) → StandsAt R fits from code → (R.processor.seen q).pc ≡ behind R from front → IsBlock R.is_straight part
-      → GoesThrough R.does R.processor.machine.status (IsAbove R) part q → PassesIn R.processor from (behind R from code) (length part) q (done R.does part q)
+  pub piece-passes : (from : ℕ) (code front part back : List I) (q : Q) → code ≡ front ++ (part ++ back) → StandsAt R false fits from code → (R.processor.seen q).pc ≡ behind R from front → IsBlock R.is_straight part
+      → GoesThrough R.does R.processor.machine.status (IsAbove R) part q → PassesIn R.processor false from (behind R from code) (length part) q (done R.does part q)
   piece-passes from code front part back q e k at block through =
-      subst (λ z. PassesIn R.processor from (behind R from z) (length part) q (done R.does part q)) (sym e)
-      (part-passes R fits ok from front part back q (subst (StandsAt R fits from) e k) at block through)
+      subst (λ z. PassesIn R.processor false from (behind R from z) (length part) q (done R.does part q)) (sym e)
+      (part-passes R fits ok false from front part back q (subst (StandsAt R false fits from) e k) at block through)
 
   -- ---- two ways
   -- front, a branch b over what is slow and a jump j behind what is fast
@@ -132,7 +132,7 @@ module _ {Q I : Type 0} (R : Rows Q I) (fits : I → Type 0) (ok : AreRows R fit
       (jumps : (registers : ℕ → ℕ) → Skips R j registers (length (spellings R.spelling fast)))
       (slowly : aligned ≡ false → Does R (record w { registers = V }) slow fp n T)
       (fastly : aligned ≡ true → Does R (record w { registers = V }) fast fp n T)
-      (q : Q) (from : ℕ) (looks : Looks R fp w.registers w.bytes w.mark w.flags q) (k : StandsAt R fits from (forked front b slow j fast))
+      (q : Q) (from : ℕ) (looks : Looks R fp w.registers w.bytes w.mark w.flags q) (k : StandsAt R false fits from (forked front b slow j fast))
       (high : behind R from (forked front b slow j fast) ≤ code_base + most_code) (at : (R.processor.seen q).pc ≡ from) where
     abbrev code : List I
     code = forked front b slow j fast
@@ -157,7 +157,7 @@ module _ {Q I : Type 0} (R : Rows Q I) (fits : I → Type 0) (ok : AreRows R fit
     here1 : (R.processor.seen q1).pc ≡ behind R from front
     here1 = a.behind ∙ ap (λ z. z + size front) at
 
-    pass1 : PassesIn R.processor from (behind R from code) (length front) q q1
+    pass1 : PassesIn R.processor false from (behind R from code) (length front) q q1
     pass1 = piece-passes from code [] front (b ∷ (slow ++ (j ∷ fast))) q refl k (at ∙ omega arith) front-block a.through
 
     place1 : R.is_place (R.processor.seen q1).pc ≡ true
@@ -179,8 +179,8 @@ module _ {Q I : Type 0} (R : Rows Q I) (fits : I → Type 0) (ok : AreRows R fit
     abbrev q2 : Q
     q2 = R.does b q1
 
-    pass2 : PassesIn R.processor from (behind R from code) (length front + 1) q q2
-    pass2 = passages-join R.processor from (behind R from code) (length front) 1 q q1 q2 pass1 (piece-passes from code front (b ∷ []) (slow ++ (j ∷ fast)) q1 refl k here1 tt (a.runs, l.above, tt))
+    pass2 : PassesIn R.processor false from (behind R from code) (length front + 1) q q2
+    pass2 = passages-join R.processor false from (behind R from code) (length front) 1 q q1 q2 pass1 (piece-passes from code front (b ∷ []) (slow ++ (j ∷ fast)) q1 refl k here1 tt (a.runs, l.above, tt))
 
     looks2 : Looks R fp V w.bytes w.mark w.flags q2
     looks2 = record {
@@ -219,7 +219,7 @@ module _ {Q I : Type 0} (R : Rows Q I) (fits : I → Type 0) (ok : AreRows R fit
           end = q3;
           steps = length front + 1 + length fast;
           few = omega (arith, lengths);
-          passes = passages-join R.processor from (behind R from code) (length front + 1) (length fast) q q2 q3 pass2 (piece-passes from code before fast [] q2 split k here2 fast-block f.through);
+          passes = passages-join R.processor false from (behind R from code) (length front + 1) (length fast) q q2 q3 pass2 (piece-passes from code before fast [] q2 split k here2 fast-block f.through);
           runs = f.runs;
           here = f.behind ∙ omega (arith, here2, sizes, m, o, s, t, v);
           registers = f.registers;
@@ -240,17 +240,17 @@ module _ {Q I : Type 0} (R : Rows Q I) (fits : I → Type 0) (ok : AreRows R fit
         let split : code ≡ before ++ (slow ++ (j ∷ fast)) = sym (append_assoc front (b ∷ []) (slow ++ (j ∷ fast))) in
         let f = slowly odd q2 looks2 record { low = omega (arith, here2, k.low); high = omega (arith, here2, high, sizes, t, v) } in
         let q3 = done R.does slow q2 in
-        let pass3 = passages-join R.processor from (behind R from code) (length front + 1) (length slow) q q2 q3 pass2 (piece-passes from code before slow (j ∷ fast) q2 split k here2 slow-block f.through) in
+        let pass3 = passages-join R.processor false from (behind R from code) (length front + 1) (length slow) q q2 q3 pass2 (piece-passes from code before slow (j ∷ fast) q2 split k here2 slow-block f.through) in
         let here3 : (R.processor.seen q3).pc ≡ behind R from (before ++ slow) = (let s = size-of R.spelling before slow in f.behind ∙ omega (arith, here2, s)) in
         let last : code ≡ (before ++ slow) ++ ((j ∷ []) ++ fast) = split ∙ sym (append_assoc before slow (j ∷ fast)) in
         let s = size-of R.spelling before slow in
-        let u = jumps (R.processor.seen q3).registers q3 f.runs (λ r. refl) (omega (arith, here3, k.low)) (subst (λ z. R.is_place z ≡ true) (sym here3) (places-behind R fits ok from (before ++ slow) (j ∷ fast) (subst (StandsAt R fits from) last k))) (omega (arith, here3, high, sizes, s, t, v)) in
+        let u = jumps (R.processor.seen q3).registers q3 f.runs (λ r. refl) (omega (arith, here3, k.low)) (subst (λ z. R.is_place z ≡ true) (sym here3) (places-behind R fits ok from (before ++ slow) (j ∷ fast) (subst (StandsAt R false fits from) last k))) (omega (arith, here3, high, sizes, s, t, v)) in
         let q4 = R.does j q3 in
         record {
           end = q4;
           steps = length front + 1 + length slow + 1;
           few = omega (arith, lengths);
-          passes = passages-join R.processor from (behind R from code) (length front + 1 + length slow) 1 q q3 q4 pass3 (piece-passes from code (before ++ slow) (j ∷ []) fast q3 last k here3 tt (f.runs, u.above, tt));
+          passes = passages-join R.processor false from (behind R from code) (length front + 1 + length slow) 1 q q3 q4 pass3 (piece-passes from code (before ++ slow) (j ∷ []) fast q3 last k here3 tt (f.runs, u.above, tt));
           runs = u.runs;
           here = u.here ∙ omega (arith, here3, sizes, s, t, v);
           registers = λ r free. u.registers r ∙ f.registers r free;
@@ -301,8 +301,8 @@ module _ {Q I : Type 0} (R : Rows Q I) (fits : I → Type 0) (rows : AreRows R f
     end = q3;
     steps = 1 + e.steps + 1;
     few = let l = length-append code (R.restore r k ∷ []) in let m = e.few in omega (arith, l, m);
-    passes = passages-join R.processor from (behind R from (R.save r k ∷ (code ++ R.restore r k ∷ []))) (1 + e.steps) 1 q q2 q3
-        (passages-join R.processor from (behind R from (R.save r k ∷ (code ++ R.restore r k ∷ []))) 1 e.steps q q1 q2
+    passes = passages-join R.processor false from (behind R from (R.save r k ∷ (code ++ R.restore r k ∷ []))) (1 + e.steps) 1 q q2 q3
+        (passages-join R.processor false from (behind R from (R.save r k ∷ (code ++ R.restore r k ∷ []))) 1 e.steps q q1 q2
         (piece-passes R fits rows from (R.save r k ∷ (code ++ R.restore r k ∷ [])) [] (R.save r k ∷ []) (code ++ R.restore r k ∷ []) q refl stands (at ∙ omega arith) tt (looks.runs, s.above, tt))
         (passes-within R.processor (behind R from (R.save r k ∷ [])) (behind R (behind R from (R.save r k ∷ [])) code) from (behind R from (R.save r k ∷ (code ++ R.restore r k ∷ []))) e.steps q1 q2 (omega arith) (omega (arith, first, after)) e.passes))
         (piece-passes R fits rows from (R.save r k ∷ (code ++ R.restore r k ∷ [])) (R.save r k ∷ code) (R.restore r k ∷ []) [] q2 refl stands here2 tt (e.runs, x.above, tt));
@@ -346,7 +346,7 @@ module _ {Q I : Type 0} (R : Rows Q I) (fits : I → Type 0) (rows : AreRows R f
         has_flags = s.marks.1 ∙ looks.has_flags;
       }
 
-      inner : StandsAt R fits (behind R from (R.save r k ∷ [])) code
+      inner : StandsAt R false fits (behind R from (R.save r k ∷ [])) code
       inner = part-stands R fits rows from (R.save r k ∷ []) code (R.restore r k ∷ []) stands
 
       e : Crosses R (behind R from (R.save r k ∷ [])) (behind R (behind R from (R.save r k ∷ [])) code) (length code) fp (k + 1) w.end_registers w.end_bytes w.end_mark w.end_flags T q1

@@ -1,4 +1,6 @@
 -- Nodes whose code is crossed and goes on to the next node: how it leads there, and that it is carried.
+use Rattle.lg_carry.proofs.TurnLemmas.{still-inside, still-moves, still-turns}
+use Rattle.std.specs.List.{All}
 use Rattle.lg_carry.proofs.BelowLemmas.{not-below}
 use Rattle.std.proofs.Common.{◌≡◌, ◌≢◌, ℕ, ◌+◌, ◌-◌, ◌%◌, ◌<◌, ◌≤◌, ◌⊎◌, ⊎_elim, inl, inr, Bool, true, false, List, [], ◌∷◌, ◌++◌, Option, Some, None, refl, sym, ap, ◌∙◌, subst, arith, length, drop, length-append, append-nil, zero-add}
 use Rattle.std.specs.Prelude.{◌||◌, ◌&&◌, not, slice_get, slice_index, slice_index_or, if◌then◌else◌}
@@ -49,7 +51,7 @@ use Rattle.lg_carry.specs.Stands.{lowest, StatesAgree, Stands}
 use Rattle.lg_carry.specs.Carries.{leaps, Leads}
 use Rattle.lg_carry.specs.NodeBlocks.{IsNodeBlock}
 use Rattle.lg_carry.specs.NodeCode.{numbered, live_before, live_behind, is_return, CarriesNode}
-use Rattle.lg_carry.specs.Blocks.{spellings, done, RunsBlock}
+use Rattle.lg_carry.specs.Blocks.{spellings, StaysOutside, done, RunsBlock}
 use Rattle.lg_carry.specs.Spills.{IsFramePointer, in_slots, in_first_slots, HasRoom, Leaves, Does, wrapped, spilled, AreInOrder, lost}
 use Rattle.lg_carry.specs.TemporariesApart.{IsSpare}
 use Rattle.lg_carry.specs.Frames.{at_call}
@@ -73,7 +75,7 @@ use Rattle.lg_carry.proofs.OfNodes.RegisterLemmas.{stands-for, number-few, numbe
 use Rattle.lg_carry.proofs.OfNodes.TemporaryLemmas.{IsTemporary, IsOffered, temporary, keep-taken, unspoilt, lost-taken, either}
 use Rattle.lg_carry.specs.Nodes.Stretches.{StandsAt, behind, PassesIn}
 use Rattle.lg_carry.proofs.OfNodes.StraightLemmas.{text-keeps, no-return, no-epilog, in-room, frame-held, carry-moved, AreHarmless, harmless, none-harmless}
-use Rattle.lg_carry.specs.Carries.{leaps_at, BeginsInside}
+use Rattle.lg_carry.specs.Carries.{leaps_at, BeginsInside, KeepsOutside}
 use Rattle.lg_carry.specs.Passages.{IsNodeCode, Passes}
 use Rattle.lg_carry.proofs.PassageLemmas.{passages-lead}
 use Rattle.lg_base.specs.Runs.{iter}
@@ -315,7 +317,7 @@ module _ {Q I : Type 0} (R : Rows Q I) (scratch : ℕ → Bool) (fits : I → Ty
           record { before = fp-held; behind = left-other (frame_register target) other-frame ∙ fp-held; unspoiled = ap (λ b. b || scratch (frame_register target)) frame-untaken ∙ other-frame.kept; room_before = slots-room; room_behind = (let z = left-other (stack_register target) other-stack in let y = slots-room in omega (arith, z, y)); stack_unspoiled = ap (λ b. b || scratch (stack_register target)) stack-untaken ∙ other-stack.kept }
           does-left q (c.place i)
           record { runs = runs; has_registers = λ r. refl; has_bytes = λ p off. refl; has_slots = λ p on. st.seen.stack p (in-stack fp p is-fp.low is-fp.high on); has_mark = refl; has_flags = refl }
-          record { low = k.low; place = k.place; more = k.more; stands = k.stands; fit = k.fit; outside = k.outside } (let z = room.high in omega (arith, z, here)) here
+          record { low = k.low; place = k.place; more = k.more; stands = k.stands; fit = k.fit; outside = subst (λ b. All (StaysOutside R b) is) (still-moves R.processor c i n t.here (still-inside R.processor.target n.op inside_op falls)) k.outside } (let z = room.high in omega (arith, z, here)) here
 
       abbrev pub u : Q
       u = leaves.end
@@ -324,7 +326,7 @@ module _ {Q I : Type 0} (R : Rows Q I) (scratch : ℕ → Bool) (fits : I → Ty
       passed = record {
         leads = leaves.passes.leads;
         inside = λ j lt. let z = leaves.passes.inside j lt in (z.0, omega (arith, z.1, k.next));
-        outside = leaves.passes.outside;
+        outside = λ j lt. subst (λ b. KeepsOutside R.processor b (iter R.processor.machine.step j q)) (sym (still-moves R.processor c i n t.here (still-inside R.processor.target n.op inside_op falls))) (leaves.passes.outside j lt);
         above = leaves.passes.above;
         silent = leaves.passes.silent;
         keeps = leaves.passes.keeps;
@@ -377,7 +379,7 @@ module _ {Q I : Type 0} (R : Rows Q I) (scratch : ℕ → Bool) (fits : I → Ty
             let silent = ap R.processor.machine.out (sym leaves.passes.leads) ∙ leaves.passes.silent leaves.steps (omega arith) in
             let last : Stands R.processor c frames to (out ++ []) u S = record { runs = leaves.runs; wrote = silent ∙ wrote ∙ sym (append-nil out); state = agree } in
             inr (subst (λ z. Leads R.processor c frames (live_behind frames n S s) i z out q) (sym goes)
-            (passages-lead R.processor c frames (live_behind frames n S s) i leaves.steps (Goes to []) out q u passed (omega (arith, leaves.few, k.few))
+            (passages-lead R.processor c frames (live_behind frames n S s) i leaves.steps (Goes to []) out q u passed (still-turns R.processor c i n t.here (still-inside R.processor.target n.op inside_op falls) leaves.steps q) (omega (arith, leaves.few, k.few))
             (λ e. let z : q ≡ u = sym (iter-zero R.processor.machine.step q) ∙ ap (λ m. iter R.processor.machine.step m q) (sym e) ∙ leaves.passes.leads in k.next ∙ sym leaves.here ∙ ap (λ m. (R.processor.seen m).pc) (sym z) ∙ here)
             (λ e. absurd (clash (sym (ap leaps_at t.here) ∙ e) falls)) wrote
             (subst (λ b. Stands R.processor c frames to (out ++ []) u (if b then frames (at_call s.frame) else S)) (sym (no-return n.op falls)) last)))

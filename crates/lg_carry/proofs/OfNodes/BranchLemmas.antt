@@ -25,7 +25,7 @@ use Rattle.lg_temp.specs.Abis.{register_of}
 use Rattle.lg_carry.specs.Homes.{homes_at}
 use Rattle.lg_carry.proofs.OfNodes.HomesLemmas.{next-homes}
 use Rattle.lg_carry.specs.FinalNodes.{Code, is_inside}
-use Rattle.lg_carry.specs.Carries.{Leads}
+use Rattle.lg_carry.specs.Carries.{moves_at, Leads}
 use Rattle.lg_carry.specs.NodeCode.{numbered, live_before, live_behind}
 use Rattle.lg_carry.specs.Passages.{IsNodeCode}
 use Rattle.lg_carry.specs.Rows.{Rows}
@@ -92,7 +92,7 @@ module _ {Q I : Type 0} (R : Rows Q I) (scratch : ℕ → Bool) (fits : I → Ty
     place-next = k.next
 
     goes-to : (j : ℕ) → is_inside c j ≡ true → homes_at c j ≡ homes_at c i → step c.nodes c.shape c.addresses s ≡ Goes (to s j) [] → Way R.processor scratch (c.place i) high W (c.place j) q → Leads R.processor c live (live_behind live n S s) i (step c.nodes c.shape c.addresses s) out q
-    goes-to j side level goes' way = way-leads R scratch fits isa c i n t high place-next (live_before n S) S refl inside live s out q at st s.regs W
+    goes-to j side level goes' way = way-leads R scratch fits isa c i n t high place-next (live_before n S) S record { moves = refl; sinks = refl; rises = refl } inside live s out q at st s.regs W
         record { is = λ z v lt e g. st.state.registers.is z v lt (still-live n S z (unwritten-here z) e) g } st.state.pushed refl refl j side level goes' way
 
     taken : (x y : ℕ) → W (register_of target a) ≡ x → second_word target W third ≡ Some y → y < 2 ^ 64 → step c.nodes c.shape c.addresses s ≡ Goes (to s (if holds o x y then node_of_label c.nodes.places (operand.Label l) else s.at + 1)) []
@@ -103,7 +103,7 @@ module _ {Q I : Type 0} (R : Rows Q I) (scratch : ℕ → Bool) (fits : I → Ty
         next = there-behind R fits isa.rows c w i is (in-nodes c i n t) k
 
         way : (holds o x y ≡ true → IsThere R.is_place (slice_index c.addresses l.0)) → Way R.processor scratch (c.place i) high W (if holds o x y then slice_index c.addresses l.0 else high) q
-        way at-label = lead frame o a third x y (c.place i) (slice_index c.addresses l.0) q (frame-held target c i live s (R.processor.seen q) (live_before n S) at before st.state frame is-frame) (node-stands R fits c i is k) at-label next st.runs here ea eb small
+        way at-label = lead frame o a third x y (c.place i) (slice_index c.addresses l.0) q (frame-held target c i live s (R.processor.seen q) (live_before n S) at before st.state frame is-frame) (node-stands R false fits c i is (ap (moves_at target) t.here) k) at-label next st.runs here ea eb small
 
         bound : slice_index c.addresses l.0 ≡ c.place lands.node
         bound = w.nodes.bound l.0 lands.node (bound-at c.nodes.places l (place.Node lands.node) lands.place)

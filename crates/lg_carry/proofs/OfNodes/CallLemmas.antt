@@ -28,7 +28,8 @@ use Rattle.lg_carry.specs.Frames.{at_call, IsSettled, IsLinked}
 use Rattle.lg_carry.specs.Places.{AreStacked}
 use Rattle.lg_carry.specs.Registers.{HoldsArguments, HasArguments}
 use Rattle.lg_carry.specs.Stands.{lowest, StatesAgree, Stands}
-use Rattle.lg_carry.specs.Carries.{Leads}
+use Rattle.lg_carry.specs.Carries.{moves_at, Leads}
+use Rattle.lg_carry.specs.Outside.{calls_move}
 use Rattle.lg_carry.specs.NodeCode.{numbered, live_before, live_behind, is_return, ReturnsTo}
 use Rattle.lg_carry.specs.Passages.{IsNodeCode}
 use Rattle.lg_carry.specs.Rows.{Rows}
@@ -36,6 +37,7 @@ use Rattle.lg_carry.proofs.AgreeAcrossFramesLemmas.{call-agrees}
 use Rattle.lg_carry.proofs.AgreeInFrameLemmas.{settled, is-false}
 use Rattle.lg_carry.proofs.KeptLemmas.{stack_arguments-kept}
 use Rattle.lg_carry.proofs.PassageLemmas.{passages-lead}
+use Rattle.lg_carry.proofs.TurnLemmas.{call-moves, sinking-turns}
 use Rattle.lg_carry.proofs.TextShapeLemmas.{shaped}
 use Rattle.lg_carry.proofs.StackLemmas.{stacked-running, within-where}
 use Rattle.lg_cells.specs.Cells.{within}
@@ -119,7 +121,8 @@ module _ {Q I : Type 0} (R : Rows Q I) (c : Code) (i : ℕ) (n : Node) (S : ℕ 
             mark = arr.mark ∙ st.state.mark;
           } in
           inr (subst (λ o. Leads R.processor c live (live_behind live n S s) i o out q) (sym goes')
-          (passages-lead R.processor c live (live_behind live n S s) i arr.steps (Goes s' []) out q u (node-passes R.processor c i arr.steps (c.place (i + 1)) q u refl arr.passes) (omega (arith, arr.few)) (λ z. absurd (omega (arith, z, arr.some))) (λ z. arr.some) st.wrote
+          (passages-lead R.processor c live (live_behind live n S s) i arr.steps (Goes s' []) out q u (node-passes R.processor (calls_move target) c i arr.steps (c.place (i + 1)) q u (ap (moves_at target) t.here ∙ call-moves target n.op calls) refl arr.passes)
+          (sinking-turns R.processor c i n t.here (stays-frame n.op calls) arr.steps q arr.sinks) (omega (arith, arr.few)) (λ z. absurd (omega (arith, z, arr.some))) (λ z. arr.some) st.wrote
           (subst (λ b. Stands R.processor c live s' (out ++ []) u (if b then live (at_call s.frame) else S)) (sym (stays-frame n.op calls)) record { runs = arr.runs; wrote = ap R.processor.machine.out (sym arr.passes.leads) ∙ arr.passes.silent arr.steps (omega arith) ∙ st.wrote ∙ sym (append-nil out); state = agree })))
 
 -- ---- by its label
@@ -137,7 +140,7 @@ module _ {Q I : Type 0} (R : Rows Q I) (fits : I → Type 0) (code : ℕ → ℕ
       let at-label : IsThere R.is_place (slice_index c.addresses l.0) = to-label R c w l target-is.node target-is.place (omega (arith, within)) in
       let pointer = (frame R c i n S inside live s out q at st).stack in
       let code-here = behind R (c.place i) (code (c.place i) (slice_index c.addresses l.0)) in
-      let arr = subst (λ z. Arrival R.processor (c.place i) code-here z code-here (slice_index c.addresses l.0) q) pointer (lead size (c.place i) (slice_index c.addresses l.0) q (held-frame R c i n S inside live s out q at st size is-frame) (node-stands R fits c i (code (c.place i) (slice_index c.addresses l.0)) k) at-label st.runs (st.state.here ∙ ap c.place at)) in
+      let arr = subst (λ z. Arrival R.processor (c.place i) code-here z code-here (slice_index c.addresses l.0) q) pointer (lead size (c.place i) (slice_index c.addresses l.0) q (held-frame R c i n S inside live s out q at st size is-frame) (node-stands R (calls_move R.processor.target) fits c i (code (c.place i) (slice_index c.addresses l.0)) (ap (moves_at R.processor.target) t.here ∙ call-moves R.processor.target n.op calls) k) at-label st.runs (st.state.here ∙ ap c.place at)) in
       let back = k.next in
       enters R c i n S t inside calls unwritten live s returns out q at st args few-args held stacked target-is.node target-is.entry
       (subst (λ z. Arrival R.processor (c.place i) z (lowest s.frame) z (c.place target-is.node) q) (sym back) (subst (λ z. Arrival R.processor (c.place i) (behind R (c.place i) (code (c.place i) (slice_index c.addresses l.0))) (lowest s.frame) (behind R (c.place i) (code (c.place i) (slice_index c.addresses l.0))) z q) bound arr)) steps

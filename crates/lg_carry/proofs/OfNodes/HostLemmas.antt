@@ -35,13 +35,15 @@ use Rattle.lg_carry.specs.Rows.{Rows}
 use Rattle.lg_carry.specs.Spills.{in_slots}
 use Rattle.lg_base.specs.Layout.{frame_pointer}
 use Rattle.lg_carry.specs.Stands.{lowest, StatesAgree, Stands}
-use Rattle.lg_carry.specs.Carries.{calls_at, Meets, Leads}
+use Rattle.lg_carry.specs.Carries.{calls_at, moves_at, Meets, Leads}
+use Rattle.lg_carry.specs.Outside.{calls_move}
 use Rattle.lg_carry.specs.NodeCode.{numbered, live_before, live_behind}
 use Rattle.lg_carry.specs.Passages.{IsNodeCode}
 use Rattle.lg_carry.proofs.AgreeInFrameLemmas.{host-agrees, is-false}
 use Rattle.lg_carry.proofs.RegistersApartLemmas.{conventions-apart}
 use Rattle.lg_carry.proofs.KeptLemmas.{stack_arguments-kept}
 use Rattle.lg_carry.proofs.PassageLemmas.{host-steps-lead}
+use Rattle.lg_carry.proofs.TurnLemmas.{call-moves}
 use Rattle.lg_carry.proofs.TextShapeLemmas.{shaped}
 use Rattle.lg_carry.proofs.StackLemmas.{stacked-high, open-where, locals-above, within-where}
 use Rattle.lg_carry.specs.Nodes.Leaps.{HasPlaces, HostArrival, HostCallsLead, HasArrived, host_answer, Answers, EntersHosts, host_call_node, host_finish_node, HostCallsCarry, HostFinishesCarry}
@@ -213,7 +215,7 @@ module _ {Q I : Type 0} (R : Rows Q I) (ready : HostName → (ℕ → ℕ) → B
   -- the step of the node leads there
   leads : (o : Outcome) → step c.nodes c.shape c.addresses s ≡ o → Meets R.processor c live (live_behind live n S s) q o out (R.processor.machine.step u) → Leads R.processor c live (live_behind live n S s) i (step c.nodes c.shape c.addresses s) out q
   leads o e meets = subst (λ x. Leads R.processor c live (live_behind live n S s) i x out q) (sym e)
-      (host-steps-lead R.processor c live (live_behind live n S s) i arr.steps name o out q u (node-passes R.processor c i arr.steps (c.place (i + 1)) q u refl arr.passes) arr.few (ap calls_at t.here ∙ calls) arrived.entry st.wrote meets)
+      (host-steps-lead R.processor c live (live_behind live n S s) i arr.steps name o out q u (node-passes R.processor (calls_move target) c i arr.steps (c.place (i + 1)) q u (ap (moves_at target) t.here ∙ call-moves target n.op calls) refl arr.passes) arr.sinks arr.few (ap calls_at t.here ∙ calls) arrived.entry st.wrote meets)
 
   wrote : R.processor.machine.out u ≡ out
   wrote = ap R.processor.machine.out (sym arr.passes.leads) ∙ arr.passes.silent arr.steps (omega arith) ∙ st.wrote
@@ -324,12 +326,12 @@ module _ {Q I : Type 0} (R : Rows Q I) (ready : HostName → (ℕ → ℕ) → B
 
 -- ---- the nodes
 module _ {Q I : Type 0} (R : Rows Q I) (ready : HostName → (ℕ → ℕ) → Bool) (fits : I → Type 0) (hosts : EntersHosts R.processor ready) (code : HostName → List I) (lead : HostCallsLead R ready fits code) where
-  arrives : (c : Code) (i : ℕ) (n : Node) (S : ℕ → Bool) (name : HostName) → IsNodeCode R fits c i (code name) → is_inside c i ≡ true → (live : Frame → ℕ → Bool) (s : State) (out : List ℕ) (q : Q) → (at : s.at ≡ i) → Stands R.processor c live s out q (live_before n S) → (size : ℕ) → IsFrameOf c i size
+  arrives : (c : Code) (i : ℕ) (n : Node) (S : ℕ → Bool) (name : HostName) → IsNodeCode R fits c i (code name) → moves_at R.processor.target (slice_get c.nodes.nodes i) ≡ calls_move R.processor.target → is_inside c i ≡ true → (live : Frame → ℕ → Bool) (s : State) (out : List ℕ) (q : Q) → (at : s.at ≡ i) → Stands R.processor c live s out q (live_before n S) → (size : ℕ) → IsFrameOf c i size
       → HostArrival R.processor ready (c.place i) (c.place (i + 1)) (lowest s.frame) (c.place (i + 1)) name q
-  arrives c i n S name k inside live s out q at st size is-frame =
+  arrives c i n S name k moves inside live s out q at st size is-frame =
       subst (λ z. HostArrival R.processor ready (c.place i) z (lowest s.frame) z name q) (sym k.next)
       (subst (λ z. HostArrival R.processor ready (c.place i) (behind R (c.place i) (code name)) z (behind R (c.place i) (code name)) name q) (frame R c i n S inside live s out q at st).stack
-      (lead size (c.place i) name q (held-frame R c i n S inside live s out q at st size is-frame) (node-stands R fits c i (code name) k) st.runs (st.state.here ∙ ap c.place at)))
+      (lead size (c.place i) name q (held-frame R c i n S inside live s out q at st size is-frame) (node-stands R (calls_move R.processor.target) fits c i (code name) moves k) st.runs (st.state.here ∙ ap c.place at)))
 
   pub host-calls-carry : HostCallsCarry R fits code
   host-calls-carry c i name line S w t size is-frame k live s returns out q at st =
@@ -337,7 +339,7 @@ module _ {Q I : Type 0} (R : Rows Q I) (ready : HostName → (ℕ → ℕ) → B
       let p = in-some c i n t refl in
       let inside = behind-prolog c i n t p.0 p.1 refl in
       host-called R ready hosts c i n S w t inside (next-inside c i n t p.0 p.1 refl) refl saved live s out q at st
-      [] (omega arith) record { is = λ j x lt z. cc } record { is = λ j x lt z. cc } name (arrives c i n S name k inside live s out q at st size is-frame)
+      [] (omega arith) record { is = λ j x lt z. cc } record { is = λ j x lt z. cc } name (arrives c i n S name k (ap (moves_at R.processor.target) t.here) inside live s out q at st size is-frame)
       (ap (λ x. step_at (text c.nodes c.shape c.addresses) x s) (ap (slice_get c.nodes.nodes) at ∙ t.here))
     where
       saved : (v : ℕ) → v < 3 → numbered (is_written (host_call_node name line)) (v + 3) ≡ false
@@ -352,7 +354,7 @@ module _ {Q I : Type 0} (R : Rows Q I) (ready : HostName → (ℕ → ℕ) → B
       let p = in-some c i n t refl in
       let inside = behind-prolog c i n t p.0 p.1 refl in
       host-called R ready hosts c i n S w t inside (next-inside c i n t p.0 p.1 refl) refl saved live s out q at st
-      s.pushed (let f = (shaped c.nodes t.well).few s.at (omega (arith, st.state.fits.inside)) in omega (arith, f, st.state.fits.pushed)) st.state.pushed st.state.outgoing name (arrives c i n S name k inside live s out q at st size is-frame)
+      s.pushed (let f = (shaped c.nodes t.well).few s.at (omega (arith, st.state.fits.inside)) in omega (arith, f, st.state.fits.pushed)) st.state.pushed st.state.outgoing name (arrives c i n S name k (ap (moves_at R.processor.target) t.here) inside live s out q at st size is-frame)
       (ap (λ x. step_at (text c.nodes c.shape c.addresses) x s) (ap (slice_get c.nodes.nodes) at ∙ t.here))
     where
       saved : (v : ℕ) → v < 3 → numbered (is_written (host_finish_node name line)) (v + 3) ≡ false

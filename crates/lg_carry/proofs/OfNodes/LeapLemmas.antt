@@ -24,17 +24,19 @@ use Rattle.lg_carry.proofs.OfNodes.HomesLemmas.{homes-same}
 use Rattle.lg_carry.specs.FinalNodes.{Code, is_inside}
 use Rattle.lg_carry.specs.Frames.{at_call}
 use Rattle.lg_carry.specs.Stands.{StatesAgree, Stands}
-use Rattle.lg_carry.specs.Carries.{Leads}
-use Rattle.lg_carry.specs.NodeCode.{live_behind, is_return}
+use Rattle.lg_carry.specs.Carries.{moves_at, KeepsOutside, Leads}
+use Rattle.lg_carry.specs.NodeCode.{live_behind}
 use Rattle.lg_carry.specs.Passages.{IsNodeCode, Passes}
 use Rattle.lg_carry.specs.Processors.{Processor}
 use Rattle.lg_carry.specs.Registers.{HoldsRegisters, HoldsArguments}
 use Rattle.lg_carry.specs.Rows.{Rows, AreRows}
-use Rattle.lg_carry.specs.Blocks.{spellings}
+use Rattle.lg_carry.specs.Blocks.{spellings, StaysOutside}
+use Rattle.lg_base.specs.Runs.{iter}
 use Rattle.lg_carry.proofs.AgreeInFrameLemmas.{quiet-agrees, is-false}
 use Rattle.lg_carry.proofs.RegistersApartLemmas.{conventions-apart}
 use Rattle.lg_carry.proofs.PassageLemmas.{passages-lead}
 use Rattle.lg_carry.proofs.TextShapeLemmas.{shaped}
+use Rattle.lg_carry.proofs.TurnLemmas.{IsStill, still-moves, still-turns}
 use Rattle.lg_carry.specs.Nodes.Isas.{IsIsa}
 use Rattle.lg_carry.specs.Nodes.Leaps.{HasPlaces, IsThere}
 use Rattle.lg_carry.specs.TextNodes.{IsInText, IsTarget}
@@ -98,12 +100,14 @@ module _ (c : Code) (i : ℕ) (n : Node) (t : IsInText c i n) where
 
 -- ---- in the code
 -- the code of a node stands there
-pub node-stands : {Q I : Type 0} (R : Rows Q I) (fits : I → Type 0) (c : Code) (i : ℕ) (is : List I) → IsNodeCode R fits c i is → StandsAt R fits (c.place i) is
-node-stands R fits c i is k = record { low = k.low; place = k.place; more = k.more; stands = k.stands; fit = k.fit; outside = k.outside }
+pub node-stands : {Q I : Type 0} (R : Rows Q I) (moves : Bool) (fits : I → Type 0) (c : Code) (i : ℕ) (is : List I) → moves_at R.processor.target (slice_get c.nodes.nodes i) ≡ moves → IsNodeCode R fits c i is
+    → StandsAt R moves fits (c.place i) is
+node-stands R moves fits c i is same k = record { low = k.low; place = k.place; more = k.more; stands = k.stands; fit = k.fit; outside = subst (λ b. All (StaysOutside R b) is) same k.outside }
 
 -- steps in the bytes of a node
-pub node-passes : {Q : Type 0} (P : Processor Q) (c : Code) (i m high : ℕ) (q u : Q) → c.place (i + 1) ≡ high → PassesIn P (c.place i) high m q u → Passes P c i m q u
-node-passes P c i m high q u e h = record { leads = h.leads; inside = λ j lt. let z = h.inside j lt in (z.0, omega (arith, z.1, e)); outside = h.outside; above = h.above; silent = h.silent; keeps = h.keeps }
+pub node-passes : {Q : Type 0} (P : Processor Q) (moves : Bool) (c : Code) (i m high : ℕ) (q u : Q) → moves_at P.target (slice_get c.nodes.nodes i) ≡ moves → c.place (i + 1) ≡ high
+    → PassesIn P moves (c.place i) high m q u → Passes P c i m q u
+node-passes P moves c i m high q u same e h = record { leads = h.leads; inside = λ j lt. let z = h.inside j lt in (z.0, omega (arith, z.1, e)); outside = λ j lt. subst (λ b. KeepsOutside P b (iter P.machine.step j q)) (sym same) (h.outside j lt); above = h.above; silent = h.silent; keeps = h.keeps }
 
 -- the place of a node to which the code may jump
 pub there : {Q I : Type 0} (R : Rows Q I) (c : Code) → HasPlaces R c → (k : ℕ) → k ≤ length c.nodes.nodes → IsTarget c k → IsThere R.is_place (c.place k)
@@ -139,7 +143,7 @@ module _ {Q I : Type 0} (R : Rows Q I) (scratch : ℕ → Bool) (fits : I → Ty
   scratch-off x h = is-false (scratch x) h
 
   -- the node goes to another one, where the registers are these
-  pub way-leads : (S S' : ℕ → Bool) → is_return n.op ≡ false → is_inside c i ≡ true → (live : Frame → ℕ → Bool) (s : State) (out : List ℕ) (q : Q) → s.at ≡ i → Stands R.processor c live s out q S
+  pub way-leads : (S S' : ℕ → Bool) → IsStill target n.op → is_inside c i ≡ true → (live : Frame → ℕ → Bool) (s : State) (out : List ℕ) (q : Q) → s.at ≡ i → Stands R.processor c live s out q S
       → (regs : ℕ → Option ℕ) (w : ℕ → ℕ) → HoldsRegisters target w regs S' → HoldsArguments target w s.pushed → w (frame_register target) ≡ (R.processor.seen q).registers (frame_register target) → w (stack_register target) ≡ (R.processor.seen q).registers (stack_register target)
       → (k : ℕ) → is_inside c k ≡ true → homes_at c k ≡ homes_at c i → step c.nodes c.shape c.addresses s ≡ Goes (to (record s { regs = regs }) k) [] → Way R.processor scratch (c.place i) high w (c.place k) q
       → Leads R.processor c live (live_behind live n S' s) i (step c.nodes c.shape c.addresses s) out q
@@ -147,7 +151,7 @@ module _ {Q I : Type 0} (R : Rows Q I) (scratch : ℕ → Bool) (fits : I → Ty
       let apart = conventions-apart target in
       let u = way.end in
       let s' : State = to (record s { regs = regs }) k in
-      let pass : Passes R.processor c i way.steps q u = node-passes R.processor c i way.steps high q u next way.passes in
+      let pass : Passes R.processor c i way.steps q u = node-passes R.processor false c i way.steps high q u (still-moves R.processor c i n t.here plain) next way.passes in
       let agree : StatesAgree target c live s' (R.processor.seen u) S' = quiet-agrees target c live s s' (R.processor.seen q) (R.processor.seen u) S S' st.state
       record {
         few = (shaped c.nodes t.well).few;
@@ -171,6 +175,6 @@ module _ {Q I : Type 0} (R : Rows Q I) (scratch : ℕ → Bool) (fits : I → Ty
         pushed = record { is = λ j v lt e. way.registers (slice_index (argument_registers target) j) (scratch-off _ (λ z. (isa.apart (slice_index (argument_registers target) j) z).argument j lt refl)) (λ z. (apart.carry (slice_index (argument_registers target) j) z).argument j lt refl) ∙ passed.is j v lt e };
       } in
       subst (λ x. Leads R.processor c live (live_behind live n S' s) i x out q) (sym goes')
-      (passages-lead R.processor c live (live_behind live n S' s) i way.steps (Goes s' []) out q u pass way.few (λ z. absurd (omega (arith, z, way.some))) (λ z. way.some) st.wrote
-      (subst (λ x. Stands R.processor c live s' (out ++ []) u (if x then live (at_call s.frame) else S')) (sym plain)
+      (passages-lead R.processor c live (live_behind live n S' s) i way.steps (Goes s' []) out q u pass (still-turns R.processor c i n t.here plain way.steps q) way.few (λ z. absurd (omega (arith, z, way.some))) (λ z. way.some) st.wrote
+      (subst (λ x. Stands R.processor c live s' (out ++ []) u (if x then live (at_call s.frame) else S')) (sym plain.rises)
       record { runs = way.runs; wrote = ap R.processor.machine.out (sym way.passes.leads) ∙ way.passes.silent way.steps (omega arith) ∙ st.wrote ∙ sym (append-nil out); state = agree }))

@@ -1,4 +1,5 @@
 -- Nodes whose code goes straight on to the next node: how it leads there, and that it is carried.
+use Rattle.lg_carry.proofs.TurnLemmas.{still-inside, still-turns}
 use Rattle.lg_carry.proofs.BelowLemmas.{not-below}
 use Rattle.std.proofs.Common.{◌≡◌, ◌≢◌, ℕ, ◌+◌, ◌-◌, ◌%◌, ◌<◌, ◌≤◌, ◌⊎◌, ⊎_elim, inl, inr, Bool, true, false, List, [], ◌∷◌, ◌++◌, Option, Some, None, refl, sym, ap, ◌∙◌, subst, arith, length, drop, length-append, append-nil, zero-add}
 use Rattle.std.specs.Prelude.{◌||◌, ◌&&◌, not, slice_get, slice_index, slice_index_or, if◌then◌else◌}
@@ -429,6 +430,7 @@ module _ {Q I : Type 0} (R : Rows Q I) (scratch : ℕ → Bool) (fits : I → Ty
             let last : Stands R.processor c frames to (out ++ []) u S = record { runs = leaves.runs; wrote = silent ∙ wrote ∙ sym (append-nil out); state = agree } in
             inr (subst (λ z. Leads R.processor c frames (live_behind frames n S s) i z out q) (sym goes)
             (node-blocks-lead R fits isa.rows c frames (live_behind frames n S s) i is (Goes to []) out q k here wrote leaves.through
+            (still-turns R.processor c i n t.here (still-inside target n.op inside_op falls) (length is) q)
             (subst (λ b. Stands R.processor c frames to (out ++ []) u (if b then frames (at_call s.frame) else S)) (sym (no-return n.op falls)) last)))
 
       -- the bytes off the slots are those that the body leaves

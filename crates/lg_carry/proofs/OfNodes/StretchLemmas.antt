@@ -1,5 +1,5 @@
 -- Instructions that stand somewhere in the code are passed, one run behind the other.
-use Rattle.std.proofs.Common.{◌≡◌, ℕ, zero, suc, ◌+◌, ◌-◌, ◌<◌, ◌≤◌, true, ⊎_elim, List, [], ◌∷◌, ◌++◌, refl, sym, ap, ◌∙◌, subst, arith, length, drop, append_assoc, length-append}
+use Rattle.std.proofs.Common.{◌≡◌, ℕ, zero, suc, ◌+◌, ◌-◌, ◌<◌, ◌≤◌, Bool, true, ⊎_elim, List, [], ◌∷◌, ◌++◌, refl, sym, ap, ◌∙◌, subst, arith, length, drop, append_assoc, length-append}
 use Rattle.std.proofs.lemmas.Bool.{cases_lt}
 use Rattle.std.specs.List.{All}
 use Rattle.lg_base.specs.Layout.{code_base}
@@ -38,9 +38,9 @@ module _ {Q I : Type 0} (R : Rows Q I) (fits : I → Type 0) (ok : AreRows R fit
       let e : pc + length (R.spelling x) + length (spellings R.spelling xs) ≡ pc + length (spellings R.spelling (x ∷ xs)) = omega (arith, size) in
       subst (λ n. R.is_place n ≡ true) e (places-behind xs (pc + length (R.spelling x)) (λ k d lt. all (suc k) d (omega (arith, lt))) (ok.places pc x (all 0 x (omega arith)) at))
 
-  pub part-passes : (from : ℕ) (front part back : List I) (q : Q) → StandsAt R fits from (front ++ (part ++ back)) → (R.processor.seen q).pc ≡ from + length (spellings R.spelling front) → IsBlock R.is_straight part → GoesThrough R.does R.processor.machine.status (IsAbove R) part q
-      → PassesIn R.processor from (behind R from (front ++ (part ++ back))) (length part) q (done R.does part q)
-  part-passes from front part back q k at block through =
+  pub part-passes : (moves : Bool) (from : ℕ) (front part back : List I) (q : Q) → StandsAt R moves fits from (front ++ (part ++ back)) → (R.processor.seen q).pc ≡ from + length (spellings R.spelling front) → IsBlock R.is_straight part → GoesThrough R.does R.processor.machine.status (IsAbove R) part q
+      → PassesIn R.processor moves from (behind R from (front ++ (part ++ back))) (length part) q (done R.does part q)
+  part-passes moves from front part back q k at block through =
       let front-bytes = spellings R.spelling front in
       let part-bytes = spellings R.spelling part in
       let back-bytes = spellings R.spelling back in
@@ -50,12 +50,12 @@ module _ {Q I : Type 0} (R : Rows Q I) (fits : I → Type 0) (ok : AreRows R fit
       let there : drop ((R.processor.seen q).pc - code_base) R.code ≡ part-bytes ++ (back-bytes ++ k.more) = behind-front R (from - code_base) ((R.processor.seen q).pc - code_base) front-bytes ((part-bytes ++ back-bytes) ++ k.more) here (omega (arith, at, k.low)) ∙ append_assoc part-bytes back-bytes k.more in
       let front-fits = all-front fits front (part ++ back) k.fit in
       let part-fits = all-front fits part back (all-back fits front (part ++ back) k.fit) in
-      let part-stays = all-front (StaysOutside R) part back (all-back (StaysOutside R) front (part ++ back) k.outside) in
+      let part-stays = all-front (StaysOutside R moves) part back (all-back (StaysOutside R moves) front (part ++ back) k.outside) in
       let run : RunsBlock R part q = blocks-run R fits ok part q (back-bytes ++ k.more) part-fits block through (omega (arith, at, k.low)) (subst (λ n. R.is_place n ≡ true) (sym at) (places-behind front from front-fits k.place)) there in
       record {
         leads = run.leads;
         inside = λ j lt. let w = run.inside j lt in (omega (arith, w.0, at), omega (arith, w.1, at, size));
-        outside = stay-outside R part q run part-stays;
+        outside = stay-outside R moves part q run part-stays;
         above = run.above;
         silent = run.silent;
         keeps = run.keeps;
@@ -63,8 +63,8 @@ module _ {Q I : Type 0} (R : Rows Q I) (fits : I → Type 0) (ok : AreRows R fit
 
 -- ---- one behind the other
 module _ {Q : Type 0} (P : Processor Q) where
-  pub none-passed : (low high : ℕ) (q : Q) → PassesIn P low high 0 q q
-  none-passed low high q = record {
+  pub none-passed : (moves : Bool) (low high : ℕ) (q : Q) → PassesIn P moves low high 0 q q
+  none-passed moves low high q = record {
     leads = iter-zero P.machine.step q;
     inside = λ j lt. absurd (omega (arith, lt));
     outside = λ j lt. absurd (omega (arith, lt));
@@ -73,11 +73,11 @@ module _ {Q : Type 0} (P : Processor Q) where
     keeps = λ h. h;
   }
 
-  pub passages-join : (low high m n : ℕ) (q u v : Q) → PassesIn P low high m q u → PassesIn P low high n u v → PassesIn P low high (m + n) q v
-  passages-join low high m n q u v h k = record {
+  pub passages-join : (moves : Bool) (low high m n : ℕ) (q u v : Q) → PassesIn P moves low high m q u → PassesIn P moves low high n u v → PassesIn P moves low high (m + n) q v
+  passages-join moves low high m n q u v h k = record {
     leads = steps-add ∙ ap (iter P.machine.step n) h.leads ∙ k.leads;
     inside = λ j lt. ⊎_elim (λ (l : j < m). h.inside j l) (λ (g : m ≤ j). subst (λ x. (low ≤ (P.seen x).pc) × ((P.seen x).pc < high)) (sym (later j g)) (k.inside (j - m) (omega (arith, lt, g)))) (cases_lt j m);
-    outside = λ j lt. ⊎_elim (λ (l : j < m). h.outside j l) (λ (g : m ≤ j). subst (λ x. KeepsOutside P x) (sym (later j g)) (k.outside (j - m) (omega (arith, lt, g)))) (cases_lt j m);
+    outside = λ j lt. ⊎_elim (λ (l : j < m). h.outside j l) (λ (g : m ≤ j). subst (KeepsOutside P moves) (sym (later j g)) (k.outside (j - m) (omega (arith, lt, g)))) (cases_lt j m);
     above = λ j lt. ⊎_elim (λ (l : j < m). h.above j l) (λ (g : m ≤ j). subst (λ x. TouchesAbove P x) (sym (later j g)) (k.above (j - m) (omega (arith, lt, g)))) (cases_lt j m);
     silent = λ j le. ⊎_elim (λ (l : j < m). h.silent j (omega (arith, l))) (λ (g : m ≤ j). ap P.machine.out (later j g) ∙ k.silent (j - m) (omega (arith, le, g)) ∙ ap P.machine.out (sym h.leads) ∙ h.silent m (omega arith)) (cases_lt j m);
     keeps = λ s. k.keeps (h.keeps s);

@@ -23,7 +23,7 @@ pub record Crosses {Q I : Type 0} (R : Rows Q I) (low high most fp n : ℕ) (W :
   pub end : Q
   pub steps : ℕ
   pub few : steps ≤ most
-  pub passes : PassesIn R.processor low high steps q end
+  pub passes : PassesIn R.processor false low high steps q end
   pub runs : R.processor.machine.status end ≡ Running
   pub here : (R.processor.seen end).pc ≡ high
   pub registers : (r : ℕ) → T r ≡ false → (R.processor.seen end).registers r ≡ W r
@@ -35,7 +35,7 @@ pub record Crosses {Q I : Type 0} (R : Rows Q I) (low high most fp n : ℕ) (W :
 -- code does so in at most as many steps as it has instructions, from every state that looks so, wherever it stands and whatever stands in the slots
 abbrev pub CrossesCode : {Q I : Type 0} → Rows Q I → (I → Type 0) → Work → List I → ℕ → ℕ → (ℕ → Bool) → Type 0
 CrossesCode {Q} R fits w code fp n T =
-    (q : Q) (from : ℕ) → Looks R fp w.registers w.bytes w.mark w.flags q → StandsAt R fits from code → behind R from code ≤ code_base + most_code
+    (q : Q) (from : ℕ) → Looks R fp w.registers w.bytes w.mark w.flags q → StandsAt R false fits from code → behind R from code ≤ code_base + most_code
     → (R.processor.seen q).pc ≡ from
     → Crosses R from (behind R from code) (length code) fp n w.end_registers w.end_bytes w.end_mark w.end_flags T q
 

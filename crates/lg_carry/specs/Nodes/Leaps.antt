@@ -1,5 +1,5 @@
 -- Branches and calls: what a target's code of them does, wherever it stands, and that nodes with this code are carried.
-use Rattle.std.specs.Prelude.{◌≡◌, ◌≢◌, ℕ, ◌+◌, ◌%◌, ◌^◌, ◌<◌, ◌≤◌, Bool, true, List, [], ◌∷◌, ◌++◌, slice_index, Option, Some, if◌then◌else◌, ⊤}
+use Rattle.std.specs.Prelude.{◌≡◌, ◌≢◌, ℕ, ◌+◌, ◌%◌, ◌^◌, ◌<◌, ◌≤◌, Bool, true, false, List, [], ◌∷◌, ◌++◌, slice_index, Option, Some, if◌then◌else◌, ⊤}
 use Rattle.lg_base.specs.Conventions.{result_register, stack_register, link_register, is_kept}
 use Rattle.lg_base.specs.HostNames.{host_address, host_by_address}
 use Rattle.lg_base.specs.Layout.{code_base, most_code, stack_end}
@@ -31,6 +31,7 @@ use Rattle.lg_carry.specs.Passages.{IsNodeCode}
 use Rattle.lg_carry.specs.Processors.{IsSeen, Processor}
 use Rattle.lg_carry.specs.Rows.{Rows}
 use Rattle.lg_carry.specs.Nodes.Immediates.{immediate}
+use Rattle.lg_carry.specs.Outside.{calls_move}
 use Rattle.lg_carry.specs.TextNodes.{IsInText, IsFrameOf}
 use Rattle.lg_carry.specs.TextNodes as text_nodes
 use Rattle.lg_carry.specs.Nodes.Stretches.{HasFrame, StandsAt, behind, Way, Arrival}
@@ -58,7 +59,7 @@ second_word target w x = immediate x
 abbrev pub BranchesLead : {Q I : Type 0} → Rows Q I → (ℕ → Bool) → (I → Type 0) → (ℕ → Condition → Reg → Operand → ℕ → ℕ → List I) → Type 0
 BranchesLead {Q} {I} R scratch fits code =
     (frame : ℕ) (o : Condition) (a : Reg) (b : Operand) (x y from to : ℕ) (q : Q) → HasFrame R.processor.target frame (R.processor.seen q)
-    → StandsAt R fits from (code frame o a b from to) → (holds o x y ≡ true → IsThere R.is_place to)
+    → StandsAt R false fits from (code frame o a b from to) → (holds o x y ≡ true → IsThere R.is_place to)
     → IsThere R.is_place (behind R from (code frame o a b from to))
     → R.processor.machine.status q ≡ Running → (R.processor.seen q).pc ≡ from → (R.processor.seen q).registers (register_of R.processor.target a) ≡ x
     → second_word R.processor.target (R.processor.seen q).registers b ≡ Some y → y < 2 ^ 64
@@ -87,7 +88,8 @@ BranchesCarry {Q} {I} R scratch fits code =
 -- the code of a call of an address, a place of the code or the entry of a host function, arrives there
 abbrev pub CallsLead : {Q I : Type 0} → Rows Q I → (I → Type 0) → (ℕ → ℕ → List I) → Type 0
 CallsLead {Q} {I} R fits code =
-    (frame from to : ℕ) (q : Q) → HasFrame R.processor.target frame (R.processor.seen q) → StandsAt R fits from (code from to) → IsThere R.is_place to
+    (frame from to : ℕ) (q : Q) → HasFrame R.processor.target frame (R.processor.seen q) → StandsAt R (calls_move R.processor.target) fits from (code from to)
+    → IsThere R.is_place to
     → R.processor.machine.status q ≡ Running → (R.processor.seen q).pc ≡ from
     → Arrival R.processor from (behind R from (code from to))
     ((R.processor.seen q).registers (stack_register R.processor.target)) (behind R from (code from to)) to q
@@ -99,7 +101,7 @@ pub record HostArrival {Q : Type 0} (P : Processor Q) (ready : HostName → (ℕ
 
 abbrev pub HostCallsLead : {Q I : Type 0} → Rows Q I → (HostName → (ℕ → ℕ) → Bool) → (I → Type 0) → (HostName → List I) → Type 0
 HostCallsLead {Q} {I} R ready fits code =
-    (frame from : ℕ) (name : HostName) (q : Q) → HasFrame R.processor.target frame (R.processor.seen q) → StandsAt R fits from (code name)
+    (frame from : ℕ) (name : HostName) (q : Q) → HasFrame R.processor.target frame (R.processor.seen q) → StandsAt R (calls_move R.processor.target) fits from (code name)
     → R.processor.machine.status q ≡ Running → (R.processor.seen q).pc ≡ from
     → HostArrival R.processor ready from (behind R from (code name))
     ((R.processor.seen q).registers (stack_register R.processor.target)) (behind R from (code name)) name q

@@ -1,0 +1,138 @@
+-- How the stack pointer moves over the instructions of a node.
+use Rattle.std.proofs.Common.{◌≡◌, ℕ, zero, suc, ◌+◌, ◌<◌, ◌≤◌, Bool, true, false, List, [], ◌∷◌, refl, sym, ap, ◌∙◌, subst, arith, length}
+use Rattle.std.specs.Prelude.{◌||◌, slice_get, slice_index_or, Some}
+use Rattle.std.specs.List.{All}
+use Rattle.lg_base.specs.Conventions.{stack_register}
+use Rattle.lg_base.specs.Runs.{iter}
+use Rattle.lg_base.specs.declared.target.Target.{Target}
+use Rattle.lg_base.specs.declared.target.Target.TheVariants.{X86_64, Aarch64, Riscv64}
+use Rattle.lg_op.specs.declared.node.Node.{Node}
+use Rattle.lg_op.specs.declared.op.ControlOp.TheVariants as control
+use Rattle.lg_op.specs.declared.op.Op.{Op}
+use Rattle.lg_op.specs.declared.op.Op.TheVariants as op
+use Rattle.lg_op.specs.declared.op.PlainOp.TheVariants as plain
+use Rattle.lg_node.specs.Functions.{is_prolog}
+use Rattle.lg_meaning.specs.Fits.{is_call}
+use Rattle.lg_meaning.specs.Reaching.{is_return}
+use Rattle.lg_temp.proofs.Steps.{iter-zero, iter-first}
+use Rattle.lg_carry.specs.Blocks.{StaysOutside, Along, Lowers, Raises, RunsBlock}
+use Rattle.lg_carry.specs.Carries.{leaps, moves_at, sinks_at, rises_at, KeepsOutside, Sinks, Rises}
+use Rattle.lg_carry.specs.FinalNodes.{Code}
+use Rattle.lg_carry.specs.Outside.{is_outside, calls_move, moves_stack}
+use Rattle.lg_carry.specs.Passages.{Turns}
+use Rattle.lg_carry.specs.Processors.{Processor, stack_of}
+use Rattle.lg_carry.specs.Rows.{Rows}
+use Rattle.lg_carry.specs.TextNodes.{stands_inside}
+
+-- ---- operations
+-- an operation that neither leaps nor begins a function moves no stack pointer
+pub record IsStill (target : Target) (o : Op) : Type 0 where
+  pub moves : moves_stack target o ≡ false
+  pub sinks : (is_prolog o || is_call o) ≡ false
+  pub rises : is_return o ≡ false
+
+still : (target : Target) (o : Op) → leaps o ≡ false → is_prolog o ≡ false → IsStill target o
+still target (op.Branch c last) h k = cc
+still target (op.BranchSum x last) h k = cc
+still target (op.Control control.Jmp last) h k = cc
+still target (op.Control control.Call last) h k = cc
+still target (op.Control control.Finish last) h k = cc
+still target (op.Control control.Ret last) h k = cc
+still target (op.Plain plain.Ret) h k = cc
+still target (op.Plain plain.Epilog) h k = cc
+still target (op.Plain plain.Prolog) h k = cc
+still target o h k = record { moves = refl; sinks = refl; rises = refl }
+
+pub still-inside : (target : Target) (o : Op) → stands_inside o ≡ true → leaps o ≡ false → IsStill target o
+still-inside target o h k = still target o k (no-prolog o h)
+  where
+    no-prolog : (o : Op) → stands_inside o ≡ true → is_prolog o ≡ false
+    no-prolog (op.Plain plain.Prolog) h = cc
+    no-prolog o h = refl
+
+module _ {Q : Type 0} (P : Processor Q) (c : Code) (i : ℕ) (n : Node) (here : slice_get c.nodes.nodes i ≡ Some n) (is : IsStill P.target n.op) where
+  pub still-moves : moves_at P.target (slice_get c.nodes.nodes i) ≡ false
+  still-moves = ap (moves_at P.target) here ∙ is.moves
+
+  pub still-turns : (steps : ℕ) (q : Q) → Turns P c i steps q
+  still-turns steps q = record {
+    sinks = λ e. absurd (differ (sym (ap sinks_at here ∙ is.sinks) ∙ e));
+    rises = λ e. absurd (differ (sym (ap rises_at here ∙ is.rises) ∙ e));
+  }
+    where
+      differ : false ≡ true → ⊥
+      differ e = cc
+
+-- steps that sink turn as the code of a `prolog` or call has to
+pub sinking-turns : {Q : Type 0} (P : Processor Q) (c : Code) (i : ℕ) (n : Node) → slice_get c.nodes.nodes i ≡ Some n → is_return n.op ≡ false → (steps : ℕ) (q : Q) → Sinks P (c.place i) steps q → Turns P c i steps q
+sinking-turns P c i n here other steps q sinks = record { sinks = λ e. sinks; rises = λ e. absurd (differ (sym (ap rises_at here ∙ other) ∙ e)) }
+  where
+    differ : false ≡ true → ⊥
+    differ e = cc
+
+-- and steps that rise as that of a return
+pub rising-turns : {Q : Type 0} (P : Processor Q) (c : Code) (i : ℕ) (n : Node) → slice_get c.nodes.nodes i ≡ Some n → (is_prolog n.op || is_call n.op) ≡ false → (steps : ℕ) (q : Q) → Rises P steps q → Turns P c i steps q
+rising-turns P c i n here other steps q rises = record { sinks = λ e. absurd (differ (sym (ap sinks_at here ∙ other) ∙ e)); rises = λ e. rises }
+  where
+    differ : false ≡ true → ⊥
+    differ e = cc
+
+-- a call moves the stack pointer where it has no link
+pub call-moves : (target : Target) (o : Op) → is_call o ≡ true → moves_stack target o ≡ calls_move target
+call-moves target (op.Control control.Call last) h = refl
+call-moves target (op.Control control.Finish last) h = refl
+call-moves target o h = cc
+
+-- ---- instructions
+stack-outside : (target : Target) → is_outside target false (stack_register target) ≡ true
+stack-outside X86_64 = refl
+stack-outside Aarch64 = refl
+stack-outside Riscv64 = refl
+
+-- a step that changes no register that is outside, where the stack pointer is one, keeps it
+pub keeps-stack : {Q : Type 0} (P : Processor Q) (q : Q) → KeepsOutside P false q → stack_of P.target (P.seen (P.machine.step q)) ≡ stack_of P.target (P.seen q)
+keeps-stack P q k = k (stack_register P.target) (stack-outside P.target)
+
+same-le : (m n : ℕ) → m ≡ n → m ≤ n
+same-le m n e = omega (arith, e)
+
+module _ {Q I : Type 0} (R : Rows Q I) where
+  abbrev step : Q → Q
+  step = R.processor.machine.step
+
+  -- what holds along the instructions holds at each step that does one
+  along-run : (T : I → Q → Type 0) (is : List I) (q : Q) → ((j : ℕ) (d : I) → j < length is → step (iter step j q) ≡ R.does (slice_index_or is j d) (iter step j q))
+      → Along R.does T is q → (j : ℕ) (d : I) → j < length is → T (slice_index_or is j d) (iter step j q)
+  along-run T [] q acts h j d lt = absurd (omega (arith, lt))
+  along-run T (i ∷ is) q acts h zero d lt = subst (T i) (sym (iter-zero step q)) h.0
+  along-run T (i ∷ is) q acts h (suc j) d lt =
+      let one : step q ≡ R.does i q = subst (λ u. step u ≡ R.does i u) (iter-zero step q) (acts 0 i (omega arith)) in
+      let there : (k : ℕ) → iter step (suc k) q ≡ iter step k (R.does i q) = λ k. iter-first step k q ∙ ap (iter step k) one in
+      let later : (k : ℕ) (e : I) → k < length is → step (iter step k (R.does i q)) ≡ R.does (slice_index_or is k e) (iter step k (R.does i q)) =
+          λ k e l. subst (λ u. step u ≡ R.does (slice_index_or is k e) u) (there k) (acts (suc k) e (omega (arith, l))) in
+      subst (T (slice_index_or is j d)) (sym (there j)) (along-run T is (R.does i q) later h.1 j d (omega (arith, lt)))
+
+  pub block-sinks : (is : List I) (q : Q) (low : ℕ) → RunsBlock R is q → Along R.does (Lowers R) is q → (R.processor.seen q).pc ≡ low → Sinks R.processor low (length is) q
+  block-sinks [] q low run h at = record { falls = λ j lt. absurd (omega (arith, lt)); ahead = λ j some lt. absurd (omega (arith, lt)) }
+  block-sinks (i ∷ is) q low run h at = record {
+    falls = λ j lt. subst (λ u. stack_of R.processor.target (R.processor.seen u) ≤ stack_of R.processor.target (R.processor.seen (iter step j q))) (sym (run.acts j i lt))
+        (along-run (Lowers R) (i ∷ is) q run.acts h j i lt);
+    ahead = λ j some lt. let a = run.ahead j some lt in omega (arith, a, at);
+  }
+
+  pub block-rises : (is : List I) (q : Q) → RunsBlock R is q → Along R.does (Raises R) is q → Rises R.processor (length is) q
+  block-rises [] q run h j lt = absurd (omega (arith, lt))
+  block-rises (i ∷ is) q run h j lt = subst (λ u. stack_of R.processor.target (R.processor.seen (iter step j q)) ≤ stack_of R.processor.target (R.processor.seen u)) (sym (run.acts j i lt))
+      (along-run (Raises R) (i ∷ is) q run.acts h j i lt)
+
+  -- instructions that keep the stack pointer lower it, and raise it
+  kept : (i : I) (q : Q) → StaysOutside R false i → stack_of R.processor.target (R.processor.seen (R.does i q)) ≡ stack_of R.processor.target (R.processor.seen q)
+  kept i q k = k q (stack_register R.processor.target) (stack-outside R.processor.target)
+
+  pub still-lowers : (is : List I) (q : Q) → All (StaysOutside R false) is → Along R.does (Lowers R) is q
+  still-lowers [] q h = tt
+  still-lowers (i ∷ is) q h = (same-le _ _ (kept i q (h 0 i (omega arith))), still-lowers is (R.does i q) (λ k d lt. h (suc k) d (omega (arith, lt))))
+
+  pub still-raises : (is : List I) (q : Q) → All (StaysOutside R false) is → Along R.does (Raises R) is q
+  still-raises [] q h = tt
+  still-raises (i ∷ is) q h = (same-le _ _ (sym (kept i q (h 0 i (omega arith)))), still-raises is (R.does i q) (λ k d lt. h (suc k) d (omega (arith, lt))))
