@@ -31,7 +31,7 @@ pub record IsStill (target : Target) (o : Op) : Type 0 where
   pub sinks : (is_prolog o || is_call o) ≡ false
   pub rises : is_return o ≡ false
 
-still : (target : Target) (o : Op) → leaps o ≡ false → is_prolog o ≡ false → IsStill target o
+pub still : (target : Target) (o : Op) → leaps o ≡ false → is_prolog o ≡ false → IsStill target o
 still target (op.Branch c last) h k = cc
 still target (op.BranchSum x last) h k = cc
 still target (op.Control control.Jmp last) h k = cc
@@ -82,6 +82,19 @@ pub call-moves : (target : Target) (o : Op) → is_call o ≡ true → moves_sta
 call-moves target (op.Control control.Call last) h = refl
 call-moves target (op.Control control.Finish last) h = refl
 call-moves target o h = cc
+
+-- a return moves it, and does not sink
+pub return-moves : (target : Target) (o : Op) → is_return o ≡ true → moves_stack target o ≡ true
+return-moves target (op.Control control.Ret last) h = refl
+return-moves target (op.Plain plain.Ret) h = refl
+return-moves target (op.Plain plain.Epilog) h = refl
+return-moves target o h = cc
+
+pub return-no-sink : (o : Op) → is_return o ≡ true → (is_prolog o || is_call o) ≡ false
+return-no-sink (op.Control control.Ret last) h = refl
+return-no-sink (op.Plain plain.Ret) h = refl
+return-no-sink (op.Plain plain.Epilog) h = refl
+return-no-sink o h = cc
 
 -- ---- instructions
 stack-outside : (target : Target) → is_outside target false (stack_register target) ≡ true

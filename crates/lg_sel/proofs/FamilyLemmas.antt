@@ -1,5 +1,7 @@
 -- What holds of the items of each family holds of those of each node.
 use Rattle.std.proofs.Common.{◌≡◌, ℕ, Bool, true, false, List, refl}
+use Rattle.lg_base.specs.declared.target.Target.{Target}
+use Rattle.lg_carry.specs.Outside.{moves_stack}
 use Rattle.lg_op.specs.declared.node.Node.{Node}
 use Rattle.lg_op.specs.declared.op.Addressing.{Addressing}
 use Rattle.lg_op.specs.declared.op.ControlOp.TheVariants as control
@@ -63,6 +65,15 @@ module _ {L : Type 0} (F : Families L) (P : Node → List L → Type 0) (frame :
   of-node n = by n.op n.operands n.line
 
 -- the nodes that compute values go on behind them
+pub value-still : (target : Target) (o : Op) → is_value o ≡ true → moves_stack target o ≡ false
+value-still target (op.Binary o last) is = refl
+value-still target (op.Wide o last) is = refl
+value-still target (op.Unary o) is = refl
+value-still target (op.Plain plain.Movi) is = refl
+value-still target (op.Plain plain.VaStart) is = refl
+value-still target (op.Retval t) is = refl
+value-still target o is = cc
+
 pub value-stays : (o : Op) → is_value o ≡ true → leaps o ≡ false
 value-stays (op.Binary o last) is = refl
 value-stays (op.Wide o last) is = refl

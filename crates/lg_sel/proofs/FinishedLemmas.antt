@@ -95,7 +95,7 @@ pub items-lead : {L I : Type 0} (H : Holes L I) (spelling : I → List ℕ) (fit
 items-lead H spelling fits is_item holes is_relative has_form old new code c i items a ok f =
     leading-there H spelling fits is_item holes old new code c i items a ok f is_relative has_form
 
-pub items-are-of-node : {L Q I : Type 0} (H : Holes L I) (R : Rows Q I) (fits stays : I → Type 0) (is_item : L → Type 0) → AreHoles H R.spelling fits is_item → ItemsAreOfNode H R fits stays is_item
+pub items-are-of-node : {L Q I : Type 0} (H : Holes L I) (R : Rows Q I) (fits : I → Type 0) (stays : Bool → I → Type 0) (is_item : L → Type 0) → AreHoles H R.spelling fits is_item → ItemsAreOfNode H R fits stays is_item
 items-are-of-node H R fits stays is_item holes old new c i items a ok stay few place_is f =
     let start : ℕ = length old.bytes in
     let s = settled-there H R.spelling fits is_item holes old new R.code c i items a ok f in

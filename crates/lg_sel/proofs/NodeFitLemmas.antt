@@ -1,6 +1,7 @@
 -- The items of each node can be appended to a buffer and stay within the conventions, where those of each family do.
-use Rattle.std.proofs.Common.{◌≡◌, ℕ, zero, suc, ◌<◌, Bool, true, false, List, [], ◌∷◌, ap, arith}
+use Rattle.std.proofs.Common.{◌≡◌, ℕ, zero, suc, ◌<◌, Bool, true, false, List, [], ◌∷◌, ap, arith, sym, subst}
 use Rattle.std.specs.Prelude.{slice_index_or}
+use Rattle.lg_carry.specs.Outside.{moves_stack}
 use Rattle.lg_base.specs.declared.target.Target.{Target}
 use Rattle.lg_meaning.specs.Steps.{operand_at}
 use Rattle.lg_op.specs.Nodes.{InForm}
@@ -17,7 +18,7 @@ use Rattle.lg_op.specs.declared.operand.Operand.{Operand}
 use Rattle.lg_op.specs.declared.operand.Operand.TheVariants as operand
 use Rattle.lg_op.specs.declared.operand.Reg.{Reg}
 use Rattle.lg_sel.proofs.CountLemmas.{count-is}
-use Rattle.lg_sel.proofs.FamilyLemmas.{HoldsOfFamilies, of-node}
+use Rattle.lg_sel.proofs.FamilyLemmas.{HoldsOfFamilies, of-node, value-still}
 use Rattle.lg_sel.proofs.OperandLemmas.{word-at, has-words, control-ends}
 use Rattle.lg_carry.specs.Nodes.Operands.{NamesBelow, NameBelow, HasWord, HaveWords}
 use Rattle.lg_sel.specs.Asked.{IsAsked}
@@ -94,28 +95,32 @@ module _ {L : Type 0} (target : Target) (needs : Op → List Need) (F : Families
       items-fit = of-node F Fits frame choices staged place families
 
   -- ---- items that write no register that is outside of the conventions
-  module _ (stays : L → Type 0) where
+  module _ (stays : Bool → L → Type 0) where
     pub record FamiliesStay : Type 0 where
-      pub values : (frame : ℕ) (n : Node) (live : Reg → Bool) (set : List Bool) (choices : List Choice) → is_value n.op ≡ true → AreMade n live set choices → Each stays (F.values frame n choices)
-      pub loads : (frame : ℕ) (t : ValueType) (at : Addressing) (n : Node) (live : Reg → Bool) (set : List Bool) (choices : List Choice) → n.op ≡ op.Load t at → AreMade n live set choices → Each stays (F.load frame t at n choices)
-      pub stores : (frame : ℕ) (t : StoreType) (at : Addressing) (n : Node) (live : Reg → Bool) (set : List Bool) (choices : List Choice) → n.op ≡ op.Store t at → AreMade n live set choices → Each stays (F.store frame t at n choices)
-      pub arguments : (frame : ℕ) (t : ValueType) (n : Node) → Each stays (F.argument frame t n)
-      pub next_arguments : (n : Node) → Each stays (F.next_argument n)
-      pub pushes : (frame j : ℕ) (n : Node) → Each stays (F.push frame j n)
-      pub controls : (n : Node) (frame place : ℕ) → Each stays (F.control n.op n.operands frame place)
+      pub values : (frame : ℕ) (n : Node) (live : Reg → Bool) (set : List Bool) (choices : List Choice) → is_value n.op ≡ true → AreMade n live set choices → Each (stays false) (F.values frame n choices)
+      pub loads : (frame : ℕ) (t : ValueType) (at : Addressing) (n : Node) (live : Reg → Bool) (set : List Bool) (choices : List Choice) → n.op ≡ op.Load t at → AreMade n live set choices → Each (stays false) (F.load frame t at n choices)
+      pub stores : (frame : ℕ) (t : StoreType) (at : Addressing) (n : Node) (live : Reg → Bool) (set : List Bool) (choices : List Choice) → n.op ≡ op.Store t at → AreMade n live set choices → Each (stays false) (F.store frame t at n choices)
+      pub arguments : (frame : ℕ) (t : ValueType) (n : Node) → Each (stays false) (F.argument frame t n)
+      pub next_arguments : (n : Node) → Each (stays false) (F.next_argument n)
+      pub pushes : (frame j : ℕ) (n : Node) → Each (stays false) (F.push frame j n)
+      pub controls : (n : Node) (frame place : ℕ) → Each (stays (moves_stack target n.op)) (F.control n.op n.operands frame place)
 
     module _ (f : FamiliesStay) (frame : ℕ) (live : Reg → Bool) (set staged : List Bool) (choices : List Choice) (place : ℕ) where
       abbrev Stay : Node → List L → Type 0
-      Stay n xs = AreMade n live set choices → Each stays xs
+      Stay n xs = AreMade n live set choices → Each (stays (moves_stack target n.op)) xs
+
+      -- the code of a node that moves no stack pointer
+      keeping : (n : Node) (xs : List L) → moves_stack target n.op ≡ false → Each (stays false) xs → Each (stays (moves_stack target n.op)) xs
+      keeping n xs e h = subst (λ b. Each (stays b) xs) (sym e) h
 
       stay-families : HoldsOfFamilies F Stay frame choices staged place
       stay-families = record {
-        values = λ n is are. f.values frame n live set choices is are;
-        loads = λ n t at e are. f.loads frame t at n live set choices e are;
-        stores = λ n t at e are. f.stores frame t at n live set choices e are;
-        arguments = λ n t e are. f.arguments frame t n;
-        next_arguments = λ n e are. f.next_arguments n;
-        pushes = λ n last e are. f.pushes frame (staged_count staged) n;
+        values = λ n is are. keeping n (F.values frame n choices) (value-still target n.op is) (f.values frame n live set choices is are);
+        loads = λ n t at e are. keeping n (F.load frame t at n choices) (ap (moves_stack target) e) (f.loads frame t at n live set choices e are);
+        stores = λ n t at e are. keeping n (F.store frame t at n choices) (ap (moves_stack target) e) (f.stores frame t at n live set choices e are);
+        arguments = λ n t e are. keeping n (F.argument frame t n) (ap (moves_stack target) e) (f.arguments frame t n);
+        next_arguments = λ n e are. keeping n (F.next_argument n) (ap (moves_stack target) e) (f.next_arguments n);
+        pushes = λ n last e are. keeping n (F.push frame (staged_count staged) n) (ap (moves_stack target) e) (f.pushes frame (staged_count staged) n);
         controls = λ n is are. f.controls n frame place;
       }
 

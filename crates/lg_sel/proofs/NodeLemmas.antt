@@ -1,9 +1,9 @@
 -- The items of a node as its instructions.
-use Rattle.std.proofs.Common.{◌≡◌, ℕ, ◌+◌, ◌-◌, ◌<◌, true, List, length, drop, sym, ap, ◌∙◌, arith}
+use Rattle.std.proofs.Common.{◌≡◌, ℕ, ◌+◌, ◌-◌, ◌<◌, Bool, true, List, length, drop, sym, ap, ◌∙◌, arith}
 use Rattle.std.specs.Prelude.{slice_get, slice_index, slice_index_or}
 use Rattle.lg_base.specs.Layout.{code_base}
 use Rattle.lg_carry.specs.Blocks.{spellings, IsBlock}
-use Rattle.lg_carry.specs.Carries.{leaps_at}
+use Rattle.lg_carry.specs.Carries.{leaps_at, moves_at}
 use Rattle.lg_carry.specs.FinalNodes.{Code}
 use Rattle.lg_carry.specs.NodeBlocks.{IsNodeBlock}
 use Rattle.lg_carry.specs.Passages.{IsNodeCode}
@@ -12,7 +12,7 @@ use Rattle.lg_sel.specs.Holes.{Holes, words_in, blanks, settled, AreHoles}
 use Rattle.lg_sel.specs.NodeItems.{InstructionsStay, AreOfNode}
 use Rattle.lg_sel.proofs.HoleLemmas as holes
 
-module _ {L Q I : Type 0} (H : Holes L I) (R : Rows Q I) (fits stays : I → Type 0) (is_item : L → Type 0) (ok : AreHoles H R.spelling fits is_item)
+module _ {L Q I : Type 0} (H : Holes L I) (R : Rows Q I) (fits : I → Type 0) (stays : Bool → I → Type 0) (is_item : L → Type 0) (ok : AreHoles H R.spelling fits is_item)
     (stay : InstructionsStay R stays) where
   pub items-are-node-code : (c : Code) (i : ℕ) (items : List L) → AreOfNode H R fits stays is_item c i items
       → (leaps_at (slice_get c.nodes.nodes i) ≡ true → 0 < words_in H items)
@@ -33,7 +33,7 @@ module _ {L Q I : Type 0} (H : Holes L I) (R : Rows Q I) (fits stays : I → Typ
         few = let f = a.few in omega (arith, f, long);
         some = λ l. let s = some l in omega (arith, s, long);
         fit = a.settled_at.fit;
-        outside = λ k d lt. stay (slice_index_or is k d) (a.stay k d lt);
+        outside = λ k d lt. stay (moves_at R.processor.target (slice_get c.nodes.nodes i)) (slice_index_or is k d) (a.stay k d lt);
       }
 
   pub items-are-node-blocks : (c : Code) (i : ℕ) (items : List L) → AreOfNode H R fits stays is_item c i items

@@ -1,7 +1,8 @@
 -- From a finished buffer to the items of a node that were appended to it.
-use Rattle.std.specs.Prelude.{◌≡◌, ℕ, ◌-◌, ◌≤◌, Bool, true, List, ◌++◌, length, slice_index, count_by}
+use Rattle.std.specs.Prelude.{◌≡◌, ℕ, ◌-◌, ◌≤◌, Bool, true, List, ◌++◌, length, slice_get, slice_index, count_by}
 use Rattle.std.specs.List.{All}
 use Rattle.lg_buf.specs.Buffers.{Buffer}
+use Rattle.lg_carry.specs.Carries.{moves_at}
 use Rattle.lg_carry.specs.FinalNodes.{Code}
 use Rattle.lg_carry.specs.Rows.{Rows}
 use Rattle.lg_sel.specs.Selected.{IsFinished, AreWhole, part_of}
@@ -15,10 +16,11 @@ pub record AreAppended {L I : Type 0} (H : Holes L I) (old new : Buffer) (items 
   pub fixes : new.fixes ≡ old.fixes ++ fixes_of H (length old.bytes) items
 
 -- so they are those of the node once the buffer is finished
-abbrev pub ItemsAreOfNode : {L Q I : Type 0} → Holes L I → Rows Q I → (I → Type 0) → (I → Type 0) → (L → Type 0) → Type 0
+abbrev pub ItemsAreOfNode : {L Q I : Type 0} → Holes L I → Rows Q I → (I → Type 0) → (Bool → I → Type 0) → (L → Type 0) → Type 0
 ItemsAreOfNode {L} H R fits stays is_item =
     (old new : Buffer) (c : Code) (i : ℕ) (items : List L) → AreAppended H old new items → Each is_item items
-    → All stays (settled H (slice_index c.addresses) (c.place i) items) → words_in H items ≤ 64 → R.is_place (c.place i) ≡ true → IsFinished old new R.code c i
+    → All (stays (moves_at R.processor.target (slice_get c.nodes.nodes i))) (settled H (slice_index c.addresses) (c.place i) items)
+    → words_in H items ≤ 64 → R.is_place (c.place i) ≡ true → IsFinished old new R.code c i
     → AreOfNode H R fits stays is_item c i items
 
 -- and its bytes are whole instructions

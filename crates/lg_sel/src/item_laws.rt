@@ -25,8 +25,8 @@ pub trait HasHoles {
     /// Whether an instruction is one of the processor.
     ghost fits: { Self.Instruction → Type 0 };
 
-    /// Whether an instruction writes only registers of the conventions.
-    ghost stays: { Self.Instruction → Type 0 };
+    /// Whether an instruction of code that moves the stack pointer, or does not, writes only registers of the conventions.
+    ghost stays: { Bool → Self.Instruction → Type 0 };
 
     /// Whether the numbers of an item are in range.
     ghost is_item: { Self.Item → Type 0 };
@@ -61,7 +61,7 @@ pub trait HasGoodItems: HasHoles {
 
 /// What each good item's instructions are, those of good items in a row are.
 pub fn good_items_stay<T: HasGoodItems>()
-    ensures { GoodItemsSettle T.holes T.good T.stays }
+    ensures { (moves : Bool) → GoodItemsSettle T.holes T.good (T.stays moves) }
 {}
 
 /// Where each good item's instructions are followed by the next, those of good items in a row are a block.

@@ -96,7 +96,8 @@ pub fn shortest_items<E: Emitter>(
     requires given { E.is_given node.now frame choices.now staged.now.arguments }
     requires empty { E.List.items items.old ≡ [] }
     requires labels { NameBelow (length buf.now.labels) node.now.operands }
-    requires emittable { (r : Reach) → words_in E.Item.holes (E.items_of homes r node.now frame choices.now staged.now.arguments (length buf.now.bytes)) ≤ 64
+    requires emittable { (r : Reach)
+        → words_in E.Item.holes (E.items_of homes r node.now frame choices.now staged.now.arguments (length buf.now.bytes)) ≤ 64
         → AreEmittable E.Item.holes E.Item.is_item E.Item.names_one_of (length buf.now.labels)
         (E.items_of homes r node.now frame choices.now staged.now.arguments (length buf.now.bytes)) }
     ensures made { E.List.items items.new ≡ E.items_of homes result node.now frame choices.now staged.now.arguments (length buf.now.bytes) }

@@ -1,5 +1,6 @@
 -- A return leaves the frame where it loads the words that the frame saved, and goes on at the return address.
-use Rattle.std.proofs.Common.{◌≡◌, ℕ, ◌+◌, ◌<◌, ◌≤◌, Option, Some, ap, ◌∙◌, arith}
+use Rattle.std.proofs.Common.{◌≡◌, ℕ, ◌+◌, ◌<◌, ◌≤◌, Option, Some, ap, ◌∙◌, arith, true}
+use Rattle.lg_carry.specs.Carries.{Rises}
 use Rattle.lg_base.specs.Conventions.{portable_register, frame_register, result_register, stack_register}
 use Rattle.lg_base.specs.Layout.{frame_pointer, saved_word}
 use Rattle.lg_carry.specs.Processors.{Processor}
@@ -28,11 +29,12 @@ module _ {Q : Type 0} (P : Processor Q) (sp back : ℕ) (v : Option ℕ) (q u : 
   comes-back : (a x y : ℕ) → 0x3FF00000 ≤ a → a + 8 ≤ 0x40000000 → y ≡ word_at (P.seen q).bytes a → HasWord (P.seen q).bytes a x → y ≡ x
   comes-back a x y low high e h = e ∙ same-word (P.seen q).bytes a (word_at (P.seen q).bytes a) x (stack-word (P.seen q).bytes a there low high) h
 
-  pub departure : (low high steps : ℕ) → PassesIn P low high steps q u → steps ≤ 64 → 0 < steps → Departure P low high sp back v q
-  departure low high steps passes few some = record {
+  pub departure : (low high steps : ℕ) → PassesIn P true low high steps q u → Rises P steps q → steps ≤ 64 → 0 < steps → Departure P low high sp back v q
+  departure low high steps passes rises few some = record {
     end = u;
     steps = steps;
     passes = passes;
+    rises = rises;
     few = few;
     some = some;
     runs = λ inside. is.progress ∙ runs-there back inside;

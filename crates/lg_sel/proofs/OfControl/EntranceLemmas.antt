@@ -1,7 +1,8 @@
 -- A `prolog` makes the frame where it stores the registers below the stack pointer, sets FP, and lets the stack pointer fall.
-use Rattle.std.proofs.Common.{◌≡◌, ◌≢◌, ℕ, zero, suc, ◌+◌, ◌-◌, ◌*◌, ◌^◌, ◌<◌, ◌≤◌, ◌⊎◌, inl, inr, List, [], ◌∷◌, Some, refl, sym, ap, ◌∙◌, subst, arith, length}
+use Rattle.std.proofs.Common.{◌≡◌, ◌≢◌, ℕ, zero, suc, ◌+◌, ◌-◌, ◌*◌, ◌^◌, ◌<◌, ◌≤◌, ◌⊎◌, inl, inr, List, [], ◌∷◌, Some, refl, sym, ap, ◌∙◌, subst, arith, length, true}
 use Rattle.std.specs.Prelude.{min, slice_index, take}
 use Rattle.std.proofs.lemmas.List.{length-take}
+use Rattle.lg_carry.specs.Carries.{Sinks}
 use Rattle.lg_base.specs.Conventions.{argument_registers, portable_register, frame_register, stack_register, link_register}
 use Rattle.lg_base.specs.Layout.{frame_pointer, return_word, saved_word, home_word}
 use Rattle.lg_base.specs.Runs.{Running}
@@ -84,12 +85,13 @@ module _ {Q : Type 0} (P : Processor Q) (link size homes sp : ℕ) (linked : lin
   off-stored a (inl h) = inl (omega (arith, h, stored-few))
   off-stored a (inr h) = inr (omega (arith, h))
 
-  pub entrance : (low high steps : ℕ) → PassesIn P low high steps q u → steps ≤ 64 → 0 < steps → P.machine.status u ≡ Running → (P.seen u).pc ≡ high
+  pub entrance : (low high steps : ℕ) → PassesIn P true low high steps q u → Sinks P low steps q → steps ≤ 64 → 0 < steps → P.machine.status u ≡ Running → (P.seen u).pc ≡ high
       → Entrance P low high sp size homes q
-  entrance low high steps passes few some runs here = record {
+  entrance low high steps passes sinks few some runs here = record {
     end = u;
     steps = steps;
     passes = passes;
+    sinks = sinks;
     few = few;
     some = some;
     runs = runs;

@@ -1,6 +1,7 @@
 -- A `prolog` is carried by code that makes the frame.
-use Rattle.std.proofs.Common.{◌≡◌, ℕ, ◌+◌, ◌%◌, ◌<◌, ◌≤◌, inr, Bool, false, List, [], ◌∷◌, Option, Some, None, refl, sym, ap, ◌∙◌, subst, arith, append-nil}
+use Rattle.std.proofs.Common.{◌≡◌, ℕ, ◌+◌, ◌%◌, ◌<◌, ◌≤◌, inr, Bool, false, List, [], ◌∷◌, Option, Some, None, refl, sym, ap, ◌∙◌, subst, arith, append-nil, true}
 use Rattle.std.specs.Prelude.{slice_get}
+use Rattle.lg_carry.proofs.TurnLemmas.{sinking-turns}
 use Rattle.lg_base.specs.Conventions.{portable_register, frame_register}
 use Rattle.lg_base.specs.Layout.{frame_pointer, saved_word, least_frame, stack_end}
 use Rattle.lg_base.specs.declared.target.Target.{Target}
@@ -11,7 +12,7 @@ use Rattle.lg_node.specs.Preparations.{prepared_before}
 use Rattle.lg_meaning.specs.States.{Frame, State}
 use Rattle.lg_meaning.specs.Steps.{Goes, on, begun, need, quiet, function_here}
 use Rattle.lg_meaning.specs.Texts.{text, step_at, step}
-use Rattle.lg_carry.specs.Carries.{Leads}
+use Rattle.lg_carry.specs.Carries.{Leads, moves_at}
 use Rattle.lg_carry.specs.FinalNodes.{Code, is_inside}
 use Rattle.lg_carry.specs.Frames.{at_call, return_address, MayKeepCaller, MayHoldCaller, HasFrameWords, IsArriving, IsRunning}
 use Rattle.lg_carry.specs.Homes.{homes_at}
@@ -90,14 +91,14 @@ module _ {Q I : Type 0} (R : Rows Q I) (fits : I → Type 0) (code : ℕ → ℕ
       (ap (is_inside c) at ∙ outer-is (home c.nodes.nodes i) i entry) st.state.frame
 
   enters : Entrance R.processor (c.place i) high sp (frame_of f) homes q
-  enters = lead (frame_of f) homes (c.place i) sp q st.state.seen large room top.1 top.0 arrives.stack (node-stands R fits c i (code (frame_of f) homes) k) st.runs
+  enters = lead (frame_of f) homes (c.place i) sp q st.state.seen large room top.1 top.0 arrives.stack (node-stands R true fits c i (code (frame_of f) homes) (ap (moves_at target) t.here) k) st.runs
       (st.state.here ∙ ap c.place at)
 
   abbrev u : Q
   u = enters.end
 
   pass : Passes R.processor c i enters.steps q u
-  pass = node-passes R.processor c i enters.steps high q u k.next enters.passes
+  pass = node-passes R.processor true c i enters.steps high q u (ap (moves_at target) t.here) k.next enters.passes
 
   abbrev s' : State
   s' = on (begun s f)
@@ -151,7 +152,7 @@ module _ {Q I : Type 0} (R : Rows Q I) (fits : I → Type 0) (code : ℕ → ℕ
 
   pub prolog-leads : Leads R.processor c live (live_behind live n S s) i (step c.nodes c.shape c.addresses s) out q
   prolog-leads = subst (λ o. Leads R.processor c live (live_behind live n S s) i o out q) (sym goes)
-      (passages-lead R.processor c live (live_behind live n S s) i enters.steps (Goes s' []) out q u pass enters.few
+      (passages-lead R.processor c live (live_behind live n S s) i enters.steps (Goes s' []) out q u pass (sinking-turns R.processor c i n t.here refl enters.steps q enters.sinks) enters.few
       (λ e. absurd (let z = enters.some in omega (arith, e, z))) (λ e. enters.some) st.wrote
       record {
         runs = enters.runs;

@@ -2,6 +2,8 @@
 use Rattle.std.proofs.Common.{◌≡◌, ◌≢◌, ℕ, zero, suc, ◌+◌, ◌<◌, ◌≤◌, ◌⊎◌, inl, inr, Bool, true, false, List, [], Option, Some, None, refl, sym, ap, ◌∙◌, subst}
 use Rattle.std.proofs.Common.{arith, length}
 use Rattle.std.specs.Prelude.{slice_get}
+use Rattle.lg_carry.proofs.TurnLemmas.{call-moves}
+use Rattle.lg_carry.specs.Outside.{calls_move}
 use Rattle.lg_base.specs.Conventions.{stack_register}
 use Rattle.lg_base.specs.HostNames.{host_by_address}
 use Rattle.lg_base.specs.declared.host_name.HostName.{HostName}
@@ -22,7 +24,7 @@ use Rattle.lg_temp.specs.Abis.{register_of}
 use Rattle.lg_carry.specs.FinalNodes.{Code, is_inside}
 use Rattle.lg_carry.specs.Registers.{HoldsArguments, HasArguments}
 use Rattle.lg_carry.specs.Stands.{lowest, Stands}
-use Rattle.lg_carry.specs.Carries.{Leads}
+use Rattle.lg_carry.specs.Carries.{Leads, moves_at}
 use Rattle.lg_carry.specs.NodeCode.{numbered, live_before, live_behind, ReturnsTo}
 use Rattle.lg_carry.specs.Passages.{IsNodeCode}
 use Rattle.lg_carry.specs.Rows.{Rows, AreRows}
@@ -78,8 +80,8 @@ module _ {Q I : Type 0} (R : Rows Q I) (fits : I → Type 0) (rows : AreRows R f
           let before : is_inside c s.at ≡ true = ap (is_inside c) at ∙ inside in
           let held = given R.processor.target c live s (R.processor.seen q) (live_before m S) a x st.state before reads ex in
           let walk = lead size (c.place i) x a q (held-frame R c i m S inside live s out q at st size is-frame)
-          (node-stands R fits c i (code size a) k) to-word.1 st.runs (st.state.here ∙ ap c.place at) held in
-          walk-leads R fits rows c i m (code size a) t k refl refl S live s out q st (to s j)
+          (node-stands R false fits c i (code size a) (ap (moves_at R.processor.target) t.here) k) to-word.1 st.runs (st.state.here ∙ ap c.place at) held in
+          walk-leads R fits rows c i m (code size a) t k record { moves = refl; sinks = refl; rises = refl } refl S live s out q st (to s j)
           record {
             fits = kept;
             side = target-inside c i m t s.at x j ej ∙ sym before;
@@ -145,7 +147,7 @@ module _ {Q I : Type 0} (R : Rows Q I) (ready : HostName → (ℕ → ℕ) → B
         → Carried
     to-host x name ex found steps =
         let arr = host-lead size (c.place i) name a q (held-frame R c i n S inside live s out q at st size is-frame)
-        (node-stands R fits c i (code size a) k) st.runs here (word-is x ex ∙ host-found x name found) in
+        (node-stands R (calls_move R.processor.target) fits c i (code size a) (ap (moves_at R.processor.target) t.here ∙ call-moves R.processor.target n.op calls) k) st.runs here (word-is x ex ∙ host-found x name found) in
         host-called R ready hosts c i n S w t inside next calls saved live s out q at st args few-args held stacked name
         (subst (λ z. HostArrival R.processor ready (c.place i) z (lowest s.frame) z name q) (sym k.next)
         (subst (λ z. HostArrival R.processor ready (c.place i) high z high name q) stack-is arr)) steps
@@ -158,7 +160,7 @@ module _ {Q I : Type 0} (R : Rows Q I) (ready : HostName → (ℕ → ℕ) → B
         let within = home_within c.nodes.nodes j j entry in
         let to-word = word-there R c w (is_entry_label (text c.nodes c.shape c.addresses)) x j l (omega (arith, within)) in
         let arr = lead size (c.place i) x a q (held-frame R c i n S inside live s out q at st size is-frame)
-        (node-stands R fits c i (code size a) k) to-word.1 st.runs here (word-is x ex) in
+        (node-stands R (calls_move R.processor.target) fits c i (code size a) (ap (moves_at R.processor.target) t.here ∙ call-moves R.processor.target n.op calls) k) to-word.1 st.runs here (word-is x ex) in
         enters R c i n S t inside calls saved live s returns out q at st args few-args held stacked j entry
         (subst (λ z. Arrival R.processor (c.place i) z (lowest s.frame) z (c.place j) q) (sym k.next)
         (subst (λ z. Arrival R.processor (c.place i) high z high (c.place j) q) stack-is

@@ -1,6 +1,7 @@
 -- Returns are carried by code that leaves the frame.
 use Rattle.std.proofs.Common.{◌≡◌, ◌≢◌, ℕ, ◌+◌, ◌⊎◌, inl, inr, Bool, true, List, [], ◌∷◌, Option, Some, None, refl, sym, ap, ◌∙◌, subst, arith, append-nil}
 use Rattle.std.specs.Prelude.{slice_get, slice_index, if◌then◌else◌}
+use Rattle.lg_carry.proofs.TurnLemmas.{rising-turns, return-moves, return-no-sink}
 use Rattle.lg_base.specs.Conventions.{stack_register}
 use Rattle.lg_base.specs.Layout.{return_word}
 use Rattle.lg_base.specs.declared.target.Target.{Target}
@@ -17,7 +18,7 @@ use Rattle.lg_meaning.specs.States.{Frame, State, reg}
 use Rattle.lg_meaning.specs.Steps.{Goes, Undefined, need, leave, back_to, node_step}
 use Rattle.lg_meaning.specs.Texts.{text, step_at, step}
 use Rattle.lg_carry.specs.AgreeAcrossFrames.{returned}
-use Rattle.lg_carry.specs.Carries.{Meets, Leads, calls_at}
+use Rattle.lg_carry.specs.Carries.{Meets, Leads, calls_at, moves_at}
 use Rattle.lg_carry.specs.FinalNodes.{Code, is_inside}
 use Rattle.lg_carry.specs.Frames.{at_call, IsSettled, return_address}
 use Rattle.lg_carry.specs.Homes.{homes_at}
@@ -64,6 +65,9 @@ module _ {Q I : Type 0} (R : Rows Q I) (fits : I → Type 0) (code : ℕ → Ret
     abbrev high : ℕ
     high = behind R (c.place i) (code size r)
 
+    moves : moves_at target (slice_get c.nodes.nodes i) ≡ true
+    moves = ap (moves_at target) t.here ∙ return-moves target n.op is
+
     here-inside : is_inside c s.at ≡ true
     here-inside = ap (is_inside c) at ∙ inside
 
@@ -96,14 +100,14 @@ module _ {Q I : Type 0} (R : Rows Q I) (fits : I → Type 0) (code : ℕ → Ret
     departs =
         let word = subst (λ z. HasWord (R.processor.seen q).bytes (return_word z) back) (sym stack-is) settled-frame.words.back in
         subst (λ z. Departure R.processor (c.place i) high z back v q) stack-is
-        (lead size (c.place i) back r q ok has-frame (node-stands R fits c i (code size r) k) (back-there s.callers refl) word st.runs
+        (lead size (c.place i) back r q ok has-frame (node-stands R true fits c i (code size r) moves k) (back-there s.callers refl) word st.runs
         (st.state.here ∙ ap c.place at))
 
     abbrev u : Q
     u = departs.end
 
     pass : Passes R.processor c i departs.steps q u
-    pass = node-passes R.processor c i departs.steps high q u k.next departs.passes
+    pass = node-passes R.processor true c i departs.steps high q u moves k.next departs.passes
 
     wrote : R.processor.machine.out u ≡ out
     wrote = ap R.processor.machine.out (sym pass.leads) ∙ pass.silent departs.steps (omega arith) ∙ st.wrote
@@ -145,7 +149,7 @@ module _ {Q I : Type 0} (R : Rows Q I) (fits : I → Type 0) (code : ℕ → Ret
 
     pub returns-lead : Leads R.processor c live (live_behind live n S s) i (step c.nodes c.shape c.addresses s) out q
     returns-lead = subst (λ o. Leads R.processor c live (live_behind live n S s) i o out q) (sym steps)
-        (passages-lead R.processor c live (live_behind live n S s) i departs.steps (leave s v) out q u pass departs.few
+        (passages-lead R.processor c live (live_behind live n S s) i departs.steps (leave s v) out q u pass (rising-turns R.processor c i n t.here (return-no-sink n.op is) departs.steps q departs.rises) departs.few
         (λ e. absurd (let z = departs.some in omega (arith, e, z))) (λ e. departs.some) st.wrote (meets s.callers refl))
 
   pub returns-carry : ReturnsCarry R fits code

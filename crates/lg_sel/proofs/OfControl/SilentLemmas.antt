@@ -1,6 +1,7 @@
 -- Nodes without code are carried.
 use Rattle.std.proofs.Common.{◌≡◌, ℕ, ◌+◌, ◌⊎◌, inl, inr, Bool, true, false, List, [], ◌∷◌, Option, Some, None, refl, sym, ap, ◌∙◌, arith, length}
 use Rattle.std.specs.Prelude.{slice_get}
+use Rattle.lg_carry.proofs.TurnLemmas.{still}
 use Rattle.lg_op.specs.declared.op.Op.{Op}
 use Rattle.lg_op.specs.declared.op.Op.TheVariants as op
 use Rattle.lg_op.specs.declared.op.PlainOp.TheVariants as plain
@@ -12,7 +13,7 @@ use Rattle.lg_meaning.specs.States.{Frame, State, value}
 use Rattle.lg_meaning.specs.Steps.{Outcome, Goes, Undefined, need, quiet, on, operand_at, node_step}
 use Rattle.lg_meaning.specs.Texts.{text, step_at, step}
 use Rattle.lg_carry.specs.FinalNodes.{Code, is_inside}
-use Rattle.lg_carry.specs.Carries.{Leads}
+use Rattle.lg_carry.specs.Carries.{Leads, leaps}
 use Rattle.lg_carry.specs.Homes.{homes_at}
 use Rattle.lg_carry.specs.NodeCode.{live_before, live_behind, is_return, CarriesNode}
 use Rattle.lg_carry.specs.Passages.{IsNodeCode}
@@ -31,18 +32,18 @@ use Rattle.lg_sel.proofs.OfControl.WalkLemmas.{walk-leads}
 
 -- what these operations have in common
 record IsSilent (n : Node) : Type 0 where
-  stays : is_return n.op ≡ false
+  falls : leaps n.op ≡ false
   writes : writes_none n ≡ true
   prolog : is_prolog n.op ≡ false
   epilog : is_epilog n.op ≡ false
   inside : (b : Bool) → may_stand_outside n.op b ≡ false
 
 silent : (o : Op) (n : Node) → n.op ≡ o → is_silent o ≡ true → IsSilent n
-silent (op.Plain plain.Prepare) n e h = record { stays = rw e refl; writes = rw e refl; prolog = rw e refl; epilog = rw e refl; inside = λ b. rw e refl }
-silent (op.Plain plain.Ellipsis) n e h = record { stays = rw e refl; writes = rw e refl; prolog = rw e refl; epilog = rw e refl; inside = λ b. rw e refl }
-silent (op.Plain plain.Arg) n e h = record { stays = rw e refl; writes = rw e refl; prolog = rw e refl; epilog = rw e refl; inside = λ b. rw e refl }
-silent (op.Plain plain.Allocai) n e h = record { stays = rw e refl; writes = rw e refl; prolog = rw e refl; epilog = rw e refl; inside = λ b. rw e refl }
-silent (op.Plain plain.VaEnd) n e h = record { stays = rw e refl; writes = rw e refl; prolog = rw e refl; epilog = rw e refl; inside = λ b. rw e refl }
+silent (op.Plain plain.Prepare) n e h = record { falls = rw e refl; writes = rw e refl; prolog = rw e refl; epilog = rw e refl; inside = λ b. rw e refl }
+silent (op.Plain plain.Ellipsis) n e h = record { falls = rw e refl; writes = rw e refl; prolog = rw e refl; epilog = rw e refl; inside = λ b. rw e refl }
+silent (op.Plain plain.Arg) n e h = record { falls = rw e refl; writes = rw e refl; prolog = rw e refl; epilog = rw e refl; inside = λ b. rw e refl }
+silent (op.Plain plain.Allocai) n e h = record { falls = rw e refl; writes = rw e refl; prolog = rw e refl; epilog = rw e refl; inside = λ b. rw e refl }
+silent (op.Plain plain.VaEnd) n e h = record { falls = rw e refl; writes = rw e refl; prolog = rw e refl; epilog = rw e refl; inside = λ b. rw e refl }
 silent o n e h = cc
 
 -- their steps
@@ -157,7 +158,7 @@ module _ {Q I : Type 0} (R : Rows Q I) (fits : I → Type 0) (rows : AreRows R f
           let walk : Walk R.processor (c.place i) (behind R (c.place i) []) (c.place u.at) q = record {
             end = q;
             steps = 0;
-            passes = none-passed R.processor (c.place i) (behind R (c.place i) []) q;
+            passes = none-passed R.processor false (c.place i) (behind R (c.place i) []) q;
             few = omega arith;
             some = λ lt. omega (arith, lt);
             runs = st.runs;
@@ -170,7 +171,7 @@ module _ {Q I : Type 0} (R : Rows Q I) (fits : I → Type 0) (rows : AreRows R f
             bytes = refl;
             mark = refl;
           } in
-          walk-leads R fits rows c i n [] t k is.stays is.writes S live s out q st u
+          walk-leads R fits rows c i n [] t k (still R.processor.target n.op is.falls is.prolog) is.writes S live s out q st u
           record {
             fits = text-keeps c i n t s u [] at (omega (arith, st.state.seen.low, st.state.mark))
                 (omega (arith, st.state.seen.high, st.state.mark)) st.state.fits goes;

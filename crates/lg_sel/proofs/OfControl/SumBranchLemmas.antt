@@ -27,7 +27,7 @@ use Rattle.lg_meaning.specs.Steps.{Goes, Undefined, need, branch, with_word, wit
 use Rattle.lg_meaning.specs.Texts.{text, step_at, step}
 use Rattle.lg_temp.specs.Abis.{register_of}
 use Rattle.lg_carry.specs.FinalNodes.{Code, is_inside}
-use Rattle.lg_carry.specs.Carries.{Leads}
+use Rattle.lg_carry.specs.Carries.{Leads, moves_at}
 use Rattle.lg_carry.specs.Homes.{homes_at}
 use Rattle.lg_carry.specs.NodeCode.{numbered, live_before, live_behind}
 use Rattle.lg_carry.specs.Passages.{IsNodeCode}
@@ -162,7 +162,7 @@ module _ {Q I : Type 0} (R : Rows Q I) (scratch : ℕ → Bool) (fits : I → Ty
         → Leads R.processor c live (live_behind live n S s) i (step c.nodes c.shape c.addresses s) out q
     goes-to v j side level goes' way =
         let conv = conventions-apart target in
-        way-leads R scratch fits isa c i n t high place-next (live_before n S) S refl inside live s out q at st (with_word s.regs (number_of a) v)
+        way-leads R scratch fits isa c i n t high place-next (live_before n S) S record { moves = refl; sinks = refl; rises = refl } inside live s out q at st (with_word s.regs (number_of a) v)
         (with_register W ra v)
         record {
           is = λ z u lt e g. ⊎_elim
@@ -193,7 +193,7 @@ module _ {Q I : Type 0} (R : Rows Q I) (scratch : ℕ → Bool) (fits : I → Ty
             (if branch_sum_goes o x y then slice_index c.addresses l.0 else high) q
         way at-label = lead frame o a third x y (c.place i) (slice_index c.addresses l.0) q
             (frame-held target c i live s (R.processor.seen q) (live_before n S) at before st.state frame is-frame)
-            (node-stands R fits c i is k) at-label next st.runs here named ea near eb small
+            (node-stands R false fits c i is (ap (moves_at target) t.here) k) at-label next st.runs here named ea near eb small
 
         bound : slice_index c.addresses l.0 ≡ c.place lands.node
         bound = w.nodes.bound l.0 lands.node (bound-at c.nodes.places l (place.Node lands.node) lands.place)

@@ -4,6 +4,7 @@ use Rattle.std.proofs.Common.{arith, length, length-append, append-nil}
 use Rattle.std.specs.Prelude.{◌&&◌, slice_get, slice_index, if◌then◌else◌}
 use Rattle.std.specs.List.{All}
 use Rattle.std.proofs.lemmas.List.Elements.{All-head}
+use Rattle.lg_carry.proofs.TurnLemmas.{IsStill, still-moves, still-turns}
 use Rattle.lg_op.specs.Forms.{is_alignment}
 use Rattle.lg_op.specs.declared.node.Node.{Node}
 use Rattle.lg_node.specs.declared.place.Place.TheVariants as place
@@ -15,7 +16,7 @@ use Rattle.lg_meaning.specs.States.{Frame, State}
 use Rattle.lg_meaning.specs.Steps.{Goes, to, on, node_in}
 use Rattle.lg_meaning.specs.Texts.{text, step_at, step}
 use Rattle.lg_carry.specs.Blocks.{spellings}
-use Rattle.lg_carry.specs.Carries.{Leads}
+use Rattle.lg_carry.specs.Carries.{Leads, moves_at}
 use Rattle.lg_carry.specs.FinalNodes.{Code, is_inside}
 use Rattle.lg_carry.specs.Frames.{at_call}
 use Rattle.lg_carry.specs.Homes.{homes_at}
@@ -52,7 +53,7 @@ no-room from (suc m) steps some none = let s = some (omega arith) in absurd (ome
 -- ---- a node
 module _ {Q I : Type 0} (R : Rows Q I) (fits : I → Type 0) (rows : AreRows R fits) (c : Code) (i : ℕ) (n : Node) (is : List I) (t : IsInText c i n)
     (k : IsNodeCode R fits c i is)
-    (plain : is_return n.op ≡ false) (writes : writes_none n ≡ true) where
+    (plain : IsStill R.processor.target n.op) (writes : writes_none n ≡ true) where
   -- the code of a node that goes to another one, and changes nothing else, walks there
   pub walk-leads : (S : ℕ → Bool) (live : Frame → ℕ → Bool) (s : State) (out : List ℕ) (q : Q) → Stands R.processor c live s out q (live_before n S)
       → (u : State) → Moves c s u → step c.nodes c.shape c.addresses s ≡ Goes u [] → Walk R.processor (c.place i) (behind R (c.place i) is) (c.place u.at) q
@@ -73,13 +74,13 @@ module _ {Q I : Type 0} (R : Rows Q I) (fits : I → Type 0) (rows : AreRows R f
       }
       (λ r lt l. still-live n S r (unwritten n writes r) l) in
       let pass : Passes R.processor c i walk.steps q walk.end =
-      node-passes R.processor c i walk.steps (behind R (c.place i) is) q walk.end k.next walk.passes in
+      node-passes R.processor false c i walk.steps (behind R (c.place i) is) q walk.end (still-moves R.processor c i n t.here plain) k.next walk.passes in
       let size : ℕ = length (spellings R.spelling is) in
       subst (λ o. Leads R.processor c live (live_behind live n S s) i o out q) (sym goes)
-      (passages-lead R.processor c live (live_behind live n S s) i walk.steps (Goes u []) out q walk.end pass walk.few
+      (passages-lead R.processor c live (live_behind live n S s) i walk.steps (Goes u []) out q walk.end pass (still-turns R.processor c i n t.here plain walk.steps q) walk.few
       (λ none. k.next ∙ no-room (c.place i) size walk.steps walk.some none)
       (λ leaps. walk.some (let z = spelled-some R fits rows is k.fit (k.some leaps) in omega (arith, z))) st.wrote
-      (subst (λ b. Stands R.processor c live u (out ++ []) walk.end (if b then live (at_call s.frame) else S)) (sym plain) record {
+      (subst (λ b. Stands R.processor c live u (out ++ []) walk.end (if b then live (at_call s.frame) else S)) (sym plain.rises) record {
         runs = walk.runs;
         wrote = ap R.processor.machine.out (sym pass.leads) ∙ pass.silent walk.steps (omega arith) ∙ st.wrote ∙ sym (append-nil out);
         state = agree;
@@ -99,8 +100,8 @@ module _ {Q I : Type 0} (R : Rows Q I) (fits : I → Type 0) (rows : AreRows R f
       (omega (arith, st.state.seen.high, st.state.mark)) st.state.fits goes in
       let there = to-label R c w l lands.node lands.place (let z = kept.inside in omega (arith, z)) in
       let bound = w.nodes.bound l.0 lands.node (bound-at c.nodes.places l (place.Node lands.node) lands.place) in
-      let walk = lead (c.place i) (slice_index c.addresses l.0) q (node-stands R fits c i is k) there st.runs (st.state.here ∙ ap c.place at) in
-      inr (walk-leads R fits rows c i n is t k refl refl S live s out q st u
+      let walk = lead (c.place i) (slice_index c.addresses l.0) q (node-stands R false fits c i is (ap (moves_at R.processor.target) t.here) k) there st.runs (st.state.here ∙ ap c.place at) in
+      inr (walk-leads R fits rows c i n is t k record { moves = refl; sinks = refl; rises = refl } refl S live s out q st u
       record {
         fits = kept;
         side = lands.side ∙ ap (is_inside c) (sym at);
@@ -149,11 +150,11 @@ module _ {Q I : Type 0} (R : Rows Q I) (fits : I → Type 0) (rows : AreRows R f
       (omega (arith, st.state.seen.high, st.state.mark)) st.state.fits goes in
       let next : u.at ≡ i + 1 = ap (λ j. j + 1) at in
       let high : ℕ = behind R (c.place i) is in
-      let walk = lead (c.place i) m q (first-true (is_alignment m) (t.formed n t.here).forms) (node-stands R fits c i is k)
+      let walk = lead (c.place i) m q (first-true (is_alignment m) (t.formed n t.here).forms) (node-stands R false fits c i is (ap (moves_at R.processor.target) t.here) k)
       (there-behind R fits rows c w i is (in-nodes c i n t) k)
       st.runs (st.state.here ∙ ap c.place at) in
       let end : high ≡ c.place u.at = sym k.next ∙ ap c.place (sym next) in
-      inr (walk-leads R fits rows c i n is t k refl refl S live s out q st u
+      inr (walk-leads R fits rows c i n is t k record { moves = refl; sinks = refl; rises = refl } refl S live s out q st u
       record {
         fits = kept;
         side = align-side c i m line u.at t next kept.inside ∙ ap (is_inside c) (sym at);

@@ -1,5 +1,5 @@
 -- `prolog`: what a target's code of it does, wherever it stands, and that the node with this code is carried.
-use Rattle.std.specs.Prelude.{◌≡◌, ℕ, ◌+◌, ◌-◌, ◌%◌, ◌<◌, ◌≤◌, ◌⊎◌, Bool, List, [], length, slice_index, Some}
+use Rattle.std.specs.Prelude.{◌≡◌, ℕ, ◌+◌, ◌-◌, ◌%◌, ◌<◌, ◌≤◌, ◌⊎◌, Bool, List, [], length, slice_index, Some, true}
 use Rattle.lg_base.specs.Conventions.{argument_registers, portable_register, frame_register, stack_register, link_register}
 use Rattle.lg_base.specs.Layout.{frame_pointer, return_word, saved_word, home_word, least_frame, stack_end}
 use Rattle.lg_base.specs.Runs.{Running}
@@ -12,6 +12,7 @@ use Rattle.lg_meaning.specs.Steps.{function_here}
 use Rattle.lg_carry.specs.FinalNodes.{Code}
 use Rattle.lg_carry.specs.Frames.{arriving, IsLinked}
 use Rattle.lg_carry.specs.Homes.{homes_at}
+use Rattle.lg_carry.specs.Carries.{Sinks}
 use Rattle.lg_carry.specs.NodeCode.{CarriesNode}
 use Rattle.lg_carry.specs.Passages.{IsNodeCode}
 use Rattle.lg_carry.specs.Processors.{IsSeen, Processor}
@@ -20,13 +21,14 @@ use Rattle.lg_carry.specs.Rows.{Rows}
 use Rattle.lg_carry.specs.TextNodes.{IsInText}
 use Rattle.lg_carry.specs.Nodes.Stretches.{StandsAt, behind, PassesIn}
 
--- at most 64 steps from one address to another make a frame of so many bytes below the stack pointer of the caller. Its words hold the return address, the
+-- at most 64 steps from one address to another, in none of which the stack pointer rises, make a frame of so many bytes below that of the caller. Its words hold the return address, the
 -- caller's FP and V0 to V2, and of the arguments that have registers those with so many homes; FP and the stack pointer are those of the frame, and no other
 -- register of the conventions changes but the link and that of the carry, nor a byte outside of the words of a frame
 pub record Entrance {Q : Type 0} (P : Processor Q) (low high stack size homes_read : ℕ) (q : Q) : Type 0 where
   pub end : Q
   pub steps : ℕ
-  pub passes : PassesIn P low high steps q end
+  pub passes : PassesIn P true low high steps q end
+  pub sinks : Sinks P low steps q
   pub few : steps ≤ 64
   pub some : 0 < steps
   pub runs : P.machine.status end ≡ Running
@@ -50,7 +52,7 @@ abbrev pub PrologsLead : {Q I : Type 0} → Rows Q I → (I → Type 0) → (ℕ
 PrologsLead {Q} R fits code =
     (frame homes from stack : ℕ) (q : Q) → IsSeen (R.processor.seen q) → 272 ≤ frame → least_frame + frame ≤ stack → stack ≤ stack_end → stack % 16 ≡ 0
     → (R.processor.seen q).registers (stack_register R.processor.target) ≡ arriving (link_register R.processor.target) stack
-    → StandsAt R fits from (code frame homes)
+    → StandsAt R true fits from (code frame homes)
     → R.processor.machine.status q ≡ Running → (R.processor.seen q).pc ≡ from → Entrance R.processor from (behind R from (code frame homes)) stack frame homes q
 
 abbrev pub prolog_node : ℕ → Node

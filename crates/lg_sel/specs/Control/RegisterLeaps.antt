@@ -1,5 +1,5 @@
 -- `jmpr`, `callr` and `finishr`: what a target's code of them does, wherever it stands, and that nodes with this code are carried.
-use Rattle.std.specs.Prelude.{◌≡◌, ℕ, Bool, List, [], ◌∷◌}
+use Rattle.std.specs.Prelude.{◌≡◌, ℕ, Bool, List, [], ◌∷◌, false}
 use Rattle.lg_base.specs.Conventions.{stack_register}
 use Rattle.lg_base.specs.HostNames.{host_address}
 use Rattle.lg_base.specs.Runs.{Running}
@@ -13,6 +13,7 @@ use Rattle.lg_op.specs.declared.node.Node.{Node}
 use Rattle.lg_temp.specs.Abis.{register_of}
 use Rattle.lg_carry.specs.FinalNodes.{Code}
 use Rattle.lg_carry.specs.NodeCode.{CarriesNode}
+use Rattle.lg_carry.specs.Outside.{calls_move}
 use Rattle.lg_carry.specs.Passages.{IsNodeCode}
 use Rattle.lg_carry.specs.Rows.{Rows}
 use Rattle.lg_carry.specs.TextNodes.{IsInText, IsFrameOf}
@@ -24,14 +25,15 @@ use Rattle.lg_sel.specs.Control.Walks.{Walk}
 -- a jump walks there
 abbrev pub RegisterJumpsWalk : {Q I : Type 0} → Rows Q I → (I → Type 0) → (ℕ → Reg → List I) → Type 0
 RegisterJumpsWalk {Q} R fits code =
-    (frame from to : ℕ) (a : Reg) (q : Q) → HasFrame R.processor.target frame (R.processor.seen q) → StandsAt R fits from (code frame a) → IsThere R.is_place to
+    (frame from to : ℕ) (a : Reg) (q : Q) → HasFrame R.processor.target frame (R.processor.seen q) → StandsAt R false fits from (code frame a) → IsThere R.is_place to
     → R.processor.machine.status q ≡ Running → (R.processor.seen q).pc ≡ from → (R.processor.seen q).registers (register_of R.processor.target a) ≡ to
     → Walk R.processor from (behind R from (code frame a)) to q
 
 -- a call of a function arrives there
 abbrev pub RegisterCallsLead : {Q I : Type 0} → Rows Q I → (I → Type 0) → (ℕ → Reg → List I) → Type 0
 RegisterCallsLead {Q} R fits code =
-    (frame from to : ℕ) (a : Reg) (q : Q) → HasFrame R.processor.target frame (R.processor.seen q) → StandsAt R fits from (code frame a) → IsThere R.is_place to
+    (frame from to : ℕ) (a : Reg) (q : Q) → HasFrame R.processor.target frame (R.processor.seen q)
+    → StandsAt R (calls_move R.processor.target) fits from (code frame a) → IsThere R.is_place to
     → R.processor.machine.status q ≡ Running → (R.processor.seen q).pc ≡ from → (R.processor.seen q).registers (register_of R.processor.target a) ≡ to
     → Arrival R.processor from (behind R from (code frame a)) ((R.processor.seen q).registers (stack_register R.processor.target))
     (behind R from (code frame a)) to q
@@ -39,7 +41,8 @@ RegisterCallsLead {Q} R fits code =
 -- and so does one of a host function, with the registers as that asks
 abbrev pub RegisterHostCallsLead : {Q I : Type 0} → Rows Q I → (HostName → (ℕ → ℕ) → Bool) → (I → Type 0) → (ℕ → Reg → List I) → Type 0
 RegisterHostCallsLead {Q} R ready fits code =
-    (frame from : ℕ) (name : HostName) (a : Reg) (q : Q) → HasFrame R.processor.target frame (R.processor.seen q) → StandsAt R fits from (code frame a)
+    (frame from : ℕ) (name : HostName) (a : Reg) (q : Q) → HasFrame R.processor.target frame (R.processor.seen q)
+    → StandsAt R (calls_move R.processor.target) fits from (code frame a)
     → R.processor.machine.status q ≡ Running → (R.processor.seen q).pc ≡ from
     → (R.processor.seen q).registers (register_of R.processor.target a) ≡ host_address name
     → HostArrival R.processor ready from (behind R from (code frame a)) ((R.processor.seen q).registers (stack_register R.processor.target))

@@ -1,5 +1,6 @@
 -- Returns: what a target's code of them does, wherever it stands, and that nodes with this code are carried.
-use Rattle.std.specs.Prelude.{◌≡◌, ℕ, ◌+◌, ◌^◌, ◌<◌, ◌≤◌, ◌⊎◌, List, [], ◌∷◌, slice_index, Bool, Option, Some, None}
+use Rattle.std.specs.Prelude.{◌≡◌, ℕ, ◌+◌, ◌^◌, ◌<◌, ◌≤◌, ◌⊎◌, List, [], ◌∷◌, slice_index, Bool, Option, Some, None, true}
+use Rattle.lg_carry.specs.Carries.{Rises}
 use Rattle.lg_base.specs.Conventions.{portable_register, frame_register, result_register, stack_register}
 use Rattle.lg_base.specs.Layout.{code_base, stop_address, frame_pointer, return_word, saved_word}
 use Rattle.lg_base.specs.Runs.{Running, Ended}
@@ -47,12 +48,13 @@ IsReturned (OfNumber v) = v < 2 ^ 64
 IsReturned (OfLabel address) = address < 2 ^ 30
 
 -- ---- what the code does
--- at most 64 steps from one address to another leave a frame, whose caller's stack pointer is this: the run goes on at the return address, or has ended
+-- at most 64 steps from one address to another, in none of which the stack pointer falls, leave a frame, whose caller's is this: the run goes on at the return address, or has ended
 -- where that is the stop address. V0 to V2 and FP get what the frame saved of them, and the result is in its register; memory stays
 pub record Departure {Q : Type 0} (P : Processor Q) (low high stack back : ℕ) (v : Option ℕ) (q : Q) : Type 0 where
   pub end : Q
   pub steps : ℕ
-  pub passes : PassesIn P low high steps q end
+  pub passes : PassesIn P true low high steps q end
+  pub rises : Rises P steps q
   pub few : steps ≤ 64
   pub some : 0 < steps
   pub runs : code_base ≤ back → P.machine.status end ≡ Running
@@ -73,7 +75,7 @@ IsBack R back = IsThere R.is_place back ⊎ (back ≡ stop_address)
 -- the code of a return that stands at an address leaves the frame
 abbrev pub ReturnsLead : {Q I : Type 0} → Rows Q I → (I → Type 0) → (ℕ → Returned → List I) → Type 0
 ReturnsLead {Q} R fits code =
-    (frame from back : ℕ) (r : Returned) (q : Q) → IsReturned r → HasFrame R.processor.target frame (R.processor.seen q) → StandsAt R fits from (code frame r)
+    (frame from back : ℕ) (r : Returned) (q : Q) → IsReturned r → HasFrame R.processor.target frame (R.processor.seen q) → StandsAt R true fits from (code frame r)
     → IsBack R back
     → HasWord (R.processor.seen q).bytes (return_word ((R.processor.seen q).registers (stack_register R.processor.target) + frame)) back
     → R.processor.machine.status q ≡ Running → (R.processor.seen q).pc ≡ from

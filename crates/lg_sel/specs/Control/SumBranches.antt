@@ -1,5 +1,5 @@
 -- Branches that add or subtract: what a target's code of them does, wherever it stands, and that nodes with this code are carried.
-use Rattle.std.specs.Prelude.{◌≡◌, ◌≢◌, ℕ, ◌^◌, ◌<◌, Bool, true, List, [], ◌∷◌, slice_index, Some, if◌then◌else◌}
+use Rattle.std.specs.Prelude.{◌≡◌, ◌≢◌, ℕ, ◌^◌, ◌<◌, Bool, true, List, [], ◌∷◌, slice_index, Some, if◌then◌else◌, false}
 use Rattle.lg_base.specs.Runs.{Running}
 use Rattle.lg_op.specs.declared.op.BranchSumOp.{BranchSumOp}
 use Rattle.lg_op.specs.declared.op.Op.TheVariants as op
@@ -25,7 +25,7 @@ use Rattle.lg_carry.specs.Nodes.Stretches.{HasFrame, StandsAt, behind, Way}
 abbrev pub SumBranchesLead : {Q I : Type 0} → Rows Q I → (ℕ → Bool) → (I → Type 0) → (ℕ → BranchSumOp → Reg → Operand → ℕ → ℕ → List I) → Type 0
 SumBranchesLead {Q} {I} R scratch fits code =
     (frame : ℕ) (o : BranchSumOp) (a : Reg) (b : Operand) (x y from to : ℕ) (q : Q) → HasFrame R.processor.target frame (R.processor.seen q)
-    → StandsAt R fits from (code frame o a b from to) → (branch_sum_goes o x y ≡ true → IsThere R.is_place to)
+    → StandsAt R false fits from (code frame o a b from to) → (branch_sum_goes o x y ≡ true → IsThere R.is_place to)
     → IsThere R.is_place (behind R from (code frame o a b from to))
     → R.processor.machine.status q ≡ Running → (R.processor.seen q).pc ≡ from → a ≢ Fp → (R.processor.seen q).registers (register_of R.processor.target a) ≡ x
     → x < 2 ^ 64

@@ -1,5 +1,5 @@
 -- Code that only moves on: jumps and `.align`, also before the first `prolog`, and that nodes with this code are carried.
-use Rattle.std.specs.Prelude.{◌≡◌, ℕ, ◌<◌, ◌≤◌, Bool, true, List, [], ◌∷◌, length, slice_index, Some}
+use Rattle.std.specs.Prelude.{◌≡◌, ℕ, ◌<◌, ◌≤◌, Bool, true, List, [], ◌∷◌, length, slice_index, Some, false}
 use Rattle.lg_base.specs.Conventions.{argument_registers, portable_register, frame_register, stack_register, link_register}
 use Rattle.lg_base.specs.Runs.{Running}
 use Rattle.lg_op.specs.Forms.{is_alignment}
@@ -24,7 +24,7 @@ use Rattle.lg_carry.specs.Nodes.Stretches.{StandsAt, behind, PassesIn}
 pub record Walk {Q : Type 0} (P : Processor Q) (low high to : ℕ) (q : Q) : Type 0 where
   pub end : Q
   pub steps : ℕ
-  pub passes : PassesIn P low high steps q end
+  pub passes : PassesIn P false low high steps q end
   pub few : steps ≤ 64
   pub some : low < high → 0 < steps
   pub runs : P.machine.status end ≡ Running
@@ -42,7 +42,7 @@ pub record Walk {Q : Type 0} (P : Processor Q) (low high to : ℕ) (q : Q) : Typ
 -- the code of a jump that stands at an address walks to another one
 abbrev pub JumpsWalk : {Q I : Type 0} → Rows Q I → (I → Type 0) → (ℕ → ℕ → List I) → Type 0
 JumpsWalk {Q} R fits code =
-    (from to : ℕ) (q : Q) → StandsAt R fits from (code from to) → IsThere R.is_place to → R.processor.machine.status q ≡ Running
+    (from to : ℕ) (q : Q) → StandsAt R false fits from (code from to) → IsThere R.is_place to → R.processor.machine.status q ≡ Running
     → (R.processor.seen q).pc ≡ from
     → Walk R.processor from (behind R from (code from to)) to q
 
@@ -58,7 +58,7 @@ JumpsCarry R fits code =
 -- the code that stands at an address before a multiple of a number walks behind itself
 abbrev pub AlignmentsWalk : {Q I : Type 0} → Rows Q I → (I → Type 0) → (ℕ → ℕ → List I) → Type 0
 AlignmentsWalk {Q} R fits code =
-    (from n : ℕ) (q : Q) → is_alignment n ≡ true → StandsAt R fits from (code from n) → IsThere R.is_place (behind R from (code from n))
+    (from n : ℕ) (q : Q) → is_alignment n ≡ true → StandsAt R false fits from (code from n) → IsThere R.is_place (behind R from (code from n))
     → R.processor.machine.status q ≡ Running → (R.processor.seen q).pc ≡ from
     → Walk R.processor from (behind R from (code from n)) (behind R from (code from n)) q
 
