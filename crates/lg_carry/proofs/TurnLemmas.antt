@@ -1,7 +1,8 @@
 -- How the stack pointer moves over the instructions of a node.
-use Rattle.std.proofs.Common.{◌≡◌, ℕ, zero, suc, ◌+◌, ◌<◌, ◌≤◌, Bool, true, false, List, [], ◌∷◌, refl, sym, ap, ◌∙◌, subst, arith, length}
+use Rattle.std.proofs.Common.{◌≡◌, ℕ, zero, suc, ◌+◌, ◌<◌, ◌≤◌, Bool, true, false, List, [], ◌∷◌, refl, sym, ap, ◌∙◌, subst, arith, length, ◌++◌, ◌-◌, ⊎_elim}
 use Rattle.std.specs.Prelude.{◌||◌, slice_get, slice_index_or, Some}
 use Rattle.std.specs.List.{All}
+use Rattle.std.proofs.lemmas.Bool.{cases_lt}
 use Rattle.lg_base.specs.Conventions.{stack_register}
 use Rattle.lg_base.specs.Runs.{iter}
 use Rattle.lg_base.specs.declared.target.Target.{Target}
@@ -14,13 +15,14 @@ use Rattle.lg_op.specs.declared.op.PlainOp.TheVariants as plain
 use Rattle.lg_node.specs.Functions.{is_prolog}
 use Rattle.lg_meaning.specs.Fits.{is_call}
 use Rattle.lg_meaning.specs.Reaching.{is_return}
-use Rattle.lg_temp.proofs.Steps.{iter-zero, iter-first}
-use Rattle.lg_carry.specs.Blocks.{StaysOutside, Along, Lowers, Raises, RunsBlock}
+use Rattle.lg_temp.proofs.Steps.{iter-zero, iter-first, iter-plus}
+use Rattle.lg_carry.specs.Blocks.{StaysOutside, done, Along, Lowers, Raises, RunsBlock}
 use Rattle.lg_carry.specs.Carries.{leaps, moves_at, sinks_at, rises_at, KeepsOutside, Sinks, Rises}
 use Rattle.lg_carry.specs.FinalNodes.{Code}
 use Rattle.lg_carry.specs.Outside.{is_outside, calls_move, moves_stack}
 use Rattle.lg_carry.specs.Passages.{Turns}
-use Rattle.lg_carry.specs.Processors.{Processor, stack_of}
+use Rattle.lg_carry.specs.Nodes.Stretches.{PassesIn}
+use Rattle.lg_carry.specs.Processors.{Processor, stack_of, DoesNotFall}
 use Rattle.lg_carry.specs.Rows.{Rows}
 use Rattle.lg_carry.specs.TextNodes.{stands_inside}
 
@@ -97,6 +99,9 @@ return-no-sink (op.Plain plain.Epilog) h = refl
 return-no-sink o h = cc
 
 -- ---- instructions
+same-le : (m n : ℕ) → m ≡ n → m ≤ n
+same-le m n e = omega (arith, e)
+
 stack-outside : (target : Target) → is_outside target false (stack_register target) ≡ true
 stack-outside X86_64 = refl
 stack-outside Aarch64 = refl
@@ -106,8 +111,30 @@ stack-outside Riscv64 = refl
 pub keeps-stack : {Q : Type 0} (P : Processor Q) (q : Q) → KeepsOutside P false q → stack_of P.target (P.seen (P.machine.step q)) ≡ stack_of P.target (P.seen q)
 keeps-stack P q k = k (stack_register P.target) (stack-outside P.target)
 
-same-le : (m n : ℕ) → m ≡ n → m ≤ n
-same-le m n e = omega (arith, e)
+-- steps that move no stack pointer sink where they begin behind the first one
+pub still-sinks : {Q : Type 0} (P : Processor Q) (low high steps : ℕ) (q u : Q) → PassesIn P false low high steps q u
+    → ((j : ℕ) → 0 < j → j < steps → low < (P.seen (iter P.machine.step j q)).pc) → Sinks P low steps q
+still-sinks P low high steps q u h ahead = record { falls = λ j lt. same-le _ _ (keeps-stack P (iter P.machine.step j q) (h.outside j lt)); ahead = ahead }
+
+-- where steps begin behind the first one, and so does one behind them, all do
+pub ahead-more : {Q : Type 0} (P : Processor Q) (low m : ℕ) (q r : Q) → iter P.machine.step m q ≡ r → ((j : ℕ) → 0 < j → j < m → low < (P.seen (iter P.machine.step j q)).pc)
+    → (0 < m → low < (P.seen r).pc) → (j : ℕ) → 0 < j → j < m + 1 → low < (P.seen (iter P.machine.step j q)).pc
+ahead-more P low m q r there ahead last j some lt = ⊎_elim
+    (λ (l : j < m). ahead j some l)
+    (λ (g : m ≤ j). let e : m ≡ j = omega (arith, g, lt) in
+    subst (λ k. low < (P.seen (iter P.machine.step k q)).pc) e (subst (λ u. low < (P.seen u).pc) (sym there) (last (omega (arith, some, e)))))
+    (cases_lt j m)
+
+-- so does one of them
+pub one-sinks : {Q : Type 0} (P : Processor Q) (low high : ℕ) (q u : Q) → PassesIn P false low high 1 q u → Sinks P low 1 q
+one-sinks P low high q u h = still-sinks P low high 1 q u h (λ j some lt. absurd (omega (arith, some, lt)))
+
+-- steps that rise, one run of them behind the other
+pub rises-join : {Q : Type 0} (P : Processor Q) (m n : ℕ) (q u : Q) → iter P.machine.step m q ≡ u → Rises P m q → Rises P n u → Rises P (m + n) q
+rises-join P m n q u there h k j lt = ⊎_elim
+    (λ (l : j < m). h j l)
+    (λ (g : m ≤ j). subst (DoesNotFall P) (sym (iter-plus P.machine.step j m (j - m) q (omega (arith, g)) ∙ ap (iter P.machine.step (j - m)) there)) (k (j - m) (omega (arith, lt, g))))
+    (cases_lt j m)
 
 module _ {Q I : Type 0} (R : Rows Q I) where
   abbrev step : Q → Q
@@ -124,6 +151,11 @@ module _ {Q I : Type 0} (R : Rows Q I) where
       let later : (k : ℕ) (e : I) → k < length is → step (iter step k (R.does i q)) ≡ R.does (slice_index_or is k e) (iter step k (R.does i q)) =
           λ k e l. subst (λ u. step u ≡ R.does (slice_index_or is k e) u) (there k) (acts (suc k) e (omega (arith, l))) in
       subst (T (slice_index_or is j d)) (sym (there j)) (along-run T is (R.does i q) later h.1 j d (omega (arith, lt)))
+
+  -- along instructions in a row
+  pub along-append : (T : I → Q → Type 0) (xs ys : List I) (q : Q) → Along R.does T xs q → Along R.does T ys (done R.does xs q) → Along R.does T (xs ++ ys) q
+  along-append T [] ys q h k = k
+  along-append T (x ∷ xs) ys q h k = (h.0, along-append T xs ys (R.does x q) h.1 k)
 
   pub block-sinks : (is : List I) (q : Q) (low : ℕ) → RunsBlock R is q → Along R.does (Lowers R) is q → (R.processor.seen q).pc ≡ low → Sinks R.processor low (length is) q
   block-sinks [] q low run h at = record { falls = λ j lt. absurd (omega (arith, lt)); ahead = λ j some lt. absurd (omega (arith, lt)) }

@@ -1,6 +1,7 @@
 -- What `select` appends carries the node once the buffer is finished, and what is known of the buffer.
 use Rattle.std.proofs.Common.{◌≡◌, ℕ, ◌+◌, ◌*◌, ◌%◌, ◌<◌, ◌≤◌, Bool, true, false, List, [], ◌∷◌, ◌++◌, length, drop, sym, ap, ◌∙◌, subst, arith, length-append}
 use Rattle.std.specs.Prelude.{IsTrue, ◌-◌, if◌then◌else◌}
+use Rattle.lg_carry.specs.Carries.{moves_at}
 use Rattle.lg_sela.specs.Control.Prologs.{fall_code, framed_code, is_near}
 use Rattle.std.specs.List.{All, AllByRecursion}
 use Rattle.lg_base.specs.declared.target.Target.TheVariants.{Aarch64}
@@ -41,7 +42,7 @@ use Rattle.lg_sela.proofs.OfControl.AlignLemmas.{alignments-align}
 use Rattle.lg_sela.specs.Control.Alignments.{align_code}
 use Rattle.lg_sela_values.proofs.ItemLemmas.{blank_bytes, words-ones}
 use Rattle.lg_sela_values.proofs.PatchLemmas.{are-holes}
-use Rattle.lg_sela_values.specs.Items.{a64_holes, IsItem, fix_of, words_in, bytes_in, blanks, fixes_of, ones}
+use Rattle.lg_sela_values.specs.Items.{a64_holes, IsItem, fix_of, words_in, bytes_in, blanks, fixes_of, ones, StayWithin}
 use Rattle.lg_sela_values.specs.declared.items.Item.{Item}
 use Rattle.lg_sela_values.specs.declared.items.Item.TheVariants.{One, Branch, CondBranch, Address}
 use Rattle.lg_temp.specs.declared.choice.Choice.{Choice}
@@ -56,7 +57,7 @@ selected-carries homes reach node frame live staged choices old new items sized 
     let short : words_in mine ≤ 64 = subst (λ l. words_in l ≤ 64) e few in
     items-carry reach code trash c i frame homes live staged choices (length old.labels) place node
     record { node = n; asked = asked; address = f.here }
-    (are-of-node old new code trash c i mine word a fit.instrs (items-within homes reach frame live staged choices (length old.labels) place node asked) short whole f)
+    (are-of-node old new code trash c i mine word a fit.instrs (subst (λ b. StayWithin b mine) (sym (ap (moves_at Aarch64) n.text.here)) (items-within homes reach frame live staged choices (length old.labels) place node asked)) short whole f)
 
 -- ---- what was appended
 -- 64 instructions have at most 256 bytes

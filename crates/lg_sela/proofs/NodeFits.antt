@@ -1,5 +1,6 @@
 -- The items of each node can be appended to a buffer, and write no register that is outside of the conventions.
 use Rattle.std.proofs.Common.{◌≡◌, ℕ, ◌≤◌, Bool, List, [], length, arith, true, sym, subst, ◌+◌}
+use Rattle.lg_carry.specs.Outside.{moves_stack}
 use Rattle.lg_base.specs.declared.target.Target.TheVariants.{Aarch64}
 use Rattle.lg_op.specs.declared.node.Node.{Node}
 use Rattle.lg_op.specs.declared.operand.Operand.{Operand}
@@ -105,7 +106,7 @@ families-stay homes reach = record {
   controls = λ n frame place. control-items-stay reach n frame homes place;
 }
 
-pub items-within : (homes : ℕ) (reach : Reach) (frame : ℕ) (live : Reg → Bool) (staged : List Bool) (choices : List Choice) (labels place : ℕ) (n : Node) → IsAsked n live staged choices labels → StayWithin (node_items homes reach n frame choices staged place)
+pub items-within : (homes : ℕ) (reach : Reach) (frame : ℕ) (live : Reg → Bool) (staged : List Bool) (choices : List Choice) (labels place : ℕ) (n : Node) → IsAsked n live staged choices labels → StayWithin (moves_stack Aarch64 n.op) (node_items homes reach n frame choices staged place)
 items-within homes reach frame live staged choices labels place n k =
     fit.items-stay Aarch64 needs (a64_families homes reach) StaysWithin (families-stay homes reach) frame live k.chosen.set staged choices place n (fit.are-made Aarch64 needs (a64_families homes reach) n live staged choices labels k)
 

@@ -28,7 +28,7 @@ use Rattle.lg_sela_values.proofs.OfProcessor.RegisterLemmas.{register-small}
 use Rattle.lg_sel.specs.Holes.{Each}
 use Rattle.lg_sela_values.specs.Items.{ones}
 use Rattle.lg_sela_values.specs.GoodItems.{Fine, AreGood, IsGoodItem}
-use Rattle.lg_sela_values.proofs.WithinLemmas.{portable}
+use Rattle.lg_sela_values.proofs.WithinLemmas.{portable, flagged, of-row}
 use Rattle.lg_sela_values.proofs.GoodLemmas.{good-append, link-fine, number-good, ones-good, items-good}
 use Rattle.lg_sela_values.specs.BinaryCode.{register_code, second_register, loaded_code, is_small, takes_small, small_code, takes_negative, negative_code, negative_form_code, small_form_code, is_mask, mask_code, mask_form_code, number_form_code}
 use Rattle.lg_sela_values.proofs.NumberFormLemmas.{mask-of}
@@ -54,11 +54,11 @@ register-good binary.Div d a b h k l = (((h.0, k, l), h.1, refl), tt)
 register-good binary.DivU d a b h k l = (((h.0, k, l), h.1, refl), tt)
 register-good binary.Rem d a b h k l = (((omega arith, k, l), refl, refl), (((h.0, omega arith, l, k), h.1, refl), tt))
 register-good binary.RemU d a b h k l = (((omega arith, k, l), refl, refl), (((h.0, omega arith, l, k), h.1, refl), tt))
-register-good binary.Addc d a b h k l = (((h.0, k, l), h.1, refl), tt)
-register-good binary.Subc d a b h k l = (((h.0, k, l), h.1, refl), tt)
+register-good binary.Addc d a b h k l = (((h.0, k, l), flagged d h.1, refl), tt)
+register-good binary.Subc d a b h k l = (((h.0, k, l), flagged d h.1, refl), tt)
 register-good binary.Addx d a b h k l = (((h.0, k, l), h.1, refl), tt)
 register-good binary.Subx d a b h k l = (((h.0, k, l), h.1, refl), tt)
-register-good o d a b h k l = (((omega arith, k, l), refl, refl), (((h.0, omega arith, omega arith), h.1, refl), tt))
+register-good o d a b h k l = (((omega arith, k, l), tt, refl), (((h.0, omega arith, omega arith), h.1, refl), tt))
 
 -- ---- a register and a number
 second-fine : (o : BinaryOp) (u : ℕ) → Fine u → Fine (second_register o u)
@@ -78,9 +78,9 @@ few v h = grind (arith, h)
 small-good : (o : BinaryOp) (d a v : ℕ) → Fine d → a < 32 → v < 4096 → AreGood (small_code o d a v)
 small-good binary.Add d a v h k l = (((h.0, k, l), h.1, refl), tt)
 small-good binary.Sub d a v h k l = (((h.0, k, l), h.1, refl), tt)
-small-good binary.Addc d a v h k l = (((h.0, k, l), h.1, refl), tt)
-small-good binary.Subc d a v h k l = (((h.0, k, l), h.1, refl), tt)
-small-good o d a v h k l = (((omega arith, k, l), refl, refl), (((h.0, omega arith, omega arith), h.1, refl), tt))
+small-good binary.Addc d a v h k l = (((h.0, k, l), flagged d h.1, refl), tt)
+small-good binary.Subc d a v h k l = (((h.0, k, l), flagged d h.1, refl), tt)
+small-good o d a v h k l = (((omega arith, k, l), tt, refl), (((h.0, omega arith, omega arith), h.1, refl), tt))
 
 negative-good : (o : BinaryOp) (d a v : ℕ) → Fine d → a < 32 → negated v < 4096 → AreGood (negative_code o d a v)
 negative-good binary.Add d a v h k l = (((h.0, k, l), h.1, refl), tt)
@@ -129,10 +129,10 @@ unary-good o d a h k = (((h.0, k, omega arith, omega arith), h.1, refl), tt)
 
 -- ---- two results
 product-good : (high : RegOp) (d e a b : ℕ) → Fine d → Fine e → a < 32 → b < 32 → AreGood (MulAdd Madd 30 a b 31 ∷ Reg high e a b ∷ Reg row.Orr d 31 30 ∷ [])
-product-good high d e a b h i k l = (((omega arith, k, l, omega arith), refl, refl), (((i.0, k, l), i.1, refl), (((h.0, omega arith, omega arith), h.1, refl), tt)))
+product-good high d e a b h i k l = (((omega arith, k, l, omega arith), refl, refl), (((i.0, k, l), of-row high e i.1, refl), (((h.0, omega arith, omega arith), h.1, refl), tt)))
 
 quotient-good : (divide : RegOp) (d e a b : ℕ) → Fine d → Fine e → a < 32 → b < 32 → AreGood (Reg divide 30 a b ∷ MulAdd Msub e 30 b a ∷ Reg row.Orr d 31 30 ∷ [])
-quotient-good divide d e a b h i k l = (((omega arith, k, l), refl, refl), (((i.0, omega arith, l, k), i.1, refl), (((h.0, omega arith, omega arith), h.1, refl), tt)))
+quotient-good divide d e a b h i k l = (((omega arith, k, l), of-row divide 30 refl, refl), (((i.0, omega arith, l, k), i.1, refl), (((h.0, omega arith, omega arith), h.1, refl), tt)))
 
 wide-good : (o : WideOp) (d e a b : ℕ) → Fine d → Fine e → a < 32 → b < 32 → AreGood (wide_code o d e a b)
 wide-good wide.Mul d e a b h i k l = product-good row.Smulh d e a b h i k l
@@ -144,16 +144,16 @@ product-link-good : (high : RegOp) (d e a : ℕ) → Fine d → Fine e → a < 3
 product-link-good high d e a h i k = by (e == a)
   where
     by : (b : Bool) → AreGood (if b then MulAdd Madd d a 30 31 ∷ Reg high e a 30 ∷ [] else Reg high e a 30 ∷ MulAdd Madd d a 30 31 ∷ [])
-    by true = (((h.0, k, omega arith, omega arith), h.1, refl), (((i.0, k, omega arith), i.1, refl), tt))
-    by false = (((i.0, k, omega arith), i.1, refl), (((h.0, k, omega arith, omega arith), h.1, refl), tt))
+    by true = (((h.0, k, omega arith, omega arith), h.1, refl), (((i.0, k, omega arith), of-row high e i.1, refl), tt))
+    by false = (((i.0, k, omega arith), of-row high e i.1, refl), (((h.0, k, omega arith, omega arith), h.1, refl), tt))
 
 quotient-link-good : (divide : RegOp) (d e a : ℕ) → Fine d → Fine e → a < 32 → AreGood (quotient_by_link divide d e a)
 quotient-link-good divide d e a h i k = by (e == a)
   where
     by : (b : Bool) → AreGood (if b then Reg divide d a 30 ∷ MulAdd Msub e d 30 a ∷ [] else Reg divide e a 30 ∷ MulAdd Msub 30 e 30 a ∷ Reg row.Orr d 31 e ∷ Reg row.Orr e 31 30 ∷ [])
-    by true = (((h.0, k, omega arith), h.1, refl), (((i.0, h.0, omega arith, k), i.1, refl), tt))
+    by true = (((h.0, k, omega arith), of-row divide d h.1, refl), (((i.0, h.0, omega arith, k), i.1, refl), tt))
     by false = (
-      ((i.0, k, omega arith), i.1, refl),
+      ((i.0, k, omega arith), of-row divide e i.1, refl),
       (
         ((omega arith, i.0, omega arith, k), refl, refl),
         (((h.0, omega arith, i.0), h.1, refl), (((i.0, omega arith, omega arith), i.1, refl), tt)),

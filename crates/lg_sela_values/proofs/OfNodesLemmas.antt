@@ -1,5 +1,5 @@
 -- The items of a node as a block of instructions.
-use Rattle.std.proofs.Common.{◌≡◌, ℕ, ◌<◌, true, List, length}
+use Rattle.std.proofs.Common.{◌≡◌, ℕ, ◌<◌, true, List, length, Bool}
 use Rattle.std.specs.Prelude.{slice_get, slice_index}
 use Rattle.std.specs.List.{All}
 use Rattle.lg_carry.specs.Blocks.{spellings, IsBlock}
@@ -22,14 +22,14 @@ use Rattle.lg_sela_values.specs.OfNodes.{AreOfNode}
 use Rattle.lg_sela_values.proofs.PatchLemmas.{are-holes}
 
 -- the instructions of items write no register that is outside, where none of the items does
-within : Settles a64_holes StaysWithin WritesWithin
-within (One i) to p h = (h, tt)
-within (Branch op label) to p h = (h, tt)
-within (CondBranch cond label) to p h = (tt, tt)
-within (Address rd label) to p h = (h, (h, tt))
+within : (moves : Bool) → Settles a64_holes (StaysWithin moves) (WritesWithin moves)
+within moves (One i) to p h = (h, tt)
+within moves (Branch op label) to p h = (h, tt)
+within moves (CondBranch cond label) to p h = (tt, tt)
+within moves (Address rd label) to p h = (h, (h, tt))
 
-pub settled-within : (to : ℕ → ℕ) (p : ℕ) (xs : List Item) → StayWithin xs → All WritesWithin (settled to p xs)
-settled-within to p xs h = good-items-settle a64_holes StaysWithin WritesWithin within xs h to p
+pub settled-within : (moves : Bool) (to : ℕ → ℕ) (p : ℕ) (xs : List Item) → StayWithin moves xs → All (WritesWithin moves) (settled to p xs)
+settled-within moves to p xs h = good-items-settle a64_holes (StaysWithin moves) (WritesWithin moves) (within moves) xs h to p
 
 -- they have as many bytes as were emitted
 pub settled-bytes : (to : ℕ → ℕ) (p : ℕ) (xs : List Item) → AreItems xs → length (spellings spelling (settled to p xs)) ≡ length (blanks xs)

@@ -14,10 +14,10 @@ use Rattle.lg_sela_values.specs.Items.{a64_holes, IsItem, StaysWithin}
 
 -- a register that there is, and that is not outside of the conventions
 abbrev pub Fine : ℕ → Type 0
-Fine rd = (rd < 32) × (is_outside Aarch64 rd ≡ false)
+Fine rd = (rd < 32) × (is_outside Aarch64 false rd ≡ false)
 
 abbrev pub IsGood : Instr → Type 0
-IsGood i = good_items.IsGood IsInstr WritesWithin is_straight i
+IsGood i = good_items.IsGood IsInstr (WritesWithin false) is_straight i
 
 abbrev pub AreGood : List Instr → Type 0
 AreGood is = Each IsGood is
@@ -31,7 +31,7 @@ IsGoodItem (Address rd label) = Fine rd
 
 -- what is asked of items that are appended, but for their number and the labels that they name
 abbrev pub AreAppendable : List Item → Type 0
-AreAppendable items = good_items.AreAppendable a64_holes is_straight IsItem StaysWithin items
+AreAppendable items = good_items.AreAppendable a64_holes is_straight IsItem (StaysWithin false) items
 
 abbrev pub GoodItemsAreAppendable : Type 0
-GoodItemsAreAppendable = good_items.GoodItemsAreAppendable a64_holes is_straight IsItem StaysWithin IsGoodItem
+GoodItemsAreAppendable = good_items.GoodItemsAreAppendable a64_holes is_straight IsItem (StaysWithin false) IsGoodItem

@@ -1,5 +1,5 @@
 -- The items of AArch64: as they are emitted, with 0 in the fields of labels, and as they are once the labels have places.
-use Rattle.std.specs.Prelude.{◌≡◌, ℕ, ◌*◌, ◌/◌, ◌%◌, ◌^◌, ◌<◌, false, ℤ, pos, ◌-ℤ◌, List, [], ◌∷◌, ⊤}
+use Rattle.std.specs.Prelude.{◌≡◌, ℕ, ◌*◌, ◌/◌, ◌%◌, ◌^◌, ◌<◌, false, ℤ, pos, ◌-ℤ◌, List, [], ◌∷◌, ⊤, Bool}
 use Rattle.std.proofs.Common.{lit<}
 use Rattle.lg_a64.specs.declared.instruction.Instr.{Instr}
 use Rattle.lg_a64.specs.declared.instruction.Instr.TheVariants as instr
@@ -73,12 +73,12 @@ IsItem (Branch op label) = ⊤
 IsItem (CondBranch cond label) = ⊤
 IsItem (Address rd label) = rd < 32
 
--- an item writes no register that is outside of the conventions
-abbrev pub StaysWithin : Item → Type 0
-StaysWithin (One i) = WritesWithin i
-StaysWithin (Branch op label) = IsWithin (branch_destination op)
-StaysWithin (CondBranch cond label) = ⊤
-StaysWithin (Address rd label) = is_outside Aarch64 rd ≡ false
+-- an item of code that moves the stack pointer, or does not, writes no register that is outside of the conventions
+abbrev pub StaysWithin : Bool → Item → Type 0
+StaysWithin moves (One i) = WritesWithin moves i
+StaysWithin moves (Branch op label) = IsWithin moves (branch_destination op)
+StaysWithin moves (CondBranch cond label) = ⊤
+StaysWithin moves (Address rd label) = is_outside Aarch64 moves rd ≡ false
 
 -- an item names one of so many labels, or none
 abbrev pub NamesOneOf : ℕ → Item → Type 0
@@ -111,8 +111,8 @@ fixes_of place xs = holes.fixes_of a64_holes place xs
 abbrev pub AreItems : List Item → Type 0
 AreItems xs = Each IsItem xs
 
-abbrev pub StayWithin : List Item → Type 0
-StayWithin xs = Each StaysWithin xs
+abbrev pub StayWithin : Bool → List Item → Type 0
+StayWithin moves xs = Each (StaysWithin moves) xs
 
 abbrev pub NameLabels : ℕ → List Item → Type 0
 NameLabels labels xs = Each (NamesOneOf labels) xs

@@ -1,5 +1,5 @@
 -- What is asked of the items of a node that are emitted.
-use Rattle.std.specs.Prelude.{ℕ, ◌≤◌, Bool, List, [], length}
+use Rattle.std.specs.Prelude.{ℕ, ◌≤◌, Bool, List, [], length, false}
 use Rattle.lg_base.specs.declared.target.Target.TheVariants.{Aarch64}
 use Rattle.lg_op.specs.declared.node.Node.{Node}
 use Rattle.lg_op.specs.declared.operand.Reg.{Reg}
@@ -32,4 +32,4 @@ ValueItemsName = (labels : ℕ) (n : Node) (choices : List Choice) → NameBelow
 -- the items write no register that is outside of the conventions
 abbrev pub ValueItemsStay : Type 0
 ValueItemsStay = (n : Node) (live : Reg → Bool) (staged : List Bool) (choices : List Choice)
-    → AreFor (around Aarch64 n live staged) (value_needs n.op) [] (value_needs n.op) choices → StayWithin (value_items n choices)
+    → AreFor (around Aarch64 n live staged) (value_needs n.op) [] (value_needs n.op) choices → StayWithin false (value_items n choices)

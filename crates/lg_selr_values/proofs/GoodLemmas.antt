@@ -25,7 +25,7 @@ pub good-append : (xs ys : List Instr) → AreGood xs → AreGood ys → AreGood
 good-append = lists.each-append IsGood
 
 pub within-of : (is : List Instr) → AreGood is → Within is
-within-of = lists.each-weaker IsGood WritesWithin (λ i h. h.1)
+within-of = lists.each-weaker IsGood (WritesWithin false) (λ i h. h.1)
 
 -- x1 and x31
 pub link-fine : Fine 1
@@ -52,7 +52,7 @@ fit (Jump rd label) h = absurd h
 fit (FarJump rd base label) h = absurd h
 fit (Address rd label) h = h.0
 
-stay : (x : Item) → IsGoodItem x → StaysWithin x
+stay : (x : Item) → IsGoodItem x → StaysWithin false x
 stay (One i) h = h.1
 stay (Branch o rs1 rs2 label) h = absurd h
 stay (Jump rd label) h = absurd h
@@ -67,7 +67,7 @@ follow (FarJump rd base label) to at h = absurd h
 follow (Address rd label) to at h = (refl, (refl, tt))
 
 pub good-items-are-appendable : GoodItemsAreAppendable
-good-items-are-appendable = good_items.good-items-are-appendable rv_holes is_straight IsItem StaysWithin IsGoodItem fit stay follow
+good-items-are-appendable = good_items.good-items-are-appendable rv_holes is_straight IsItem (StaysWithin false) IsGoodItem fit stay follow
 
 pub ones-good : (is : List Instr) → AreGood is → Each IsGoodItem (ones is)
 ones-good = lists.each-ones IsGoodItem One IsGood (λ i h. h)

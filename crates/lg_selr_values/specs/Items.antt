@@ -1,5 +1,5 @@
 -- The items of RV64: as they are emitted, with 0 in the fields of labels, and as they are once the labels have places.
-use Rattle.std.specs.Prelude.{◌≡◌, ℕ, ◌*◌, ◌<◌, false, pos, ◌-ℤ◌, List, [], ◌∷◌, ⊤}
+use Rattle.std.specs.Prelude.{◌≡◌, ℕ, ◌*◌, ◌<◌, false, pos, ◌-ℤ◌, List, [], ◌∷◌, ⊤, Bool}
 use Rattle.std.proofs.Common.{lit<}
 use Rattle.lg_rv.specs.declared.instruction.Instr.{Instr}
 use Rattle.lg_rv.specs.declared.instruction.Instr.TheVariants as instr
@@ -80,13 +80,13 @@ IsItem (Jump rd label) = rd < 32
 IsItem (FarJump rd base label) = (rd < 32) × (base < 32)
 IsItem (Address rd label) = rd < 32
 
--- an item writes no register that is outside of the conventions
-abbrev pub StaysWithin : Item → Type 0
-StaysWithin (One i) = WritesWithin i
-StaysWithin (Branch o rs1 rs2 label) = ⊤
-StaysWithin (Jump rd label) = is_outside Riscv64 rd ≡ false
-StaysWithin (FarJump rd base label) = (is_outside Riscv64 base ≡ false) × (is_outside Riscv64 rd ≡ false)
-StaysWithin (Address rd label) = is_outside Riscv64 rd ≡ false
+-- an item of code that moves the stack pointer, or does not, writes no register that is outside of the conventions
+abbrev pub StaysWithin : Bool → Item → Type 0
+StaysWithin moves (One i) = WritesWithin moves i
+StaysWithin moves (Branch o rs1 rs2 label) = ⊤
+StaysWithin moves (Jump rd label) = is_outside Riscv64 moves rd ≡ false
+StaysWithin moves (FarJump rd base label) = (is_outside Riscv64 moves base ≡ false) × (is_outside Riscv64 moves rd ≡ false)
+StaysWithin moves (Address rd label) = is_outside Riscv64 moves rd ≡ false
 
 -- an item names one of so many labels, or none
 abbrev pub NamesOneOf : ℕ → Item → Type 0
@@ -120,8 +120,8 @@ fixes_of place xs = holes.fixes_of rv_holes place xs
 abbrev pub AreItems : List Item → Type 0
 AreItems xs = Each IsItem xs
 
-abbrev pub StayWithin : List Item → Type 0
-StayWithin xs = Each StaysWithin xs
+abbrev pub StayWithin : Bool → List Item → Type 0
+StayWithin moves xs = Each (StaysWithin moves) xs
 
 abbrev pub NameLabels : ℕ → List Item → Type 0
 NameLabels labels xs = Each (NamesOneOf labels) xs

@@ -2,6 +2,7 @@
 use Rattle.std.proofs.Common.{◌≡◌, ℕ, ◌+◌, ◌%◌, ◌<◌, ◌≤◌, Bool, true, List, [], ◌∷◌, ◌++◌, length, drop, sym, ap, ◌∙◌, subst, arith, length-append}
 use Rattle.std.specs.Prelude.{IsTrue}
 use Rattle.std.specs.List.{All, AllByRecursion}
+use Rattle.lg_carry.specs.Carries.{moves_at}
 use Rattle.lg_base.specs.declared.target.Target.TheVariants.{X86_64}
 use Rattle.lg_buf.specs.Buffers.{Buffer, place_of}
 use Rattle.lg_buf.specs.declared.fixes.Fix.{Fix}
@@ -42,7 +43,7 @@ use Rattle.lg_selx.proofs.OfControl.AlignLemmas.{alignments-align}
 use Rattle.lg_selx.specs.Control.Alignments.{align_code}
 use Rattle.lg_selx.proofs.OfControl.ControlLemmas.{blanks-ones}
 use Rattle.lg_selx_values.proofs.PatchLemmas.{are-holes}
-use Rattle.lg_selx_values.specs.Items.{x86_holes, IsItem, fix_of, words_in, blanks, fixes_of, ones}
+use Rattle.lg_selx_values.specs.Items.{x86_holes, IsItem, fix_of, words_in, blanks, fixes_of, ones, StayWithin}
 use Rattle.lg_selx_values.specs.declared.items.Item.{Item}
 use Rattle.lg_selx_values.specs.declared.items.Item.TheVariants.{One, Jump, Address}
 use Rattle.lg_selx_values.specs.declared.items.JumpKind.TheVariants.{Near, NearIf, Short, ShortIf}
@@ -58,7 +59,7 @@ selected-carries homes reach node frame live staged choices old new items sized 
     let short : words_in mine ≤ 64 = subst (λ l. words_in l ≤ 64) e few in
     items-carry reach code trash c i frame homes sized live staged choices (length old.labels) place node
     record { node = n; asked = asked; address = f.here }
-    (are-of-node old new code trash c i mine word a fit.instrs (items-within homes reach frame live staged choices (length old.labels) place node asked) short f)
+    (are-of-node old new code trash c i mine word a fit.instrs (subst (λ b. StayWithin b mine) (sym (ap (moves_at X86_64) n.text.here)) (items-within homes reach frame live staged choices (length old.labels) place node asked)) short f)
 
 -- ---- what was appended
 -- a `prolog` has some

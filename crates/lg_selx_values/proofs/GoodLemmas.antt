@@ -22,12 +22,12 @@ pub good-append : (xs ys : List Instr) → AreGood xs → AreGood ys → AreGood
 good-append = lists.each-append IsGood
 
 pub within-of : (is : List Instr) → AreGood is → Within is
-within-of = lists.each-weaker IsGood WritesWithin (λ i h. h.1)
+within-of = lists.each-weaker IsGood (WritesWithin false) (λ i h. h.1)
 
-number-within : (r v : ℕ) → In r → WritesWithin (number_row r v)
+number-within : (r v : ℕ) → In r → WritesWithin false (number_row r v)
 number-within r v h = by (nat_lt v (2 ^ 32)) (is_half v)
   where
-    by : (b c : Bool) → WritesWithin (if b then Movi32 r v else if c then Movs32 r (signed_view v) else Movi64 r v)
+    by : (b c : Bool) → WritesWithin false (if b then Movi32 r v else if c then Movs32 r (signed_view v) else Movi64 r v)
     by true c = (h, tt)
     by false true = (h, tt)
     by false false = (h, tt)
@@ -41,7 +41,7 @@ fit (One i) h = h.0
 fit (Jump kind label) h = absurd h
 fit (Address reg label) h = h.0
 
-stay : (x : Item) → IsGoodItem x → StaysWithin x
+stay : (x : Item) → IsGoodItem x → StaysWithin false x
 stay (One i) h = h.1
 stay (Jump kind label) h = absurd h
 stay (Address reg label) h = h.1
@@ -52,7 +52,7 @@ follow (Jump kind label) to at h = absurd h
 follow (Address reg label) to at h = (refl, tt)
 
 pub good-items-are-appendable : GoodItemsAreAppendable
-good-items-are-appendable = good_items.good-items-are-appendable x86_holes is_straight IsItem StaysWithin IsGoodItem fit stay follow
+good-items-are-appendable = good_items.good-items-are-appendable x86_holes is_straight IsItem (StaysWithin false) IsGoodItem fit stay follow
 
 pub ones-good : (is : List Instr) → AreGood is → Each IsGoodItem (ones is)
 ones-good = lists.each-ones IsGoodItem One IsGood (λ i h. h)

@@ -1,7 +1,8 @@
 -- The items of a node as a block of instructions.
-use Rattle.std.proofs.Common.{◌≡◌, ℕ, ◌+◌, ◌<◌, true, ℤ, List, length, refl}
+use Rattle.std.proofs.Common.{◌≡◌, ℕ, ◌+◌, ◌<◌, true, ℤ, List, length, refl, Bool}
 use Rattle.std.specs.Prelude.{slice_get, slice_index, pos, ◌-ℤ◌}
 use Rattle.std.specs.List.{All}
+use Rattle.lg_x86.specs.declared.instruction.JumpNearOp.TheVariants.{Jmp32, Call32}
 use Rattle.lg_carry.specs.Blocks.{spellings, IsBlock}
 use Rattle.lg_carry.specs.Carries.{leaps_at}
 use Rattle.lg_carry.specs.FinalNodes.{Code}
@@ -23,21 +24,22 @@ use Rattle.lg_selx_values.specs.Items.{x86_holes, jump_by, jump_size, IsItem, St
 use Rattle.lg_selx_values.specs.OfNodes.{AreOfNode}
 use Rattle.lg_selx_values.proofs.PatchLemmas.{are-holes}
 
--- a jump writes none but the stack pointer
-jump-within : (kind : JumpKind) (z : ℤ) → WritesWithin (jump_by kind z)
-jump-within (Near op) z = (refl, tt)
-jump-within (NearIf cond) z = tt
-jump-within Short z = tt
-jump-within (ShortIf cond) z = tt
+-- what a jump writes does not depend on its distance
+jump-within : (moves : Bool) (kind : JumpKind) (y z : ℤ) → WritesWithin moves (jump_by kind y) → WritesWithin moves (jump_by kind z)
+jump-within moves (Near Call32) y z h = h
+jump-within moves (Near Jmp32) y z h = tt
+jump-within moves (NearIf cond) y z h = tt
+jump-within moves Short y z h = tt
+jump-within moves (ShortIf cond) y z h = tt
 
 -- the instructions of items write no register that is outside, where none of the items does
-within : Settles x86_holes StaysWithin WritesWithin
-within (One i) to p h = (h, tt)
-within (Jump kind label) to p h = (jump-within kind (pos (to label) -ℤ pos (p + jump_size kind)), tt)
-within (Address reg label) to p h = ((h, tt), tt)
+within : (moves : Bool) → Settles x86_holes (StaysWithin moves) (WritesWithin moves)
+within moves (One i) to p h = (h, tt)
+within moves (Jump kind label) to p h = (jump-within moves kind (pos 0) (pos (to label) -ℤ pos (p + jump_size kind)) h, tt)
+within moves (Address reg label) to p h = ((h, tt), tt)
 
-pub settled-within : (to : ℕ → ℕ) (p : ℕ) (xs : List Item) → StayWithin xs → All WritesWithin (settled to p xs)
-settled-within to p xs h = good-items-settle x86_holes StaysWithin WritesWithin within xs h to p
+pub settled-within : (moves : Bool) (to : ℕ → ℕ) (p : ℕ) (xs : List Item) → StayWithin moves xs → All (WritesWithin moves) (settled to p xs)
+settled-within moves to p xs h = good-items-settle x86_holes (StaysWithin moves) (WritesWithin moves) (within moves) xs h to p
 
 -- they have as many bytes as were emitted
 pub settled-bytes : (to : ℕ → ℕ) (p : ℕ) (xs : List Item) → AreItems xs → length (spellings spelling (settled to p xs)) ≡ length (blanks xs)

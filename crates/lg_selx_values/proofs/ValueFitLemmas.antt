@@ -198,15 +198,15 @@ value-items-fit frame n live staged choices low high numbers h =
     record { few = well.few; slots = slots-of choices well.saved; fit = items.fit; short = omega (arith, few, two); small = omega (arith, few, two, bytes); block = items.block }
 
 -- ---- the conventions
-number-within : (r v : ℕ) → In r → WritesWithin (number_row r v)
+number-within : (r v : ℕ) → In r → WritesWithin false (number_row r v)
 number-within r v h = by (nat_lt v (2 ^ 32)) (is_half v)
   where
-    by : (b c : Bool) → WritesWithin (if b then Movi32 r v else if c then Movs32 r (signed_view v) else Movi64 r v)
+    by : (b c : Bool) → WritesWithin false (if b then Movi32 r v else if c then Movs32 r (signed_view v) else Movi64 r v)
     by true c = (h, tt)
     by false true = (h, tt)
     by false false = (h, tt)
 
-rows-within : (frame : ℕ) → HoldsOfRows frame WritesWithin (λ v. ⊤)
+rows-within : (frame : ℕ) → HoldsOfRows frame (WritesWithin false) (λ v. ⊤)
 rows-within frame = record {
   two = λ o rm reg f l. (f.1, tt);
   half = λ o rm v f small e. (f.1, tt);
@@ -228,11 +228,11 @@ pub value-items-stay : ValueItemsStay
 value-items-stay frame n live staged choices h =
     let well = chosen-well (around X86_64 n live staged) n.op choices h in
     let rows = rows-within frame in
-    let address : (t l : ℕ) → Fine t → StaysWithin (Address t l) = λ t l f. f.1 in
-    let saves : (r k : ℕ) → Fine r → k < 5 → StaysWithin (One (save r k)) = λ r k f l. tt in
-    let restores : (r k : ℕ) → Fine r → k < 5 → StaysWithin (One (restore r k)) = λ r k f l. (f.1, tt) in
-    let body = body-are frame StaysWithin (λ v. ⊤) rows (λ name. tt) address saves restores n.op n.operands (λ i. any-number (operand_in n.operands i)) in
-    (saved-are frame StaysWithin (λ v. ⊤) rows (λ name. tt) address saves restores choices (body_items frame n.op n.operands) 8 well.saved body).each
+    let address : (t l : ℕ) → Fine t → StaysWithin false (Address t l) = λ t l f. f.1 in
+    let saves : (r k : ℕ) → Fine r → k < 5 → StaysWithin false (One (save r k)) = λ r k f l. tt in
+    let restores : (r k : ℕ) → Fine r → k < 5 → StaysWithin false (One (restore r k)) = λ r k f l. (f.1, tt) in
+    let body = body-are frame (StaysWithin false) (λ v. ⊤) rows (λ name. tt) address saves restores n.op n.operands (λ i. any-number (operand_in n.operands i)) in
+    (saved-are frame (StaysWithin false) (λ v. ⊤) rows (λ name. tt) address saves restores choices (body_items frame n.op n.operands) 8 well.saved body).each
 
 -- ---- labels
 load-names : (labels t : ℕ) (x : Operand) → NamesBelow labels x → NameLabels labels (load_items t x)

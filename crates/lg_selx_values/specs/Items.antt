@@ -1,6 +1,6 @@
 -- The items of x86-64: as they are emitted, with 0 in the fields of labels, and as they are once the labels have places. Each is one instruction, of 1 to
 -- 10 bytes.
-use Rattle.std.specs.Prelude.{◌≡◌, ℕ, ◌+◌, ◌<◌, nat_lt, false, ℤ, pos, ◌-ℤ◌, if◌then◌else◌, List, [], ◌∷◌, ⊤}
+use Rattle.std.specs.Prelude.{◌≡◌, ℕ, ◌+◌, ◌<◌, nat_lt, false, ℤ, pos, ◌-ℤ◌, if◌then◌else◌, List, [], ◌∷◌, ⊤, Bool}
 use Rattle.std.proofs.Common.{lit<}
 use Rattle.lg_base.specs.declared.target.Target.TheVariants.{X86_64}
 use Rattle.lg_x86.specs.declared.instruction.Instr.{Instr}
@@ -83,11 +83,11 @@ IsItem (One i) = IsInstr i
 IsItem (Jump kind label) = ⊤
 IsItem (Address reg label) = reg < 16
 
--- an item writes no register that is outside of the conventions
-abbrev pub StaysWithin : Item → Type 0
-StaysWithin (One i) = WritesWithin i
-StaysWithin (Jump kind label) = ⊤
-StaysWithin (Address reg label) = is_outside X86_64 reg ≡ false
+-- an item of code that moves the stack pointer, or does not, writes no register that is outside of the conventions
+abbrev pub StaysWithin : Bool → Item → Type 0
+StaysWithin moves (One i) = WritesWithin moves i
+StaysWithin moves (Jump kind label) = WritesWithin moves (jump_by kind (pos 0))
+StaysWithin moves (Address reg label) = is_outside X86_64 moves reg ≡ false
 
 -- an item names one of so many labels, or none
 abbrev pub NamesOneOf : ℕ → Item → Type 0
@@ -115,8 +115,8 @@ fixes_of place xs = holes.fixes_of x86_holes place xs
 abbrev pub AreItems : List Item → Type 0
 AreItems xs = Each IsItem xs
 
-abbrev pub StayWithin : List Item → Type 0
-StayWithin xs = Each StaysWithin xs
+abbrev pub StayWithin : Bool → List Item → Type 0
+StayWithin moves xs = Each (StaysWithin moves) xs
 
 abbrev pub NameLabels : ℕ → List Item → Type 0
 NameLabels labels xs = Each (NamesOneOf labels) xs

@@ -38,28 +38,48 @@ module _ {Q I : Type 0} (R : Rows Q I) (fits : I → Type 0) (ok : AreRows R fit
       let e : pc + length (R.spelling x) + length (spellings R.spelling xs) ≡ pc + length (spellings R.spelling (x ∷ xs)) = omega (arith, size) in
       subst (λ n. R.is_place n ≡ true) e (places-behind xs (pc + length (R.spelling x)) (λ k d lt. all (suc k) d (omega (arith, lt))) (ok.places pc x (all 0 x (omega arith)) at))
 
-  pub part-passes : (moves : Bool) (from : ℕ) (front part back : List I) (q : Q) → StandsAt R moves fits from (front ++ (part ++ back)) → (R.processor.seen q).pc ≡ from + length (spellings R.spelling front) → IsBlock R.is_straight part → GoesThrough R.does R.processor.machine.status (IsAbove R) part q
-      → PassesIn R.processor moves from (behind R from (front ++ (part ++ back))) (length part) q (done R.does part q)
-  part-passes moves from front part back q k at block through =
-      let front-bytes = spellings R.spelling front in
-      let part-bytes = spellings R.spelling part in
-      let back-bytes = spellings R.spelling back in
-      let split = spelled-append R.spelling front (part ++ back) ∙ ap (λ z. front-bytes ++ z) (spelled-append R.spelling part back) in
-      let size : length (spellings R.spelling (front ++ (part ++ back))) ≡ length front-bytes + (length part-bytes + length back-bytes) = ap length split ∙ length-append front-bytes (part-bytes ++ back-bytes) ∙ ap (λ z. length front-bytes + z) (length-append part-bytes back-bytes) in
-      let here : drop (from - code_base) R.code ≡ front-bytes ++ ((part-bytes ++ back-bytes) ++ k.more) = k.stands ∙ ap (λ z. z ++ k.more) split ∙ append_assoc front-bytes (part-bytes ++ back-bytes) k.more in
-      let there : drop ((R.processor.seen q).pc - code_base) R.code ≡ part-bytes ++ (back-bytes ++ k.more) = behind-front R (from - code_base) ((R.processor.seen q).pc - code_base) front-bytes ((part-bytes ++ back-bytes) ++ k.more) here (omega (arith, at, k.low)) ∙ append_assoc part-bytes back-bytes k.more in
-      let front-fits = all-front fits front (part ++ back) k.fit in
-      let part-fits = all-front fits part back (all-back fits front (part ++ back) k.fit) in
-      let part-stays = all-front (StaysOutside R moves) part back (all-back (StaysOutside R moves) front (part ++ back) k.outside) in
-      let run : RunsBlock R part q = blocks-run R fits ok part q (back-bytes ++ k.more) part-fits block through (omega (arith, at, k.low)) (subst (λ n. R.is_place n ≡ true) (sym at) (places-behind front from front-fits k.place)) there in
-      record {
-        leads = run.leads;
-        inside = λ j lt. let w = run.inside j lt in (omega (arith, w.0, at), omega (arith, w.1, at, size));
-        outside = stay-outside R moves part q run part-stays;
-        above = run.above;
-        silent = run.silent;
-        keeps = run.keeps;
-      }
+  -- a part of instructions that stand in the code is run
+  module _ (moves : Bool) (from : ℕ) (front part back : List I) (q : Q) (k : StandsAt R moves fits from (front ++ (part ++ back)))
+      (at : (R.processor.seen q).pc ≡ from + length (spellings R.spelling front)) (block : IsBlock R.is_straight part)
+      (through : GoesThrough R.does R.processor.machine.status (IsAbove R) part q) where
+    abbrev front-bytes : List ℕ
+    front-bytes = spellings R.spelling front
+
+    abbrev part-bytes : List ℕ
+    part-bytes = spellings R.spelling part
+
+    abbrev back-bytes : List ℕ
+    back-bytes = spellings R.spelling back
+
+    split : spellings R.spelling (front ++ (part ++ back)) ≡ front-bytes ++ (part-bytes ++ back-bytes)
+    split = spelled-append R.spelling front (part ++ back) ∙ ap (λ z. front-bytes ++ z) (spelled-append R.spelling part back)
+
+    size : length (spellings R.spelling (front ++ (part ++ back))) ≡ length front-bytes + (length part-bytes + length back-bytes)
+    size = ap length split ∙ length-append front-bytes (part-bytes ++ back-bytes) ∙ ap (λ z. length front-bytes + z) (length-append part-bytes back-bytes)
+
+    here : drop (from - code_base) R.code ≡ front-bytes ++ ((part-bytes ++ back-bytes) ++ k.more)
+    here = k.stands ∙ ap (λ z. z ++ k.more) split ∙ append_assoc front-bytes (part-bytes ++ back-bytes) k.more
+
+    there : drop ((R.processor.seen q).pc - code_base) R.code ≡ part-bytes ++ (back-bytes ++ k.more)
+    there = behind-front R (from - code_base) ((R.processor.seen q).pc - code_base) front-bytes ((part-bytes ++ back-bytes) ++ k.more) here (omega (arith, at, k.low))
+        ∙ append_assoc part-bytes back-bytes k.more
+
+    pub part-run : RunsBlock R part q
+    part-run = blocks-run R fits ok part q (back-bytes ++ k.more) (all-front fits part back (all-back fits front (part ++ back) k.fit)) block through (omega (arith, at, k.low))
+        (subst (λ n. R.is_place n ≡ true) (sym at) (places-behind front from (all-front fits front (part ++ back) k.fit) k.place)) there
+
+    pub part-passes : PassesIn R.processor moves from (behind R from (front ++ (part ++ back))) (length part) q (done R.does part q)
+    part-passes =
+        let run = part-run in
+        let part-stays = all-front (StaysOutside R moves) part back (all-back (StaysOutside R moves) front (part ++ back) k.outside) in
+        record {
+          leads = run.leads;
+          inside = λ j lt. let w = run.inside j lt in (omega (arith, w.0, at), omega (arith, w.1, at, size));
+          outside = stay-outside R moves part q run part-stays;
+          above = run.above;
+          silent = run.silent;
+          keeps = run.keeps;
+        }
 
 -- ---- one behind the other
 module _ {Q : Type 0} (P : Processor Q) where

@@ -16,7 +16,7 @@ use Rattle.lg_carry.specs.Rows.{Rows, AreRows}
 use Rattle.lg_carry.proofs.RegistersApartLemmas.{conventions-apart}
 use Rattle.lg_carry.specs.Nodes.Stretches.{StandsAt, behind, PassesIn, Arrival}
 use Rattle.lg_carry.proofs.OfNodes.StraightLemmas.{in-room}
-use Rattle.lg_carry.proofs.OfNodes.StretchLemmas.{part-passes}
+use Rattle.lg_carry.proofs.OfNodes.StretchLemmas.{part-passes, part-run}
 use Rattle.lg_sel.specs.Control.Walks.{Walk}
 
 pub aligned : (pc : ℕ) → (pc % 4 == 0) ≡ true → pc % 4 ≡ 0
@@ -58,6 +58,12 @@ module _ {Q I : Type 0} (R : Rows Q I) (fits : I → Type 0) (ok : AreRows R fit
   pub all-risen : (moves : Bool) (from : ℕ) (is : List I) (q : Q) → StandsAt R moves fits from is → (R.processor.seen q).pc ≡ from → IsBlock R.is_straight is
       → GoesThrough R.does R.processor.machine.status (IsAbove R) is q → Along R.does (Raises R) is q → Rises R.processor (length is) q
   all-risen moves from is q k at block through along = block-rises R is q (run-of moves from is q k at block through) along
+
+  -- so does a part of them
+  pub part-risen : (moves : Bool) (from : ℕ) (front part back : List I) (q : Q) → StandsAt R moves fits from (front ++ (part ++ back))
+      → (R.processor.seen q).pc ≡ from + length (spellings R.spelling front) → IsBlock R.is_straight part
+      → GoesThrough R.does R.processor.machine.status (IsAbove R) part q → Along R.does (Raises R) part q → Rises R.processor (length part) q
+  part-risen moves from front part back q k at block through along = block-rises R part q (part-run R fits ok moves from front part back q k at block through) along
 
   -- those that move no stack pointer sink
   pub still-sunk : (from : ℕ) (is : List I) (q : Q) → StandsAt R false fits from is → (R.processor.seen q).pc ≡ from → IsBlock R.is_straight is

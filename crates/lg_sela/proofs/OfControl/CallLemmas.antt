@@ -1,7 +1,8 @@
 -- Calls on AArch64: `bl` and `blr` link, and a host function returns to the link.
+use Rattle.lg_carry.proofs.TurnLemmas.{one-sinks, still-sinks, ahead-more}
 use Rattle.lg_sel.specs.A64Touched.{touched_at}
 use Rattle.lg_carry.proofs.BlockLemmas.{no-width}
-use Rattle.std.proofs.Common.{◌≡◌, ◌≢◌, ℕ, ◌+◌, ◌*◌, ◌%◌, ◌^◌, ◌<◌, ◌≤◌, true, List, [], ◌∷◌, Some, refl, ap, ◌∙◌, arith, length}
+use Rattle.std.proofs.Common.{◌≡◌, ◌≢◌, ℕ, ◌+◌, ◌*◌, ◌%◌, ◌^◌, ◌<◌, ◌≤◌, true, List, [], ◌∷◌, Some, refl, ap, ◌∙◌, arith, length, false}
 use Rattle.std.proofs.Common.{length-append}
 use Rattle.std.specs.Prelude.{◌==◌, if◌then◌else◌}
 use Rattle.lg_base.specs.HostNames.{host_address, host_by_address}
@@ -24,7 +25,7 @@ use Rattle.lg_cpu.specs.States.{CpuState}
 use Rattle.lg_cpu.specs.Steps.{Run, Effect, after, arrived, faults, status_of}
 use Rattle.lg_cpu.proofs.A64SoundLemmas.{a64-stays-sound}
 use Rattle.lg_temp.specs.Abis.{register_of}
-use Rattle.lg_carry.specs.Blocks.{done}
+use Rattle.lg_carry.specs.Blocks.{done, RunsBlock}
 use Rattle.lg_sela_values.specs.Processor.A64Computers.{a64_computer}
 use Rattle.lg_sela_values.specs.Processor.A64Rows.{a64_processor, a64_rows, a64_does, nzcv, link, acts_above}
 use Rattle.lg_sela_values.specs.Processor.Computations.{all_compute, holding}
@@ -33,7 +34,7 @@ use Rattle.lg_sela_values.proofs.OfProcessor.HeldLemmas.{put-same, put-other}
 use Rattle.lg_sela_values.proofs.OfProcessor.NumberCodeLemmas.{numbers-are-loaded}
 use Rattle.lg_sela_values.proofs.OfProcessor.ComputerLemmas.{spellings-long}
 use Rattle.lg_carry.specs.Nodes.Leaps.{CallsLead, HostCallsLead, EntersHosts}
-use Rattle.lg_carry.specs.Nodes.Stretches.{StandsAt, behind, Arrival}
+use Rattle.lg_carry.specs.Nodes.Stretches.{StandsAt, behind, Arrival, PassesIn}
 use Rattle.lg_carry.proofs.OfNodes.StretchLemmas.{passages-join}
 use Rattle.lg_carry.proofs.OfValues.ComputationLemmas.{RunsThrough}
 use Rattle.lg_sel.specs.Control.RegisterLeaps.{RegisterCallsLead, RegisterHostCallsLead}
@@ -47,21 +48,22 @@ use Rattle.lg_sela.specs.Control.Calls.{call_code}
 use Rattle.lg_sela.specs.Control.HostCalls.{host_code, a64_ready}
 use Rattle.lg_sela.specs.Control.RegisterLeaps.{register_call_code}
 use Rattle.lg_sela.proofs.OfControl.ComputedLemmas.{same-bytes}
-use Rattle.lg_sela.proofs.OfControl.StretchLemmas.{stands-high, one-passed, front-high, front-runs, front-passed, front-behind}
+use Rattle.lg_sela.proofs.OfControl.StretchLemmas.{stands-high, one-passed, front-high, front-runs, front-passed, front-run, front-behind}
 use Rattle.lg_sela.proofs.OfControl.WalkLemmas.{leads-there, reads-portable}
 
 module _ (code : List ℕ) (trash : ℕ) (small : length code ≤ most_code) (bytes : AreBytes code) (word : trash < 2 ^ 64) where
   -- a branch that links arrives, where it is the only instruction
-  linked-arrival : (from to : ℕ) (x : Instr) (q : Run CpuState) → StandsAt (a64_rows code trash) IsInstr from (x ∷ []) → status_of (arrived to) ≡ Running
+  linked-arrival : (from to : ℕ) (x : Instr) (q : Run CpuState) → StandsAt (a64_rows code trash) false IsInstr from (x ∷ []) → status_of (arrived to) ≡ Running
       → status_of q.progress ≡ Running → acts_above x q.state → q.state.pc ≡ from → act x q.state ≡ link_to q.state to
       → Arrival (a64_processor code trash) from (behind (a64_rows code trash) from (x ∷ [])) (q.state.registers 31)
       (behind (a64_rows code trash) from (x ∷ [])) to q
   linked-arrival from to x q k there runs above at does =
-      let high = stands-high code trash small bytes word from (x ∷ []) (omega arith) k in
+      let high = stands-high false code trash small bytes word from (x ∷ []) (omega arith) k in
       let e : Effect CpuState = link_to q.state to in
       let behind-it : ℕ = behind (a64_rows code trash) from (x ∷ []) in
-      arrived-with (a64_processor code trash) link refl from behind-it behind-it to 1 q (after q e)
-      (one-passed code trash small bytes word from [] x [] q e k runs above (at ∙ omega arith) does)
+      let pass = one-passed false code trash small bytes word from [] x [] q e k runs above (at ∙ omega arith) does in
+      arrived-with (a64_processor code trash) link refl from behind-it behind-it to 1 q (after q e) pass
+      (one-sinks (a64_processor code trash) from behind-it q (after q e) pass)
       (omega arith) (omega arith) there refl
       (put-same q.state.registers link (add_words q.state.pc 4) ∙ pc-next q.state.pc (omega (arith, high, at)) ∙ omega (arith, at))
       (λ z ne. put-other q.state.registers link (add_words q.state.pc 4) z ne) refl refl
@@ -69,13 +71,13 @@ module _ (code : List ℕ) (trash : ℕ) (small : length code ≤ most_code) (by
   -- ---- a call of a function
   pub calls-lead : CallsLead (a64_rows code trash) IsInstr call_code
   calls-lead frame from to q f k there runs at =
-      let high = stands-high code trash small bytes word from (call_code from to) (omega arith) k in
+      let high = stands-high false code trash small bytes word from (call_code from to) (omega arith) k in
       let t = there.high in
       linked-arrival from to (instr.Branch Bl (words_between from to)) q k (runs-there to there.low) runs (no-width _ _) at
       (ap (link_to q.state) (leads-there q.state.pc from to at (omega (arith, high)) (omega (arith, t)) (aligned from k.place) (aligned to there.place)))
 
   -- ---- a call of the word of a register
-  register-arrival : (frame from to : ℕ) (a : Reg) (q : Run CpuState) → StandsAt (a64_rows code trash) IsInstr from (register_call_code frame a)
+  register-arrival : (frame from to : ℕ) (a : Reg) (q : Run CpuState) → StandsAt (a64_rows code trash) false IsInstr from (register_call_code frame a)
       → status_of (arrived to) ≡ Running → status_of q.progress ≡ Running → q.state.pc ≡ from → q.state.registers (register_of Aarch64 a) ≡ to
       → Arrival (a64_processor code trash) from (behind (a64_rows code trash) from (register_call_code frame a)) (q.state.registers 31)
       (behind (a64_rows code trash) from (register_call_code frame a)) to q
@@ -92,7 +94,7 @@ module _ (code : List ℕ) (trash : ℕ) (small : length code ≤ most_code) (by
   }
 
   -- ---- a call of a host function: its entry is in the link, and the branch there links
-  module _ (frame from : ℕ) (name : HostName) (q : Run CpuState) (k : StandsAt (a64_rows code trash) IsInstr from (host_code name))
+  module _ (frame from : ℕ) (name : HostName) (q : Run CpuState) (k : StandsAt (a64_rows code trash) false IsInstr from (host_code name))
       (runs : status_of q.progress ≡ Running) (at : q.state.pc ≡ from) where
     abbrev entry : ℕ
     entry = host_address name
@@ -116,13 +118,13 @@ module _ (code : List ℕ) (trash : ℕ) (small : length code ≤ most_code) (by
     few = (numbers-are-loaded link entry (omega arith) (host-small name)).few
 
     ran : RunsThrough (a64_computer code trash) front q
-    ran = front-runs code trash small bytes word from front (call ∷ []) q k (omega arith) all runs at
+    ran = front-runs false code trash small bytes word from front (call ∷ []) q k (omega arith) all runs at
 
     here : r.state.pc ≡ from + 4 * length front
-    here = front-behind code trash small bytes word from front (call ∷ []) q k (omega arith) all runs at
+    here = front-behind false code trash small bytes word from front (call ∷ []) q k (omega arith) all runs at
 
     top : from + 4 * length front + 4 * 1 ≤ code_base + most_code
-    top = front-high code trash small bytes word from front (call ∷ []) q k (omega arith) all runs at
+    top = front-high false code trash small bytes word from front (call ∷ []) q k (omega arith) all runs at
 
     loaded : r.state.registers ≡ put q.state.registers link entry
     loaded = ap (λ h. h.registers) ran.holds
@@ -143,12 +145,20 @@ module _ (code : List ℕ) (trash : ℕ) (small : length code ≤ most_code) (by
     others : (x : ℕ) → x ≢ link → put r.state.registers link (add_words r.state.pc 4) x ≡ q.state.registers x
     others x ne = put-other r.state.registers link (add_words r.state.pc 4) x ne ∙ ap (λ g. g x) loaded ∙ put-other q.state.registers link entry x ne
 
+    block : RunsBlock (a64_rows code trash) front q
+    block = front-run false code trash small bytes word from front (call ∷ []) q k (omega arith) all runs at
+
+    pass : PassesIn (a64_processor code trash) false from high (length front + 1) q (after r e)
+    pass =
+        passages-join (a64_processor code trash) false from high (length front) 1 q r (after r e)
+        (front-passed false code trash small bytes word from front (call ∷ []) q k (omega arith) all runs at)
+        (one-passed false code trash small bytes word from front call [] r e k ran.runs (no-width _ _) here does)
+
     pub host-arrival : Arrival (a64_processor code trash) from high (q.state.registers 31) high entry q
     host-arrival =
-        arrived-with (a64_processor code trash) link refl from high high entry (length front + 1) q (after r e)
-        (passages-join (a64_processor code trash) from high (length front) 1 q r (after r e)
-        (front-passed code trash small bytes word from front (call ∷ []) q k (omega arith) all runs at)
-        (one-passed code trash small bytes word from front call [] r e k ran.runs (no-width _ _) here does))
+        arrived-with (a64_processor code trash) link refl from high high entry (length front + 1) q (after r e) pass
+        (still-sinks (a64_processor code trash) from high (length front + 1) q (after r e) pass
+        (ahead-more (a64_processor code trash) from (length front) q r block.leads (λ j some lt. let a = block.ahead j some lt in omega (arith, a, at)) (λ some. omega (arith, here, some))))
         (omega (arith, few)) (omega arith) (entry-runs name) refl
         (put-same r.state.registers link (add_words r.state.pc 4) ∙ back) others (same-bytes r.state.bytes q.state.bytes ran.bytes) ran.mark
 

@@ -1,8 +1,16 @@
 -- A `prolog` makes the frame.
+use Rattle.std.proofs.lemmas.List.Elements.{All-nil, All-cons}
+use Rattle.lg_sel.specs.Holes.{Each}
+use Rattle.lg_sela_values.proofs.OfProcessor.OutsideLemmas.{instructions-stay}
+use Rattle.lg_sela_values.specs.Processor.Destinations.{WritesWithin}
+use Rattle.lg_carry.proofs.TurnLemmas.{along-append, still-lowers}
+use Rattle.lg_carry.specs.Carries.{Sinks}
+use Rattle.lg_carry.specs.Blocks.{done, Along, StaysOutside}
+use Rattle.lg_sel.specs.Control.Stores.{stores_below}
 use Rattle.lg_carry.proofs.BelowLemmas.{not-below}
 use Rattle.lg_carry.proofs.BlockLemmas.{no-width}
-use Rattle.std.proofs.Common.{◌≡◌, ℕ, suc, ◌+◌, ◌-◌, ◌*◌, ◌/◌, ◌%◌, ◌^◌, ◌<◌, ◌≤◌, Bool, true, false, List, [], ◌∷◌, refl, ap, ◌∙◌, subst, arith, length, inr}
-use Rattle.std.specs.List.{list_all}
+use Rattle.std.proofs.Common.{◌≡◌, ℕ, suc, ◌+◌, ◌-◌, ◌*◌, ◌/◌, ◌%◌, ◌^◌, ◌<◌, ◌≤◌, Bool, true, false, List, [], ◌∷◌, refl, ap, ◌∙◌, subst, arith, length, inr, append-nil, sym, ◌++◌}
+use Rattle.std.specs.List.{list_all, All}
 use Rattle.std.specs.Prelude.{◌==◌, not, nat_lt, if◌then◌else◌}
 use Rattle.lg_base.specs.Conventions.{argument_registers}
 use Rattle.lg_base.specs.Layout.{most_code, stack_end, least_frame}
@@ -27,14 +35,14 @@ use Rattle.lg_sela_values.proofs.OfProcessor.ComputerLemmas.{spellings-long}
 use Rattle.lg_sela_values.proofs.OfProcessor.HeldLemmas.{put-same, put-other}
 use Rattle.lg_carry.specs.Nodes.Stretches.{StandsAt, behind, PassesIn}
 use Rattle.lg_sel.specs.Control.Prologs.{Entrance, PrologsLead}
-use Rattle.lg_sel.proofs.OfControl.ChainLemmas.{RunsAt, next-at, Chain, chain-end, chain-more, straight-block}
+use Rattle.lg_sel.proofs.OfControl.ChainLemmas.{RunsAt, next-at, Chain, chain-end, chain-more, straight-block, does}
 use Rattle.lg_sel.proofs.OfControl.EntranceLemmas.{IsEntered, entrance}
 use Rattle.lg_sel.proofs.OfControl.StoreLemmas.{word_below, HasStack, mapped-below, run_stored, stored-at, stored-registers}
 use Rattle.lg_sel.proofs.OfControl.StoreLemmas.{stored-mark, stored-bytes, stored-chain, stored-few, take-all}
 use Rattle.lg_sel.proofs.OfControl.StoreLemmas.{stores-before, stores-all, stored-besides}
 use Rattle.lg_sela.specs.Control.Prologs.{stored_registers, store_word, fall_code, framed_code, is_near, prolog_code}
-use Rattle.lg_sela.proofs.OfControl.StackFallLemmas.{Falls, falls, near-size}
-use Rattle.lg_sela.proofs.OfControl.StretchLemmas.{stands-high, all-passed}
+use Rattle.lg_sela.proofs.OfControl.StackFallLemmas.{StackLowers, lowers-by, Falls, falls, near-size}
+use Rattle.lg_sela.proofs.OfControl.StretchLemmas.{stands-high, all-passed, all-sunk}
 
 -- ---- the code
 straight-falls : (size : ℕ) → list_all is_straight (fall_code size) ≡ true
@@ -110,7 +118,7 @@ framed_size homes = suc (1 + length (stored_registers homes))
 module _ (code : List ℕ) (trash : ℕ) (small : length code ≤ most_code) (bytes-small : AreBytes code) (trash-word : trash < 2 ^ 64)
     (first left homes : ℕ) (rest : List Instr) (whole : first % 8 ≡ 0) (least : 104 ≤ first) (most : first ≤ 2048) (straight-rest : list_all is_straight rest ≡ true) (few-rest : length rest ≤ 2)
     (from sp : ℕ) (q : Run CpuState) (seen : IsSeen (a64_seen q)) (low : 0x3FF00010 + 272 ≤ sp) (top : sp ≤ stack_end)
-    (stack-is : q.state.registers stack_pointer ≡ sp) (k : StandsAt (a64_rows code trash) IsInstr from (framed_code first homes rest)) (runs : status_of q.progress ≡ Running)
+    (stack-is : q.state.registers stack_pointer ≡ sp) (k : StandsAt (a64_rows code trash) true IsInstr from (framed_code first homes rest)) (runs : status_of q.progress ≡ Running)
     (at : q.state.pc ≡ from)
     (lowers : (r : Run CpuState) → RunsAt from (framed_size homes + length rest) (framed_size homes) r → r.state.registers stack_pointer ≡ sp - first
     → Falls rest from (framed_size homes + length rest) (framed_size homes) left r) where
@@ -133,7 +141,7 @@ module _ (code : List ℕ) (trash : ℕ) (small : length code ≤ most_code) (by
   code-size = let e = stores-before (store_word first) registers 0 (fp-code ∷ rest) in omega (arith, e)
 
   begins : RunsAt from n 0 q
-  begins = let h = stands-high code trash small bytes-small trash-word from all (omega arith) k in record {
+  begins = let h = stands-high true code trash small bytes-small trash-word from all (omega arith) k in record {
     runs = runs;
     here = at ∙ omega arith;
     low = k.low;
@@ -195,11 +203,42 @@ module _ (code : List ℕ) (trash : ℕ) (small : length code ≤ most_code) (by
       (fp-code ∷ rest) from n 1 q0 u (omega (arith, few-stored)) (are-stored homes) (omega arith) a0 stack0 (λ a e. seen.stack a e)
       (chain-more act acts_above fp-code rest q1 u (computes q1.state (put q1.state.registers rows.frame_pointer fp) q1.state.flags) a1.runs (no-width _ _) refl fall.chain))
 
+  -- none of them lets the stack pointer rise
+  abbrev stores : List Instr
+  stores = stores_below (store_word first) registers 0
+
+  stores-done : done (does act) stores q0 ≡ q1
+  stores-done =
+      let c = stored-chain act acts_above (store_word first) (λ f. f) can-store stack_pointer (sp - first) sp (store-act sp first low top whole least most) (store-above sp first low top whole least most) registers 0
+      [] from n 1 q0 q1 (omega (arith, few-stored)) (are-stored homes) (omega arith) a0 stack0 (λ a e. seen.stack a e) (chain-end act acts_above q1) in
+      ap (λ z. done (does act) z q0) (sym (append-nil stores)) ∙ c.leads
+
+  stores-still : All (StaysOutside (a64_rows code trash) false) stores
+  stores-still = each-still stores (stores-each registers 0)
+    where
+      stores-each : (rs : List ℕ) (j : ℕ) → Each (WritesWithin false) (stores_below (store_word first) rs j)
+      stores-each [] j = tt
+      stores-each (r ∷ rs) j = (tt, stores-each rs (suc j))
+
+      each-still : (is : List Instr) → Each (WritesWithin false) is → All (StaysOutside (a64_rows code trash) false) is
+      each-still [] h = All-nil (StaysOutside (a64_rows code trash) false)
+      each-still (i ∷ is) h = All-cons (StaysOutside (a64_rows code trash) false) i is (instructions-stay code trash false i h.0) (each-still is h.1)
+
+  along : Along (does act) StackLowers all q
+  along = lowers-by (instr.Imm Subi stack_pointer stack_pointer first false) (stores ++ (fp-code ∷ rest)) q (computes q.state (put q.state.registers stack_pointer w0) q.state.flags)
+      begins.runs refl (omega (arith, stack-is, stack0))
+      (along-append (a64_rows code trash) StackLowers stores (fp-code ∷ rest) q0 (still-lowers (a64_rows code trash) stores q0 stores-still)
+      (subst (Along (does act) StackLowers (fp-code ∷ rest)) (sym stores-done)
+      (lowers-by fp-code rest q1 (computes q1.state (put q1.state.registers rows.frame_pointer fp) q1.state.flags) a1.runs refl (omega arith) fall.lowers)))
+
   straight : list_all is_straight all ≡ true
   straight = stores-all (store_word first) is_straight (λ r j. refl) registers 0 (fp-code ∷ rest) straight-rest
 
-  pass : PassesIn (a64_processor code trash) from (behind (a64_rows code trash) from all) (length all) q u
-  pass = all-passed code trash small bytes-small trash-word from all q u k at (straight-block is_straight all straight) chain
+  pass : PassesIn (a64_processor code trash) true from (behind (a64_rows code trash) from all) (length all) q u
+  pass = all-passed true code trash small bytes-small trash-word from all q u k at (straight-block is_straight all straight) chain
+
+  sinks : Sinks (a64_processor code trash) from (length all) q
+  sinks = all-sunk true code trash small bytes-small trash-word from all q u k at (straight-block is_straight all straight) chain along
 
   is-entered : IsEntered (a64_processor code trash) link (first + left) homes sp q u
   is-entered = record {
@@ -215,13 +254,14 @@ module _ (code : List ℕ) (trash : ℕ) (small : length code ≤ most_code) (by
   pub enters : Entrance (a64_processor code trash) from (behind (a64_rows code trash) from all) sp (first + left) homes q
   enters =
       entrance (a64_processor code trash) link (first + left) homes sp refl refl low q u seen.words is-entered from (behind (a64_rows code trash) from all) (length all)
-      pass (omega (arith, code-size, few-stored, few-rest)) (omega (arith, code-size)) fall.at.runs
+      pass sinks (omega (arith, code-size, few-stored, few-rest)) (omega (arith, code-size)) fall.at.runs
       (let h = fall.at.here in let l = spellings-long all in omega (arith, h, l, code-size))
 
 no-fall : (base n k : ℕ) (q : Run CpuState) → RunsAt base n k q → Falls [] base n k 0 q
 no-fall base n k q at = record {
   end = q;
   chain = chain-end act acts_above q;
+  lowers = tt;
   at = subst (λ x. RunsAt base n x q) (omega arith) at;
   stack = omega arith;
   others = λ r ne. refl;
@@ -238,7 +278,7 @@ prologs-lead code trash small bytes word frame homes from stack q seen large roo
     low : 0x3FF00010 + 272 ≤ stack
     low = omega (arith, room, large)
 
-    by : (b : Bool) → is_near frame ≡ b → StandsAt (a64_rows code trash) IsInstr from (code-by frame homes b)
+    by : (b : Bool) → is_near frame ≡ b → StandsAt (a64_rows code trash) true IsInstr from (code-by frame homes b)
         → Entrance (a64_processor code trash) from (behind (a64_rows code trash) from (code-by frame homes b)) stack frame homes q
     by true e k =
         let near = near-size frame e in

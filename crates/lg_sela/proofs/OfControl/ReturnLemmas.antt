@@ -1,9 +1,16 @@
 -- Returns leave their frame.
+use Rattle.std.specs.List.{All}
+use Rattle.std.proofs.lemmas.List.Elements.{All-nil, All-cons}
+use Rattle.lg_sela_values.proofs.OfProcessor.OutsideLemmas.{instructions-stay}
+use Rattle.lg_sela_values.proofs.WithinLemmas.{Within, number}
+use Rattle.lg_sel.proofs.OfControl.StretchLemmas.{part-risen}
+use Rattle.lg_carry.proofs.TurnLemmas.{rises-join, still-raises, block-rises}
+use Rattle.lg_carry.specs.Carries.{Rises}
 use Rattle.lg_sel.specs.A64Touched.{touched}
 use Rattle.lg_carry.specs.Processors.{IsOff, is_below}
 use Rattle.lg_carry.proofs.BelowLemmas.{not-below}
 use Rattle.lg_carry.proofs.BlockLemmas.{no-width}
-use Rattle.std.proofs.Common.{◌≡◌, ◌≢◌, ℕ, zero, suc, ◌+◌, ◌-◌, ◌*◌, ◌^◌, ◌<◌, ◌≤◌, true, false, List, [], ◌∷◌, Option, Some, refl, sym, ap, inr}
+use Rattle.std.proofs.Common.{◌≡◌, ◌≢◌, ℕ, zero, suc, ◌+◌, ◌-◌, ◌*◌, ◌^◌, ◌<◌, ◌≤◌, true, false, List, [], ◌∷◌, Option, Some, refl, sym, ap, inr, subst}
 use Rattle.std.proofs.Common.{◌∙◌, subst, arith, length, ◌++◌, append-nil}
 use Rattle.std.specs.Prelude.{ℤ, pos, negsuc, is_some, nat_lt, Bool, if◌then◌else◌}
 use Rattle.lg_base.specs.Conventions.{portable_register}
@@ -27,7 +34,7 @@ use Rattle.lg_cpu.specs.Laws.{AreBytes}
 use Rattle.lg_cpu.specs.States.{CpuState, goes_on}
 use Rattle.lg_cpu.specs.Steps.{Run, after, arrived, status_of}
 use Rattle.lg_temp.specs.Abis.{register_of}
-use Rattle.lg_carry.specs.Blocks.{done, IsBlock}
+use Rattle.lg_carry.specs.Blocks.{done, IsBlock, Along, StaysOutside, RunsBlock}
 use Rattle.lg_carry.specs.Registers.{HasWord}
 use Rattle.lg_carry.proofs.RegistersApartLemmas.{conventions-apart}
 use Rattle.lg_sela_values.specs.Processor.A64Computers.{a64_computer}
@@ -44,7 +51,7 @@ use Rattle.lg_carry.proofs.OfNodes.StretchLemmas.{part-passes, passages-join}
 use Rattle.lg_carry.specs.Values.Computers.{Held}
 use Rattle.lg_carry.proofs.OfValues.ComputationLemmas.{RunsThrough}
 use Rattle.lg_sel.specs.Control.Returns.{Returned, NoWord, OfRegister, OfNumber, OfLabel, returned_word, IsReturned, Departure, ReturnsLead}
-use Rattle.lg_sel.proofs.OfControl.ChainLemmas.{RunsAt, next-at, Chain, chain-end, chain-more, block-of}
+use Rattle.lg_sel.proofs.OfControl.ChainLemmas.{RunsAt, next-at, Chain, chain-end, chain-more, block-of, does, Raising, RaisedBy, raising-more, raising-chain}
 use Rattle.lg_sel.proofs.OfControl.DepartureLemmas.{IsLeft, departure}
 use Rattle.lg_sel.proofs.OfControl.FrameWordLemmas.{word_at, stack-word, saved-address, link-address, stack-address, pointer-address}
 use Rattle.lg_sel.proofs.OfControl.StoreLemmas.{HasStack}
@@ -52,7 +59,7 @@ use Rattle.lg_sela_values.specs.Items.{low_quarter, next_quarter}
 use Rattle.lg_sela_values.proofs.UnaryCodeLemmas.{unary-computed, unary-keeps}
 use Rattle.lg_sela.specs.Control.Returns.{result, near_return, far_return, return_code, result_code, returned_code}
 use Rattle.lg_sela.proofs.OfControl.ComputedLemmas.{same-bytes}
-use Rattle.lg_sela.proofs.OfControl.StretchLemmas.{front-high, front-runs, front-passed, front-behind}
+use Rattle.lg_sela.proofs.OfControl.StretchLemmas.{front-high, front-runs, front-passed, front-behind, front-run}
 
 -- a load by FP
 load-act : (q : CpuState) (rd by base address w : ℕ) (offset : ℤ) → q.registers by ≡ base → add_words base (word_of offset) ≡ address
@@ -60,11 +67,12 @@ load-act : (q : CpuState) (rd by base address w : ℕ) (offset : ℤ) → q.regi
 load-act q rd by base address w offset at e held =
     ap (λ x. load_at q rd (add_words x (word_of offset)) 8 false) at ∙ ap (λ x. load_at q rd x 8 false) e ∙ ap (loads q rd 8 false) held
 
--- the run behind instructions that return from a frame: all but the last are straight
+-- the run behind instructions that return from a frame: all but the last are straight, and none lets the stack pointer fall
 pub record Returns (code : List Instr) (q : Run CpuState) (sp back : ℕ) : Type 0 where
   pub end : Run CpuState
   pub chain : Chain act acts_above code q end
   pub block : IsBlock is_straight code
+  pub rises : Along (does act) (RaisedBy act acts_above stack_pointer) code q
   pub saved : (j : ℕ) → j < 3 → end.state.registers (portable_register Aarch64 (j + 3)) ≡ word_at q.state.bytes (saved_word (sp - 16) j)
   pub pointer : end.state.registers rows.frame_pointer ≡ word_at q.state.bytes (sp - 16)
   pub stack : end.state.registers stack_pointer ≡ sp
@@ -127,17 +135,17 @@ module _ (base n k : ℕ) (q : Run CpuState) (frame sp back : ℕ) (low : 0x3FF0
     a4 = next-at base n (suc (suc (suc k))) s3 _ _ _ _ (omega (arith, room)) a3
 
     -- the words that FP has come first
-    words-back : (is : List Instr) (end : Run CpuState) → Chain act acts_above is s4 end
-        → Chain act acts_above (instr.Unscaled Ldur 19 rows.frame_pointer (negsuc 7) ∷ instr.Unscaled Ldur 20 rows.frame_pointer (negsuc 15) ∷ instr.Unscaled Ldur 21 rows.frame_pointer (negsuc 23)
+    words-back : (is : List Instr) (end : Run CpuState) → Chain act (Raising act acts_above stack_pointer) is s4 end
+        → Chain act (Raising act acts_above stack_pointer) (instr.Unscaled Ldur 19 rows.frame_pointer (negsuc 7) ∷ instr.Unscaled Ldur 20 rows.frame_pointer (negsuc 15) ∷ instr.Unscaled Ldur 21 rows.frame_pointer (negsuc 23)
         ∷ instr.Unscaled Ldur link rows.frame_pointer (pos 8) ∷ is) q end
     words-back is end rest =
-        chain-more act acts_above _ _ q end (sets q.state 19 (word_at m (saved_word fp 0))) at.runs (frame-above q.state.registers 19 rows.frame_pointer (negsuc 7) fp (saved_word fp 0) pointer (saved-address sp 0 (omega arith) low high) (omega (arith, stack, large)))
+        raising-more act acts_above stack_pointer _ _ q end (sets q.state 19 (word_at m (saved_word fp 0))) (omega arith) at.runs (frame-above q.state.registers 19 rows.frame_pointer (negsuc 7) fp (saved_word fp 0) pointer (saved-address sp 0 (omega arith) low high) (omega (arith, stack, large)))
         (load-act q.state 19 rows.frame_pointer fp (saved_word fp 0) _ (negsuc 7) pointer (saved-address sp 0 (omega arith) low high) (saved 0 (omega arith)))
-        (chain-more act acts_above _ _ s1 end (sets s1.state 20 (word_at m (saved_word fp 1))) a1.runs (frame-above s1.state.registers 20 rows.frame_pointer (negsuc 15) fp (saved_word fp 1) pointer (saved-address sp 1 (omega arith) low high) (omega (arith, stack, large)))
+        (raising-more act acts_above stack_pointer _ _ s1 end (sets s1.state 20 (word_at m (saved_word fp 1))) (omega arith) a1.runs (frame-above s1.state.registers 20 rows.frame_pointer (negsuc 15) fp (saved_word fp 1) pointer (saved-address sp 1 (omega arith) low high) (omega (arith, stack, large)))
         (load-act s1.state 20 rows.frame_pointer fp (saved_word fp 1) _ (negsuc 15) pointer (saved-address sp 1 (omega arith) low high) (saved 1 (omega arith)))
-        (chain-more act acts_above _ _ s2 end (sets s2.state 21 (word_at m (saved_word fp 2))) a2.runs (frame-above s2.state.registers 21 rows.frame_pointer (negsuc 23) fp (saved_word fp 2) pointer (saved-address sp 2 (omega arith) low high) (omega (arith, stack, large)))
+        (raising-more act acts_above stack_pointer _ _ s2 end (sets s2.state 21 (word_at m (saved_word fp 2))) (omega arith) a2.runs (frame-above s2.state.registers 21 rows.frame_pointer (negsuc 23) fp (saved_word fp 2) pointer (saved-address sp 2 (omega arith) low high) (omega (arith, stack, large)))
         (load-act s2.state 21 rows.frame_pointer fp (saved_word fp 2) _ (negsuc 23) pointer (saved-address sp 2 (omega arith) low high) (saved 2 (omega arith)))
-        (chain-more act acts_above _ _ s3 end (sets s3.state link back) a3.runs (frame-above s3.state.registers link rows.frame_pointer (pos 8) fp (return_word sp) pointer (link-address sp low high) (omega (arith, stack, large)))
+        (raising-more act acts_above stack_pointer _ _ s3 end (sets s3.state link back) (omega arith) a3.runs (frame-above s3.state.registers link rows.frame_pointer (pos 8) fp (return_word sp) pointer (link-address sp low high) (omega (arith, stack, large)))
         (load-act s3.state link rows.frame_pointer fp (return_word sp) back (pos 8) pointer (link-address sp low high) held) rest)))
 
     -- ---- FP from its own word, and then the stack pointer
@@ -156,14 +164,14 @@ module _ (base n k : ℕ) (q : Run CpuState) (frame sp back : ℕ) (low : 0x3FF0
     rises : add_words (q.state.registers stack_pointer) frame ≡ sp
     rises = grind (arith, stack, high)
 
-    near-chain : Chain act acts_above (near_return frame) q (left n6)
+    near-chain : Chain act (Raising act acts_above stack_pointer) (near_return frame) q (left n6)
     near-chain =
         words-back (instr.Unscaled Ldur rows.frame_pointer rows.frame_pointer (pos 0) ∷ instr.Imm Addi stack_pointer stack_pointer frame false ∷ instr.BranchReg Ret link ∷ []) (left n6)
-        (chain-more act acts_above _ _ s4 (left n6) (sets s4.state rows.frame_pointer (word_at m fp)) a4.runs (frame-above s4.state.registers rows.frame_pointer rows.frame_pointer (pos 0) fp fp pointer (pointer-address sp low high) (omega (arith, stack, large)))
+        (raising-more act acts_above stack_pointer _ _ s4 (left n6) (sets s4.state rows.frame_pointer (word_at m fp)) (omega arith) a4.runs (frame-above s4.state.registers rows.frame_pointer rows.frame_pointer (pos 0) fp fp pointer (pointer-address sp low high) (omega (arith, stack, large)))
         (load-act s4.state rows.frame_pointer rows.frame_pointer fp fp _ (pos 0) pointer (pointer-address sp low high) caller)
-        (chain-more act acts_above _ _ n5 (left n6) (computes n5.state (put n5.state.registers stack_pointer sp) n5.state.flags) b5.runs (no-width _ _)
+        (raising-more act acts_above stack_pointer _ _ n5 (left n6) (computes n5.state (put n5.state.registers stack_pointer sp) n5.state.flags) (omega (arith, stack)) b5.runs (no-width _ _)
         (ap (λ x. computes n5.state (put n5.state.registers stack_pointer x) n5.state.flags) rises)
-        (chain-more act acts_above _ _ n6 (left n6) (goes_on n6.state back) b6.runs (no-width _ _) refl (chain-end act acts_above (left n6)))))
+        (raising-more act acts_above stack_pointer _ _ n6 (left n6) (goes_on n6.state back) (omega arith) b6.runs (no-width _ _) refl (chain-end act (Raising act acts_above stack_pointer) (left n6)))))
 
     abbrev six : List Instr
     six =
@@ -174,7 +182,8 @@ module _ (base n k : ℕ) (q : Run CpuState) (frame sp back : ℕ) (low : 0x3FF0
     near-returns : Returns (near_return frame) q sp back
     near-returns = record {
       end = left n6;
-      chain = near-chain;
+      chain = (raising-chain act acts_above stack_pointer (near_return frame) q (left n6) near-chain).0;
+      rises = (raising-chain act acts_above stack_pointer (near_return frame) q (left n6) near-chain).1;
       block = block-of is_straight six (instr.BranchReg Ret link) refl;
       saved = words;
       pointer = refl;
@@ -215,18 +224,18 @@ module _ (base n k : ℕ) (q : Run CpuState) (frame sp back : ℕ) (low : 0x3FF0
     c7 : RunsAt base n (suc (suc (suc (suc (suc (suc (suc k))))))) f7
     c7 = next-at base n (suc (suc (suc (suc (suc (suc k)))))) f6 _ _ _ _ (omega (arith, room)) c6
 
-    far-chain : Chain act acts_above far_return q (left f7)
+    far-chain : Chain act (Raising act acts_above stack_pointer) far_return q (left f7)
     far-chain =
         words-back less (instr.Imm Addi stack_pointer rows.frame_pointer 0 false ∷ instr.Unscaled Ldur rows.frame_pointer stack_pointer (pos 0)
         ∷ instr.Imm Addi stack_pointer stack_pointer 16 false ∷ instr.BranchReg Ret link ∷ []) (left f7)
-        (chain-more act acts_above _ _ s4 (left f7) (computes s4.state (put s4.state.registers stack_pointer fp) s4.state.flags) (a4 less).runs (no-width _ _)
+        (raising-more act acts_above stack_pointer _ _ s4 (left f7) (computes s4.state (put s4.state.registers stack_pointer fp) s4.state.flags) (omega (arith, stack, large)) (a4 less).runs (no-width _ _)
         (ap (λ x. computes s4.state (put s4.state.registers stack_pointer (add_words x 0)) s4.state.flags) pointer
         ∙ ap (λ x. computes s4.state (put s4.state.registers stack_pointer x) s4.state.flags) (pointer-address sp low high))
-        (chain-more act acts_above _ _ f5 (left f7) (sets f5.state rows.frame_pointer (word_at m fp)) c5.runs (frame-above f5.state.registers rows.frame_pointer stack_pointer (pos 0) fp fp refl (pointer-address sp low high) (omega arith))
+        (raising-more act acts_above stack_pointer _ _ f5 (left f7) (sets f5.state rows.frame_pointer (word_at m fp)) (omega arith) c5.runs (frame-above f5.state.registers rows.frame_pointer stack_pointer (pos 0) fp fp refl (pointer-address sp low high) (omega arith))
         (load-act f5.state rows.frame_pointer stack_pointer fp fp _ (pos 0) refl (pointer-address sp low high) caller)
-        (chain-more act acts_above _ _ f6 (left f7) (computes f6.state (put f6.state.registers stack_pointer sp) f6.state.flags) c6.runs (no-width _ _)
+        (raising-more act acts_above stack_pointer _ _ f6 (left f7) (computes f6.state (put f6.state.registers stack_pointer sp) f6.state.flags) (omega arith) c6.runs (no-width _ _)
         (ap (λ x. computes f6.state (put f6.state.registers stack_pointer x) f6.state.flags) (stack-address sp low high))
-        (chain-more act acts_above _ _ f7 (left f7) (goes_on f7.state back) c7.runs (no-width _ _) refl (chain-end act acts_above (left f7))))))
+        (raising-more act acts_above stack_pointer _ _ f7 (left f7) (goes_on f7.state back) (omega arith) c7.runs (no-width _ _) refl (chain-end act (Raising act acts_above stack_pointer) (left f7))))))
 
     abbrev seven : List Instr
     seven =
@@ -238,7 +247,8 @@ module _ (base n k : ℕ) (q : Run CpuState) (frame sp back : ℕ) (low : 0x3FF0
     far-returns : Returns far_return q sp back
     far-returns = record {
       end = left f7;
-      chain = far-chain;
+      chain = (raising-chain act acts_above stack_pointer far_return q (left f7) far-chain).0;
+      rises = (raising-chain act acts_above stack_pointer far_return q (left f7) far-chain).1;
       block = block-of is_straight seven (instr.BranchReg Ret link) refl;
       saved = words;
       pointer = refl;
@@ -276,6 +286,13 @@ return-short frame = by (nat_lt frame 4096)
     by false = record { some = omega arith; few = omega arith }
 
 -- ---- what stands in front of it
+-- it writes no stack pointer
+result-within : (r : Returned) → Within (result_code r)
+result-within NoWord = tt
+result-within (OfRegister a) = (refl, tt)
+result-within (OfNumber v) = number result v refl
+result-within (OfLabel address) = (refl, (refl, tt))
+
 some-is : (v x : ℕ) → Some v ≡ Some x → v ≡ x
 some-is v x e = cc
 
@@ -331,7 +348,7 @@ makes (OfLabel address) w ok = makes-loaded (OfLabel address) w address refl ref
 -- ---- the return
 module _ (code : List ℕ) (trash : ℕ) (small : length code ≤ most_code) (bytes : AreBytes code) (word : trash < 2 ^ 64)
     (frame from back : ℕ) (r : Returned) (q : Run CpuState) (ok : IsReturned r) (f : HasFrame Aarch64 frame (a64_seen q))
-    (k : StandsAt (a64_rows code trash) IsInstr from (returned_code frame r))
+    (k : StandsAt (a64_rows code trash) true IsInstr from (returned_code frame r))
     (held : HasWord q.state.bytes (return_word (q.state.registers stack_pointer + frame)) back)
     (runs : status_of q.progress ≡ Running) (at : q.state.pc ≡ from) where
   abbrev sp : ℕ
@@ -359,16 +376,16 @@ module _ (code : List ℕ) (trash : ℕ) (small : length code ≤ most_code) (by
   short = return-short frame
 
   top : from + 4 * length front + 4 * long ≤ code_base + most_code
-  top = front-high code trash small bytes word from front (return_code frame) q k short.some made.computes runs at
+  top = front-high true code trash small bytes word from front (return_code frame) q k short.some made.computes runs at
 
   ran : RunsThrough (a64_computer code trash) front q
-  ran = front-runs code trash small bytes word from front (return_code frame) q k short.some made.computes runs at
+  ran = front-runs true code trash small bytes word from front (return_code frame) q k short.some made.computes runs at
 
   abbrev q1 : Run CpuState
   q1 = done a64_does front q
 
   here1 : q1.state.pc ≡ from + 4 * length front
-  here1 = front-behind code trash small bytes word from front (return_code frame) q k short.some made.computes runs at
+  here1 = front-behind true code trash small bytes word from front (return_code frame) q k short.some made.computes runs at
 
   registers-are : q1.state.registers ≡ (computed front w).registers
   registers-are = ap (λ h. h.registers) ran.holds
@@ -397,17 +414,38 @@ module _ (code : List ℕ) (trash : ℕ) (small : length code ≤ most_code) (by
   abbrev u : Run CpuState
   u = goes-back.end
 
-  pass : PassesIn (a64_processor code trash) from high (length front + long) q u
+  pass : PassesIn (a64_processor code trash) true from high (length front + long) q u
   pass =
       let size = spellings-long front in
-      passages-join (a64_processor code trash) from high (length front) long q q1 u
-      (front-passed code trash small bytes word from front (return_code frame) q k short.some made.computes runs at)
-      (subst (λ z. PassesIn (a64_processor code trash) from high long q1 z) goes-back.chain.leads
-      (subst (λ z. StandsAt (a64_rows code trash) IsInstr from (front ++ z)
-      → PassesIn (a64_processor code trash) from (behind (a64_rows code trash) from (front ++ z)) long q1 (done a64_does (return_code frame) q1))
+      passages-join (a64_processor code trash) true from high (length front) long q q1 u
+      (front-passed true code trash small bytes word from front (return_code frame) q k short.some made.computes runs at)
+      (subst (λ z. PassesIn (a64_processor code trash) true from high long q1 z) goes-back.chain.leads
+      (subst (λ z. StandsAt (a64_rows code trash) true IsInstr from (front ++ z)
+      → PassesIn (a64_processor code trash) true from (behind (a64_rows code trash) from (front ++ z)) long q1 (done a64_does (return_code frame) q1))
       (append-nil (return_code frame))
-      (λ whole. part-passes (a64_rows code trash) IsInstr (are-rows code trash small bytes word) from front (return_code frame) [] q1 whole
+      (λ whole. part-passes (a64_rows code trash) IsInstr (are-rows code trash small bytes word) true from front (return_code frame) [] q1 whole
       (omega (arith, here1, size)) goes-back.block goes-back.chain.through) k))
+
+  -- the stack pointer does not fall: the result is put into another register, and the return lets it rise
+  front-block : RunsBlock (a64_rows code trash) front q
+  front-block = front-run true code trash small bytes word from front (return_code frame) q k short.some made.computes runs at
+
+  front-rises : Rises (a64_processor code trash) (length front) q
+  front-rises = block-rises (a64_rows code trash) front q front-block (still-raises (a64_rows code trash) front q (all-still front (result-within r)))
+    where
+      all-still : (is : List Instr) → Within is → All (StaysOutside (a64_rows code trash) false) is
+      all-still [] h = All-nil (StaysOutside (a64_rows code trash) false)
+      all-still (i ∷ is) h = All-cons (StaysOutside (a64_rows code trash) false) i is (instructions-stay code trash false i h.0) (all-still is h.1)
+
+  back-rises : Rises (a64_processor code trash) long q1
+  back-rises =
+      let size = spellings-long front in
+      part-risen (a64_rows code trash) IsInstr (are-rows code trash small bytes word) true from front (return_code frame) [] q1
+      (subst (λ z. StandsAt (a64_rows code trash) true IsInstr from (front ++ z)) (sym (append-nil (return_code frame))) k) (omega (arith, here1, size))
+      goes-back.block goes-back.chain.through goes-back.rises
+
+  all-rise : Rises (a64_processor code trash) (length front + long) q
+  all-rise = rises-join (a64_processor code trash) (length front) long q q1 front-block.leads front-rises back-rises
 
   -- the words of the frame come back
   is-left : IsLeft (a64_processor code trash) sp back (returned_word Aarch64 q.state.registers r) q u
@@ -425,7 +463,7 @@ module _ (code : List ℕ) (trash : ℕ) (small : length code ≤ most_code) (by
   pub departs : Departure (a64_processor code trash) from high sp back (returned_word Aarch64 q.state.registers r) q
   departs =
       let z = made.few in let few = short.few in let some = short.some in
-      departure (a64_processor code trash) sp back (returned_word Aarch64 q.state.registers r) q u low-frame f.high f.seen.stack is-left from high (length front + long) pass
+      departure (a64_processor code trash) sp back (returned_word Aarch64 q.state.registers r) q u low-frame f.high f.seen.stack is-left from high (length front + long) pass all-rise
       (omega (arith, z, few)) (omega (arith, some))
 
 pub returns-lead : (code : List ℕ) (trash : ℕ) → length code ≤ most_code → AreBytes code → trash < 2 ^ 64

@@ -121,7 +121,7 @@ two-on pc h = grind (arith, h)
 
 -- ---- the branch, where what stands before it computes
 module _ (code : List ℕ) (trash : ℕ) (small : length code ≤ most_code) (bytes : AreBytes code) (word : trash < 2 ^ 64)
-    (front back : List Instr) (c : Cond) (from to : ℕ) (q : Run CpuState) (k : StandsAt (a64_rows code trash) IsInstr from (front ++ back)) (more : 0 < length back)
+    (front back : List Instr) (c : Cond) (from to : ℕ) (q : Run CpuState) (k : StandsAt (a64_rows code trash) false IsInstr from (front ++ back)) (more : 0 < length back)
     (all : all_compute front ≡ true) (few : length front ≤ 60) (runs : status_of q.progress ≡ Running) (at : q.state.pc ≡ from) (goes-there : Bool)
     (there : goes-there ≡ true → IsThere (a64_rows code trash).is_place to)
     (next : IsThere (a64_rows code trash).is_place (behind (a64_rows code trash) from (front ++ back)))
@@ -137,16 +137,16 @@ module _ (code : List ℕ) (trash : ℕ) (small : length code ≤ most_code) (by
   size = let l = spellings-long (front ++ back) in let m = length-append front back in omega (arith, l, m)
 
   top : start + 4 * length back ≤ code_base + most_code
-  top = front-high code trash small bytes word from front back q k more all runs at
+  top = front-high false code trash small bytes word from front back q k more all runs at
 
   abbrev r : Run CpuState
   r = done a64_does front q
 
   ran : RunsThrough (a64_computer code trash) front q
-  ran = front-runs code trash small bytes word from front back q k more all runs at
+  ran = front-runs false code trash small bytes word from front back q k more all runs at
 
   here : r.state.pc ≡ start
-  here = front-behind code trash small bytes word from front back q k more all runs at
+  here = front-behind false code trash small bytes word from front back q k more all runs at
 
   even : start % 4 ≡ 0
   even = let e = aligned from k.place in omega (arith, e)
@@ -160,12 +160,12 @@ module _ (code : List ℕ) (trash : ℕ) (small : length code ≤ most_code) (by
 
   -- one instruction behind those that compute is passed
   passes-join-one : (x : Instr) (rest : List Instr) → back ≡ x ∷ rest → (e : Effect CpuState) → acts_above x r.state → act x r.state ≡ e
-      → PassesIn (a64_processor code trash) from high (length front + 1) q (after r e)
+      → PassesIn (a64_processor code trash) false from high (length front + 1) q (after r e)
   passes-join-one x rest is e above does =
-      passages-join (a64_processor code trash) from high (length front) 1 q r (after r e)
-      (front-passed code trash small bytes word from front back q k more all runs at)
-      (subst (λ z. PassesIn (a64_processor code trash) from (behind (a64_rows code trash) from (front ++ z)) 1 r (after r e)) (sym is)
-      (one-passed code trash small bytes word from front x rest r e (subst (λ z. StandsAt (a64_rows code trash) IsInstr from (front ++ z)) is k) ran.runs above here does))
+      passages-join (a64_processor code trash) false from high (length front) 1 q r (after r e)
+      (front-passed false code trash small bytes word from front back q k more all runs at)
+      (subst (λ z. PassesIn (a64_processor code trash) false from (behind (a64_rows code trash) from (front ++ z)) 1 r (after r e)) (sym is)
+      (one-passed false code trash small bytes word from front x rest r e (subst (λ z. StandsAt (a64_rows code trash) false IsInstr from (front ++ z)) is k) ran.runs above here does))
 
   -- one instruction behind those that compute leads somewhere
   one-leads : (x : Instr) (rest : List Instr) (target : ℕ) → back ≡ x ∷ rest → code_base ≤ target → acts_above x r.state → act x r.state ≡ goes_on r.state target
@@ -239,14 +239,14 @@ module _ (code : List ℕ) (trash : ℕ) (small : length code ≤ most_code) (by
         let does1 : act skip r.state ≡ goes_on r.state (add_words r.state.pc 4) = ap (λ b. goes_on r.state (goes-to (pos 2) b)) (turned-reads ∙ ap not e) in
         let does2 : act leap r1.state ≡ goes_on r1.state to = ap (goes_on r1.state)
         (leads-there r1.state.pc (start + 4) to here1 (omega (arith, top)) (omega (arith, h)) (omega (arith, even)) (aligned to t.place)) in
-        let k' : StandsAt (a64_rows code trash) IsInstr from ((front ++ (skip ∷ [])) ++ (leap ∷ [])) = subst (StandsAt (a64_rows code trash) IsInstr from) split k in
-        let last : PassesIn (a64_processor code trash) from high 1 r1 (after r1 (goes_on r1.state to)) =
-        subst (λ z. PassesIn (a64_processor code trash) from (behind (a64_rows code trash) from z) 1 r1 (after r1 (goes_on r1.state to))) (sym split)
-        (one-passed code trash small bytes word from (front ++ (skip ∷ [])) leap [] r1 (goes_on r1.state to) k' runs1 (no-width _ _) (omega (arith, here1, long)) does2) in
+        let k' : StandsAt (a64_rows code trash) false IsInstr from ((front ++ (skip ∷ [])) ++ (leap ∷ [])) = subst (StandsAt (a64_rows code trash) false IsInstr from) split k in
+        let last : PassesIn (a64_processor code trash) false from high 1 r1 (after r1 (goes_on r1.state to)) =
+        subst (λ z. PassesIn (a64_processor code trash) false from (behind (a64_rows code trash) from z) 1 r1 (after r1 (goes_on r1.state to))) (sym split)
+        (one-passed false code trash small bytes word from (front ++ (skip ∷ [])) leap [] r1 (goes_on r1.state to) k' runs1 (no-width _ _) (omega (arith, here1, long)) does2) in
         record {
           end = after r1 (goes_on r1.state to);
           steps = length front + 1 + 1;
-          passes = passages-join (a64_processor code trash) from high (length front + 1) 1 q r1 (after r1 (goes_on r1.state to))
+          passes = passages-join (a64_processor code trash) false from high (length front + 1) 1 q r1 (after r1 (goes_on r1.state to))
               (passes-join-one skip (leap ∷ []) is (goes_on r.state (add_words r.state.pc 4)) (no-width _ _) does1) last;
           few = omega (arith, few);
           some = omega arith;
@@ -264,7 +264,7 @@ module _ (code : List ℕ) (trash : ℕ) (small : length code ≤ most_code) (by
 
 -- ---- whatever the reach
 pub two-ways : (r : Reach) (code : List ℕ) (trash : ℕ) → length code ≤ most_code → AreBytes code → trash < 2 ^ 64
-    → (front : List Instr) (c : Cond) (from to : ℕ) (q : Run CpuState) → StandsAt (a64_rows code trash) IsInstr from (branch_if r front c from to)
+    → (front : List Instr) (c : Cond) (from to : ℕ) (q : Run CpuState) → StandsAt (a64_rows code trash) false IsInstr from (branch_if r front c from to)
     → all_compute front ≡ true → length front ≤ 60 → status_of q.progress ≡ Running → q.state.pc ≡ from → (goes-there : Bool)
     → (goes-there ≡ true → IsThere (a64_rows code trash).is_place to)
     → IsThere (a64_rows code trash).is_place (behind (a64_rows code trash) from (branch_if r front c from to))

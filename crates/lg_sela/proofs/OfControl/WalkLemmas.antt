@@ -43,12 +43,12 @@ module _ (code : List ℕ) (trash : ℕ) (small : length code ≤ most_code) (by
   jumps-walk from to q k there runs at =
       let jump : Instr = instr.Branch B (words_between from to) in
       let e : Effect CpuState = goes_on q.state to in
-      let high = stands-high code trash small bytes word from (jump ∷ []) (omega arith) k in
+      let high = stands-high false code trash small bytes word from (jump ∷ []) (omega arith) k in
       let t = there.high in
       let does : act jump q.state ≡ e =
       ap (goes_on q.state) (leads-there q.state.pc from to at (omega (arith, high)) (omega (arith, t)) (aligned from k.place) (aligned to there.place)) in
       walked (a64_processor code trash) (λ x. false) (λ x e. cc) from (behind (a64_rows code trash) from (jump_code from to)) to 1 q (after q e)
-      (one-passed code trash small bytes word from [] jump [] q e k runs (no-width _ _) (at ∙ omega arith) does)
+      (one-passed false code trash small bytes word from [] jump [] q e k runs (no-width _ _) (at ∙ omega arith) does)
       (omega arith) (λ lt. omega arith) (runs-there to there.low) refl (λ x off. refl) refl refl
 
   pub register-jumps-walk : RegisterJumpsWalk (a64_rows code trash) IsInstr register_jump_code
@@ -57,5 +57,5 @@ module _ (code : List ℕ) (trash : ℕ) (small : length code ≤ most_code) (by
       let e : Effect CpuState = goes_on q.state to in
       let does : act jump q.state ≡ e = ap (goes_on q.state) (reads-portable q.state.registers a ∙ is) in
       walked (a64_processor code trash) (λ x. false) (λ x e. cc) from (behind (a64_rows code trash) from (register_jump_code frame a)) to 1 q (after q e)
-      (one-passed code trash small bytes word from [] jump [] q e k runs (no-width _ _) (at ∙ omega arith) does)
+      (one-passed false code trash small bytes word from [] jump [] q e k runs (no-width _ _) (at ∙ omega arith) does)
       (omega arith) (λ lt. omega arith) (runs-there to there.low) refl (λ x off. refl) refl refl

@@ -1,6 +1,7 @@
 -- No item of a node that branches, jumps, calls or returns, of `prolog` or `.align` writes a register that is outside of the conventions.
-use Rattle.std.proofs.Common.{ℕ, zero, suc, Bool, true, List, [], ◌∷◌, refl}
+use Rattle.std.proofs.Common.{ℕ, zero, suc, Bool, true, List, [], ◌∷◌, refl, false}
 use Rattle.std.specs.Prelude.{◌-◌, ◌/◌, ◌%◌, false, nat_lt, if◌then◌else◌}
+use Rattle.lg_carry.specs.Outside.{moves_stack}
 use Rattle.lg_base.specs.HostNames.{host_address}
 use Rattle.lg_base.specs.declared.target.Target.TheVariants.{Aarch64}
 use Rattle.lg_op.specs.declared.op.BranchSumOp.{BranchSumOp}
@@ -30,7 +31,7 @@ use Rattle.lg_sela_values.specs.Processor.Destinations.{WritesWithin}
 use Rattle.lg_sela_values.specs.Processor.Numbers.{number_code}
 use Rattle.lg_carry.specs.Nodes.Immediates.{immediate}
 use Rattle.lg_sela_values.specs.Items.{ones, StayWithin}
-use Rattle.lg_sela_values.proofs.WithinLemmas.{In, portable, Within, join, stay-append, stay-ones, number}
+use Rattle.lg_sela_values.proofs.WithinLemmas.{In, portable, Within, join, stay-append, stay-ones, number, Moving, moving-join, moving-append, moving-ones, items-moving, flagged}
 use Rattle.lg_sel.specs.declared.reach.Reach.{Reach}
 use Rattle.lg_sel.specs.declared.reach.Reach.TheVariants.{Short, Near, Far}
 use Rattle.lg_sela.specs.Control.Alignments.{padding, idle, align_code}
@@ -45,29 +46,29 @@ use Rattle.lg_sela.specs.Control.Returns.{result, near_return, far_return, retur
 use Rattle.lg_sela.specs.Control.SumBranches.{sum_instruction}
 
 -- ---- branches, jumps, calls and returns
-word : (t : ℕ) (x : Operand) → In t → StayWithin (word_items t (immediate x))
+word : (t : ℕ) (x : Operand) → In t → StayWithin false (word_items t (immediate x))
 word t (operand.Number v) h = stay-ones (number_code t v) (number t v h)
 word t (operand.Host name) h = stay-ones (number_code t (host_address name)) (number t (host_address name) h)
 word t (operand.Reg r) h = tt
 word t (operand.Label l) h = tt
 word t (operand.Slot k) h = tt
 
-second : (x : Operand) → StayWithin (second_items x)
+second : (x : Operand) → StayWithin false (second_items x)
 second (operand.Reg r) = tt
 second (operand.Number v) = word link (operand.Number v) refl
 second (operand.Host name) = word link (operand.Host name) refl
 second (operand.Label l) = word link (operand.Label l) refl
 second (operand.Slot k) = word link (operand.Slot k) refl
 
-compared : (o : Condition) (a b : ℕ) → WritesWithin (comparison o a b)
-compared condition.Ms a b = refl
-compared condition.Mc a b = refl
-compared o a b = refl
+compared : (o : Condition) (a b : ℕ) → WritesWithin false (comparison o a b)
+compared condition.Ms a b = tt
+compared condition.Mc a b = tt
+compared o a b = tt
 
-put-compared : (o : Condition) (x : Operand) → StayWithin (compared_items o x)
+put-compared : (o : Condition) (x : Operand) → StayWithin false (compared_items o x)
 put-compared o (operand.Number v) = by (is_held o v)
   where
-    by : (b : Bool) → StayWithin (if b then [] else second_items (operand.Number v))
+    by : (b : Bool) → StayWithin false (if b then [] else second_items (operand.Number v))
     by true = tt
     by false = second (operand.Number v)
 put-compared o (operand.Reg r) = tt
@@ -75,17 +76,17 @@ put-compared o (operand.Host name) = second (operand.Host name)
 put-compared o (operand.Label l) = second (operand.Label l)
 put-compared o (operand.Slot k) = second (operand.Slot k)
 
-number-within : (a v : ℕ) → WritesWithin (number_comparison a v)
+number-within : (a v : ℕ) → WritesWithin false (number_comparison a v)
 number-within a v = by (is_small v)
   where
-    by : (b : Bool) → WritesWithin (if b then instr.Imm Subsi zero_register a v false else instr.Imm Addsi zero_register a (negated v) false)
-    by true = refl
-    by false = refl
+    by : (b : Bool) → WritesWithin false (if b then instr.Imm Subsi zero_register a v false else instr.Imm Addsi zero_register a (negated v) false)
+    by true = tt
+    by false = tt
 
-comparing-within : (o : Condition) (a : ℕ) (x : Operand) → WritesWithin (comparing o a x)
+comparing-within : (o : Condition) (a : ℕ) (x : Operand) → WritesWithin false (comparing o a x)
 comparing-within o a (operand.Number v) = by (is_held o v)
   where
-    by : (b : Bool) → WritesWithin (if b then number_comparison a v else comparison o a link)
+    by : (b : Bool) → WritesWithin false (if b then number_comparison a v else comparison o a link)
     by true = number-within a v
     by false = compared o a link
 comparing-within o a (operand.Reg r) = compared o a (register_of Aarch64 r)
@@ -93,66 +94,66 @@ comparing-within o a (operand.Host name) = compared o a link
 comparing-within o a (operand.Label l) = compared o a link
 comparing-within o a (operand.Slot k) = compared o a link
 
-added : (o : BranchSumOp) (a b : ℕ) → In a → WritesWithin (sum_instruction o a b)
-added sum.OverflowAdd a b h = h
-added sum.OverflowAddU a b h = h
-added sum.OverflowSub a b h = h
-added sum.OverflowSubU a b h = h
-added sum.FitAdd a b h = h
-added sum.FitAddU a b h = h
-added sum.FitSub a b h = h
-added sum.FitSubU a b h = h
+added : (o : BranchSumOp) (a b : ℕ) → In a → WritesWithin false (sum_instruction o a b)
+added sum.OverflowAdd a b h = flagged a h
+added sum.OverflowAddU a b h = flagged a h
+added sum.OverflowSub a b h = flagged a h
+added sum.OverflowSubU a b h = flagged a h
+added sum.FitAdd a b h = flagged a h
+added sum.FitAddU a b h = flagged a h
+added sum.FitSub a b h = flagged a h
+added sum.FitSubU a b h = flagged a h
 
-leads : (r : Reach) (c : Cond) (l : Label) → StayWithin (leads_items r c l)
+leads : (r : Reach) (c : Cond) (l : Label) → StayWithin false (leads_items r c l)
 leads Short c l = (tt, tt)
 leads Near c l = (tt, tt)
 leads Far c l = (tt, (tt, tt))
 
-branched : (r : Reach) (o : Condition) (xs : List Operand) → StayWithin (branch_items r o xs)
+branched : (r : Reach) (o : Condition) (xs : List Operand) → StayWithin false (branch_items r o xs)
 branched r o (operand.Label l ∷ operand.Reg a ∷ x ∷ []) =
     stay-append (compared_items o x) _ (put-compared o x) (comparing-within o (register_of Aarch64 a) x, leads r _ l)
 branched r o xs = tt
 
-summed : (r : Reach) (o : BranchSumOp) (xs : List Operand) → StayWithin (sum_items r o xs)
+summed : (r : Reach) (o : BranchSumOp) (xs : List Operand) → StayWithin false (sum_items r o xs)
 summed r o (operand.Label l ∷ operand.Reg a ∷ x ∷ []) =
     stay-append (second_items x) _ (second x) (added o (register_of Aarch64 a) (second_register x) (portable a), leads r _ l)
 summed r o xs = tt
 
-jumped : (xs : List Operand) → StayWithin (jump_items xs)
+jumped : (xs : List Operand) → StayWithin false (jump_items xs)
 jumped (operand.Label l ∷ []) = (tt, tt)
 jumped xs = tt
 
-called : (xs : List Operand) → StayWithin (call_items xs)
+called : (xs : List Operand) → StayWithin false (call_items xs)
 called (operand.Label l ∷ []) = (refl, tt)
 called (operand.Host name ∷ []) =
     stay-append (word_items link (immediate (operand.Host name))) (ones (instr.BranchReg Blr link ∷ [])) (word link (operand.Host name) refl) (refl, tt)
 called xs = tt
 
-results : (x : Operand) → StayWithin (result_items x)
+results : (x : Operand) → StayWithin false (result_items x)
 results (operand.Reg r) = (refl, tt)
 results (operand.Label l) = (refl, tt)
 results (operand.Number v) = word result (operand.Number v) refl
 results (operand.Host name) = word result (operand.Host name) refl
 results (operand.Slot k) = word result (operand.Slot k) refl
 
-returns : (frame : ℕ) → StayWithin (ones (return_code frame))
+returns : (frame : ℕ) → StayWithin true (ones (return_code frame))
 returns frame = by (nat_lt frame 4096)
   where
-    by : (b : Bool) → StayWithin (ones (if b then near_return frame else far_return))
+    by : (b : Bool) → StayWithin true (ones (if b then near_return frame else far_return))
     by true = (refl, (refl, (refl, (refl, (refl, (refl, (tt, tt)))))))
     by false = (refl, (refl, (refl, (refl, (refl, (refl, (refl, (tt, tt))))))))
 
-returned : (frame : ℕ) (xs : List Operand) → StayWithin (ret_items frame xs)
-returned frame (x ∷ []) = stay-append (result_items x) (ones (return_code frame)) (results x) (returns frame)
+returned : (frame : ℕ) (xs : List Operand) → StayWithin true (ret_items frame xs)
+returned frame (x ∷ []) = moving-append (result_items x) (ones (return_code frame)) (items-moving (result_items x) (results x)) (returns frame)
 returned frame xs = tt
 
-leapt : (o : BranchRegOp) (xs : List Operand) → StayWithin (register_leap_items o xs)
+leapt : (o : BranchRegOp) (xs : List Operand) → StayWithin false (register_leap_items o xs)
 leapt Br (operand.Reg a ∷ []) = (tt, tt)
 leapt Blr (operand.Reg a ∷ []) = (refl, tt)
 leapt Ret (operand.Reg a ∷ []) = (tt, tt)
 leapt o xs = tt
 
-leaps : (frame : ℕ) (o : ControlOp) (last : LastOperand) (xs : List Operand) → StayWithin (leap_items frame o last xs)
+leaps : (frame : ℕ) (o : ControlOp) (last : LastOperand) (xs : List Operand) → StayWithin (moves_stack Aarch64 (op.Control o last)) (leap_items frame o last xs)
 leaps frame control.Jmp last_operand.Immediate xs = jumped xs
 leaps frame control.Jmp last_operand.Register xs = leapt Br xs
 leaps frame control.Call last_operand.Immediate xs = called xs
@@ -167,44 +168,44 @@ idles : (k : ℕ) → Within (idle k)
 idles zero = tt
 idles (suc k) = (tt, idles k)
 
-aligned : (at : ℕ) (xs : List Operand) → StayWithin (align_items at xs)
+aligned : (at : ℕ) (xs : List Operand) → StayWithin false (align_items at xs)
 aligned at (operand.Number n ∷ []) = stay-ones (align_code at n) (idles (padding at n))
 aligned at xs = tt
 
-below : (first : ℕ) (rs : List ℕ) (k : ℕ) → Within (stores_below first rs k)
+below : (first : ℕ) (rs : List ℕ) (k : ℕ) → Moving (stores_below first rs k)
 below first [] k = tt
 below first (r ∷ rs) k = (tt, below first rs (suc k))
 
-falls : (n : ℕ) → Within (fall_code n)
+falls : (n : ℕ) → Moving (fall_code n)
 falls n = by (nat_lt n 4096)
   where
-    by : (b : Bool) → Within (if b then instr.Imm Subi stack_pointer stack_pointer n false ∷ []
+    by : (b : Bool) → Moving (if b then instr.Imm Subi stack_pointer stack_pointer n false ∷ []
         else instr.Imm Subi stack_pointer stack_pointer (n / 4096 % 4096) true ∷ instr.Imm Subi stack_pointer stack_pointer (n % 4096) false ∷ [])
     by true = (refl, tt)
     by false = (refl, (refl, tt))
 
-begins : (frame homes : ℕ) → Within (prolog_code frame homes)
+begins : (frame homes : ℕ) → Moving (prolog_code frame homes)
 begins frame homes = by (is_near frame)
   where
-    framed : (first : ℕ) (rest : List Instr) → Within rest → Within (framed_code first homes rest)
+    framed : (first : ℕ) (rest : List Instr) → Moving rest → Moving (framed_code first homes rest)
     framed first rest h = (
       refl,
-      join (stores_below first (stored_registers homes) 0) (instr.Imm Addi frame_pointer stack_pointer (first - 16) false ∷ rest)
+      moving-join (stores_below first (stored_registers homes) 0) (instr.Imm Addi frame_pointer stack_pointer (first - 16) false ∷ rest)
           (below first (stored_registers homes) 0) (refl, h),
     )
 
-    by : (b : Bool) → Within (if b then framed_code frame homes [] else framed_code 112 homes (fall_code (frame - 112)))
+    by : (b : Bool) → Moving (if b then framed_code frame homes [] else framed_code 112 homes (fall_code (frame - 112)))
     by true = framed frame [] tt
     by false = framed 112 (fall_code (frame - 112)) (falls (frame - 112))
 
-plainly : (o : PlainOp) (xs : List Operand) (frame homes at : ℕ) → StayWithin (plain_items o xs frame homes at)
-plainly plain.Prolog xs frame homes at = stay-ones (prolog_code frame homes) (begins frame homes)
+plainly : (o : PlainOp) (xs : List Operand) (frame homes at : ℕ) → StayWithin (moves_stack Aarch64 (op.Plain o)) (plain_items o xs frame homes at)
+plainly plain.Prolog xs frame homes at = moving-ones (prolog_code frame homes) (begins frame homes)
 plainly plain.Epilog xs frame homes at = returns frame
 plainly plain.Ret xs frame homes at = returns frame
 plainly plain.Align xs frame homes at = aligned at xs
 plainly o xs frame homes at = tt
 
-stay : (r : Reach) (o : Op) (xs : List Operand) (frame homes at : ℕ) → StayWithin (control_items r o xs frame homes at)
+stay : (r : Reach) (o : Op) (xs : List Operand) (frame homes at : ℕ) → StayWithin (moves_stack Aarch64 o) (control_items r o xs frame homes at)
 stay r (op.Branch o last) xs frame homes at = branched r o xs
 stay r (op.BranchSum o last) xs frame homes at = summed r o xs
 stay r (op.Control o last) xs frame homes at = leaps frame o last xs

@@ -274,7 +274,7 @@ push-fit j n few = by (nat_lt j 8)
 
 -- ---- what is asked of items
 are-items : (most fixes : ℕ) (xs : List Item) → fixes ≤ 1 → AreFit most fixes xs → AreMemoryItems most xs
-are-items = bounded-few a64_holes IsGoodItem is_straight IsItem StaysWithin good-items-are-appendable
+are-items = bounded-few a64_holes IsGoodItem is_straight IsItem (StaysWithin false) good-items-are-appendable
 
 pub memory-items-fit : MemoryItemsFit
 memory-items-fit = record {

@@ -22,27 +22,27 @@ use Rattle.lg_sela.specs.Memory.VariableArgumentCode.{next_argument_code}
 use Rattle.lg_sela.proofs.OfMemory.FitLemmas.{argument-fine, memory-items-fit}
 
 -- ---- registers
-puts : (rd : ℕ) (x : Operand) → In rd → StayWithin (into rd x)
+puts : (rd : ℕ) (x : Operand) → In rd → StayWithin false (into rd x)
 puts rd (operand.Reg r) h = (h, tt)
 puts rd (operand.Number v) h = stay-ones (number_code rd v) (number rd v h)
 puts rd (operand.Host name) h = stay-ones (number_code rd (host_address name)) (number rd (host_address name) h)
 puts rd (operand.Label l) h = (h, tt)
 puts rd (operand.Slot k) h = tt
 
-stacks : (j : ℕ) (x : Operand) → StayWithin (into link x ++ stack_push j link ∷ [])
+stacks : (j : ℕ) (x : Operand) → StayWithin false (into link x ++ stack_push j link ∷ [])
 stacks j x = stay-append (into link x) (stack_push j link ∷ []) (puts link x refl) (tt, tt)
 
-stacked : (j : ℕ) (x : Operand) → StayWithin (onto_stack j x)
+stacked : (j : ℕ) (x : Operand) → StayWithin false (onto_stack j x)
 stacked j (operand.Reg r) = (tt, tt)
 stacked j (operand.Number v) = stacks j (operand.Number v)
 stacked j (operand.Host name) = stacks j (operand.Host name)
 stacked j (operand.Label l) = stacks j (operand.Label l)
 stacked j (operand.Slot k) = stacks j (operand.Slot k)
 
-pushes : (j : ℕ) (n : Node) → StayWithin (push_code j n)
+pushes : (j : ℕ) (n : Node) → StayWithin false (push_code j n)
 pushes j n = by (nat_lt j 8)
   where
-    by : (b : Bool) → StayWithin (if b then into (slice_index (argument_registers Aarch64) j) (operand_at n 0) else onto_stack j (operand_at n 0))
+    by : (b : Bool) → StayWithin false (if b then into (slice_index (argument_registers Aarch64) j) (operand_at n 0) else onto_stack j (operand_at n 0))
     by true = puts (slice_index (argument_registers Aarch64) j) (operand_at n 0) (argument-fine j).1
     by false = stacked j (operand_at n 0)
 

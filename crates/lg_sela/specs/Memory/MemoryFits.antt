@@ -1,5 +1,5 @@
 -- What is asked of the items of loads, stores and arguments that are emitted.
-use Rattle.std.specs.Prelude.{◌≡◌, ℕ, ◌<◌, List}
+use Rattle.std.specs.Prelude.{◌≡◌, ℕ, ◌<◌, List, false}
 use Rattle.lg_op.specs.declared.node.Node.{Node}
 use Rattle.lg_op.specs.declared.op.Addressing.{Addressing}
 use Rattle.lg_op.specs.declared.op.StoreType.{StoreType}
@@ -18,15 +18,15 @@ use Rattle.lg_sela.specs.Memory.VariableArgumentCode.{next_argument_code}
 
 -- the registers that the items write: none that is outside of the conventions
 pub record MemoryItemsStay : Type 0 where
-  pub loads : (t : ValueType) (at : Addressing) (n : Node) → StayWithin (ones (load_code t at n))
-  pub stores : (t : StoreType) (at : Addressing) (n : Node) → StayWithin (ones (store_code t at n))
-  pub arguments : (t : ValueType) (n : Node) → StayWithin (ones (argument_code t n))
-  pub next_arguments : (n : Node) → StayWithin (ones (next_argument_code n))
-  pub pushes : (j : ℕ) (n : Node) → StayWithin (push_code j n)
+  pub loads : (t : ValueType) (at : Addressing) (n : Node) → StayWithin false (ones (load_code t at n))
+  pub stores : (t : StoreType) (at : Addressing) (n : Node) → StayWithin false (ones (store_code t at n))
+  pub arguments : (t : ValueType) (n : Node) → StayWithin false (ones (argument_code t n))
+  pub next_arguments : (n : Node) → StayWithin false (ones (next_argument_code n))
+  pub pushes : (j : ℕ) (n : Node) → StayWithin false (push_code j n)
 
 -- the items are in the ranges of their instructions, of which there are at most so many, with at most one fix, and each is followed by the next
 abbrev pub AreMemoryItems : ℕ → List Item → Type 0
-AreMemoryItems most items = good_items.AreFew a64_holes is_straight IsItem StaysWithin most items
+AreMemoryItems most items = good_items.AreFew a64_holes is_straight IsItem (StaysWithin false) most items
 
 pub record MemoryItemsFit : Type 0 where
   pub loads : (t : ValueType) (at : Addressing) (n : Node) → AreMemoryItems 6 (ones (load_code t at n))

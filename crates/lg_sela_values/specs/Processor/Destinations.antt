@@ -1,9 +1,13 @@
 -- The registers that instructions write.
-use Rattle.std.specs.Prelude.{◌≡◌, ℕ, false, List, Option, Some, None, ⊤}
+use Rattle.std.specs.Prelude.{◌≡◌, ℕ, false, List, Option, Some, None, ⊤, Bool, ◌==◌, if◌then◌else◌}
 use Rattle.lg_base.specs.Conventions.{link_register}
 use Rattle.lg_base.specs.declared.target.Target.TheVariants.{Aarch64}
 use Rattle.lg_a64.specs.declared.instruction.Instr.{Instr}
 use Rattle.lg_a64.specs.declared.instruction.Instr.TheVariants.{Reg, Imm, Wide, MulAdd, Bitfield, Csinc, Reverse, Scaled, Ldrx, Unscaled, Branch, BranchIf, BranchReg, Nop}
+use Rattle.lg_a64.specs.declared.instruction.ImmOp.{ImmOp}
+use Rattle.lg_a64.specs.declared.instruction.ImmOp.TheVariants.{Addi, Subi, Addsi, Subsi}
+use Rattle.lg_a64.specs.declared.instruction.RegOp.{RegOp}
+use Rattle.lg_a64.specs.declared.instruction.RegOp.TheVariants.{Adds, Subs, Ands}
 use Rattle.lg_a64.specs.declared.instruction.ScaledOp.{ScaledOp}
 use Rattle.lg_a64.specs.declared.instruction.ScaledOp.TheVariants.{Str64, Str32, Str16, Str8}
 use Rattle.lg_a64.specs.declared.instruction.UnscaledOp.{UnscaledOp}
@@ -38,9 +42,25 @@ branch_reg_destination Br = None
 branch_reg_destination Blr = link_register Aarch64
 branch_reg_destination Ret = None
 
+-- rows that set flags write 31, which is no stack pointer there, as 0 is written: nowhere
+abbrev pub written : ℕ → Option ℕ
+written rd = if rd == 31 then None else Some rd
+
+abbrev pub reg_destination : RegOp → ℕ → Option ℕ
+reg_destination Adds rd = written rd
+reg_destination Subs rd = written rd
+reg_destination Ands rd = written rd
+reg_destination op rd = Some rd
+
+abbrev pub imm_destination : ImmOp → ℕ → Option ℕ
+imm_destination Addi rd = Some rd
+imm_destination Subi rd = Some rd
+imm_destination Addsi rd = written rd
+imm_destination Subsi rd = written rd
+
 abbrev pub destination : Instr → Option ℕ
-destination (Reg op rd rn rm) = Some rd
-destination (Imm op rd rn imm shifted) = Some rd
+destination (Reg op rd rn rm) = reg_destination op rd
+destination (Imm op rd rn imm shifted) = imm_destination op rd
 destination (Wide op rd imm hw) = Some rd
 destination (MulAdd op rd rn rm ra) = Some rd
 destination (Bitfield op rd rn immr imms) = Some rd
@@ -55,14 +75,14 @@ destination (BranchReg op rn) = branch_reg_destination op
 destination Nop = None
 
 -- a register that is not outside of the conventions, or none
-abbrev pub IsWithin : Option ℕ → Type 0
-IsWithin None = ⊤
-IsWithin (Some rd) = is_outside Aarch64 rd ≡ false
+abbrev pub IsWithin : Bool → Option ℕ → Type 0
+IsWithin moves None = ⊤
+IsWithin moves (Some rd) = is_outside Aarch64 moves rd ≡ false
 
 -- an instruction writes none that is outside
-abbrev pub WritesWithin : Instr → Type 0
-WritesWithin i = IsWithin (destination i)
+abbrev pub WritesWithin : Bool → Instr → Type 0
+WritesWithin moves i = IsWithin moves (destination i)
 
 -- so it changes none
 abbrev pub InstructionsStay : Type 0
-InstructionsStay = (code : List ℕ) (trash : ℕ) (i : Instr) → WritesWithin i → StaysOutside (a64_rows code trash) i
+InstructionsStay = (code : List ℕ) (trash : ℕ) (moves : Bool) (i : Instr) → WritesWithin moves i → StaysOutside (a64_rows code trash) moves i

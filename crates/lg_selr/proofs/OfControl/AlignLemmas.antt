@@ -1,6 +1,6 @@
 -- `.align` walks to a multiple.
 use Rattle.lg_carry.proofs.BlockLemmas.{no-width}
-use Rattle.std.proofs.Common.{◌≡◌, ◌≢◌, ℕ, ◌+◌, ◌^◌, ◌<◌, ◌≤◌, List, refl, ◌∙◌, arith, length}
+use Rattle.std.proofs.Common.{◌≡◌, ◌≢◌, ℕ, ◌+◌, ◌^◌, ◌<◌, ◌≤◌, List, refl, ◌∙◌, arith, length, false}
 use Rattle.std.specs.Prelude.{◌==◌, false}
 use Rattle.lg_base.specs.Layout.{most_code}
 use Rattle.lg_base.specs.Words.{add_words}
@@ -53,6 +53,6 @@ module _ (code : List ℕ) (trash : ℕ) (small : length code ≤ most_code) (by
       let begins : RunsAt from (length is) 0 q = record { runs = runs; here = at ∙ omega arith; low = k.low; high = omega (arith, high, spelled) } in
       let r = idles from (length is) 0 count q (omega (arith, size)) begins in
       walked code trash from (behind (rv_rows code trash) from is) (behind (rv_rows code trash) from is) (length is) q r.end
-      (all-passed code trash small bytes word from is q r.end k at (straight-block is_straight is (idle-straight no_op is_straight refl count)) r.chain)
+      (all-passed false code trash small bytes word from is q r.end k at (straight-block is_straight is (idle-straight no_op is_straight refl count)) r.chain)
       (let p = (padded from n ok (aligned from k.place)).1 in omega (arith, size, p)) (λ lt. omega (arith, lt, spelled)) r.at.runs
       (let h = r.at.here in omega (arith, h, size, spelled)) (λ x ne. r.registers x (is-other x ne)) r.bytes r.mark

@@ -1,7 +1,9 @@
 -- Calls on RV64: `jal` and `jalr` link, and a host function returns to the link.
+use Rattle.lg_selr_values.proofs.OfProcessor.RowLemmas.{are-rows}
+use Rattle.lg_carry.proofs.TurnLemmas.{one-sinks}
 use Rattle.lg_sel.specs.RvTouched.{touched_at}
 use Rattle.lg_carry.proofs.BlockLemmas.{no-width}
-use Rattle.std.proofs.Common.{◌≡◌, ℕ, ◌+◌, ◌*◌, ◌/◌, ◌%◌, ◌^◌, ◌<◌, ◌≤◌, true, List, [], ◌∷◌, Some, refl, sym, ap, ◌∙◌, subst, arith, length}
+use Rattle.std.proofs.Common.{◌≡◌, ℕ, ◌+◌, ◌*◌, ◌/◌, ◌%◌, ◌^◌, ◌<◌, ◌≤◌, true, List, [], ◌∷◌, Some, refl, sym, ap, ◌∙◌, subst, arith, length, false}
 use Rattle.std.specs.Prelude.{◌==◌, pos, ◌-ℤ◌, if◌then◌else◌}
 use Rattle.lg_base.specs.declared.flags.Flags.TheVariants.{NoFlags}
 use Rattle.lg_base.specs.Fields.{word_of}
@@ -32,9 +34,9 @@ use Rattle.lg_sel.proofs.OfControl.ChainLemmas.{Chain, chain-end, chain-more, ru
 use Rattle.lg_selr_values.proofs.OfProcessor.RegisterLemmas.{read-of}
 use Rattle.lg_sel.proofs.OfControl.HostEntryLemmas as entries
 use Rattle.lg_sel.proofs.OfControl.HostEntryLemmas.{entry-aligned, entry-runs, entry-near}
-use Rattle.lg_sel.proofs.OfControl.StretchLemmas.{aligned}
+use Rattle.lg_sel.proofs.OfControl.StretchLemmas.{aligned, still-sunk}
 use Rattle.lg_selr.proofs.OfControl.StretchLemmas.{stands-high, one-passed, all-passed, arrived-with}
-use Rattle.lg_selr.proofs.OfControl.WalkLemmas.{jumps-there, lands-there, far-end, far-link, far-other, far-passed}
+use Rattle.lg_selr.proofs.OfControl.WalkLemmas.{jumps-there, lands-there, far-end, far-link, far-other, far-passed, far-sunk}
 use Rattle.lg_selr.proofs.OfControl.WordLemmas.{put-same, put-other}
 use Rattle.lg_carry.specs.Nodes.Leaps.{CallsLead, HostCallsLead, EntersHosts}
 use Rattle.lg_carry.specs.Nodes.Stretches.{StandsAt, behind, PassesIn, Arrival}
@@ -66,14 +68,15 @@ module _ (code : List ℕ) (trash : ℕ) (small : length code ≤ most_code) (by
   near-calls-lead frame from to q f k there runs at =
       let jump = instr.Jal 1 (pos to -ℤ pos from) in
       let e : Effect CpuState = goes to (put q.state.registers 1 (add_words q.state.pc 4)) q.state.bytes q.state.mark in
-      let high = stands-high code trash small bytes word from jump [] k in
+      let high = stands-high false code trash small bytes word from jump [] k in
       let does : act jump q.state ≡ e =
       ap (λ p. act (instr.Jal 1 (pos to -ℤ pos p)) q.state) (sym at)
       ∙ jumps-there q.state 1 to (omega (arith, high, at)) (let h = there.high in omega (arith, h)) (aligned to there.place) in
       let behind-it : ℕ = behind (rv_rows code trash) from (call_code Near from to) in
-      arrived-with code trash from behind-it behind-it to 1 q (after q e)
-      (subst (λ z. PassesIn (rv_processor code trash) from behind-it 1 q (after q z)) does
-      (one-passed code trash small bytes word from [] jump [] q k runs (no-width _ _) (at ∙ omega arith)))
+      let pass : PassesIn (rv_processor code trash) false from behind-it 1 q (after q e) =
+      subst (λ z. PassesIn (rv_processor code trash) false from behind-it 1 q (after q z)) does
+      (one-passed false code trash small bytes word from [] jump [] q k runs (no-width _ _) (at ∙ omega arith)) in
+      arrived-with code trash from behind-it behind-it to 1 q (after q e) pass (one-sinks (rv_processor code trash) from behind-it q (after q e) pass)
       (omega arith) (omega arith) (runs-there to there.low) refl
       (put-same q.state.registers 1 _ ∙ pc-next q.state.pc (omega (arith, high, at)) ∙ omega (arith, at))
       (λ x ne. put-other q.state.registers 1 _ x ne) refl refl
@@ -85,6 +88,7 @@ module _ (code : List ℕ) (trash : ℕ) (small : length code ≤ most_code) (by
       let behind-it : ℕ = behind (rv_rows code trash) from (call_code Far from to) in
       arrived-with code trash from behind-it behind-it to 2 q end
       (far-passed code trash small bytes word 1 1 from to q k there runs at reads)
+      (far-sunk code trash small bytes word 1 1 from to q k there runs at reads)
       (omega arith) (omega arith) (runs-there to there.low) refl
       (far-link code trash small bytes word 1 1 from to q k there runs at reads)
       (λ x ne. far-other code trash small bytes word 1 1 from to q k there runs at reads x ne ne) refl refl
@@ -95,7 +99,7 @@ module _ (code : List ℕ) (trash : ℕ) (small : length code ≤ most_code) (by
   calls-lead Far = far-calls-lead
 
   -- ---- a call of the word of a register
-  register-arrival : (frame from to : ℕ) (a : Reg) (q : Run CpuState) → StandsAt (rv_rows code trash) IsInstr from (register_call_code frame a) → to < 2 ^ 62
+  register-arrival : (frame from to : ℕ) (a : Reg) (q : Run CpuState) → StandsAt (rv_rows code trash) false IsInstr from (register_call_code frame a) → to < 2 ^ 62
       → to % 4 ≡ 0 → status_of (arrived to) ≡ Running
       → status_of q.progress ≡ Running → q.state.pc ≡ from → q.state.registers (register_of Riscv64 a) ≡ to
       → Arrival (rv_processor code trash) from (behind (rv_rows code trash) from (register_call_code frame a)) (q.state.registers 2)
@@ -103,12 +107,13 @@ module _ (code : List ℕ) (trash : ℕ) (small : length code ≤ most_code) (by
   register-arrival frame from to a q k near even there runs at is =
       let jump = instr.Imm Jalr 1 (register_of Riscv64 a) (pos 0) in
       let e : Effect CpuState = goes to (put q.state.registers 1 (add_words q.state.pc 4)) q.state.bytes q.state.mark in
-      let high = stands-high code trash small bytes word from jump [] k in
+      let high = stands-high false code trash small bytes word from jump [] k in
       let does : act jump q.state ≡ e = lands-there q.state 1 (register_of Riscv64 a) to (read-of q.state.registers a ∙ is) near even in
       let behind-it : ℕ = behind (rv_rows code trash) from (register_call_code frame a) in
-      arrived-with code trash from behind-it behind-it to 1 q (after q e)
-      (subst (λ z. PassesIn (rv_processor code trash) from behind-it 1 q (after q z)) does
-      (one-passed code trash small bytes word from [] jump [] q k runs (no-width _ _) (at ∙ omega arith)))
+      let pass : PassesIn (rv_processor code trash) false from behind-it 1 q (after q e) =
+      subst (λ z. PassesIn (rv_processor code trash) false from behind-it 1 q (after q z)) does
+      (one-passed false code trash small bytes word from [] jump [] q k runs (no-width _ _) (at ∙ omega arith)) in
+      arrived-with code trash from behind-it behind-it to 1 q (after q e) pass (one-sinks (rv_processor code trash) from behind-it q (after q e) pass)
       (omega arith) (omega arith) there refl (put-same q.state.registers 1 _ ∙ pc-next q.state.pc (omega (arith, high, at)) ∙ omega (arith, at))
       (λ x ne. put-other q.state.registers 1 _ x ne) refl refl
 
@@ -128,7 +133,7 @@ module _ (code : List ℕ) (trash : ℕ) (small : length code ≤ most_code) (by
   host-calls-lead frame from name q f k runs at =
       let a = host_address name in
       let v1 = sign_32 (high_part a * 4096) in
-      let high = stands-high code trash small bytes word from (instr.Upper _ 1 (high_part a)) (instr.Imm _ 1 1 (low_part a) ∷ []) k in
+      let high = stands-high false code trash small bytes word from (instr.Upper _ 1 (high_part a)) (instr.Imm _ 1 1 (low_part a) ∷ []) k in
       let low = k.low in
       let q1 : Run CpuState = after q (sets q.state 1 v1) in
       let pc1 : q1.state.pc ≡ from + 4 = pc-next q.state.pc (omega (arith, high, at)) ∙ omega (arith, at) in
@@ -141,7 +146,8 @@ module _ (code : List ℕ) (trash : ℕ) (small : length code ≤ most_code) (by
       let behind-it : ℕ = behind (rv_rows code trash) from (host_code name) in record {
         ready_is = refl;
         arrival = arrived-with code trash from behind-it behind-it a 2 q u
-            (all-passed code trash small bytes word from (host_code name) q u k at (refl, tt) chain)
+            (all-passed false code trash small bytes word from (host_code name) q u k at (refl, tt) chain)
+            (still-sunk (rv_rows code trash) IsInstr (are-rows code trash small bytes word) from (host_code name) q k at (refl, tt) chain.through)
             (omega arith) (omega arith) (entry-runs name) refl
             (put-same q1.state.registers 1 _ ∙ pc-next q1.state.pc (omega (arith, high, pc1)) ∙ omega (arith, pc1))
             (λ x ne. put-other q1.state.registers 1 _ x ne ∙ put-other q.state.registers 1 _ x ne) refl refl;

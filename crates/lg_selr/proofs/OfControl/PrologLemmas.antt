@@ -1,8 +1,16 @@
 -- A `prolog` makes the frame.
+use Rattle.std.proofs.lemmas.List.Elements.{All-nil, All-cons}
+use Rattle.lg_sel.specs.Control.Stores.{stores_below}
+use Rattle.lg_sel.specs.Holes.{Each}
+use Rattle.lg_selr_values.proofs.OfProcessor.OutsideLemmas.{instructions-stay}
+use Rattle.lg_selr_values.specs.Processor.Destinations.{WritesWithin}
+use Rattle.lg_carry.proofs.TurnLemmas.{along-append, still-lowers}
+use Rattle.lg_carry.specs.Carries.{Sinks}
+use Rattle.lg_carry.specs.Blocks.{done, Along, StaysOutside}
 use Rattle.lg_carry.proofs.BelowLemmas.{not-below}
 use Rattle.lg_carry.proofs.BlockLemmas.{no-width}
-use Rattle.std.proofs.Common.{◌≡◌, ℕ, suc, ◌+◌, ◌-◌, ◌*◌, ◌%◌, ◌^◌, ◌<◌, ◌≤◌, Bool, true, false, List, [], ◌∷◌, refl, ap, ◌∙◌, subst, arith, length, inr}
-use Rattle.std.specs.List.{list_all}
+use Rattle.std.proofs.Common.{◌≡◌, ℕ, suc, ◌+◌, ◌-◌, ◌*◌, ◌%◌, ◌^◌, ◌<◌, ◌≤◌, Bool, true, false, List, [], ◌∷◌, refl, ap, ◌∙◌, subst, arith, length, inr, append-nil, sym, ◌++◌}
+use Rattle.std.specs.List.{list_all, All}
 use Rattle.std.specs.Prelude.{◌==◌, not, pos, negsuc, nat_le, if◌then◌else◌}
 use Rattle.lg_base.specs.Conventions.{argument_registers}
 use Rattle.lg_base.specs.Fields.{word_of}
@@ -28,14 +36,14 @@ use Rattle.lg_selr_values.specs.Processor.Numbers.{high_part, low_part}
 use Rattle.lg_selr_values.specs.Processor.RvRows.{rv_processor, rv_rows, rv_seen, is_straight, acts_above}
 use Rattle.lg_carry.specs.Nodes.Stretches.{StandsAt, behind, PassesIn}
 use Rattle.lg_sel.specs.Control.Prologs.{Entrance, PrologsLead}
-use Rattle.lg_sel.proofs.OfControl.ChainLemmas.{RunsAt, next-at, Chain, chain-end, chain-more, straight-block}
+use Rattle.lg_sel.proofs.OfControl.ChainLemmas.{RunsAt, next-at, Chain, chain-end, chain-more, straight-block, does}
 use Rattle.lg_sel.proofs.OfControl.EntranceLemmas.{IsEntered, entrance}
 use Rattle.lg_sel.proofs.OfControl.StoreLemmas.{word_below, address-above, HasStack, mapped-below, run_stored, stored-at, stored-registers}
 use Rattle.lg_sel.proofs.OfControl.StoreLemmas.{stored-mark, stored-bytes, stored-chain, stored-few, take-all}
 use Rattle.lg_sel.proofs.OfControl.StoreLemmas.{stores-before, stores-all, stored-besides}
 use Rattle.lg_selr.specs.Control.Prologs.{stored_registers, store_word, fall_code, framed_code, prolog_code}
-use Rattle.lg_selr.proofs.OfControl.StackFallLemmas.{Falls, falls, less}
-use Rattle.lg_selr.proofs.OfControl.StretchLemmas.{spelled-size, stands-high, all-passed}
+use Rattle.lg_selr.proofs.OfControl.StackFallLemmas.{StackLowers, lowers-by, Falls, falls, less}
+use Rattle.lg_selr.proofs.OfControl.StretchLemmas.{spelled-size, stands-high, all-passed, all-sunk}
 use Rattle.lg_selr.proofs.OfControl.WordLemmas.{put-same, put-other}
 
 -- ---- the code
@@ -113,7 +121,7 @@ module _ (code : List ℕ) (trash : ℕ) (small : length code ≤ most_code) (by
     (first left homes : ℕ) (rest : List Instr) (least : 104 ≤ first) (most : first ≤ 2048) (straight-rest : list_all is_straight rest ≡ true) (few-rest : length rest ≤ 3)
     (from sp : ℕ) (q : Run CpuState) (seen : IsSeen (rv_seen q)) (low : 0x3FF00010 + 272 ≤ sp) (top : sp ≤ stack_end)
     (even : sp % 16 ≡ 0)
-    (stack-is : q.state.registers 2 ≡ sp) (k : StandsAt (rv_rows code trash) IsInstr from (framed_code first homes rest)) (runs : status_of q.progress ≡ Running)
+    (stack-is : q.state.registers 2 ≡ sp) (k : StandsAt (rv_rows code trash) true IsInstr from (framed_code first homes rest)) (runs : status_of q.progress ≡ Running)
     (at : q.state.pc ≡ from)
     (lowers : (r : Run CpuState) → RunsAt from (framed_size homes + length rest) (framed_size homes) r → r.state.registers 2 ≡ sp - first
     → Falls rest from (framed_size homes + length rest) (framed_size homes) left r) where
@@ -133,7 +141,7 @@ module _ (code : List ℕ) (trash : ℕ) (small : length code ≤ most_code) (by
   code-size = let e = stores-before (store_word first) registers 0 (instr.Imm Addi 8 2 (pos (first - 16)) ∷ rest) in omega (arith, e)
 
   begins : RunsAt from n 0 q
-  begins = let h = stands-high code trash small bytes-small trash-word from _ _ k in let l = spelled-size all in record {
+  begins = let h = stands-high true code trash small bytes-small trash-word from _ _ k in let l = spelled-size all in record {
     runs = runs;
     here = at ∙ omega arith;
     low = k.low;
@@ -194,11 +202,41 @@ module _ (code : List ℕ) (trash : ℕ) (small : length code ≤ most_code) (by
       (instr.Imm Addi 8 2 (pos (first - 16)) ∷ rest) from n 1 q0 u (omega (arith, few-stored)) (are-stored homes) (omega arith) a0 stack0 (λ a e. seen.stack a e)
       (chain-more act acts_above (instr.Imm Addi 8 2 (pos (first - 16))) rest q1 u (sets q1.state 8 (sp - 16)) a1.runs (no-width _ _) pointed fall.chain))
 
+  -- none of them lets the stack pointer rise
+  abbrev stores : List Instr
+  stores = stores_below (store_word first) registers 0
+
+  stores-done : done (does act) stores q0 ≡ q1
+  stores-done =
+      let c = stored-chain act acts_above (store_word first) no-flags can-store 2 (sp - first) sp (store-act sp first low top even least most) (store-above sp first low top even least most) registers 0
+      [] from n 1 q0 q1 (omega (arith, few-stored)) (are-stored homes) (omega arith) a0 stack0 (λ a e. seen.stack a e) (chain-end act acts_above q1) in
+      ap (λ z. done (does act) z q0) (sym (append-nil stores)) ∙ c.leads
+
+  stores-still : All (StaysOutside (rv_rows code trash) false) stores
+  stores-still = each-still stores (stores-before-each registers 0)
+    where
+      stores-before-each : (rs : List ℕ) (j : ℕ) → Each (WritesWithin false) (stores_below (store_word first) rs j)
+      stores-before-each [] j = tt
+      stores-before-each (r ∷ rs) j = (tt, stores-before-each rs (suc j))
+
+      each-still : (is : List Instr) → Each (WritesWithin false) is → All (StaysOutside (rv_rows code trash) false) is
+      each-still [] h = All-nil (StaysOutside (rv_rows code trash) false)
+      each-still (i ∷ is) h = All-cons (StaysOutside (rv_rows code trash) false) i is (instructions-stay code trash false i h.0) (each-still is h.1)
+
+  along : Along (does act) StackLowers all q
+  along = lowers-by (instr.Imm Addi 2 2 (negsuc (first - 1))) (stores ++ (instr.Imm Addi 8 2 (pos (first - 16)) ∷ rest)) q (sets q.state 2 (sp - first)) begins.runs fallen (omega (arith, stack-is))
+      (along-append (rv_rows code trash) StackLowers stores (instr.Imm Addi 8 2 (pos (first - 16)) ∷ rest) q0 (still-lowers (rv_rows code trash) stores q0 stores-still)
+      (subst (Along (does act) StackLowers (instr.Imm Addi 8 2 (pos (first - 16)) ∷ rest)) (sym stores-done)
+      (lowers-by (instr.Imm Addi 8 2 (pos (first - 16))) rest q1 (sets q1.state 8 (sp - 16)) a1.runs pointed (omega arith) fall.lowers)))
+
   straight : list_all is_straight all ≡ true
   straight = stores-all (store_word first) is_straight (λ r j. refl) registers 0 (instr.Imm Addi 8 2 (pos (first - 16)) ∷ rest) straight-rest
 
-  pass : PassesIn (rv_processor code trash) from (behind (rv_rows code trash) from all) (length all) q u
-  pass = all-passed code trash small bytes-small trash-word from all q u k at (straight-block is_straight all straight) chain
+  pass : PassesIn (rv_processor code trash) true from (behind (rv_rows code trash) from all) (length all) q u
+  pass = all-passed true code trash small bytes-small trash-word from all q u k at (straight-block is_straight all straight) chain
+
+  sinks : Sinks (rv_processor code trash) from (length all) q
+  sinks = all-sunk true code trash small bytes-small trash-word from all q u k at (straight-block is_straight all straight) chain along
 
   is-entered : IsEntered (rv_processor code trash) 1 (first + left) homes sp q u
   is-entered = record {
@@ -214,13 +252,14 @@ module _ (code : List ℕ) (trash : ℕ) (small : length code ≤ most_code) (by
   pub enters : Entrance (rv_processor code trash) from (behind (rv_rows code trash) from all) sp (first + left) homes q
   enters =
       entrance (rv_processor code trash) 1 (first + left) homes sp refl refl low q u seen.words is-entered from
-      (behind (rv_rows code trash) from all) (length all) pass (omega (arith, few-rest, few-stored, code-size)) (omega (arith, code-size)) fall.at.runs
+      (behind (rv_rows code trash) from all) (length all) pass sinks (omega (arith, few-rest, few-stored, code-size)) (omega (arith, code-size)) fall.at.runs
       (let h = fall.at.here in let l = spelled-size all in omega (arith, h, l, code-size))
 
 no-fall : (base n k : ℕ) (q : Run CpuState) → RunsAt base n k q → Falls [] base n k 0 q
 no-fall base n k q at = record {
   end = q;
   chain = chain-end act acts_above q;
+  lowers = tt;
   at = subst (λ x. RunsAt base n x q) (omega arith) at;
   stack = omega arith;
   others = λ r one two. refl;
@@ -243,7 +282,7 @@ prologs-lead code trash small bytes word frame homes from stack q seen large roo
     low : 0x3FF00010 + 272 ≤ stack
     low = omega (arith, room, large)
 
-    by : (b : Bool) → nat_le frame 2048 ≡ b → StandsAt (rv_rows code trash) IsInstr from (code-by frame homes b)
+    by : (b : Bool) → nat_le frame 2048 ≡ b → StandsAt (rv_rows code trash) true IsInstr from (code-by frame homes b)
         → Entrance (rv_processor code trash) from (behind (rv_rows code trash) from (code-by frame homes b)) stack frame homes q
     by true e k =
         let near = at-most frame e in

@@ -1,9 +1,15 @@
 -- Returns leave their frame.
+use Rattle.std.specs.List.{All}
+use Rattle.std.proofs.lemmas.List.Elements.{All-nil, All-cons}
+use Rattle.lg_selr_values.proofs.OfProcessor.OutsideLemmas.{instructions-stay}
+use Rattle.lg_selr_values.proofs.WithinLemmas.{Within, number}
+use Rattle.lg_carry.proofs.TurnLemmas.{rises-join, still-raises}
+use Rattle.lg_carry.specs.Carries.{Rises}
 use Rattle.lg_sel.specs.RvTouched.{touched}
 use Rattle.lg_carry.specs.Processors.{IsOff, is_below}
 use Rattle.lg_carry.proofs.BelowLemmas.{not-below}
 use Rattle.lg_carry.proofs.BlockLemmas.{no-width}
-use Rattle.std.proofs.Common.{◌≡◌, ℕ, zero, suc, ◌+◌, ◌-◌, ◌*◌, ◌%◌, ◌^◌, ◌<◌, ◌≤◌, ⊎_elim, Bool, true, false, List, [], ◌∷◌, ◌++◌, Option, Some, refl, sym, ap, inr}
+use Rattle.std.proofs.Common.{◌≡◌, ℕ, zero, suc, ◌+◌, ◌-◌, ◌*◌, ◌%◌, ◌^◌, ◌<◌, ◌≤◌, ⊎_elim, Bool, true, false, List, [], ◌∷◌, ◌++◌, Option, Some, refl, sym, ap, inr, subst}
 use Rattle.std.proofs.Common.{◌∙◌, subst, arith, length, length-append, append-nil}
 use Rattle.std.specs.Prelude.{◌==◌, ℤ, pos, negsuc, if◌then◌else◌, is_some}
 use Rattle.lg_base.specs.Conventions.{portable_register}
@@ -31,7 +37,7 @@ use Rattle.lg_base.specs.Words.{sign_32}
 use Rattle.lg_rv.specs.Spelling.{spelling, IsInstr}
 use Rattle.lg_cpu.specs.Laws.{AreBytes}
 use Rattle.lg_temp.specs.Abis.{register_of}
-use Rattle.lg_carry.specs.Blocks.{spellings, done, IsBlock}
+use Rattle.lg_carry.specs.Blocks.{spellings, done, IsBlock, Along, StaysOutside}
 use Rattle.lg_carry.specs.Registers.{HasWord}
 use Rattle.lg_selr_values.specs.Processor.Computations.{all_compute, computed, RunsComputations}
 use Rattle.lg_selr_values.specs.Processor.Numbers.{high_part, low_part}
@@ -44,13 +50,13 @@ use Rattle.lg_carry.proofs.OfNodes.StraightLemmas.{in-room}
 use Rattle.lg_carry.proofs.OfNodes.StretchLemmas.{part-passes, passages-join}
 use Rattle.lg_sel.specs.Control.Returns.{Returned, NoWord, OfRegister, OfNumber, OfLabel, returned_word, IsReturned, Departure, IsBack, ReturnsLead}
 use Rattle.lg_selr.specs.Control.Returns.{near_return, far_return, return_code, result_code, returned_code}
-use Rattle.lg_sel.proofs.OfControl.ChainLemmas.{RunsAt, next-at, Chain, chain-end, chain-more, block-of, straight-block}
+use Rattle.lg_sel.proofs.OfControl.ChainLemmas.{RunsAt, next-at, Chain, chain-end, chain-more, block-of, straight-block, does, Raising, RaisedBy, raising-more, raising-chain}
 use Rattle.lg_sel.proofs.OfControl.DepartureLemmas.{IsLeft, departure}
 use Rattle.lg_sel.proofs.OfControl.FrameWordLemmas.{word_at, stack-word, saved-address, link-address, stack-address, pointer-address}
 use Rattle.lg_selr.proofs.OfControl.ComputedLemmas.{all-straight, same-words}
 use Rattle.lg_selr.proofs.OfControl.StretchLemmas.{spelled-size}
 use Rattle.lg_selr_values.proofs.OfProcessor.RegisterLemmas.{read-of}
-use Rattle.lg_sel.proofs.OfControl.StretchLemmas.{aligned}
+use Rattle.lg_sel.proofs.OfControl.StretchLemmas.{aligned, part-risen}
 use Rattle.lg_selr.proofs.OfControl.WordLemmas.{put-same}
 
 pub aligned-load : (a : ℕ) → a % 8 ≡ 0 → (a % 8 == 0) ≡ true
@@ -63,11 +69,12 @@ load-act q rd by base address w offset at e even held =
     ap (λ x. load_at q rd (add_words x (word_of offset)) 8 false) at ∙ ap (λ x. load_at q rd x 8 false) e
     ∙ ap (λ b. if b then loads q rd 8 false (loaded q.bytes address 8) else faults q Align) (aligned-load address even) ∙ ap (loads q rd 8 false) held
 
--- the run behind instructions that return from a frame: all but the last are straight
+-- the run behind instructions that return from a frame: all but the last are straight, and none lets the stack pointer fall
 pub record Returns (code : List Instr) (q : Run CpuState) (sp back : ℕ) : Type 0 where
   pub end : Run CpuState
   pub chain : Chain act acts_above code q end
   pub block : IsBlock is_straight code
+  pub rises : Along (does act) (RaisedBy act acts_above 2) code q
   pub saved : (j : ℕ) → j < 3 → end.state.registers (portable_register Riscv64 (j + 3)) ≡ word_at q.state.bytes (saved_word (sp - 16) j)
   pub pointer : end.state.registers 8 ≡ word_at q.state.bytes (sp - 16)
   pub stack : end.state.registers 2 ≡ sp
@@ -133,19 +140,19 @@ module _ (base n k : ℕ) (q : Run CpuState) (frame sp back : ℕ) (low : 0x3FF0
     a4 = next-at base n (suc (suc (suc k))) s3 _ _ _ _ (omega (arith, room)) a3
 
     -- the words that FP has come first
-    words-back : (is : List Instr) (end : Run CpuState) → Chain act acts_above is s4 end
-        → Chain act acts_above (instr.Imm Ld 9 8 (negsuc 7) ∷ instr.Imm Ld 18 8 (negsuc 15) ∷ instr.Imm Ld 19 8 (negsuc 23) ∷ instr.Imm Ld 1 8 (pos 8) ∷ is) q end
+    words-back : (is : List Instr) (end : Run CpuState) → Chain act (Raising act acts_above 2) is s4 end
+        → Chain act (Raising act acts_above 2) (instr.Imm Ld 9 8 (negsuc 7) ∷ instr.Imm Ld 18 8 (negsuc 15) ∷ instr.Imm Ld 19 8 (negsuc 23) ∷ instr.Imm Ld 1 8 (pos 8) ∷ is) q end
     words-back is end rest =
-        chain-more act acts_above _ _ q end (sets q.state 9 (word_at m (saved_word fp 0))) at.runs (frame-above q.state.registers 9 8 (negsuc 7) fp (saved_word fp 0) pointer (saved-address sp 0 (omega arith) low high) (omega (arith, stack, large)))
+        raising-more act acts_above 2 _ _ q end (sets q.state 9 (word_at m (saved_word fp 0))) (omega arith) at.runs (frame-above q.state.registers 9 8 (negsuc 7) fp (saved_word fp 0) pointer (saved-address sp 0 (omega arith) low high) (omega (arith, stack, large)))
         (load-act q.state 9 8 fp (saved_word fp 0) _ (negsuc 7) pointer (saved-address sp 0 (omega arith) low high) (saved 0 (omega arith)).0
         (saved 0 (omega arith)).1)
-        (chain-more act acts_above _ _ s1 end (sets s1.state 18 (word_at m (saved_word fp 1))) a1.runs (frame-above s1.state.registers 18 8 (negsuc 15) fp (saved_word fp 1) pointer (saved-address sp 1 (omega arith) low high) (omega (arith, stack, large)))
+        (raising-more act acts_above 2 _ _ s1 end (sets s1.state 18 (word_at m (saved_word fp 1))) (omega arith) a1.runs (frame-above s1.state.registers 18 8 (negsuc 15) fp (saved_word fp 1) pointer (saved-address sp 1 (omega arith) low high) (omega (arith, stack, large)))
         (load-act s1.state 18 8 fp (saved_word fp 1) _ (negsuc 15) pointer (saved-address sp 1 (omega arith) low high) (saved 1 (omega arith)).0
         (saved 1 (omega arith)).1)
-        (chain-more act acts_above _ _ s2 end (sets s2.state 19 (word_at m (saved_word fp 2))) a2.runs (frame-above s2.state.registers 19 8 (negsuc 23) fp (saved_word fp 2) pointer (saved-address sp 2 (omega arith) low high) (omega (arith, stack, large)))
+        (raising-more act acts_above 2 _ _ s2 end (sets s2.state 19 (word_at m (saved_word fp 2))) (omega arith) a2.runs (frame-above s2.state.registers 19 8 (negsuc 23) fp (saved_word fp 2) pointer (saved-address sp 2 (omega arith) low high) (omega (arith, stack, large)))
         (load-act s2.state 19 8 fp (saved_word fp 2) _ (negsuc 23) pointer (saved-address sp 2 (omega arith) low high) (saved 2 (omega arith)).0
         (saved 2 (omega arith)).1)
-        (chain-more act acts_above _ _ s3 end (sets s3.state 1 back) a3.runs (frame-above s3.state.registers 1 8 (pos 8) fp (return_word sp) pointer (link-address sp low high) (omega (arith, stack, large)))
+        (raising-more act acts_above 2 _ _ s3 end (sets s3.state 1 back) (omega arith) a3.runs (frame-above s3.state.registers 1 8 (pos 8) fp (return_word sp) pointer (link-address sp low high) (omega (arith, stack, large)))
         (load-act s3.state 1 8 fp (return_word sp) back (pos 8) pointer (link-address sp low high) (grind (arith, even, low)) held) rest)))
 
     -- ---- FP from its own word, and then the stack pointer
@@ -164,15 +171,15 @@ module _ (base n k : ℕ) (q : Run CpuState) (frame sp back : ℕ) (low : 0x3FF0
     rises : add_words (q.state.registers 2) (word_of (pos frame)) ≡ sp
     rises = grind (arith, stack, high)
 
-    near-chain : Chain act acts_above (near_return frame) q (left n6)
+    near-chain : Chain act (Raising act acts_above 2) (near_return frame) q (left n6)
     near-chain =
         words-back (instr.Imm Ld 8 8 (pos 0) ∷ instr.Imm Addi 2 2 (pos frame) ∷ instr.Imm Jalr 0 1 (pos 0) ∷ []) (left n6)
-        (chain-more act acts_above _ _ s4 (left n6) (sets s4.state 8 (word_at m fp)) a4.runs (frame-above s4.state.registers 8 8 (pos 0) fp fp pointer (pointer-address sp low high) (omega (arith, stack, large)))
+        (raising-more act acts_above 2 _ _ s4 (left n6) (sets s4.state 8 (word_at m fp)) (omega arith) a4.runs (frame-above s4.state.registers 8 8 (pos 0) fp fp pointer (pointer-address sp low high) (omega (arith, stack, large)))
         (load-act s4.state 8 8 fp fp _ (pos 0) pointer (pointer-address sp low high) fp-even caller)
-        (chain-more act acts_above _ _ n5 (left n6) (sets n5.state 2 sp) b5.runs (no-width _ _) (ap (sets n5.state 2) rises)
-        (chain-more act acts_above _ _ n6 (left n6) (goes back (put n6.state.registers 0 (add_words n6.state.pc 4)) m q.state.mark) b6.runs (no-width _ _)
+        (raising-more act acts_above 2 _ _ n5 (left n6) (sets n5.state 2 sp) (omega (arith, stack)) b5.runs (no-width _ _) (ap (sets n5.state 2) rises)
+        (raising-more act acts_above 2 _ _ n6 (left n6) (goes back (put n6.state.registers 0 (add_words n6.state.pc 4)) m q.state.mark) (omega arith) b6.runs (no-width _ _)
         (lands-there n6.state 0 1 back refl near aligned)
-        (chain-end act acts_above (left n6)))))
+        (chain-end act (Raising act acts_above 2) (left n6)))))
 
     abbrev six : List Instr
     six = instr.Imm Ld 9 8 (negsuc 7) ∷ instr.Imm Ld 18 8 (negsuc 15) ∷ instr.Imm Ld 19 8 (negsuc 23) ∷ instr.Imm Ld 1 8 (pos 8) ∷ instr.Imm Ld 8 8
@@ -181,7 +188,8 @@ module _ (base n k : ℕ) (q : Run CpuState) (frame sp back : ℕ) (low : 0x3FF0
     near-returns : Returns (near_return frame) q sp back
     near-returns = record {
       end = left n6;
-      chain = near-chain;
+      chain = (raising-chain act acts_above 2 (near_return frame) q (left n6) near-chain).0;
+      rises = (raising-chain act acts_above 2 (near_return frame) q (left n6) near-chain).1;
       block = block-of is_straight six (instr.Imm Jalr 0 1 (pos 0)) refl;
       saved = words;
       pointer = refl;
@@ -222,18 +230,18 @@ module _ (base n k : ℕ) (q : Run CpuState) (frame sp back : ℕ) (low : 0x3FF0
     c7 : RunsAt base n (suc (suc (suc (suc (suc (suc (suc k))))))) f7
     c7 = next-at base n (suc (suc (suc (suc (suc (suc k)))))) f6 _ _ _ _ (omega (arith, room)) c6
 
-    far-chain : Chain act acts_above far_return q (left f7)
+    far-chain : Chain act (Raising act acts_above 2) far_return q (left f7)
     far-chain =
         words-back less (instr.Imm Addi 2 8 (pos 0) ∷ instr.Imm Ld 8 2 (pos 0) ∷ instr.Imm Addi 2 2 (pos 16) ∷ instr.Imm Jalr 0 1 (pos 0) ∷ []) (left f7)
-        (chain-more act acts_above _ _ s4 (left f7) (sets s4.state 2 fp) (a4 less).runs (no-width _ _)
+        (raising-more act acts_above 2 _ _ s4 (left f7) (sets s4.state 2 fp) (omega (arith, stack, large)) (a4 less).runs (no-width _ _)
         (ap (λ x. sets s4.state 2 (add_words x 0)) pointer ∙ ap (sets s4.state 2) (pointer-address sp low high))
-        (chain-more act acts_above _ _ f5 (left f7) (sets f5.state 8 (word_at m fp)) c5.runs (frame-above f5.state.registers 8 2 (pos 0) fp fp refl (pointer-address sp low high) (omega arith))
+        (raising-more act acts_above 2 _ _ f5 (left f7) (sets f5.state 8 (word_at m fp)) (omega arith) c5.runs (frame-above f5.state.registers 8 2 (pos 0) fp fp refl (pointer-address sp low high) (omega arith))
         (load-act f5.state 8 2 fp fp _ (pos 0) refl (pointer-address sp low high) fp-even caller)
-        (chain-more act acts_above _ _ f6 (left f7) (sets f6.state 2 sp) c6.runs (no-width _ _)
+        (raising-more act acts_above 2 _ _ f6 (left f7) (sets f6.state 2 sp) (omega arith) c6.runs (no-width _ _)
         (ap (sets f6.state 2) (stack-address sp low high))
-        (chain-more act acts_above _ _ f7 (left f7) (goes back (put f7.state.registers 0 (add_words f7.state.pc 4)) m q.state.mark) c7.runs (no-width _ _)
+        (raising-more act acts_above 2 _ _ f7 (left f7) (goes back (put f7.state.registers 0 (add_words f7.state.pc 4)) m q.state.mark) (omega arith) c7.runs (no-width _ _)
         (lands-there f7.state 0 1 back refl near aligned)
-        (chain-end act acts_above (left f7))))))
+        (chain-end act (Raising act acts_above 2) (left f7))))))
 
     abbrev seven : List Instr
     seven = instr.Imm Ld 9 8 (negsuc 7) ∷ instr.Imm Ld 18 8 (negsuc 15) ∷ instr.Imm Ld 19 8 (negsuc 23) ∷ instr.Imm Ld 1 8 (pos 8) ∷ instr.Imm Addi 2 8
@@ -242,7 +250,8 @@ module _ (base n k : ℕ) (q : Run CpuState) (frame sp back : ℕ) (low : 0x3FF0
     far-returns : Returns far_return q sp back
     far-returns = record {
       end = left f7;
-      chain = far-chain;
+      chain = (raising-chain act acts_above 2 far_return q (left f7) far-chain).0;
+      rises = (raising-chain act acts_above 2 far_return q (left f7) far-chain).1;
       block = block-of is_straight seven (instr.Imm Jalr 0 1 (pos 0)) refl;
       saved = words;
       pointer = refl;
@@ -294,6 +303,13 @@ address-made v small = by (nat_lt (v % 4096) 2048) refl
     by true h = grind (arith, small, h)
     by false h = grind (arith, small, h)
 
+-- what stands there writes no stack pointer
+result-within : (r : Returned) → Within (result_code r)
+result-within NoWord = tt
+result-within (OfRegister a) = (refl, tt)
+result-within (OfNumber v) = number 10 v refl
+result-within (OfLabel address) = (refl, (refl, tt))
+
 some-is : (v x : ℕ) → Some v ≡ Some x → v ≡ x
 some-is v x e = cc
 
@@ -323,7 +339,7 @@ makes (OfLabel address) w ok words = record { computes = refl; few = omega arith
 -- ---- the return
 module _ (code : List ℕ) (trash : ℕ) (small : length code ≤ most_code) (bytes : AreBytes code) (word : trash < 2 ^ 64)
     (frame from back : ℕ) (r : Returned) (q : Run CpuState) (ok : IsReturned r) (f : HasFrame Riscv64 frame (rv_seen q))
-    (k : StandsAt (rv_rows code trash) IsInstr from (returned_code frame r))
+    (k : StandsAt (rv_rows code trash) true IsInstr from (returned_code frame r))
     (there : IsBack (rv_rows code trash) back) (held : HasWord q.state.bytes (return_word (q.state.registers 2 + frame)) back)
     (runs : status_of q.progress ≡ Running) (at : q.state.pc ≡ from) where
   abbrev sp : ℕ
@@ -397,17 +413,42 @@ module _ (code : List ℕ) (trash : ℕ) (small : length code ≤ most_code) (by
   abbrev u : Run CpuState
   u = goes-back.end
 
-  pass : PassesIn (rv_processor code trash) from high (length front + long) q u
+  pass : PassesIn (rv_processor code trash) true from high (length front + long) q u
   pass =
       let R = rv_rows code trash in
       let rows = are-rows code trash small bytes word in
       let here = at1.here in let size = spelled-size front in
-      passages-join (rv_processor code trash) from high (length front) long q q1 u
-      (part-passes R IsInstr rows from [] front (return_code frame) q k (at ∙ omega arith) (straight-block is_straight front (all-straight front made.computes)) ran.through)
-      (subst (λ z. PassesIn (rv_processor code trash) from high long q1 z) goes-back.chain.leads
-      (subst (λ z. StandsAt R IsInstr from (front ++ z) → PassesIn (rv_processor code trash) from (behind R from (front ++ z)) long q1 (done rv_does (return_code frame) q1))
+      passages-join (rv_processor code trash) true from high (length front) long q q1 u
+      (part-passes R IsInstr rows true from [] front (return_code frame) q k (at ∙ omega arith) (straight-block is_straight front (all-straight front made.computes)) ran.through)
+      (subst (λ z. PassesIn (rv_processor code trash) true from high long q1 z) goes-back.chain.leads
+      (subst (λ z. StandsAt R true IsInstr from (front ++ z) → PassesIn (rv_processor code trash) true from (behind R from (front ++ z)) long q1 (done rv_does (return_code frame) q1))
       (append-nil (return_code frame))
-      (λ whole. part-passes R IsInstr rows from front (return_code frame) [] q1 whole (omega (arith, here, size)) goes-back.block goes-back.chain.through) k))
+      (λ whole. part-passes R IsInstr rows true from front (return_code frame) [] q1 whole (omega (arith, here, size)) goes-back.block goes-back.chain.through) k))
+
+  -- the stack pointer does not fall: the result is put into another register, and the return lets it rise
+  front-rises : Rises (rv_processor code trash) (length front) q
+  front-rises =
+      let R = rv_rows code trash in
+      part-risen R IsInstr (are-rows code trash small bytes word) true from [] front (return_code frame) q k (at ∙ omega arith)
+      (straight-block is_straight front (all-straight front made.computes)) ran.through (still-raises R front q (all-still front (result-within r)))
+    where
+      all-still : (is : List Instr) → Within is → All (StaysOutside (rv_rows code trash) false) is
+      all-still [] h = All-nil (StaysOutside (rv_rows code trash) false)
+      all-still (i ∷ is) h = All-cons (StaysOutside (rv_rows code trash) false) i is (instructions-stay code trash false i h.0) (all-still is h.1)
+
+  back-rises : Rises (rv_processor code trash) long q1
+  back-rises =
+      let R = rv_rows code trash in
+      let here = at1.here in let size = spelled-size front in
+      part-risen R IsInstr (are-rows code trash small bytes word) true from front (return_code frame) [] q1
+      (subst (λ z. StandsAt R true IsInstr from (front ++ z)) (sym (append-nil (return_code frame))) k) (omega (arith, here, size))
+      goes-back.block goes-back.chain.through goes-back.rises
+
+  all-rise : Rises (rv_processor code trash) (length front + long) q
+  all-rise =
+      let R = rv_rows code trash in
+      let first = part-passes R IsInstr (are-rows code trash small bytes word) true from [] front (return_code frame) q k (at ∙ omega arith) (straight-block is_straight front (all-straight front made.computes)) ran.through in
+      rises-join (rv_processor code trash) (length front) long q q1 first.leads front-rises back-rises
 
   -- the words of the frame come back
   is-left : IsLeft (rv_processor code trash) sp back (returned_word Riscv64 q.state.registers r) q u
@@ -425,7 +466,7 @@ module _ (code : List ℕ) (trash : ℕ) (small : length code ≤ most_code) (by
   pub departs : Departure (rv_processor code trash) from high sp back (returned_word Riscv64 q.state.registers r) q
   departs =
       let z = made.few in let few = short.few in let some = short.some in
-      departure (rv_processor code trash) sp back (returned_word Riscv64 q.state.registers r) q u low-frame f.high f.seen.stack is-left from high (length front + long) pass
+      departure (rv_processor code trash) sp back (returned_word Riscv64 q.state.registers r) q u low-frame f.high f.seen.stack is-left from high (length front + long) pass all-rise
       (omega (arith, z, few)) (omega (arith, some))
 
 pub returns-lead : (code : List ℕ) (trash : ℕ) → length code ≤ most_code → AreBytes code → trash < 2 ^ 64

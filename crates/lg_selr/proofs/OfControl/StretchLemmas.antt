@@ -1,6 +1,7 @@
 -- Instructions of RV64 that stand in the code, and runs over them.
-use Rattle.std.proofs.Common.{◌≡◌, ◌≢◌, ℕ, ◌+◌, ◌*◌, ◌^◌, ◌<◌, ◌≤◌, true, List, [], ◌∷◌, ◌++◌, Some, refl, sym, ap, ◌∙◌, arith, length, length-append}
+use Rattle.std.proofs.Common.{◌≡◌, ◌≢◌, ℕ, ◌+◌, ◌*◌, ◌^◌, ◌<◌, ◌≤◌, true, List, [], ◌∷◌, ◌++◌, Some, refl, sym, ap, ◌∙◌, arith, length, length-append, false}
 use Rattle.std.specs.Prelude.{◌==◌, ◌||◌, Bool, false}
+use Rattle.lg_carry.specs.Carries.{Sinks}
 use Rattle.lg_base.specs.Conventions.{link_register}
 use Rattle.lg_base.specs.Layout.{code_base, most_code}
 use Rattle.lg_base.specs.Runs.{Running}
@@ -11,11 +12,11 @@ use Rattle.lg_cpu.specs.Laws.{AreBytes}
 use Rattle.lg_cpu.specs.RvStep.{act}
 use Rattle.lg_cpu.specs.States.{CpuState}
 use Rattle.lg_cpu.specs.Steps.{Run, after, status_of}
-use Rattle.lg_carry.specs.Blocks.{spellings, IsBlock}
+use Rattle.lg_carry.specs.Blocks.{spellings, IsBlock, Along, Lowers}
 use Rattle.lg_carry.specs.RegistersApart.{IsApart}
 use Rattle.lg_carry.proofs.RegistersApartLemmas.{conventions-apart}
 use Rattle.lg_carry.specs.Rows.{AreRows}
-use Rattle.lg_selr_values.specs.Processor.RvRows.{rv_processor, rv_rows, is_straight, acts_above}
+use Rattle.lg_selr_values.specs.Processor.RvRows.{rv_processor, rv_rows, is_straight, acts_above, rv_does}
 use Rattle.lg_selr_values.proofs.OfProcessor.IsaLemmas.{portable-some, argument-some}
 use Rattle.lg_selr_values.proofs.OfProcessor.RowLemmas.{went, are-rows}
 use Rattle.lg_carry.specs.Nodes.Stretches.{StandsAt, behind, PassesIn, Arrival}
@@ -28,29 +29,34 @@ pub spelled-size : (is : List Instr) → length (spellings spelling is) ≡ 4 * 
 spelled-size [] = refl
 spelled-size (i ∷ is) = let e = length-append (spelling i) (spellings spelling is) in omega (arith, e, spelled-size is)
 
-module _ (code : List ℕ) (trash : ℕ) (small : length code ≤ most_code) (bytes : AreBytes code) (word : trash < 2 ^ 64) where
+module _ (moves : Bool) (code : List ℕ) (trash : ℕ) (small : length code ≤ most_code) (bytes : AreBytes code) (word : trash < 2 ^ 64) where
   rows : AreRows (rv_rows code trash) IsInstr
   rows = are-rows code trash small bytes word
 
   -- instructions that stand in the code lie in the code part
-  pub stands-high : (from : ℕ) (x : Instr) (is : List Instr) → StandsAt (rv_rows code trash) IsInstr from (x ∷ is)
+  pub stands-high : (from : ℕ) (x : Instr) (is : List Instr) → StandsAt (rv_rows code trash) moves IsInstr from (x ∷ is)
       → behind (rv_rows code trash) from (x ∷ is) ≤ code_base + most_code
-  stands-high from x is k = let l = spelled-size (x ∷ is) in stretches.stands-high (rv_rows code trash) IsInstr rows from (x ∷ is) (omega (arith, l)) k
+  stands-high from x is k = let l = spelled-size (x ∷ is) in stretches.stands-high (rv_rows code trash) IsInstr rows moves from (x ∷ is) (omega (arith, l)) k
 
   -- one of them is passed
   pub one-passed : (from : ℕ) (front : List Instr) (x : Instr) (back : List Instr) (q : Run CpuState)
-      → StandsAt (rv_rows code trash) IsInstr from (front ++ (x ∷ [] ++ back))
+      → StandsAt (rv_rows code trash) moves IsInstr from (front ++ (x ∷ [] ++ back))
       → status_of q.progress ≡ Running → acts_above x q.state → q.state.pc ≡ from + 4 * length front
-      → PassesIn (rv_processor code trash) from (behind (rv_rows code trash) from (front ++ (x ∷ [] ++ back))) 1 q (after q (act x q.state))
+      → PassesIn (rv_processor code trash) moves from (behind (rv_rows code trash) from (front ++ (x ∷ [] ++ back))) 1 q (after q (act x q.state))
   one-passed from front x back q k runs high at =
       let size = spelled-size front in
-      stretches.one-passed (rv_rows code trash) IsInstr rows from front x back q (after q (act x q.state)) k runs high (omega (arith, at, size)) (went q (act x q.state) runs)
+      stretches.one-passed (rv_rows code trash) IsInstr rows moves from front x back q (after q (act x q.state)) k runs high (omega (arith, at, size)) (went q (act x q.state) runs)
 
   -- and all of them
-  pub all-passed : (from : ℕ) (is : List Instr) (q u : Run CpuState) → StandsAt (rv_rows code trash) IsInstr from is → q.state.pc ≡ from
+  pub all-passed : (from : ℕ) (is : List Instr) (q u : Run CpuState) → StandsAt (rv_rows code trash) moves IsInstr from is → q.state.pc ≡ from
       → IsBlock is_straight is → Chain act acts_above is q u
-      → PassesIn (rv_processor code trash) from (behind (rv_rows code trash) from is) (length is) q u
-  all-passed from is q u k at block h = stretches.all-passed (rv_rows code trash) IsInstr rows from is q u k at block h.through h.leads
+      → PassesIn (rv_processor code trash) moves from (behind (rv_rows code trash) from is) (length is) q u
+  all-passed from is q u k at block h = stretches.all-passed (rv_rows code trash) IsInstr rows moves from is q u k at block h.through h.leads
+
+  -- where none lets the stack pointer rise, they sink
+  pub all-sunk : (from : ℕ) (is : List Instr) (q u : Run CpuState) → StandsAt (rv_rows code trash) moves IsInstr from is → q.state.pc ≡ from
+      → IsBlock is_straight is → Chain act acts_above is q u → Along rv_does (Lowers (rv_rows code trash)) is q → Sinks (rv_processor code trash) from (length is) q
+  all-sunk from is q u k at block h along = stretches.all-sunk (rv_rows code trash) IsInstr rows moves from is q k at block h.through along
 
 -- ---- x0, whose word is not read, is no register of the conventions
 zero-apart : (x : ℕ) → (x == 0) ≡ true → IsApart Riscv64 x × (link_register Riscv64 ≢ Some x)
@@ -89,7 +95,7 @@ off-carry x e = (λ z. absurd (grind (arith, e, z)), λ z. absurd (grind (arith,
 
 module _ (code : List ℕ) (trash : ℕ) where
   -- ---- where no register but x0 changes, the code walks
-  pub walked : (from high to steps : ℕ) (q u : Run CpuState) → PassesIn (rv_processor code trash) from high steps q u → steps ≤ 64 → (from < high → 0 < steps)
+  pub walked : (from high to steps : ℕ) (q u : Run CpuState) → PassesIn (rv_processor code trash) false from high steps q u → steps ≤ 64 → (from < high → 0 < steps)
       → status_of u.progress ≡ Running → u.state.pc ≡ to
       → ((x : ℕ) → x ≢ 0 → u.state.registers x ≡ q.state.registers x) → u.state.bytes ≡ q.state.bytes → u.state.mark ≡ q.state.mark
       → Walk (rv_processor code trash) from high to q
@@ -98,7 +104,7 @@ module _ (code : List ℕ) (trash : ℕ) where
       bytes-are mark-is
 
   -- or none but x0 and x31
-  pub walked-by-carry : (from high to steps : ℕ) (q u : Run CpuState) → PassesIn (rv_processor code trash) from high steps q u → steps ≤ 64 → (from < high → 0 < steps)
+  pub walked-by-carry : (from high to steps : ℕ) (q u : Run CpuState) → PassesIn (rv_processor code trash) false from high steps q u → steps ≤ 64 → (from < high → 0 < steps)
       → status_of u.progress ≡ Running → u.state.pc ≡ to
       → ((x : ℕ) → x ≢ 0 → x ≢ 31 → u.state.registers x ≡ q.state.registers x) → u.state.bytes ≡ q.state.bytes → u.state.mark ≡ q.state.mark
       → Walk (rv_processor code trash) from high to q
@@ -107,7 +113,8 @@ module _ (code : List ℕ) (trash : ℕ) where
       (λ x off. same x (off-carry x off).0 (off-carry x off).1) bytes-are mark-is
 
   -- ---- where none but the link changes, and that is the address to which a call returns, the code arrives
-  pub arrived-with : (from high back to steps : ℕ) (q u : Run CpuState) → PassesIn (rv_processor code trash) from high steps q u → steps < 64 → 0 < steps
+  pub arrived-with : (from high back to steps : ℕ) (q u : Run CpuState) → PassesIn (rv_processor code trash) false from high steps q u
+      → Sinks (rv_processor code trash) from steps q → steps < 64 → 0 < steps
       → status_of u.progress ≡ Running → u.state.pc ≡ to
       → u.state.registers 1 ≡ back → ((x : ℕ) → x ≢ 1 → u.state.registers x ≡ q.state.registers x) → u.state.bytes ≡ q.state.bytes → u.state.mark ≡ q.state.mark
       → Arrival (rv_processor code trash) from high (q.state.registers 2) back to q

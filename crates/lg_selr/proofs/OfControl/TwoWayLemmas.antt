@@ -124,7 +124,7 @@ turned-taken Bgeu x y = sym (twice (is_less x y))
 
 -- ---- the branch, where what stands before it computes
 module _ (code : List ℕ) (trash : ℕ) (small : length code ≤ most_code) (bytes : AreBytes code) (word : trash < 2 ^ 64)
-    (front back : List Instr) (o : BranchOp) (a b from to : ℕ) (q : Run CpuState) (k : StandsAt (rv_rows code trash) IsInstr from (front ++ back))
+    (front back : List Instr) (o : BranchOp) (a b from to : ℕ) (q : Run CpuState) (k : StandsAt (rv_rows code trash) false IsInstr from (front ++ back))
     (all : all_compute front ≡ true) (few : length front ≤ 60) (runs : status_of q.progress ≡ Running) (at : q.state.pc ≡ from) (goes-there : Bool)
     (there : goes-there ≡ true → IsThere (rv_rows code trash).is_place to)
     (next : IsThere (rv_rows code trash).is_place (behind (rv_rows code trash) from (front ++ back)))
@@ -151,8 +151,8 @@ module _ (code : List ℕ) (trash : ℕ) (small : length code ≤ most_code) (by
   abbrev r : Run CpuState
   r = done rv_does front q
 
-  pass : PassesIn (rv_processor code trash) from high (length front) q r
-  pass = part-passes (rv_rows code trash) IsInstr (are-rows code trash small bytes word) from [] front back q k (at ∙ omega arith)
+  pass : PassesIn (rv_processor code trash) false from high (length front) q r
+  pass = part-passes (rv_rows code trash) IsInstr (are-rows code trash small bytes word) false from [] front back q k (at ∙ omega arith)
       (straight-block is_straight front (all-straight front all)) m.through
 
   here : r.state.pc ≡ start
@@ -172,13 +172,13 @@ module _ (code : List ℕ) (trash : ℕ) (small : length code ≤ most_code) (by
 
   -- one more instruction is passed
   one-more : (f : List Instr) (x : Instr) (g : List Instr) (n : ℕ) (u : Run CpuState) (e : Effect CpuState) → front ++ back ≡ f ++ (x ∷ [] ++ g)
-      → PassesIn (rv_processor code trash) from high n q u → status_of u.progress ≡ Running → acts_above x u.state → u.state.pc ≡ from + 4 * length f → act x u.state ≡ e
-      → PassesIn (rv_processor code trash) from high (n + 1) q (after u e)
+      → PassesIn (rv_processor code trash) false from high n q u → status_of u.progress ≡ Running → acts_above x u.state → u.state.pc ≡ from + 4 * length f → act x u.state ≡ e
+      → PassesIn (rv_processor code trash) false from high (n + 1) q (after u e)
   one-more f x g n u e split passes going high' place does =
-      passages-join (rv_processor code trash) from high n 1 q u (after u e) passes
-      (subst (λ z. PassesIn (rv_processor code trash) from high 1 u (after u z)) does
-      (subst (λ z. PassesIn (rv_processor code trash) from (behind (rv_rows code trash) from z) 1 u (after u (act x u.state))) (sym split)
-      (one-passed code trash small bytes word from f x g u (subst (StandsAt (rv_rows code trash) IsInstr from) split k) going high' place)))
+      passages-join (rv_processor code trash) false from high n 1 q u (after u e) passes
+      (subst (λ z. PassesIn (rv_processor code trash) false from high 1 u (after u z)) does
+      (subst (λ z. PassesIn (rv_processor code trash) false from (behind (rv_rows code trash) from z) 1 u (after u (act x u.state))) (sym split)
+      (one-passed false code trash small bytes word from f x g u (subst (StandsAt (rv_rows code trash) false IsInstr from) split k) going high' place)))
 
   -- a branch over what follows leads behind it
   skips : (d : ℕ) (rest : List Instr) → back ≡ instr.Branch o a b (pos d) ∷ rest → add_words r.state.pc d ≡ high → goes-there ≡ false
@@ -204,7 +204,7 @@ module _ (code : List ℕ) (trash : ℕ) (small : length code ≤ most_code) (by
   abbrev r1 : Run CpuState
   r1 = after r (goes (add_words r.state.pc 4) r.state.registers r.state.bytes r.state.mark)
 
-  past : (d : ℕ) (rest : List Instr) → back ≡ instr.Branch o a b (pos d) ∷ rest → goes-there ≡ true → PassesIn (rv_processor code trash) from high (length front + 1) q r1
+  past : (d : ℕ) (rest : List Instr) → back ≡ instr.Branch o a b (pos d) ∷ rest → goes-there ≡ true → PassesIn (rv_processor code trash) false from high (length front + 1) q r1
   past d rest is h =
       one-more front (instr.Branch o a b (pos d)) rest (length front) r (goes (add_words r.state.pc 4) r.state.registers r.state.bytes r.state.mark) (ap (λ z. front ++ z) is)
       pass m.runs (no-width _ _) here (ap (branch_to r.state (add_words r.state.pc d)) (taken-is ∙ ap not h))
@@ -375,7 +375,7 @@ module _ (code : List ℕ) (trash : ℕ) (small : length code ≤ most_code) (by
 
 -- ---- whatever the reach
 pub two-ways : (reach : Reach) (code : List ℕ) (trash : ℕ) → length code ≤ most_code → AreBytes code → trash < 2 ^ 64
-    → (front : List Instr) (o : BranchOp) (a b from to : ℕ) (q : Run CpuState) → StandsAt (rv_rows code trash) IsInstr from (branch_behind reach front o a b from to)
+    → (front : List Instr) (o : BranchOp) (a b from to : ℕ) (q : Run CpuState) → StandsAt (rv_rows code trash) false IsInstr from (branch_behind reach front o a b from to)
     → all_compute front ≡ true → length front ≤ 60 → status_of q.progress ≡ Running → q.state.pc ≡ from → (goes-there : Bool)
     → (goes-there ≡ true → IsThere (rv_rows code trash).is_place to)
     → IsThere (rv_rows code trash).is_place (behind (rv_rows code trash) from (branch_behind reach front o a b from to))

@@ -1,6 +1,8 @@
 -- Jumps, by labels and registers, walk where they lead.
+use Rattle.lg_selr_values.proofs.OfProcessor.RowLemmas.{are-rows}
+use Rattle.lg_carry.specs.Carries.{Sinks}
 use Rattle.lg_carry.proofs.BlockLemmas.{no-width}
-use Rattle.std.proofs.Common.{◌≡◌, ◌≢◌, ℕ, ◌+◌, ◌*◌, ◌/◌, ◌%◌, ◌^◌, ◌<◌, ◌≤◌, true, List, [], ◌∷◌, refl, sym, ap, ◌∙◌, subst, arith, length}
+use Rattle.std.proofs.Common.{◌≡◌, ◌≢◌, ℕ, ◌+◌, ◌*◌, ◌/◌, ◌%◌, ◌^◌, ◌<◌, ◌≤◌, true, List, [], ◌∷◌, refl, sym, ap, ◌∙◌, subst, arith, length, false}
 use Rattle.std.specs.Prelude.{◌==◌, ℤ, pos, ◌-ℤ◌, if◌then◌else◌}
 use Rattle.lg_base.specs.Layout.{code_base, most_code}
 use Rattle.lg_base.specs.Fields.{word_of}
@@ -26,7 +28,7 @@ use Rattle.lg_carry.specs.Nodes.Stretches.{StandsAt, behind, PassesIn}
 use Rattle.lg_sel.specs.Control.RegisterLeaps.{RegisterJumpsWalk}
 use Rattle.lg_sel.specs.Control.Walks.{JumpsWalk}
 use Rattle.lg_sel.proofs.OfControl.ChainLemmas.{Chain, chain-end, chain-more, runs-there}
-use Rattle.lg_sel.proofs.OfControl.StretchLemmas.{aligned}
+use Rattle.lg_sel.proofs.OfControl.StretchLemmas.{aligned, still-sunk}
 use Rattle.lg_sel.specs.declared.reach.Reach.{Reach}
 use Rattle.lg_sel.specs.declared.reach.Reach.TheVariants.{Short, Near, Far}
 use Rattle.lg_selr_values.specs.Items.{distance, far_jump}
@@ -65,7 +67,7 @@ far-lands q rd base n v to at sum even =
 
 -- ---- where a far jump ends, by way of a register
 module _ (code : List ℕ) (trash : ℕ) (small : length code ≤ most_code) (bytes : AreBytes code) (word : trash < 2 ^ 64)
-    (rd base from to : ℕ) (q : Run CpuState) (k : StandsAt (rv_rows code trash) IsInstr from (far_jump rd base from to)) (there : IsThere (rv_rows code trash).is_place to)
+    (rd base from to : ℕ) (q : Run CpuState) (k : StandsAt (rv_rows code trash) false IsInstr from (far_jump rd base from to)) (there : IsThere (rv_rows code trash).is_place to)
     (runs : status_of q.progress ≡ Running) (at : q.state.pc ≡ from) (reads : (v : ℕ) → read (put q.state.registers base v) base ≡ v) where
   abbrev far : ℕ
   far = distance from to
@@ -83,7 +85,7 @@ module _ (code : List ℕ) (trash : ℕ) (small : length code ≤ most_code) (by
   far-end = after q1 e
 
   high : behind (rv_rows code trash) from (far_jump rd base from to) ≤ code_base + most_code
-  high = stands-high code trash small bytes word from (instr.Upper Auipc base (high_part far)) (instr.Imm Jalr rd base (low_part far) ∷ []) k
+  high = stands-high false code trash small bytes word from (instr.Upper Auipc base (high_part far)) (instr.Imm Jalr rd base (low_part far) ∷ []) k
 
   pub far-next : q1.state.pc ≡ from + 4
   far-next = pc-next q.state.pc (omega (arith, high, at)) ∙ omega (arith, at)
@@ -98,16 +100,21 @@ module _ (code : List ℕ) (trash : ℕ) (small : length code ≤ most_code) (by
   pub far-other : (x : ℕ) → x ≢ rd → x ≢ base → (after q1 e).state.registers x ≡ q.state.registers x
   far-other x ne other = put-other q1.state.registers rd (add_words q1.state.pc 4) x ne ∙ put-other q.state.registers base v x other
 
-  pub far-passed : PassesIn (rv_processor code trash) from (behind (rv_rows code trash) from (far_jump rd base from to)) 2 q (after q1 e)
-  far-passed =
+  far-chain : Chain act acts_above (far_jump rd base from to) q (after q1 e)
+  far-chain =
       let low = k.low in
       let runs1 : status_of q1.progress ≡ Running = goes-on q.state.pc (omega (arith, low, at)) (omega (arith, high, at)) in
       let sum : add_words v (word_of (low_part far)) / 2 * 2 ≡ to =
       ap (λ (p : ℕ). add_words (add_words p (sign_32 (high_part far * 4096))) (word_of (low_part far)) / 2 * 2) at
       ∙ far-leads from to low (omega (arith, high)) there.low there.high (aligned to there.place) in
-      let chain : Chain act acts_above (far_jump rd base from to) q (after q1 e) = chain-more act acts_above _ _ q (after q1 e) (sets q.state base v) runs (no-width _ _) refl
-      (chain-more act acts_above _ _ q1 (after q1 e) e runs1 (no-width _ _) (far-lands q1.state rd base (low_part far) v to (reads v) sum (aligned to there.place)) (chain-end act acts_above (after q1 e))) in
-      all-passed code trash small bytes word from (far_jump rd base from to) q (after q1 e) k at (refl, tt) chain
+      chain-more act acts_above _ _ q (after q1 e) (sets q.state base v) runs (no-width _ _) refl
+      (chain-more act acts_above _ _ q1 (after q1 e) e runs1 (no-width _ _) (far-lands q1.state rd base (low_part far) v to (reads v) sum (aligned to there.place)) (chain-end act acts_above (after q1 e)))
+
+  pub far-passed : PassesIn (rv_processor code trash) false from (behind (rv_rows code trash) from (far_jump rd base from to)) 2 q (after q1 e)
+  far-passed = all-passed false code trash small bytes word from (far_jump rd base from to) q (after q1 e) k at (refl, tt) far-chain
+
+  pub far-sunk : Sinks (rv_processor code trash) from 2 q
+  far-sunk = still-sunk (rv_rows code trash) IsInstr (are-rows code trash small bytes word) from (far_jump rd base from to) q k at (refl, tt) far-chain.through
 
 -- ---- they walk
 module _ (code : List ℕ) (trash : ℕ) (small : length code ≤ most_code) (bytes : AreBytes code) (word : trash < 2 ^ 64) where
@@ -115,13 +122,13 @@ module _ (code : List ℕ) (trash : ℕ) (small : length code ≤ most_code) (by
   near-walk from to q k there runs at =
       let jump = instr.Jal 0 (pos to -ℤ pos from) in
       let e : Effect CpuState = goes to (put q.state.registers 0 (add_words q.state.pc 4)) q.state.bytes q.state.mark in
-      let high = stands-high code trash small bytes word from jump [] k in
+      let high = stands-high false code trash small bytes word from jump [] k in
       let does : act jump q.state ≡ e =
       ap (λ p. act (instr.Jal 0 (pos to -ℤ pos p)) q.state) (sym at)
       ∙ jumps-there q.state 0 to (omega (arith, high, at)) (let h = there.high in omega (arith, h)) (aligned to there.place) in
       walked code trash from (behind (rv_rows code trash) from (jump_code Near from to)) to 1 q (after q e)
-      (subst (λ z. PassesIn (rv_processor code trash) from (behind (rv_rows code trash) from (jump_code Near from to)) 1 q (after q z)) does
-      (one-passed code trash small bytes word from [] jump [] q k runs (no-width _ _) (at ∙ omega arith)))
+      (subst (λ z. PassesIn (rv_processor code trash) false from (behind (rv_rows code trash) from (jump_code Near from to)) 1 q (after q z)) does
+      (one-passed false code trash small bytes word from [] jump [] q k runs (no-width _ _) (at ∙ omega arith)))
       (omega arith) (λ lt. omega arith) (runs-there to there.low) refl (λ x ne. put-other q.state.registers 0 (add_words q.state.pc 4) x ne) refl refl
 
   -- x31 holds no register but the carry
@@ -146,6 +153,6 @@ module _ (code : List ℕ) (trash : ℕ) (small : length code ≤ most_code) (by
       let does : act jump q.state ≡ e =
       lands-there q.state 0 (register_of Riscv64 a) to (read-of q.state.registers a ∙ is) (let h = there.high in omega (arith, h)) (aligned to there.place) in
       walked code trash from (behind (rv_rows code trash) from (register_jump_code frame a)) to 1 q (after q e)
-      (subst (λ z. PassesIn (rv_processor code trash) from (behind (rv_rows code trash) from (register_jump_code frame a)) 1 q (after q z)) does
-      (one-passed code trash small bytes word from [] jump [] q k runs (no-width _ _) (at ∙ omega arith)))
+      (subst (λ z. PassesIn (rv_processor code trash) false from (behind (rv_rows code trash) from (register_jump_code frame a)) 1 q (after q z)) does
+      (one-passed false code trash small bytes word from [] jump [] q k runs (no-width _ _) (at ∙ omega arith)))
       (omega arith) (λ lt. omega arith) (runs-there to there.low) refl (λ x ne. put-other q.state.registers 0 (add_words q.state.pc 4) x ne) refl refl

@@ -1,6 +1,7 @@
 -- No item of a node that branches, jumps, calls or returns, of `prolog` or `.align` writes a register that is outside of the conventions.
 use Rattle.std.proofs.Common.{ℕ, zero, suc, Bool, true, false, List, [], ◌∷◌, refl}
 use Rattle.std.specs.Prelude.{◌==◌, ◌-◌, pos, negsuc, nat_le, nat_lt, if◌then◌else◌}
+use Rattle.lg_carry.specs.Outside.{moves_stack}
 use Rattle.lg_base.specs.HostNames.{host_address}
 use Rattle.lg_base.specs.declared.target.Target.TheVariants.{Riscv64}
 use Rattle.lg_selr_values.specs.Processor.Numbers.{low_part, high_part, number_code}
@@ -37,22 +38,22 @@ use Rattle.lg_selr_values.specs.Items.{ones, StayWithin}
 use Rattle.lg_temp.specs.Abis.{register_of}
 use Rattle.lg_sel.specs.declared.reach.Reach.{Reach}
 use Rattle.lg_sel.specs.declared.reach.Reach.TheVariants.{Short, Near, Far}
-use Rattle.lg_selr_values.proofs.WithinLemmas.{In, portable, Within, join, stay-append, stay-ones, number}
+use Rattle.lg_selr_values.proofs.WithinLemmas.{In, portable, Within, join, stay-append, stay-ones, number, Moving, moving-join, moving-append, moving-ones, items-moving}
 use Rattle.lg_selr.specs.Control.ControlFits.{ControlItemsStay}
 
 -- ---- branches, jumps, calls and returns
-word : (t : ℕ) (x : Operand) → In t → StayWithin (word_items t (immediate x))
+word : (t : ℕ) (x : Operand) → In t → StayWithin false (word_items t (immediate x))
 word t (operand.Number v) h = stay-ones (number_code t v) (number t v h)
 word t (operand.Host name) h = stay-ones (number_code t (host_address name)) (number t (host_address name) h)
 word t (operand.Reg r) h = tt
 word t (operand.Label l) h = tt
 word t (operand.Slot k) h = tt
 
-compared : (x : Operand) → StayWithin (controls.second_items x)
+compared : (x : Operand) → StayWithin false (controls.second_items x)
 compared (operand.Reg r) = tt
 compared (operand.Number v) = by (v == 0)
   where
-    by : (b : Bool) → StayWithin (if b then [] else ones (number_code 1 v))
+    by : (b : Bool) → StayWithin false (if b then [] else ones (number_code 1 v))
     by true = tt
     by false = word 1 (operand.Number v) refl
 compared (operand.Host name) = word 1 (operand.Host name) refl
@@ -74,61 +75,61 @@ sum-code sum.FitAddU a b h = (refl, (refl, (h, tt)))
 sum-code sum.FitSub a b h = (refl, (refl, (h, (refl, (h, tt)))))
 sum-code sum.FitSubU a b h = (refl, (h, tt))
 
-leads : (r : Reach) (o : BranchOp) (a b : ℕ) (l : Label) → StayWithin (controls.jump_unless_items r o a b l)
+leads : (r : Reach) (o : BranchOp) (a b : ℕ) (l : Label) → StayWithin false (controls.jump_unless_items r o a b l)
 leads Short o a b l = (tt, tt)
 leads Near o a b l = (tt, (refl, tt))
 leads Far o a b l = (tt, ((refl, refl), tt))
 
-labelled : (r : Reach) (rd base : ℕ) (l : Label) → In rd → In base → StayWithin (controls.label_items r rd base l)
+labelled : (r : Reach) (rd base : ℕ) (l : Label) → In rd → In base → StayWithin false (controls.label_items r rd base l)
 labelled Short rd base l h k = (h, tt)
 labelled Near rd base l h k = (h, tt)
 labelled Far rd base l h k = ((k, h), tt)
 
 module _ (r : Reach) where
-  branched : (o : Condition) (xs : List Operand) → StayWithin (branch_items r o xs)
+  branched : (o : Condition) (xs : List Operand) → StayWithin false (branch_items r o xs)
   branched o (operand.Label l ∷ operand.Reg a ∷ x ∷ []) =
       stay-append (controls.second_items x) _ (compared x)
       (stay-append (ones (bits_code o (register_of Riscv64 a) (second_register x))) _ (stay-ones (bits_code o (register_of Riscv64 a) (second_register x)) (bits o (register_of Riscv64 a) (second_register x))) (leads r _ _ _ l))
   branched o xs = tt
 
-  summed : (o : BranchSumOp) (xs : List Operand) → StayWithin (sum_items r o xs)
+  summed : (o : BranchSumOp) (xs : List Operand) → StayWithin false (sum_items r o xs)
   summed o (operand.Label l ∷ operand.Reg a ∷ x ∷ []) =
       stay-append (controls.second_items x) _ (compared x)
       (stay-append (ones (sums.sum_code o (register_of Riscv64 a) (second_register x))) _ (stay-ones (sums.sum_code o (register_of Riscv64 a) (second_register x)) (sum-code o (register_of Riscv64 a) (second_register x) (portable a))) (leads r _ _ _ l))
   summed o xs = tt
 
-  jumped : (xs : List Operand) → StayWithin (jump_items r xs)
+  jumped : (xs : List Operand) → StayWithin false (jump_items r xs)
   jumped (operand.Label l ∷ []) = labelled r 0 31 l refl refl
   jumped xs = tt
 
-  called : (xs : List Operand) → StayWithin (call_items r xs)
+  called : (xs : List Operand) → StayWithin false (call_items r xs)
   called (operand.Label l ∷ []) = labelled r 1 1 l refl refl
   called (operand.Host name ∷ []) = (refl, (refl, tt))
   called xs = tt
 
-  result : (x : Operand) → StayWithin (result_items x)
+  result : (x : Operand) → StayWithin false (result_items x)
   result (operand.Reg r) = (refl, tt)
   result (operand.Label l) = (refl, tt)
   result (operand.Number v) = word 10 (operand.Number v) refl
   result (operand.Host name) = word 10 (operand.Host name) refl
   result (operand.Slot k) = word 10 (operand.Slot k) refl
 
-  returns : (frame : ℕ) → StayWithin (ones (return_code frame))
+  returns : (frame : ℕ) → StayWithin true (ones (return_code frame))
   returns frame = by (nat_lt frame 2048)
     where
-      by : (b : Bool) → StayWithin (ones (if b then near_return frame else far_return))
+      by : (b : Bool) → StayWithin true (ones (if b then near_return frame else far_return))
       by true = (refl, (refl, (refl, (refl, (refl, (refl, (refl, tt)))))))
       by false = (refl, (refl, (refl, (refl, (refl, (refl, (refl, (refl, tt))))))))
 
-  returned : (frame : ℕ) (xs : List Operand) → StayWithin (ret_items frame xs)
-  returned frame (x ∷ []) = stay-append (result_items x) (ones (return_code frame)) (result x) (returns frame)
+  returned : (frame : ℕ) (xs : List Operand) → StayWithin true (ret_items frame xs)
+  returned frame (x ∷ []) = moving-append (result_items x) (ones (return_code frame)) (items-moving (result_items x) (result x)) (returns frame)
   returned frame xs = tt
 
-  leapt : (rd : ℕ) (xs : List Operand) → In rd → StayWithin (register_leap_items rd xs)
+  leapt : (rd : ℕ) (xs : List Operand) → In rd → StayWithin false (register_leap_items rd xs)
   leapt rd (operand.Reg a ∷ []) h = (h, tt)
   leapt rd xs h = tt
 
-  leaps : (frame : ℕ) (o : ControlOp) (last : LastOperand) (xs : List Operand) → StayWithin (leap_items r frame o last xs)
+  leaps : (frame : ℕ) (o : ControlOp) (last : LastOperand) (xs : List Operand) → StayWithin (moves_stack Riscv64 (op.Control o last)) (leap_items r frame o last xs)
   leaps frame control.Jmp last_operand.Immediate xs = jumped xs
   leaps frame control.Jmp last_operand.Register xs = leapt 0 xs refl
   leaps frame control.Call last_operand.Immediate xs = called xs
@@ -142,42 +143,42 @@ module _ (r : Reach) where
   idles zero = tt
   idles (suc k) = (refl, idles k)
 
-  aligned : (at : ℕ) (xs : List Operand) → StayWithin (align_items at xs)
+  aligned : (at : ℕ) (xs : List Operand) → StayWithin false (align_items at xs)
   aligned at (operand.Number n ∷ []) = stay-ones (align_code at n) (idles (padding at n))
   aligned at xs = tt
 
-  below : (first : ℕ) (rs : List ℕ) (k : ℕ) → Within (stores_below first rs k)
+  below : (first : ℕ) (rs : List ℕ) (k : ℕ) → Moving (stores_below first rs k)
   below first [] k = tt
   below first (r ∷ rs) k = (tt, below first rs (suc k))
 
-  falls : (n : ℕ) → Within (fall_code n)
+  falls : (n : ℕ) → Moving (fall_code n)
   falls n = by (nat_le n 2048)
     where
-      by : (b : Bool) → Within (if b then instr.Imm Addi 2 2 (negsuc (n - 1)) ∷ [] else instr.Upper Lui 1 (high_part n) ∷ instr.Imm Addiw 1 1 (low_part n) ∷ instr.Reg Sub 2 2 1 ∷ [])
+      by : (b : Bool) → Moving (if b then instr.Imm Addi 2 2 (negsuc (n - 1)) ∷ [] else instr.Upper Lui 1 (high_part n) ∷ instr.Imm Addiw 1 1 (low_part n) ∷ instr.Reg Sub 2 2 1 ∷ [])
       by true = (refl, tt)
       by false = (refl, (refl, (refl, tt)))
 
-  begins : (frame homes : ℕ) → Within (prolog_code frame homes)
+  begins : (frame homes : ℕ) → Moving (prolog_code frame homes)
   begins frame homes = by (nat_le frame 2048)
     where
-      framed : (first : ℕ) (rest : List Instr) → Within rest → Within (framed_code first homes rest)
+      framed : (first : ℕ) (rest : List Instr) → Moving rest → Moving (framed_code first homes rest)
       framed first rest h = (
         refl,
-        join (stores_below first (stored_registers homes) 0) (instr.Imm Addi 8 2 (pos (first - 16)) ∷ rest) (below first (stored_registers homes) 0) (refl, h),
+        moving-join (stores_below first (stored_registers homes) 0) (instr.Imm Addi 8 2 (pos (first - 16)) ∷ rest) (below first (stored_registers homes) 0) (refl, h),
       )
 
-      by : (b : Bool) → Within (if b then framed_code frame homes [] else framed_code 2048 homes (fall_code (frame - 2048)))
+      by : (b : Bool) → Moving (if b then framed_code frame homes [] else framed_code 2048 homes (fall_code (frame - 2048)))
       by true = framed frame [] tt
       by false = framed 2048 (fall_code (frame - 2048)) (falls (frame - 2048))
 
-  plainly : (o : PlainOp) (xs : List Operand) (frame homes at : ℕ) → StayWithin (plain_items o xs frame homes at)
-  plainly plain.Prolog xs frame homes at = stay-ones (prolog_code frame homes) (begins frame homes)
+  plainly : (o : PlainOp) (xs : List Operand) (frame homes at : ℕ) → StayWithin (moves_stack Riscv64 (op.Plain o)) (plain_items o xs frame homes at)
+  plainly plain.Prolog xs frame homes at = moving-ones (prolog_code frame homes) (begins frame homes)
   plainly plain.Epilog xs frame homes at = returns frame
   plainly plain.Ret xs frame homes at = returns frame
   plainly plain.Align xs frame homes at = aligned at xs
   plainly o xs frame homes at = tt
 
-  answered : (o : Op) (xs : List Operand) (frame homes at : ℕ) → StayWithin (control_items r o xs frame homes at)
+  answered : (o : Op) (xs : List Operand) (frame homes at : ℕ) → StayWithin (moves_stack Riscv64 o) (control_items r o xs frame homes at)
   answered (op.Branch o last) xs frame homes at = branched o xs
   answered (op.BranchSum o last) xs frame homes at = summed o xs
   answered (op.Control o last) xs frame homes at = leaps frame o last xs

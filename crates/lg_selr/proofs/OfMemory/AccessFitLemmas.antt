@@ -130,7 +130,7 @@ narrow-store store_type.Long = omega arith
 
 -- ---- instructions that are in range and within the conventions, and may branch
 abbrev IsSound : Instr → Type 0
-IsSound i = IsInstr i × WritesWithin i
+IsSound i = IsInstr i × WritesWithin false i
 
 abbrev AreSound : List Instr → Type 0
 AreSound is = Each IsSound is
@@ -162,7 +162,7 @@ fork-sound u base w skip slow fast g low few most even h k =
 load-fits : (t : ValueType) (d base : ℕ) (offset : ℤ) → d < 32 → base < 32 → negsuc 2047 ≤ℤ offset → offset ≤ℤ pos 2047 → IsInstr (instr.Imm (load_row t) d base offset)
 load-fits t d base offset a b c e = (a, b, c, e)
 
-load-within : (t : ValueType) (d base : ℕ) (offset : ℤ) → Fine d → WritesWithin (instr.Imm (load_row t) d base offset)
+load-within : (t : ValueType) (d base : ℕ) (offset : ℤ) → Fine d → WritesWithin false (instr.Imm (load_row t) d base offset)
 load-within t d base offset h = h.1
 
 load-at-good : (whole : Bool) (t : ValueType) (d u : ℕ) (p : Place) → Fine d → Fine u → IsGoodPlace p → AreSound (load_at whole t d u p.base p.offset)
@@ -255,7 +255,7 @@ store-good t at n u g =
 
 -- ---- the items, with choices for the needs of the access
 abbrev IsSoundItem : Item → Type 0
-IsSoundItem x = IsItem x × StaysWithin x
+IsSoundItem x = IsItem x × StaysWithin false x
 
 module _ (P : Item → Type 0) where
   front-of : (xs ys : List Item) → Each P (xs ++ ys) → Each P xs
@@ -305,7 +305,7 @@ items-fit n bytes code good live staged choices are =
     let fine : Fine u = (p.0.0.0, p.0.1) in
     let all : Each IsSoundItem (saved_items choices (ones (code u))) =
     replaced IsSoundItem choices (probe u) (ones (code u)) (lists.each-weaker IsGoodItem IsSoundItem good-sound (saved_items choices (probe u)) m.good) (lists.each-ones IsSoundItem One IsSound (λ i h. h) (code u) (good u fine)) in
-    record { few = m.few; slots = m.slots; fit = lists.each-weaker IsSoundItem IsItem (λ x h. h.0) (saved_items choices (ones (code u))) all; within = lists.each-weaker IsSoundItem StaysWithin (λ x h. h.1) (saved_items choices (ones (code u))) all }
+    record { few = m.few; slots = m.slots; fit = lists.each-weaker IsSoundItem IsItem (λ x h. h.0) (saved_items choices (ones (code u))) all; within = lists.each-weaker IsSoundItem (StaysWithin false) (λ x h. h.1) (saved_items choices (ones (code u))) all }
 
 pub load-items-fit : (t : ValueType) (at : Addressing) (n : Node) (live : Reg → Bool) (staged : List Bool) (choices : List Choice) → AreFor (around Riscv64 n live staged) (access_needs (width t)) [] (access_needs (width t)) choices
     → AreAccessItems choices (load_items t at n choices)

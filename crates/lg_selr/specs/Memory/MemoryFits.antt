@@ -1,5 +1,5 @@
 -- What is asked of the items of loads, stores and arguments that are emitted.
-use Rattle.std.specs.Prelude.{◌≡◌, ℕ, ◌<◌, ◌≤◌, Bool, [], List, length}
+use Rattle.std.specs.Prelude.{◌≡◌, ℕ, ◌<◌, ◌≤◌, Bool, [], List, length, false}
 use Rattle.lg_base.specs.declared.target.Target.TheVariants.{Riscv64}
 use Rattle.lg_op.specs.declared.node.Node.{Node}
 use Rattle.lg_op.specs.declared.op.Addressing.{Addressing}
@@ -26,23 +26,23 @@ use Rattle.lg_temp.specs.declared.choice.Choice.{Choice}
 -- the registers that the items write: none that is outside of the conventions, with the choices for the needs of a load or a store
 pub record MemoryItemsStay : Type 0 where
   pub loads : (t : ValueType) (at : Addressing) (n : Node) (live : Reg → Bool) (staged : List Bool) (choices : List Choice)
-      → AreFor (around Riscv64 n live staged) (access_needs (width t)) [] (access_needs (width t)) choices → StayWithin (load_items t at n choices)
+      → AreFor (around Riscv64 n live staged) (access_needs (width t)) [] (access_needs (width t)) choices → StayWithin false (load_items t at n choices)
   pub stores : (t : StoreType) (at : Addressing) (n : Node) (live : Reg → Bool) (staged : List Bool) (choices : List Choice)
-      → AreFor (around Riscv64 n live staged) (access_needs (store_width t)) [] (access_needs (store_width t)) choices → StayWithin (store_items t at n choices)
-  pub arguments : (t : ValueType) (n : Node) → StayWithin (ones (argument_code t n))
-  pub next_arguments : (n : Node) → StayWithin (ones (next_argument_code n))
-  pub pushes : (j : ℕ) (n : Node) → StayWithin (push_code j n)
+      → AreFor (around Riscv64 n live staged) (access_needs (store_width t)) [] (access_needs (store_width t)) choices → StayWithin false (store_items t at n choices)
+  pub arguments : (t : ValueType) (n : Node) → StayWithin false (ones (argument_code t n))
+  pub next_arguments : (n : Node) → StayWithin false (ones (next_argument_code n))
+  pub pushes : (j : ℕ) (n : Node) → StayWithin false (push_code j n)
 
 -- the items are in the ranges of their instructions, of which there are at most so many, with at most one fix, and each is followed by the next
 abbrev pub AreMemoryItems : ℕ → List Item → Type 0
-AreMemoryItems most items = good_items.AreFew rv_holes is_straight IsItem StaysWithin most items
+AreMemoryItems most items = good_items.AreFew rv_holes is_straight IsItem (StaysWithin false) most items
 
 -- those of an access, which may branch, are in range and write none that is outside, with at most one choice, which has a slot where its register is saved
 pub record AreAccessItems (choices : List Choice) (items : List Item) : Type 0 where
   pub few : length choices ≤ 1
   pub slots : HaveSlots choices
   pub fit : AreItems items
-  pub within : StayWithin items
+  pub within : StayWithin false items
 
 pub record MemoryItemsFit : Type 0 where
   pub loads : (t : ValueType) (at : Addressing) (n : Node) (live : Reg → Bool) (staged : List Bool) (choices : List Choice)

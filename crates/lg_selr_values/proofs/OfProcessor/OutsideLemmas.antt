@@ -25,28 +25,28 @@ choice P true e f h k = h
 choice P false e f h k = k
 
 -- ---- what an instruction does to a register
-module _ (r : ℕ) (out : is_outside Riscv64 r ≡ true) where
+module _ (moves : Bool) (r : ℕ) (out : is_outside Riscv64 moves r ≡ true) where
   abbrev Keeps : CpuState → Effect CpuState → Type 0
   Keeps q e = e.to.registers r ≡ q.registers r
 
-  differs : (rd : ℕ) → is_outside Riscv64 rd ≡ false → r ≡ rd → ⊥
-  differs rd within e = no (sym out ∙ ap (is_outside Riscv64) e ∙ within)
+  differs : (rd : ℕ) → is_outside Riscv64 moves rd ≡ false → r ≡ rd → ⊥
+  differs rd within e = no (sym out ∙ ap (is_outside Riscv64 moves) e ∙ within)
     where
       no : true ≡ false → ⊥
       no e = cc
 
-  other : (rd : ℕ) → is_outside Riscv64 rd ≡ false → (r == rd) ≡ false
+  other : (rd : ℕ) → is_outside Riscv64 moves rd ≡ false → (r == rd) ≡ false
   other rd within = let n : r ≢ rd = differs rd within in grind (arith, nat_tests)
 
-  puts : (w : ℕ → ℕ) (rd v : ℕ) → is_outside Riscv64 rd ≡ false → put w rd v r ≡ w r
+  puts : (w : ℕ → ℕ) (rd v : ℕ) → is_outside Riscv64 moves rd ≡ false → put w rd v r ≡ w r
   puts w rd v within = ap (λ (b : Bool). if b then v else w r) (other rd within)
 
   module _ (q : CpuState) where
-    keep-loads : (to width : ℕ) (signed : Bool) (o : Option ℕ) → is_outside Riscv64 to ≡ false → Keeps q (loads q to width signed o)
+    keep-loads : (to width : ℕ) (signed : Bool) (o : Option ℕ) → is_outside Riscv64 moves to ≡ false → Keeps q (loads q to width signed o)
     keep-loads to width signed None h = refl
     keep-loads to width signed (Some value) h = puts q.registers to _ h
 
-    keep-load : (to address width : ℕ) (signed : Bool) → is_outside Riscv64 to ≡ false → Keeps q (load_at q to address width signed)
+    keep-load : (to address width : ℕ) (signed : Bool) → is_outside Riscv64 moves to ≡ false → Keeps q (load_at q to address width signed)
     keep-load to address width signed h = choice (Keeps q) (address % width == 0) (loads q to width signed (loaded q.bytes address width)) (faults q Align) (keep-loads to width signed (loaded q.bytes address width) h) refl
 
     keep-store : (address width value : ℕ) → Keeps q (store_at q address width value)
@@ -54,14 +54,14 @@ module _ (r : ℕ) (out : is_outside Riscv64 r ≡ true) where
         choice (Keeps q) (address % width == 0) (if mapped q.bytes address width then goes (add_words q.pc 4) q.registers (stored q.bytes address width value) q.mark else faults q Memory) (faults q Align)
         (choice (Keeps q) (mapped q.bytes address width) (goes (add_words q.pc 4) q.registers (stored q.bytes address width value) q.mark) (faults q Memory) refl refl) refl
 
-    keep-jump : (link target : ℕ) → is_outside Riscv64 link ≡ false → Keeps q (jump_to q link target)
+    keep-jump : (link target : ℕ) → is_outside Riscv64 moves link ≡ false → Keeps q (jump_to q link target)
     keep-jump link target h = choice (Keeps q) (target % 4 == 0) (goes target (put q.registers link (add_words q.pc 4)) q.bytes q.mark) (faults q Align) (puts q.registers link _ h) refl
 
     keep-branch : (target : ℕ) (taken : Bool) → Keeps q (branch_to q target taken)
     keep-branch target true = choice (Keeps q) (target % 4 == 0) (goes target q.registers q.bytes q.mark) (faults q Align) refl refl
     keep-branch target false = refl
 
-    keep-imm : (op : ImmOp) (rd a n : ℕ) → is_outside Riscv64 rd ≡ false → Keeps q (imm_effect op rd a n q)
+    keep-imm : (op : ImmOp) (rd a n : ℕ) → is_outside Riscv64 moves rd ≡ false → Keeps q (imm_effect op rd a n q)
     keep-imm Jalr rd a n h = keep-jump rd (add_words a n / 2 * 2) h
     keep-imm Lb rd a n h = keep-load rd (add_words a n) 1 true h
     keep-imm Lh rd a n h = keep-load rd (add_words a n) 2 true h
@@ -78,7 +78,7 @@ module _ (r : ℕ) (out : is_outside Riscv64 r ≡ true) where
     keep-imm Andi rd a n h = puts q.registers rd _ h
     keep-imm Addiw rd a n h = puts q.registers rd _ h
 
-    keep-act : (i : Instr) → WritesWithin i → Keeps q (act i q)
+    keep-act : (i : Instr) → WritesWithin moves i → Keeps q (act i q)
     keep-act (Upper Lui rd imm) h = puts q.registers rd _ h
     keep-act (Upper Auipc rd imm) h = puts q.registers rd _ h
     keep-act (Jal rd offset) h = keep-jump rd (add_words q.pc (word_of offset)) h
@@ -90,9 +90,9 @@ module _ (r : ℕ) (out : is_outside Riscv64 r ≡ true) where
 
 -- an instruction that writes no register that is outside keeps these registers
 pub instructions-stay : InstructionsStay
-instructions-stay code trash i within q r out = by q.progress
+instructions-stay code trash moves i within q r out = by q.progress
   where
     by : (x : Progress) → (on_going x (after q (act i q.state)) q).state.registers r ≡ q.state.registers r
-    by Goes = keep-act r out q.state i within
+    by Goes = keep-act moves r out q.state i within
     by (EndedWith n) = refl
     by (Faulted kind) = refl

@@ -1,5 +1,5 @@
 -- The registers that instructions write.
-use Rattle.std.specs.Prelude.{◌≡◌, ℕ, false, List, Option, Some, None, ⊤}
+use Rattle.std.specs.Prelude.{◌≡◌, ℕ, false, List, Option, Some, None, ⊤, Bool}
 use Rattle.lg_base.specs.declared.target.Target.TheVariants.{Riscv64}
 use Rattle.lg_rv.specs.declared.instruction.Instr.{Instr}
 use Rattle.lg_rv.specs.declared.instruction.Instr.TheVariants.{Upper, Jal, Branch, Imm, Shift, Store, Reg}
@@ -18,14 +18,14 @@ destination (Store op rs1 rs2 imm) = None
 destination (Reg op rd rs1 rs2) = Some rd
 
 -- a register that is not outside of the conventions, or none
-abbrev pub IsWithin : Option ℕ → Type 0
-IsWithin None = ⊤
-IsWithin (Some rd) = is_outside Riscv64 rd ≡ false
+abbrev pub IsWithin : Bool → Option ℕ → Type 0
+IsWithin moves None = ⊤
+IsWithin moves (Some rd) = is_outside Riscv64 moves rd ≡ false
 
 -- an instruction writes none that is outside
-abbrev pub WritesWithin : Instr → Type 0
-WritesWithin i = IsWithin (destination i)
+abbrev pub WritesWithin : Bool → Instr → Type 0
+WritesWithin moves i = IsWithin moves (destination i)
 
 -- so it changes none
 abbrev pub InstructionsStay : Type 0
-InstructionsStay = (code : List ℕ) (trash : ℕ) (i : Instr) → WritesWithin i → StaysOutside (rv_rows code trash) i
+InstructionsStay = (code : List ℕ) (trash : ℕ) (moves : Bool) (i : Instr) → WritesWithin moves i → StaysOutside (rv_rows code trash) moves i

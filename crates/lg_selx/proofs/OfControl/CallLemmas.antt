@@ -68,7 +68,7 @@ pushed s sp to back at low high there =
 -- ---- it arrives, behind code that changes no register but rax and r11, and no byte
 module _ (code : List ℕ) (trash : ℕ) (small : length code ≤ most_code) (bytes : AreBytes code) (word : trash < 2 ^ 64)
     (from to frame : ℕ) (front : List Instr) (x : Instr) (W : ℕ → ℕ) (q : Run CpuState) (f : HasFrame X86_64 frame (x86_seen q))
-    (k : StandsAt (x86_rows code trash) IsInstr from (front ++ (x ∷ []))) (made : makes front (scene_of q.state) ≡ Some (scene W q.state.flags q.state.bytes))
+    (k : StandsAt (x86_rows code trash) true IsInstr from (front ++ (x ∷ []))) (made : makes front (scene_of q.state) ≡ Some (scene W q.state.flags q.state.bytes))
     (few : length front ≤ 2) (runs : status_of q.progress ≡ Running) (at : q.state.pc ≡ from) (there : status_of (arrived to) ≡ Running)
     (same : (z : ℕ) → z ≢ 0 → z ≢ 11 → W z ≡ q.state.registers z) where
   abbrev high : ℕ
@@ -162,7 +162,7 @@ module _ (code : List ℕ) (trash : ℕ) (small : length code ≤ most_code) (by
   moves-keep w to z n0 n11 = put-other (put w 11 to) 0 0 z n0 ∙ put-other w 11 to z n11
 
   register-arrival : (frame from to : ℕ) (a : Reg) (q : Run CpuState) → HasFrame X86_64 frame (x86_seen q)
-      → StandsAt (x86_rows code trash) IsInstr from (register_call_code frame a) → status_of (arrived to) ≡ Running → status_of q.progress ≡ Running
+      → StandsAt (x86_rows code trash) true IsInstr from (register_call_code frame a) → status_of (arrived to) ≡ Running → status_of q.progress ≡ Running
       → q.state.pc ≡ from → q.state.registers (register_of X86_64 a) ≡ to
       → Arrival (x86_processor code trash) from (behind (x86_rows code trash) from (register_call_code frame a)) (q.state.registers 4)
       (behind (x86_rows code trash) from (register_call_code frame a)) to q
@@ -192,7 +192,7 @@ module _ (code : List ℕ) (trash : ℕ) (small : length code ≤ most_code) (by
 
   -- of a host function
   host-arrival : (frame from : ℕ) (name : HostName) (q : Run CpuState) → HasFrame X86_64 frame (x86_seen q)
-      → StandsAt (x86_rows code trash) IsInstr from (host_code name) → status_of q.progress ≡ Running → q.state.pc ≡ from
+      → StandsAt (x86_rows code trash) true IsInstr from (host_code name) → status_of q.progress ≡ Running → q.state.pc ≡ from
       → Arrival (x86_processor code trash) from (behind (x86_rows code trash) from (host_code name)) (q.state.registers 4)
       (behind (x86_rows code trash) from (host_code name)) (host_address name) q
   host-arrival frame from name q f k runs at =

@@ -139,7 +139,7 @@ module _ (size homes sp : ℕ) (w : ℕ → ℕ) (f : Flags) (m : ℕ → Option
 -- ---- what is then in the frame
 module _ (code : List ℕ) (trash : ℕ) (small : length code ≤ most_code) (bytes-small : AreBytes code) (trash-word : trash < 2 ^ 64)
     (size homes from sp : ℕ) (q : Run CpuState) (seen : IsSeen (x86_seen q)) (large : 272 ≤ size) (room : least_frame + size ≤ sp) (top : sp ≤ stack_end)
-    (at : q.state.registers 4 ≡ sp - 8) (k : StandsAt (x86_rows code trash) IsInstr from (prolog_code size homes)) (runs : status_of q.progress ≡ Running)
+    (at : q.state.registers 4 ≡ sp - 8) (k : StandsAt (x86_rows code trash) true IsInstr from (prolog_code size homes)) (runs : status_of q.progress ≡ Running)
     (here : q.state.pc ≡ from) where
   abbrev v : ℕ → ℕ
   v = q.state.registers

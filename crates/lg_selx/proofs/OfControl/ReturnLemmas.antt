@@ -1,5 +1,5 @@
 -- Returns leave their frame.
-use Rattle.std.proofs.Common.{◌≡◌, ℕ, zero, suc, ◌+◌, ◌-◌, ◌^◌, ◌<◌, ◌≤◌, List, [], ◌∷◌, ◌++◌, Option, Some, None, refl, ap, ◌∙◌, subst, arith, length}
+use Rattle.std.proofs.Common.{◌≡◌, ℕ, zero, suc, ◌+◌, ◌-◌, ◌^◌, ◌<◌, ◌≤◌, List, [], ◌∷◌, ◌++◌, Option, Some, None, refl, ap, ◌∙◌, subst, arith, length, true}
 use Rattle.std.proofs.Common.{append_assoc, length-append}
 use Rattle.std.specs.Prelude.{ℤ, pos, negsuc}
 use Rattle.std.specs.Option.{option_and_then}
@@ -160,7 +160,7 @@ module _ (code : List ℕ) (trash : ℕ) (small : length code ≤ most_code) (by
     (frame from back : ℕ) (r : Returned) (q : Run CpuState) (ok : IsReturned r) (f : HasFrame X86_64 frame (x86_seen q))
     (held : HasWord q.state.bytes (return_word (q.state.registers 4 + frame)) back)
     (runs : status_of q.progress ≡ Running) (at : q.state.pc ≡ from)
-    (k : StandsAt (x86_rows code trash) IsInstr from ((result_code r ++ restore_code) ++ (instr.Bare Ret ∷ []))) where
+    (k : StandsAt (x86_rows code trash) true IsInstr from ((result_code r ++ restore_code) ++ (instr.Bare Ret ∷ []))) where
   abbrev sp : ℕ
   sp = q.state.registers 4 + frame
 
@@ -207,7 +207,7 @@ module _ (code : List ℕ) (trash : ℕ) (small : length code ≤ most_code) (by
   abbrev u : Run CpuState
   u = after (front_run code trash small bytes word from front (instr.Bare Ret) q (scene w q.state.flags m) k made-all runs at) e
 
-  pass : PassesIn (x86_processor code trash) from high (length front + 1) q u
+  pass : PassesIn (x86_processor code trash) true from high (length front + 1) q u
   pass = front-passed code trash small bytes word from front (instr.Bare Ret) q (scene w q.state.flags m) k made-all runs at above-all
       (λ a le lt. in-zone (sp - 8) a (omega (arith, le))) e (ap (returns last) held)
 
@@ -241,6 +241,6 @@ module _ (code : List ℕ) (trash : ℕ) (small : length code ≤ most_code) (by
 pub returns-lead : (code : List ℕ) (trash : ℕ) → length code ≤ most_code → AreBytes code → trash < 2 ^ 64
     → ReturnsLead (x86_rows code trash) IsInstr returned_code
 returns-lead code trash small bytes word frame from back r q ok f k there held runs at =
-    subst (λ is. StandsAt (x86_rows code trash) IsInstr from is
+    subst (λ is. StandsAt (x86_rows code trash) true IsInstr from is
     → Departure (x86_processor code trash) from (behind (x86_rows code trash) from is) (q.state.registers 4 + frame) back (returned_word X86_64 q.state.registers r) q)
     (append_assoc (result_code r) restore_code (instr.Bare Ret ∷ [])) (departs code trash small bytes word frame from back r q ok f held runs at) k

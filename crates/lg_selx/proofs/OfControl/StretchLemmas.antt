@@ -1,5 +1,5 @@
 -- Instructions of x86-64 that stand in the code, and runs over them.
-use Rattle.std.proofs.Common.{◌≡◌, ℕ, ◌+◌, ◌^◌, ◌<◌, ◌≤◌, List, [], ◌∷◌, ◌++◌, Some, sym, ap, ◌∙◌, subst, arith, length, append-nil, length-append}
+use Rattle.std.proofs.Common.{◌≡◌, ℕ, ◌+◌, ◌^◌, ◌<◌, ◌≤◌, List, [], ◌∷◌, ◌++◌, Some, sym, ap, ◌∙◌, subst, arith, length, append-nil, length-append, false}
 use Rattle.lg_base.specs.Layout.{code_base, most_code}
 use Rattle.lg_base.specs.Runs.{Running}
 use Rattle.lg_base.specs.Words.{add_words}
@@ -40,12 +40,12 @@ module _ (code : List ℕ) (trash : ℕ) (small : length code ≤ most_code) (by
   rows = are-rows code trash small bytes word
 
   -- instructions that stand in the code lie in the code part
-  pub stands-high : (from : ℕ) (is : List Instr) → 0 < length (spellings spelling is) → StandsAt (x86_rows code trash) IsInstr from is
+  pub stands-high : (from : ℕ) (is : List Instr) → 0 < length (spellings spelling is) → StandsAt (x86_rows code trash) false IsInstr from is
       → behind (x86_rows code trash) from is ≤ code_base + most_code
   stands-high from is some k = stretches.stands-high (x86_rows code trash) IsInstr rows from is some k
 
   -- ---- instructions that make a scene, and one behind them
-  module _ (from : ℕ) (front : List Instr) (x : Instr) (q : Run CpuState) (t : Scene) (k : StandsAt (x86_rows code trash) IsInstr from (front ++ (x ∷ [])))
+  module _ (from : ℕ) (front : List Instr) (x : Instr) (q : Run CpuState) (t : Scene) (k : StandsAt (x86_rows code trash) false IsInstr from (front ++ (x ∷ [])))
       (made : makes front (scene_of q.state) ≡ Some t) (runs : status_of q.progress ≡ Running) (at : q.state.pc ≡ from) where
     abbrev pub front_high : ℕ
     front_high = behind (x86_rows code trash) from (front ++ (x ∷ []))
@@ -81,7 +81,7 @@ module _ (code : List ℕ) (trash : ℕ) (small : length code ≤ most_code) (by
 
     -- all are passed, by what that one does
     pub front-passed : AreAbove front (scene_of q.state) → acts_above x front_state → (e : Effect CpuState) → does x front_high front_state ≡ e
-        → PassesIn (x86_processor code trash) from front_high (length front + 1) q (after front_run e)
+        → PassesIn (x86_processor code trash) false from front_high (length front + 1) q (after front_run e)
     front-passed above here e is =
         passages-join (x86_processor code trash) from front_high (length front) 1 q front_run (after front_run e)
         (part-passes (x86_rows code trash) IsInstr rows from [] front (x ∷ []) q k (at ∙ omega arith) (makes-block front (scene_of q.state) t made)
@@ -94,13 +94,13 @@ module _ (code : List ℕ) (trash : ℕ) (small : length code ≤ most_code) (by
   -- ---- instructions that make a scene, and no other
   pub record Made (from : ℕ) (is : List Instr) (t : Scene) (q : Run CpuState) : Type 0 where
     pub end : Run CpuState
-    pub passes : PassesIn (x86_processor code trash) from (behind (x86_rows code trash) from is) (length is) q end
+    pub passes : PassesIn (x86_processor code trash) false from (behind (x86_rows code trash) from is) (length is) q end
     pub runs : status_of end.progress ≡ Running
     pub here : end.state.pc ≡ behind (x86_rows code trash) from is
     pub scene : scene_of end.state ≡ t
     pub mark : end.state.mark ≡ q.state.mark
 
-  pub made-passed : (from : ℕ) (is : List Instr) (q : Run CpuState) (t : Scene) → StandsAt (x86_rows code trash) IsInstr from is
+  pub made-passed : (from : ℕ) (is : List Instr) (q : Run CpuState) (t : Scene) → StandsAt (x86_rows code trash) false IsInstr from is
       → makes is (scene_of q.state) ≡ Some t → AreAbove is (scene_of q.state) → status_of q.progress ≡ Running → q.state.pc ≡ from
       → behind (x86_rows code trash) from is ≤ code_base + most_code → Made from is t q
   made-passed from is q t k made above runs at room =

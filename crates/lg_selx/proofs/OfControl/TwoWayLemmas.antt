@@ -55,7 +55,7 @@ jump-still Far c at to = refl
 
 -- the jump, where what stands before it tells whether it is taken
 module _ (code : List ℕ) (trash : ℕ) (small : length code ≤ most_code) (bytes : AreBytes code) (word : trash < 2 ^ 64)
-    (r : Reach) (front : List Instr) (c : Cond) (from to : ℕ) (q : Run CpuState) (k : StandsAt (x86_rows code trash) IsInstr from (branch_if r front c from to))
+    (r : Reach) (front : List Instr) (c : Cond) (from to : ℕ) (q : Run CpuState) (k : StandsAt (x86_rows code trash) false IsInstr from (branch_if r front c from to))
     (runs : status_of q.progress ≡ Running) (at : q.state.pc ≡ from) (goes-there : Bool) (there : goes-there ≡ true → IsThere (x86_rows code trash).is_place to)
     (next : IsThere (x86_rows code trash).is_place (behind (x86_rows code trash) from (branch_if r front c from to)))
     (W : ℕ → ℕ) (m : Tells front c W goes-there (scene_of q.state)) (still : list_all is_still front ≡ true) where

@@ -303,7 +303,7 @@ stored-fit code good (Spill u k ∷ []) h =
 
 -- ---- what is asked of items
 are-items : (most fixes : ℕ) (xs : List Item) → fixes ≤ 1 → AreFit most fixes xs → AreMemoryItems most xs
-are-items = bounded-few x86_holes IsGoodItem is_straight IsItem StaysWithin good-items-are-appendable
+are-items = bounded-few x86_holes IsGoodItem is_straight IsItem (StaysWithin false) good-items-are-appendable
 
 pub memory-items-fit : MemoryItemsFit
 memory-items-fit = record {

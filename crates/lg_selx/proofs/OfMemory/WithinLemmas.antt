@@ -38,10 +38,10 @@ use Rattle.lg_temp.specs.declared.choice.Choice.{Choice}
 use Rattle.lg_temp.specs.declared.choice.Choice.TheVariants.{Free, Own, Spill}
 
 -- ---- registers
-number : (r v : ℕ) → In r → WritesWithin (number_row r v)
+number : (r v : ℕ) → In r → WritesWithin false (number_row r v)
 number r v h = by (nat_lt v (2 ^ 32)) (is_half v)
   where
-    by : (b c : Bool) → WritesWithin (if b then instr.Movi32 r v else if c then instr.Movs32 r (signed_view v) else instr.Movi64 r v)
+    by : (b c : Bool) → WritesWithin false (if b then instr.Movi32 r v else if c then instr.Movs32 r (signed_view v) else instr.Movi64 r v)
     by true c = (h, tt)
     by false true = (h, tt)
     by false false = (h, tt)
@@ -64,7 +64,7 @@ behind-within frame p = by p.spare (p.base == 5)
     by true false = tt
     by false c = tt
 
-around : (frame : ℕ) (p : Place) (i : Instr) → Within p.code → WritesWithin i → Within (p.code ++ i ∷ behind frame p)
+around : (frame : ℕ) (p : Place) (i : Instr) → Within p.code → WritesWithin false i → Within (p.code ++ i ∷ behind frame p)
 around frame p i h k = join p.code (i ∷ behind frame p) h (k, behind-within frame p)
 
 load-spare-in : (d : ℕ) (at : Address) → In d → In (load_spare d at)
@@ -84,7 +84,7 @@ stores t from u at h = let p = place_of u at in join p.code (instr.Store (store_
 
 -- with its choice
 stored : (code : ℕ → List Instr) → ((u : ℕ) → In u → Within (code u)) → (choices : List Choice) → AreOne choices
-    → StayWithin (saved_items choices (ones (code (first_taken choices))))
+    → StayWithin false (saved_items choices (ones (code (first_taken choices))))
 stored code within [] h = stay-ones (code 0) (within 0 refl)
 stored code within (Free u ∷ []) h = stay-ones (code u) (within u h.1)
 stored code within (Own u ∷ []) h = absurd h
@@ -101,27 +101,27 @@ arguments frame t n = by (nat_lt (slot (operand_at n 1)) 16)
 next : (rd rs : ℕ) → In rd → In rs → Within (next_code rd rs)
 next rd rs d s = ((d, tt), ((d, tt), ((d, tt), ((d, tt), ((d, tt), ((d, tt), ((d, tt), ((s, tt), tt))))))))
 
-puts : (rd : ℕ) (x : Operand) → In rd → StayWithin (into rd x)
+puts : (rd : ℕ) (x : Operand) → In rd → StayWithin false (into rd x)
 puts rd (operand.Reg r) h = ((h, tt), tt)
 puts rd (operand.Number v) h = (number rd v h, tt)
 puts rd (operand.Host name) h = (number rd (host_address name) h, tt)
 puts rd (operand.Label l) h = (h, tt)
 puts rd (operand.Slot k) h = tt
 
-through : (frame j : ℕ) (x : Operand) → StayWithin (into 5 x ++ stack_push j 5 ∷ ones (again frame))
+through : (frame j : ℕ) (x : Operand) → StayWithin false (into 5 x ++ stack_push j 5 ∷ ones (again frame))
 through frame j x = stay-append (into 5 x) (stack_push j 5 ∷ ones (again frame)) (puts 5 x refl) (tt, ((refl, tt), tt))
 
-stacked : (frame j : ℕ) (x : Operand) → StayWithin (onto_stack frame j x)
+stacked : (frame j : ℕ) (x : Operand) → StayWithin false (onto_stack frame j x)
 stacked frame j (operand.Reg r) = (tt, tt)
 stacked frame j (operand.Number v) = through frame j (operand.Number v)
 stacked frame j (operand.Host name) = through frame j (operand.Host name)
 stacked frame j (operand.Label l) = through frame j (operand.Label l)
 stacked frame j (operand.Slot k) = through frame j (operand.Slot k)
 
-pushes : (frame j : ℕ) (n : Node) → StayWithin (push_code frame j n)
+pushes : (frame j : ℕ) (n : Node) → StayWithin false (push_code frame j n)
 pushes frame j n = by (nat_lt j 6)
   where
-    by : (b : Bool) → StayWithin (if b then into (slice_index (argument_registers X86_64) j) (operand_at n 0) else onto_stack frame j (operand_at n 0))
+    by : (b : Bool) → StayWithin false (if b then into (slice_index (argument_registers X86_64) j) (operand_at n 0) else onto_stack frame j (operand_at n 0))
     by true = puts (slice_index (argument_registers X86_64) j) (operand_at n 0) (argument-fine j).1
     by false = stacked frame j (operand_at n 0)
 

@@ -1,5 +1,7 @@
 -- The items of these nodes fit their instructions, name the labels of their operands, and have at most one fix.
 use Rattle.std.specs.Prelude.{ℕ, ◌<◌, Bool, List}
+use Rattle.lg_base.specs.declared.target.Target.TheVariants.{X86_64}
+use Rattle.lg_carry.specs.Outside.{moves_stack}
 use Rattle.lg_op.specs.declared.node.Node.{Node}
 use Rattle.lg_sel.specs.Control.Standing.{IsFit}
 use Rattle.lg_sel.specs.GoodItems as good_items
@@ -20,4 +22,4 @@ ControlItemsFit =
 
 -- the items write no register that is outside of the conventions
 abbrev pub ControlItemsStay : Type 0
-ControlItemsStay = (r : Reach) (n : Node) (frame homes at : ℕ) → StayWithin (control_items r n.op n.operands frame homes at)
+ControlItemsStay = (r : Reach) (n : Node) (frame homes at : ℕ) → StayWithin (moves_stack X86_64 n.op) (control_items r n.op n.operands frame homes at)

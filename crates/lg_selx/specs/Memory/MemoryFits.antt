@@ -1,5 +1,5 @@
 -- What is asked of the items of loads, stores and arguments that are emitted.
-use Rattle.std.specs.Prelude.{◌≡◌, ℕ, ◌^◌, ◌<◌, ◌≤◌, Bool, List, [], length}
+use Rattle.std.specs.Prelude.{◌≡◌, ℕ, ◌^◌, ◌<◌, ◌≤◌, Bool, List, [], length, false}
 use Rattle.lg_base.specs.declared.target.Target.TheVariants.{X86_64}
 use Rattle.lg_op.specs.declared.node.Node.{Node}
 use Rattle.lg_op.specs.declared.op.Addressing.{Addressing}
@@ -25,16 +25,16 @@ use Rattle.lg_selx.specs.Memory.VariableArgumentCode.{next_argument_code}
 
 -- the registers that the items write: none that is outside of the conventions, with the choices for the needs of a store
 pub record MemoryItemsStay : Type 0 where
-  pub loads : (frame : ℕ) (t : ValueType) (at : Addressing) (n : Node) → StayWithin (ones (load_code frame t at n))
+  pub loads : (frame : ℕ) (t : ValueType) (at : Addressing) (n : Node) → StayWithin false (ones (load_code frame t at n))
   pub stores : (t : StoreType) (at : Addressing) (n : Node) (live : Reg → Bool) (staged : List Bool) (choices : List Choice)
-      → AreFor (around X86_64 n live staged) (store_needs at) [] (store_needs at) choices → StayWithin (store_items t at n choices)
-  pub arguments : (frame : ℕ) (t : ValueType) (n : Node) → StayWithin (ones (argument_code frame t n))
-  pub next_arguments : (n : Node) → StayWithin (ones (next_argument_code n))
-  pub pushes : (frame j : ℕ) (n : Node) → StayWithin (push_code frame j n)
+      → AreFor (around X86_64 n live staged) (store_needs at) [] (store_needs at) choices → StayWithin false (store_items t at n choices)
+  pub arguments : (frame : ℕ) (t : ValueType) (n : Node) → StayWithin false (ones (argument_code frame t n))
+  pub next_arguments : (n : Node) → StayWithin false (ones (next_argument_code n))
+  pub pushes : (frame j : ℕ) (n : Node) → StayWithin false (push_code frame j n)
 
 -- the items are in the ranges of their instructions, of which there are at most so many, with at most one fix, and each is followed by the next
 abbrev pub AreMemoryItems : ℕ → List Item → Type 0
-AreMemoryItems most items = good_items.AreFew x86_holes is_straight IsItem StaysWithin most items
+AreMemoryItems most items = good_items.AreFew x86_holes is_straight IsItem (StaysWithin false) most items
 
 -- at most one choice, which has a slot where its register is saved
 pub record AreStoreChoices (choices : List Choice) : Type 0 where

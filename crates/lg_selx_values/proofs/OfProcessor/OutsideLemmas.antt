@@ -33,40 +33,40 @@ use Rattle.lg_carry.specs.Outside.{is_outside}
 use Rattle.lg_selx_values.specs.Processor.Destinations.{WritesWithin, InstructionsStay}
 
 -- ---- what an instruction does to a register
-module _ (r : ℕ) (out : is_outside X86_64 r ≡ true) where
-  differs : (x : ℕ) → is_outside X86_64 x ≡ false → r ≡ x → ⊥
-  differs x within e = no (sym out ∙ ap (is_outside X86_64) e ∙ within)
+module _ (moves : Bool) (r : ℕ) (out : is_outside X86_64 moves r ≡ true) where
+  differs : (x : ℕ) → is_outside X86_64 moves x ≡ false → r ≡ x → ⊥
+  differs x within e = no (sym out ∙ ap (is_outside X86_64 moves) e ∙ within)
     where
       no : true ≡ false → ⊥
       no e = cc
 
-  other : (x : ℕ) → is_outside X86_64 x ≡ false → (r == x) ≡ false
+  other : (x : ℕ) → is_outside X86_64 moves x ≡ false → (r == x) ≡ false
   other x within = let n : r ≢ x = differs x within in grind (arith, nat_tests)
 
-  puts : (w : ℕ → ℕ) (x v : ℕ) → is_outside X86_64 x ≡ false → put w x v r ≡ w r
+  puts : (w : ℕ → ℕ) (x v : ℕ) → is_outside X86_64 moves x ≡ false → put w x v r ≡ w r
   puts w x v within = ap (λ (b : Bool). if b then v else w r) (other x within)
 
   abbrev Keeps : Scene → Option Scene → Type 0
   Keeps s o = IfSome o (λ t. t.registers r ≡ s.registers r)
 
-  keep-set : (s : Scene) (x v : ℕ) (flags : Flags) → is_outside X86_64 x ≡ false → Keeps s (sets s x v flags)
+  keep-set : (s : Scene) (x v : ℕ) (flags : Flags) → is_outside X86_64 moves x ≡ false → Keeps s (sets s x v flags)
   keep-set s x v flags h = puts s.registers x v h
 
   keep-either : (b : Bool) (s t u : Scene) → t.registers r ≡ s.registers r → u.registers r ≡ s.registers r → (if b then t else u).registers r ≡ s.registers r
   keep-either true s t u h k = h
   keep-either false s t u h k = k
 
-  keep-carry : (op : RmRegOp) (rm b : ℕ) (s : Scene) (o : Option Bool) → is_outside X86_64 rm ≡ false → Keeps s (with_carry op rm b s o)
+  keep-carry : (op : RmRegOp) (rm b : ℕ) (s : Scene) (o : Option Bool) → is_outside X86_64 moves rm ≡ false → Keeps s (with_carry op rm b s o)
   keep-carry op rm b s None h = tt
   keep-carry op rm b s (Some c) h =
       keep-either (is_kept_by op) s (with_flags s (alu_flags op s.flags (s.registers rm) b (bit c))) (with_register s rm (alu_value op (s.registers rm) b (bit c)) (alu_flags op s.flags (s.registers rm) b (bit c)))
       refl (puts s.registers rm (alu_value op (s.registers rm) b (bit c)) h)
 
-  keep-loaded : (op : LoadOp) (reg : ℕ) (s : Scene) (o : Option ℕ) → is_outside X86_64 reg ≡ false → Keeps s (sets_loaded op reg s o)
+  keep-loaded : (op : LoadOp) (reg : ℕ) (s : Scene) (o : Option ℕ) → is_outside X86_64 moves reg ≡ false → Keeps s (sets_loaded op reg s o)
   keep-loaded op reg s None h = tt
   keep-loaded op reg s (Some v) h = puts s.registers reg _ h
 
-  keep-load : (op : LoadOp) (reg address : ℕ) (s : Scene) → is_outside X86_64 reg ≡ false → Keeps s (loads op reg address s)
+  keep-load : (op : LoadOp) (reg address : ℕ) (s : Scene) → is_outside X86_64 moves reg ≡ false → Keeps s (loads op reg address s)
   keep-load Lea reg address s h = puts s.registers reg address h
   keep-load Ld64 reg address s h = keep-loaded Ld64 reg s (loaded s.bytes address 8) h
   keep-load Ld32u reg address s h = keep-loaded Ld32u reg s (loaded s.bytes address 4) h
@@ -90,7 +90,7 @@ module _ (r : ℕ) (out : is_outside X86_64 r ≡ true) where
   keep-quotient s None = tt
   keep-quotient s (Some p) = keep-wide s p.1 p.0 no_flags
 
-  keep-one : (op : UnaryOp) (rm : ℕ) (s : Scene) → is_outside X86_64 rm ≡ false → Keeps s (one_register op rm s)
+  keep-one : (op : UnaryOp) (rm : ℕ) (s : Scene) → is_outside X86_64 moves rm ≡ false → Keeps s (one_register op rm s)
   keep-one Not rm s h = puts s.registers rm _ h
   keep-one Neg rm s h = puts s.registers rm _ h
   keep-one Mul rm s h = keep-wide s (high_product (s.registers 0) (s.registers rm)) (mul_words (s.registers 0) (s.registers rm)) (product_flags (needs_high (s.registers 0) (s.registers rm)))
@@ -101,18 +101,18 @@ module _ (r : ℕ) (out : is_outside X86_64 r ≡ true) where
   keep-one Shr rm s h = puts s.registers rm _ h
   keep-one Sar rm s h = puts s.registers rm _ h
 
-  keep-pop : (reg : ℕ) (s : Scene) (o : Option ℕ) → is_outside X86_64 reg ≡ false → Keeps s (pops reg s o)
-  keep-pop reg s None h = tt
-  keep-pop reg s (Some v) h = puts (put s.registers 4 (add_words (s.registers 4) 8)) reg v h ∙ puts s.registers 4 _ refl
+  keep-pop : (reg : ℕ) (s : Scene) (o : Option ℕ) → is_outside X86_64 moves reg ≡ false → is_outside X86_64 moves 4 ≡ false → Keeps s (pops reg s o)
+  keep-pop reg s None h k = tt
+  keep-pop reg s (Some v) h k = puts (put s.registers 4 (add_words (s.registers 4) 8)) reg v h ∙ puts s.registers 4 _ k
 
-  keep-push : (value : ℕ) (s : Scene) → Keeps s (pushes value s)
-  keep-push value s = keep-store s (put s.registers 4 (sub_words (s.registers 4) 8)) (sub_words (s.registers 4) 8) 8 value (puts s.registers 4 _ refl)
+  keep-push : (value : ℕ) (s : Scene) → is_outside X86_64 moves 4 ≡ false → Keeps s (pushes value s)
+  keep-push value s h = keep-store s (put s.registers 4 (sub_words (s.registers 4) 8)) (sub_words (s.registers 4) 8) 8 value (puts s.registers 4 _ h)
 
-  keep-byte : (rm : ℕ) (s : Scene) (o : Option Bool) → is_outside X86_64 rm ≡ false → Keeps s (sets_byte rm s o)
+  keep-byte : (rm : ℕ) (s : Scene) (o : Option Bool) → is_outside X86_64 moves rm ≡ false → Keeps s (sets_byte rm s o)
   keep-byte rm s None h = tt
   keep-byte rm s (Some b) h = puts s.registers rm _ h
 
-  keep-made : (i : Instr) (s : Scene) → WritesWithin i → Keeps s (made i s)
+  keep-made : (i : Instr) (s : Scene) → WritesWithin moves i → Keeps s (made i s)
   keep-made (RmReg op rm reg) s h = keep-carry op rm (s.registers reg) s (carry_for op (carry_of s.flags)) h.0
   keep-made (Imm op rm imm) s h = keep-carry (alu_of op) rm (word_of imm) s (carry_for (alu_of op) (carry_of s.flags)) h.0
   keep-made (RegRm op reg rm) s h = puts s.registers reg _ h.0
@@ -125,8 +125,8 @@ module _ (r : ℕ) (out : is_outside X86_64 r ≡ true) where
   keep-made (Unary op rm) s h = keep-one op rm s h.0
   keep-made (Shift op rm count) s h = puts s.registers rm _ h.0
   keep-made (Bswap reg) s h = puts s.registers reg _ h.0
-  keep-made (Stack Push reg) s h = keep-push (s.registers reg) s
-  keep-made (Stack Pop reg) s h = keep-pop reg s (loaded s.bytes (s.registers 4) 8) h.0
+  keep-made (Stack Push reg) s h = keep-push (s.registers reg) s h.1.0
+  keep-made (Stack Pop reg) s h = keep-pop reg s (loaded s.bytes (s.registers 4) 8) h.0 h.1.0
   keep-made (Set cond rm) s h = keep-byte rm s (condition_holds cond s.flags) h.0
   keep-made (Bare Cqo) s h = puts s.registers 2 _ refl
   keep-made (Bare Nop) s h = refl
@@ -149,14 +149,14 @@ module _ (r : ℕ) (out : is_outside X86_64 r ≡ true) where
   stay-where q next target None = refl
   stay-where q next target (Some b) = refl
 
-  stay-return : (q : CpuState) (o : Option ℕ) → Stays q (returns q o)
-  stay-return q None = refl
-  stay-return q (Some target) = puts q.registers 4 _ refl
+  stay-return : (q : CpuState) (o : Option ℕ) → is_outside X86_64 moves 4 ≡ false → Stays q (returns q o)
+  stay-return q None h = refl
+  stay-return q (Some target) h = puts q.registers 4 _ h
 
-  stay-made : (i : Instr) (next : ℕ) (q : CpuState) → WritesWithin i → Stays q (goes_with q next (fault_of i) (made i (scene_of q)))
+  stay-made : (i : Instr) (next : ℕ) (q : CpuState) → WritesWithin moves i → Stays q (goes_with q next (fault_of i) (made i (scene_of q)))
   stay-made i next q h = stay-with q next (fault_of i) (made i (scene_of q)) (keep-made i (scene_of q) h)
 
-  stay-does : (i : Instr) (next : ℕ) (q : CpuState) → WritesWithin i → Stays q (does i next q)
+  stay-does : (i : Instr) (next : ℕ) (q : CpuState) → WritesWithin moves i → Stays q (does i next q)
   stay-does (RmReg op rm reg) next q h = stay-made (RmReg op rm reg) next q h
   stay-does (Imm op rm imm) next q h = stay-made (Imm op rm imm) next q h
   stay-does (RegRm op reg rm) next q h = stay-made (RegRm op reg rm) next q h
@@ -173,19 +173,19 @@ module _ (r : ℕ) (out : is_outside X86_64 r ≡ true) where
   stay-does (Set cond rm) next q h = stay-made (Set cond rm) next q h
   stay-does (Bare Cqo) next q h = stay-made (Bare Cqo) next q h
   stay-does (Bare Nop) next q h = stay-made (Bare Nop) next q h
-  stay-does (Bare Ret) next q h = stay-return q (loaded q.bytes (q.registers 4) 8)
+  stay-does (Bare Ret) next q h = stay-return q (loaded q.bytes (q.registers 4) 8) h.0
   stay-does (JumpIfShort cond distance) next q h = stay-where q next (add_words next (word_of distance)) (condition_holds cond q.flags)
   stay-does (JumpIfNear cond distance) next q h = stay-where q next (add_words next (word_of distance)) (condition_holds cond q.flags)
   stay-does (JumpShort distance) next q h = refl
   stay-does (JumpNear Jmp32 distance) next q h = refl
-  stay-does (JumpNear Call32 distance) next q h = stay-with q (add_words next (word_of distance)) Memory (pushes next (scene_of q)) (keep-push next (scene_of q))
+  stay-does (JumpNear Call32 distance) next q h = stay-with q (add_words next (word_of distance)) Memory (pushes next (scene_of q)) (keep-push next (scene_of q) h.0)
   stay-does (JumpReg Jmpr rm) next q h = refl
-  stay-does (JumpReg Callr rm) next q h = stay-with q (q.registers rm) Memory (pushes next (scene_of q)) (keep-push next (scene_of q))
+  stay-does (JumpReg Callr rm) next q h = stay-with q (q.registers rm) Memory (pushes next (scene_of q)) (keep-push next (scene_of q) h.0)
 
 pub instructions-stay : InstructionsStay
-instructions-stay code trash i within q r out = by q.progress
+instructions-stay code trash moves i within q r out = by q.progress
   where
     by : (x : Progress) → (on_going x (after q (act i (length (spelling i)) q.state)) q).state.registers r ≡ q.state.registers r
-    by Goes = stay-does r out i (add_words q.state.pc (length (spelling i))) q.state within
+    by Goes = stay-does moves r out i (add_words q.state.pc (length (spelling i))) q.state within
     by (EndedWith n) = refl
     by (Faulted kind) = refl
