@@ -15,14 +15,14 @@ use Rattle.lg_op.specs.declared.op.PlainOp.TheVariants as plain
 use Rattle.lg_node.specs.Functions.{is_prolog}
 use Rattle.lg_meaning.specs.Fits.{is_call}
 use Rattle.lg_meaning.specs.Reaching.{is_return}
-use Rattle.lg_temp.proofs.Steps.{iter-zero, iter-first, iter-plus}
+use Rattle.lg_temp.proofs.Steps.{iter-zero, iter-first, iter-plus, iter-suc}
 use Rattle.lg_carry.specs.Blocks.{StaysOutside, done, Along, Lowers, Raises, RunsBlock}
 use Rattle.lg_carry.specs.Carries.{leaps, moves_at, sinks_at, rises_at, KeepsOutside, Sinks, Rises}
 use Rattle.lg_carry.specs.FinalNodes.{Code}
 use Rattle.lg_carry.specs.Outside.{is_outside, calls_move, moves_stack}
 use Rattle.lg_carry.specs.Passages.{Turns}
 use Rattle.lg_carry.specs.Nodes.Stretches.{PassesIn}
-use Rattle.lg_carry.specs.Processors.{Processor, stack_of, DoesNotFall}
+use Rattle.lg_carry.specs.Processors.{Processor, stack_of, DoesNotFall, DoesNotRise}
 use Rattle.lg_carry.specs.Rows.{Rows}
 use Rattle.lg_carry.specs.TextNodes.{stands_inside}
 
@@ -102,6 +102,42 @@ return-no-sink o h = cc
 same-le : (m n : ℕ) → m ≡ n → m ≤ n
 same-le m n e = omega (arith, e)
 
+-- where steps begin behind the first one, and so does one behind them, all do
+pub ahead-more : {Q : Type 0} (P : Processor Q) (low m : ℕ) (q r : Q) → iter P.machine.step m q ≡ r → ((j : ℕ) → 0 < j → j < m → low < (P.seen (iter P.machine.step j q)).pc)
+    → (0 < m → low < (P.seen r).pc) → (j : ℕ) → 0 < j → j < m + 1 → low < (P.seen (iter P.machine.step j q)).pc
+ahead-more P low m q r there ahead last j some lt = ⊎_elim
+    (λ (l : j < m). ahead j some l)
+    (λ (g : m ≤ j). let e : m ≡ j = omega (arith, g, lt) in
+    subst (λ k. low < (P.seen (iter P.machine.step k q)).pc) e (subst (λ u. low < (P.seen u).pc) (sym there) (last (omega (arith, some, e)))))
+    (cases_lt j m)
+
+-- one step more sinks where it does not raise the stack pointer, and begins behind the first one
+pub sinks-last : {Q : Type 0} (P : Processor Q) (low m : ℕ) (q r u : Q) → Sinks P low m q → iter P.machine.step m q ≡ r → iter P.machine.step (m + 1) q ≡ u
+    → stack_of P.target (P.seen u) ≤ stack_of P.target (P.seen r) → (0 < m → low < (P.seen r).pc) → Sinks P low (m + 1) q
+sinks-last P low m q r u h here there le ahead = record { falls = falls; ahead = ahead-more P low m q r here h.ahead ahead }
+  where
+    next : P.machine.step r ≡ u
+    next = ap P.machine.step (sym here) ∙ sym (iter-suc P.machine.step m q) ∙ (let e : suc m ≡ m + 1 = omega arith in ap (λ k. iter P.machine.step k q) e) ∙ there
+
+    falls : (j : ℕ) → j < m + 1 → DoesNotRise P (iter P.machine.step j q)
+    falls j lt = ⊎_elim
+        (λ (l : j < m). h.falls j l)
+        (λ (g : m ≤ j). let e : m ≡ j = omega (arith, g, lt) in
+        subst (λ k. DoesNotRise P (iter P.machine.step k q)) e (subst (DoesNotRise P) (sym here) (let n = ap (λ z. stack_of P.target (P.seen z)) next in omega (arith, le, n))))
+        (cases_lt j m)
+
+-- and one rises where it does not lower it
+pub rises-last : {Q : Type 0} (P : Processor Q) (m : ℕ) (q r u : Q) → Rises P m q → iter P.machine.step m q ≡ r → iter P.machine.step (m + 1) q ≡ u
+    → stack_of P.target (P.seen r) ≤ stack_of P.target (P.seen u) → Rises P (m + 1) q
+rises-last P m q r u h here there le j lt = ⊎_elim
+    (λ (l : j < m). h j l)
+    (λ (g : m ≤ j). let e : m ≡ j = omega (arith, g, lt) in
+    subst (λ k. DoesNotFall P (iter P.machine.step k q)) e (subst (DoesNotFall P) (sym here) (let n = ap (λ z. stack_of P.target (P.seen z)) next in omega (arith, le, n))))
+    (cases_lt j m)
+  where
+    next : P.machine.step r ≡ u
+    next = ap P.machine.step (sym here) ∙ sym (iter-suc P.machine.step m q) ∙ (let e : suc m ≡ m + 1 = omega arith in ap (λ k. iter P.machine.step k q) e) ∙ there
+
 stack-outside : (target : Target) → is_outside target false (stack_register target) ≡ true
 stack-outside X86_64 = refl
 stack-outside Aarch64 = refl
@@ -115,15 +151,6 @@ keeps-stack P q k = k (stack_register P.target) (stack-outside P.target)
 pub still-sinks : {Q : Type 0} (P : Processor Q) (low high steps : ℕ) (q u : Q) → PassesIn P false low high steps q u
     → ((j : ℕ) → 0 < j → j < steps → low < (P.seen (iter P.machine.step j q)).pc) → Sinks P low steps q
 still-sinks P low high steps q u h ahead = record { falls = λ j lt. same-le _ _ (keeps-stack P (iter P.machine.step j q) (h.outside j lt)); ahead = ahead }
-
--- where steps begin behind the first one, and so does one behind them, all do
-pub ahead-more : {Q : Type 0} (P : Processor Q) (low m : ℕ) (q r : Q) → iter P.machine.step m q ≡ r → ((j : ℕ) → 0 < j → j < m → low < (P.seen (iter P.machine.step j q)).pc)
-    → (0 < m → low < (P.seen r).pc) → (j : ℕ) → 0 < j → j < m + 1 → low < (P.seen (iter P.machine.step j q)).pc
-ahead-more P low m q r there ahead last j some lt = ⊎_elim
-    (λ (l : j < m). ahead j some l)
-    (λ (g : m ≤ j). let e : m ≡ j = omega (arith, g, lt) in
-    subst (λ k. low < (P.seen (iter P.machine.step k q)).pc) e (subst (λ u. low < (P.seen u).pc) (sym there) (last (omega (arith, some, e)))))
-    (cases_lt j m)
 
 -- so does one of them
 pub one-sinks : {Q : Type 0} (P : Processor Q) (low high : ℕ) (q u : Q) → PassesIn P false low high 1 q u → Sinks P low 1 q
@@ -181,3 +208,29 @@ module _ {Q I : Type 0} (R : Rows Q I) where
   pub still-raises : (is : List I) (q : Q) → All (StaysOutside R false) is → Along R.does (Raises R) is q
   still-raises [] q h = tt
   still-raises (i ∷ is) q h = (same-le _ _ (sym (kept i q (h 0 i (omega arith)))), still-raises is (R.does i q) (λ k d lt. h (suc k) d (omega (arith, lt))))
+
+  -- behind them the stack pointer is what it was
+  pub still-done : (is : List I) (q : Q) → All (StaysOutside R false) is → stack_of R.processor.target (R.processor.seen (done R.does is q)) ≡ stack_of R.processor.target (R.processor.seen q)
+  still-done [] q h = refl
+  still-done (i ∷ is) q h = still-done is (R.does i q) (λ k d lt. h (suc k) d (omega (arith, lt))) ∙ kept i q (h 0 i (omega arith))
+
+  pub done-append : (xs ys : List I) (q : Q) → done R.does (xs ++ ys) q ≡ done R.does ys (done R.does xs q)
+  done-append [] ys q = refl
+  done-append (x ∷ xs) ys q = done-append xs ys (R.does x q)
+
+  -- where only the last one moves it
+  pub last-lowers : (front : List I) (x : I) (q u : Q) → All (StaysOutside R false) front → done R.does (front ++ (x ∷ [])) q ≡ u
+      → stack_of R.processor.target (R.processor.seen u) ≤ stack_of R.processor.target (R.processor.seen q) → Along R.does (Lowers R) (front ++ (x ∷ [])) q
+  last-lowers front x q u h there le =
+      let same = still-done front q h in
+      let end : R.does x (done R.does front q) ≡ u = sym (done-append front (x ∷ []) q) ∙ there in
+      let level = ap (λ z. stack_of R.processor.target (R.processor.seen z)) end in
+      along-append (Lowers R) front (x ∷ []) q (still-lowers front q h) (omega (arith, le, same, level), tt)
+
+  pub last-raises : (front : List I) (x : I) (q u : Q) → All (StaysOutside R false) front → done R.does (front ++ (x ∷ [])) q ≡ u
+      → stack_of R.processor.target (R.processor.seen q) ≤ stack_of R.processor.target (R.processor.seen u) → Along R.does (Raises R) (front ++ (x ∷ [])) q
+  last-raises front x q u h there le =
+      let same = still-done front q h in
+      let end : R.does x (done R.does front q) ≡ u = sym (done-append front (x ∷ []) q) ∙ there in
+      let level = ap (λ z. stack_of R.processor.target (R.processor.seen z)) end in
+      along-append (Raises R) front (x ∷ []) q (still-raises front q h) (omega (arith, le, same, level), tt)

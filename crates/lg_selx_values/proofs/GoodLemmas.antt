@@ -24,7 +24,7 @@ good-append = lists.each-append IsGood
 pub within-of : (is : List Instr) → AreGood is → Within is
 within-of = lists.each-weaker IsGood (WritesWithin false) (λ i h. h.1)
 
-number-within : (r v : ℕ) → In r → WritesWithin false (number_row r v)
+pub number-within : (r v : ℕ) → In r → WritesWithin false (number_row r v)
 number-within r v h = by (nat_lt v (2 ^ 32)) (is_half v)
   where
     by : (b c : Bool) → WritesWithin false (if b then Movi32 r v else if c then Movs32 r (signed_view v) else Movi64 r v)

@@ -59,8 +59,8 @@ module _ (code : List ℕ) (trash : ℕ) (small : length code ≤ most_code) (by
       let count : ℕ = padding from n in
       let size = idle-length no_op count in
       let spelled = idle-bytes count in
-      let m : Made code trash small bytes word from (align_code from n) (scene_of q.state) q =
-      made-passed code trash small bytes word from (align_code from n) q (scene_of q.state) k (idle-makes count (scene_of q.state))
+      let m : Made false code trash small bytes word from (align_code from n) (scene_of q.state) q =
+      made-passed false code trash small bytes word from (align_code from n) q (scene_of q.state) k (idle-makes count (scene_of q.state))
       (still-above (idle count) (scene_of q.state) (idle-still count)) runs at next.high in
       walked (x86_processor code trash) (λ x. false) (λ x e. cc) from (behind (x86_rows code trash) from (align_code from n))
       (behind (x86_rows code trash) from (align_code from n)) (length (align_code from n)) q m.end m.passes

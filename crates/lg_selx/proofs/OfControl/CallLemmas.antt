@@ -2,6 +2,10 @@
 use Rattle.std.proofs.Common.{◌≡◌, ◌≢◌, ℕ, zero, suc, ◌+◌, ◌-◌, ◌^◌, ◌<◌, ◌≤◌, ◌⊎◌, true, false, List, [], ◌∷◌, ◌++◌, Some, None, refl, sym, ap, ◌∙◌, subst, arith, length}
 use Rattle.std.specs.List.{list_all}
 use Rattle.std.specs.Prelude.{pos, ◌-ℤ◌, slice_index, if◌then◌else◌}
+use Rattle.lg_sel.specs.Holes.{Each}
+use Rattle.lg_selx_values.specs.Processor.Destinations.{WritesWithin}
+use Rattle.lg_carry.proofs.TurnLemmas.{still-done, still-lowers, block-sinks, sinks-last}
+use Rattle.lg_carry.specs.Carries.{Sinks}
 use Rattle.lg_base.specs.Conventions.{argument_registers, portable_register}
 use Rattle.lg_base.specs.HostNames.{host_address}
 use Rattle.lg_base.specs.Layout.{code_base, most_code, least_frame, stack_end}
@@ -36,7 +40,7 @@ use Rattle.lg_sel.specs.X86Touched.{touched, beneath}
 use Rattle.lg_selx_values.specs.Processor.X86Rows.{x86_processor, x86_rows, x86_seen}
 use Rattle.lg_selx_values.proofs.OfProcessor.MakingLemmas.{still-above}
 use Rattle.lg_carry.specs.Nodes.Leaps.{CallsLead, HostCallsLead}
-use Rattle.lg_carry.specs.Nodes.Stretches.{HasFrame, StandsAt, behind, Arrival}
+use Rattle.lg_carry.specs.Nodes.Stretches.{HasFrame, StandsAt, behind, Arrival, PassesIn}
 use Rattle.lg_sel.specs.Control.RegisterLeaps.{RegisterCallsLead, RegisterHostCallsLead}
 use Rattle.lg_sel.proofs.OfControl.ChainLemmas.{runs-there}
 use Rattle.lg_sel.proofs.OfControl.HostEntryLemmas.{entry-runs}
@@ -44,7 +48,7 @@ use Rattle.lg_selx_values.proofs.RegisterLemmas.{put-same, put-other}
 use Rattle.lg_selx.specs.Control.Calls.{call_code}
 use Rattle.lg_selx.specs.Control.HostCalls.{host_code, x86_ready}
 use Rattle.lg_selx.specs.Control.RegisterLeaps.{register_call_code}
-use Rattle.lg_selx.proofs.OfControl.StretchLemmas.{front_run, front_state, front-top, front-passed}
+use Rattle.lg_selx.proofs.OfControl.StretchLemmas.{front_run, front_state, front-top, front-passed, front-block, front-behind, spelled-some, all-still}
 use Rattle.lg_selx.proofs.OfControl.WalkLemmas.{leads-there}
 
 -- ---- the word that is pushed
@@ -75,13 +79,13 @@ module _ (code : List ℕ) (trash : ℕ) (small : length code ≤ most_code) (by
   high = behind (x86_rows code trash) from (front ++ (x ∷ []))
 
   abbrev last : CpuState
-  last = front_state code trash small bytes word from front x q (scene W q.state.flags q.state.bytes) k made runs at
+  last = front_state true code trash small bytes word from front x q (scene W q.state.flags q.state.bytes) k made runs at
 
   abbrev sp : ℕ
   sp = q.state.registers 4
 
   top : high ≤ code_base + most_code
-  top = front-top code trash small bytes word from front x q (scene W q.state.flags q.state.bytes) k made runs at
+  top = front-top true code trash small bytes word from front x q (scene W q.state.flags q.state.bytes) k made runs at
 
   stack-top : sp ≤ stack_end
   stack-top = let h = f.high in omega (arith, h)
@@ -122,12 +126,37 @@ module _ (code : List ℕ) (trash : ℕ) (small : length code ≤ most_code) (by
       let word : sub_words (W 4) 8 ≡ sp - 8 = ap (λ z. sub_words z 8) lower ∙ eight-below sp f.low stack-top in
       subst (IsOff (is_below X86_64 (W 4))) (sym touches) (λ a le lt. in-zone (W 4) a (omega (arith, le, word, lower)))
 
-  pub call-arrival : list_all is_still front ≡ true → touched x W ≡ beneath W → does x high last ≡ goes_with last to Memory (pushes high (scene_of last)) → Arrival (x86_processor code trash) from high sp high to q
-  call-arrival still touches acts = record {
-    end = after (front_run code trash small bytes word from front x q (scene W q.state.flags q.state.bytes) k made runs at) e;
+  abbrev r : Run CpuState
+  r = front_run true code trash small bytes word from front x q (scene W q.state.flags q.state.bytes) k made runs at
+
+  abbrev u : Run CpuState
+  u = after r e
+
+  passes-it : list_all is_still front ≡ true → touched x W ≡ beneath W → does x high last ≡ goes_with last to Memory (pushes high (scene_of last))
+      → PassesIn (x86_processor code trash) true from high (length front + 1) q u
+  passes-it still touches acts = front-passed true code trash small bytes word from front x q (scene W q.state.flags q.state.bytes) k made runs at
+      (still-above front (scene_of q.state) still) (pushes-above touches) e (acts ∙ is-pushed)
+
+  -- the stack pointer stays in front of the call, which lets it fall
+  sinks-it : Each (WritesWithin false) front → list_all is_still front ≡ true → PassesIn (x86_processor code trash) true from high (length front + 1) q u
+      → Sinks (x86_processor code trash) from (length front + 1) q
+  sinks-it within still pass =
+      let above = still-above front (scene_of q.state) still in
+      let block = front-block true code trash small bytes word from front x q (scene W q.state.flags q.state.bytes) k made runs at above in
+      let behind-it = front-behind true code trash small bytes word from front x q (scene W q.state.flags q.state.bytes) k made runs at above in
+      let level = still-done (x86_rows code trash) front q (all-still code trash front within) in
+      let same-stack : u.state.registers 4 ≡ sp - 8 = put-same W 4 (sp - 8) in
+      let begins = block-sinks (x86_rows code trash) front q from block (still-lowers (x86_rows code trash) front q (all-still code trash front within)) at in
+      sinks-last (x86_processor code trash) from (length front) q r u begins block.leads pass.leads (omega (arith, level, same-stack))
+      (λ some. let l = spelled-some front some in omega (arith, l, behind-it))
+
+  pub call-arrival : Each (WritesWithin false) front → list_all is_still front ≡ true → touched x W ≡ beneath W → does x high last ≡ goes_with last to Memory (pushes high (scene_of last))
+      → Arrival (x86_processor code trash) from high sp high to q
+  call-arrival within still touches acts = record {
+    end = u;
     steps = length front + 1;
-    passes = front-passed code trash small bytes word from front x q (scene W q.state.flags q.state.bytes) k made runs at
-        (still-above front (scene_of q.state) still) (pushes-above touches) e (acts ∙ is-pushed);
+    passes = passes-it still touches acts;
+    sinks = sinks-it within still (passes-it still touches acts);
     few = omega (arith, few);
     some = omega arith;
     runs = there;
@@ -148,10 +177,10 @@ module _ (code : List ℕ) (trash : ℕ) (small : length code ≤ most_code) (by
   calls-lead frame from to q f k there runs at =
       let x : Instr = instr.JumpNear Call32 (pos to -ℤ pos (from + 5)) in
       let high : ℕ = behind (x86_rows code trash) from (call_code from to) in
-      let top = front-top code trash small bytes word from [] x q (scene_of q.state) k refl runs at in
-      let last : CpuState = front_state code trash small bytes word from [] x q (scene_of q.state) k refl runs at in
+      let top = front-top true code trash small bytes word from [] x q (scene_of q.state) k refl runs at in
+      let last : CpuState = front_state true code trash small bytes word from [] x q (scene_of q.state) k refl runs at in
       let t = there.high in
-      call-arrival code trash small bytes word from to frame [] x q.state.registers q f k refl (omega arith) runs at (runs-there to there.low) (λ z n m. refl) refl refl
+      call-arrival code trash small bytes word from to frame [] x q.state.registers q f k refl (omega arith) runs at (runs-there to there.low) (λ z n m. refl) tt refl refl
       (ap (λ y. goes_with last y Memory (pushes high (scene_of last))) (leads-there high (from + 5) to (omega arith) (omega (arith, top)) (omega (arith, t))))
 
   -- of the word in r11, with al = 0
@@ -171,9 +200,9 @@ module _ (code : List ℕ) (trash : ℕ) (small : length code ≤ most_code) (by
       let x : Instr = instr.JumpReg Callr 11 in
       let front : List Instr = instr.RmReg Mov 11 (register_of X86_64 a) ∷ (instr.Movi32 0 0 ∷ []) in
       let high : ℕ = behind (x86_rows code trash) from (register_call_code frame a) in
-      let last : CpuState = front_state code trash small bytes word from front x q (scene W q.state.flags q.state.bytes) k refl runs at in
+      let last : CpuState = front_state true code trash small bytes word from front x q (scene W q.state.flags q.state.bytes) k refl runs at in
       call-arrival code trash small bytes word from to frame front x W q f k refl (omega arith) runs at there
-      (λ z n m. moves-keep q.state.registers (q.state.registers (register_of X86_64 a)) z n m) refl refl
+      (λ z n m. moves-keep q.state.registers (q.state.registers (register_of X86_64 a)) z n m) ((refl, tt), ((refl, tt), tt)) refl refl
       (ap (λ y. goes_with last y Memory (pushes high (scene_of last))) is)
 
   pub register-calls-lead : RegisterCallsLead (x86_rows code trash) IsInstr register_call_code
@@ -199,7 +228,7 @@ module _ (code : List ℕ) (trash : ℕ) (small : length code ≤ most_code) (by
       let W : ℕ → ℕ = behind_moves q.state.registers (host_address name) in
       let front : List Instr = instr.Movi32 11 (host_address name) ∷ (instr.Movi32 0 0 ∷ []) in
       call-arrival code trash small bytes word from (host_address name) frame front (instr.JumpReg Callr 11) W q f k refl (omega arith) runs at
-      (entry-runs name) (λ z n m. moves-keep q.state.registers (host_address name) z n m) refl refl refl
+      (entry-runs name) (λ z n m. moves-keep q.state.registers (host_address name) z n m) ((refl, tt), ((refl, tt), tt)) refl refl refl
 
   pub host-calls-lead : HostCallsLead (x86_rows code trash) x86_ready IsInstr host_code
   unfolding host-arrival call-arrival

@@ -1,9 +1,14 @@
 -- A `prolog` makes the frame.
-use Rattle.std.proofs.Common.{◌≡◌, ℕ, zero, suc, ◌+◌, ◌-◌, ◌*◌, ◌^◌, ◌<◌, ◌≤◌, ◌⊎◌, inl, inr, true, List, [], ◌∷◌, ◌++◌, Option, Some, refl, sym, ap, ◌∙◌, subst, arith, length}
+use Rattle.std.proofs.Common.{◌≡◌, ℕ, zero, suc, ◌+◌, ◌-◌, ◌*◌, ◌^◌, ◌<◌, ◌≤◌, ◌⊎◌, inl, inr, true, List, [], ◌∷◌, ◌++◌, Option, Some, refl, sym, ap, ◌∙◌, subst, arith, length, false}
 use Rattle.std.specs.List.{list_all}
 use Rattle.std.specs.Prelude.{◌==◌, not, min, negsuc, slice_index, take}
 use Rattle.std.proofs.lemmas.List.{length-take}
 use Rattle.std.specs.Option.{option_and_then}
+use Rattle.lg_sel.specs.Holes.{Each}
+use Rattle.lg_selx_values.specs.Processor.Destinations.{WritesWithin}
+use Rattle.lg_carry.proofs.TurnLemmas.{last-lowers}
+use Rattle.lg_carry.specs.Blocks.{done, Along, Lowers}
+use Rattle.lg_carry.specs.Carries.{Sinks}
 use Rattle.lg_base.specs.Conventions.{argument_registers, portable_register}
 use Rattle.lg_base.specs.Fields.{word_of}
 use Rattle.lg_base.specs.Layout.{most_code, stack_end, least_frame, frame_pointer, return_word, saved_word, home_word}
@@ -29,17 +34,17 @@ use Rattle.lg_carry.proofs.WordLemmas.{word-kept}
 use Rattle.lg_selx_values.specs.Processor.MakingNodes.{scene}
 use Rattle.lg_selx_values.proofs.OfProcessor.SlotLemmas.{in-zone}
 use Rattle.lg_carry.proofs.BlockLemmas.{no-width}
-use Rattle.lg_selx_values.specs.Processor.Makings.{makes, is_still, AreAbove}
-use Rattle.lg_selx_values.proofs.OfProcessor.MakingLemmas.{still-above, above-first}
-use Rattle.lg_selx_values.specs.Processor.X86Rows.{x86_processor, x86_rows, x86_seen}
+use Rattle.lg_selx_values.specs.Processor.Makings.{makes, is_still, AreAbove, RunsMakings}
+use Rattle.lg_selx_values.proofs.OfProcessor.MakingLemmas.{still-above, above-first, makings-run}
+use Rattle.lg_selx_values.specs.Processor.X86Rows.{x86_processor, x86_rows, x86_seen, x86_does}
 use Rattle.lg_carry.specs.Nodes.Stretches.{StandsAt, behind}
 use Rattle.lg_sel.specs.Control.Prologs.{Entrance, PrologsLead}
 use Rattle.lg_sel.proofs.OfControl.EntranceLemmas.{taken-at}
 use Rattle.lg_sel.proofs.OfControl.StoreLemmas.{word_below, with_stored, HasStack, mapped-below, stored-off, stored-word, take-all}
 use Rattle.lg_sel.proofs.OfControl.StoreLemmas.{stores-before, stored-besides}
-use Rattle.lg_selx.specs.Control.Prologs.{lowered, stored_registers, store_word, stores_below, prolog_code}
+use Rattle.lg_selx.specs.Control.Prologs.{lowered, stored_registers, store_word, stores_below, prolog_code, lower}
 use Rattle.lg_selx.proofs.OfControl.SpareLemmas.{lower-is}
-use Rattle.lg_selx.proofs.OfControl.StretchLemmas.{Made, stands-high, made-passed}
+use Rattle.lg_selx.proofs.OfControl.StretchLemmas.{Made, stands-high, made-passed, made-sunk, all-still}
 
 -- ---- the stores
 first-address : (sp : ℕ) → 0x3FF00010 + 272 ≤ sp → sp ≤ 0x40000000 → add_words (sp - 8) (word_of (negsuc 7)) ≡ sp - 16
@@ -156,11 +161,34 @@ module _ (code : List ℕ) (trash : ℕ) (small : length code ≤ most_code) (by
   abbrev all : List Instr
   all = prolog_code size homes
 
-  done-it : Made code trash small bytes-small trash-word from all (scene W q.state.flags b) q
-  done-it = made-passed code trash small bytes-small trash-word from all q (scene W q.state.flags b) k
+  done-it : Made true code trash small bytes-small trash-word from all (scene W q.state.flags b) q
+  done-it = made-passed true code trash small bytes-small trash-word from all q (scene W q.state.flags b) k
       (prolog-makes size homes sp v q.state.flags q.state.bytes large room top at (λ j e. seen.stack j e))
       (prolog-above size homes sp v q.state.flags q.state.bytes large room top at (λ j e. seen.stack j e)) runs here
-      (stands-high code trash small bytes-small trash-word from all (omega arith) k)
+      (stands-high true code trash small bytes-small trash-word from all (omega arith) k)
+
+  ran : RunsMakings all q (scene W q.state.flags b)
+  ran = makings-run all q (scene W q.state.flags b) (prolog-makes size homes sp v q.state.flags q.state.bytes large room top at (λ j e. seen.stack j e))
+      (prolog-above size homes sp v q.state.flags q.state.bytes large room top at (λ j e. seen.stack j e)) runs (let l = k.low in omega (arith, l, here))
+      (let h = stands-high true code trash small bytes-small trash-word from all (omega arith) k in omega (arith, h, here))
+
+  -- the last of them alone moves the stack pointer
+  abbrev front : List Instr
+  front = instr.Store St64 4 (negsuc 7) 5 ∷ (instr.Load Lea 5 4 (negsuc 7) ∷ stores_below (stored_registers homes) 2)
+
+  stores-within : (rs : List ℕ) (j : ℕ) → Each (WritesWithin false) (stores_below rs j)
+  stores-within [] j = tt
+  stores-within (x ∷ rs) j = (tt, stores-within rs (suc j))
+
+  along : Along x86_does (Lowers (x86_rows code trash)) all q
+  along =
+      let stack : (done x86_does all q).state.registers 4 ≡ sp - size = ap (λ (s : Scene). s.registers 4) ran.scene in
+      last-lowers (x86_rows code trash) front (instr.Load Lea 4 5 (lower size)) q (done x86_does all q)
+      (all-still code trash front (tt, ((refl, tt), stores-within (stored_registers homes) 2))) refl (omega (arith, stack, at, large))
+
+  sinks-it : Sinks (x86_processor code trash) from (length all) q
+  sinks-it = made-sunk true code trash small bytes-small trash-word from all q (scene W q.state.flags b) k
+      (prolog-makes size homes sp v q.state.flags q.state.bytes large room top at (λ j e. seen.stack j e)) ran here along
 
   registers-are : done-it.end.state.registers ≡ W
   registers-are = ap (λ (s : Scene). s.registers) done-it.scene
@@ -235,6 +263,7 @@ module _ (code : List ℕ) (trash : ℕ) (small : length code ≤ most_code) (by
     end = done-it.end;
     steps = length all;
     passes = done-it.passes;
+    sinks = sinks-it;
     few = omega (arith, all-long);
     some = omega arith;
     runs = done-it.runs;

@@ -1,8 +1,17 @@
 -- Returns leave their frame.
-use Rattle.std.proofs.Common.{◌≡◌, ℕ, zero, suc, ◌+◌, ◌-◌, ◌^◌, ◌<◌, ◌≤◌, List, [], ◌∷◌, ◌++◌, Option, Some, None, refl, ap, ◌∙◌, subst, arith, length, true}
+use Rattle.std.proofs.Common.{◌≡◌, ℕ, zero, suc, ◌+◌, ◌-◌, ◌^◌, ◌<◌, ◌≤◌, List, [], ◌∷◌, ◌++◌, Option, Some, None, refl, ap, ◌∙◌, subst, arith, length, true, false, sym}
 use Rattle.std.proofs.Common.{append_assoc, length-append}
 use Rattle.std.specs.Prelude.{ℤ, pos, negsuc}
 use Rattle.std.specs.Option.{option_and_then}
+use Rattle.std.specs.List.{All}
+use Rattle.lg_sel.proofs.ListLemmas.{each-append}
+use Rattle.lg_sel.specs.Holes.{Each}
+use Rattle.lg_selx_values.proofs.GoodLemmas.{number-within}
+use Rattle.lg_selx_values.specs.Processor.Destinations.{WritesWithin}
+use Rattle.lg_carry.proofs.TurnLemmas.{still-done, done-append, along-append, last-raises, still-raises, block-rises, rises-last}
+use Rattle.lg_carry.specs.Rows.{Rows}
+use Rattle.lg_carry.specs.Blocks.{done, Along, Raises, RunsBlock, StaysOutside}
+use Rattle.lg_carry.specs.Carries.{Rises}
 use Rattle.lg_base.specs.Conventions.{portable_register}
 use Rattle.lg_base.specs.Fields.{word_of}
 use Rattle.lg_base.specs.Layout.{most_code, frame_pointer, return_word, saved_word}
@@ -29,7 +38,7 @@ use Rattle.lg_carry.specs.Processors.{IsOff, is_below}
 use Rattle.lg_selx_values.proofs.OfProcessor.SlotLemmas.{in-zone}
 use Rattle.lg_carry.proofs.BlockLemmas.{no-width}
 use Rattle.lg_selx_values.specs.Processor.Makings.{makes, AreAbove}
-use Rattle.lg_selx_values.specs.Processor.X86Rows.{x86_processor, x86_rows, x86_seen}
+use Rattle.lg_selx_values.specs.Processor.X86Rows.{x86_processor, x86_rows, x86_seen, x86_does}
 use Rattle.lg_selx_values.proofs.OfProcessor.MakingLemmas.{makes-append, makings-still, still-above, above-append, above-first}
 use Rattle.lg_selx_values.proofs.OfProcessor.NumberCodeLemmas.{row-loads}
 use Rattle.lg_carry.specs.Nodes.Stretches.{HasFrame, StandsAt, behind, PassesIn}
@@ -39,7 +48,7 @@ use Rattle.lg_sel.proofs.OfControl.FrameWordLemmas.{word_at, stack-word, saved-a
 use Rattle.lg_sel.proofs.OfControl.StoreLemmas.{HasStack}
 use Rattle.lg_selx_values.proofs.BinaryCodeLemmas.{some-same}
 use Rattle.lg_selx.specs.Control.Returns.{restore_code, result_code, returned_code}
-use Rattle.lg_selx.proofs.OfControl.StretchLemmas.{front_run, front_state, front-passed}
+use Rattle.lg_selx.proofs.OfControl.StretchLemmas.{front_run, front_state, front-passed, front-block, front-left, all-still}
 
 -- ---- the word that is returned
 -- it is in rax, and FP stays
@@ -78,6 +87,14 @@ results (OfLabel address) s ok = record {
   stack = refl;
   few = omega arith;
 }
+
+-- what makes it writes no stack pointer
+result-within : (r : Returned) → Each (WritesWithin false) (result_code r)
+result-within NoWord = tt
+result-within (OfRegister R0) = tt
+result-within (OfRegister a) = ((refl, tt), tt)
+result-within (OfNumber v) = (number-within 0 v refl, tt)
+result-within (OfLabel address) = ((refl, tt), tt)
 
 -- ---- the words of the frame
 -- a load by FP
@@ -199,17 +216,60 @@ module _ (code : List ℕ) (trash : ℕ) (small : length code ≤ most_code) (by
   high = behind (x86_rows code trash) from (front ++ (instr.Bare Ret ∷ []))
 
   abbrev last : CpuState
-  last = front_state code trash small bytes word from front (instr.Bare Ret) q (scene w q.state.flags m) k made-all runs at
+  last = front_state true code trash small bytes word from front (instr.Bare Ret) q (scene w q.state.flags m) k made-all runs at
 
   abbrev e : Effect CpuState
   e = arrives back (put w 4 (add_words (w 4) 8)) q.state.flags m q.state.mark
 
   abbrev u : Run CpuState
-  u = after (front_run code trash small bytes word from front (instr.Bare Ret) q (scene w q.state.flags m) k made-all runs at) e
+  u = after (front_run true code trash small bytes word from front (instr.Bare Ret) q (scene w q.state.flags m) k made-all runs at) e
 
   pass : PassesIn (x86_processor code trash) true from high (length front + 1) q u
-  pass = front-passed code trash small bytes word from front (instr.Bare Ret) q (scene w q.state.flags m) k made-all runs at above-all
+  pass = front-passed true code trash small bytes word from front (instr.Bare Ret) q (scene w q.state.flags m) k made-all runs at above-all
       (λ a le lt. in-zone (sp - 8) a (omega (arith, le))) e (ap (returns last) held)
+
+  -- the stack pointer rises where FP is its word's address, and at the return
+  abbrev first : List Instr
+  first = result_code r ++ (instr.Load Ld64 3 5 (negsuc 7) ∷ (instr.Load Ld64 13 5 (negsuc 15) ∷ (instr.Load Ld64 14 5 (negsuc 23) ∷ [])))
+
+  abbrev middle : List Instr
+  middle = first ++ (instr.Load Lea 4 5 (pos 8) ∷ [])
+
+  split : front ≡ middle ++ (instr.Load Ld64 5 5 (pos 0) ∷ [])
+  split = sym (append_assoc first (instr.Load Lea 4 5 (pos 8) ∷ []) (instr.Load Ld64 5 5 (pos 0) ∷ [])
+      ∙ append_assoc (result_code r) (instr.Load Ld64 3 5 (negsuc 7) ∷ (instr.Load Ld64 13 5 (negsuc 15) ∷ (instr.Load Ld64 14 5 (negsuc 23) ∷ [])))
+      (instr.Load Lea 4 5 (pos 8) ∷ (instr.Load Ld64 5 5 (pos 0) ∷ [])))
+
+  abbrev R : Rows (Run CpuState) Instr
+  R = x86_rows code trash
+
+  last-still : All (StaysOutside R false) (instr.Load Ld64 5 5 (pos 0) ∷ [])
+  last-still = all-still code trash (instr.Load Ld64 5 5 (pos 0) ∷ []) ((refl, tt), tt)
+
+  ran-run : RunsBlock R front q
+  ran-run = front-block true code trash small bytes word from front (instr.Bare Ret) q (scene w q.state.flags m) k made-all runs at above-all
+
+  front-stack : (done x86_does front q).state.registers 4 ≡ sp - 8
+  front-stack = ap (λ (s : CpuState). s.registers 4) (front-left true code trash small bytes word from front (instr.Bare Ret) q (scene w q.state.flags m) k made-all runs at above-all)
+
+  middle-stack : (done x86_does middle q).state.registers 4 ≡ sp - 8
+  middle-stack = sym (still-done R (instr.Load Ld64 5 5 (pos 0) ∷ []) (done x86_does middle q) last-still)
+      ∙ ap (λ (z : Run CpuState). z.state.registers 4) (sym (done-append R middle (instr.Load Ld64 5 5 (pos 0) ∷ []) q)) ∙ ap (λ is. (done x86_does is q).state.registers 4) (sym split) ∙ front-stack
+
+  front-along : Along x86_does (Raises R) front q
+  front-along =
+      let l = f.large in
+      subst (λ is. Along x86_does (Raises R) is q) (sym split)
+      (along-append R (Raises R) middle (instr.Load Ld64 5 5 (pos 0) ∷ []) q
+      (last-raises R first (instr.Load Lea 4 5 (pos 8)) q (done x86_does middle q)
+      (all-still code trash first (each-append (WritesWithin false) (result_code r) _ (result-within r) ((refl, tt), ((refl, tt), ((refl, tt), tt))))) refl (omega (arith, middle-stack, l)))
+      (still-raises R (instr.Load Ld64 5 5 (pos 0) ∷ []) (done x86_does middle q) last-still))
+
+  all-rise : Rises (x86_processor code trash) (length front + 1) q
+  all-rise =
+      let back-at = pops sp low-frame f.high in
+      rises-last (x86_processor code trash) (length front) q (done x86_does front q) u (block-rises R front q ran-run front-along) ran-run.leads pass.leads
+      (omega (arith, front-stack, back-at))
 
   -- the words of the frame come back
   is-left : IsLeft (x86_processor code trash) sp back (returned_word X86_64 q.state.registers r) q u
@@ -236,7 +296,7 @@ module _ (code : List ℕ) (trash : ℕ) (small : length code ≤ most_code) (by
   pub departs : Departure (x86_processor code trash) from high sp back (returned_word X86_64 q.state.registers r) q
   departs =
       departure (x86_processor code trash) sp back (returned_word X86_64 q.state.registers r) q u low-frame f.high f.seen.stack is-left from high (length front + 1)
-      pass (let z = few in omega (arith, z)) (omega arith)
+      pass all-rise (let z = few in omega (arith, z)) (omega arith)
 
 pub returns-lead : (code : List ℕ) (trash : ℕ) → length code ≤ most_code → AreBytes code → trash < 2 ^ 64
     → ReturnsLead (x86_rows code trash) IsInstr returned_code

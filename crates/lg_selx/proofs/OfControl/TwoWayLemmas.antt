@@ -76,22 +76,22 @@ module _ (code : List ℕ) (trash : ℕ) (small : length code ≤ most_code) (by
   high = behind (x86_rows code trash) from (branch_if r front c from to)
 
   abbrev last : CpuState
-  last = front_state code trash small bytes word from front jump q t k m.makes_it runs at
+  last = front_state false code trash small bytes word from front jump q t k m.makes_it runs at
 
   high-is : high ≡ jump-end
-  high-is = front-size code trash small bytes word from front jump q t k m.makes_it runs at ∙ ap (λ (n : ℕ). from + size + n) (jump-size r c (from + size) to)
+  high-is = front-size false code trash small bytes word from front jump q t k m.makes_it runs at ∙ ap (λ (n : ℕ). from + size + n) (jump-size r c (from + size) to)
 
   top : high ≤ code_base + most_code
-  top = front-top code trash small bytes word from front jump q t k m.makes_it runs at
+  top = front-top false code trash small bytes word from front jump q t k m.makes_it runs at
 
   -- where it leads
   leads : (target : ℕ) → code_base ≤ target → does jump high last ≡ goes_on last target → Way (x86_processor code trash) x86_scratch from high W target q
   leads target low acts =
       let e : Effect CpuState = goes_on last target in
       let few = m.few in record {
-        end = after (front_run code trash small bytes word from front jump q t k m.makes_it runs at) e;
+        end = after (front_run false code trash small bytes word from front jump q t k m.makes_it runs at) e;
         steps = length front + 1;
-        passes = front-passed code trash small bytes word from front jump q t k m.makes_it runs at
+        passes = front-passed false code trash small bytes word from front jump q t k m.makes_it runs at
             (still-above front (scene_of q.state) still) (still-off _ jump last.registers (jump-still r c (from + size) to)) e acts;
         few = omega (arith, few);
         some = omega arith;

@@ -40,21 +40,21 @@ module _ (code : List ℕ) (trash : ℕ) (small : length code ≤ most_code) (by
   jumps-walk from to q k there runs at =
       let jump : Instr = instr.JumpNear Jmp32 (pos to -ℤ pos (from + 5)) in
       let high : ℕ = behind (x86_rows code trash) from (jump_code from to) in
-      let top : high ≤ _ = front-top code trash small bytes word from [] jump q (scene_of q.state) k refl runs at in
+      let top : high ≤ _ = front-top false code trash small bytes word from [] jump q (scene_of q.state) k refl runs at in
       let t = there.high in
-      let e : Effect CpuState = goes_on (front_state code trash small bytes word from [] jump q (scene_of q.state) k refl runs at) to in
+      let e : Effect CpuState = goes_on (front_state false code trash small bytes word from [] jump q (scene_of q.state) k refl runs at) to in
       let leads = leads-there high (from + 5) to (omega arith) (omega (arith, top)) (omega (arith, t)) in
       walked (x86_processor code trash) (λ x. false) (λ x e. cc) from high to 1 q (after q e)
-      (front-passed code trash small bytes word from [] jump q (scene_of q.state) k refl runs at tt (nothing-off _) e
-      (ap (goes_on (front_state code trash small bytes word from [] jump q (scene_of q.state) k refl runs at)) leads))
+      (front-passed false code trash small bytes word from [] jump q (scene_of q.state) k refl runs at tt (nothing-off _) e
+      (ap (goes_on (front_state false code trash small bytes word from [] jump q (scene_of q.state) k refl runs at)) leads))
       (omega arith) (λ lt. omega arith) (runs-there to there.low) refl (λ x off. refl) refl refl
 
   pub register-jumps-walk : RegisterJumpsWalk (x86_rows code trash) IsInstr register_jump_code
   register-jumps-walk frame from to a q f k there runs at is =
       let jump : Instr = instr.JumpReg Jmpr (register_of X86_64 a) in
       let high : ℕ = behind (x86_rows code trash) from (register_jump_code frame a) in
-      let e : Effect CpuState = goes_on (front_state code trash small bytes word from [] jump q (scene_of q.state) k refl runs at) to in
+      let e : Effect CpuState = goes_on (front_state false code trash small bytes word from [] jump q (scene_of q.state) k refl runs at) to in
       walked (x86_processor code trash) (λ x. false) (λ x e. cc) from high to 1 q (after q e)
-      (front-passed code trash small bytes word from [] jump q (scene_of q.state) k refl runs at tt (nothing-off _) e
-      (ap (goes_on (front_state code trash small bytes word from [] jump q (scene_of q.state) k refl runs at)) is))
+      (front-passed false code trash small bytes word from [] jump q (scene_of q.state) k refl runs at tt (nothing-off _) e
+      (ap (goes_on (front_state false code trash small bytes word from [] jump q (scene_of q.state) k refl runs at)) is))
       (omega arith) (λ lt. omega arith) (runs-there to there.low) refl (λ x off. refl) refl refl

@@ -1,6 +1,10 @@
 -- No item of a node that branches, jumps, calls or returns, of `prolog` or `.align` writes a register that is outside of the conventions.
-use Rattle.std.proofs.Common.{ℕ, zero, suc, List, [], ◌∷◌, Option, Some, None, Bool, refl}
+use Rattle.std.proofs.Common.{ℕ, zero, suc, List, [], ◌∷◌, Option, Some, None, Bool, refl, true, false}
 use Rattle.std.specs.Prelude.{true, false, ◌==◌, ◌&&◌, ◌%◌, ◌^◌, nat_lt, pos, negsuc, if◌then◌else◌}
+use Rattle.lg_x86.specs.declared.instruction.Cond.{Cond}
+use Rattle.lg_sel.specs.declared.reach.Reach.TheVariants.{Short, Near, Far}
+use Rattle.lg_selx_values.specs.declared.items.Item.TheVariants.{Jump}
+use Rattle.lg_carry.specs.Outside.{moves_stack}
 use Rattle.lg_base.specs.HostNames.{host_address}
 use Rattle.lg_base.specs.Words.{signed_view, is_half}
 use Rattle.lg_base.specs.declared.target.Target.TheVariants.{X86_64}
@@ -23,25 +27,25 @@ use Rattle.lg_op.specs.declared.operand.Reg.TheVariants.{R0}
 use Rattle.lg_temp.specs.Abis.{register_of}
 use Rattle.lg_selx_values.specs.Processor.Destinations.{WritesWithin}
 use Rattle.lg_selx_values.specs.Processor.Numbers.{number_row}
-use Rattle.lg_selx_values.specs.Items.{ones, StayWithin}
-use Rattle.lg_selx_values.proofs.WithinLemmas.{In, portable, Within, join, stay-append, stay-ones}
+use Rattle.lg_selx_values.specs.Items.{ones, StayWithin, StaysWithin}
+use Rattle.lg_selx_values.proofs.WithinLemmas.{In, portable, Within, join, stay-append, stay-ones, Moving, moving-join, moving-append, moving-ones, items-moving}
 use Rattle.lg_selx_values.specs.Scratch.{again}
 use Rattle.lg_sel.specs.declared.reach.Reach.{Reach}
 use Rattle.lg_selx.specs.Control.Alignments.{padding, idle, align_code}
-use Rattle.lg_selx.specs.Control.Branches.{comparison, is_difference, far_number, pointer_comparison, wide_comparison, word_comparison, before_branch}
+use Rattle.lg_selx.specs.Control.Branches.{comparison, is_difference, far_number, pointer_comparison, wide_comparison, word_comparison, before_branch, taken}
 use Rattle.lg_selx.specs.Control.ControlFits.{ControlItemsStay}
-use Rattle.lg_selx.specs.Control.ControlItems.{branch_items, sum_items, jump_items, call_items, result_items, ret_items}
+use Rattle.lg_selx.specs.Control.ControlItems.{branch_items, sum_items, jump_items, call_items, result_items, ret_items, jump_kind}
 use Rattle.lg_selx.specs.Control.ControlItems.{register_jump_items, register_call_items, leap_items, align_items, plain_items, control_items}
 use Rattle.lg_selx.specs.Control.HostCalls.{host_code}
 use Rattle.lg_selx.specs.Control.Prologs.{stored_registers, stores_below, lowered, prolog_code}
 use Rattle.lg_selx.specs.Control.Returns.{result, return_code}
-use Rattle.lg_selx.specs.Control.SumBranches.{sum_row, sum_number, number_sum, before_sum_branch}
+use Rattle.lg_selx.specs.Control.SumBranches.{sum_row, sum_number, number_sum, before_sum_branch, sum_taken}
 
 -- ---- branches, jumps, calls and returns
-number : (r v : ℕ) → In r → WritesWithin (number_row r v)
+number : (r v : ℕ) → In r → WritesWithin false (number_row r v)
 number r v h = by (nat_lt v (2 ^ 32)) (is_half v)
   where
-    by : (b c : Bool) → WritesWithin (if b then instr.Movi32 r v else if c then instr.Movs32 r (signed_view v) else instr.Movi64 r v)
+    by : (b c : Bool) → WritesWithin false (if b then instr.Movi32 r v else if c then instr.Movs32 r (signed_view v) else instr.Movi64 r v)
     by true c = (h, tt)
     by false true = (h, tt)
     by false false = (h, tt)
@@ -90,26 +94,32 @@ before-sum frame o a (operand.Host name) = added o frame (register_of X86_64 a) 
 before-sum frame o a (operand.Label l) = tt
 before-sum frame o a (operand.Slot k) = tt
 
-branched : (r : Reach) (frame : ℕ) (o : Condition) (xs : List Operand) → StayWithin (branch_items r frame o xs)
+-- a jump writes none
+led : (r : Reach) (c : Cond) (l : ℕ) → StaysWithin false (Jump (jump_kind r c) l)
+led Short c l = tt
+led Near c l = tt
+led Far c l = tt
+
+branched : (r : Reach) (frame : ℕ) (o : Condition) (xs : List Operand) → StayWithin false (branch_items r frame o xs)
 branched r frame o (operand.Label l ∷ operand.Reg a ∷ x ∷ []) =
-    stay-append (ones (before_branch frame o a x)) _ (stay-ones (before_branch frame o a x) (before frame o a x)) (tt, tt)
+    stay-append (ones (before_branch frame o a x)) _ (stay-ones (before_branch frame o a x) (before frame o a x)) (led r (taken o) l.0, tt)
 branched r frame o xs = tt
 
-summed : (r : Reach) (frame : ℕ) (o : BranchSumOp) (xs : List Operand) → StayWithin (sum_items r frame o xs)
+summed : (r : Reach) (frame : ℕ) (o : BranchSumOp) (xs : List Operand) → StayWithin false (sum_items r frame o xs)
 summed r frame o (operand.Label l ∷ operand.Reg a ∷ x ∷ []) =
-    stay-append (ones (before_sum_branch frame o a x)) _ (stay-ones (before_sum_branch frame o a x) (before-sum frame o a x)) (tt, tt)
+    stay-append (ones (before_sum_branch frame o a x)) _ (stay-ones (before_sum_branch frame o a x) (before-sum frame o a x)) (led r (sum_taken o) l.0, tt)
 summed r frame o xs = tt
 
-jumped : (xs : List Operand) → StayWithin (jump_items xs)
+jumped : (xs : List Operand) → StayWithin false (jump_items xs)
 jumped (operand.Label l ∷ []) = (tt, tt)
 jumped xs = tt
 
-called : (xs : List Operand) → StayWithin (call_items xs)
-called (operand.Label l ∷ []) = (tt, tt)
-called (operand.Host name ∷ []) = stay-ones (host_code name) ((refl, tt), ((refl, tt), ((refl, tt), tt)))
+called : (xs : List Operand) → StayWithin true (call_items xs)
+called (operand.Label l ∷ []) = ((refl, tt), tt)
+called (operand.Host name ∷ []) = moving-ones (host_code name) ((refl, tt), ((refl, tt), ((refl, tt), tt)))
 called xs = tt
 
-results : (x : Operand) → StayWithin (result_items x)
+results : (x : Operand) → StayWithin false (result_items x)
 results (operand.Reg R0) = tt
 results (operand.Reg r) = ((refl, tt), tt)
 results (operand.Label l) = (refl, tt)
@@ -117,22 +127,22 @@ results (operand.Number v) = (number result v refl, tt)
 results (operand.Host name) = (number result (host_address name) refl, tt)
 results (operand.Slot k) = tt
 
-returns : StayWithin (ones return_code)
+returns : StayWithin true (ones return_code)
 returns = ((refl, tt), ((refl, tt), ((refl, tt), ((refl, tt), ((refl, tt), ((refl, tt), tt))))))
 
-returned : (xs : List Operand) → StayWithin (ret_items xs)
-returned (x ∷ []) = stay-append (result_items x) (ones return_code) (results x) returns
+returned : (xs : List Operand) → StayWithin true (ret_items xs)
+returned (x ∷ []) = moving-append (result_items x) (ones return_code) (items-moving (result_items x) (results x)) returns
 returned xs = tt
 
-register-jumped : (xs : List Operand) → StayWithin (register_jump_items xs)
-register-jumped (operand.Reg a ∷ []) = ((refl, tt), tt)
+register-jumped : (xs : List Operand) → StayWithin false (register_jump_items xs)
+register-jumped (operand.Reg a ∷ []) = (tt, tt)
 register-jumped xs = tt
 
-register-called : (xs : List Operand) → StayWithin (register_call_items xs)
+register-called : (xs : List Operand) → StayWithin true (register_call_items xs)
 register-called (operand.Reg a ∷ []) = ((refl, tt), ((refl, tt), ((refl, tt), tt)))
 register-called xs = tt
 
-leaps : (o : ControlOp) (last : LastOperand) (xs : List Operand) → StayWithin (leap_items o last xs)
+leaps : (o : ControlOp) (last : LastOperand) (xs : List Operand) → StayWithin (moves_stack X86_64 (op.Control o last)) (leap_items o last xs)
 leaps control.Jmp last_operand.Immediate xs = jumped xs
 leaps control.Jmp last_operand.Register xs = register-jumped xs
 leaps control.Call last_operand.Immediate xs = called xs
@@ -147,28 +157,28 @@ idles : (k : ℕ) → Within (idle k)
 idles zero = tt
 idles (suc k) = (tt, idles k)
 
-aligned : (at : ℕ) (xs : List Operand) → StayWithin (align_items at xs)
+aligned : (at : ℕ) (xs : List Operand) → StayWithin false (align_items at xs)
 aligned at (operand.Number n ∷ []) = stay-ones (align_code at n) (idles (padding at n))
 aligned at xs = tt
 
-below : (rs : List ℕ) (k : ℕ) → Within (stores_below rs k)
+below : (rs : List ℕ) (k : ℕ) → Moving (stores_below rs k)
 below [] k = tt
 below (r ∷ rs) k = (tt, below rs (suc k))
 
-begins : (frame homes : ℕ) → Within (prolog_code frame homes)
+begins : (frame homes : ℕ) → Moving (prolog_code frame homes)
 begins frame homes = (
   tt,
-  ((refl, tt), join (stores_below (stored_registers homes) 2) (lowered frame) (below (stored_registers homes) 2) ((refl, tt), tt)),
+  ((refl, tt), moving-join (stores_below (stored_registers homes) 2) (lowered frame) (below (stored_registers homes) 2) ((refl, tt), tt)),
 )
 
-plainly : (o : PlainOp) (xs : List Operand) (frame homes at : ℕ) → StayWithin (plain_items o xs frame homes at)
-plainly plain.Prolog xs frame homes at = stay-ones (prolog_code frame homes) (begins frame homes)
+plainly : (o : PlainOp) (xs : List Operand) (frame homes at : ℕ) → StayWithin (moves_stack X86_64 (op.Plain o)) (plain_items o xs frame homes at)
+plainly plain.Prolog xs frame homes at = moving-ones (prolog_code frame homes) (begins frame homes)
 plainly plain.Epilog xs frame homes at = returns
 plainly plain.Ret xs frame homes at = returns
 plainly plain.Align xs frame homes at = aligned at xs
 plainly o xs frame homes at = tt
 
-stay : (r : Reach) (o : Op) (xs : List Operand) (frame homes at : ℕ) → StayWithin (control_items r o xs frame homes at)
+stay : (r : Reach) (o : Op) (xs : List Operand) (frame homes at : ℕ) → StayWithin (moves_stack X86_64 o) (control_items r o xs frame homes at)
 stay r (op.Branch o last) xs frame homes at = branched r frame o xs
 stay r (op.BranchSum o last) xs frame homes at = summed r frame o xs
 stay r (op.Control o last) xs frame homes at = leaps o last xs
