@@ -1,5 +1,9 @@
 -- What is kept of code, and what follows from it.
 use Rattle.std.specs.Prelude.{◌≡◌, ℕ, ◌+◌, ◌*◌, ◌%◌, ◌^◌, ◌<◌, ◌≤◌, Bool, List, [], ◌∷◌, Some, Ok, length, slice_get, slice_index}
+use Rattle.lg_cpu.specs.Steps.{Run}
+use Rattle.lg_cpu.specs.States.{CpuState}
+use Rattle.lg_temp.specs.Agrees.{AgreesAt}
+use Rattle.lg_carry.specs.Disturbed.{IsDisturber, disturbed}
 use Rattle.lg_base.specs.Arguments.{most_args}
 use Rattle.lg_base.specs.Layout.{code_base, most_code}
 use Rattle.lg_base.specs.declared.refusal.RefusalKind.TheVariants.{CodeFull}
@@ -13,6 +17,7 @@ use Rattle.lg_sel.specs.Targets.{processor_of}
 use Rattle.lg_cpu.specs.Laws.{AreBytes}
 use Rattle.lg_cpu.specs.Targets.{run_from}
 use Rattle.lg_live.specs.Liveness.{LiveSets, AreLive}
+use Rattle.lg_meaning.specs.Means as mean
 use Rattle.lg_meaning.specs.Addresses.{AreAddresses}
 use Rattle.lg_meaning.specs.Starts.{start_state}
 use Rattle.lg_meaning.specs.States.{Frame}
@@ -88,6 +93,16 @@ abbrev pub CodeAgrees : Type 0
 CodeAgrees =
     (c : Assembled) (unit : TextUnit) (shape : TextShape) → IsCode c → ComesFrom unit.nodes shape c → AreBytes unit.image
     → length unit.image ≤ 0x1000000 → Agrees c.bytes c.labels unit c.target
+
+-- so does its run on a processor whose bytes below the stack pointer and its zone change in any way behind each instruction, as the handlers of signals
+-- change them that run on the code's own stack
+abbrev pub CodeWithstands : Type 0
+CodeWithstands =
+    (c : Assembled) (unit : TextUnit) (shape : TextShape) → IsCode c → ComesFrom unit.nodes shape c → AreBytes unit.image → length unit.image ≤ 0x1000000
+    → (args : List ℕ) (trash n : ℕ) (d : ℕ → Run CpuState → Run CpuState) → AreBytes args → length args ≤ most_args → trash < 2 ^ 64
+    → IsDisturber (processor_of c.target c.bytes trash) d
+    → AgreesAt (mean.machine unit.nodes shape c.labels) (disturbed (processor_of c.target c.bytes trash) d).machine (length unit.nodes.nodes)
+    (mean.run_at (start_state unit.image args) []) (run_from c.target unit.image args trash, 0) n
 
 -- the parts of the memory and the word that is in what nothing has set
 pub record MayStart (image args : List ℕ) (trash : ℕ) : Type 0 where

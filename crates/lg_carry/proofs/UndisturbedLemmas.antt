@@ -17,8 +17,8 @@ use Rattle.lg_carry.proofs.SinkingLemmas.{sinking-leads}
 
 module _ {Q : Type 0} (P : Processor Q) (d : ℕ → Q → Q) (disturbs : IsDisturber P d) where
   -- a run that is over stays, and what is written stays written
-  is-machine : IsMachine P.machine → IsMachine (disturbed P d).machine
-  is-machine m = record { stays = λ x h. stays x (P.machine.status x.0) refl h; writes = λ x. writes x (P.machine.status x.0) }
+  pub disturbed-is-machine : IsMachine P.machine → IsMachine (disturbed P d).machine
+  disturbed-is-machine m = record { stays = λ x h. stays x (P.machine.status x.0) refl h; writes = λ x. writes x (P.machine.status x.0) }
     where
       stays : (x : Q × ℕ) (z : Status) → P.machine.status x.0 ≡ z → P.machine.status x.0 ≢ Running → next_of P d z x ≡ x
       stays x Running e h = absurd (h e)
@@ -31,8 +31,8 @@ module _ {Q : Type 0} (P : Processor Q) (d : ℕ → Q → Q) (disturbs : IsDist
       writes x Bad = ([], append-nil (P.machine.out x.0))
 
   module _ (c : Code) (before : ℕ → ℕ → Bool) (pt : Patches P) (few : ArePassedFew c.nodes.nodes) where
-    carried : (i : ℕ) → Withstands P c before i → Carries (disturbed P d) c before i
-    carried i w = record {
+    pub withstands-carries : (i : ℕ) → Withstands P c before i → Carries (disturbed P d) c before i
+    withstands-carries i w = record {
       order = w.order;
       short = w.short;
       carries = λ s out x at st.
@@ -48,5 +48,5 @@ module _ {Q : Type 0} (P : Processor Q) (d : ℕ → Q → Q) (disturbs : IsDist
 
 pub disturbed-agrees : {Q : Type 0} (P : Processor Q) → DisturbedCodeAgrees P
 disturbed-agrees P d c before image args q k n pt disturbs machine few nodes st =
-    code-agrees (disturbed P d) c before image args (q, k) n (is-machine P d disturbs machine) (λ i lt. carried P d disturbs c before pt few i (nodes i lt))
+    code-agrees (disturbed P d) c before image args (q, k) n (disturbed-is-machine P d disturbs machine) (λ i lt. withstands-carries P d disturbs c before pt few i (nodes i lt))
     record { runs = st.runs; wrote = st.wrote; state = st.state }

@@ -1,0 +1,93 @@
+-- Code agrees with the portable meaning whatever changes below the stack pointer between two instructions.
+use Rattle.std.proofs.Common.{◌≡◌, ℕ, ◌+◌, ◌^◌, ◌<◌, ◌≤◌, ◌⊎◌, inl, inr, ⊎_elim, true, List, [], length, ap, ◌∙◌, arith}
+use Rattle.std.specs.Prelude.{slice_index, slice_get}
+use Rattle.std.proofs.lemmas.Bool.{cases_lt}
+use Rattle.lg_base.specs.Layout.{code_base, most_code}
+use Rattle.lg_base.specs.declared.target.Target.{Target}
+use Rattle.lg_base.specs.declared.target.Target.TheVariants.{X86_64, Aarch64, Riscv64}
+use Rattle.lg_node.proofs.SuccessorLaws.{has_functions}
+use Rattle.lg_node.proofs.WellShaped.{well_shaped}
+use Rattle.lg_cpu.specs.Laws.{AreBytes}
+use Rattle.lg_cpu.specs.Targets.{effect_of, run_from}
+use Rattle.lg_cpu.proofs.RunLemmas.{machine_is, no_host}
+use Rattle.lg_meaning.proofs.MeanLemmas.{mean_fits}
+use Rattle.lg_carry.specs.FinalNodes.{Code}
+use Rattle.lg_carry.specs.Disturbed.{disturbed}
+use Rattle.lg_carry.specs.Places.{ArePassedFew}
+use Rattle.lg_carry.specs.Undisturbed.{IsBlind, IsPlaced, Withstands}
+use Rattle.lg_carry.proofs.HoldingLemmas.{carried-withstand}
+use Rattle.lg_carry.proofs.TextShapeLemmas.{shaped}
+use Rattle.lg_carry.proofs.UndisturbedLemmas.{disturbed-is-machine, withstands-carries}
+use Rattle.lg_opt.proofs.RewrittenLemmas.{rewritten-agrees}
+use Rattle.lg_sel.specs.Targets.{processor_of}
+use Rattle.lg_selr_values.proofs.OfProcessor.TouchLemmas as riscv64
+use Rattle.lg_sela_values.proofs.OfProcessor.TouchLemmas as aarch64
+use Rattle.lg_selx_values.proofs.OfProcessor.TouchLemmas as x86_64
+use Rattle.lg_asm.specs.Assembled.{Assembled, IsCode, CodeWithstands}
+use Rattle.lg_asm.specs.CarriedLiveness.{live_at}
+use Rattle.lg_asm.specs.Lowered.{code_of}
+use Rattle.lg_asm.proofs.CodeLemmas.{places-up, places-end}
+use Rattle.lg_asm.proofs.StartLemmas.{start-stands}
+
+-- a step of a processor sees nothing but what it touches
+blind : (target : Target) (code : List ℕ) (trash : ℕ) → AreBytes code → trash < 2 ^ 64 → IsBlind (processor_of target code trash)
+blind Riscv64 code trash bytes word = record {
+  overlooks = λ q part above. riscv64.steps-overlook code trash q bytes word (omega (arith, part.1)) (no_host q.state.pc part.0) above;
+  leaves = λ hidden q part off. riscv64.steps-leave code trash q hidden bytes word (omega (arith, part.1)) (no_host q.state.pc part.0) off;
+  alike = λ q. riscv64.steps-are-alike code trash q;
+  patches = riscv64.states-are-patched code trash;
+}
+blind Aarch64 code trash bytes word = record {
+  overlooks = λ q part above. aarch64.steps-overlook code trash q bytes word (omega (arith, part.1)) (no_host q.state.pc part.0) above;
+  leaves = λ hidden q part off. aarch64.steps-leave code trash q hidden bytes word (omega (arith, part.1)) (no_host q.state.pc part.0) off;
+  alike = λ q. aarch64.steps-are-alike code trash q;
+  patches = aarch64.states-are-patched code trash;
+}
+blind X86_64 code trash bytes word = record {
+  overlooks = λ q part above. x86_64.steps-overlook code trash q bytes word (omega (arith, part.1)) (no_host q.state.pc part.0) above;
+  leaves = λ hidden q part off. x86_64.steps-leave code trash q hidden bytes word (omega (arith, part.1)) (no_host q.state.pc part.0) off;
+  alike = λ q. x86_64.steps-are-alike code trash q;
+  patches = x86_64.states-are-patched code trash;
+}
+
+module _ (c : Assembled) (k : IsCode c) where
+  abbrev code : Code
+  code = code_of c.nodes c.shape c.labels c.places
+
+  abbrev count : ℕ
+  count = length c.nodes.nodes
+
+  passed-few : ArePassedFew c.nodes.nodes
+  passed-few = (shaped c.nodes (well_shaped c.nodes k.shape_is.accepted)).few
+
+  -- each node has its own place in the code part
+  placed : (i : ℕ) → i < count → IsPlaced code i
+  placed i lt = record {
+    low = omega arith;
+    high = let e = places-end c.nodes c.places (length c.bytes) k.ordered (i + 1) (omega (arith, lt)) in let s = k.small in omega (arith, e, s);
+    begins = λ prolog. let r = k.ordered.rise i prolog in omega (arith, r);
+    apart = λ j within. (
+      ⊎_elim
+          (λ (l : j < i + 1). inl (let u = places-up c.nodes c.places (length c.bytes) k.ordered j i (omega (arith, l)) (omega (arith, lt)) in omega (arith, u)))
+          (λ (g : i + 1 ≤ j). inr (let u = places-up c.nodes c.places (length c.bytes) k.ordered (i + 1) j g (omega (arith, within)) in omega (arith, u)))
+          (cases_lt j (i + 1)),
+      no_host (code_base + slice_index c.places j) (omega arith),
+    );
+  }
+
+pub code-withstands-with : CodeWithstands
+code-withstands-with c unit shape k from bytes few args trash n d are most word disturbs =
+    let P = processor_of c.target c.bytes trash in
+    let before = live_at c.live.before in
+    let machine = machine_is (effect_of c.target c.bytes trash) in
+    let sees-little : IsBlind P = blind c.target c.bytes trash k.are_bytes word in
+    let accepted = from.checked.0.accepted in
+    let st = start-stands c.target (code c k) c.bytes unit.image args trash (λ f. before f.back) (before 0)
+    record { image_bytes = bytes; image_few = few; args_bytes = are; args_few = most; word = word } k.shape_is (ap (λ p. code_base + p) k.ordered.first) in
+    rewritten-agrees (disturbed P d) (code c k) before unit.nodes shape unit.image args (run_from c.target unit.image args trash, 0) n
+    (disturbed-is-machine P d disturbs machine)
+    (λ i lt. withstands-carries P d disturbs (code c k) before sees-little.patches (passed-few c k) i
+    (carried-withstand P (code c k) before i sees-little machine (placed c k i lt) (k.coded.carried trash i word lt)))
+    (from.runs (length c.bytes) c.labels unit.image args k.addresses)
+    (λ j. (mean_fits unit.nodes shape c.labels from.checked.0 (well_shaped unit.nodes accepted) (has_functions unit.nodes accepted) from.formed unit.image args j).fits.inside)
+    record { runs = st.runs; wrote = st.wrote; state = st.state }
