@@ -7,8 +7,8 @@ use Rattle.std.proofs.lemmas.Option.{same_Some}
 use Rattle.lg_temp.specs.declared.choice.Need.{Need}
 use Rattle.lg_temp.specs.declared.choice.Need.TheVariants.{Any, Only}
 use Rattle.lg_temp.specs.declared.choice.Choice.{Choice}
-use Rattle.lg_temp.specs.declared.choice.Choice.TheVariants.{Free, Own, Spill}
-use Rattle.lg_temp.specs.Chosen.{Around, order, spills, is_barred, first_free, first_saved, free_or_saved, pick_any, pick_only, pick, chosen}
+use Rattle.lg_temp.specs.declared.choice.Choice.TheVariants.{Free, Spill}
+use Rattle.lg_temp.specs.Chosen.{Around, order, spills, is_barred, first_free, first_saved, free_or_saved, pick_any, pick, chosen}
 use Rattle.lg_temp.specs.Choices.{IsFirst, IsFirstFor, AreFirst, ChoicesAreFirst, is_refused}
 
 -- what is found is the first that passes
