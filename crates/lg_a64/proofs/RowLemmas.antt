@@ -4,9 +4,6 @@ use Rattle.std.specs.Prelude.{IfSome, option_map, find, ◌==◌}
 use Rattle.std.proofs.lemmas.Bool.Decides.{nat_tests}
 use Rattle.lg_a64.specs.Spelling.{bit}
 
-pub same_word : (n m : ℕ) → (n == m) ≡ true → n ≡ m
-same_word n m e = grind (arith, nat_tests)
-
 -- the bit that a field of one bit holds
 pub bit-is_one : (n : ℕ) → n < 2 → bit (n == 1) ≡ n
 bit-is_one n h = cases (n == 1) refl

@@ -1,11 +1,12 @@
 -- How the lines of a listing begin, and that one text begins with one of them.
-use Rattle.std.proofs.Common.{◌≡◌, ℕ, ◌+◌, ◌/◌, ◌%◌, ◌<◌, Bool, true, false, List, [], ◌∷◌, ◌++◌, length, drop, refl, sym, ap, ap₂, ◌∙◌, arith, append_assoc, codes, length-append, Some, None, ◌≢◌, nat_eq}
+use Rattle.std.proofs.Common.{◌≡◌, ℕ, ◌+◌, ◌/◌, ◌%◌, ◌<◌, Bool, true, false, List, [], ◌∷◌, ◌++◌, length, drop, refl, sym, ap, ap₂, ◌∙◌, arith, append_assoc, codes, length-append, ◌≢◌, nat_eq}
 use Rattle.std.specs.Prelude.{slice_index, nat_lt, ◌==◌, if◌then◌else◌}
 use Rattle.std.specs.Fmt.{digit_glyph}
 use Rattle.std.specs.List.{starts_with}
 use Rattle.std.proofs.lemmas.Bool.Decides.{nat_tests}
 use Rattle.std.proofs.Math.Seq.{drop-append_seam}
 use Rattle.std.proofs.lemmas.List.{append_cancel_left}
+use Rattle.std.proofs.lemmas.Fmt.{decimal_injective}
 use Rattle.lg_base.specs.declared.target.Target.{Target}
 use Rattle.lg_base.specs.declared.target.Target.TheVariants as target
 use Rattle.lg_op.specs.declared.op.Op.{Op}
@@ -17,15 +18,9 @@ use Rattle.lg_list.specs.Lines.{Entry, target_word, bytes_of, address, label_lin
 use Rattle.lg_list.specs.Lines.Entry.{Label, Node, Code}
 use Rattle.lg_back.specs.Words.{until, is_free, first_word, second_word}
 use Rattle.lg_back.specs.Reading.{HasHead, HasLine, HasNoLine}
-use Rattle.lg_back.proofs.WordLemmas.{until-front, decimal-free, decimal-one, word-free, word-begins, two-words}
+use Rattle.lg_back.proofs.WordLemmas.{until-front, decimal-free, word-free, word-begins, two-words}
 use Rattle.lg_back.proofs.NameLemmas.{name_free}
 use Rattle.lg_back.proofs.InstructionLemmas.{code-unique, starts-again, starts-front}
-
-pub some-is : {X : Type 0} (x y : X) → Some x ≡ Some y → x ≡ y
-some-is x y e = cc
-
-pub none-some : {X : Type 0} (x : X) → None ≡ Some x → ⊥
-none-some x e = cc
 
 -- ---- the first line
 
@@ -56,7 +51,7 @@ pub head-one : (text : List ℕ) (t u : Target) (n m : ℕ) → HasHead text t n
 head-one text t u n m g h =
     let a = head-words text t n g in
     let b = head-words text u m h in
-    (target_word-one t u (sym a.0 ∙ b.0), decimal-one n m (omega (arith, g.small)) (omega (arith, h.small)) (sym a.1 ∙ b.1))
+    (target_word-one t u (sym a.0 ∙ b.0), decimal_injective n m (omega (arith, g.small)) (omega (arith, h.small)) (sym a.1 ∙ b.1))
 
 -- ---- how a line begins
 

@@ -1,6 +1,6 @@
 -- Words, digits and what ends them.
 use Rattle.std.proofs.Common.{◌≡◌, ℕ, suc, ◌+◌, ◌-◌, ◌*◌, ◌^◌, ◌<◌, ◌≤◌, Bool, true, false, List, [], ◌∷◌, ◌++◌, length, drop, refl, sym, ap, ◌∙◌, subst, arith, append_assoc, codes, take, get_or}
-use Rattle.std.specs.Prelude.{◌==◌, ◌&&◌, if◌then◌else◌}
+use Rattle.std.specs.Prelude.{◌==◌, if◌then◌else◌}
 use Rattle.std.specs.Char.{is_ascii_digit}
 use Rattle.std.specs.Int.{IsInRange}
 use Rattle.std.specs.List.{list_all}
@@ -11,6 +11,7 @@ use Rattle.std.proofs.lemmas.Int.Digits.{digits_value_more}
 use Rattle.std.proofs.lemmas.List.{take_all}
 use Rattle.std.proofs.lemmas.Str.{digit_value_digit}
 use Rattle.std.proofs.lemmas.Str.Parse.{digit_from_value, digit_at, digits_value-take-le}
+use Rattle.std.proofs.lemmas.Bool.{eq-eqb, and_parts}
 use Rattle.lg_base.specs.WordBytes.{is_word_start, is_word_byte}
 use Rattle.lg_node.specs.Nodes.{is_word}
 use Rattle.lg_list.specs.Texts.{decimal}
@@ -22,11 +23,8 @@ until-step : (b : Bool) (c : ℕ) (xs ys : List ℕ) (f : Bool) → (if b then f
 until-step true c xs ys f e h = cc
 until-step false c xs ys f e h = ap (λ t. c ∷ t) (h e)
 
-itself : (byte : ℕ) → (byte == byte) ≡ true
-itself byte = grind (arith, nat_tests)
-
 pub until-front : (byte : ℕ) (xs more : List ℕ) → is_free byte xs ≡ true → until byte (xs ++ byte ∷ more) ≡ xs
-until-front byte [] more e = ap (λ (b : Bool). if b then [] else (byte ∷ until byte more)) (itself byte)
+until-front byte [] more e = ap (λ (b : Bool). if b then [] else (byte ∷ until byte more)) (eq-eqb byte byte refl)
 until-front byte (c ∷ cs) more e = until-step (c == byte) c (until byte (cs ++ byte ∷ more)) cs (is_free byte cs) e (until-front byte cs more)
 
 free-step : (b : Bool) (f g : Bool) → (if b then false else f) ≡ true → (f ≡ true → g ≡ true) → (if b then false else g) ≡ true
@@ -84,10 +82,6 @@ digits-more ds i lt told =
 pub digits-all : (ds : List ℕ) (i n : ℕ) → n < 2 ^ 64 → ds ≡ decimal n → length ds ≤ i → digits_value 10 (take i ds) ≡ n
 digits-all ds i n small e le = ap (digits_value 10) (take_all i ds le ∙ e) ∙ decimal-value n small
 
--- numbers of the same digits are one
-pub decimal-one : (n m : ℕ) → n < 2 ^ 64 → m < 2 ^ 64 → decimal n ≡ decimal m → n ≡ m
-decimal-one n m a b e = sym (decimal-value n a) ∙ ap (digits_value 10) e ∙ decimal-value m b
-
 -- ---- words of a text
 
 -- a letter, a digit or _ is no colon and no space
@@ -97,24 +91,19 @@ colon-other c e = grind (arith, nat_tests)
 space-other : (c : ℕ) → is_word_start c ≡ true → c ≡ 32 → ⊥
 space-other c e f = grind (arith, nat_tests)
 
-and-both : (a b : Bool) → (a && b) ≡ true → (a ≡ true) × (b ≡ true)
-and-both true true e = (refl, refl)
-and-both true false e = cc
-and-both false b e = cc
-
 start-byte : (c : ℕ) → is_word_start c ≡ true → is_word_byte c ≡ true
 start-byte c e = grind (arith, nat_tests)
 
 bytes-free : (bs : List ℕ) → list_all is_word_byte bs ≡ true → is_free 58 bs ≡ true
 bytes-free [] e = refl
 bytes-free (b ∷ bs) e =
-    let both = and-both (is_word_byte b) (list_all is_word_byte bs) e in
+    let both = and_parts (is_word_byte b) (list_all is_word_byte bs) e in
     free-one 58 b bs (colon-other b both.0) (bytes-free bs both.1)
 
 pub word-free : (word : List ℕ) → is_word word ≡ true → is_free 58 word ≡ true
 word-free [] e = cc
 word-free (b ∷ bs) e =
-    let both = and-both (is_word_start b) (list_all is_word_byte bs) e in
+    let both = and_parts (is_word_start b) (list_all is_word_byte bs) e in
     free-one 58 b bs (colon-other b (start-byte b both.0)) (bytes-free bs both.1)
 
 -- a word does not begin with a space
@@ -122,7 +111,7 @@ pub word-begins : (word more rest : List ℕ) → is_word word ≡ true → word
 word-begins [] more rest e f = cc
 word-begins (b ∷ bs) more rest e f =
     let same : b ≡ 32 = cc in
-    space-other b (and-both (is_word_start b) (list_all is_word_byte bs) e).0 same
+    space-other b (and_parts (is_word_start b) (list_all is_word_byte bs) e).0 same
 
 -- ---- a line of two words
 

@@ -2,6 +2,7 @@
 use Rattle.std.proofs.Common.{◌≡◌, ◌≢◌, ℕ, ◌+◌, ◌-◌, ◌<◌, ◌≤◌, Bool, true, false, length, List, Option, Some, None, refl, sym, ap, ◌∙◌, ⊎_elim, arith, get_or-set_other, get_or-set_same}
 use Rattle.std.specs.Prelude.{nat_lt, ◌==◌, if◌then◌else◌, slice_set}
 use Rattle.std.proofs.lemmas.Bool.{cases_eq}
+use Rattle.std.proofs.lemmas.Option.{none-some, same_Some}
 use mathlib.Core.Path.{fun_ext}
 use Rattle.lg_base.specs.Spaces.{put_some}
 use Rattle.lg_cells.specs.declared.cell.Cell.{Cell}
@@ -68,12 +69,6 @@ place_range d g m x k lo n hd hg hm low e =
 pub place_none : (d g m x lo n : ℕ) → 0x3FF00000 ≤ lo → lo + n ≤ 0x40000000 → place_of d g m x ≡ None → within lo n x ≡ false
 place_none d g m x lo n low high e = grind arith
 
-none_some : (k : ℕ) → None ≡ Some k → ⊥
-none_some k h = cc
-
-some_inj : (j k : ℕ) → Some j ≡ Some k → j ≡ k
-some_inj j k h = cc
-
 -- memories with the same sizes and mark
 pub record HasCells (m n : Marked) (cells : List Cell) : Type 0 where
   pub data_same : n.data_size ≡ m.data_size
@@ -86,10 +81,10 @@ cell_changed : (m n : Marked) (a at : ℕ) (c : Cell) → m.mark ≤ 0x30400000 
 cell_changed m n a at c hm same lt e x = rw (same.data_same, same.args_same, same.mark_same, same.cells_are) (go (place_of m.data_size m.args_size m.mark x) refl)
   where
     go : (o : Option ℕ) → place_of m.data_size m.args_size m.mark x ≡ o → cell_in (slice_set m.cells at c) o ≡ (if x == a then c else cell_in m.cells o)
-    go None f = let ne : x ≢ a = λ h. none_some at (sym f ∙ ap (place_of m.data_size m.args_size m.mark) h ∙ e) in let t : (x == a) ≡ false = grind (arith, ne) in rw t
+    go None f = let ne : x ≢ a = λ h. none-some at (sym f ∙ ap (place_of m.data_size m.args_size m.mark) h ∙ e) in let t : (x == a) ≡ false = grind (arith, ne) in rw t
     go (Some k) f = ⊎_elim
         (λ (h : k ≡ at). let same : x ≡ a = place_inj m.data_size m.args_size m.mark x a at hm (f ∙ ap Some h) e in let t : (x == a) ≡ true = grind (arith, same) in rw (t, h) (get_or-set_same m.cells at c Closed lt))
-        (λ (h : k ≢ at). let ne : x ≢ a = λ z. h (some_inj k at (sym f ∙ ap (place_of m.data_size m.args_size m.mark) z ∙ e)) in let t : (x == a) ≡ false = grind (arith, ne) in rw t (get_or-set_other m.cells at k c Closed h))
+        (λ (h : k ≢ at). let ne : x ≢ a = λ z. h (same_Some k at (sym f ∙ ap (place_of m.data_size m.args_size m.mark) z ∙ e)) in let t : (x == a) ≡ false = grind (arith, ne) in rw t (get_or-set_other m.cells at k c Closed h))
         (cases_eq k at)
 
 -- a byte is written

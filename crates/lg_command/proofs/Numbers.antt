@@ -1,10 +1,11 @@
 -- What is a number by the test is one by std's words.
-use Rattle.std.proofs.Common.{◌≡◌, ℕ, ◌^◌, ◌<◌, ◌≤◌, Bool, true, false, List, [], ◌∷◌, length, Some, refl, sym, ap, subst, ◌∙◌}
+use Rattle.std.proofs.Common.{◌≡◌, ℕ, ◌^◌, ◌<◌, ◌≤◌, List, [], ◌∷◌, length, Some, refl, sym, ap, subst, ◌∙◌}
 use Rattle.std.specs.Prelude.{◌&&◌, nat_lt, if◌then◌else◌}
 use Rattle.std.specs.Bool.{Decides}
 use Rattle.std.specs.Char.{digit_value}
 use Rattle.std.specs.Str.Parse.{AllDigits, IsNumeral, digits_value, without_leading_plus}
 use Rattle.std.proofs.lemmas.Bool.Decides.{Decides-and, Decides-ltb}
+use Rattle.std.proofs.lemmas.Bool.{false_from_ne_true}
 use Rattle.clap.specs.Values.{IsUnsignedIn}
 use Rattle.lg_command.specs.Commands.{are_digits, is_number, number_of}
 
@@ -16,10 +17,6 @@ number_decides : (t : List ℕ) → Decides (is_number t) ((0 < length t × AllD
 number_decides t =
     Decides-and (nat_lt 0 (length t) && are_digits t) (nat_lt (digits_value 10 t) (2 ^ 64))
     (Decides-and (nat_lt 0 (length t)) (are_digits t) (Decides-ltb 0 (length t)) (digits_decide t)) (Decides-ltb (digits_value 10 t) (2 ^ 64))
-
-not_true : (b : Bool) → (b ≡ true → ⊥) → b ≡ false
-not_true true h = absurd (h refl)
-not_true false h = refl
 
 -- what is read of a text is its number
 pub read_number : (t : List ℕ) (n : ℕ) → ((IsNumeral 10 (without_leading_plus t) × (digits_value 10 (without_leading_plus t) < 2 ^ 64)) × (n ≡ digits_value 10 (without_leading_plus t)))
@@ -34,7 +31,7 @@ pub no_number : (t : List ℕ) → ¬ (IsNumeral 10 (without_leading_plus t) × 
     → 0 ≡ (if is_number (without_leading_plus t) then digits_value 10 (without_leading_plus t) else 0)
 no_number t h =
     let ds = without_leading_plus t in
-    let no = not_true (is_number ds) (λ yes. h ((number_decides ds).0 yes)) in
+    let no = false_from_ne_true (is_number ds) (λ yes. h ((number_decides ds).0 yes)) in
     sym (ap (λ b. if b then digits_value 10 ds else 0) no)
 
 -- a text whose number lies between two others

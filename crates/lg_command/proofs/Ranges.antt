@@ -15,7 +15,7 @@ use Rattle.clap.specs.declared.builder.command.Command.{Command}
 use Rattle.clap.specs.declared.builder.command.Command.TheViews.{out-Command}
 use Rattle.clap.specs.declared.builder.value_parser.ValueParser.TheVariants as vp
 use Rattle.clap.specs.declared.parser.matches.ArgMatches.{ArgMatches}
-use Rattle.std.proofs.lemmas.Bool.{ne_eqb}
+use Rattle.std.proofs.lemmas.Bool.{ne_eqb, and_parts, or_right, not-true}
 use Rattle.std.proofs.lemmas.Slice.Eq.{bytes_eq-Decides}
 use Rattle.clap.proofs.WalkLemmas.{one_text-rows}
 use Rattle.lg_command.specs.Commands.{AreInRange, number_of}
@@ -28,14 +28,6 @@ abbrev stands_alone : ℕ → Text → List Rule → Bool
 stands_alone k t [] = false
 stands_alone zero t (r ∷ rs) = not (list_any (λ s. bytes_eq s.id t) rs)
 stands_alone (suc k) t (r ∷ rs) = not (bytes_eq r.id t) && stands_alone k t rs
-
-left_of : (a b : Bool) → (a && b) ≡ true → a ≡ true
-left_of true b h = refl
-left_of false b h = h
-
-right_of : (a b : Bool) → (a && b) ≡ true → b ≡ true
-right_of true b h = h
-right_of false b h = let bad : false ≡ true = h in cc
 
 not_both : {B : Type 0} (b : Bool) → not b ≡ true → b ≡ true → B
 not_both true is_not is = let bad : false ≡ true = is_not in cc
@@ -52,10 +44,6 @@ none_of (Some x) h = let bad : false ≡ true = h in cc
 differ : (t u : Text) → bytes_eq t u ≡ false → t ≡ u → ⊥
 differ t u other same = let alike = (bytes_eq-Decides t u).1 same in cc
 
-or_right : (a b : Bool) → b ≡ true → (a || b) ≡ true
-or_right true b h = refl
-or_right false b h = h
-
 any_at : (t : Text) (args : List Arg) (i : ℕ) (e : Arg) → i < length args → bytes_eq (slice_index_or args i e).id.now t ≡ true
     → list_any (λ s. bytes_eq s.id t) (map rule_of args) ≡ true
 any_at t [] i e lt at = absurd (omega (arith, lt))
@@ -67,25 +55,23 @@ alone_in : (t : Text) (args : List Arg) (k : ℕ) → stands_alone k t (map rule
 alone_in t [] k alone j e lt at = absurd (omega (arith, lt))
 alone_in t (a ∷ args) zero alone zero e lt at = refl
 alone_in t (a ∷ args) zero alone (suc j) e lt at = not_both _ alone (any_at t args j e (omega (arith, lt)) at)
-alone_in t (a ∷ args) (suc k) alone zero e lt at = not_both _ (left_of _ _ alone) at
-alone_in t (a ∷ args) (suc k) alone (suc j) e lt at = ap suc (alone_in t args k (right_of _ _ alone) j e (omega (arith, lt)) at)
+alone_in t (a ∷ args) (suc k) alone zero e lt at = not_both _ (and_parts _ _ alone).0 at
+alone_in t (a ∷ args) (suc k) alone (suc j) e lt at = ap suc (alone_in t args k (and_parts _ _ alone).1 j e (omega (arith, lt)) at)
 
 no_groups_in : (args : List Arg) → list_all (λ r. r.is_simple) (map rule_of args) ≡ true
     → (k : ℕ) (d : Arg) → k < length args → (slice_index_or args k d).groups.items ≡ []
 no_groups_in [] h k d lt = absurd (omega (arith, lt))
-no_groups_in (a ∷ args) h zero d lt = nothing_in a.groups.items (left_of _ _ (right_of _ _ (right_of _ _ (left_of _ _ h))))
-no_groups_in (a ∷ args) h (suc k) d lt = no_groups_in args (right_of _ _ h) k d (omega (arith, lt))
-
-not_true : (b : Bool) → not b ≡ true → b ≡ false
-not_true true h = sym h
-not_true false h = refl
+no_groups_in (a ∷ args) h zero d lt =
+    let simple = and_parts _ _ (and_parts _ _ h).0 in
+    let ifs = and_parts _ _ simple.1 in
+    nothing_in a.groups.items (and_parts _ _ ifs.1).0
+no_groups_in (a ∷ args) h (suc k) d lt = no_groups_in args (and_parts _ _ h).1 k d (omega (arith, lt))
 
 simple_parts : (a : Arg) → is_simple_arg a ≡ true → (a.default_vals_ifs.items ≡ []) × (a.val_delim ≡ None)
 simple_parts a simple =
-    let ifs = right_of (is_empty a.overrides.items) _ simple in
-    let groups = right_of (is_empty a.default_vals_ifs.items) _ ifs in
-    let delim = right_of (is_empty a.groups.items) _ groups in
-    (nothing_in a.default_vals_ifs.items (left_of (is_empty a.default_vals_ifs.items) _ ifs), none_of a.val_delim (left_of (not (is_some a.val_delim)) _ delim))
+    let ifs = and_parts (is_empty a.default_vals_ifs.items) _ (and_parts (is_empty a.overrides.items) _ simple).1 in
+    let delim = and_parts (not (is_some a.val_delim)) _ (and_parts (is_empty a.groups.items) _ ifs.1).1 in
+    (nothing_in a.default_vals_ifs.items ifs.0, none_of a.val_delim delim.0)
 
 -- an option that takes a number in a range
 abbrev number_rule : (id text : Text) (low high : ℕ) → Rule
@@ -109,10 +95,10 @@ module _ (cmd : Command) (is : app_of cmd ≡ app) where
       sym (get_or-map rule_of (args_of cmd) k d (rule_of d) under) ∙ ap (λ l. slice_index_or l k (rule_of d)) rules_are
 
   no_groups : groups_of cmd ≡ []
-  no_groups = nothing_in (groups_of cmd) (left_of _ _ plain)
+  no_groups = nothing_in (groups_of cmd) (and_parts _ _ plain).0
 
   no_globals : (out-Command cmd).has_globals ≡ false
-  no_globals = not_true _ (left_of _ _ (right_of _ _ (right_of _ _ plain)))
+  no_globals = not-true _ (and_parts _ _ (and_parts _ _ (and_parts _ _ plain).1).1).0
 
   none_named : All (λ a. a.groups.items ≡ []) (args_of cmd)
   none_named = no_groups_in (args_of cmd) (ap (list_all (λ r. r.is_simple)) rules_are)

@@ -3,6 +3,7 @@ use Rattle.std.proofs.Common.{◌≡◌, ℕ, ◌+◌, ◌-◌, ◌*◌, ◌/◌
 use Rattle.std.specs.Prelude.{◌==◌, ◌||◌, nat_le, nat_lt, IfSome, bit_and, if◌then◌else◌}
 use Rattle.std.proofs.Math.Nat.{mod-lt, div-lt_iff_lt-mul}
 use Rattle.std.proofs.lemmas.Nat.{and_le_l, or_lt, xor_lt}
+use Rattle.std.proofs.lemmas.Bool.{or_parts}
 use Rattle.lg_base.specs.Flags.{carry_of}
 use Rattle.lg_base.specs.Fields.{word_of}
 use Rattle.lg_base.specs.Layout.{code_base}
@@ -163,16 +164,12 @@ quotient s (Some p) h k = wide s p.1 p.0 no_flags h k.1 k.0
 abbrev TwoWords : Option (ℕ × ℕ) → Type 0
 TwoWords o = IfSome o (λ p. (p.0 < 2 ^ 64) × (p.1 < 2 ^ 64))
 
-both-false : (b c : Bool) → (b || c) ≡ false → (b ≡ false) × (c ≡ false)
-both-false true c e = cc
-both-false false c e = (refl, e)
-
 quotient-words : (high low by : ℕ) → low < 2 ^ 64 → by < 2 ^ 64 → TwoWords (quotient_wide high low by)
 quotient-words high low by small k = go ((by == 0) || nat_le by high) refl
   where
     go : (b : Bool) → ((by == 0) || nat_le by high) ≡ b → TwoWords (if b then None else Some ((high * 2 ^ 64 + low) / by, (high * 2 ^ 64 + low) % by))
     go true e = tt
-    go false e = let f = both-false (by == 0) (nat_le by high) e in
+    go false e = let f = or_parts (by == 0) (nat_le by high) e in
         let lt : high < by = (let g = f.1 in grind (arith, g)) in
         (wide-quotient high low by lt small, wide-remainder (high * 2 ^ 64 + low) by (omega (arith, lt)) k)
 

@@ -5,6 +5,7 @@ use Rattle.std.specs.Option.{option_and_then}
 use Rattle.std.proofs.Math.Nat.{mod-lt, mod-le, div-le_self}
 use Rattle.std.proofs.lemmas.Bool.{and_parts}
 use Rattle.std.proofs.lemmas.Nat.{and_le_l, or_lt, xor_lt}
+use Rattle.std.proofs.lemmas.Option.{none-some, same_Some}
 use Rattle.lg_base.specs.Runs.{iter}
 use Rattle.lg_base.specs.Spaces.{byte_or_zero, loaded, mapped, stored}
 use Rattle.lg_base.specs.Words.{add_words, complement, differ, is_negative, magnitude, negated, quotient_signed, remainder_signed, shifted_right_signed, with_sign, word_of_test}
@@ -79,9 +80,6 @@ word_where_of : (b : Bool) (x v : ℕ) → word_where b x ≡ Some v → x < 2 ^
 word_where_of true x v e h = word_of x v e h
 word_where_of false x v e h = cc
 
-no_value : {A : Type 0} (v : ℕ) → None ≡ Some v → A
-no_value v e = cc
-
 -- operations make words of words
 binary_word : (o : BinaryOp) (a b v : ℕ) → a < 2 ^ 64 → b < 2 ^ 64 → binary_value o a b ≡ Some v → v < 2 ^ 64
 binary_word binary.Add a b v h k e = word_of _ v e (low_word (a + b))
@@ -108,14 +106,14 @@ binary_word binary.Div a b v h k e = word_where_of _ _ v e (quotient_signed_word
 binary_word binary.DivU a b v h k e = word_where_of _ _ v e (quotient_word a b h)
 binary_word binary.Rem a b v h k e = word_where_of _ _ v e (remainder_signed_word a b h)
 binary_word binary.RemU a b v h k e = word_where_of _ _ v e (remainder_word a b h)
-binary_word o a b v h k e = no_value v e
+binary_word o a b v h k e = absurd (none-some v e)
 
 -- an operation with a value sets no carry
 not_carried : (o : BinaryOp) (a b v : ℕ) → binary_value o a b ≡ Some v → sets_carry o ≡ false
-not_carried binary.Addc a b v e = no_value v e
-not_carried binary.Subc a b v e = no_value v e
-not_carried binary.Addx a b v e = no_value v e
-not_carried binary.Subx a b v e = no_value v e
+not_carried binary.Addc a b v e = absurd (none-some v e)
+not_carried binary.Subc a b v e = absurd (none-some v e)
+not_carried binary.Addx a b v e = absurd (none-some v e)
+not_carried binary.Subx a b v e = absurd (none-some v e)
 not_carried o a b v e = refl
 
 -- ---- the frame
@@ -163,14 +161,8 @@ module _ (s : State) (h : HasLocals s) (place : ℕ) (small : place < 32) where
 
 -- ---- lists that may be missing
 
-list_is : (a b : List ℕ) → Some a ≡ Some b → a ≡ b
-list_is a b e = cc
-
-no_list : {A : Type 0} (b : List ℕ) → None ≡ Some b → A
-no_list b e = cc
-
 some_list : {A : Type 0} (f : A → Option (List ℕ)) (o : Option A) (b : List ℕ) → option_and_then f o ≡ Some b → (a : A) × (o ≡ Some a) × (f a ≡ Some b)
-some_list f None b e = no_list b e
+some_list f None b e = absurd (none-some b e)
 some_list f (Some a) b e = (a, refl, e)
 
 -- ---- runs
@@ -289,7 +281,7 @@ module _ (l : LabelledNodes) (shape : TextShape) (addresses : List ℕ) (x : ℕ
       }
 
   with_stack : (s : State) (count : ℕ) (a b : List ℕ) → Some a ≡ Some b → Comes l shape addresses s count x a → Comes l shape addresses s count x b
-  with_stack s count a b e h = let P : List ℕ → Type 0 = λ stack. Comes l shape addresses s count x stack in subst P (list_is a b e) h
+  with_stack s count a b e h = let P : List ℕ → Type 0 = λ stack. Comes l shape addresses s count x stack in subst P (same_Some a b e) h
 
   step_comes : (s : State) (st : Step) (before mid : List ℕ) → StandAt l s.at (step_nodes (length before) st) → IsWordStep st → finds (length before) st ≡ true → length before ≤ 32 → Holds x before s
       → behind_step x st before ≡ Some mid → Comes l shape addresses s (length (step_nodes (length before) st)) x mid
@@ -301,25 +293,25 @@ module _ (l : LabelledNodes) (shape : TextShape) (addresses : List ℕ) (x : ℕ
   step_comes s Argument (v ∷ rest) mid here word finds few h e =
       let room = ltb-true (suc (length rest)) 32 finds in
       with_stack s 2 (x ∷ v ∷ rest) mid e (put_further s (node (Unary Mov) (v0 ∷ v1 ∷ [])) x v rest (λ t r. rw r refl) h.word (omega arith) here h)
-  step_comes s Negate [] mid here word finds few h e = no_list mid e
+  step_comes s Negate [] mid here word finds few h e = absurd (none-some mid e)
   step_comes s Negate (a ∷ rest) mid here word finds few h e = with_stack s 1 (negated a ∷ rest) mid e (negate_comes s a rest here h)
-  step_comes s (Operation op) [] mid here word finds few h e = no_list mid e
-  step_comes s (Operation op) (b ∷ []) mid here word finds few h e = no_list mid e
+  step_comes s (Operation op) [] mid here word finds few h e = absurd (none-some mid e)
+  step_comes s (Operation op) (b ∷ []) mid here word finds few h e = absurd (none-some mid e)
   step_comes s (Operation op) (b ∷ a ∷ rest) mid here word finds few h e =
       let found = some_list (λ v. Some (v ∷ rest)) (binary_value op a b) mid e in
       with_stack s 2 (found.0 ∷ rest) mid found.2 (operate_comes s op a b found.0 rest found.1 (omega arith) here h)
 
 long_behind : (x : ℕ) (st : Step) (before mid : List ℕ) → behind_step x st before ≡ Some mid → length mid ≡ behind (length before) st
-long_behind x (Number n) before mid e = let same = ap length (list_is (n ∷ before) mid e) in omega (arith, same)
-long_behind x Argument before mid e = let same = ap length (list_is (x ∷ before) mid e) in omega (arith, same)
-long_behind x Negate [] mid e = no_list mid e
-long_behind x Negate (a ∷ rest) mid e = sym (ap length (list_is (negated a ∷ rest) mid e))
-long_behind x (Operation op) [] mid e = no_list mid e
-long_behind x (Operation op) (b ∷ []) mid e = no_list mid e
+long_behind x (Number n) before mid e = let same = ap length (same_Some (n ∷ before) mid e) in omega (arith, same)
+long_behind x Argument before mid e = let same = ap length (same_Some (x ∷ before) mid e) in omega (arith, same)
+long_behind x Negate [] mid e = absurd (none-some mid e)
+long_behind x Negate (a ∷ rest) mid e = sym (ap length (same_Some (negated a ∷ rest) mid e))
+long_behind x (Operation op) [] mid e = absurd (none-some mid e)
+long_behind x (Operation op) (b ∷ []) mid e = absurd (none-some mid e)
 long_behind x (Operation op) (b ∷ a ∷ rest) mid e = by_value (binary_value op a b) e where
   by_value : (o : Option ℕ) → option_and_then (λ v. Some (v ∷ rest)) o ≡ Some mid → length mid ≡ suc (suc (length rest)) - 1
-  by_value None e = no_list mid e
-  by_value (Some v) e = let same = ap length (list_is (v ∷ rest) mid e) in omega (arith, same)
+  by_value None e = absurd (none-some mid e)
+  by_value (Some v) e = let same = ap length (same_Some (v ∷ rest) mid e) in omega (arith, same)
 
 most_behind : (st : Step) (values : ℕ) → finds values st ≡ true → values ≤ 32 → behind values st ≤ 32
 most_behind (Number n) values h few = let room = ltb-true values 32 h in omega arith
@@ -331,7 +323,7 @@ pub worked_out : NodesWorkExpressionsOut
 unfolding iter
 worked_out l shape addresses s x [] before after here words whole few h e =
     let P : List ℕ → Type 0 = λ stack. Holds x stack s in
-    record { to = s; run = refl; at = (let z : s.at ≡ s.at + 0 = omega arith in z); holds = subst P (list_is before after e) h }
+    record { to = s; run = refl; at = (let z : s.at ≡ s.at + 0 = omega arith in z); holds = subst P (same_Some before after e) h }
 worked_out l shape addresses s x (st ∷ steps) before after here words whole few h e =
     let values = length before in
     let found = some_list (behind_steps x steps) (behind_step x st before) after e in

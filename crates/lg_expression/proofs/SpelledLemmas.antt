@@ -1,6 +1,8 @@
 -- What a text spells is read.
 use Rattle.std.proofs.Common.{◌≡◌, ◌⊎◌, inl, inr, ⊎_elim, ℕ, suc, ◌+◌, ◌-◌, ◌*◌, ◌<◌, ◌≤◌, ◌^◌, ◌==◌, nat_le, nat_lt, Bool, true, false, if◌then◌else◌, List, [], ◌∷◌, ◌++◌, Option, Some, None, Result, Ok, Err, refl, sym, ap, subst, ◌∙◌, arith, append_assoc, append-nil, lt-ltb, le-leb, ltb-true, leb-true, eqb-true}
 use Rattle.std.specs.Int.{is_in_range}
+use Rattle.std.proofs.lemmas.Bool.{false_from_ne_true}
+use Rattle.std.proofs.lemmas.Option.{none-some}
 use Rattle.lg_op.specs.declared.op.BinaryOp.{BinaryOp}
 use Rattle.lg_op.specs.declared.op.BinaryOp.TheVariants.{Add, Sub, Mul, Div, Lt, Gt, Eq}
 use Rattle.lg_expression.specs.declared.reading.Next.{Next}
@@ -51,12 +53,8 @@ fits_more level (waits.Open ∷ ws) h = refl
 fits_more level (waits.Negate ∷ ws) h = le-leb 4 (suc level) (omega (arith, leb-true 4 level h))
 fits_more level (waits.Operation o ∷ ws) h = lt-ltb (closeness o) (suc level) (omega (arith, ltb-true (closeness o) level h))
 
-not_true : (b : Bool) → (b ≡ true → ⊥) → b ≡ false
-not_true true h = absurd (h refl)
-not_true false h = refl
-
 pub not_le : (n m : ℕ) → m < n → nat_le n m ≡ false
-not_le n m h = not_true (nat_le n m) (λ e. let le : n ≤ m = leb-true n m e in omega arith)
+not_le n m h = false_from_ne_true (nat_le n m) (λ e. let le : n ≤ m = leb-true n m e in omega arith)
 
 -- nothing goes for an operation of a level that fits
 none_given : (level : ℕ) (ws : List Waiting) → level ≤ 3 → fits level ws ≡ true → (given level ws ≡ []) × (kept level ws ≡ ws)
@@ -76,9 +74,6 @@ operation_given least o ws h = let yes : nat_le least (closeness o) ≡ true = l
 range_is : (d : ℕ) → d < 10 → is_in_range 48 57 (48 + d) ≡ true
 range_is d h = rw (le-leb 48 (48 + d) (omega arith), le-leb (48 + d) 57 (omega arith)) refl
 
-no_sign : {A : Type 0} (op : BinaryOp) → None ≡ Some op → A
-no_sign op e = cc
-
 taken_digit : (d : ℕ) (s : State) → d < 10 → taken (48 + d) s ≡ digit_from s.next d s
 taken_digit d s h =
     let in_range : is_in_range 48 57 (48 + d) ≡ true = range_is d h in
@@ -94,7 +89,7 @@ pub by_sign : (P : ℕ → BinaryOp → Type 0) → P 42 Mul → P 47 Div → P 
 by_sign P mul div add sub lt gt eq byte op e =
     let at : (k : ℕ) (o : BinaryOp) → P k o → (byte ≡ k) × (o ≡ op) → P byte op = λ k o p h. subst (λ (x : ℕ). P x op) (sym h.0) (subst (λ (x : BinaryOp). P k x) h.1 p) in
     ⊎_elim (at 42 Mul mul) (λ e1. ⊎_elim (at 47 Div div) (λ e2. ⊎_elim (at 43 Add add) (λ e3. ⊎_elim (at 45 Sub sub) (λ e4. ⊎_elim (at 60 Lt lt) (λ e5. ⊎_elim (at 62 Gt gt) (λ e6. ⊎_elim (at 61 Eq eq)
-    (λ (e7 : None ≡ Some op). no_sign op e7)
+    (λ (e7 : None ≡ Some op). absurd (none-some op e7))
     (choose byte 61 Eq _ op _ refl e6)) (choose byte 62 Gt _ op _ refl e5)) (choose byte 60 Lt _ op _ refl e4)) (choose byte 45 Sub _ op _ refl e3)) (choose byte 43 Add _ op _ refl e2)) (choose byte 47 Div _ op _ refl e1)) (choose byte 42 Mul _ op _ refl e)
 
 taken_sign : (byte : ℕ) (op : BinaryOp) (s : State) → operation_at byte ≡ Some op → taken byte s ≡ operator_from (ended s).next op (ended s)

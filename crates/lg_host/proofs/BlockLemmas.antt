@@ -4,7 +4,7 @@ use Rattle.std.specs.Prelude.{◌==◌, ◌&&◌, is_some, unwrap_or, if◌then�
 use Rattle.std.proofs.lemmas.Bool.{cases_eq, ne_eqb, false≢true, or_right, and_parts}
 use mathlib.Core.Path.{fun_ext}
 use Rattle.lg_base.specs.Spaces.{put_some, mapped, in_heap, raised}
-use Rattle.lg_base.proofs.SpaceLemmas.{mapped-each}
+use Rattle.lg_base.proofs.SpaceLemmas.{mapped-each, put_some_same}
 use Rattle.lg_host.specs.Runs.{Bytes}
 use Rattle.lg_host.specs.Blocks.{unchanged, over, in_range, copied, filled, can_write, overlaps}
 use Rattle.lg_host.specs.Host.{rounded}
@@ -83,15 +83,12 @@ next-in d i j e = grind arith
 other-in : (d i j : ℕ) → (j ≡ d + i → ⊥) → in_range d i j ≡ in_range d (i + 1) j
 other-in d i j ne = grind arith
 
-put-same : (f : Bytes) (a v j : ℕ) → j ≡ a → put_some f a v j ≡ Some v
-put-same f a v j e = grind arith
-
 put-other : (f : Bytes) (a v j : ℕ) → (j ≡ a → ⊥) → put_some f a v j ≡ f j
 put-other f a v j ne = grind arith
 
 filled-at : (m : Bytes) (d b i j : ℕ) → put_some (over (filled d b i) m) (d + i) b j ≡ over (filled d b (i + 1)) m j
 filled-at m d b i j = ⊎_elim
-    (λ (e : j ≡ d + i). put-same (over (filled d b i) m) (d + i) b j e ∙ sym (over-some (filled d b (i + 1) j) (m j) b (ap (λ t. if t then Some b else None) (next-in d i j e))))
+    (λ (e : j ≡ d + i). put_some_same (over (filled d b i) m) (d + i) b j e ∙ sym (over-some (filled d b (i + 1) j) (m j) b (ap (λ t. if t then Some b else None) (next-in d i j e))))
     (λ (ne : j ≡ d + i → ⊥). put-other (over (filled d b i) m) (d + i) b j ne ∙ ap (λ t. let o : Option ℕ = if t then Some b else None in if is_some o then o else m j) (other-in d i j ne))
     (cases_eq j (d + i))
 
@@ -112,7 +109,7 @@ copied-out m d s n i lt apart = over-none (copied m d s i (s + i)) (m (s + i)) (
 
 copied-at : (m : Bytes) (d s i v j : ℕ) → m (s + i) ≡ Some v → put_some (over (copied m d s i) m) (d + i) v j ≡ over (copied m d s (i + 1)) m j
 copied-at m d s i v j is = ⊎_elim
-    (λ (e : j ≡ d + i). let x : s + (j - d) ≡ s + i = omega arith in put-same (over (copied m d s i) m) (d + i) v j e ∙ sym (over-some (copied m d s (i + 1) j) (m j) v (ap (λ t. if t then m (s + (j - d)) else None) (next-in d i j e) ∙ ap m x ∙ is)))
+    (λ (e : j ≡ d + i). let x : s + (j - d) ≡ s + i = omega arith in put_some_same (over (copied m d s i) m) (d + i) v j e ∙ sym (over-some (copied m d s (i + 1) j) (m j) v (ap (λ t. if t then m (s + (j - d)) else None) (next-in d i j e) ∙ ap m x ∙ is)))
     (λ (ne : j ≡ d + i → ⊥). put-other (over (copied m d s i) m) (d + i) v j ne ∙ ap (λ t. let o : Option ℕ = if t then m (s + (j - d)) else None in if is_some o then o else m j) (other-in d i j ne))
     (cases_eq j (d + i))
 

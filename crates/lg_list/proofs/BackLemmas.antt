@@ -5,7 +5,7 @@ use Rattle.std.specs.List.{All}
 use Rattle.std.specs.Option.{option_map}
 use Rattle.std.proofs.lemmas.List.{take-append-drop, drop-drop, length-take, length-drop, drop_all}
 use Rattle.std.proofs.Math.Seq.{drop-append_seam}
-use Rattle.std.proofs.lemmas.List.Elements.{All-append, All-nil, All-cons}
+use Rattle.std.proofs.lemmas.List.Elements.{All-append, All-nil, All-cons, All-head, All-tail}
 use Rattle.lg_base.specs.Layout.{code_base}
 use Rattle.lg_base.specs.declared.target.Target.{Target}
 use Rattle.lg_base.proofs.WordFrontLemmas.{word_again}
@@ -30,12 +30,6 @@ use Rattle.lg_list.specs.Lines.Entry.{Label, Node, Code}
 use Rattle.lg_list.specs.Listing.{labels_at, entry_of, bytes_between, node_entries, nodes_from, listing}
 use Rattle.lg_list.specs.Back.{IsOf, IsEntry, Back, IsWhole, IsListable}
 use Rattle.lg_list.proofs.ListingLemmas.{instructions-some, instructions-nil, Placed-below}
-
-first_of_all : {X : Type 0} (P : X → Type 0) (x : X) (xs : List X) → All P (x ∷ xs) → P x
-first_of_all P x xs all = all 0 x (omega arith)
-
-rest_of_all : {X : Type 0} (P : X → Type 0) (x : X) (xs : List X) → All P (x ∷ xs) → All P xs
-rest_of_all P x xs all = λ k d lt. all (suc k) d (omega arith)
 
 -- lines one after another
 pub joined-append : (xs ys : List Entry) → joined (xs ++ ys) ≡ joined xs ++ joined ys
@@ -68,8 +62,8 @@ instructions-again k t [] of le = instructions-nil k t
 instructions-again zero t (i ∷ is) of le = absurd (omega (arith, spelling-some i, length-append (spelling i) (joined (map Code is))))
 instructions-again (suc k) t (i ∷ is) of le =
     let rest = joined (map Code is) in
-    let some : front t (spelling i ++ rest) ≡ Some (i, length (spelling i)) = front-again t i rest (first_of_all (IsOf t) i is of) in
-    instructions-some k t (spelling i ++ rest) i (length (spelling i)) some ∙ ap (λ bs. i ∷ first_instructions k t bs) (drop-append_seam (spelling i) rest) ∙ ap (λ js. i ∷ js) (instructions-again k t is (rest_of_all (IsOf t) i is of) (omega (arith, le, spelling-some i, length-append (spelling i) rest)))
+    let some : front t (spelling i ++ rest) ≡ Some (i, length (spelling i)) = front-again t i rest (All-head (IsOf t) i is of) in
+    instructions-some k t (spelling i ++ rest) i (length (spelling i)) some ∙ ap (λ bs. i ∷ first_instructions k t bs) (drop-append_seam (spelling i) rest) ∙ ap (λ js. i ∷ js) (instructions-again k t is (All-tail (IsOf t) i is of) (omega (arith, le, spelling-some i, length-append (spelling i) rest)))
 
 pub whole-again : (t : Target) (bytes : List ℕ) (w : IsWhole t bytes) → instructions t bytes ≡ w.instructions
 whole-again t bytes w =
@@ -93,16 +87,16 @@ labels-form-one t w es false ok h = h
 pub labels-form : (t : Target) (i : ℕ) (words : List (List ℕ)) (places : List (Option Place)) → All (λ w. is_word w ≡ true) words → All (IsEntry t) (labels_at i words places)
 labels-form t i [] places ok = All-nil (IsEntry t)
 labels-form t i (w ∷ ws) [] ok = All-nil (IsEntry t)
-labels-form t i (w ∷ ws) (p ∷ ps) ok = labels-form-one t w (labels_at i ws ps) (is_at i p) (first_of_all (λ v. is_word v ≡ true) w ws ok) (labels-form t i ws ps (rest_of_all (λ v. is_word v ≡ true) w ws ok))
+labels-form t i (w ∷ ws) (p ∷ ps) ok = labels-form-one t w (labels_at i ws ps) (is_at i p) (All-head (λ v. is_word v ≡ true) w ws ok) (labels-form t i ws ps (All-tail (λ v. is_word v ≡ true) w ws ok))
 
 code-form : (t : Target) (is : List Instruction) → All (IsOf t) is → All (IsEntry t) (map Code is)
 code-form t [] of = All-nil (IsEntry t)
-code-form t (i ∷ is) of = All-cons (IsEntry t) (Code i) (map Code is) (first_of_all (IsOf t) i is of) (code-form t is (rest_of_all (IsOf t) i is of))
+code-form t (i ∷ is) of = All-cons (IsEntry t) (Code i) (map Code is) (All-head (IsOf t) i is of) (code-form t is (All-tail (IsOf t) i is of))
 
 entry-form : (t : Target) (nodes : List OpNode) (i : ℕ) → All (λ n. n.line < 2 ^ 32) nodes → All (IsEntry t) (entry_of (slice_get nodes i))
 entry-form t [] i ok = All-nil (IsEntry t)
-entry-form t (n ∷ ns) zero ok = All-cons (IsEntry t) (Node n.line n.op) [] (first_of_all (λ m. m.line < 2 ^ 32) n ns ok) (All-nil (IsEntry t))
-entry-form t (n ∷ ns) (suc i) ok = entry-form t ns i (rest_of_all (λ m. m.line < 2 ^ 32) n ns ok)
+entry-form t (n ∷ ns) zero ok = All-cons (IsEntry t) (Node n.line n.op) [] (All-head (λ m. m.line < 2 ^ 32) n ns ok) (All-nil (IsEntry t))
+entry-form t (n ∷ ns) (suc i) ok = entry-form t ns i (All-tail (λ m. m.line < 2 ^ 32) n ns ok)
 
 entry-joined : (o : Option OpNode) (es : List Entry) → joined (entry_of o ++ es) ≡ joined es
 entry-joined None es = refl

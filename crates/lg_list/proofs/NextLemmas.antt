@@ -2,7 +2,7 @@
 use Rattle.std.proofs.Common.{◌≡◌, ℕ, zero, suc, ◌+◌, ◌-◌, ◌<◌, ◌≤◌, true, false, List, [], ◌∷◌, length, drop, get_or, Option, Some, None, sym, ap, ◌∙◌, arith}
 use Rattle.std.proofs.lemmas.Bool.Decides.{nat_tests}
 use Rattle.std.specs.Prelude.{slice_get, slice_index, slice_index_or, IfSome, IfNone}
-use Rattle.std.proofs.lemmas.Option.{slice_get-get_or, slice_get_within, get_or_from_slice_get}
+use Rattle.std.proofs.lemmas.Option.{slice_get-get_or, get_or_from_slice_get}
 use Rattle.lg_base.specs.Layout.{code_base}
 use Rattle.std.proofs.lemmas.List.{drop_all}
 use Rattle.lg_node.specs.declared.place.Place.{Place}
@@ -76,9 +76,6 @@ NextAt-bound i from label places n = slice_get-get_or places label None n.within
 -- and its address is among those of the labels
 pub NextAt-address : (i from label : ℕ) (bound : List (Option Place)) (places labels : List ℕ) → AreAddressed bound places labels → NextAt bound i from label → slice_get labels label ≡ Some (code_base + slice_index places i)
 NextAt-address i from label bound places labels a n = a label i (NextAt-bound i from label bound n)
-
-pub address-within : (label address : ℕ) (labels : List ℕ) → slice_get labels label ≡ Some address → label < length labels
-address-within label address labels e = slice_get_within labels label address e
 
 pub address-is : (label address : ℕ) (labels : List ℕ) → slice_get labels label ≡ Some address → slice_index labels label ≡ address
 address-is label address labels e = get_or_from_slice_get labels label address 0 e

@@ -2,7 +2,7 @@
 use Rattle.std.proofs.Common.{◌≡◌, ◌≢◌, ◌⊎◌, inl, inr, ⊎_elim, ℕ, ◌+◌, ◌-◌, ◌<◌, ◌≤◌, Bool, true, false, List, [], ◌∷◌, ◌++◌, Some, refl, sym, ap, ◌∙◌, subst, OnOk, Ok, Err, Result, length, get_or, replicate, arith}
 use Rattle.std.specs.Prelude.{slice_get, slice_set, ◌&&◌, ◌||◌, not, nat_eq}
 use Rattle.std.specs.List.{sum_by, All}
-use Rattle.std.proofs.lemmas.Bool.{cases_lt, eqb-false, and_parts, not-true}
+use Rattle.std.proofs.lemmas.Bool.{cases_lt, eqb-false, and_parts, not-true, or_cases, or_left, or_right, and_from, cases_eq}
 use Rattle.std.proofs.lemmas.List.{get_or_append_left, get_or-set_same, get_or-set_other, get_or_past, length-replicate, get_or-replicate}
 use Rattle.std.proofs.lemmas.List.Elements.{All-append}
 use Rattle.std.proofs.lemmas.List.Sums.{sum_by-set}
@@ -73,23 +73,20 @@ grown s p new = record { sets = slice_set s.sets p new; queue = s.queue ++ p ∷
 abbrev pub room : RegSet → ℕ
 room set = 256 - set.0
 
-same_or_not : (i p : ℕ) → (i ≡ p) ⊎ (i ≢ p)
-same_or_not i p = ⊎_elim (λ (h : i < p). inr (λ e. absurd (omega arith))) (λ (h : p ≤ i). ⊎_elim (λ (g : p < i). inr (λ e. absurd (omega arith))) (λ (g : i ≤ p). inl (omega arith)) (cases_lt p i)) (cases_lt i p)
-
 module _ (s : State) (p : ℕ) (new : RegSet) (in_list : p < length s.sets) (more : (r : Reg) → has (set_at s.sets p) r ≡ true → has new r ≡ true) (rises : (set_at s.sets p).0 < new.0) (byte : new.0 < 256) where
   grown_sets : (i : ℕ) (r : Reg) → has (set_at s.sets i) r ≡ true → has (set_at (grown s p new).sets i) r ≡ true
   grown_sets i r h =
       ⊎_elim
       (λ (e : i ≡ p). rw (e, get_or-set_same s.sets p new zero_set in_list) (more r (let P : ℕ → Type 0 = λ k. has (set_at s.sets k) r ≡ true in subst P e h)))
       (λ (n : i ≢ p). rw (get_or-set_other s.sets p i new zero_set n) h)
-      (same_or_not i p)
+      (cases_eq i p)
 
   grown_queued : (i : ℕ) → (set_at (grown s p new).sets i ≡ set_at s.sets i) ⊎ IsQueued (grown s p new).queue (length s.queue) i
   grown_queued i =
       ⊎_elim
       (λ (e : i ≡ p). inr record { place = length s.queue; behind = omega arith; here = get_pushed s.queue p ∙ ap Some (sym e) })
       (λ (n : i ≢ p). inl (get_or-set_other s.sets p i new zero_set n))
-      (same_or_not i p)
+      (cases_eq i p)
 
   grown_weight : weight (grown s p new) ≤ weight s
   grown_weight =
@@ -108,26 +105,6 @@ module _ (s : State) (p : ℕ) (new : RegSet) (in_list : p < length s.sets) (mor
   }
 
 -- ---- passing on
-pub on_ok : {T E A B : Type 0} (r : Result T E) → OnOk r A → (A → B) → OnOk r B
-on_ok (Ok x) a f = f a
-on_ok (Err e) a f = tt
-
-or_either : (b c : Bool) → (b || c) ≡ true → (b ≡ true) ⊎ (c ≡ true)
-or_either true c e = inl refl
-or_either false c e = inr e
-
-or_first : (b c : Bool) → b ≡ true → (b || c) ≡ true
-or_first true c e = refl
-or_first false c e = cc
-
-or_second : (b c : Bool) → c ≡ true → (b || c) ≡ true
-or_second true c e = refl
-or_second false c e = e
-
-both_true : (b c : Bool) → b ≡ true → c ≡ true → (b && c) ≡ true
-both_true true c e f = f
-both_true false c e f = cc
-
 record Found (f : Reg → Bool) : Type 0 where
   register : Reg
   has_it : f register ≡ true
@@ -139,19 +116,19 @@ any_found f e =
     (λ g. ⊎_elim (λ h. record { register = R2; has_it = h })
     (λ g. ⊎_elim (λ h. record { register = V0; has_it = h })
     (λ g. ⊎_elim (λ h. record { register = V1; has_it = h }) (λ h. record { register = V2; has_it = h })
-    (or_either (f V1) (f V2) g))
-    (or_either (f V0) (f V1 || f V2) g))
-    (or_either (f R2) (f V0 || (f V1 || f V2)) g))
-    (or_either (f R1) (f R2 || (f V0 || (f V1 || f V2))) g))
-    (or_either (f R0) (f R1 || (f R2 || (f V0 || (f V1 || f V2)))) e)
+    (or_cases (f V1) (f V2) g))
+    (or_cases (f V0) (f V1 || f V2) g))
+    (or_cases (f R2) (f V0 || (f V1 || f V2)) g))
+    (or_cases (f R1) (f R2 || (f V0 || (f V1 || f V2))) g))
+    (or_cases (f R0) (f R1 || (f R2 || (f V0 || (f V1 || f V2)))) e)
 
 found_any : (f : Reg → Bool) (q : Reg) → q ≢ Fp → f q ≡ true → any_register f ≡ true
-found_any f R0 n e = or_first (f R0) _ e
-found_any f R1 n e = or_second (f R0) _ (or_first (f R1) _ e)
-found_any f R2 n e = or_second (f R0) _ (or_second (f R1) _ (or_first (f R2) _ e))
-found_any f V0 n e = or_second (f R0) _ (or_second (f R1) _ (or_second (f R2) _ (or_first (f V0) _ e)))
-found_any f V1 n e = or_second (f R0) _ (or_second (f R1) _ (or_second (f R2) _ (or_second (f V0) _ (or_first (f V1) _ e))))
-found_any f V2 n e = or_second (f R0) _ (or_second (f R1) _ (or_second (f R2) _ (or_second (f V0) _ (or_second (f V1) _ e))))
+found_any f R0 n e = or_left (f R0) _ e
+found_any f R1 n e = or_right (f R0) _ (or_left (f R1) _ e)
+found_any f R2 n e = or_right (f R0) _ (or_right (f R1) _ (or_left (f R2) _ e))
+found_any f V0 n e = or_right (f R0) _ (or_right (f R1) _ (or_right (f R2) _ (or_left (f V0) _ e)))
+found_any f V1 n e = or_right (f R0) _ (or_right (f R1) _ (or_right (f R2) _ (or_right (f V0) _ (or_left (f V1) _ e))))
+found_any f V2 n e = or_right (f R0) _ (or_right (f R1) _ (or_right (f R2) _ (or_right (f V0) _ (or_right (f V1) _ e))))
 found_any f Fp n e = absurd (n refl)
 
 has_no_fp : (set : RegSet) (q : Reg) → has set q ≡ true → q ≢ Fp
@@ -171,7 +148,7 @@ passes_none p f h r e =
     ⊎_elim
     (λ (x : (f r && not (has p.writes r)) ≡ true). let g : false ≡ true = sym first ∙ x in cc)
     (λ (x : (has p.feeds r && any_register (λ q. f q && has p.writes q)) ≡ true). let y = and_parts (has p.feeds r) (any_register (λ q. f q && has p.writes q)) x in let g : false ≡ true = sym none ∙ y.1 in cc)
-    (or_either (f r && not (has p.writes r)) (has p.feeds r && any_register (λ q. f q && has p.writes q)) e)
+    (or_cases (f r && not (has p.writes r)) (has p.feeds r && any_register (λ q. f q && has p.writes q)) e)
 
 pub passed_are_needed : (points : List Point) (i k : ℕ) (set passing : RegSet) → IsArc points i k → ((r : Reg) → has set r ≡ true → IsWanted points r k) → ((r : Reg) → has passing r ≡ passes (point_at points i) (has set) r) → (r : Reg) → has passing r ≡ true → IsWanted points r i
 passed_are_needed points i k set passing arc needed is r h =
@@ -184,7 +161,7 @@ passed_are_needed points i k set passing arc needed is r h =
     let q = any_found (λ q. has set q && has (point_at points i).writes q) parts.1 in
     let both = and_parts (has set q.register) (has (point_at points i).writes q.register) q.has_it in
     read_for r q.register i k parts.0 both.1 arc (needed q.register both.0))
-    (or_either (has set r && not (has (point_at points i).writes r)) (has (point_at points i).feeds r && any_register (λ q. has set q && has (point_at points i).writes q)) (sym (is r) ∙ h))
+    (or_cases (has set r && not (has (point_at points i).writes r)) (has (point_at points i).feeds r && any_register (λ q. has set q && has (point_at points i).writes q)) (sym (is r) ∙ h))
 
 pub read_at : {A : Type 0} (xs : List A) (i : ℕ) (x d : A) → i < length xs → x ≡ get_or xs i x → get_or xs i d ≡ x
 read_at xs i x d lt e = get_or_from_slice_get xs i x d (slice_get-get_or xs i x lt ∙ ap Some (sym e))
@@ -224,7 +201,7 @@ searching_on points count from p s t h here g sound spread = record {
       (λ (q : IsQueued s.queue from k). inl record { place = q.place; behind = later s.queue from q.place k p q.behind q.here here n; here = g.queue q.place k q.here })
       (λ (d : HasSpread points k (set_at s.sets k) s). inr (λ i arc r a. g.sets i r (d i arc r (ap (λ (x : RegSet). passes (point_at points i) (has x) r) (sym same) ∙ a))))
       (h.settled k))
-      (same_or_not k p))
+      (cases_eq k p))
       (λ (q : IsQueued t.queue (length s.queue) k). inl record { place = q.place; behind = (let lt = slice_get_within s.queue from p here in omega (arith, lt, q.behind)); here = q.here })
       (g.queued k);
 }
@@ -236,13 +213,13 @@ searched points count from s h end r i (read_for r1 q j k f w arc n) =
     (λ (x : IsQueued s.queue from k). absurd (let lt = slice_get_within s.queue x.place k x.here in omega (arith, lt, x.behind, end)))
     (λ (d : HasSpread points k (set_at s.sets k) s).
     let there = searched points count from s h end q k n in
-    let any = found_any (λ x. has (set_at s.sets k) x && has (point_at points i).writes x) q (has_no_fp (set_at s.sets k) q there) (both_true (has (set_at s.sets k) q) (has (point_at points i).writes q) there w) in
-    d i arc r (or_second (has (set_at s.sets k) r && not (has (point_at points i).writes r)) _ (both_true (has (point_at points i).feeds r) _ f any)))
+    let any = found_any (λ x. has (set_at s.sets k) x && has (point_at points i).writes x) q (has_no_fp (set_at s.sets k) q there) (and_from (has (set_at s.sets k) q) (has (point_at points i).writes q) there w) in
+    d i arc r (or_right (has (set_at s.sets k) r && not (has (point_at points i).writes r)) _ (and_from (has (point_at points i).feeds r) _ f any)))
     (h.settled k)
 searched points count from s h end r i (kept_to r1 j k w arc n) =
     ⊎_elim
     (λ (q : IsQueued s.queue from k). absurd (let lt = slice_get_within s.queue q.place k q.here in omega (arith, lt, q.behind, end)))
-    (λ (d : HasSpread points k (set_at s.sets k) s). d i arc r (or_first (has (set_at s.sets k) r && not (has (point_at points i).writes r)) _ (both_true (has (set_at s.sets k) r) (not (has (point_at points i).writes r)) (searched points count from s h end r k n) (ap not w))))
+    (λ (d : HasSpread points k (set_at s.sets k) s). d i arc r (or_left (has (set_at s.sets k) r && not (has (point_at points i).writes r)) _ (and_from (has (set_at s.sets k) r) (not (has (point_at points i).writes r)) (searched points count from s h end r k n) (ap not w))))
     (h.settled k)
 
 pub all_needed : (points : List Point) (count from : ℕ) (s : State) → IsSearching points count from s → length s.queue ≤ from → AreWanted points count s.sets

@@ -4,6 +4,7 @@ use Rattle.std.specs.Prelude.{◌||◌, slice_get, slice_index_or, is_none}
 use Rattle.std.specs.List.{list_any}
 use Rattle.std.specs.Option.{option_flatten}
 use Rattle.std.proofs.lemmas.Option.{slice_get_cases}
+use Rattle.std.proofs.lemmas.Bool.{true≢false}
 use Rattle.lg_op.specs.declared.operand.Operand.{Operand}
 use Rattle.lg_op.specs.declared.operand.Operand.TheVariants as operand
 use Rattle.lg_op.specs.declared.node.Node.{Node}
@@ -18,20 +19,14 @@ or_left true c h = h
 or_left false c h = refl
 
 or_right : (b c : Bool) → b || c ≡ false → c ≡ false
-or_right true c h = absurd (by h)
-  where
-    by : true ≡ false → ⊥
-    by e = cc
+or_right true c h = absurd (true≢false h)
 or_right false c h = h
 
 bound : (places : List (Option Place)) (k : ℕ) → is_none (option_flatten (slice_get places k)) ≡ false → k < length places
 bound places k h = ⊎_elim (λ x. x.1) (λ x. absurd (past x.1)) (slice_get_cases places k).1
   where
     past : slice_get places k ≡ None → ⊥
-    past e = by (subst (λ (o : Option (Option Place)). is_none (option_flatten o) ≡ false) e h)
-      where
-        by : true ≡ false → ⊥
-        by e = cc
+    past e = true≢false (subst (λ (o : Option (Option Place)). is_none (option_flatten o) ≡ false) e h)
 
 known_one : (places : List (Option Place)) (x : Operand) → is_missing places x ≡ false → IsKnown (length places) x
 known_one places (operand.Reg r) h = tt

@@ -1,6 +1,7 @@
 -- What a node of an accepted text asks of a state that fits its shape.
 use Rattle.std.proofs.Common.{◌≡◌, ◌≢◌, ℕ, ◌+◌, ◌<◌, ◌≤◌, Bool, true, false, not, Option, Some, None, refl, sym, ap, ◌∙◌, length, subst, arith}
 use Rattle.std.specs.Prelude.{◌&&◌, slice_get, is_none}
+use Rattle.std.proofs.lemmas.Bool.{false≢true}
 use Rattle.lg_op.specs.declared.node.Node.{Node}
 use Rattle.lg_op.specs.declared.op.Op.{Op}
 use Rattle.lg_op.specs.declared.op.Op.TheVariants as op
@@ -41,12 +42,9 @@ module _ (l : LabelledNodes) (shape : TextShape) (w : IsWellShaped l) (s : State
       by : (p : ℕ) × (home l.nodes s.at ≡ Some p) → HasBegun s
       by x =
           let r : RunsIn shape s x.0 = subst (IsTopOf l shape s) x.1 fits.top in
-          let other : s.at ≢ r.function.entry = λ e. differ (sym no_prolog ∙ w.prologs s.at (x.1 ∙ ap Some (sym r.entry ∙ sym e))) in
+          let other : s.at ≢ r.function.entry = λ e. false≢true (sym no_prolog ∙ w.prologs s.at (x.1 ∙ ap Some (sym r.entry ∙ sym e))) in
           let size = r.top.behind other in
           omega (arith, size.0, size.1, whole r.function)
-        where
-          differ : false ≡ true → ⊥
-          differ e = cc
 
   can_begin : is_prolog n.op ≡ true → CanBegin shape.functions s
   can_begin begins =

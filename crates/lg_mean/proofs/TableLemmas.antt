@@ -3,6 +3,7 @@ use Rattle.std.proofs.Common.{◌≡◌, ℕ, zero, suc, length, ◌+◌, ◌<�
 use Rattle.std.specs.Prelude.{◌==◌, ◌&&◌, nat_eq, nat_lt, nat_le, if◌then◌else◌, slice_get, slice_index, slice_index_or}
 use Rattle.std.specs.Map.{lookup}
 use Rattle.std.specs.Option.{option_flatten}
+use Rattle.std.proofs.lemmas.Option.{same_Some}
 use Rattle.lg_node.specs.declared.function.Function.{Function}
 use Rattle.lg_node.specs.declared.place.Place.{Place}
 use Rattle.lg_node.specs.declared.place.Place.TheVariants as place
@@ -35,17 +36,8 @@ and_comm true false = refl
 and_comm false true = refl
 and_comm false false = refl
 
-differ : false ≡ true → ⊥
-differ e = cc
-
 none_some : {A : Type 0} (x : A) → ◌≡◌ {A = Option A} None (Some x) → ⊥
 none_some x e = cc
-
-some_is : (x y : Function) → Some x ≡ Some y → x ≡ y
-some_is x y e = cc
-
-number_is : (x y : ℕ) → Some x ≡ Some y → x ≡ y
-number_is x y e = cc
 
 -- ---- the function of a node
 pub record IsHere (l : LabelledNodes) (k : ℕ) (g : Function) : Type 0 where
@@ -61,7 +53,7 @@ module _ (l : LabelledNodes) (shape : TextShape) (A : List ℕ) (hf : HasFunctio
       outside = rw (fe, (hf.outside k out).0) refl
   here_in k g (Some p) inside e =
       let x : (f : Function) × IsAt l shape k p f = function_at_home l shape hf fe k p inside in
-      let same : x.0 ≡ g = some_is x.0 g (sym x.1.here ∙ e) in
+      let same : x.0 ≡ g = same_Some x.0 g (sym x.1.here ∙ e) in
       let is : IsFunction l.nodes g = subst (IsFunction l.nodes) same x.1.is in
       let entry : g.entry ≡ p = ap (λ (f : Function). f.entry) (sym same) ∙ x.1.entry in
       let range = is.only k (inside ∙ ap Some (sym entry)) in
@@ -109,7 +101,7 @@ module _ (l : LabelledNodes) (shape : TextShape) (A : List ℕ) (hf : HasFunctio
           never true u =
               let lt : f.entry < k = grind (arith, u) in
               let le : k ≤ f.last = grind (arith, u) in
-              let entry : f.entry ≡ g.entry = number_is f.entry g.entry (sym (i.all k (omega (arith, lt)) le) ∙ x.is.all k x.from x.to) in
+              let entry : f.entry ≡ g.entry = same_Some f.entry g.entry (sym (i.all k (omega (arith, lt)) le) ∙ x.is.all k x.from x.to) in
               let no_more : ⊥ = grind (arith, e, entry) in
               absurd no_more
 

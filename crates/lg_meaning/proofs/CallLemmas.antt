@@ -1,7 +1,7 @@
 -- Functions that begin, calls and returns keep the fit.
 use Rattle.std.proofs.Common.{◌≡◌, ⊎_elim, ℕ, ◌+◌, ◌-◌, ◌<◌, ◌≤◌, true, false, List, [], ◌∷◌, Option, Some, None, refl, sym, ap, ◌∙◌, length, subst, arith}
 use Rattle.std.specs.Prelude.{slice_get, slice_index_or, nat_le, is_some, if◌then◌else◌}
-use Rattle.std.proofs.lemmas.Bool.{eqb-true}
+use Rattle.std.proofs.lemmas.Bool.{eqb-true, false≢true}
 use Rattle.std.proofs.lemmas.Option.{same_Some}
 use Rattle.lg_base.specs.HostNames.{host_by_address}
 use Rattle.lg_base.specs.declared.host_name.HostName.{HostName}
@@ -58,10 +58,7 @@ call_ends None (op.Control control.Call last) e h = refl
 call_ends (Some call) (op.Control control.Call last) e h = h refl
 call_ends None (op.Control control.Finish last) e h = refl
 call_ends (Some call) (op.Control control.Finish last) e h = refl
-call_ends c o e h = absurd (by e)
-  where
-    by : false ≡ true → ⊥
-    by e = cc
+call_ends c o e h = absurd (false≢true e)
 
 call_goes_on : (o : Op) → is_call o ≡ true → is_epilog o ≡ false
 call_goes_on (op.Plain plain.Epilog) e = cc

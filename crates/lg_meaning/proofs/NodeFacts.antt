@@ -1,11 +1,11 @@
 -- What is known at a node of an accepted text, in a state that fits.
-use Rattle.std.proofs.Common.{◌≡◌, ◌≢◌, ℕ, zero, suc, ◌+◌, Bool, true, false, not, List, [], ◌∷◌, Option, Some, None, refl, sym, ap, ◌∙◌, length, subst}
+use Rattle.std.proofs.Common.{◌≡◌, ◌≢◌, ℕ, ◌+◌, Bool, true, false, not, List, [], ◌∷◌, Option, Some, None, refl, sym, ap, ◌∙◌, length, subst}
 use Rattle.std.specs.Prelude.{◌&&◌, slice_get, is_none}
 use Rattle.std.specs.Option.{option_and_then}
-use Rattle.std.specs.List.{list_any}
-use Rattle.std.proofs.lemmas.Bool.{eq-eqb, or_right}
+use Rattle.std.proofs.lemmas.Bool.{eq-eqb, or_right, false≢true}
 use Rattle.std.proofs.lemmas.List.Elements.{All-get_or}
 use Rattle.std.proofs.lemmas.Option.{same_Some, slice_get_within, get_or_from_slice_get}
+use Rattle.std.proofs.lemmas.Map.Keys.{any_passes_from_place}
 use Rattle.lg_op.specs.declared.op.Op.{Op}
 use Rattle.lg_op.specs.declared.op.Op.TheVariants as op
 use Rattle.lg_op.specs.declared.op.ControlOp.TheVariants as control
@@ -19,7 +19,6 @@ use Rattle.lg_op.specs.declared.node.Node.{Node}
 use Rattle.lg_op.specs.Forms.{admit}
 use Rattle.lg_op.specs.Nodes.{InForm}
 use Rattle.lg_node.specs.declared.function.Function.{Function}
-use Rattle.lg_node.specs.declared.place.Place.{Place}
 use Rattle.lg_node.specs.declared.place.Place.TheVariants as place
 use Rattle.lg_node.specs.declared.preparation.Preparation.{Preparation}
 use Rattle.lg_node.specs.Nodes.{LabelledNodes}
@@ -75,13 +74,6 @@ target_first fs (operand.Number k ∷ ys) e = cc
 target_first fs (operand.Host name ∷ ys) e = cc
 target_first fs (operand.Slot k ∷ ys) e = cc
 
--- ---- labels
--- a label is bound at the node that is its place
-any_at : (test : Option Place → Bool) (places : List (Option Place)) (x : ℕ) (o : Option Place) → slice_get places x ≡ Some o → test o ≡ true → list_any test places ≡ true
-any_at test [] x o e t = cc
-any_at test (q ∷ qs) zero o e t = let same : q ≡ o = cc in rw (same, t) refl
-any_at test (q ∷ qs) (suc x) o e t = or_right (test q) (list_any test qs) (any_at test qs x o e t)
-
 -- ---- functions
 -- a node that may not stand outside of every function stands in one
 pub inside_one : (o : Option ℕ) (may : Bool) → may ≡ false → (is_none o && not may) ≡ false → (p : ℕ) × (o ≡ Some p)
@@ -112,9 +104,6 @@ pub record Running (l : LabelledNodes) (shape : TextShape) (s : State) (p : ℕ)
   pub size : s.frame.size ≡ frame_of function
   pub locals : s.frame.locals ≡ function.locals
 
-pub differ : {A : Type 0} → false ≡ true → A
-differ e = cc
-
 module _ (l : LabelledNodes) (shape : TextShape) (s : State) (n : Node) (x : AtNode l shape s n) where
   pub at_home : (k p : ℕ) → home l.nodes k ≡ Some p → (f : Function) × IsAt l shape k p f
   at_home k p h = function_at_home l shape x.has x.same k p h
@@ -129,7 +118,7 @@ module _ (l : LabelledNodes) (shape : TextShape) (s : State) (n : Node) (x : AtN
       let f = at_home s.at p h in
       let same : r.function ≡ f.0 = same_Some r.function f.0 (sym r.here ∙ f.1.here) in
       let no_prolog : is_prolog_at (slice_get l.nodes s.at) ≡ false = rw x.here other_op in
-      let other : s.at ≢ r.function.entry = λ e. differ (sym no_prolog ∙ x.shaped.prologs s.at (h ∙ ap Some (sym r.entry ∙ sym e))) in
+      let other : s.at ≢ r.function.entry = λ e. false≢true (sym no_prolog ∙ x.shaped.prologs s.at (h ∙ ap Some (sym r.entry ∙ sym e))) in
       let z = r.top.behind other in
       record { home = h; function = f.0; is = f.1; size = z.0 ∙ ap frame_of same; locals = z.1 ∙ ap (λ g. g.locals) same }
 
@@ -143,7 +132,7 @@ module _ (l : LabelledNodes) (shape : TextShape) (s : State) (n : Node) (x : AtN
   pub unprepared_label : (y k p : ℕ) → slice_get l.places y ≡ Some (Some (place.Node k)) → home l.nodes k ≡ Some p → prepared_before l.nodes k ≡ None
   unprepared_label y k p bound h =
       let there = node_within l.nodes k (home_within l.nodes k p h) in
-      x.shaped.unprepared k there.0 there.1 (or_right (breaks_preparation there.0.op) (is_labelled l.places k) (any_at (is_at k) l.places y (Some (place.Node k)) bound (eq-eqb k k refl)))
+      x.shaped.unprepared k there.0 there.1 (or_right (breaks_preparation there.0.op) (is_labelled l.places k) (any_passes_from_place (is_at k) l.places y (Some (place.Node k)) bound (eq-eqb k k refl)))
 
   pub unprepared_here : breaks_preparation n.op ≡ true → prepared_before l.nodes s.at ≡ None
   unprepared_here breaks = x.shaped.unprepared s.at n x.here (rw breaks refl)

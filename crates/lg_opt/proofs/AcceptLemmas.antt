@@ -3,7 +3,7 @@ use Rattle.std.proofs.Common.{◌≡◌, ⊎_elim, ℕ, zero, suc, ◌<◌, ◌�
 use Rattle.std.specs.Prelude.{◌==◌, is_none, if◌then◌else◌, slice_get}
 use Rattle.std.specs.List.{find, list_any}
 use Rattle.std.specs.Option.{option_map, option_and_then}
-use Rattle.std.proofs.lemmas.Bool.{cases_lt, eqb-true, eqb-false, eq-eqb, and_parts, not-true, not-false, or_parts}
+use Rattle.std.proofs.lemmas.Bool.{cases_lt, eqb-true, eqb-false, eq-eqb, and_parts, not-true, not-false, or_parts, or_from, false≢true, or_right}
 use Rattle.std.proofs.lemmas.Bool.Decides.{eqb_tells}
 use Rattle.std.proofs.Math.Seq.{take-length}
 use Rattle.std.proofs.lemmas.Option.{slice_get_within}
@@ -42,9 +42,6 @@ fails-none : (p : RefusalKind → Bool) (ks : List RefusalKind) → FailsAll p k
 fails-none p [] h = refl
 fails-none p (k ∷ ks) h = ap (λ b. cond b (Some k) (find p ks)) h.0 ∙ fails-none p ks h.1
 
-both-false : (b c : Bool) → b ≡ false → c ≡ false → (b || c) ≡ false
-both-false b c e f = ap (λ x. x || c) e ∙ f
-
 -- the target of a branch or jump comes first
 target-first : (p : Op) → has_target p ≡ true → (fs : List Form) × (forms_of p ≡ form.Target ∷ fs)
 target-first (op.Branch c last) e = (form.Read ∷ last_form last ∷ [], refl)
@@ -72,10 +69,7 @@ module _ (l : LabelledNodes) (stays : ℕ → Bool) (targets : ℕ → Option La
       by : (o : Option Node) (b : Bool) → slice_get l.nodes k ≡ o → stays k ≡ b → is_prolog_at o ≡ true → stays k ≡ true
       by None b f s e = cc
       by (Some n) true f s e = s
-      by (Some n) false f s e = let no = goes-no-prolog n.op (r.goes k n f s) in absurd (not-both (sym no ∙ e))
-        where
-          not-both : false ≡ true → ⊥
-          not-both e = cc
+      by (Some n) false f s e = let no = goes-no-prolog n.op (r.goes k n f s) in absurd (false≢true (sym no ∙ e))
 
   pub prolog-moved : (k : ℕ) → is_prolog_at (slice_get l.nodes k) ≡ true → is_prolog_at (slice_get (rewritten l stays targets).nodes (new_number stays k)) ≡ true
   prolog-moved k e = by (slice_get l.nodes k) refl e
@@ -175,7 +169,7 @@ module _ (l : LabelledNodes) (stays : ℕ → Bool) (targets : ℕ → Option La
   all-pass h p (f ∷ fs) [] e = refl
   all-pass h p (f ∷ fs) (x ∷ xs) e =
       let parts = or_parts (is_astray l h p f x) (any_by_form (is_astray l h p) fs xs) e in
-      both-false (is_astray m (option_map nu h) p f x) (any_by_form (is_astray m (option_map nu h) p) fs xs) (one-passes h p f x parts.0) (all-pass h p fs xs parts.1)
+      or_from (is_astray m (option_map nu h) p f x) (any_by_form (is_astray m (option_map nu h) p) fs xs) (one-passes h p f x parts.0) (all-pass h p fs xs parts.1)
 
   missing-moved : (x : Operand) → is_missing m.places x ≡ is_missing l.places x
   missing-moved (operand.Label y) = at-place is_none y ∙ is-none-moved (place_of l.places y)
@@ -210,7 +204,7 @@ module _ (l : LabelledNodes) (stays : ℕ → Bool) (targets : ℕ → Option La
       by [] fs h j = refl
       by (x ∷ xs) fs h j =
           let parts = or_parts (is_astray l (home l.nodes i) n.op form.Target x) (any_by_form (is_astray l (home l.nodes i) n.op) fs xs) h in
-          both-false _ _ (target-passes (home l.nodes i) n.op y j) (all-pass (home l.nodes i) n.op fs xs parts.1)
+          or_from _ _ (target-passes (home l.nodes i) n.op y j) (all-pass (home l.nodes i) n.op fs xs parts.1)
 
   missing-passes : (i : ℕ) (n : Node) → slice_get l.nodes i ≡ Some n → (o : Option Label) → targets i ≡ o → list_any (is_missing m.places) (retargeted o n).operands ≡ false
   missing-passes i n e None t = all-missing n.operands ∙ (w.passes i n e).0
@@ -220,21 +214,17 @@ module _ (l : LabelledNodes) (stays : ℕ → Bool) (targets : ℕ → Option La
       by [] h = refl
       by (x ∷ xs) h =
           let parts = or_parts (is_missing l.places x) (list_any (is_missing l.places) xs) h in
-          both-false _ _ (missing-moved (operand.Label y) ∙ bound (home l.nodes i) (place_of l.places y) (r.leads i n y e t).1) (all-missing xs ∙ parts.1)
+          or_from _ _ (missing-moved (operand.Label y) ∙ bound (home l.nodes i) (place_of l.places y) (r.leads i n y e t).1) (all-missing xs ∙ parts.1)
 
   -- ---- calls that are being prepared
   unlabelled : (i : ℕ) (call : Preparation) → i < length l.nodes → prepared_before l.nodes i ≡ Some call → is_labelled l.places i ≡ false
   unlabelled i call lt e = by (is_labelled l.places i) refl
     where
-      or-true : (b : Bool) → (b || true) ≡ true
-      or-true true = refl
-      or-true false = refl
-
       by : (b : Bool) → is_labelled l.places i ≡ b → is_labelled l.places i ≡ false
       by false f = f
       by true f =
           let n = node_within l.nodes i lt in
-          let none = w.unprepared i n.0 n.1 (ap (λ b. breaks_preparation n.0.op || b) f ∙ or-true (breaks_preparation n.0.op)) in
+          let none = w.unprepared i n.0 n.1 (ap (λ b. breaks_preparation n.0.op || b) f ∙ or_right (breaks_preparation n.0.op) true refl) in
           let no : ◌≡◌ {A = Option Preparation} None (Some call) = sym none ∙ e in
           cc
 

@@ -2,6 +2,7 @@
 use Rattle.std.proofs.Common.{◌≡◌, ◌⊎◌, inl, inr, ℕ, ◌+◌, Bool, true, false, List, [], ◌∷◌, Option, Some, None, length, refl, sym, ap, ◌∙◌, subst}
 use Rattle.std.specs.Prelude.{slice_get, slice_index_or}
 use Rattle.std.proofs.lemmas.Bool.{eqb-true}
+use Rattle.std.proofs.lemmas.Option.{same_Some}
 use Rattle.lg_base.specs.declared.host_name.HostName.{HostName}
 use Rattle.lg_base.specs.HostNames.{host_by_address}
 use Rattle.lg_host.specs.Host.{Host, Gives, Exits, Undefined}
@@ -79,10 +80,7 @@ module _ (l : LabelledNodes) (shape : TextShape) (A : List ℕ) (a : IsAccepted 
   entry-of : (k : ℕ) (f : Function) → home l.nodes k ≡ Some k → function_here shape.functions k ≡ Some f → f.entry ≡ k
   entry-of k f h e =
       let there : home l.nodes k ≡ Some f.entry = here-home l a k f (ap (λ fs. function_here fs k) (sym same) ∙ e) in
-      some (sym there ∙ h)
-    where
-      some : {x y : ℕ} → ◌≡◌ {A = Option ℕ} (Some x) (Some y) → x ≡ y
-      some e = cc
+      same_Some _ _ (sym there ∙ h)
 
   hosted : (h : Host) → OnGoes (Arrives l s) (host_end s h)
   hosted (Gives v changes mark bytes) = inl refl

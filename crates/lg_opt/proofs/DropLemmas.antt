@@ -2,6 +2,7 @@
 use Rattle.std.proofs.Common.{◌≡◌, ◌≢◌, inl, inr, ℕ, zero, suc, ◌+◌, Bool, true, false, not, List, [], ◌∷◌, Option, Some, None, length, refl, sym, ap, ◌∙◌, subst, add-one}
 use Rattle.std.specs.Prelude.{if◌then◌else◌, slice_get}
 use Rattle.std.specs.List.{All}
+use Rattle.std.proofs.lemmas.Bool.{not-false}
 use Rattle.lg_op.specs.Forms.{forms_of, admit}
 use Rattle.lg_op.specs.Nodes.{InForm}
 use Rattle.lg_op.specs.declared.node.Node.{Node}
@@ -74,12 +75,8 @@ module _ (l : LabelledNodes) where
     pub idle : is_idle (sources_before l i) (Some move) ≡ true
 
   pub idle-there : (i : ℕ) (n : Node) → slice_get l.nodes i ≡ Some n → stays l i ≡ false → IsIdle i n
-  idle-there i n e s = by (move_of n.op n.operands) refl (turned (is_idle (sources_before l i) (move_of n.op n.operands)) (ap (λ o. not (is_idle (sources_before l i) (move_at o))) (sym e) ∙ s))
+  idle-there i n e s = by (move_of n.op n.operands) refl (not-false (is_idle (sources_before l i) (move_of n.op n.operands)) (ap (λ o. not (is_idle (sources_before l i) (move_at o))) (sym e) ∙ s))
     where
-      turned : (b : Bool) → not b ≡ false → b ≡ true
-      turned true e = refl
-      turned false e = cc
-
       by : (o : Option Move) → move_of n.op n.operands ≡ o → is_idle (sources_before l i) (move_of n.op n.operands) ≡ true → IsIdle i n
       by None f h = let no : false ≡ true = sym (ap (is_idle (sources_before l i)) f) ∙ h in cc
       by (Some k) f h = record { move = k; is = f; idle = sym (ap (is_idle (sources_before l i)) f) ∙ h }

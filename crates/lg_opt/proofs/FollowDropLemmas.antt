@@ -1,14 +1,11 @@
 -- Dropped nodes and threaded jumps, one behind the other.
 use Rattle.std.proofs.Common.{◌≡◌, ◌≢◌, ℕ, zero, suc, ◌+◌, ◌-◌, ◌<◌, ◌≤◌, Bool, true, false, cond, ◌⊎◌, inl, inr, refl, sym, ap, ◌∙◌, subst, arith, ⊎_elim}
-use Rattle.std.proofs.lemmas.Bool.{cases_lt}
+use Rattle.std.proofs.lemmas.Bool.{cases_lt, false≢true}
 use Rattle.lg_base.specs.Runs.{Running, Bad, Machine, iter, IsMachine}
 use Rattle.lg_temp.proofs.Steps.{iter-suc}
 use Rattle.lg_opt.specs.Follows.{Follows, LooksAlike, IsLoudAt, Turns}
 use Rattle.lg_opt.specs.Drops.{Drops, Threads, JumpsQuietly}
 use Rattle.lg_opt.proofs.TimeLemmas.{Rises, no-falls, crosses, went-on}
-
-bool-no : false ≡ true → ⊥
-bool-no e = cc
 
 module _ {P M N : Type 0} (old : Machine P) (mid : Machine M) (new : Machine N) (p0 : P) (m0 : M) (n0 : N) (at : P → ℕ) (place : M → ℕ) (stays : ℕ → Bool) (to : ℕ → ℕ) (j1 j2 : ℕ → ℕ)
     (is-old : IsMachine old) (drops : Drops old mid p0 m0 j1 at place stays to) where
@@ -79,7 +76,7 @@ module _ {P M N : Type 0} (old : Machine P) (mid : Machine M) (new : Machine N) 
             ⊎_elim (λ s. inr (up ∙ ap suc (sym s))) (λ s. inl (up ∙ sym s.0)) (near k)
         by false e =
             let up : early (suc k) ≡ j1 (suc k) = ap (λ b. cond b (suc (j1 k)) (j1 (suc k))) e in
-            ⊎_elim (λ s. ⊎_elim (λ r. inl (up ∙ r ∙ sym s)) (λ r. inr (up ∙ r ∙ ap suc (sym s))) (rises-1 k)) (λ s. absurd (bool-no (sym e ∙ s.1))) (near k)
+            ⊎_elim (λ s. ⊎_elim (λ r. inl (up ∙ r ∙ sym s)) (λ r. inr (up ∙ r ∙ ap suc (sym s))) (rises-1 k)) (λ s. absurd (false≢true (sym e ∙ s.1))) (near k)
 
     status-early : (k : ℕ) → old.status (p-at k) ≢ Bad → mid.status (iter mid.step (early k) m0) ≡ old.status (p-at k)
     status-early k fine = ⊎_elim

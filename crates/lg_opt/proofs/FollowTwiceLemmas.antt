@@ -1,23 +1,13 @@
 -- Nodes dropped twice.
 use Rattle.std.proofs.Common.{◌≡◌, ℕ, suc, Bool, true, false, ◌&&◌, inl, inr, refl, sym, ap, ◌∙◌, ⊎_elim}
+use Rattle.std.proofs.lemmas.Bool.{and_parts}
 use Rattle.lg_base.specs.Runs.{Running, Bad, Machine, iter, IsMachine}
 use Rattle.lg_opt.specs.Follows.{Follows}
 use Rattle.lg_opt.specs.Laws.{LooksJoin}
 use Rattle.lg_opt.specs.Drops.{Drops}
 
-no : true ≡ false → ⊥
-no e = cc
-
 bad : Bad ≡ Running → ⊥
 bad e = cc
-
-and-left : (b c : Bool) → (b && c) ≡ true → b ≡ true
-and-left true c e = refl
-and-left false c e = cc
-
-and-right : (b c : Bool) → (b && c) ≡ true → c ≡ true
-and-right true c e = e
-and-right false c e = cc
 
 -- two that follow each other follow
 pub follows-on : {P M N : Type 0} (old : Machine P) (mid : Machine M) (new : Machine N) (p0 : P) (m0 : M) (n0 : N) (j1 j2 : ℕ → ℕ) → Follows old mid p0 m0 j1 → Follows mid new m0 n0 j2 → Follows old new p0 n0 (λ k. j2 (j1 k))
@@ -54,8 +44,8 @@ module _ {P M N : Type 0} (old : Machine P) (mid : Machine M) (new : Machine N) 
   drops-twice leap falls calm = record {
     follows = follows-on old mid new p0 m0 n0 j1 j2 one.follows two.follows;
     steps = λ k run e.
-        let f = one.steps k run (and-left _ _ e) in
-        ap j2 f ∙ two.steps (j1 k) (mid-runs k run) (second k run true (and-right (stays1 (at (iter old.step k p0))) _ e));
+        let f = one.steps k run (and_parts _ _ e).0 in
+        ap j2 f ∙ two.steps (j1 k) (mid-runs k run) (second k run true (and_parts (stays1 (at (iter old.step k p0))) _ e).1);
     rests = λ k run e. rests-both k run (stays1 (at (iter old.step k p0))) (stays2 (to1 (at (iter old.step k p0)))) refl refl e;
     here = λ k run. two.here (j1 k) (mid-runs k run) ∙ ap to2 (one.here k run);
     falls = λ k e run. falls k (calm (at (iter old.step k p0)) e) run;

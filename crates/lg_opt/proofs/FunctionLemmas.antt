@@ -3,11 +3,11 @@ use Rattle.std.proofs.Common.{◌≡◌, ℕ, zero, suc, ◌+◌, ◌<◌, ◌�
 use Rattle.std.specs.Prelude.{nat_le, if◌then◌else◌, slice_get, slice_range}
 use Rattle.std.specs.List.{All, sum_by, position_or_len}
 use Rattle.std.specs.Option.{option_map, option_and_then, option_to_list}
-use Rattle.std.proofs.lemmas.Bool.{cases_lt, lt-leb, le-leb}
+use Rattle.std.proofs.lemmas.Bool.{cases_lt, lt-leb, le-leb, false≢true, and_right}
 use Rattle.std.proofs.lemmas.Bool.Decides.{leb_tells}
 use Rattle.std.proofs.lemmas.List.{length-map, map-append}
 use Rattle.std.proofs.lemmas.List.Elements.{All-head, All-tail, All-weaker}
-use Rattle.std.proofs.lemmas.Option.{slice_get-map}
+use Rattle.std.proofs.lemmas.Option.{slice_get-map, same_Some}
 use Rattle.lg_op.specs.declared.node.Node.{Node}
 use Rattle.lg_op.specs.declared.op.Op.{Op}
 use Rattle.lg_op.specs.declared.operand.Label.{Label}
@@ -82,13 +82,10 @@ module _ (l : LabelledNodes) (stays : ℕ → Bool) (targets : ℕ → Option La
   pub epilog-stays : (k : ℕ) → is_epilog_at (slice_get l.nodes k) ≡ true → stays k ≡ true
   epilog-stays k e = by (slice_get l.nodes k) (stays k) refl refl e
     where
-      not-both : false ≡ true → ⊥
-      not-both e = cc
-
       by : (o : Option Node) (b : Bool) → slice_get l.nodes k ≡ o → stays k ≡ b → is_epilog_at o ≡ true → stays k ≡ true
       by None b f s e = cc
       by (Some n) true f s e = s
-      by (Some n) false f s e = absurd (not-both (sym (goes-no-epilog n.op (r.goes k n f s)) ∙ e))
+      by (Some n) false f s e = absurd (false≢true (sym (goes-no-epilog n.op (r.goes k n f s)) ∙ e))
 
   -- a function that ends at a node
   ended-moved : (i : ℕ) (n : Node) (h : Option ℕ) → slice_get l.nodes i ≡ Some n → i < length l.nodes → stays i ≡ true → home l.nodes i ≡ h → ended m.nodes (option_map nu h) (nu i) n.op ≡ option_map (moved_function nu) (ended l.nodes h i n.op)
@@ -153,15 +150,11 @@ module _ (l : LabelledNodes) (stays : ℕ → Bool) (targets : ℕ → Option La
   same-has k p h f is = ⊎_elim
       (λ from. ⊎_elim
       (λ to. inside from.0 from.1 to.0 to.1)
-      (λ out. let up = number-lt stays f.last k out.1 (epilog-stays f.last is.ends) in ap (λ b. nat_le (nu f.entry) (nu k) && b) (lt-leb (nu k) (nu f.last) up) ∙ right-false (nat_le (nu f.entry) (nu k)) ∙ sym (ap (λ b. nat_le f.entry k && b) out.0 ∙ right-false (nat_le f.entry k)))
+      (λ out. let up = number-lt stays f.last k out.1 (epilog-stays f.last is.ends) in ap (λ b. nat_le (nu f.entry) (nu k) && b) (lt-leb (nu k) (nu f.last) up) ∙ and_right (nat_le (nu f.entry) (nu k)) false refl ∙ sym (ap (λ b. nat_le f.entry k && b) out.0 ∙ and_right (nat_le f.entry k) false refl))
       (leb_tells k f.last))
       (λ out. ap (λ b. b && nat_le (nu k) (nu f.last)) (lt-leb (nu f.entry) (nu k) (before out.1)) ∙ sym (ap (λ b. b && nat_le k f.last) out.0))
       (leb_tells f.entry k)
     where
-      right-false : (b : Bool) → (b && false) ≡ false
-      right-false true = refl
-      right-false false = refl
-
       inside : nat_le f.entry k ≡ true → f.entry ≤ k → nat_le k f.last ≡ true → k ≤ f.last → has_node (nu k) (moved_function nu f) ≡ has_node k f
       inside e from e' to =
           ap (λ b. b && nat_le (nu k) (nu f.last)) (le-leb (nu f.entry) (nu k) (number-le stays f.entry k from)) ∙ le-leb (nu k) (nu f.last) (number-le stays k f.last to)
@@ -179,12 +172,9 @@ module _ (l : LabelledNodes) (stays : ℕ → Bool) (targets : ℕ → Option La
           (λ over.
           let here = all.all f.entry (let z = one.from in omega arith) over in
           let begins = is.all f.entry (omega arith) is.order in
-          let same : one.function.entry ≡ f.entry = some-same (sym here ∙ begins) in
+          let same : one.function.entry ≡ f.entry = same_Some _ _ (sym here ∙ begins) in
           let z = one.from in absurd (omega arith))
           (cases_lt one.function.last f.entry)
-        where
-          some-same : {x y : ℕ} → ◌≡◌ {A = Option ℕ} (Some x) (Some y) → x ≡ y
-          some-same e = cc
 
   number-moved : (k p : ℕ) → home l.nodes k ≡ Some p → function_of (map (moved_function nu) (functions l.nodes)) (nu k) ≡ function_of (functions l.nodes) k
   number-moved k p h = found-map (has_node k) (has_node (nu k)) (moved_function nu) (functions l.nodes) (All-weaker (IsFunction l.nodes) (λ f. has_node (nu k) (moved_function nu f) ≡ has_node k f) (same-has k p h) (functions l.nodes) has.ranges)

@@ -1,7 +1,7 @@
 -- Where jumps lead in the end.
 use Rattle.std.proofs.Common.{◌≡◌, ◌≢◌, ℕ, zero, suc, ◌+◌, ◌-◌, ◌<◌, ◌≤◌, ◌⊎◌, inl, inr, Bool, true, false, not, ◌&&◌, nat_lt, nat_le, Option, Some, None, length, refl, sym, ap, ◌∙◌, subst, ⊎_elim, arith}
 use Rattle.std.specs.Prelude.{if◌then◌else◌, List, slice_get, slice_index}
-use Rattle.std.proofs.lemmas.Bool.{cases_lt, ltb-true, leb-true}
+use Rattle.std.proofs.lemmas.Bool.{cases_lt, ltb-true, leb-true, true≢false}
 use Rattle.lg_base.specs.Runs.{iter}
 use Rattle.lg_temp.proofs.Steps.{iter-zero, iter-suc, iter-first}
 use Rattle.lg_op.specs.declared.node.Node.{Node}
@@ -12,9 +12,6 @@ use Rattle.lg_opt.specs.Remaining.{new_number}
 use Rattle.lg_opt.specs.Hops.{is_jump_at, jump_at, hop_of, hop, IsLead, AreLeads, JumpsWithin}
 use Rattle.lg_opt.specs.Goals.{lead, turns, jumps_from, goal_node, is_dropped, next_stays, stays, IsEnd, AreEnds}
 use Rattle.lg_opt.proofs.RemainingLemmas.{number-goes, number-le}
-
-no : true ≡ false → ⊥
-no e = cc
 
 -- another node stays where it is
 pub rests-there : (l : LabelledNodes) (i : ℕ) → jump_at l i ≡ false → hop l i ≡ i
@@ -72,11 +69,11 @@ module _ (l : LabelledNodes) (within : JumpsWithin l) where
           by (inr all) = (y, less, omega arith, absurd (never (cases_lt m x)))
             where
               never : (m < x) ⊎ (x ≤ m) → ⊥
-              never (inl before) = no (sym (all x (omega arith) (omega arith)) ∙ ap (jump_at l) (stuck-at i m x (omega arith) e) ∙ e)
+              never (inl before) = true≢false (sym (all x (omega arith) (omega arith)) ∙ ap (jump_at l) (stuck-at i m x (omega arith) e) ∙ e)
               never (inr behind) =
                   let b = again i x y less same (λ k a c. all k a (omega arith)) (m - x) (m - x) (omega arith) in
                   let z : x + (m - x) ≡ m = omega arith in
-                  no (sym (all b.0 b.1 (omega (arith, b.2))) ∙ ap (jump_at l) (sym b.3 ∙ ap (from i) z) ∙ e)
+                  true≢false (sym (all b.0 b.1 (omega (arith, b.2))) ∙ ap (jump_at l) (sym b.3 ∙ ap (from i) z) ∙ e)
 
   -- of a jump that does not turn, and of the node to which it goes
   module _ (i : ℕ) (lt : i < length l.nodes) where
@@ -104,11 +101,11 @@ module _ (l : LabelledNodes) (within : JumpsWithin l) where
       where
         by : (b : Bool) → jump_at l (hop l i) ≡ b → jump_at l (hop l i) ≡ true
         by true f = f
-        by false f = absurd (no (sym e ∙ ap (jump_at l) (lead-there f) ∙ f))
+        by false f = absurd (true≢false (sym e ∙ ap (jump_at l) (lead-there f) ∙ f))
 
         by' : (b : Bool) → turns l (hop l i) ≡ b → turns l (hop l i) ≡ true
         by' true f = f
-        by' false f = absurd (no (sym e ∙ ends-soon i (suc (length l.nodes)) lt (ap (jump_at l) (sym shifted) ∙ f)))
+        by' false f = absurd (true≢false (sym e ∙ ends-soon i (suc (length l.nodes)) lt (ap (jump_at l) (sym shifted) ∙ f)))
 
 -- a table of leads that go as far as there are nodes is one of ends
 pub ends-are : (l : LabelledNodes) (table : List ℕ) → JumpsWithin l → length table ≡ length l.nodes → AreLeads l (length l.nodes) table → AreEnds l table
@@ -121,11 +118,11 @@ ends-are l table within few leads i lt = by (turns l i) refl
         record { turning = ap (jump_at l) same; end = λ z. same }
     by true e =
         let a = leads i lt in
-        record { turning = jumps a (jump_at l (iter (hop l) a.jumps i)) refl; end = λ z. absurd (no (sym e ∙ z)) }
+        record { turning = jumps a (jump_at l (iter (hop l) a.jumps i)) refl; end = λ z. absurd (true≢false (sym e ∙ z)) }
       where
         jumps : (a : IsLead l (length l.nodes) table i) (b : Bool) → jump_at l (iter (hop l) a.jumps i) ≡ b → jump_at l (slice_index table i) ≡ turns l i
         jumps a true f = ap (jump_at l) a.is ∙ f ∙ sym e
-        jumps a false f = absurd (no (sym e ∙ ends-soon l within i a.jumps (let z = few in omega arith) f))
+        jumps a false f = absurd (true≢false (sym e ∙ ends-soon l within i a.jumps (let z = few in omega arith) f))
 
 -- a node that is dropped has the number of the node to which it leads
 module _ (l : LabelledNodes) where

@@ -2,7 +2,7 @@
 use Rattle.std.proofs.Common.{◌≡◌, ◌≢◌, ◌⊎◌, inl, inr, ⊎_elim, ℕ, zero, suc, ◌+◌, ◌-◌, ◌<◌, ◌≤◌, Bool, true, false, not, ◌&&◌, ◌||◌, nat_lt, nat_le, Option, Some, length, refl, sym, ap, ◌∙◌, subst, arith, add-one}
 use Rattle.std.specs.Prelude.{◌==◌, if◌then◌else◌, slice_get}
 use Rattle.std.specs.List.{All}
-use Rattle.std.proofs.lemmas.Bool.{cases_lt, cases_eq, eqb-true, eq-eqb, lt-ltb, le-leb}
+use Rattle.std.proofs.lemmas.Bool.{cases_lt, cases_eq, eqb-true, eq-eqb, lt-ltb, le-leb, true≢false, or_right, not-false}
 use Rattle.std.proofs.lemmas.Option.{slice_get_within}
 use Rattle.lg_base.specs.Runs.{iter}
 use Rattle.lg_temp.proofs.Steps.{iter-zero, iter-suc}
@@ -24,9 +24,6 @@ use Rattle.lg_opt.proofs.MovedLemmas.{same-op, ComesFrom, comes-from, new-count,
 use Rattle.lg_opt.proofs.GoalLemmas.{turns-on, inside, dropped-number, next-number}
 use Rattle.lg_opt.proofs.TargetLemmas.{jump-there, jump-targets, jumps-within, target-within, turning-jumps, goal-is, others-stay, target-moved}
 
-no : true ≡ false → ⊥
-no e = cc
-
 -- ---- among more times than places, two are at one place
 came : (ℕ → ℕ) → ℕ → ℕ → Bool
 came place y zero = false
@@ -46,22 +43,14 @@ unfolding came
 came-is place y zero x lt e = absurd (omega (arith, lt))
 came-is place y (suc n) x lt e = ⊎_elim
     (λ same. ap (λ b. b || came place y n) (eq-eqb (place n) (place y) (ap place (sym same) ∙ e)))
-    (λ ne. ap (λ b. (place n == place y) || b) (came-is place y n x (omega (arith, lt, ne)) e) ∙ or-true (place n == place y))
+    (λ ne. ap (λ b. (place n == place y) || b) (came-is place y n x (omega (arith, lt, ne)) e) ∙ or_right (place n == place y) true refl)
     (cases_eq x n)
-  where
-    or-true : (b : Bool) → (b || true) ≡ true
-    or-true true = refl
-    or-true false = refl
 
 repeats : (place : ℕ → ℕ) (n : ℕ) → ((x : ℕ) → place x < n) → (x : ℕ) × (y : ℕ) × (x < y) × (place x ≡ place y)
 repeats place n low =
     let f = loud (λ y. not (came place y y)) place n low (λ x y lt e. (y, lt, omega arith, ap not (came-is place y y x lt e))) 0 in
-    let g = came-there place (0 + f.0) (0 + f.0) (turned (came place (0 + f.0) (0 + f.0)) f.2) in
+    let g = came-there place (0 + f.0) (0 + f.0) (not-false (came place (0 + f.0) (0 + f.0)) f.2) in
     (g.0, 0 + f.0, g.1, g.2)
-  where
-    turned : (b : Bool) → not b ≡ false → b ≡ true
-    turned true e = refl
-    turned false e = cc
 
 module _ (l : LabelledNodes) (a : IsAccepted l) (formed : All InForm l.nodes) (targets : ℕ → Option Label) (are : AreTargets l targets) where
   abbrev m : LabelledNodes
@@ -158,7 +147,7 @@ module _ (l : LabelledNodes) (a : IsAccepted l) (formed : All InForm l.nodes) (t
       by false e =
           let z : end_of l k ≡ lead l k = ap (λ b. if b then k else lead l k) e in
           let within : lead l k < length l.nodes = inside l (jumps-within l a formed) k (length l.nodes) lt in
-          absurd (no (sym j ∙ ap (λ x. jump_at m (nu x)) z ∙ jump-same (lead l k) within (others-stay l a formed (lead l k) e) ∙ e))
+          absurd (true≢false (sym j ∙ ap (λ x. jump_at m (nu x)) z ∙ jump-same (lead l k) within (others-stay l a formed (lead l k) e) ∙ e))
 
   -- ---- no jump goes to the next node
   next-kept : (d : ℕ) → d ≤ length l.nodes → (next_stays l d ≡ length l.nodes) ⊎ (stays l (next_stays l d) ≡ true)
@@ -206,7 +195,7 @@ module _ (l : LabelledNodes) (a : IsAccepted l) (formed : All InForm l.nodes) (t
       behind : i < goal_node l i → ⊥
       behind low = ⊎_elim
           (λ more. past more (next-kept (length l.nodes - suc i) (omega arith)))
-          (λ le. no (sym s ∙ near low le))
+          (λ le. true≢false (sym s ∙ near low le))
           (cases_lt (next i) (goal_node l i))
 
       ahead : goal_node l i ≤ i → ⊥

@@ -3,8 +3,7 @@ use Rattle.std.proofs.Common.{◌≡◌, ℕ, zero, suc, ◌<◌, ◌≤◌, Boo
 use Rattle.std.specs.Prelude.{◌==◌, if◌then◌else◌, slice_get}
 use Rattle.std.specs.List.{list_any}
 use Rattle.std.specs.Option.{option_flatten}
-use Rattle.std.proofs.lemmas.Bool.{cases_lt, cases_eq, eq-eqb, eqb-true}
-use Rattle.std.proofs.lemmas.Bool.Decides.{eqb_tells}
+use Rattle.std.proofs.lemmas.Bool.{cases_lt, cases_eq, eq-eqb, eqb-true, or_right, ne_eqb}
 use Rattle.lg_op.specs.declared.operand.Label.{Label}
 use Rattle.lg_node.specs.declared.place.Place.{Place}
 use Rattle.lg_node.specs.declared.place.Place.TheVariants as place
@@ -17,15 +16,11 @@ abbrev at-from : (ℕ → Bool) → Option Place → ℕ → Bool
 at-from stays p zero = is_at 0 p
 at-from stays p (suc i) = is_at (suc i) p || (if stays i then false else at-from stays p i)
 
-or-true : (b : Bool) → (b || true) ≡ true
-or-true true = refl
-or-true false = refl
-
 -- a label is bound at the node that is its place
 pub labelled-bound : (places : List (Option Place)) (x k : ℕ) → slice_get places x ≡ Some (Some (place.Node k)) → is_labelled places k ≡ true
 labelled-bound [] x k e = cc
 labelled-bound (q ∷ qs) zero k e = let same : q ≡ Some (place.Node k) = cc in ap (λ o. is_at k o || list_any (is_at k) qs) same ∙ ap (λ b. b || list_any (is_at k) qs) (eq-eqb k k refl)
-labelled-bound (q ∷ qs) (suc x) k e = ap (λ b. is_at k q || b) (labelled-bound qs x k e) ∙ or-true (is_at k q)
+labelled-bound (q ∷ qs) (suc x) k e = ap (λ b. is_at k q || b) (labelled-bound qs x k e) ∙ or_right (is_at k q) true refl
 
 pub labelled-at : (places : List (Option Place)) (x : Label) (k : ℕ) → place_of places x ≡ Some (place.Node k) → is_labelled places k ≡ true
 labelled-at places x k e = labelled-bound places x.0 k (bound (slice_get places x.0) e)
@@ -52,9 +47,6 @@ module _ (stays : ℕ → Bool) where
   abbrev nu : ℕ → ℕ
   nu = new_number stays
 
-  differ : (a b : ℕ) → (a ≡ b → ⊥) → (a == b) ≡ false
-  differ a b h = ⊎_elim (λ t. absurd (h t.1)) (λ t. t.0) (eqb_tells a b)
-
   -- up to a node, the labels that come to its new number are those of it and of the dropped ones before it
   below : (k i : ℕ) → k ≤ i → (nu k == nu i) ≡ at-from stays (Some (place.Node k)) i
   below k zero le = let z : k ≡ 0 = omega arith in subst (λ j. (nu j == nu 0) ≡ (j == 0)) (sym z) (eq-eqb (nu 0) (nu 0) refl ∙ sym (eq-eqb 0 0 refl))
@@ -69,15 +61,15 @@ module _ (stays : ℕ → Bool) where
       by true s ne again =
           let up = number-stays stays i s in
           let low = number-le stays k i (omega arith) in
-          differ (nu k) (nu (suc i)) (λ e. omega arith)
-          ∙ sym (ap (λ b. b || (if stays i then false else at-from stays (Some (place.Node k)) i)) (differ k (suc i) ne) ∙ ap (λ b. if b then false else at-from stays (Some (place.Node k)) i) s)
+          ne_eqb (nu k) (nu (suc i)) (λ e. omega arith)
+          ∙ sym (ap (λ b. b || (if stays i then false else at-from stays (Some (place.Node k)) i)) (ne_eqb k (suc i) ne) ∙ ap (λ b. if b then false else at-from stays (Some (place.Node k)) i) s)
       by false s ne again =
           ap (λ j. nu k == j) (number-goes stays i s) ∙ again (omega arith)
-          ∙ sym (ap (λ b. b || (if stays i then false else at-from stays (Some (place.Node k)) i)) (differ k (suc i) ne) ∙ ap (λ b. if b then false else at-from stays (Some (place.Node k)) i) s)
+          ∙ sym (ap (λ b. b || (if stays i then false else at-from stays (Some (place.Node k)) i)) (ne_eqb k (suc i) ne) ∙ ap (λ b. if b then false else at-from stays (Some (place.Node k)) i) s)
 
   none-above : (k i : ℕ) → i < k → at-from stays (Some (place.Node k)) i ≡ false
-  none-above k zero lt = differ k 0 (λ e. omega arith)
-  none-above k (suc i) lt = ap (λ b. b || (if stays i then false else at-from stays (Some (place.Node k)) i)) (differ k (suc i) (λ e. omega arith)) ∙ by (stays i) (none-above k i (omega arith))
+  none-above k zero lt = ne_eqb k 0 (λ e. omega arith)
+  none-above k (suc i) lt = ap (λ b. b || (if stays i then false else at-from stays (Some (place.Node k)) i)) (ne_eqb k (suc i) (λ e. omega arith)) ∙ by (stays i) (none-above k i (omega arith))
     where
       by : (b : Bool) → at-from stays (Some (place.Node k)) i ≡ false → (if b then false else at-from stays (Some (place.Node k)) i) ≡ false
       by true h = refl
@@ -95,7 +87,7 @@ module _ (stays : ℕ → Bool) where
   one-moved None i s = sym (nowhere None (λ j. refl) i)
   one-moved (Some (place.Image k)) i s = sym (nowhere (Some (place.Image k)) (λ j. refl) i)
   one-moved (Some (place.Node k)) i s = ⊎_elim
-      (λ lt. let up = number-lt stays i k lt s in differ (nu k) (nu i) (λ e. omega arith) ∙ sym (none-above k i lt))
+      (λ lt. let up = number-lt stays i k lt s in ne_eqb (nu k) (nu i) (λ e. omega arith) ∙ sym (none-above k i lt))
       (λ le. below k i le)
       (cases_lt i k)
 

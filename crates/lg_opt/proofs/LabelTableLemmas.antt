@@ -4,7 +4,7 @@ use Rattle.std.specs.Prelude.{◌==◌, if◌then◌else◌, slice_get, slice_in
 use Rattle.std.specs.List.{All, list_any}
 use Rattle.std.specs.Option.{option_flatten}
 use Rattle.std.proofs.Math.Seq.{take-length, get_or-append_seam}
-use Rattle.std.proofs.lemmas.Bool.{eqb-true, cases_lt}
+use Rattle.std.proofs.lemmas.Bool.{eqb-true, cases_lt, true≢false}
 use Rattle.std.proofs.lemmas.Bool.Decides.{eqb_tells}
 use Rattle.std.proofs.lemmas.List.{get_or_past, get_or_append_left}
 use Rattle.std.proofs.lemmas.Option.{slice_get_within}
@@ -24,9 +24,6 @@ use Rattle.lg_opt.specs.Rewritings.{target_in}
 use Rattle.lg_opt.specs.Targets.{target_node, end_of, IsTargetOf, AreTargets, AreLabelsAt, IsTargetAt}
 use Rattle.lg_opt.proofs.LabelLemmas.{labelled-at}
 use Rattle.lg_opt.proofs.TargetLemmas.{target-of, lead-labelled}
-
-no : true ≡ false → ⊥
-no e = cc
 
 -- the labels below this one are noted
 pub record AreNoted (l : LabelledNodes) (table : List (Option Label)) (i : ℕ) : Type 0 where
@@ -84,7 +81,7 @@ labelled-by l table i lt h = by (slice_index_or table i None) (is_labelled l.pla
     by : (o : Option Label) (b : Bool) → slice_index_or table i None ≡ o → is_labelled l.places i ≡ b → is_some (slice_index_or table i None) ≡ is_labelled l.places i
     by o true e f = h.all i lt f ∙ sym f
     by None false e f = ap is_some e ∙ sym f
-    by (Some x) false e f = absurd (no (sym (labelled-at l.places x i (h.bound i x e)) ∙ f))
+    by (Some x) false e f = absurd (true≢false (sym (labelled-at l.places x i (h.bound i x e)) ∙ f))
 
 -- ---- targets
 module _ (l : LabelledNodes) (a : IsAccepted l) (formed : All InForm l.nodes) (i : ℕ) (n : Node) (here : slice_get l.nodes i ≡ Some n) where
@@ -96,7 +93,7 @@ module _ (l : LabelledNodes) (a : IsAccepted l) (formed : All InForm l.nodes) (i
 
   -- a node without target
   pub without : has_target n.op ≡ false → IsTargetAt l i None
-  without f = record { others = λ k y e g. cc; own = λ k e t g. absurd (no (sym t ∙ ap (λ (x : Node). has_target x.op) (sym (same-node k e)) ∙ f)) }
+  without f = record { others = λ k y e g. cc; own = λ k e t g. absurd (true≢false (sym t ∙ ap (λ (x : Node). has_target x.op) (sym (same-node k e)) ∙ f)) }
 
   module _ (ends : List ℕ) (are : AreEnds l ends) (t : target_node l n < length ends) where
     -- one whose jumps turn
@@ -119,7 +116,7 @@ module _ (l : LabelledNodes) (a : IsAccepted l) (formed : All InForm l.nodes) (i
         let labelled : is_labelled l.places (slice_index ends (target_node l n)) ≡ true = ap (is_labelled l.places) end ∙ lead-labelled l a formed (target_node l n) (labelled-at l.places h.label (target_node l n) h.place) in
         record {
           others = λ k y g z. subst (λ (x : Node). IsTargetOf l x y) (same-node k g) (record { jumps = jumps; ends = ends-there; place = at.bound (slice_index ends (target_node l n)) y z ∙ ap (λ j. Some (place.Node j)) end });
-          own = λ k g t z. absurd (no (sym (at.all (slice_index ends (target_node l n)) lt labelled) ∙ ap is_some z));
+          own = λ k g t z. absurd (true≢false (sym (at.all (slice_index ends (target_node l n)) lt labelled) ∙ ap is_some z));
         }
 
 -- a table of targets

@@ -1,7 +1,7 @@
 -- The walk over the nodes of a text is the walk over those that stay: so none of these is an idle move.
 use Rattle.std.proofs.Common.{◌≡◌, ℕ, zero, suc, ◌<◌, ◌≤◌, Bool, true, false, not, ◌||◌, Option, Some, None, length, refl, sym, ap, ◌∙◌, subst, arith, ⊎_elim, add-one}
 use Rattle.std.specs.Prelude.{if◌then◌else◌, slice_get}
-use Rattle.std.proofs.lemmas.Bool.{cases_lt}
+use Rattle.std.proofs.lemmas.Bool.{cases_lt, true≢false, not-false, not-true}
 use Rattle.std.proofs.lemmas.Option.{slice_get_past, slice_get_within}
 use Rattle.lg_op.specs.declared.operand.Reg.{Reg}
 use Rattle.lg_op.specs.declared.node.Node.{Node}
@@ -14,9 +14,6 @@ use Rattle.lg_opt.specs.Moves.{Move, no_sources, is_idle, move_of, move_at, behi
 use Rattle.lg_opt.proofs.MovedLemmas.{comes-from}
 use Rattle.lg_opt.proofs.RemainingLemmas.{number-stays, number-goes}
 use Rattle.lg_opt.proofs.TidyLemmas.{move-is}
-
-no : true ≡ false → ⊥
-no e = cc
 
 -- the nodes that stay, in their new places, and the labels that came with them
 pub record KeepsNodes (l m : LabelledNodes) : Type 0 where
@@ -50,14 +47,10 @@ module _ (l m : LabelledNodes) (keeps : KeepsNodes l m) where
   idle-behind i n here gone = ap (behind_at (sources_before l i)) here ∙ by (move_of n.op n.operands) refl
     where
       idle : is_idle (sources_before l i) (move_of n.op n.operands) ≡ true
-      idle = turned (is_idle (sources_before l i) (move_of n.op n.operands)) (ap (λ o. not (is_idle (sources_before l i) (move_at o))) (sym here) ∙ gone)
-        where
-          turned : (b : Bool) → not b ≡ false → b ≡ true
-          turned true e = refl
-          turned false e = cc
+      idle = not-false (is_idle (sources_before l i) (move_of n.op n.operands)) (ap (λ o. not (is_idle (sources_before l i) (move_at o))) (sym here) ∙ gone)
 
       by : (o : Option Move) → move_of n.op n.operands ≡ o → (if leaps n.op then no_sources else behind_node (sources_before l i) n (move_of n.op n.operands)) ≡ sources_before l i
-      by None e = absurd (no (sym idle ∙ ap (is_idle (sources_before l i)) e))
+      by None e = absurd (true≢false (sym idle ∙ ap (is_idle (sources_before l i)) e))
       by (Some k) e =
           ap (λ b. if b then no_sources else behind_node (sources_before l i) n (move_of n.op n.operands)) (move-falls n k e)
           ∙ ap (behind_node (sources_before l i) n) e
@@ -102,15 +95,11 @@ module _ (l m : LabelledNodes) (keeps : KeepsNodes l m) where
           ∙ join (is_labelled l.places (suc i)) (labelled_from l.places (stays l) i) (sources_before l i) (behind-last m (nu (suc i))) (w ∙ ap (λ k. if labelled_from l.places (stays l) i then no_sources else behind-last m k) (sym up))
           ∙ ap (λ c. if is_labelled l.places (suc i) || (if c then false else labelled_from l.places (stays l) i) then no_sources else behind-last m (nu (suc i))) (sym s)
 
-  turned : (b : Bool) → not b ≡ true → b ≡ false
-  turned false e = refl
-  turned true e = cc
-
   at-kept : (i : ℕ) (n : Node) → slice_get l.nodes i ≡ Some n → stays l i ≡ true → is_idle_at m (nu i) ≡ false
   at-kept i n here s =
       let lt : i < length l.nodes = slice_get_within l.nodes i n here in
       ap (λ g. is_idle g (move_at (slice_get m.nodes (nu i)))) (same-there i lt s (walks i (omega arith)))
-      ∙ ap (λ o. is_idle (sources_before l i) (move_at o)) (keeps.nodes i n here s ∙ sym here) ∙ turned (is_idle_at l i) s
+      ∙ ap (λ o. is_idle (sources_before l i) (move_at o)) (keeps.nodes i n here s ∙ sym here) ∙ not-true (is_idle_at l i) s
 
   -- no node that stays is an idle move of the new list
   pub lean : (k : ℕ) → is_idle_at m k ≡ false

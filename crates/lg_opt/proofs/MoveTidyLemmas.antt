@@ -3,7 +3,7 @@ use Rattle.std.proofs.Common.{◌≡◌, ◌≢◌, ⊎_elim, ℕ, ◌<◌, ◌�
 use Rattle.std.specs.Prelude.{slice_get}
 use Rattle.std.specs.List.{All}
 use Rattle.std.specs.Option.{option_map}
-use Rattle.std.proofs.lemmas.Bool.{cases_lt, cases_eq}
+use Rattle.std.proofs.lemmas.Bool.{cases_lt, cases_eq, true≢false}
 use Rattle.std.proofs.lemmas.Option.{slice_get_within, slice_get-map}
 use Rattle.lg_op.specs.Nodes.{InForm}
 use Rattle.lg_op.specs.declared.node.Node.{Node}
@@ -33,9 +33,6 @@ use Rattle.lg_opt.proofs.LeanLemmas.{KeepsNodes, lean}
 use Rattle.lg_opt.proofs.DropLemmas.{not-fp}
 use Rattle.lg_opt.proofs.GoalLemmas.{dropped-number}
 use Rattle.lg_opt.proofs.TargetLemmas.{formed-at, dropped-jumps, goal-labelled, same-node}
-
-no : true ≡ false → ⊥
-no e = cc
 
 some-same : {x y : Node} → ◌≡◌ {A = Option Node} (Some x) (Some y) → x ≡ y
 some-same e = cc
@@ -105,7 +102,7 @@ module _ (l : LabelledNodes) (a : IsAccepted l) (formed : All InForm l.nodes) (t
       where
         by : (c : Bool) → is_labelled l.places j ≡ c → is_labelled l.places j ≡ false
         by false e = e
-        by true e = absurd (no (sym (label-kept l keep targets j e) ∙ free j lt le))
+        by true e = absurd (true≢false (sym (label-kept l keep targets j e) ∙ free j lt le))
 
     -- so no jump between was dropped, since it leads to a label
     all-stay : (j : ℕ) → first.index ≤ j → j ≤ old.index → keep j ≡ true
@@ -118,7 +115,7 @@ module _ (l : LabelledNodes) (a : IsAccepted l) (formed : All InForm l.nodes) (t
         by true s ne = s
         by false s ne =
             let g = dropped-number l j few s in
-            absurd (no (sym (label-kept l keep targets (goal_node l j) (goal-labelled l a formed j few (dropped-jumps l a formed j s))) ∙ ap (is_labelled m.places) g.2 ∙ free j (omega arith) le))
+            absurd (true≢false (sym (label-kept l keep targets (goal_node l j) (goal-labelled l a formed j few (dropped-jumps l a formed j s))) ∙ ap (is_labelled m.places) g.2 ∙ free j (omega arith) le))
 
     -- the nodes between are the same
     falls : (j : ℕ) (n : Node) → first.index ≤ j → j < old.index → slice_get l.nodes j ≡ Some n → leaps (retargeted (targets j) n).op ≡ false

@@ -4,6 +4,7 @@ use Rattle.std.specs.Prelude.{◌-◌, if◌then◌else◌, slice_get, slice_ind
 use Rattle.std.specs.List.{All}
 use Rattle.std.proofs.lemmas.List.Elements.{All-get_or}
 use Rattle.std.proofs.lemmas.Option.{slice_get_within, get_or_from_slice_get}
+use Rattle.std.proofs.lemmas.Bool.{true≢false}
 use Rattle.lg_base.specs.Runs.{iter}
 use Rattle.lg_temp.proofs.Steps.{iter-zero, iter-suc}
 use Rattle.lg_op.specs.Forms.{last_form, forms_of, admit}
@@ -36,9 +37,6 @@ use Rattle.lg_opt.specs.Targets.{target_node, end_of, AreTargets}
 use Rattle.lg_opt.proofs.GoalLemmas.{rests-there, lead-on, ends-on, turns-on}
 use Rattle.lg_opt.proofs.LabelLemmas.{labelled-at}
 use Rattle.lg_opt.proofs.MovedLemmas.{label-moved}
-
-no : true ≡ false → ⊥
-no e = cc
 
 pub jump-targets : (o : Op) → is_jump o ≡ true → has_target o ≡ true
 jump-targets (op.Control control.Jmp last_operand.Immediate) e = refl
@@ -120,7 +118,7 @@ module _ (l : LabelledNodes) (a : IsAccepted l) (formed : All InForm l.nodes) wh
           let j = jump-there k e in
           let same : k ≡ r.node = some-node r.place in
           let begins : is_prolog_at (slice_get l.nodes k) ≡ true = ap (λ i. is_prolog_at (slice_get l.nodes i)) same ∙ w.prologs r.node r.entry in
-          absurd (no (sym begins ∙ ap is_prolog_at j.here ∙ no-prolog j.node.op j.jumps))
+          absurd (true≢false (sym begins ∙ ap is_prolog_at j.here ∙ no-prolog j.node.op j.jumps))
       jumped (Some p) r e =
           let j = jump-there k e in
           let t = target-of k j.node j.here (jump-targets j.node.op j.jumps) in
@@ -186,7 +184,7 @@ module _ (l : LabelledNodes) (a : IsAccepted l) (formed : All InForm l.nodes) wh
     where
       by : (b : Bool) → jump_at l k ≡ b → jump_at l k ≡ true
       by true f = f
-      by false f = absurd (no (sym e ∙ ap (jump_at l) (lead-rests k f) ∙ f))
+      by false f = absurd (true≢false (sym e ∙ ap (jump_at l) (lead-rests k f) ∙ f))
 
   -- where a jump leads there is a label
   pub goal-labelled : (i : ℕ) → i < length l.nodes → jump_at l i ≡ true → is_labelled l.places (goal_node l i) ≡ true
@@ -214,7 +212,7 @@ module _ (l : LabelledNodes) (a : IsAccepted l) (formed : All InForm l.nodes) wh
     where
       by : (b : Bool) → jump_at l i ≡ b → jump_at l i ≡ true
       by true e = e
-      by false e = absurd (no (sym (others-stay i e) ∙ s))
+      by false e = absurd (true≢false (sym (others-stay i e) ∙ s))
 
   module _ (targets : ℕ → Option Label) (are : AreTargets l targets) where
     pub threads-rewrite : IsRewriting l (stays l) targets
@@ -232,7 +230,7 @@ module _ (l : LabelledNodes) (a : IsAccepted l) (formed : All InForm l.nodes) wh
       where
         by : (o : Option Label) → targets i ≡ o → retargeted o n ≡ n
         by None g = refl
-        by (Some y) g = absurd (no (sym (are.others i n y e g).jumps ∙ f))
+        by (Some y) g = absurd (true≢false (sym (are.others i n y e g).jumps ∙ f))
 
     -- the new target is the new number of the end
     pub target-moved : (i : ℕ) (n : Node) → slice_get l.nodes i ≡ Some n → has_target n.op ≡ true

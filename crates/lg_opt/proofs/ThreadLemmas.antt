@@ -1,6 +1,7 @@
 -- Threaded jumps: between two times at one node there is a loud step.
 use Rattle.std.proofs.Common.{◌≡◌, ◌≢◌, ℕ, zero, suc, ◌+◌, ◌-◌, ◌<◌, ◌≤◌, ◌==◌, Bool, true, false, not, ◌&&◌, ◌⊎◌, inl, inr, refl, sym, ap, ◌∙◌, subst, arith, ⊎_elim}
 use Rattle.std.proofs.lemmas.Bool.Decides.{eqb_tells}
+use Rattle.std.proofs.lemmas.Bool.{false≢true}
 use Rattle.lg_base.specs.Runs.{Running, Machine, iter, IsMachine}
 use Rattle.lg_opt.specs.Follows.{IsLoudAt, Turns}
 use Rattle.lg_opt.specs.Drops.{Threading}
@@ -23,10 +24,7 @@ module _ {P N : Type 0} (old : Machine P) (new : Machine N) (p0 : P) (n0 : N) (j
   loud-of k e = by (j (suc k) == suc (j k)) (is-loud (iter new.step (j k) n0)) refl refl e
     where
       eq : (j (suc k) == suc (j k)) ≡ true → j (suc k) ≡ suc (j k)
-      eq e = ⊎_elim (λ s. s.1) (λ s. absurd (no (sym s.0 ∙ e))) (eqb_tells (j (suc k)) (suc (j k)))
-        where
-          no : false ≡ true → ⊥
-          no e = cc
+      eq e = ⊎_elim (λ s. s.1) (λ s. absurd (false≢true (sym s.0 ∙ e))) (eqb_tells (j (suc k)) (suc (j k)))
 
       by : (b c : Bool) → (j (suc k) == suc (j k)) ≡ b → is-loud (iter new.step (j k) n0) ≡ c → not (b && c) ≡ false → IsLoudAt new n0 j is-loud k
       by true true b c e = (eq b, c)
@@ -44,9 +42,6 @@ module _ {P N : Type 0} (old : Machine P) (new : Machine N) (p0 : P) (n0 : N) (j
       by true true f g h = cc
       by false c f g h = cc
       by true false f g h = cc
-
-  no : true ≡ false → ⊥
-  no e = cc
 
   Runs : ℕ → Type 0
   Runs k = old.status (iter old.step k p0) ≡ Running

@@ -1,8 +1,9 @@
 -- Runs of nodes whose jumps were threaded.
-use Rattle.std.proofs.Common.{◌≡◌, ◌≢◌, ℕ, suc, ◌<◌, ◌==◌, ◌&&◌, ◌⊎◌, inl, inr, Bool, true, false, Option, Some, None, List, [], refl, sym, ap, ◌∙◌, subst, ⊎_elim, arith, length, add-one}
+use Rattle.std.proofs.Common.{◌≡◌, ◌≢◌, ℕ, suc, ◌<◌, ◌==◌, ◌&&◌, ◌⊎◌, inl, inr, Bool, true, false, Option, Some, None, List, [], refl, sym, ap, ◌∙◌, subst, arith, length, add-one}
 use Rattle.std.specs.Prelude.{if◌then◌else◌, slice_get}
 use Rattle.std.proofs.lemmas.Bool.Decides.{eqb_tells}
 use Rattle.std.proofs.lemmas.Option.{slice_get-get_or}
+use Rattle.std.proofs.lemmas.Bool.{true≢false, false≢true, and_parts, eqb-true}
 use Rattle.lg_base.specs.Runs.{Status, Running, Ended, Bad}
 use Rattle.lg_op.specs.declared.node.Node.{Node}
 use Rattle.lg_op.specs.declared.op.Op.{Op}
@@ -31,12 +32,6 @@ use Rattle.lg_opt.specs.Hops.{is_jump, is_jump_at, jump_at, hop_of, hop}
 use Rattle.lg_opt.specs.Threads.{Threaded, Lands, IsThreadedBy, moves}
 use Rattle.lg_opt.proofs.StepLemmas.{steps-meet}
 use Rattle.lg_opt.proofs.RunLemmas.{RunsAlike, goes, moved-on, rested, runs-alike, runs-follow, runs-look}
-
-no : true ≡ false → ⊥
-no e = cc
-
-no' : false ≡ true → ⊥
-no' e = cc
 
 -- the step of a jump
 jump-goes : (t : Text) (n : Node) (s : State) (o : Op) → is_jump o ≡ true → node_step t n o s ≡ Goes (to s (node_of_label t.places (operand_at n 0))) []
@@ -90,8 +85,8 @@ module _ (p : Pair) (h : Threaded) (th : IsThreadedBy p h) where
 
   at-number : (k n : ℕ) → Lands p.old h k n → (jump_at p.old k ≡ false) ⊎ (h.turns k ≡ true) → n ≡ h.number k
   at-number k n (inl e) w = e
-  at-number k n (inr e) (inl w) = absurd (no' (sym w ∙ e.0))
-  at-number k n (inr e) (inr w) = absurd (no' (sym e.1 ∙ w))
+  at-number k n (inr e) (inl w) = absurd (false≢true (sym w ∙ e.0))
+  at-number k n (inr e) (inr w) = absurd (false≢true (sym e.1 ∙ w))
 
   -- the old run makes a jump at which the new one rests
   alone : (s m : State) (a : R s m) → Lands p.old h (hop p.old s.at) a.at → jump_at p.old s.at ≡ true → RestsAt R (old_step p s) m
@@ -105,24 +100,13 @@ module _ (p : Pair) (h : Threaded) (th : IsThreadedBy p h) where
   at-goal s m a e f g = by (h.stays s.at) refl (eqb_tells m.at (h.number s.at)) g
     where
       by : (b : Bool) → h.stays s.at ≡ b → ((m.at == h.number s.at) ≡ true) × (m.at ≡ h.number s.at) ⊎ ((m.at == h.number s.at) ≡ false) × (m.at ≢ h.number s.at) → (b && (m.at == h.number s.at)) ≡ false → a.at ≡ h.goal s.at
-      by true st (inl z) g = absurd (no (sym z.0 ∙ g))
+      by true st (inl z) g = absurd (true≢false (sym z.0 ∙ g))
       by true st (inr z) g = elsewhere s.at a.at a.lands (λ q. z.1 (at-of s m a ∙ q))
       by false st (inl z) g = sym (at-of s m a) ∙ z.1 ∙ th.dropped s.at e f st
       by false st (inr z) g = elsewhere s.at a.at a.lands (λ q. z.1 (at-of s m a ∙ q))
 
   moves-is : (s m : State) (b c : Bool) → jump_at p.old s.at ≡ b → h.turns s.at ≡ c → moves p.old h s m ≡ (if b then (if c then h.stays s.at else h.stays s.at && (m.at == h.number s.at)) else true)
   moves-is s m b c e f = ap (λ x. if x then (if h.turns s.at then h.stays s.at else h.stays s.at && (m.at == h.number s.at)) else true) e ∙ ap (λ x. if b then (if x then h.stays s.at else h.stays s.at && (m.at == h.number s.at)) else true) f
-
-  and-left : (b c : Bool) → (b && c) ≡ true → b ≡ true
-  and-left true c e = refl
-  and-left false c e = cc
-
-  and-right : (b c : Bool) → (b && c) ≡ true → c ≡ true
-  and-right true c e = e
-  and-right false c e = cc
-
-  tells : (x y : ℕ) → (x == y) ≡ true → x ≡ y
-  tells x y e = ⊎_elim (λ z. z.1) (λ z. absurd (no (sym e ∙ z.0))) (eqb_tells x y)
 
   pub stepped : AreStepped p Inside R (moves p.old h)
   stepped = record {
@@ -135,10 +119,10 @@ module _ (p : Pair) (h : Threaded) (th : IsThreadedBy p h) where
       meets s m inside a mv true true e f = both s m a inside (sym (moves-is s m true true e f) ∙ mv) (at-number s.at a.at a.lands (inr f))
       meets s m inside a mv true false e f =
           let g = sym (moves-is s m true false e f) ∙ mv in
-          both s m a inside (and-left _ _ g) (sym (at-of s m a) ∙ tells m.at (h.number s.at) (and-right (h.stays s.at) _ g))
+          both s m a inside (and_parts _ _ g).0 (sym (at-of s m a) ∙ eqb-true m.at (h.number s.at) (and_parts (h.stays s.at) _ g).1)
 
       rests : (s m : State) → Inside s → (a : R s m) → moves p.old h s m ≡ false → (b c : Bool) → jump_at p.old s.at ≡ b → h.turns s.at ≡ c → RestsAt R (old_step p s) m
-      rests s m inside a mv false c e f = absurd (no (sym (moves-is s m false c e f) ∙ mv))
+      rests s m inside a mv false c e f = absurd (true≢false (sym (moves-is s m false c e f) ∙ mv))
       rests s m inside a mv true true e f =
           let st = sym (moves-is s m true true e f) ∙ mv in
           let w = th.forward s.at e f st in
@@ -277,8 +261,8 @@ module _ (p : Pair) (h : Threaded) (th : IsThreadedBy p h) where
         → (IsLoudAt (machine p.new p.new_shape p.addresses) (run_at m0 []) (moves_made p (moves p.old h) s0 m0) loud k ⊎ ((j (suc k) ≡ j k) × ((n-at (j k)).state.at ≡ h.goal (at k)))) × ((n-at (j (suc k))).state.at ≡ h.goal (at k))
     leads-at k run e f true mv =
         let g = sym (moves-is (o-at k).state (n-at (j k)).state true false e f) ∙ mv in
-        let st = and-left _ _ g in
-        let here = tells (n-at (j k)).state.at (h.number (at k)) (and-right (h.stays (at k)) _ g) in
+        let st = (and_parts _ _ g).0 in
+        let here = eqb-true (n-at (j k)).state.at (h.number (at k)) (and_parts (h.stays (at k)) _ g).1 in
         (inl (loud-jump k run e st here mv), made k run e f st here mv)
     leads-at k run e f false mv =
         let g = sym (moves-is (o-at k).state (n-at (j k)).state true false e f) ∙ mv in

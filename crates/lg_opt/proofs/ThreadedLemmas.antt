@@ -33,9 +33,6 @@ use Rattle.lg_opt.proofs.TargetLemmas.{jump-there, jump-targets, jumps-within, l
 use Rattle.lg_opt.proofs.DropLemmas.{start-over}
 use Rattle.lg_opt.proofs.ThreadRunLemmas.{threads, threads-look}
 
-no : true ≡ false → ⊥
-no e = cc
-
 -- how the jumps of nodes are threaded
 abbrev pub threaded : LabelledNodes → Threaded
 threaded l = record {

@@ -1,6 +1,7 @@
 -- Nodes of which none is an idle move have no idle moves as the promise says it.
 use Rattle.std.proofs.Common.{◌≡◌, ◌≢◌, ℕ, zero, suc, ◌+◌, ◌-◌, ◌<◌, ◌≤◌, ◌⊎◌, inl, inr, Bool, true, false, ◌||◌, List, [], ◌∷◌, Option, Some, None, refl, sym, ap, ◌∙◌, subst, ⊎_elim, arith}
 use Rattle.std.specs.Prelude.{if◌then◌else◌, slice_get}
+use Rattle.std.proofs.lemmas.Bool.{true≢false}
 use Rattle.lg_op.specs.declared.op.Op.{Op}
 use Rattle.lg_op.specs.declared.op.Op.TheVariants as op
 use Rattle.lg_op.specs.declared.op.UnaryOp.TheVariants as unary
@@ -14,9 +15,6 @@ use Rattle.lg_node.specs.Nodes.{LabelledNodes}
 use Rattle.lg_node.specs.Labels.{is_labelled}
 use Rattle.lg_carry.specs.Carries.{leaps}
 use Rattle.lg_opt.specs.Moves.{Move, is_equal, move_of, no_sources, unless_written, behind_other, behind_move, is_source, is_idle, behind_node, behind_at, sources_before, move_at, is_idle_at, IsMovedBefore, HasNoIdleMoves}
-
-no : true ≡ false → ⊥
-no e = cc
 
 pub equal-self : (r : Reg) → is_equal r r ≡ true
 equal-self R0 = refl
@@ -85,7 +83,7 @@ module _ (l : LabelledNodes) (written : (i : ℕ) (n : Node) (m : Move) → slic
 
       apart : (m : Move) → move_of n.op n.operands ≡ Some m → (b : Bool) → is_equal m.into x ≡ b → (if b then Some m.from else behind_other (sources_before l i) n x) ≡ Some y
       apart m f false g = other
-      apart m f true g = absurd (no (sym (move-writes n m x f (written i n m here f) g) ∙ wx))
+      apart m f true g = absurd (true≢false (sym (move-writes n m x f (written i n m here f) g) ∙ wx))
 
       by : (o : Option Move) → move_of n.op n.operands ≡ o → behind_node (sources_before l i) n (move_of n.op n.operands) x ≡ Some y
       by None f = ap (λ o. behind_node (sources_before l i) n o x) f ∙ other
@@ -133,8 +131,8 @@ module _ (l : LabelledNodes) (written : (i : ℕ) (n : Node) (m : Move) → slic
 
   pub no-idle-moves : ((k j : ℕ) (n : Node) → slice_get l.nodes k ≡ Some n → j < k → (x : Node) × (slice_get l.nodes j ≡ Some x)) → HasNoIdleMoves l
   no-idle-moves nodes k n m here e = (
-    λ same. no (sym (by (is_equal m.into m.from) (ap (is_equal m.into) (sym same) ∙ equal-self m.into)) ∙ not-idle k n m here e),
-    λ h. no (sym (would-be-idle k m.into m.from h (λ j lt. nodes k j n here lt)) ∙ not-idle k n m here e),
+    λ same. true≢false (sym (by (is_equal m.into m.from) (ap (is_equal m.into) (sym same) ∙ equal-self m.into)) ∙ not-idle k n m here e),
+    λ h. true≢false (sym (would-be-idle k m.into m.from h (λ j lt. nodes k j n here lt)) ∙ not-idle k n m here e),
   )
     where
       by : (b : Bool) → is_equal m.into m.from ≡ true → is_idle (sources_before l k) (Some m) ≡ true

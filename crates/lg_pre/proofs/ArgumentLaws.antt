@@ -3,7 +3,7 @@ use Rattle.std.proofs.Common.{◌≡◌, ◌⊎◌, ℕ, suc, ◌+◌, ◌-◌, 
 use Rattle.std.specs.Prelude.{if◌then◌else◌}
 use Rattle.std.specs.List.{prefix_len}
 use Rattle.std.proofs.lemmas.Bool.{eq-eqb, ne_eqb}
-use Rattle.std.proofs.lemmas.List.{length-append, map-append}
+use Rattle.std.proofs.lemmas.List.{length-append, map-append, append-nil}
 use Rattle.lg_lex.specs.Bytes.{further}
 use Rattle.lg_lex.proofs.ByteLemmas.{eqb_true}
 use Rattle.lg_pre.specs.Arguments.{arguments_of, closing, depth_behind, gathered, if_so_many, in_argument, is_empty_list, opening, solid_len, stripped, without_empty}
@@ -11,7 +11,7 @@ use Rattle.lg_pre.specs.Calls.{AreArguments, AreSoMany, AreWhite, IsBalanced, Is
 use Rattle.lg_pre.specs.Pieces.{Piece, is_byte, is_white}
 use Rattle.lg_pre.specs.declared.pieces.PieceKind.{PieceKind}
 use Rattle.lg_pre.specs.declared.pieces.PieceKind.TheVariants.{Byte, Comment, Feed, Quoted, Word, Number}
-use Rattle.lg_pre.proofs.ReplacementLemmas.{append-end, append-again}
+use Rattle.lg_pre.proofs.ReplacementLemmas.{append-again}
 
 -- ---- parentheses
 
@@ -188,7 +188,7 @@ group_in line now left inside right rest =
 
 gathered_over : {commas : Bool} {part : List Piece} → IsBalanced commas part → (line depth : ℕ) (done : List (List Piece)) (now tail : List Piece) → PartsNot commas depth
     → gathered line depth done now (part ++ tail) ≡ gathered line depth done (now ++ map (in_argument line) part) tail
-gathered_over (empty commas) line depth done now tail not = ap (λ l. gathered line depth done l tail) (sym (append-end now))
+gathered_over (empty commas) line depth done now tail not = ap (λ l. gathered line depth done l tail) (sym (append-nil now))
 gathered_over (other commas p rest left right comma more) line depth done now tail not =
     gathered_one line depth done now p (rest ++ tail) (no_part commas depth p.kind not comma)
     ∙ ap (λ d. gathered line d done (now ++ (in_argument line p ∷ [])) (rest ++ tail)) (depth_same depth p.kind left right)
@@ -212,7 +212,7 @@ no_commas b = λ e. let bad : false ≡ true = e in cc
 
 gathered_parted : {inside : List Piece} {parts : List (List Piece)} → IsParted inside parts → (line : ℕ) (done : List (List Piece)) → gathered line 0 done [] inside ≡ done ++ map (λ part. stripped (map (in_argument line) part)) parts
 gathered_parted (last part balanced) line done =
-    ap (gathered line 0 done []) (sym (append-end part))
+    ap (gathered line 0 done []) (sym (append-nil part))
     ∙ gathered_over balanced line 0 done [] [] (no_commas true)
     ∙ gathered_last line 0 done (map (in_argument line) part)
 gathered_parted (next part comma rest parts balanced mark more) line done =

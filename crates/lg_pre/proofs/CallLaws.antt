@@ -1,14 +1,14 @@
 -- Calls of names with parameters, and bodies with ##.
 use Rattle.std.proofs.Common.{◌≡◌, ℕ, zero, suc, ◌+◌, ◌==◌, ◌≤◌, Bool, true, false, ◌||◌, List, [], ◌∷◌, ◌++◌, length, take, drop, replicate, fold, Option, Some, None, Ok, Err, refl, sym, ap, ap₂, subst, ◌∙◌, arith}
 use Rattle.std.specs.Prelude.{if◌then◌else◌, Result}
-use Rattle.std.proofs.lemmas.List.{length-append, length-drop, replicate-append-replicate}
+use Rattle.std.proofs.lemmas.List.{length-append, length-drop, replicate-append-replicate, append-nil}
 use Rattle.lg_base.specs.Refusals.{◌>>=◌}
 use Rattle.lg_base.specs.declared.refusal.Refusal.{Refusal}
 use Rattle.lg_lex.specs.Bytes.{further}
 use Rattle.lg_pre.specs.Arguments.{arguments_of, closing, feed, opening, with_feed, with_feeds_of, with_feeds}
 use Rattle.lg_pre.specs.Calls.{AreExpanded, AreGlued, ArePasted, BodiesAreFilled, CallsReplaceNames, IsCall, IsFilled, IsPasted, Names, PastedBodiesReplaceNames, StandsFor, feeds_behind, bare, chain}
 use Rattle.lg_pre.specs.Cutting.{cut}
-use Rattle.lg_pre.specs.Expansion.{Expander, Given, Outcome, at_macro, at_name, behind_call, by_arity, called, closed, each, expand_in, named, object, opened, put, put_name, replaced, step, walk}
+use Rattle.lg_pre.specs.Expansion.{Expander, Given, Outcome, at_macro, at_name, behind_call, by_arity, called, closed, each, expand_in, object, opened, put, put_name, replaced, step, walk}
 use Rattle.lg_pre.specs.Macros.{counted}
 use Rattle.lg_pre.specs.Pasting.{joined}
 use Rattle.lg_pre.specs.Pieces.{Piece}
@@ -18,7 +18,7 @@ use Rattle.lg_pre.specs.declared.macros.Macro.{Macro}
 use Rattle.lg_pre.specs.declared.macros.Mark.{Mark}
 use Rattle.lg_pre.proofs.ArgumentLaws.{call_arguments, closing_last, closing_parted, drop_whole, opening_behind, split_last, take_whole}
 use Rattle.lg_pre.proofs.FeedLemmas.{feeds_append, feeds_cons}
-use Rattle.lg_pre.proofs.ReplacementLemmas.{append-end, append-again, behind-name, step-object}
+use Rattle.lg_pre.proofs.ReplacementLemmas.{append-again, behind-name, step-object}
 
 -- ---- bodies
 
@@ -73,7 +73,7 @@ filled_end line raw full before now = refl
 
 filled_are : {line : ℕ} {raw full : List (List Piece)} {body : List Piece} {marks : List Mark} {out : List Piece} → IsFilled line raw full body marks out
     → (before now : List Piece) → filled line body marks raw full before now ≡ (before ++ now) ++ out
-filled_are {line} {raw} {full} bare before now = filled_end line raw full before now ∙ sym (append-end (before ++ now))
+filled_are {line} {raw} {full} bare before now = filled_end line raw full before now ∙ sym (append-nil (before ++ now))
 filled_are {line} {raw} {full} (chain p mark first glued marked parts whole body marks out apart are_first are pasted more) before now =
     filled_apart line p (glued ++ body) mark (marked ++ marks) raw full before now apart
     ∙ ap (filled line (glued ++ body) (marked ++ marks) raw full (before ++ now)) (stands_are line raw full p mark first are_first)
@@ -191,7 +191,7 @@ pasted-bodies table n line place hidden p m rest out given names bare_name is =
 each_is : (table : List Macro) (n line : ℕ) (hidden : List ℕ) (sum : ℕ) (raw full : List (List Piece)) (sum' : ℕ) (before : List (List Piece)) → AreExpanded table n line hidden sum raw full sum'
     → each (expand_in table n) line hidden raw before sum ≡ Ok (before ++ full, sum')
 unfolding each
-each_is table n line hidden sum [] [] sum' before h = rw (h, append-end before) refl
+each_is table n line hidden sum [] [] sum' before h = rw (h, append-nil before) refl
 each_is table n line hidden sum (a ∷ raw) (f ∷ full) sum' before h =
     ap (λ o. o >>= (λ given. each (expand_in table n) line hidden raw (before ++ (given.0 ∷ [])) given.1)) h.1
     ∙ each_is table n line hidden h.0 raw full sum' (before ++ (f ∷ [])) h.2
@@ -250,7 +250,7 @@ step_call table inner hidden p call rest given place arity m raw names takes c =
 -- ---- the line feeds of a call
 
 text_feeds : (line : ℕ) (given : List Piece) (bytes : List ℕ) → fold (with_feed line) given bytes ≡ given ++ replicate (feeds_of bytes) (feed line)
-text_feeds line given [] = sym (append-end given)
+text_feeds line given [] = sym (append-nil given)
 text_feeds line given (b ∷ bytes) = by (b == 10) (λ more. text_feeds line more bytes) ∙ ap (λ k. given ++ replicate k (feed line)) (sym (feeds_cons b bytes))
   where
     by : (x : Bool) → ((front : List Piece) → fold (with_feed line) front bytes ≡ front ++ replicate (feeds_of bytes) (feed line))
@@ -260,7 +260,7 @@ text_feeds line given (b ∷ bytes) = by (b == 10) (λ more. text_feeds line mor
 
 call_feeds : (line : ℕ) (given call : List Piece) → with_feeds line given call ≡ given ++ feeds_behind line call
 unfolding with_feeds
-call_feeds line given [] = sym (append-end given)
+call_feeds line given [] = sym (append-nil given)
 call_feeds line given (p ∷ rest) =
     call_feeds line (with_feeds_of line given p) rest
     ∙ ap (λ l. l ++ feeds_behind line rest) (text_feeds line given p.text)

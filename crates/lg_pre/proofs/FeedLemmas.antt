@@ -1,5 +1,5 @@
 -- The line feeds of pieces: what cutting, pasting and calls do to them.
-use Rattle.std.proofs.Common.{◌≡◌, ℕ, zero, suc, ◌+◌, ◌-◌, ◌≤◌, ◌==◌, ◌&&◌, ◌||◌, max, Bool, true, false, not, if◌then◌else◌, List, [], ◌∷◌, ◌++◌, length, take, drop, fold, filter, refl, sym, ap, ◌∙◌, arith, Option, Some, None}
+use Rattle.std.proofs.Common.{◌≡◌, ℕ, zero, suc, ◌+◌, ◌-◌, ◌≤◌, ◌==◌, ◌&&◌, ◌||◌, max, Bool, true, false, not, if◌then◌else◌, List, [], ◌∷◌, ◌++◌, length, take, drop, fold, filter, refl, sym, ap, ◌∙◌, arith, Option, Some, None, one-add}
 use Rattle.std.proofs.lemmas.Bool.{false≢true, true≢false, eqb-true}
 use Rattle.std.proofs.lemmas.List.{take-append-drop, drop-drop}
 use Rattle.std.proofs.lemmas.List.Sums.{sum_by-append, sum_by-cons}
@@ -269,13 +269,10 @@ not_feed p b lacks passes = not_feed_by p b (b == 10) refl lacks passes
 feeds_none : (b : ℕ) (rest : List ℕ) → (b == 10) ≡ false → feeds_of rest ≡ 0 → feeds_of (b ∷ rest) ≡ 0
 feeds_none b rest e h = let g = feeds_cons b rest in let z : one_if b ≡ 0 = rw e refl in omega (arith, g, z, h)
 
-pub one_more : (n : ℕ) → 1 + n ≡ suc n
-one_more n = omega arith
-
 quoted_by : (mark : ℕ) (b : ℕ) (rest : List ℕ) (next : Bool) (t u : Bool) → (b == 10) ≡ t → feeds_of (take (quoted_len mark next rest) rest) ≡ 0 → feeds_of (take (if t then 0 else (if u then 1 else 1 + quoted_len mark next rest)) (b ∷ rest)) ≡ 0
 quoted_by mark b rest next true u e h = refl
 quoted_by mark b rest next false true e h = feeds_none b [] e refl
-quoted_by mark b rest next false false e h = rw one_more (feeds_none b (take (quoted_len mark next rest) rest) e h)
+quoted_by mark b rest next false false e h = rw one-add (feeds_none b (take (quoted_len mark next rest) rest) e h)
 
 quoted_quiet : (mark : ℕ) (escaped : Bool) (bytes : List ℕ) → feeds_of (take (quoted_len mark escaped bytes) bytes) ≡ 0
 unfolding quoted_len
@@ -284,7 +281,7 @@ quoted_quiet mark escaped (b ∷ rest) =
     quoted_by mark b rest ((b == 92) && not escaped) (b == 10) ((b == mark) && not escaped) refl (quoted_quiet mark ((b == 92) && not escaped) rest)
 
 prefix_by : (p : ℕ → Bool) (b : ℕ) (rest : List ℕ) (t : Bool) → p 10 ≡ false → p b ≡ t → feeds_of (take (prefix_len p rest) rest) ≡ 0 → feeds_of (take (if t then 1 + prefix_len p rest else 0) (b ∷ rest)) ≡ 0
-prefix_by p b rest true lacks passes h = rw one_more (feeds_none b (take (prefix_len p rest) rest) (not_feed p b lacks passes) h)
+prefix_by p b rest true lacks passes h = rw one-add (feeds_none b (take (prefix_len p rest) rest) (not_feed p b lacks passes) h)
 prefix_by p b rest false lacks passes h = refl
 
 prefix_quiet : (p : ℕ → Bool) → p 10 ≡ false → (bytes : List ℕ) → feeds_of (take (prefix_len p bytes) bytes) ≡ 0
@@ -307,7 +304,7 @@ front_tidy : (b : ℕ) (rest : List ℕ) → FrontIsTidy (b ∷ rest) (front_of 
 unfolding front_of
 front_tidy b rest =
     either_front (b ∷ rest) (begins_comment (b ∷ rest)) (Comment, comment_len (b ∷ rest)) _ (λ t other. absurd (true≢false other)) (λ t1.
-    either_front (b ∷ rest) ((b == 34) || (b == 39)) (Quoted, 1 + quoted_len b false rest) _ (λ t other. at_least_one b (1 + quoted_len b false rest) rest (not_feed (λ x. (x == 34) || (x == 39)) b refl t) (rw one_more (feeds_none b (take (quoted_len b false rest) rest) (not_feed (λ x. (x == 34) || (x == 39)) b refl t) (quoted_quiet b false rest)))) (λ t2.
+    either_front (b ∷ rest) ((b == 34) || (b == 39)) (Quoted, 1 + quoted_len b false rest) _ (λ t other. at_least_one b (1 + quoted_len b false rest) rest (not_feed (λ x. (x == 34) || (x == 39)) b refl t) (rw one-add (feeds_none b (take (quoted_len b false rest) rest) (not_feed (λ x. (x == 34) || (x == 39)) b refl t) (quoted_quiet b false rest)))) (λ t2.
     either_front (b ∷ rest) (is_word_start b) (Word, prefix_len is_word_byte (b ∷ rest)) _ (λ t other. at_least_one b (prefix_len is_word_byte (b ∷ rest)) rest (not_feed is_word_start b refl t) (prefix_quiet is_word_byte refl (b ∷ rest))) (λ t3.
     either_front (b ∷ rest) (is_ascii_digit b) (Number, prefix_len is_word_byte (b ∷ rest)) _ (λ t other. at_least_one b (prefix_len is_word_byte (b ∷ rest)) rest (not_feed is_ascii_digit b refl t) (prefix_quiet is_word_byte refl (b ∷ rest))) (λ t4.
     either_front (b ∷ rest) (b == 10) (Feed, 1) (Byte b, 1) (λ t other. absurd (true≢false other)) (λ t other. feeds_none b [] t refl)))))

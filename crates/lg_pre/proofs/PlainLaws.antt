@@ -1,5 +1,5 @@
 -- A text without directives and without names of macros is its own expansion.
-use Rattle.std.proofs.Common.{◌≡◌, ◌≢◌, ℕ, zero, suc, ◌+◌, ◌-◌, ◌<◌, ◌≤◌, nat_le, Bool, true, false, if◌then◌else◌, List, [], ◌∷◌, ◌++◌, length, take, drop, refl, sym, ap, ◌∙◌, arith, append_assoc, append-nil, length-drop, None, Ok, Option, codes}
+use Rattle.std.proofs.Common.{◌≡◌, ◌≢◌, ℕ, zero, suc, ◌+◌, ◌-◌, ◌<◌, ◌≤◌, nat_le, Bool, true, false, if◌then◌else◌, List, [], ◌∷◌, ◌++◌, length, take, drop, refl, sym, ap, ◌∙◌, arith, append_assoc, append-nil, length-drop, None, Ok, Option, codes, one-add}
 use Rattle.std.proofs.lemmas.Bool.{false_from_ne_true}
 use Rattle.std.proofs.lemmas.Bool.Decides.{nat_tests}
 use Rattle.std.proofs.lemmas.List.{drop_all, drop-drop, take-append-drop}
@@ -14,7 +14,6 @@ use Rattle.lg_pre.specs.Pieces.{Piece, is_feed}
 use Rattle.lg_pre.specs.PlainTexts.{pieces_of, HasNoDirective, HasNoName, PlainTextsStay}
 use Rattle.lg_pre.specs.Text.{mark_in, line_len, bytes_of, ends_with_slash}
 use Rattle.lg_pre.specs.declared.expander.Expander.{Expander}
-use Rattle.lg_pre.proofs.FeedLemmas.{one_more}
 use Rattle.lg_pre.proofs.LineLaws.{line_some}
 use Rattle.lg_pre.proofs.PlainLemmas.{pieces_are_text, plain_given}
 
@@ -44,7 +43,7 @@ no_mark (p ∷ rest) h = h.0 refl
 behind_by : (slash : Bool) (p : Piece) (rest : List Piece) (b : Bool) → is_feed p.kind ≡ b → HasNoDirective b rest → ((s : Bool) → HasNoDirective false rest → HasNoDirective true (drop (line_len false s rest) rest)) → HasNoDirective true (drop (line_len false slash (p ∷ rest)) (p ∷ rest))
 unfolding line_len
 behind_by slash p rest true e h next = rw e h
-behind_by slash p rest false e h next = rw (e, one_more) (next (ends_with_slash p) h)
+behind_by slash p rest false e h next = rw (e, one-add) (next (ends_with_slash p) h)
 
 -- behind a line the next one begins
 behind_line : (begins slash : Bool) (pieces : List Piece) → HasNoDirective begins pieces → HasNoDirective true (drop (line_len false slash pieces) pieces)

@@ -2,6 +2,7 @@
 use Rattle.std.proofs.Common.{◌≡◌, ℕ, suc, Bool, true, false, List, [], ◌∷◌, ◌++◌, length, map, drop, slice_get, Some, None, Ok, Err, refl, sym, ap, ◌∙◌, arith}
 use Rattle.std.specs.Prelude.{◌&&◌, if◌then◌else◌, Result}
 use Rattle.std.specs.List.{AllByRecursion}
+use Rattle.std.proofs.lemmas.List.{append-nil}
 use Rattle.lg_base.specs.Refusals.{◌>>=◌}
 use Rattle.lg_base.specs.declared.refusal.Refusal.{Refusal}
 use Rattle.lg_pre.specs.Expansion.{Given, Expander, Outcome, kept, named, behind_name, put, put_name, object, at_macro, at_name, step, walk, expand_in}
@@ -11,10 +12,6 @@ use Rattle.lg_pre.specs.Substitution.{filled, substituted}
 use Rattle.lg_pre.specs.declared.macros.Macro.{Macro}
 use Rattle.lg_pre.specs.declared.macros.Mark.{Mark}
 use Rattle.lg_pre.specs.Replacements.{NameNothing, OthersStay, is_hidden, HiddenNamesStay, StandsForItself, IsPlain, BodiesReplaceNames}
-
-pub append-end : {A : Type 0} (xs : List A) → xs ++ [] ≡ xs
-append-end [] = refl
-append-end (x ∷ xs) = ap (λ l. x ∷ l) (append-end xs)
 
 pub append-again : {A : Type 0} (xs ys zs : List A) → (xs ++ ys) ++ zs ≡ xs ++ (ys ++ zs)
 append-again [] ys zs = refl
@@ -36,7 +33,7 @@ step-object table inner hidden p rest given place m e at h o = rw (e, at, h, o) 
 -- ---- pieces that name nothing
 walk-none : (table : List Macro) (inner : Expander) (hidden : List ℕ) (pieces : List Piece) (given : Given) → NameNothing table pieces → walk table inner (length pieces) hidden pieces given ≡ Ok (given.0 ++ pieces, given.1)
 unfolding walk
-walk-none table inner hidden [] given h = ap (λ l. Ok (l, given.1)) (sym (append-end given.0))
+walk-none table inner hidden [] given h = ap (λ l. Ok (l, given.1)) (sym (append-nil given.0))
 walk-none table inner hidden (p ∷ rest) given h =
     ap (λ s. s >>= (λ t. walk table inner (length rest) hidden (drop t.0 rest) t.1)) (step-none table inner hidden p rest given h.0)
     ∙ walk-none table inner hidden rest (given.0 ++ p ∷ [], given.1) h.1
@@ -64,7 +61,7 @@ hidden-stay table n line place hidden p m rest given e at h = (stays, λ later. 
 -- ---- bodies
 filled-plain : (line : ℕ) (body : List Piece) (marks : List Mark) (done now : List Piece) → length marks ≡ length body → AllByRecursion StandsForItself marks → filled line body marks [] [] done now ≡ (done ++ now) ++ map (on_line line) body
 unfolding filled
-filled-plain line [] [] done now e h = sym (append-end (done ++ now))
+filled-plain line [] [] done now e h = sym (append-nil (done ++ now))
 filled-plain line [] (mark ∷ marks) done now e h = absurd (omega (arith, e))
 filled-plain line (p ∷ body) [] done now e h = absurd (omega (arith, e))
 filled-plain line (p ∷ body) (mark ∷ marks) done now e h =

@@ -5,12 +5,8 @@ use Rattle.std.specs.List.{list_any, position_or_len, remove, drop-map}
 use Rattle.std.specs.Set.{remove_key}
 use Rattle.std.specs.Str.{bytes_eq}
 use Rattle.std.proofs.lemmas.List.{length-map, map-append, take-map}
-
-same-some : (x y : ℕ) → Some x ≡ Some y → x ≡ y
-same-some x y e = cc
-
-differ : true ≡ false → ⊥
-differ e = cc
+use Rattle.std.proofs.lemmas.Option.{same_Some}
+use Rattle.std.proofs.lemmas.Bool.{true≢false}
 
 module _ {K : Type 0} (bytes_of : K → List ℕ) (q : List ℕ) where
   place-map : (ks : List K) → position_or_len (bytes_eq q) (map bytes_of ks) ≡ position_or_len (λ k. bytes_eq q (bytes_of k)) ks
@@ -40,7 +36,7 @@ module _ {K : Type 0} (test : K → Bool) where
   removed ks i e = by (nat_lt (position_or_len test ks) (length ks)) refl e
     where
       by : (b : Bool) → nat_lt (position_or_len test ks) (length ks) ≡ b → cond b (Some (position_or_len test ks)) None ≡ Some i → remove_key test ks ≡ remove ks i
-      by true t e = removed-at ks (grind (arith, t)) ∙ ap (remove ks) (same-some (position_or_len test ks) i e)
+      by true t e = removed-at ks (grind (arith, t)) ∙ ap (remove ks) (same_Some (position_or_len test ks) i e)
       by false t e = cc
 
   -- where nothing passes there is no place
@@ -50,7 +46,7 @@ module _ {K : Type 0} (test : K → Bool) where
     where
       by : (b : Bool) → test k ≡ b → (test k || list_any test ks) ≡ false → (list_any test ks ≡ false → position_or_len test ks ≡ length ks)
           → cond (not (test k)) (1 + position_or_len test ks) 0 ≡ length (k ∷ ks)
-      by true f e rest = absurd (differ (sym (ap (λ b. b || list_any test ks) f) ∙ e))
+      by true f e rest = absurd (true≢false (sym (ap (λ b. b || list_any test ks) f) ∙ e))
       by false f e rest = let n = rest (ap (λ b. b || list_any test ks) (sym f) ∙ e) in rw f (omega (arith, n))
 
   pub none : (ks : List K) → list_any test ks ≡ false → position test ks ≡ None

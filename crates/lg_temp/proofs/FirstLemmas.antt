@@ -3,15 +3,13 @@ use Rattle.std.proofs.Common.{◌≡◌, ℕ, Bool, true, false, List, [], ◌�
 use Rattle.std.specs.Prelude.{◌&&◌, not, find, if◌then◌else◌}
 use Rattle.std.specs.List.{list_all}
 use Rattle.std.specs.Option.{option_and_then}
+use Rattle.std.proofs.lemmas.Option.{same_Some}
 use Rattle.lg_temp.specs.declared.choice.Need.{Need}
 use Rattle.lg_temp.specs.declared.choice.Need.TheVariants.{Any, Only}
 use Rattle.lg_temp.specs.declared.choice.Choice.{Choice}
-use Rattle.lg_temp.specs.declared.choice.Choice.TheVariants.{Free, Own, Spill}
-use Rattle.lg_temp.specs.Chosen.{Around, order, spills, is_barred, first_free, first_saved, free_or_saved, pick_any, pick_only, pick, chosen}
+use Rattle.lg_temp.specs.declared.choice.Choice.TheVariants.{Free, Spill}
+use Rattle.lg_temp.specs.Chosen.{Around, order, spills, is_barred, first_free, first_saved, free_or_saved, pick_any, pick, chosen}
 use Rattle.lg_temp.specs.Choices.{IsFirst, IsFirstFor, AreFirst, ChoicesAreFirst, is_refused}
-
-some-same : {A : Type 0} (x y : A) → Some x ≡ Some y → x ≡ y
-some-same x y e = cc
 
 -- what is found is the first that passes
 finds-first : (p : ℕ → Bool) (xs : List ℕ) (r : ℕ) → find (λ x. not (p x)) xs ≡ Some r → IsFirst p xs r
@@ -22,7 +20,7 @@ finds-first p (x ∷ xs) r e = by (p x) refl e (finds-first p xs r)
     by true h e again =
         let k = again e in
         (x ∷ k.0, k.1, ap (λ l. x ∷ l) k.2, (λ i. h i && k.3 i), k.4)
-    by false h e again = let z : x ≡ r = some-same x r e in ([], xs, ap (λ y. y ∷ xs) z, refl, ap p (sym z) ∙ h)
+    by false h e again = let z : x ≡ r = same_Some x r e in ([], xs, ap (λ y. y ∷ xs) z, refl, ap p (sym z) ∙ h)
 
 -- where none is found, none passes
 finds-none : (p : ℕ → Bool) (xs : List ℕ) → find (λ x. not (p x)) xs ≡ None → list_all p xs ≡ true
@@ -37,9 +35,9 @@ first-any : (a : Around) (needs : List Need) (made : List Choice) (choice : Choi
 first-any a needs made choice e = by (first_free a needs made (order a.target)) (first_saved a needs made (order a.target)) refl refl e
   where
     by : (free saved : Option ℕ) → first_free a needs made (order a.target) ≡ free → first_saved a needs made (order a.target) ≡ saved → free_or_saved free saved (spills made) ≡ Some choice → IsFirstFor a needs made Any choice
-    by (Some r) saved f s e = subst (IsFirstFor a needs made Any) (some-same (Free r) choice e) (finds-first (is_refused a needs made) (order a.target) r f)
+    by (Some r) saved f s e = subst (IsFirstFor a needs made Any) (same_Some (Free r) choice e) (finds-first (is_refused a needs made) (order a.target) r f)
     by None (Some r) f s e =
-        subst (IsFirstFor a needs made Any) (some-same (Spill r (spills made)) choice e)
+        subst (IsFirstFor a needs made Any) (same_Some (Spill r (spills made)) choice e)
         (finds-none (is_refused a needs made) (order a.target) f, finds-first (is_barred a needs made) (order a.target) r s)
     by None None f s e = cc
 
@@ -49,7 +47,7 @@ first-picked a needs made (Only r) choice e = tt
 
 -- the choices behind those that are made
 first-behind : (a : Around) (needs left : List Need) (made choices : List Choice) → chosen a needs left made ≡ Some choices → (rest : List Choice) × (choices ≡ made ++ rest) × AreFirst a needs made left rest
-first-behind a needs [] made choices e = ([], sym (some-same made choices e) ∙ sym (append-nil made), tt)
+first-behind a needs [] made choices e = ([], sym (same_Some made choices e) ∙ sym (append-nil made), tt)
 first-behind a needs (need ∷ left) made choices e = by (pick a needs made need) refl e (λ choice. first-behind a needs left (made ++ choice ∷ []) choices)
   where
     by : (o : Option Choice) → pick a needs made need ≡ o → option_and_then (λ choice. chosen a needs left (made ++ choice ∷ [])) o ≡ Some choices

@@ -1,9 +1,10 @@
 -- A front is compared with a spelling: the size prefix, REX and the opcode, and then what stands behind it.
-use Rattle.std.proofs.Common.{◌≡◌, ℕ, ◌+◌, ◌-◌, ◌<◌, ◌≤◌, Bool, true, false, List, [], ◌∷◌, ◌++◌, length, length-append, Option, Some, None, refl, sym, ap, ◌∙◌, arith, nat_eq}
+use Rattle.std.proofs.Common.{◌≡◌, ℕ, ◌+◌, ◌<◌, ◌≤◌, Bool, true, false, List, [], ◌∷◌, ◌++◌, length, length-append, Option, Some, None, refl, sym, ap, ◌∙◌, arith, nat_eq}
 use Rattle.std.specs.Prelude.{◌==◌, ◌&&◌, ◌||◌, not, find, if◌then◌else◌}
 use Rattle.std.specs.List.{starts_with}
 use Rattle.std.specs.Option.{option_map}
 use Rattle.std.proofs.lemmas.Bool.Decides.{nat_tests}
+use Rattle.std.proofs.lemmas.Bool.{and_parts, eqb-true, and_from}
 use Rattle.lg_x86.specs.declared.rows.Mark.{Mark}
 use Rattle.lg_x86.specs.declared.rows.Mark.TheVariants.{Wide, Low, Plain}
 use Rattle.lg_x86.specs.declared.instruction.Instr.{Instr}
@@ -131,15 +132,6 @@ pub both : (a b c : Bool) → (a && (b && c)) ≡ ((a && b) && c)
 both true b c = refl
 both false b c = refl
 
-pub first_true : (a b : Bool) → (a && b) ≡ true → a ≡ true
-first_true true b e = refl
-first_true false b e = e
-
-pub second_true : (a b : Bool) → (a && b) ≡ true → b ≡ true
-second_true true b e = e
-second_true false true e = refl
-second_true false false e = e
-
 pub same_is : (s z : Bool) → same_bool s z ≡ true → s ≡ z
 same_is true true e = refl
 same_is false false e = refl
@@ -174,12 +166,12 @@ accepts s r rex_is e o t i front tails len k at x =
     ∙ ap (λ b. b && (x.p == o && starts_with nat_eq t x.u)) x.front_is
     ∙ ap (λ b. front && b) x.tail_is)
     (λ yes.
-    let f : (same_bool s x.z && (r == rex_value x.mark x.bits)) ≡ true = x.front_is ∙ first_true front tails yes in
-    let sz : s ≡ x.z = same_is s x.z (first_true (same_bool s x.z) _ f) in
+    let f : (same_bool s x.z && (r == rex_value x.mark x.bits)) ≡ true = x.front_is ∙ (and_parts front tails yes).0 in
+    let sz : s ≡ x.z = same_is s x.z (and_parts (same_bool s x.z) _ f).0 in
     ap length x.spelled
     ∙ ap (λ b. length (size_prefix b ++ (rex x.mark x.bits ++ (opcode_bytes e x.p ++ x.u)))) (sym sz)
-    ∙ front_long s r x.mark x.bits e x.p x.u (second_true (same_bool s x.z) _ f)
-    ∙ ap (λ n. front_length s r e + n) (x.long (second_true front tails yes))
+    ∙ front_long s r x.mark x.bits e x.p x.u (and_parts (same_bool s x.z) _ f).1
+    ∙ ap (λ n. front_length s r e + n) (x.long (and_parts front tails yes).1)
     ∙ ap (λ n. n + k) (sym at))
 
 pub with_found : {Op : Type 0} (f : Option Op) (g : Op → Instr) (s : Bool) (r : ℕ) (e : Bool) (o : ℕ) (t : List ℕ) (fits : Bool) (n : ℕ) → ((op : Op) → f ≡ Some op → Same s r e o t fits n (Some (g op))) → Same s r e o t fits n (option_map g f)
@@ -194,9 +186,6 @@ found p (x ∷ xs) o e = by (p x) refl e (found p xs o)
     by true h f k = let is : x ≡ o = cc in ap p (sym is) ∙ h
     by false h f k = k f
 
-pub is_true : (x y : ℕ) → (x == y) ≡ true → x ≡ y
-is_true x y e = grind (arith, nat_tests)
-
 pub true_is : (x y : ℕ) → x ≡ y → (x == y) ≡ true
 true_is x y e = grind (arith, nat_tests)
 
@@ -205,14 +194,11 @@ decided true b f g = sym (f refl)
 decided false true f g = g refl
 decided false false f g = refl
 
-pub all_true : (a b : Bool) → a ≡ true → b ≡ true → (a && b) ≡ true
-all_true a b e f = rw (e, f) refl
-
 pub pair_true : (a b x y : ℕ) → a ≡ b → x ≡ y → ((a == b) && (x == y)) ≡ true
-pair_true a b x y e f = all_true (a == b) (x == y) (true_is a b e) (true_is x y f)
+pair_true a b x y e f = and_from (a == b) (x == y) (true_is a b e) (true_is x y f)
 
 pub pair_is : (a b x y : ℕ) → ((a == b) && (x == y)) ≡ true → (a ≡ b) × (x ≡ y)
-pair_is a b x y e = (is_true a b (first_true (a == b) (x == y) e), is_true x y (second_true (a == b) (x == y) e))
+pair_is a b x y e = (eqb-true a b (and_parts (a == b) (x == y) e).0, eqb-true x y (and_parts (a == b) (x == y) e).1)
 
 pub never : (a b : Bool) → (a && (b && false)) ≡ true → ⊥
 never true true e = let none : ⊥ = cc in none

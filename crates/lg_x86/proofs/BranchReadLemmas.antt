@@ -1,5 +1,5 @@
 -- Jumps, calls, sets and what has its register in the opcode: what was read is a spelling exactly where the tests say so.
-use Rattle.std.proofs.Common.{◌≡◌, ℕ, ◌+◌, ◌*◌, ◌/◌, ◌%◌, ◌<◌, Bool, true, false, List, [], ◌∷◌, append_assoc, Some, refl, sym, ap, subst, ◌∙◌, arith, lit<}
+use Rattle.std.proofs.Common.{◌≡◌, ℕ, ◌+◌, ◌*◌, ◌/◌, ◌%◌, Bool, true, false, List, [], ◌∷◌, append_assoc, Some, refl, sym, ap, subst, ◌∙◌, arith, lit<}
 use Rattle.std.specs.Prelude.{◌==◌, ◌&&◌, not}
 use Rattle.lg_x86.specs.declared.rows.Mark.{Mark}
 use Rattle.lg_x86.specs.declared.rows.Mark.TheVariants.{Wide, Low, Plain}
@@ -11,11 +11,12 @@ use Rattle.lg_x86.specs.Reading.{stack_by_opcode, jump_near_by_opcode, jump_reg_
 use Rattle.lg_x86.specs.declared.instruction.JumpNearOp.{JumpNearOp}
 use Rattle.lg_x86.specs.declared.instruction.JumpNearOp.TheVariants.{Jmp32}
 use Rattle.std.specs.Int.{w32, w64, to_le_bytes}
+use Rattle.std.proofs.lemmas.Bool.{eqb-true, ne_eqb}
 use Rattle.lg_x86.proofs.FieldLemmas.{extension_fits}
 use Rattle.lg_x86.proofs.NumberLemmas.{AreBytes}
 use Rattle.lg_x86.proofs.FrontLemmas.{IsOpcode}
-use Rattle.lg_x86.proofs.AcceptLemmas.{same, accepts, with_found, found, is_true, unsized, IsRex, Same}
-use Rattle.lg_x86.proofs.PrefixLemmas.{end_of, false_is, wide_one_is, plain_one_is, low_one_is}
+use Rattle.lg_x86.proofs.AcceptLemmas.{same, accepts, with_found, found, unsized, IsRex, Same}
+use Rattle.lg_x86.proofs.PrefixLemmas.{end_of, wide_one_is, plain_one_is, low_one_is}
 use Rattle.lg_x86.proofs.TailLemmas.{tail_of, registers_tail, one_tail, word_tail, wide_tail, long_tail, short_tail, plain_opcode, no_tail, accepts_bare}
 
 pub jump_if_short_same : (s : Bool) (r : ℕ) → IsRex r → (o : ℕ) (t : List ℕ) → AreBytes t → (len : ℕ) → len ≡ front_length s r false → o / 16 ≡ 7 → Same s r false o t ((not s && (r == 0)) && has_bytes 1 t) (len + 1) (jump_if_short_of o t)
@@ -23,10 +24,10 @@ unfolding jump_if_short_of cond_by_number
 jump_if_short_same s r rex_is o t h len at seven =
     with_found (cond_by_number (o % 16)) (λ cond. JumpIfShort cond (short_in t)) s r false o t ((not s && (r == 0)) && has_bytes 1 t) (len + 1)
     (λ cond e.
-    let row : o % 16 ≡ (cond_row cond).number = is_true (o % 16) _ (found (λ cond. o % 16 == (cond_row cond).number) conds cond e) in
+    let row : o % 16 ≡ (cond_row cond).number = eqb-true (o % 16) _ (found (λ cond. o % 16 == (cond_row cond).number) conds cond e) in
     let p = 0x70 + (cond_row cond).number in
     let same : p ≡ o = omega (arith, row, seven) in
-    let code : IsOpcode o = plain_opcode o (false_is (o / 16) 4 (λ f. omega (arith, f, seven))) (false_is o 0x66 (λ f. omega (arith, f, seven))) (false_is o 0x0f (λ f. omega (arith, f, seven))) in
+    let code : IsOpcode o = plain_opcode o (ne_eqb (o / 16) 4 (λ f. omega (arith, f, seven))) (ne_eqb o 0x66 (λ f. omega (arith, f, seven))) (ne_eqb o 0x0f (λ f. omega (arith, f, seven))) in
     accepts s r rex_is false o t (JumpIfShort cond (short_in t)) (not s && (r == 0)) (has_bytes 1 t) len 1 at
     (record {
       z = false;
@@ -48,10 +49,10 @@ unfolding jump_if_near_of cond_by_number
 jump_if_near_same s r rex_is o t h len at eight =
     with_found (cond_by_number (o % 16)) (λ cond. JumpIfNear cond (long_in t)) s r true o t ((not s && (r == 0)) && has_bytes 4 t) (len + 4)
     (λ cond e.
-    let row : o % 16 ≡ (cond_row cond).number = is_true (o % 16) _ (found (λ cond. o % 16 == (cond_row cond).number) conds cond e) in
+    let row : o % 16 ≡ (cond_row cond).number = eqb-true (o % 16) _ (found (λ cond. o % 16 == (cond_row cond).number) conds cond e) in
     let p = 0x80 + (cond_row cond).number in
     let same : p ≡ o = omega (arith, row, eight) in
-    let code : IsOpcode o = plain_opcode o (false_is (o / 16) 4 (λ f. omega (arith, f, eight))) (false_is o 0x66 (λ f. omega (arith, f, eight))) (false_is o 0x0f (λ f. omega (arith, f, eight))) in
+    let code : IsOpcode o = plain_opcode o (ne_eqb (o / 16) 4 (λ f. omega (arith, f, eight))) (ne_eqb o 0x66 (λ f. omega (arith, f, eight))) (ne_eqb o 0x0f (λ f. omega (arith, f, eight))) in
     accepts s r rex_is true o t (JumpIfNear cond (long_in t)) (not s && (r == 0)) (has_bytes 4 t) len 4 at
     (record {
       z = false;
@@ -74,10 +75,10 @@ set_same s r rex_is o t len at nine =
     let rm = rm_in r t in
     with_found (cond_by_number (o % 16)) (λ cond. Set cond rm) s r true o t ((not s && is_low_one r) && has_one t) (len + 1)
     (λ cond e.
-    let row : o % 16 ≡ (cond_row cond).number = is_true (o % 16) _ (found (λ cond. o % 16 == (cond_row cond).number) conds cond e) in
+    let row : o % 16 ≡ (cond_row cond).number = eqb-true (o % 16) _ (found (λ cond. o % 16 == (cond_row cond).number) conds cond e) in
     let p = 0x90 + (cond_row cond).number in
     let same : p ≡ o = omega (arith, row, nine) in
-    let code : IsOpcode o = plain_opcode o (false_is (o / 16) 4 (λ f. omega (arith, f, nine))) (false_is o 0x66 (λ f. omega (arith, f, nine))) (false_is o 0x0f (λ f. omega (arith, f, nine))) in
+    let code : IsOpcode o = plain_opcode o (ne_eqb (o / 16) 4 (λ f. omega (arith, f, nine))) (ne_eqb o 0x66 (λ f. omega (arith, f, nine))) (ne_eqb o 0x0f (λ f. omega (arith, f, nine))) in
     accepts s r rex_is true o t (Set cond rm) (not s && is_low_one r) (has_one t) len 1 at
     (record {
       z = false;
@@ -100,7 +101,7 @@ bswap_same s r rex_is o t len at place =
     let reg = opcode_reg r o in
     let p = 0xc8 + reg % 8 in
     let same : p ≡ o = omega (arith, place) in
-    let code : IsOpcode o = plain_opcode o (false_is (o / 16) 4 (λ f. omega (arith, f, place))) (false_is o 0x66 (λ f. omega (arith, f, place))) (false_is o 0x0f (λ f. omega (arith, f, place))) in
+    let code : IsOpcode o = plain_opcode o (ne_eqb (o / 16) 4 (λ f. omega (arith, f, place))) (ne_eqb o 0x66 (λ f. omega (arith, f, place))) (ne_eqb o 0x0f (λ f. omega (arith, f, place))) in
     accepts_bare s r rex_is true o t (Bswap reg) (not s && is_wide_one r) len at
     (record {
       z = false;
@@ -123,10 +124,10 @@ stack_same s r rex_is o t len at five =
     let reg = opcode_reg r o in
     with_found (stack_by_opcode (o / 8 * 8)) (λ op. Stack op reg) s r false o t (not s && is_plain_one r) len
     (λ op e.
-    let row : o / 8 * 8 ≡ (stack_row op).number = is_true (o / 8 * 8) _ (found (λ op. o / 8 * 8 == (stack_row op).number) stack_ops op e) in
+    let row : o / 8 * 8 ≡ (stack_row op).number = eqb-true (o / 8 * 8) _ (found (λ op. o / 8 * 8 == (stack_row op).number) stack_ops op e) in
     let p = (stack_row op).number + reg % 8 in
     let same : p ≡ o = omega (arith, row) in
-    let code : IsOpcode o = plain_opcode o (false_is (o / 16) 4 (λ f. omega (arith, f, five))) (false_is o 0x66 (λ f. omega (arith, f, five))) (false_is o 0x0f (λ f. omega (arith, f, five))) in
+    let code : IsOpcode o = plain_opcode o (ne_eqb (o / 16) 4 (λ f. omega (arith, f, five))) (ne_eqb o 0x66 (λ f. omega (arith, f, five))) (ne_eqb o 0x0f (λ f. omega (arith, f, five))) in
     accepts_bare s r rex_is false o t (Stack op reg) (not s && is_plain_one r) len at
     (record {
       z = false;
@@ -148,7 +149,7 @@ unfolding read_movi movi_of
 movi_same s r rex_is mark o t h len at place = by mark
   where
     code : IsOpcode o
-    code = plain_opcode o (false_is (o / 16) 4 (λ f. omega (arith, f, place))) (false_is o 0x66 (λ f. omega (arith, f, place))) (false_is o 0x0f (λ f. omega (arith, f, place)))
+    code = plain_opcode o (ne_eqb (o / 16) 4 (λ f. omega (arith, f, place))) (ne_eqb o 0x66 (λ f. omega (arith, f, place))) (ne_eqb o 0x0f (λ f. omega (arith, f, place)))
 
     same_opcode : 0xb8 + opcode_reg r o % 8 ≡ o
     same_opcode = omega (arith, place)
@@ -219,7 +220,7 @@ unfolding jump_near_of jump_near_by_opcode
 jump_near_same s r rex_is o t h len at =
     with_found (jump_near_by_opcode o) (λ op. JumpNear op (long_in t)) s r false o t ((not s && (r == 0)) && has_bytes 4 t) (len + 4)
     (λ op e.
-    let row : o ≡ (jump_near_row op).number = is_true o _ (found (λ op. o == (jump_near_row op).number) jump_near_ops op e) in
+    let row : o ≡ (jump_near_row op).number = eqb-true o _ (found (λ op. o == (jump_near_row op).number) jump_near_ops op e) in
     accepts s r rex_is false o t (JumpNear op (long_in t)) (not s && (r == 0)) (has_bytes 4 t) len 4 at
     (record {
       z = false;
@@ -242,7 +243,7 @@ jump_reg_same s r rex_is t len at =
     let rm = rm_in r t in
     with_found (jump_reg_by_digit (digit_in t)) (λ op. JumpReg op rm) s r false 0xff t ((not s && is_plain_one r) && has_registers t) (len + 1)
     (λ op e.
-    let row : digit_in t ≡ (jump_reg_row op).number = is_true (digit_in t) _ (found (λ op. digit_in t == (jump_reg_row op).number) jump_reg_ops op e) in
+    let row : digit_in t ≡ (jump_reg_row op).number = eqb-true (digit_in t) _ (found (λ op. digit_in t == (jump_reg_row op).number) jump_reg_ops op e) in
     accepts s r rex_is false 0xff t (JumpReg op rm) (not s && is_plain_one r) (has_registers t) len 1 at
     (record {
       z = false;

@@ -1,5 +1,5 @@
 -- Rows by a digit in ModRM: what was read is a spelling exactly where the tests say so.
-use Rattle.std.proofs.Common.{◌≡◌, ℕ, ◌+◌, ◌-◌, ◌<◌, Bool, true, false, List, [], ◌∷◌, ◌++◌, drop, append_assoc, slice_index, Some, None, refl, sym, ap, subst, ◌∙◌, arith, lit<, nat_lt, nat_eq}
+use Rattle.std.proofs.Common.{◌≡◌, ℕ, ◌+◌, Bool, true, false, List, [], ◌∷◌, ◌++◌, drop, append_assoc, slice_index, Some, None, refl, sym, ap, subst, ◌∙◌, arith, lit<, nat_lt, nat_eq}
 use Rattle.std.specs.Prelude.{◌==◌, ◌&&◌, ◌||◌, not, if◌then◌else◌}
 use Rattle.std.specs.List.{starts_with}
 use Rattle.std.specs.Option.{option_map}
@@ -10,12 +10,13 @@ use Rattle.lg_x86.specs.Spelling.{rex, extension, modrm, is_short, short_bytes, 
 use Rattle.lg_x86.specs.Reading.{checked, front_bytes, front_length, accepted, is_wide_one, has_one, has_bytes, read_imm, has_registers, digit_in, rm_in, short_in, long_in}
 use Rattle.lg_x86.specs.Reading.{imm_by_digit, unary_by_digit, shift_by_digit, imm_of, movs_of, unary_of, shift_of}
 use Rattle.std.proofs.lemmas.List.{get_or-drop}
+use Rattle.std.proofs.lemmas.Bool.{eqb-true}
 use Rattle.lg_x86.specs.declared.instruction.ImmOp.{ImmOp}
 use Rattle.lg_x86.proofs.AgainLemmas.{unary_opcode, imm_is_opcode}
 use Rattle.lg_x86.proofs.FieldLemmas.{extension_fits}
 use Rattle.lg_x86.proofs.NumberLemmas.{AreBytes, drop_bytes}
 use Rattle.lg_x86.proofs.FrontLemmas.{IsOpcode}
-use Rattle.lg_x86.proofs.AcceptLemmas.{none_accepted, accepts, with_found, found, is_true, pair_is, never, or_first, unsized, IsRex, Same}
+use Rattle.lg_x86.proofs.AcceptLemmas.{none_accepted, accepts, with_found, found, pair_is, never, or_first, unsized, IsRex, Same}
 use Rattle.lg_x86.proofs.PrefixLemmas.{end_of, wide_one_is}
 use Rattle.lg_x86.proofs.TailLemmas.{tail_of, registers_tail, one_tail, and_false, long_tail, short_tail, byte_tail, short_is_short, behind_first, behind_one, plain_opcode}
 
@@ -58,7 +59,7 @@ shift_same s r rex_is t len at = by (nat_lt (slice_index t 1) 64)
     some_shift =
         with_found (shift_by_digit (digit_in t)) (λ op. Shift op rm (slice_index t 1)) s r false 0xc1 t ((not s && is_wide_one r) && (has_registers t && has_bytes 2 t)) (len + 2)
         (λ op e.
-        let row : digit_in t ≡ (shift_row op).number = is_true (digit_in t) _ (found (λ op. digit_in t == (shift_row op).number) shift_ops op e) in
+        let row : digit_in t ≡ (shift_row op).number = eqb-true (digit_in t) _ (found (λ op. digit_in t == (shift_row op).number) shift_ops op e) in
         accepts s r rex_is false 0xc1 t (Shift op rm (slice_index t 1)) (not s && is_wide_one r) (has_registers t && has_bytes 2 t) len 2 at
         (record {
           z = false;
@@ -108,7 +109,7 @@ imm_short_same s r rex_is t h len at =
     let short = short_is_short (slice_index (drop 1 t) 0) in
     with_found (imm_by_digit (digit_in t)) (λ op. Imm op rm z) s r false 0x83 t ((not s && is_wide_one r) && (has_registers t && has_bytes 2 t)) (len + 2)
     (λ op e.
-    let row : digit_in t ≡ (imm_row op).number = is_true (digit_in t) _ (found (λ op. digit_in t == (imm_row op).number) imm_ops op e) in
+    let row : digit_in t ≡ (imm_row op).number = eqb-true (digit_in t) _ (found (λ op. digit_in t == (imm_row op).number) imm_ops op e) in
     let digit = (imm_row op).number in
     accepts s r rex_is false 0x83 t (Imm op rm z) (not s && is_wide_one r) (has_registers t && has_bytes 2 t) len 2 at
     (record {
@@ -130,7 +131,7 @@ pub imm_long_same : (s : Bool) (r : ℕ) → IsRex r → (t : List ℕ) → AreB
 unfolding imm_of imm_by_digit
 imm_long_same s r rex_is t h len at =
     with_found (imm_by_digit (digit_in t)) (λ op. Imm op (rm_in r t) (long_in (drop 1 t))) s r false 0x81 t ((not s && is_wide_one r) && (has_registers t && (has_bytes 5 t && not (is_short (long_in (drop 1 t)))))) (len + 5)
-    (λ op e. by op (is_true (digit_in t) _ (found (λ op. digit_in t == (imm_row op).number) imm_ops op e)) (is_short (long_in (drop 1 t))) refl)
+    (λ op e. by op (eqb-true (digit_in t) _ (found (λ op. digit_in t == (imm_row op).number) imm_ops op e)) (is_short (long_in (drop 1 t))) refl)
   where
     by : (op : ImmOp) → digit_in t ≡ (imm_row op).number → (b : Bool) → is_short (long_in (drop 1 t)) ≡ b → Same s r false 0x81 t ((not s && is_wide_one r) && (has_registers t && (has_bytes 5 t && not b))) (len + 5) (Some (Imm op (rm_in r t) (long_in (drop 1 t))))
     by op row true f =
@@ -180,5 +181,5 @@ imm_same s r rex_is o t h len at one = by (o == 0x83) refl
     Holds n b = (if b then accepted ((not s && is_wide_one r) && (has_registers t && has_bytes 2 t)) (len + 2) (imm_of r n t) else accepted ((not s && is_wide_one r) && (has_registers t && (has_bytes 5 t && not (is_short (long_in (drop 1 t)))))) (len + 5) (imm_of r n t)) ≡ checked (front_bytes s r false n t) (imm_of r n t)
 
     by : (b : Bool) → (o == 0x83) ≡ b → Holds o b
-    by true e = let is = is_true o 0x83 e in subst (λ n. Holds n true) (sym is) (imm_short_same s r rex_is t h len at)
-    by false e = let is : o ≡ 0x81 = is_true o 0x81 (or_first (o == 0x81) (o == 0x83) e one) in subst (λ n. Holds n false) (sym is) (imm_long_same s r rex_is t h len at)
+    by true e = let is = eqb-true o 0x83 e in subst (λ n. Holds n true) (sym is) (imm_short_same s r rex_is t h len at)
+    by false e = let is : o ≡ 0x81 = eqb-true o 0x81 (or_first (o == 0x81) (o == 0x83) e one) in subst (λ n. Holds n false) (sym is) (imm_long_same s r rex_is t h len at)

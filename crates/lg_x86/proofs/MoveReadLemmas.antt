@@ -1,8 +1,9 @@
 -- Rows of two registers, loads, stores, lea and rows without operands: what was read is a spelling exactly where the tests say so.
-use Rattle.std.proofs.Common.{◌≡◌, ℕ, ◌+◌, ◌-◌, ◌/◌, ◌%◌, ◌<◌, ◌≤◌, Bool, true, false, List, [], ◌∷◌, ◌++◌, drop, length, append_assoc, slice_index, Some, refl, sym, ap, subst, ◌∙◌, arith, lit<, nat_eq}
+use Rattle.std.proofs.Common.{◌≡◌, ℕ, ◌+◌, ◌/◌, ◌%◌, ◌≤◌, Bool, true, false, List, [], ◌∷◌, ◌++◌, drop, length, append_assoc, slice_index, Some, refl, sym, ap, subst, ◌∙◌, arith, lit<, nat_eq}
 use Rattle.std.specs.Prelude.{◌==◌, ◌&&◌, ◌||◌, not, if◌then◌else◌}
 use Rattle.std.specs.List.{starts_with}
 use Rattle.std.proofs.lemmas.Bool.Decides.{nat_tests}
+use Rattle.std.proofs.lemmas.Bool.{and_parts, eqb-true, ne_eqb}
 use Rattle.lg_x86.specs.declared.rows.Mark.{Mark}
 use Rattle.lg_x86.specs.declared.rows.Mark.TheVariants.{Wide, Low, Plain}
 use Rattle.lg_x86.specs.declared.instruction.Instr.TheVariants.{RmReg, RegRm, Load, Store, Lea2, Bare}
@@ -17,8 +18,8 @@ use Rattle.lg_x86.proofs.AgainLemmas.{joined_3, rm_reg_opcode, reg_rm_opcode, lo
 use Rattle.lg_x86.proofs.FieldLemmas.{extension_fits}
 use Rattle.lg_x86.proofs.NumberLemmas.{AreBytes}
 use Rattle.lg_x86.proofs.FrontLemmas.{rex_value, IsOpcode}
-use Rattle.lg_x86.proofs.AcceptLemmas.{turned, first_true, second_true, same_is, accepts, with_found, found, is_true, true_is, decided, unsized, IsRex, none, some, Same}
-use Rattle.lg_x86.proofs.PrefixLemmas.{wide_is, end_of, or_none, false_is, marked_is}
+use Rattle.lg_x86.proofs.AcceptLemmas.{turned, same_is, accepts, with_found, found, true_is, decided, unsized, IsRex, none, some, Same}
+use Rattle.lg_x86.proofs.PrefixLemmas.{wide_is, end_of, or_none, marked_is}
 use Rattle.lg_x86.proofs.TailLemmas.{tail_of, registers_tail, and_false, memory_tail, memory_long, plain_opcode, no_tail, accepts_bare}
 
 pub rm_reg_same : (s : Bool) (r : ℕ) → IsRex r → (o : ℕ) (t : List ℕ) (len : ℕ) → len ≡ front_length s r false → Same s r false o t ((not s && is_wide r) && has_registers t) (len + 1) (rm_reg_of r o t)
@@ -28,7 +29,7 @@ rm_reg_same s r rex_is o t len at =
     let rm = rm_in r t in
     with_found (rm_reg_by_opcode o) (λ op. RmReg op rm reg) s r false o t ((not s && is_wide r) && has_registers t) (len + 1)
     (λ op e.
-    let row : o ≡ (rm_reg_row op).number = is_true o _ (found (λ op. o == (rm_reg_row op).number) rm_reg_ops op e) in
+    let row : o ≡ (rm_reg_row op).number = eqb-true o _ (found (λ op. o == (rm_reg_row op).number) rm_reg_ops op e) in
     accepts s r rex_is false o t (RmReg op rm reg) (not s && is_wide r) (has_registers t) len 1 at
     (record {
       z = false;
@@ -65,13 +66,13 @@ pub record IsRow (s : Bool) (mark : Mark) (e : Bool) (o : ℕ) (row : PrefixRow)
 
 pub row_is : (s : Bool) (mark : Mark) (e : Bool) (o : ℕ) (row : PrefixRow) → is_prefix_row s mark e o row ≡ true → IsRow s mark e o row
 row_is s mark e o row holds =
-    let rest = second_true (same_bool s row.word_sized) _ holds in
-    let last = second_true (same_mark mark row.mark) _ rest in
+    let rest = (and_parts (same_bool s row.word_sized) _ holds).1 in
+    let last = (and_parts (same_mark mark row.mark) _ rest).1 in
     record {
-      sized = same_is s row.word_sized (first_true (same_bool s row.word_sized) _ holds);
-      marked = marks_same mark row.mark (first_true (same_mark mark row.mark) _ rest);
-      escaped = same_is e row.escaped (first_true (same_bool e row.escaped) _ last);
-      opcode = is_true o row.opcode (second_true (same_bool e row.escaped) _ last);
+      sized = same_is s row.word_sized (and_parts (same_bool s row.word_sized) _ holds).0;
+      marked = marks_same mark row.mark (and_parts (same_mark mark row.mark) _ rest).0;
+      escaped = same_is e row.escaped (and_parts (same_bool e row.escaped) _ last).0;
+      opcode = eqb-true o row.opcode (and_parts (same_bool e row.escaped) _ last).1;
     }
 
 pub mark_front : (s : Bool) (r reg rm : ℕ) → IsRex r → reg / 8 ≡ r / 4 % 2 → rm / 8 ≡ r % 2 → (mark : Mark) → mark_in r ≡ mark → (same_bool s false && (r == rex_value mark (extension reg 0 rm))) ≡ (not s && is_marked r)
@@ -186,10 +187,10 @@ pub bare_front : (r : ℕ) (m : Mark) → mark_in r ≡ m → (r == rex_value m 
 bare_front r m e = by (r / 8 % 2 == 1) refl m e
   where
     by : (b : Bool) → (r / 8 % 2 == 1) ≡ b → (m : Mark) → (if b then Wide else Plain) ≡ m → (r == rex_value m 0) ≡ ((r == 0) || (r == 0x48))
-    by true f Wide g = let w = is_true (r / 8 % 2) 1 f in rw (false_is r 0 (λ is. omega (arith, is, w))) refl
+    by true f Wide g = let w = eqb-true (r / 8 % 2) 1 f in rw (ne_eqb r 0 (λ is. omega (arith, is, w))) refl
     by true f Plain g = absurd (let none : ⊥ = cc in none)
     by true f Low g = absurd (let none : ⊥ = cc in none)
-    by false f Plain g = rw (false_is r 0x48 (λ is. let t = true_is (r / 8 % 2) 1 (omega (arith, is)) in absurd (let none : ⊥ = cc in none))) (sym (or_none (r == 0)))
+    by false f Plain g = rw (ne_eqb r 0x48 (λ is. let t = true_is (r / 8 % 2) 1 (omega (arith, is)) in absurd (let none : ⊥ = cc in none))) (sym (or_none (r == 0)))
     by false f Wide g = absurd (let none : ⊥ = cc in none)
     by false f Low g = absurd (let none : ⊥ = cc in none)
 
@@ -232,16 +233,16 @@ sum_tail (a ∷ b ∷ []) r reg base index four x y z = rw (and_false (sib index
 sum_tail (a ∷ b ∷ c ∷ t) r reg base index four x y z =
     let long : has_bytes 3 (a ∷ b ∷ c ∷ t) ≡ true = grind (arith, nat_tests) in
     all_four (modrm 1 reg 4 == a) (sib index base == b) (0 == c) true (a / 64 == 1) (b / 64 == 0) (c == 0)
-    (decided (modrm 1 reg 4 == a) (a / 64 == 1) (λ e. let is = is_true (modrm 1 reg 4) a e in true_is (a / 64) 1 (omega (arith, is, x, four))) (λ e. let is = is_true (a / 64) 1 e in true_is (modrm 1 reg 4) a (omega (arith, is, x, four))))
-    (decided (sib index base == b) (b / 64 == 0) (λ e. let is = is_true (sib index base) b e in true_is (b / 64) 0 (omega (arith, is, y, z))) (λ e. let is = is_true (b / 64) 0 e in true_is (sib index base) b (omega (arith, is, y, z))))
+    (decided (modrm 1 reg 4 == a) (a / 64 == 1) (λ e. let is = eqb-true (modrm 1 reg 4) a e in true_is (a / 64) 1 (omega (arith, is, x, four))) (λ e. let is = eqb-true (a / 64) 1 e in true_is (modrm 1 reg 4) a (omega (arith, is, x, four))))
+    (decided (sib index base == b) (b / 64 == 0) (λ e. let is = eqb-true (sib index base) b e in true_is (b / 64) 0 (omega (arith, is, y, z))) (λ e. let is = eqb-true (b / 64) 0 e in true_is (sib index base) b (omega (arith, is, y, z))))
     (turned 0 c)
     ∙ ap (λ d. (a / 64 == 1) && ((b / 64 == 0) && ((c == 0) && d))) (sym long)
 
 pub sum_front : (r reg base index : ℕ) → IsRex r → reg / 8 ≡ r / 4 % 2 → index / 8 ≡ r / 2 % 2 → base / 8 ≡ r % 2 → (r == rex_value Wide (extension reg index base)) ≡ (r / 8 % 2 == 1)
 sum_front r reg base index rex_is a b c =
     decided (r == rex_value Wide (extension reg index base)) (r / 8 % 2 == 1)
-    (λ e. let is : r ≡ 0x48 + extension reg index base = is_true r (0x48 + extension reg index base) e in true_is (r / 8 % 2) 1 (omega (arith, is, a, b, c)))
-    (λ e. let w = is_true (r / 8 % 2) 1 e in true_is r (0x48 + extension reg index base) (ranged rex_is w))
+    (λ e. let is : r ≡ 0x48 + extension reg index base = eqb-true r (0x48 + extension reg index base) e in true_is (r / 8 % 2) 1 (omega (arith, is, a, b, c)))
+    (λ e. let w = eqb-true (r / 8 % 2) 1 e in true_is r (0x48 + extension reg index base) (ranged rex_is w))
   where
     ranged : IsRex r → r / 8 % 2 ≡ 1 → r ≡ 0x48 + extension reg index base
     ranged (none naught) w = omega (arith, naught, w)
@@ -259,7 +260,7 @@ lea_same s r rex_is t h len at = by (slice_index t 0 % 8 == 4 && not (index_in r
 
     by : (b : Bool) → (slice_index t 0 % 8 == 4 && not (index_in r t == 4)) ≡ b → (if b then accepted ((not s && (r / 8 % 2 == 1)) && is_sum t) (len + 3) (if b then Some (Lea2 reg (base_in r t) (index_in r t)) else Some (Load Lea reg rm (disp_in t))) else accepted ((not s && is_wide r) && is_memory t) (len + memory_length t) (if b then Some (Lea2 reg (base_in r t) (index_in r t)) else Some (Load Lea reg rm (disp_in t)))) ≡ checked (front_bytes s r false 0x8d t) (if b then Some (Lea2 reg (base_in r t) (index_in r t)) else Some (Load Lea reg rm (disp_in t)))
     by true e =
-        let four = is_true (slice_index t 0 % 8) 4 (first_true (slice_index t 0 % 8 == 4) _ e) in
+        let four = eqb-true (slice_index t 0 % 8) 4 (and_parts (slice_index t 0 % 8 == 4) _ e).0 in
         accepts s r rex_is false 0x8d t (Lea2 reg (base_in r t) (index_in r t)) (not s && (r / 8 % 2 == 1)) (is_sum t) len 3 at
         (record {
           z = false;

@@ -8,12 +8,13 @@ use Rattle.lg_x86.specs.Spelling.{modrm, sib, is_short, short_bytes, long_bytes,
 use Rattle.lg_x86.specs.Reading.{front_length, accepted, has_one, has_bytes, is_displaced, is_memory, memory_length, has_registers, word_in, wide_in, short_in, long_in, number_in, disp_place, disp_in}
 use Rattle.std.specs.Int.{w32, w64, to_le_bytes}
 use Rattle.std.proofs.lemmas.Nat.{le_bytes_4, le_bytes_8}
+use Rattle.std.proofs.lemmas.Bool.{and_parts, eqb-true, ne_eqb, not-true}
 use Rattle.lg_base.specs.Fields.{signed}
 use Rattle.lg_base.proofs.NumberLemmas.{bits_of-signed}
 use Rattle.lg_x86.proofs.NumberLemmas.{AreBytes, drop_bytes, word-small}
 use Rattle.lg_x86.proofs.FrontLemmas.{IsOpcode}
-use Rattle.lg_x86.proofs.AcceptLemmas.{same, turned, second_true, accepts, is_true, true_is, decided, IsRex, Tested, Same}
-use Rattle.lg_x86.proofs.PrefixLemmas.{end_of, false_is, not_true}
+use Rattle.lg_x86.proofs.AcceptLemmas.{same, turned, accepts, true_is, decided, IsRex, Tested, Same}
+use Rattle.lg_x86.proofs.PrefixLemmas.{end_of}
 
 pub tail_of : (o p : ℕ) (b c : Bool) → p ≡ o → b ≡ c → (p == o && b) ≡ c
 tail_of o p b c e f = rw (true_is p o e) f
@@ -22,15 +23,15 @@ pub registers_tail : (t more : List ℕ) (reg rm : ℕ) → reg % 8 ≡ slice_in
 registers_tail [] more reg rm a b = refl
 registers_tail (m ∷ t) more reg rm a b = ap (λ x. x && starts_with nat_eq t more)
     (decided (modrm 3 reg rm == m) (m / 64 == 3)
-    (λ e. let is = is_true (modrm 3 reg rm) m e in true_is (m / 64) 3 (omega (arith, is, a, b)))
-    (λ e. let is = is_true (m / 64) 3 e in true_is (modrm 3 reg rm) m (omega (arith, is, a, b))))
+    (λ e. let is = eqb-true (modrm 3 reg rm) m e in true_is (m / 64) 3 (omega (arith, is, a, b)))
+    (λ e. let is = eqb-true (m / 64) 3 e in true_is (modrm 3 reg rm) m (omega (arith, is, a, b))))
 
 pub one_tail : (t more : List ℕ) (rm : ℕ) → rm % 8 ≡ slice_index t 0 % 8 → starts_with nat_eq t (modrm 3 0 rm ∷ more) ≡ (has_one t && starts_with nat_eq (drop 1 t) more)
 one_tail [] more rm a = refl
 one_tail (m ∷ t) more rm a = ap (λ x. x && starts_with nat_eq t more)
     (decided (modrm 3 0 rm == m) (m / 8 == 24)
-    (λ e. let is = is_true (modrm 3 0 rm) m e in true_is (m / 8) 24 (omega (arith, is, a)))
-    (λ e. let is = is_true (m / 8) 24 e in true_is (modrm 3 0 rm) m (omega (arith, is, a))))
+    (λ e. let is = eqb-true (modrm 3 0 rm) m e in true_is (m / 8) 24 (omega (arith, is, a)))
+    (λ e. let is = eqb-true (m / 8) 24 e in true_is (modrm 3 0 rm) m (omega (arith, is, a))))
 
 pub prefix : (p more : List ℕ) → starts_with nat_eq (p ++ more) p ≡ true
 prefix [] more = refl
@@ -137,17 +138,17 @@ displaced m reg base b h x y = by (m / 64 == 1) refl
   where
     by : (c : Bool) → (m / 64 == 1) ≡ c → ((modrm (memory_mode (number_in c b)) reg base == m) && starts_with nat_eq b (number_bytes (number_in c b))) ≡ (if c then has_bytes 1 b else ((m / 64 == 2) && (has_bytes 4 b && not (is_short (long_in b)))))
     by true e =
-        let one = is_true (m / 64) 1 e in
+        let one = eqb-true (m / 64) 1 e in
         rw (short_is_short (slice_index b 0), true_is (modrm 1 reg base) m (omega (arith, one, x, y))) (short_tail b h)
     by false e = long (is_short (long_in b)) refl
       where
         long : (c : Bool) → is_short (long_in b) ≡ c → ((modrm (if c then 1 else 2) reg base == m) && starts_with nat_eq b (if c then short_bytes (long_in b) else long_bytes (long_in b))) ≡ ((m / 64 == 2) && (has_bytes 4 b && not c))
-        long true f = rw (false_is (modrm 1 reg base) m (λ same. let t = true_is (m / 64) 1 (omega (arith, same)) in absurd (let none : ⊥ = cc in none)), and_false (has_bytes 4 b), and_false (m / 64 == 2)) refl
+        long true f = rw (ne_eqb (modrm 1 reg base) m (λ same. let t = true_is (m / 64) 1 (omega (arith, same)) in absurd (let none : ⊥ = cc in none)), and_false (has_bytes 4 b), and_false (m / 64 == 2)) refl
         long false f =
             ap (λ c. c && starts_with nat_eq b (long_bytes (long_in b)))
             (decided (modrm 2 reg base == m) (m / 64 == 2)
-            (λ g. let is = is_true (modrm 2 reg base) m g in true_is (m / 64) 2 (omega (arith, is)))
-            (λ g. let is = is_true (m / 64) 2 g in true_is (modrm 2 reg base) m (omega (arith, is, x, y))))
+            (λ g. let is = eqb-true (modrm 2 reg base) m g in true_is (m / 64) 2 (omega (arith, is)))
+            (λ g. let is = eqb-true (m / 64) 2 g in true_is (modrm 2 reg base) m (omega (arith, is, x, y))))
             ∙ ap (λ c. (m / 64 == 2) && c) (long_tail b h ∙ sym (end_of (has_bytes 4 b)))
 
 pub swapped : (a b c : Bool) → (a && (b && c)) ≡ (b && (a && c))
@@ -160,7 +161,7 @@ pub memory_behind : (m : ℕ) (t : List ℕ) (reg base : ℕ) → AreBytes (m �
 memory_behind m t reg base h x y false e z is = rw is (displaced m reg base t (drop_bytes (m ∷ t) 1 h) x y)
 memory_behind m [] reg base h x y true e z is = and_false (modrm (memory_mode z) reg base == m)
 memory_behind m (b ∷ t) reg base h x y true e z is =
-    let four = is_true (m % 8) 4 e in
+    let four = eqb-true (m % 8) 4 e in
     let none : sib 4 base ≡ 0x24 = omega (arith, four, y) in
     swapped (modrm (memory_mode z) reg base == m) (sib 4 base == b) (starts_with nat_eq t (number_bytes z))
     ∙ ap (λ c. c && ((modrm (memory_mode z) reg base == m) && starts_with nat_eq t (number_bytes z))) (ap (λ n. n == b) none ∙ turned 0x24 b)
@@ -177,12 +178,12 @@ displaced_long mode b = by (mode == 1)
   where
     by : (c : Bool) → (if c then has_bytes 1 b else ((mode == 2) && (has_bytes 4 b && not (is_short (long_in b))))) ≡ true → length (number_bytes (number_in c b)) ≡ (if c then 1 else 4)
     by true e = rw (short_is_short (slice_index b 0)) refl
-    by false e = rw (not_true (is_short (long_in b)) (second_true (has_bytes 4 b) _ (second_true (mode == 2) _ e))) refl
+    by false e = rw (not-true (is_short (long_in b)) (and_parts (has_bytes 4 b) _ (and_parts (mode == 2) _ e).1).1) refl
 
 pub memory_long : (t : List ℕ) (reg base : ℕ) → base % 8 ≡ slice_index t 0 % 8 → is_memory t ≡ true → length (memory reg base (disp_in t)) ≡ memory_length t
 memory_long t reg base y e =
     let a = length-append (base_sib base) (number_bytes (disp_in t)) in
-    let d = displaced_long (slice_index t 0 / 64) (drop (disp_place t) t) (second_true (if slice_index t 0 % 8 == 4 then slice_index t 1 == 0x24 else true) _ e) in
+    let d = displaced_long (slice_index t 0 / 64) (drop (disp_place t) t) (and_parts (if slice_index t 0 % 8 == 4 then slice_index t 1 == 0x24 else true) _ e).1 in
     let s : length (base_sib base) + 1 ≡ disp_place t = ap (λ low. length (if low == 4 then sib 4 base ∷ [] else []) + 1) y ∙ one (slice_index t 0 % 8 == 4) in
     omega (arith, a, d, s)
   where

@@ -1,10 +1,10 @@
 use Rattle.std.proofs.Common.{◌≡◌, ◌<◌, ◌++◌, length, drop, ap, sym, ◌∙◌, arith}
+use Rattle.std.proofs.lemmas.Option.{none-some}
 use Rattle.lg_list.specs.Instructions.{spelling}
 use Rattle.lg_list.specs.Lines.{instruction_line}
 use Rattle.lg_list.proofs.SpellingLemmas.{spelling-short}
 use Rattle.lg_back.specs.Digits.{hex_front}
 use Rattle.lg_back.proofs.InstructionLemmas.{bytes-in-line, read-in-line, starts-again, starts-front, same-first, not-both}
-use Rattle.lg_back.proofs.LineLemmas.{none-some}
 use Rattle.lg_back.proofs.instruction.read_instruction.Goals as goal
 
 pub returns-in_err-bytes-clause-none : goal.returns-in_err-bytes-clause-none

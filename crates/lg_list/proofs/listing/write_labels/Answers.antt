@@ -1,5 +1,6 @@
 use Rattle.std.proofs.Common.{◌≡◌, ◌+◌, ◌∷◌, drop, ap, sym, ◌∙◌, subst, arith}
 use Rattle.std.specs.Prelude.{slice_index}
+use Rattle.std.proofs.lemmas.Option.{slice_get_within}
 use Rattle.lg_base.specs.Layout.{code_base}
 use Rattle.lg_node.specs.NextLabels.{NextAt}
 use Rattle.lg_list.specs.Lines.{rendered, label_line}
@@ -7,7 +8,7 @@ use Rattle.lg_list.specs.Lines.Entry.{Label}
 use Rattle.lg_list.specs.Listing.{labels_at}
 use Rattle.lg_list.proofs.WriteLemmas.{Progress, begun, went, stopped}
 use Rattle.lg_list.proofs.ListingLemmas.{rendered-label}
-use Rattle.lg_list.proofs.NextLemmas.{IsFound, left, found-of, left-from, left-step, labels-here, NextAt-address, address-within, address-is}
+use Rattle.lg_list.proofs.NextLemmas.{IsFound, left, found-of, left-from, left-step, labels-here, NextAt-address, address-is}
 use Rattle.lg_list.proofs.listing.write_labels.Goals as goal
 
 pub loop-next-init : goal.loop-next-init
@@ -25,7 +26,7 @@ get-address-requires g c =
     let l = c.args.nodes.list.now in
     let here : NextAt l.places c.args.index c.in-Some.label.0 c.in-Some.label.0 = subst (IsFound l.places c.args.index) c.in-Some.is c.loop-next.invariant.found in
     let e = NextAt-address c.args.index c.in-Some.label.0 c.in-Some.label.0 l.places c.args.nodes.places.now.items c.args.nodes.labels.now c.requires.addressed here in
-    address-within c.in-Some.label.0 _ c.args.nodes.labels.now e
+    slice_get_within c.args.nodes.labels.now c.in-Some.label.0 _ e
 
 pub overflow_cast-address : goal.overflow_cast-address
 overflow_cast-address g c =

@@ -1,8 +1,9 @@
 use Rattle.std.proofs.Common.{refl, sym, subst, ◌∙◌}
+use Rattle.std.proofs.lemmas.Result.{on_ok_weaker}
 use Rattle.lg_live.specs.declared.reg_set.RegSet.{RegSet}
 use Rattle.lg_live.specs.Graphs.{falls, joins}
 use Rattle.lg_live.specs.Searches.{state_of, HasSpread}
-use Rattle.lg_live.proofs.SearchLemmas.{grows_trans, on_ok, on_ok_two, read_at, spread_all, zero_set}
+use Rattle.lg_live.proofs.SearchLemmas.{grows_trans, on_ok_two, read_at, spread_all, zero_set}
 use Rattle.lg_live.proofs.search.spread.Goals as goal
 
 pub pass_to-requires-clause-arc : goal.pass_to-requires-clause-arc
@@ -13,9 +14,10 @@ pass_to-requires-2-clause-arc c = λ i e. let h = c.fallen.ensures.arc i e in fa
 
 pub returns-clause-grows : goal.returns-clause-grows
 returns-clause-grows c =
-    on_ok c.pass_to_jumps.result c.pass_to_jumps.ensures.grows
+    on_ok_weaker c.pass_to_jumps.result
     (λ g. grows_trans (state_of c.args.search.now) (state_of c.pass_to-2.new.search) (state_of c.pass_to_jumps.new.search)
     (grows_trans (state_of c.args.search.now) (state_of c.pass_to.new.search) (state_of c.pass_to-2.new.search) c.in_ok-pass_to.ensures.grows c.in_ok-pass_to-2.ensures.grows) g)
+    c.pass_to_jumps.ensures.grows
 
 pub returns-clause-spread : goal.returns-clause-spread
 returns-clause-spread c =
