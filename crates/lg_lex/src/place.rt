@@ -1,7 +1,10 @@
 // A place of a text, in its line.
 
-ghost use Rattle.std.specs.Prelude.{◌≡◌, ◌+◌, ◌<◌, ◌^◌, ◌==◌, true, length, count_by, fold};
+ghost use Rattle.std.specs.Prelude.{◌≡◌, ◌+◌, ◌<◌, ◌^◌, ◌==◌, true, length, count_by, fold, if◌then◌else◌};
+ghost use Rattle.lg_lex.specs.Lines.{is_word_kind, StaysInLine};
 ghost use Rattle.lg_lex.specs.Tokens.{with_byte};
+
+use crate::token::TokenKind;
 
 /// A place of a text: the bytes before it, its line, and whether only spaces and tabs stand before it in its line.
 #[derive(Clone, Copy)]
@@ -42,6 +45,56 @@ pub(crate) fn passed(place: Place, bytes: &[u8]) -> Place
         offset: place.offset + bytes.len(),
         line,
         fresh,
+    }
+}
+
+// Whether tokens of a kind are a word, or a mark and a word, which stay in their line.
+fn is_word_kind(kind: TokenKind) -> bool
+    ensures { result ≡ is_word_kind kind }
+{
+    matches!(
+        kind,
+        TokenKind::Word
+            | TokenKind::Directive
+            | TokenKind::LabelMark
+            | TokenKind::Register
+            | TokenKind::Name
+            | TokenKind::Host
+    )
+}
+
+/// The place behind a token of a kind. Of a word no byte is looked at.
+pub(crate) fn passed_token(place: Place, kind: TokenKind, bytes: &[u8]) -> Place
+    requires lines { place.line + length bytes.now < 2 ^ 32 }
+    requires room { place.offset + length bytes.now < 2 ^ 32 }
+    requires stays { is_word_kind kind ≡ true → StaysInLine bytes.now }
+    ensures offset { result.offset ≡ place.offset + length bytes.now }
+    ensures line { result.line ≡ place.line + count_by (λ b. b == 10) bytes.now }
+    ensures fresh { result.fresh ≡ fold with_byte place.fresh bytes.now }
+{
+    if is_word_kind(kind) {
+        Place {
+            offset: place.offset + bytes.len(),
+            line: place.line,
+            fresh: false,
+        }
+    } else {
+        passed(place, bytes)
+    }
+}
+
+/// The place behind one byte.
+pub(crate) fn passed_byte(place: Place, b: u8) -> Place
+    requires lines { place.line + 1 < 2 ^ 32 }
+    requires room { place.offset + 1 < 2 ^ 32 }
+    ensures offset { result.offset ≡ place.offset + 1 }
+    ensures line { result.line ≡ place.line + (if b == 10 then 1 else 0) }
+    ensures fresh { result.fresh ≡ with_byte place.fresh b }
+{
+    Place {
+        offset: place.offset + 1,
+        line: place.line + u32::from(b == b'\n'),
+        fresh: is_fresh_behind(place.fresh, b),
     }
 }
 
