@@ -119,6 +119,16 @@ impl NodeList {
         self.nodes[index as usize]
     }
 
+    /// The node of an index, which is below `len`, where it stands. It is in form.
+    #[inline]
+    pub(crate) fn node_at(&self, index: u32) -> &Node
+        requires { index < length self.now.nodes }
+        ensures node { Some result.now ≡ slice_get self.now.nodes index }
+        ensures form { InForm result.now }
+    {
+        &self.nodes[index as usize]
+    }
+
     /// The label of a word, which has the form of a word of a text: the one that the word has, or a new one at its first mention.
     /// There are fewer than 2^32 - 1 labels. At Err nothing changes.
     pub fn label(&mut self, word: &[u8]) -> Result<Label, OutOfMemory>

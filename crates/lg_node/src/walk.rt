@@ -41,8 +41,8 @@ pub fn is_epilog(op: Op) -> bool
     matches!(op, Op::Plain(PlainOp::Epilog))
 }
 
-// Whether an operation may change what is known within a function: it is a plain one, or a jump, a call or what is passed by one.
-fn is_mark(op: Op) -> bool
+/// Whether an operation may change what is known within a function: it is a plain one, or a jump, a call or what is passed by one.
+pub fn is_mark(op: Op) -> bool
     ensures { result ≡ is_mark op }
 {
     matches!(op, Op::Plain(_) | Op::Control(_, _))
