@@ -6,7 +6,7 @@ ghost use Rattle.lg_lex.specs.ExpressionTokens.{ReadsExpressions};
 
 use crate::bytes::{ahead, behind, byte_at, is_space};
 use crate::fronts::{Front, front_of};
-use crate::place::{Place, first_place, passed, passed_byte, passed_token};
+use crate::place::{Place, first_place, pass_byte, pass_token, passed};
 use crate::token::Token;
 use lg_base::Refusal;
 use std::marker::Model;
@@ -52,7 +52,7 @@ impl<'a> Lexer<'a> {
             let bytes = behind(self.text, self.place.offset);
             let b = byte_at(bytes, 0);
             if is_space(b) {
-                self.place = passed_byte(self.place, b);
+                pass_byte(&mut self.place, b);
                 continue 'pieces;
             }
             match front_of(bytes, self.place.fresh) {
@@ -64,7 +64,7 @@ impl<'a> Lexer<'a> {
                         line,
                         fresh: _,
                     } = self.place;
-                    self.place = passed_token(self.place, kind, ahead(bytes, n));
+                    pass_token(&mut self.place, kind, ahead(bytes, n));
                     return Ok(Some(Token {
                         kind,
                         line,

@@ -63,38 +63,37 @@ fn is_word_kind(kind: TokenKind) -> bool
     )
 }
 
-/// The place behind a token of a kind. Of a word no byte is looked at.
-pub(crate) fn passed_token(place: Place, kind: TokenKind, bytes: &[u8]) -> Place
-    requires lines { place.line + length bytes.now < 2 ^ 32 }
-    requires room { place.offset + length bytes.now < 2 ^ 32 }
+/// Goes behind a token of a kind. Of a word no byte is looked at.
+#[inline(always)]
+pub(crate) fn pass_token(place: &mut Place, kind: TokenKind, bytes: &[u8])
+    requires lines { place.old.line + length bytes.now < 2 ^ 32 }
+    requires room { place.old.offset + length bytes.now < 2 ^ 32 }
     requires stays { is_word_kind kind ≡ true → StaysInLine bytes.now }
-    ensures offset { result.offset ≡ place.offset + length bytes.now }
-    ensures line { result.line ≡ place.line + count_by (λ b. b == 10) bytes.now }
-    ensures fresh { result.fresh ≡ fold with_byte place.fresh bytes.now }
+    ensures offset { place.new.offset ≡ place.old.offset + length bytes.now }
+    ensures line { place.new.line ≡ place.old.line + count_by (λ b. b == 10) bytes.now }
+    ensures fresh { place.new.fresh ≡ fold with_byte place.old.fresh bytes.now }
 {
     if is_word_kind(kind) {
-        Place {
-            offset: place.offset + bytes.len(),
-            line: place.line,
-            fresh: false,
-        }
+        place.offset += bytes.len();
+        place.fresh = false;
     } else {
-        passed(place, bytes)
+        *place = passed(*place, bytes);
     }
 }
 
-/// The place behind one byte.
-pub(crate) fn passed_byte(place: Place, b: u8) -> Place
-    requires lines { place.line + 1 < 2 ^ 32 }
-    requires room { place.offset + 1 < 2 ^ 32 }
-    ensures offset { result.offset ≡ place.offset + 1 }
-    ensures line { result.line ≡ place.line + (if b == 10 then 1 else 0) }
-    ensures fresh { result.fresh ≡ with_byte place.fresh b }
+/// Goes behind one byte. A space leaves the line and what stands in it as they are.
+#[inline(always)]
+pub(crate) fn pass_byte(place: &mut Place, b: u8)
+    requires lines { place.old.line + 1 < 2 ^ 32 }
+    requires room { place.old.offset + 1 < 2 ^ 32 }
+    ensures offset { place.new.offset ≡ place.old.offset + 1 }
+    ensures line { place.new.line ≡ place.old.line + (if b == 10 then 1 else 0) }
+    ensures fresh { place.new.fresh ≡ with_byte place.old.fresh b }
 {
-    Place {
-        offset: place.offset + 1,
-        line: place.line + u32::from(b == b'\n'),
-        fresh: is_fresh_behind(place.fresh, b),
+    place.offset += 1;
+    if b != b' ' {
+        place.line += u32::from(b == b'\n');
+        place.fresh = is_fresh_behind(place.fresh, b);
     }
 }
 

@@ -59,7 +59,7 @@ fn walk_to_end(nodes: &NodeList, tables: &Tables) -> Result<Walk, Refusal>
         if let Some(refusal) = refusal_at(nodes, tables, walk, index, node) {
             return Err(refusal);
         }
-        walk = walk.behind(index, node);
+        walk.pass(index, node);
     }
     Ok(walk)
 }

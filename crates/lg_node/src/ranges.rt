@@ -84,7 +84,7 @@ impl Ranges {
             let home = home_of(walk.function, index, node.op);
             numbers.push_reserved(number_in(functions.len() as u32, home));
             push_ended(&mut functions, ended(nodes, home, walk, index, node))?;
-            walk = walk.behind(index, node);
+            walk.pass(index, node);
         }
         Ok(Ranges { functions, numbers })
     }

@@ -175,4 +175,17 @@ impl Walk {
             self.past(index, node)
         }
     }
+
+    /// Goes behind the next node, which is in form. Within a function only a mark changes what is known.
+    #[inline(always)]
+    #[tactic(auto, using(crate::proofs::MarkLemmas::unmarked))]
+    pub fn pass(&mut self, index: u32, node: &Node)
+        requires form { InForm node.now }
+        requires limits { IsWithinLimits self.old }
+        ensures { self.new ≡ walk_behind self.old index node.now }
+    {
+        if self.function.is_none() || is_mark(node.op) {
+            *self = self.past(index, node);
+        }
+    }
 }

@@ -19,15 +19,15 @@ pub pieces-preserved-then-is_space : goal.pieces-preserved-then-is_space
 pieces-preserved-then-is_space c =
     let text = c.pieces.self-inside.text.now in
     let place = c.pieces.self-inside.place in
-    let passed = c.passed_byte-self-inside.ensures in
+    let passed = c.pass_byte.ensures in
     let is : is_space (slice_index c.behind-bytes.result.now 0) ≡ true = ap is_space (sym c.byte_at-b.ensures) ∙ sym c.is_space.ensures ∙ c.if-is_space.true in
     let space = ap (λ (bytes : List ℕ). is_space (slice_index bytes 0)) (sym c.behind-bytes.ensures) ∙ is in (
       place_behind_byte text place.offset place.line c.byte_at-b.result _ _ place.fresh _ c.behind-bytes.result.now c.pieces.invariant.0 c.behind-bytes.ensures c.byte_at-b.ensures (one_space _ is).1 passed.offset passed.line passed.fresh,
       ap (tokens_at text) passed.offset ∙ space_skipped text place.offset space ∙ c.pieces.invariant.1,
     )
 
-pub passed_token-self-inside-requires-clause-stays : goal.passed_token-self-inside-requires-clause-stays
-passed_token-self-inside-requires-clause-stays c word =
+pub pass_token-requires-clause-stays : goal.pass_token-requires-clause-stays
+pass_token-requires-clause-stays c word =
     let place = c.pieces.self-inside.place in
     let bytes = c.behind-bytes.result.now in
     let is = sym c.front_of.ensures.value ∙ c.in-Finds.is in
@@ -47,7 +47,7 @@ pieces-preserved c =
 pub invariant_of-self-in-Finds : goal.invariant_of-self-in-Finds
 invariant_of-self-in-Finds c =
     let place = c.pieces.self-inside.place in
-    let passed = c.passed_token-self-inside.ensures in
+    let passed = c.pass_token.ensures in
     place_behind _ place.offset place.line c.in-Finds.n _ _ place.fresh _ _ _ c.pieces.invariant.0 c.behind-bytes.ensures c.ahead-in-Finds.ensures c.in-Finds.ensures.inside.1 passed.offset passed.line passed.fresh
 
 pub returns-in-Finds : goal.returns-in-Finds
@@ -55,7 +55,7 @@ returns-in-Finds c =
     let place = c.pieces.self-inside.place in
     let inside = c.in-Finds.ensures.inside in
     let is = ap (front_at place.fresh) (sym c.behind-bytes.ensures) ∙ sym c.front_of.ensures.value ∙ c.in-Finds.is in
-    gives_token _ place.offset place.line place.fresh c.pieces.invariant.0 _ c.pieces.invariant.1 c.in-Finds.kind c.in-Finds.n c.in-Finds.value _ inside.0 (piece_end place.offset _ c.in-Finds.n _ _ c.ahead-in-Finds.ensures inside.1 c.passed_token-self-inside.ensures.offset) is
+    gives_token _ place.offset place.line place.fresh c.pieces.invariant.0 _ c.pieces.invariant.1 c.in-Finds.kind c.in-Finds.n c.in-Finds.value _ inside.0 (piece_end place.offset _ c.in-Finds.n _ _ c.ahead-in-Finds.ensures inside.1 c.pass_token.ensures.offset) is
 
 pub returns-in-Fails : goal.returns-in-Fails
 returns-in-Fails c =

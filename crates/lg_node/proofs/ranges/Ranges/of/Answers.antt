@@ -30,8 +30,8 @@ ended-requires-clause-function c =
 pub ended-requires-clause-limits : goal.ended-requires-clause-limits
 ended-requires-clause-limits c = rw c.loop-index.invariant.walk (limits_before c.args.nodes.now c.loop-index.index (omega arith) c.requires.nodes)
 
-pub behind-walk-requires-clause-limits : goal.behind-walk-requires-clause-limits
-behind-walk-requires-clause-limits c = rw c.loop-index.invariant.walk (limits_before c.args.nodes.now c.loop-index.index (omega arith) c.requires.nodes)
+pub pass-requires-clause-limits : goal.pass-requires-clause-limits
+pass-requires-clause-limits c = rw c.loop-index.invariant.walk (limits_before c.args.nodes.now c.loop-index.index (omega arith) c.requires.nodes)
 
 pub push_reserved-requires : goal.push_reserved-requires
 push_reserved-requires c = omega (arith, c.loop-index.numbers.ok.0, c.loop-index.invariant.count, c.loop-index.invariant.room, c.loop-index-test.true, c.len-index-end.ensures)
@@ -51,7 +51,7 @@ loop-index-preserved c =
     let number : c.number_in.result ≡ number_of nodes i =
     c.number_in.ensures ∙ ap₂ number_in (count ∙ ap length c.loop-index.invariant.functions) function in
     record {
-      walk = c.behind-walk.ensures ∙ ap (λ (w : Walk). walk_behind w i c.node_at-node.result.now) c.loop-index.invariant.walk ∙ walk_on nodes i c.node_at-node.result.now here;
+      walk = c.pass.ensures ∙ ap (λ (w : Walk). walk_behind w i c.node_at-node.result.now) c.loop-index.invariant.walk ∙ walk_on nodes i c.node_at-node.result.now here;
       functions =
           c.in_ok-push_ended.ensures
           ∙ ap₂ (λ (fs : List Function) (o : Option Function). fs ++ option_to_list o) c.loop-index.invariant.functions ended
