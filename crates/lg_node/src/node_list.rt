@@ -80,6 +80,7 @@ impl NodeList {
     }
 
     /// Appends a node. The node is in form, and there are fewer than 2^32 - 1 nodes. At Err nothing changes.
+    #[inline(always)]
     pub fn push(&mut self, node: Node) -> Result<(), OutOfMemory>
         requires room { length self.old.nodes < 2 ^ 32 - 1 }
         requires form { InForm node }
