@@ -8,6 +8,7 @@ pub mod DigitLemmas
 pub mod ExpressionTokenLemmas
 pub mod FrontLemmas
 pub mod LengthLemmas
+pub mod LineLemmas
 pub mod ReaderLemmas
 pub mod SoundLemmas
 pub mod StringLemmas

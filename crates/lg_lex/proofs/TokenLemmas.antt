@@ -1,7 +1,9 @@
 -- The tokens of a text, one piece at a time.
-use Rattle.std.proofs.Common.{◌≡◌, ℕ, zero, suc, ◌+◌, ◌<◌, ◌≤◌, ◌==◌, Bool, true, List, [], ◌∷◌, ◌++◌, length, take, drop, refl, sym, ap, subst, ◌∙◌, arith, Option, Some, None, Ok, fold, count_by, Err}
+use Rattle.std.proofs.Common.{◌≡◌, ℕ, zero, suc, ◌+◌, ◌<◌, ◌≤◌, ◌==◌, Bool, true, false, List, [], ◌∷◌, ◌++◌, length, take, drop, get_or, refl, sym, ap, subst, ◌∙◌, arith, Option, Some, None, Ok, fold, count_by, Err, true≢false, eqb-true}
+use Rattle.std.specs.Prelude.{if◌then◌else◌}
+use Rattle.std.specs.List.{prefix_len}
 use Rattle.std.proofs.Math.Seq.{take-add}
-use Rattle.std.proofs.lemmas.List.{drop_all, length-drop, length-take-le}
+use Rattle.std.proofs.lemmas.List.{drop-drop, drop_all, length-drop, length-take-le}
 use Rattle.std.proofs.lemmas.List.Sums.{sum_by-append, fold-append}
 use Rattle.lg_base.specs.declared.refusal.Refusal.{Refusal}
 use Rattle.lg_base.specs.declared.refusal.RefusalKind.{RefusalKind}
@@ -9,6 +11,8 @@ use Rattle.lg_lex.specs.declared.token.Token.{Token}
 use Rattle.lg_lex.specs.declared.token.TokenKind.{TokenKind}
 use Rattle.lg_lex.specs.declared.fronts.Front.{Front}
 use Rattle.lg_lex.specs.declared.fronts.Front.TheVariants.{Nothing, Skips, Finds, Fails}
+use Rattle.lg_lex.specs.Blanks.{blank_at}
+use Rattle.lg_lex.specs.Bytes.{is_space}
 use Rattle.lg_lex.specs.Fronts.{LiesWithin, front_at}
 use Rattle.lg_lex.specs.Tokens.{line_of, with_byte, is_fresh, Tokens, token_then, behind_piece, with_front, tokens_from, tokens_at, tokens_of, AreInOrder, Gives, IsPlace}
 use Rattle.lg_lex.proofs.FrontLemmas.{front_within}
@@ -90,6 +94,60 @@ module _ (text : List ℕ) (place line : ℕ) (fresh : Bool) (at : IsPlace text 
       let e' : whole ≡ token_then (token line end) (tokens_at text end) =
       here (Finds kind n value) is ∙ ap (λ k. token_then (token (line_of text place) (behind_piece place n)) (tokens_at text k)) piece ∙ ap (λ (t : Token). token_then t (tokens_at text end)) first in
       subst (λ (tokens : Tokens). Gives tokens (Ok (Some (token line end))) (tokens_at text end)) (sym e') (refl, refl)
+
+-- ---- white space, one byte at a time
+
+not_end : (n : ℕ) → (suc n == 0) ≡ false
+not_end n = by (suc n == 0) refl where
+  by : (t : Bool) → (suc n == 0) ≡ t → t ≡ false
+  by true e = let zero = eqb-true (suc n) 0 e in absurd (omega arith)
+  by false e = refl
+
+-- at the front of bytes that begin with white space stands white space
+space_front : (fresh : Bool) (bytes : List ℕ) → is_space (get_or bytes 0 0) ≡ true → front_at fresh bytes ≡ Skips (prefix_len is_space bytes)
+unfolding front_at blank_at
+space_front fresh [] is = absurd (true≢false (sym is))
+space_front fresh (b ∷ bytes) is = rw (not_end (length bytes), is) refl
+
+no_space : (bytes : List ℕ) → is_space (get_or bytes 0 0) ≡ false → prefix_len is_space bytes ≡ 0
+no_space [] is = refl
+no_space (b ∷ bytes) is = rw is refl
+
+pub one_space : (bytes : List ℕ) → is_space (get_or bytes 0 0) ≡ true → (prefix_len is_space bytes ≡ 1 + prefix_len is_space (drop 1 bytes)) × (0 < length bytes)
+one_space [] is = absurd (true≢false (sym is))
+one_space (b ∷ bytes) is = (rw is refl, omega arith)
+
+module _ (text : List ℕ) (place : ℕ) where
+  -- white space leaves the tokens as they are
+  spaces_skipped : tokens_at text (place + prefix_len is_space (drop place text)) ≡ tokens_at text place
+  unfolding with_front
+  spaces_skipped = by (is_space (get_or (drop place text) 0 0)) refl where
+    n : ℕ
+    n = prefix_len is_space (drop place text)
+
+    by : (t : Bool) → is_space (get_or (drop place text) 0 0) ≡ t → tokens_at text (place + n) ≡ tokens_at text place
+    by true is =
+        let some = one_space (drop place text) is in
+        let piece : place + n ≡ behind_piece place n = omega (arith, some.0) in
+        ap (tokens_at text) piece ∙ sym (tokens_step text place ∙ ap (with_front text place (tokens_at text)) (space_front (is_fresh text place) (drop place text) is))
+    by false is = let e : place + n ≡ place = omega (arith, no_space (drop place text) is) in ap (tokens_at text) e
+
+-- so does one byte of it
+pub space_skipped : (text : List ℕ) (place : ℕ) → is_space (get_or (drop place text) 0 0) ≡ true → tokens_at text (place + 1) ≡ tokens_at text place
+space_skipped text place is =
+    let one = one_space (drop place text) is in
+    let n = prefix_len is_space (drop place text) in
+    let m = prefix_len is_space (drop (place + 1) text) in
+    let same : prefix_len is_space (drop 1 (drop place text)) ≡ m = ap (prefix_len is_space) (drop-drop 1 place text) in
+    let e : (place + 1) + m ≡ place + n = omega (arith, one.0, same) in
+    sym (spaces_skipped text (place + 1)) ∙ ap (tokens_at text) e ∙ spaces_skipped text place
+
+-- the place behind one byte
+pub place_behind_byte : (text : List ℕ) (place line b end line' : ℕ) (fresh fresh' : Bool) (bytes : List ℕ) → IsPlace text place line fresh → bytes ≡ drop place text → b ≡ get_or bytes 0 0 → 0 < length bytes → end ≡ place + 1 → line' ≡ line + (if b == 10 then 1 else 0) → fresh' ≡ with_byte fresh b → IsPlace text end line' fresh'
+place_behind_byte text place line b end line' fresh fresh' [] at rest is some ends lines freshes = absurd (omega arith)
+place_behind_byte text place line b end line' fresh fresh' (x ∷ bytes) at rest is some ends lines freshes =
+    let one : count_by (λ y. y == 10) (x ∷ []) ≡ (if x == 10 then 1 else 0) = omega arith in
+    place_behind text place line 1 end line' fresh fresh' (x ∷ bytes) (x ∷ []) at rest refl (omega arith) ends (lines ∙ ap (λ y. line + (if y == 10 then 1 else 0)) is ∙ ap (λ m. line + m) (sym one)) (freshes ∙ ap (with_byte fresh) is)
 
 -- ---- the order of tokens
 

@@ -5,6 +5,7 @@ pub mod ExpressionTokens
 pub mod Expressions
 pub mod Fronts
 pub mod Gaps
+pub mod Lines
 pub mod Numbers
 pub mod Operators
 pub mod Tokens

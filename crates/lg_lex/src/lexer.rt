@@ -4,9 +4,9 @@ ghost use Rattle.std.specs.Prelude.{◌≡◌, ◌≤◌, length};
 ghost use Rattle.lg_lex.specs.Tokens.{Tokens, tokens_of, tokens_at, AreInOrder, IsPlace, Gives};
 ghost use Rattle.lg_lex.specs.ExpressionTokens.{ReadsExpressions};
 
-use crate::bytes::{ahead, behind};
+use crate::bytes::{ahead, behind, byte_at, is_space};
 use crate::fronts::{Front, front_of};
-use crate::place::{Place, first_place, passed};
+use crate::place::{Place, first_place, pass_byte, pass_token, passed};
 use crate::token::Token;
 use lg_base::Refusal;
 use std::marker::Model;
@@ -50,6 +50,11 @@ impl<'a> Lexer<'a> {
     {
         'pieces: loop {
             let bytes = behind(self.text, self.place.offset);
+            let b = byte_at(bytes, 0);
+            if is_space(b) {
+                pass_byte(&mut self.place, b);
+                continue 'pieces;
+            }
             match front_of(bytes, self.place.fresh) {
                 Front::Nothing => return Ok(None),
                 Front::Skips(n) => self.place = passed(self.place, ahead(bytes, n)),
@@ -59,7 +64,7 @@ impl<'a> Lexer<'a> {
                         line,
                         fresh: _,
                     } = self.place;
-                    self.place = passed(self.place, ahead(bytes, n));
+                    pass_token(&mut self.place, kind, ahead(bytes, n));
                     return Ok(Some(Token {
                         kind,
                         line,

@@ -1,7 +1,10 @@
 // A place of a text, in its line.
 
-ghost use Rattle.std.specs.Prelude.{◌≡◌, ◌+◌, ◌<◌, ◌^◌, ◌==◌, true, length, count_by, fold};
+ghost use Rattle.std.specs.Prelude.{◌≡◌, ◌+◌, ◌<◌, ◌^◌, ◌==◌, true, length, count_by, fold, if◌then◌else◌};
+ghost use Rattle.lg_lex.specs.Lines.{is_word_kind, StaysInLine};
 ghost use Rattle.lg_lex.specs.Tokens.{with_byte};
+
+use crate::token::TokenKind;
 
 /// A place of a text: the bytes before it, its line, and whether only spaces and tabs stand before it in its line.
 #[derive(Clone, Copy)]
@@ -42,6 +45,55 @@ pub(crate) fn passed(place: Place, bytes: &[u8]) -> Place
         offset: place.offset + bytes.len(),
         line,
         fresh,
+    }
+}
+
+// Whether tokens of a kind are a word, or a mark and a word, which stay in their line.
+fn is_word_kind(kind: TokenKind) -> bool
+    ensures { result ≡ is_word_kind kind }
+{
+    matches!(
+        kind,
+        TokenKind::Word
+            | TokenKind::Directive
+            | TokenKind::LabelMark
+            | TokenKind::Register
+            | TokenKind::Name
+            | TokenKind::Host
+    )
+}
+
+/// Goes behind a token of a kind. Of a word no byte is looked at.
+#[inline(always)]
+pub(crate) fn pass_token(place: &mut Place, kind: TokenKind, bytes: &[u8])
+    requires lines { place.old.line + length bytes.now < 2 ^ 32 }
+    requires room { place.old.offset + length bytes.now < 2 ^ 32 }
+    requires stays { is_word_kind kind ≡ true → StaysInLine bytes.now }
+    ensures offset { place.new.offset ≡ place.old.offset + length bytes.now }
+    ensures line { place.new.line ≡ place.old.line + count_by (λ b. b == 10) bytes.now }
+    ensures fresh { place.new.fresh ≡ fold with_byte place.old.fresh bytes.now }
+{
+    if is_word_kind(kind) {
+        place.offset += bytes.len();
+        place.fresh = false;
+    } else {
+        *place = passed(*place, bytes);
+    }
+}
+
+/// Goes behind one byte. A space leaves the line and what stands in it as they are.
+#[inline(always)]
+pub(crate) fn pass_byte(place: &mut Place, b: u8)
+    requires lines { place.old.line + 1 < 2 ^ 32 }
+    requires room { place.old.offset + 1 < 2 ^ 32 }
+    ensures offset { place.new.offset ≡ place.old.offset + 1 }
+    ensures line { place.new.line ≡ place.old.line + (if b == 10 then 1 else 0) }
+    ensures fresh { place.new.fresh ≡ with_byte place.old.fresh b }
+{
+    place.offset += 1;
+    if b != b' ' {
+        place.line += u32::from(b == b'\n');
+        place.fresh = is_fresh_behind(place.fresh, b);
     }
 }
 

@@ -9,6 +9,7 @@ pub mod LimitLemmas
 pub mod MarkLemmas
 pub mod NodeListLemmas
 pub mod NumberLaws
+pub mod QuietLemmas
 pub mod RunLemmas
 pub mod SuccessorLaws
 pub mod TableLemmas

@@ -13,7 +13,7 @@ use Rattle.lg_node.specs.Preparations.{prepared_behind, varies_behind}
 use Rattle.lg_node.specs.Checks.{is_arg}
 use Rattle.lg_node.specs.Walks.{is_mark, walk_behind}
 
-inner : (p i : ℕ) (call : Option Preparation) (varies : Bool) (xs : List Operand) (o : Op) → is_mark o ≡ false
+pub inner : (p i : ℕ) (call : Option Preparation) (varies : Bool) (xs : List Operand) (o : Op) → is_mark o ≡ false
     → (open_behind (home_of (Some p) i o) o ≡ Some p) × (is_prolog o ≡ false) × (is_arg o ≡ false) × (local_of o xs ≡ 0) × (prepared_behind call o ≡ call) × (varies_behind varies call o ≡ varies)
 inner p i None varies xs (op.Binary a b) e = (refl, refl, refl, refl, refl, refl)
 inner p i (Some x) varies xs (op.Binary a b) e = (refl, refl, refl, refl, refl, refl)

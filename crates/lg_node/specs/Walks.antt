@@ -1,12 +1,14 @@
 -- What is known before a node when the nodes are walked in order.
-use Rattle.std.specs.Prelude.{ℕ, ◌+◌, ◌≤◌, Bool, true, false, ◌||◌, cond, if◌then◌else◌, List, Option, is_some}
+use Rattle.std.specs.Prelude.{ℕ, ◌+◌, ◌≤◌, Bool, true, false, not, ◌&&◌, ◌||◌, cond, if◌then◌else◌, List, Option, is_none, is_some}
+use Rattle.std.specs.List.{list_any}
 use Rattle.lg_op.specs.declared.node.Node.{Node}
 use Rattle.lg_op.specs.declared.op.Op.{Op}
 use Rattle.lg_op.specs.declared.op.Op.TheVariants.{Control, Plain}
+use Rattle.lg_op.specs.declared.operand.Operand.{Operand}
 use Rattle.lg_node.specs.declared.walk.Walk.{Walk}
 use Rattle.lg_node.specs.Functions.{is_prolog, home_of, open_behind, open_before, local_size}
 use Rattle.lg_node.specs.Preparations.{prepared_behind, prepared_before, pushed_of, varies_behind, varies_before}
-use Rattle.lg_node.specs.Checks.{is_arg, is_begun, args_before, locals_before}
+use Rattle.lg_node.specs.Checks.{is_label, is_arg, is_begun, args_before, locals_before}
 
 abbrev pub walk_at : List Node → ℕ → Walk
 walk_at nodes i = record {
@@ -37,6 +39,10 @@ abbrev pub is_mark : Op → Bool
 is_mark (Plain o) = true
 is_mark (Control o last) = true
 is_mark o = false
+
+-- nothing refuses it, as is seen at once: no mark, within a function, where no call is prepared, that names no label
+abbrev pub is_quiet : Walk → Op → List Operand → Bool
+is_quiet w o xs = is_some w.function && (is_none w.call && (not (is_mark o) && not (list_any is_label xs)))
 
 -- the limits of a function and of a call
 pub record IsWithinLimits (w : Walk) : Type 0 where

@@ -55,11 +55,11 @@ fn walk_to_end(nodes: &NodeList, tables: &Tables) -> Result<Walk, Refusal>
 {
     let mut walk = Walk::new();
     for index in 0..nodes.len() {
-        let node = nodes.node(index);
-        if let Some(refusal) = refusal_at(nodes, tables, walk, index, &node) {
+        let node = nodes.node_at(index);
+        if let Some(refusal) = refusal_at(nodes, tables, walk, index, node) {
             return Err(refusal);
         }
-        walk = walk.behind(index, &node);
+        walk.pass(index, node);
     }
     Ok(walk)
 }

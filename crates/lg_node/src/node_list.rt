@@ -80,6 +80,7 @@ impl NodeList {
     }
 
     /// Appends a node. The node is in form, and there are fewer than 2^32 - 1 nodes. At Err nothing changes.
+    #[inline(always)]
     pub fn push(&mut self, node: Node) -> Result<(), OutOfMemory>
         requires room { length self.old.nodes < 2 ^ 32 - 1 }
         requires form { InForm node }
@@ -117,6 +118,16 @@ impl NodeList {
         ensures form { InForm result }
     {
         self.nodes[index as usize]
+    }
+
+    /// The node of an index, which is below `len`, where it stands. It is in form.
+    #[inline]
+    pub(crate) fn node_at(&self, index: u32) -> &Node
+        requires { index < length self.now.nodes }
+        ensures node { Some result.now ≡ slice_get self.now.nodes index }
+        ensures form { InForm result.now }
+    {
+        &self.nodes[index as usize]
     }
 
     /// The label of a word, which has the form of a word of a text: the one that the word has, or a new one at its first mention.

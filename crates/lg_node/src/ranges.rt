@@ -80,11 +80,11 @@ impl Ranges {
         let mut numbers = Vec::with_capacity(alloc, count)?;
         let mut walk = Walk::new();
         for index in 0..nodes.len() {
-            let node = nodes.node(index);
+            let node = nodes.node_at(index);
             let home = home_of(walk.function, index, node.op);
             numbers.push_reserved(number_in(functions.len() as u32, home));
-            push_ended(&mut functions, ended(nodes, home, walk, index, &node))?;
-            walk = walk.behind(index, &node);
+            push_ended(&mut functions, ended(nodes, home, walk, index, node))?;
+            walk.pass(index, node);
         }
         Ok(Ranges { functions, numbers })
     }

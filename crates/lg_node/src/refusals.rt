@@ -5,14 +5,14 @@ ghost use Rattle.std.specs.List.{find, list_any};
 ghost use Rattle.lg_op.specs.Nodes.{InForm};
 ghost use Rattle.lg_node.specs.Labels.{is_labelled};
 ghost use Rattle.lg_node.specs.Tables.{AreHomes, AreTables};
-ghost use Rattle.lg_node.specs.Walks.{walk_at, IsWithinLimits};
+ghost use Rattle.lg_node.specs.Walks.{walk_at, is_quiet, IsWithinLimits};
 ghost use Rattle.lg_node.specs.Checks.{is_missing, may_stand_outside, is_label, is_astray, any_by_form, needs_preparation, breaks_preparation, is_ellipsis, is_out_of_turn, is_bad_call, is_too_many, is_too_big, refuses, kinds};
 
 use crate::labels::{home_in, is_code, is_entry, is_inside, takes_address};
 use crate::node_list::NodeList;
 use crate::preparation::Preparation;
 use crate::tables::Tables;
-use crate::walk::{Walk, is_arg, is_prolog, local_size};
+use crate::walk::{Walk, is_arg, is_mark, is_prolog, local_size};
 use lg_base::RefusalKind;
 use lg_op::{ControlOp, Form, LastOperand, Node, Op, Operand, PlainOp};
 
@@ -209,6 +209,14 @@ fn is_labelled(tables: &Tables, index: u32) -> bool
         .unwrap_or(false)
 }
 
+// Whether nothing refuses a node, as is seen at once: it computes, loads, stores or branches within a function, where no call is prepared, and
+// names no label.
+fn is_quiet(walk: Walk, op: Op, operands: &[Operand]) -> bool
+    ensures { result ≡ is_quiet walk op operands.now }
+{
+    walk.function.is_some() && walk.call.is_none() && !is_mark(op) && !names_label(operands)
+}
+
 // The kinds that refuse a node, in the order in which they come at one node.
 static KINDS: [RefusalKind; 7] = [
     RefusalKind::LabelMissing,
@@ -255,8 +263,8 @@ fn refuses(
     }
 }
 
-/// Why the node of an index is refused.
-pub fn refusal_kind(
+// The first kind that refuses the node of an index.
+fn first_kind(
     nodes: &NodeList,
     tables: &Tables,
     walk: Walk,
@@ -274,4 +282,28 @@ pub fn refusal_kind(
         .iter()
         .copied()
         .find(|kind| refuses(nodes, tables, walk, index, node, *kind))
+}
+
+/// Why the node of an index is refused. Most nodes are not, which is seen at once.
+#[inline(always)]
+#[tactic(auto, using(crate::proofs::QuietLemmas::quiet))]
+pub fn refusal_kind(
+    nodes: &NodeList,
+    tables: &Tables,
+    walk: Walk,
+    index: u32,
+    node: &Node,
+) -> Option<RefusalKind>
+    requires node { slice_get nodes.now.nodes index ≡ Some node.now }
+    requires form { InForm node.now }
+    requires tables { AreTables nodes.now tables.now }
+    requires walk { walk ≡ walk_at nodes.now.nodes index }
+    requires limits { IsWithinLimits walk }
+    ensures { result ≡ find (refuses nodes.now index node.now) kinds }
+{
+    if is_quiet(walk, node.op, node.operands.as_slice()) {
+        None
+    } else {
+        first_kind(nodes, tables, walk, index, node)
+    }
 }

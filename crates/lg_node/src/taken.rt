@@ -49,7 +49,7 @@ fn named(alloc: Global, nodes: &NodeList) -> Result<Vec<bool>, OutOfMemory>
 {
     let mut marks = vec![in alloc; false; nodes.labels() as usize]?;
     for index in 0..nodes.len() {
-        mark_node(&mut marks, &nodes.node(index));
+        mark_node(&mut marks, nodes.node_at(index));
     }
     Ok(marks)
 }

@@ -41,8 +41,8 @@ pub fn is_epilog(op: Op) -> bool
     matches!(op, Op::Plain(PlainOp::Epilog))
 }
 
-// Whether an operation may change what is known within a function: it is a plain one, or a jump, a call or what is passed by one.
-fn is_mark(op: Op) -> bool
+/// Whether an operation may change what is known within a function: it is a plain one, or a jump, a call or what is passed by one.
+pub fn is_mark(op: Op) -> bool
     ensures { result ≡ is_mark op }
 {
     matches!(op, Op::Plain(_) | Op::Control(_, _))
@@ -173,6 +173,19 @@ impl Walk {
             self
         } else {
             self.past(index, node)
+        }
+    }
+
+    /// Goes behind the next node, which is in form. Within a function only a mark changes what is known.
+    #[inline(always)]
+    #[tactic(auto, using(crate::proofs::MarkLemmas::unmarked))]
+    pub fn pass(&mut self, index: u32, node: &Node)
+        requires form { InForm node.now }
+        requires limits { IsWithinLimits self.old }
+        ensures { self.new ≡ walk_behind self.old index node.now }
+    {
+        if self.function.is_none() || is_mark(node.op) {
+            *self = self.past(index, node);
         }
     }
 }

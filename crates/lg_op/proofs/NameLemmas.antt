@@ -1,5 +1,5 @@
 -- Each name leads to its operation, and to no other.
-use Rattle.std.proofs.Common.{◌≡◌, ℕ, Bool, true, false, ◌&&◌, ◌||◌, cond, List, [], ◌∷◌, ◌++◌, inl, inr, Option, Some, None, refl, sym, ap, ◌∙◌, find, codes, slice_index, IfSome}
+use Rattle.std.proofs.Common.{◌≡◌, ℕ, Bool, true, false, ◌&&◌, ◌||◌, cond, List, [], ◌∷◌, ◌++◌, inl, inr, Option, Some, None, refl, sym, ap, ◌∙◌, ◌<◌, ◌≤◌, arith, length, append-nil, find, codes, slice_index, IfSome}
 use Rattle.std.specs.Str.{bytes_eq}
 use Rattle.std.proofs.lemmas.Bool.{false≢true}
 use Rattle.std.proofs.lemmas.Slice.Eq.{bytes_eq-Decides}
@@ -247,3 +247,24 @@ find_passes p (y ∷ ys) x e = by (p y) refl e (find_passes p ys x)
 pub found_named : (r : Option Op) (word : List ℕ) → r ≡ found word → IfSome r (λ op. IsName op word)
 found_named None word e = tt
 found_named (Some op) word e = is_name_of op word (find_passes (λ o. is_name o word) (ops_from (slice_index word 0)) op (sym e))
+
+-- ---- names by what stands behind them
+
+-- a word by what stands behind the name in it
+pub by_rest : (op : Op) (word : List ℕ) (is : List ℕ → Bool) → ((more : List ℕ) → bytes_eq word (name op ++ more) ≡ is more) → (is [] || (is_long op && is (codes "_l"))) ≡ is_name op word
+by_rest op word is h =
+    ap (λ t. t || (is_long op && is (codes "_l"))) (sym (h []) ∙ ap (bytes_eq word) (append-nil (name op)))
+    ∙ ap (λ t. bytes_eq word (name op) || (is_long op && t)) (sym (h (codes "_l")))
+
+pub and_false : (b : Bool) → false ≡ (b && false)
+and_false true = refl
+and_false false = refl
+
+pub nothing_left : (rest : List ℕ) (b : Bool) → length rest < 1 → true ≡ (bytes_eq rest [] || b)
+nothing_left [] b h = refl
+nothing_left (x ∷ rest) b h = absurd (omega arith)
+
+pub some_left : (rest : List ℕ) (long b : Bool) → 1 ≤ length rest → long ≡ false → false ≡ (bytes_eq rest [] || (long && b))
+some_left [] long b h e = absurd (omega arith)
+some_left (x ∷ rest) true b h e = absurd (false≢true (sym e))
+some_left (x ∷ rest) false b h e = refl

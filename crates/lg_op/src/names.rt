@@ -1,6 +1,8 @@
 // The names of the operations, and the operations by their names.
 
-ghost use Rattle.std.specs.Prelude.{◌≡◌, ◌≤◌, Some, IfSome, find, length, slice_index};
+ghost use Rattle.std.specs.Prelude.{◌≡◌, ◌≤◌, ◌++◌, ℕ, List, false, Some, IfSome, find, length, slice_index};
+ghost use Rattle.std.specs.Option.{option_map_or};
+ghost use Rattle.std.specs.Str.{bytes_eq};
 ghost use Rattle.lg_op.specs.Names.{binary_stem, wide_stem, condition_stem, branch_sum_stem, control_stem, unary_name, plain_name, binary_end, wide_end, condition_end, branch_sum_end, value_type_end, store_type_end, addressing_middle, last_middle, stem_of, middle_of, end_of, name, is_long, is_name, IsName, ops_from};
 
 use crate::op::{
@@ -303,19 +305,25 @@ impl Op {
         name
     }
 
+    // What of a word stands behind the operation's name, without its type of 8 bytes, where it begins with it.
+    #[inline(always)]
+    fn behind_name(self, word: &[u8]) -> Option<&[u8]>
+        ensures { (more : List ℕ) → bytes_eq word.now (name self ++ more) ≡ option_map_or (λ rest. bytes_eq rest.now more) result false }
+    {
+        let word = behind_part(word, self.stem())?;
+        let word = behind_part(word, self.middle())?;
+        behind_part(word, self.end())
+    }
+
     // Whether a word names the operation.
     fn is_name(self, word: &[u8]) -> bool
         ensures { result ≡ is_name self word.now }
     {
-        let mut name = self.name();
-        if word == name.as_slice() {
-            return true;
+        match self.behind_name(word) {
+            Some([]) => true,
+            Some(rest) => self.is_long() && rest == b"_l".as_slice(),
+            None => false,
         }
-        if !self.is_long() {
-            return false;
-        }
-        name.extend(b"_l");
-        word == name.as_slice()
     }
 
     // The operation among those whose names begin as the word does.
@@ -339,6 +347,21 @@ impl Op {
     {
         Op::found(word)
     }
+}
+
+// What of a word stands behind a part of a name, where it begins with it.
+#[inline(always)]
+fn behind_part<'a>(word: &'a [u8], part: &[u8]) -> Option<&'a [u8]>
+    ensures { (more : List ℕ) → bytes_eq word.now (part.now ++ more) ≡ option_map_or (λ rest. bytes_eq rest.now more) result false }
+{
+    let mut rest = word;
+    for b in part {
+        match rest {
+            [a, more @ ..] if a == b => rest = more,
+            _ => return None,
+        }
+    }
+    Some(rest)
 }
 
 // The operations whose names begin with a byte.

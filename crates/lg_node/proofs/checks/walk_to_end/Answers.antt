@@ -14,11 +14,11 @@ loop-index-init c = record {
 pub refusal_at-requires-clause-limits : goal.refusal_at-requires-clause-limits
 refusal_at-requires-clause-limits c = rw c.loop-index.invariant.walk (limits_at c.args.nodes.now c.loop-index.index (omega arith) c.loop-index.invariant.none)
 
-pub behind-walk-requires-clause-limits : goal.behind-walk-requires-clause-limits
-behind-walk-requires-clause-limits c = rw c.loop-index.invariant.walk (limits_at c.args.nodes.now c.loop-index.index (omega arith) c.loop-index.invariant.none)
+pub pass-requires-clause-limits : goal.pass-requires-clause-limits
+pass-requires-clause-limits c = rw c.loop-index.invariant.walk (limits_at c.args.nodes.now c.loop-index.index (omega arith) c.loop-index.invariant.none)
 
 pub loop-index-preserved : goal.loop-index-preserved
 loop-index-preserved c = record {
-  walk = c.behind-walk.ensures ∙ ap (λ (w : Walk). walk_behind w c.loop-index.index c.node-node.result) c.loop-index.invariant.walk ∙ walk_on c.args.nodes.now.nodes c.loop-index.index c.node-node.result (sym c.node-node.ensures.node);
+  walk = c.pass.ensures ∙ ap (λ (w : Walk). walk_behind w c.loop-index.index c.node_at-node.result.now) c.loop-index.invariant.walk ∙ walk_on c.args.nodes.now.nodes c.loop-index.index c.node_at-node.result.now (sym c.node_at-node.ensures.node);
   none = none_on c.args.nodes.now c.loop-index.index c.loop-index.invariant.none (sym c.refusal_at.ensures ∙ c.in_default.is);
 }

@@ -13,6 +13,6 @@ loop-index-preserved c =
       count = kept ∙ c.loop-index.invariant.count;
       marks = λ label h.
           c.mark_node.ensures label (omega (arith, whole, c.loop-index.invariant.count, h))
-          ∙ ap (λ b. b || names_address label c.node.result) (ap (λ (xs : List Bool). get_or xs label false) c.deref_mut.ensures.value ∙ c.loop-index.invariant.marks label h)
-          ∙ sym (any_on (names_address label) c.args.nodes.now.nodes c.loop-index.index c.node.result (sym c.node.ensures.node));
+          ∙ ap (λ b. b || names_address label c.node_at.result.now) (ap (λ (xs : List Bool). get_or xs label false) c.deref_mut.ensures.value ∙ c.loop-index.invariant.marks label h)
+          ∙ sym (any_on (names_address label) c.args.nodes.now.nodes c.loop-index.index c.node_at.result.now (sym c.node_at.ensures.node));
     }

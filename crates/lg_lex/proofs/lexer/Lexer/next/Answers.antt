@@ -1,6 +1,12 @@
-use Rattle.std.proofs.Common.{sym, ap, ◌∙◌}
+use Rattle.std.proofs.Common.{◌≡◌, ℕ, true, List, sym, ap, subst, ◌∙◌}
+use Rattle.std.specs.Prelude.{slice_index}
+use Rattle.lg_lex.specs.Bytes.{is_space}
+use Rattle.lg_lex.specs.declared.fronts.Front.TheVariants.{Finds}
 use Rattle.lg_lex.specs.Fronts.{front_at}
-use Rattle.lg_lex.proofs.TokenLemmas.{place_behind, piece_end, gives_end, gives_fault, skipped, gives_token}
+use Rattle.lg_lex.specs.Lines.{StaysInLine}
+use Rattle.lg_lex.specs.Tokens.{tokens_at}
+use Rattle.lg_lex.proofs.LineLemmas.{FrontStays, front_stays}
+use Rattle.lg_lex.proofs.TokenLemmas.{place_behind, place_behind_byte, one_space, piece_end, gives_end, gives_fault, skipped, space_skipped, gives_token}
 use Rattle.lg_lex.proofs.lexer.Lexer.next.Goals as goal
 
 pub returns-in-Nothing : goal.returns-in-Nothing
@@ -8,6 +14,25 @@ returns-in-Nothing c =
     let place = c.pieces.self-inside.place in
     let is = ap (front_at place.fresh) (sym c.behind-bytes.ensures) ∙ sym c.front_of.ensures.value ∙ c.in-Nothing.is in
     gives_end _ place.offset place.line place.fresh c.pieces.invariant.0 _ c.pieces.invariant.1 is
+
+pub pieces-preserved-then-is_space : goal.pieces-preserved-then-is_space
+pieces-preserved-then-is_space c =
+    let text = c.pieces.self-inside.text.now in
+    let place = c.pieces.self-inside.place in
+    let passed = c.pass_byte.ensures in
+    let is : is_space (slice_index c.behind-bytes.result.now 0) ≡ true = ap is_space (sym c.byte_at-b.ensures) ∙ sym c.is_space.ensures ∙ c.if-is_space.true in
+    let space = ap (λ (bytes : List ℕ). is_space (slice_index bytes 0)) (sym c.behind-bytes.ensures) ∙ is in (
+      place_behind_byte text place.offset place.line c.byte_at-b.result _ _ place.fresh _ c.behind-bytes.result.now c.pieces.invariant.0 c.behind-bytes.ensures c.byte_at-b.ensures (one_space _ is).1 passed.offset passed.line passed.fresh,
+      ap (tokens_at text) passed.offset ∙ space_skipped text place.offset space ∙ c.pieces.invariant.1,
+    )
+
+pub pass_token-requires-clause-stays : goal.pass_token-requires-clause-stays
+pass_token-requires-clause-stays c word =
+    let place = c.pieces.self-inside.place in
+    let bytes = c.behind-bytes.result.now in
+    let is = sym c.front_of.ensures.value ∙ c.in-Finds.is in
+    let stays : FrontStays bytes (Finds c.in-Finds.kind c.in-Finds.n c.in-Finds.value) = subst (FrontStays bytes) is (front_stays place.fresh bytes) in
+    subst StaysInLine (sym c.ahead-in-Finds.ensures) (stays word)
 
 pub pieces-preserved : goal.pieces-preserved
 pieces-preserved c =
@@ -22,7 +47,7 @@ pieces-preserved c =
 pub invariant_of-self-in-Finds : goal.invariant_of-self-in-Finds
 invariant_of-self-in-Finds c =
     let place = c.pieces.self-inside.place in
-    let passed = c.passed-self-inside-in-Finds.ensures in
+    let passed = c.pass_token.ensures in
     place_behind _ place.offset place.line c.in-Finds.n _ _ place.fresh _ _ _ c.pieces.invariant.0 c.behind-bytes.ensures c.ahead-in-Finds.ensures c.in-Finds.ensures.inside.1 passed.offset passed.line passed.fresh
 
 pub returns-in-Finds : goal.returns-in-Finds
@@ -30,7 +55,7 @@ returns-in-Finds c =
     let place = c.pieces.self-inside.place in
     let inside = c.in-Finds.ensures.inside in
     let is = ap (front_at place.fresh) (sym c.behind-bytes.ensures) ∙ sym c.front_of.ensures.value ∙ c.in-Finds.is in
-    gives_token _ place.offset place.line place.fresh c.pieces.invariant.0 _ c.pieces.invariant.1 c.in-Finds.kind c.in-Finds.n c.in-Finds.value _ inside.0 (piece_end place.offset _ c.in-Finds.n _ _ c.ahead-in-Finds.ensures inside.1 c.passed-self-inside-in-Finds.ensures.offset) is
+    gives_token _ place.offset place.line place.fresh c.pieces.invariant.0 _ c.pieces.invariant.1 c.in-Finds.kind c.in-Finds.n c.in-Finds.value _ inside.0 (piece_end place.offset _ c.in-Finds.n _ _ c.ahead-in-Finds.ensures inside.1 c.pass_token.ensures.offset) is
 
 pub returns-in-Fails : goal.returns-in-Fails
 returns-in-Fails c =

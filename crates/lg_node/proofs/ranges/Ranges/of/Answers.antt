@@ -24,14 +24,14 @@ loop-index-init c = record {
 pub ended-requires-clause-function : goal.ended-requires-clause-function
 ended-requires-clause-function c =
     c.home_of-home.ensures
-    ∙ ap (λ (w : Walk). home_of w.function c.loop-index.index c.node-node.result.op) c.loop-index.invariant.walk
-    ∙ sym (home_here c.args.nodes.now.nodes c.loop-index.index c.node-node.result (sym c.node-node.ensures.node))
+    ∙ ap (λ (w : Walk). home_of w.function c.loop-index.index c.node_at-node.result.now.op) c.loop-index.invariant.walk
+    ∙ sym (home_here c.args.nodes.now.nodes c.loop-index.index c.node_at-node.result.now (sym c.node_at-node.ensures.node))
 
 pub ended-requires-clause-limits : goal.ended-requires-clause-limits
 ended-requires-clause-limits c = rw c.loop-index.invariant.walk (limits_before c.args.nodes.now c.loop-index.index (omega arith) c.requires.nodes)
 
-pub behind-walk-requires-clause-limits : goal.behind-walk-requires-clause-limits
-behind-walk-requires-clause-limits c = rw c.loop-index.invariant.walk (limits_before c.args.nodes.now c.loop-index.index (omega arith) c.requires.nodes)
+pub pass-requires-clause-limits : goal.pass-requires-clause-limits
+pass-requires-clause-limits c = rw c.loop-index.invariant.walk (limits_before c.args.nodes.now c.loop-index.index (omega arith) c.requires.nodes)
 
 pub push_reserved-requires : goal.push_reserved-requires
 push_reserved-requires c = omega (arith, c.loop-index.numbers.ok.0, c.loop-index.invariant.count, c.loop-index.invariant.room, c.loop-index-test.true, c.len-index-end.ensures)
@@ -40,22 +40,22 @@ pub loop-index-preserved : goal.loop-index-preserved
 loop-index-preserved c =
     let nodes = c.args.nodes.now.nodes in
     let i = c.loop-index.index in
-    let here = sym c.node-node.ensures.node in
+    let here = sym c.node_at-node.ensures.node in
     let function : c.home_of-home.result ≡ home nodes i =
     c.home_of-home.ensures
-    ∙ ap (λ (w : Walk). home_of w.function i c.node-node.result.op) c.loop-index.invariant.walk
-    ∙ sym (home_here nodes i c.node-node.result here) in
-    let ended : c.ended.result ≡ ended_at nodes (home nodes i) i (Some c.node-node.result) =
-    c.ended.ensures ∙ ap (λ (f : Option ℕ). ended_at nodes f i (Some c.node-node.result)) function in
+    ∙ ap (λ (w : Walk). home_of w.function i c.node_at-node.result.now.op) c.loop-index.invariant.walk
+    ∙ sym (home_here nodes i c.node_at-node.result.now here) in
+    let ended : c.ended.result ≡ ended_at nodes (home nodes i) i (Some c.node_at-node.result.now) =
+    c.ended.ensures ∙ ap (λ (f : Option ℕ). ended_at nodes f i (Some c.node_at-node.result.now)) function in
     let count : c.len.result ≡ length c.loop-index.functions.items = omega (arith, c.len.ensures, c.loop-index.functions.ok.0) in
     let number : c.number_in.result ≡ number_of nodes i =
     c.number_in.ensures ∙ ap₂ number_in (count ∙ ap length c.loop-index.invariant.functions) function in
     record {
-      walk = c.behind-walk.ensures ∙ ap (λ (w : Walk). walk_behind w i c.node-node.result) c.loop-index.invariant.walk ∙ walk_on nodes i c.node-node.result here;
+      walk = c.pass.ensures ∙ ap (λ (w : Walk). walk_behind w i c.node_at-node.result.now) c.loop-index.invariant.walk ∙ walk_on nodes i c.node_at-node.result.now here;
       functions =
           c.in_ok-push_ended.ensures
           ∙ ap₂ (λ (fs : List Function) (o : Option Function). fs ++ option_to_list o) c.loop-index.invariant.functions ended
-          ∙ sym (functions_on nodes i c.node-node.result here);
+          ∙ sym (functions_on nodes i c.node_at-node.result.now here);
       few = few_on c.loop-index.functions.items c.push_ended.new.functions.items c.ended.result i c.in_ok-push_ended.ensures c.loop-index.invariant.few;
       count = count_push c.loop-index.numbers.items c.push_reserved.new.self.items c.number_in.result i c.push_reserved.ensures.items c.loop-index.invariant.count;
       room = omega (arith, c.push_reserved.ensures.capacity, c.loop-index.invariant.room);
