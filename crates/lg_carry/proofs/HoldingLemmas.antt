@@ -83,20 +83,23 @@ module _ {Q : Type 0} (P : Processor Q) (c : Code) (live : Frame → ℕ → Boo
 
   -- a way whose last step does nothing is one without it
   shorter : (w : Leads P c live after i next out q) (m : ℕ) → w.steps ≡ suc m → 0 < m → at (suc m) ≡ at m → (v : Leads P c live after i next out q) × (v.steps ≡ m)
-  shorter w m e some same = (record {
-    steps = m;
-    few = let f = w.few in omega (arith, f, e);
-    inside = λ j lt. ⊎_elim inl (host j lt) (w.inside j (omega (arith, lt, e)));
-    outside = λ j lt. ⊎_elim inl (host j lt) (w.outside j (omega (arith, lt, e)));
-    above = λ j lt. ⊎_elim inl (host j lt) (w.above j (omega (arith, lt, e)));
-    falls = λ s j lt. ⊎_elim inl (host j lt) (w.falls s j (omega (arith, lt, e)));
-    ahead = λ s j z lt. ⊎_elim inl (host j lt) (w.ahead s j z (omega (arith, lt, e)));
-    rises = λ r j lt. w.rises r j (omega (arith, lt, e));
-    none = λ z. absurd (omega (arith, z, some));
-    some = λ l. some;
-    way = λ j lt. w.way j (omega (arith, lt, e));
-    there = subst (Meets P c live after q next out) (ap at e ∙ same) w.there;
-  }, refl)
+  shorter w m e some same = (
+    record {
+      steps = m;
+      few = let f = w.few in omega (arith, f, e);
+      inside = λ j lt. ⊎_elim inl (host j lt) (w.inside j (omega (arith, lt, e)));
+      outside = λ j lt. ⊎_elim inl (host j lt) (w.outside j (omega (arith, lt, e)));
+      above = λ j lt. ⊎_elim inl (host j lt) (w.above j (omega (arith, lt, e)));
+      falls = λ s j lt. ⊎_elim inl (host j lt) (w.falls s j (omega (arith, lt, e)));
+      ahead = λ s j z lt. ⊎_elim inl (host j lt) (w.ahead s j z (omega (arith, lt, e)));
+      rises = λ r j lt. w.rises r j (omega (arith, lt, e));
+      none = λ z. absurd (omega (arith, z, some));
+      some = λ l. some;
+      way = λ j lt. w.way j (omega (arith, lt, e));
+      there = subst (Meets P c live after q next out) (ap at e ∙ same) w.there;
+    },
+    refl,
+  )
     where
       host : {T : Type 0} (j : ℕ) → j < m → IsHostStep c i w.steps j (P.seen (at j)) → T
       host j lt h = let z = h.1 in absurd (omega (arith, z, lt, e))
@@ -204,11 +207,14 @@ carried-withstand P c before i blind machine placed w = record {
     by : (s : State) (out : List ℕ) (q : _) → s.at ≡ i → Stands P c live s out q (before i) → Leads P c live after i (next s) out q → (b : Bool) → sinks_at (slice_get c.nodes.nodes i) ≡ b
         → HoldsUp P c live after i s (before i) out q
     by s out q at st l false e = let r = way s out q st l in inl (r.way, steady P c live after i (next s) out q machine st.runs blind placed.low placed.high r e)
-    by s out q at st l true e = inr (e, λ p st'. ⊎_elim
-        (λ u. absurd (subst (λ o. Meets P c live after q o out (iter P.machine.step l.steps q)) u l.there))
-        (λ (v : Leads P c live after i (next s) out p). let r = way s out p st' v in record {
-          way = r.way;
-          some = some s out p r.way e;
-          sinks = sinks P c live after i (next s) out p machine st'.runs blind placed.low placed.high r e;
-        })
-        (w.carries s out p at st'))
+    by s out q at st l true e = inr (
+      e,
+      λ p st'. ⊎_elim
+          (λ u. absurd (subst (λ o. Meets P c live after q o out (iter P.machine.step l.steps q)) u l.there))
+          (λ (v : Leads P c live after i (next s) out p). let r = way s out p st' v in record {
+            way = r.way;
+            some = some s out p r.way e;
+            sinks = sinks P c live after i (next s) out p machine st'.runs blind placed.low placed.high r e;
+          })
+          (w.carries s out p at st'),
+    )

@@ -228,12 +228,12 @@ module _ {Q : Type 0} (P : Processor Q) where
         not-there k within here =
             let a = apart k within in
             let host : IsHostStep c i w.way.steps v.way.steps (P.seen (iter P.machine.step v.way.steps p)) → ⊥ =
-                λ z. no-host (sym (ap host_by_address here ∙ a.1) ∙ z.3) in
+            λ z. no-host (sym (ap host_by_address here ∙ a.1) ∙ z.3) in
             ⊎_elim (λ (b : BeginsInside c i (P.seen (iter P.machine.step v.way.steps p))). ⊎_elim
-                (λ (up : c.place i < (P.seen (iter P.machine.step v.way.steps p)).pc). ⊎_elim
-                    (λ (le : c.place k ≤ c.place i). absurd (omega (arith, le, here, up)))
-                    (λ (le : c.place (i + 1) ≤ c.place k). let z = b.1 in absurd (omega (arith, le, here, z))) a.0)
-                host (w.way.ahead falls-here v.way.steps v.some lt)) host (w.way.inside v.way.steps lt)
+            (λ (up : c.place i < (P.seen (iter P.machine.step v.way.steps p)).pc). ⊎_elim
+            (λ (le : c.place k ≤ c.place i). absurd (omega (arith, le, here, up)))
+            (λ (le : c.place (i + 1) ≤ c.place k). let z = b.1 in absurd (omega (arith, le, here, z))) a.0)
+            host (w.way.ahead falls-here v.way.steps v.some lt)) host (w.way.inside v.way.steps lt)
           where
             no-host : {name : HostName} → None ≡ Some name → ⊥
             no-host e = cc

@@ -176,7 +176,7 @@ module _ {Q I : Type 0} (R : Rows Q I) where
       let one : step q ≡ R.does i q = subst (λ u. step u ≡ R.does i u) (iter-zero step q) (acts 0 i (omega arith)) in
       let there : (k : ℕ) → iter step (suc k) q ≡ iter step k (R.does i q) = λ k. iter-first step k q ∙ ap (iter step k) one in
       let later : (k : ℕ) (e : I) → k < length is → step (iter step k (R.does i q)) ≡ R.does (slice_index_or is k e) (iter step k (R.does i q)) =
-          λ k e l. subst (λ u. step u ≡ R.does (slice_index_or is k e) u) (there k) (acts (suc k) e (omega (arith, l))) in
+      λ k e l. subst (λ u. step u ≡ R.does (slice_index_or is k e) u) (there k) (acts (suc k) e (omega (arith, l))) in
       subst (T (slice_index_or is j d)) (sym (there j)) (along-run T is (R.does i q) later h.1 j d (omega (arith, lt)))
 
   -- along instructions in a row
