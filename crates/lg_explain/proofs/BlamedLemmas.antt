@@ -1,5 +1,5 @@
 -- The label that a refusal blames, from what the check says of the nodes.
-use Rattle.std.proofs.Common.{◌≡◌, ◌↔◌, ◌⊎◌, inl, inr, ℕ, zero, suc, ◌+◌, ◌<◌, ◌≤◌, Bool, true, false, cond, ◌||◌, List, [], ◌∷◌, Option, Some, None, Ok, is_some, length, get_or, refl, sym, ap, ◌∙◌, subst, arith}
+use Rattle.std.proofs.Common.{◌≡◌, ◌⊎◌, inl, inr, ℕ, zero, suc, ◌+◌, ◌<◌, ◌≤◌, Bool, true, false, cond, ◌||◌, List, [], ◌∷◌, Option, Some, None, Ok, is_some, length, get_or, refl, sym, ap, ◌∙◌, subst, arith}
 use Rattle.std.specs.Prelude.{slice_get, if◌then◌else◌}
 use Rattle.std.specs.List.{find, list_any, position}
 use Rattle.std.specs.Option.{option_and_then, option_flatten, option_map}
@@ -33,7 +33,7 @@ use Rattle.lg_node.proofs.LimitLemmas.{not_refused}
 use Rattle.lg_pre.specs.Expanded.{expanded}
 use Rattle.lg_tst.specs.Units.{unit_of}
 use Rattle.lg_explain.specs.Blamed.{IsFirstWrong, IsFirstAstray, IsFirstBound, Blames, IsBlamed, IsWordBlamed, LabelsAreBlamed, WordsAreBlamed}
-use Rattle.lg_explain.specs.Blames.{first_of, first_in, of_node, label_in, missing_in, missing_at, found_by_form, astray_at, label_at, label_between, bad_call_at, label_of, word_in, word_of}
+use Rattle.lg_explain.specs.Blames.{first_of, of_node, label_in, missing_in, missing_at, found_by_form, astray_at, label_at, label_between, bad_call_at, label_of, word_in, word_of}
 use Rattle.lg_explain.specs.Lines.{shown}
 use Rattle.lg_explain.specs.Words.{blamed_as, blamed_by, names_word, word_told}
 use Rattle.lg_explain.proofs.BlameLemmas.{at_node, first_found, first_on, first_start}

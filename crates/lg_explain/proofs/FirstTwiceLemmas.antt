@@ -1,7 +1,6 @@
 -- The first word that is made again, token by token.
-use Rattle.std.proofs.Common.{◌≡◌, ◌⊎◌, inl, inr, ◌↔◌, ℕ, zero, suc, ◌<◌, ◌≤◌, Bool, true, false, ◌||◌, ◌&&◌, List, [], ◌∷◌, ◌++◌, Option, Some, None, Ok, Err, drop, refl, sym, ap, ◌∙◌, subst, arith}
-use Rattle.std.specs.Prelude.{if◌then◌else◌, slice_get}
-use Rattle.std.specs.List.{list_any}
+use Rattle.std.proofs.Common.{◌≡◌, ◌⊎◌, inl, inr, ℕ, zero, suc, ◌<◌, ◌≤◌, Bool, true, false, ◌||◌, List, [], ◌∷◌, ◌++◌, Option, Some, None, Ok, Err, drop, refl, sym, ap, ◌∙◌, subst, arith}
+use Rattle.std.specs.Prelude.{if◌then◌else◌}
 use Rattle.std.specs.Option.{option_map, option_or}
 use Rattle.std.specs.Str.{bytes_eq}
 use Rattle.std.proofs.lemmas.Bool.{cases_lt}
@@ -19,7 +18,7 @@ use Rattle.lg_tst.specs.Streams.{text_of, without_last}
 use Rattle.lg_tst.specs.Units.{unit_of}
 use Rattle.lg_explain.specs.Lines.{shown}
 use Rattle.lg_explain.specs.Twice.{again, begins_function, forms_behind, is_made, labels_behind, made_again, made_twice, makes_label, makes_name_in, names_behind, twice_from, with_word}
-use Rattle.lg_explain.specs.TwiceMade.{forms_at, MakesLabel, MakesName, BeginsFunction, MakesLabelAgain, MakesNameAgain, MakesAgain, IsFirstAgain, FirstIsMadeTwice, IsToldTwice, FirstIsTold}
+use Rattle.lg_explain.specs.TwiceMade.{forms_at, MakesLabel, MakesName, BeginsFunction, MakesAgain, IsFirstAgain, FirstIsMadeTwice, IsToldTwice, FirstIsTold}
 use Rattle.lg_explain.specs.Words.{blamed_as, blamed_by, word_told}
 
 -- ---- words that were made

@@ -1,5 +1,5 @@
 -- The label and the word that a refusal blames, in the words of the check that refuses.
-use Rattle.std.specs.Prelude.{◌≡◌, ◌↔◌, ℕ, ◌<◌, ◌≤◌, Bool, true, false, List, Option, Some, Ok, is_some, slice_get}
+use Rattle.std.specs.Prelude.{◌≡◌, ◌↔◌, ℕ, ◌<◌, ◌≤◌, Bool, true, false, List, Some, Ok, is_some, slice_get}
 use Rattle.lg_base.specs.declared.refusal.Refusal.{Refusal}
 use Rattle.lg_base.specs.declared.refusal.RefusalKind.{RefusalKind}
 use Rattle.lg_base.specs.declared.refusal.RefusalKind.TheVariants.{LabelMissing, TargetOutside, BadCall}
