@@ -30,7 +30,7 @@ fn dropped(alloc: Global, nodes: NodeList, shape: Shape) -> Result<Rewritten, Ou
 /// Drops each definition whose words can come to no node that is no definition, in one pass. A label of a dropped node moves to the next that stays.
 /// The shape is that of the nodes. Time and memory go by the number of nodes and labels.
 ///
-/// Every other node stays, and each definition that stays is of use; so none is dead. The new run makes a step where the old one stands at a node that
+/// Every other node stays, and those definitions that are of use; so none is dead. The new run makes a step where the old one stands at a node that
 /// stays, and rests at the others, over any addresses of the labels in the new nodes.
 pub fn drop_dead(alloc: Global, nodes: &NodeList, shape: &Shape) -> Result<Rewritten, OutOfMemory>
     requires { IsShapeOf nodes.now shape.now }
@@ -44,6 +44,7 @@ pub fn drop_dead(alloc: Global, nodes: &NodeList, shape: &Shape) -> Result<Rewri
     ensures folds { IfOk result (λ r. HasNoFolds nodes.now → HasNoFolds r.nodes) }
     ensures addresses { IfOk result (λ r. CarriesAddresses nodes.now r.nodes) }
     ensures runs { IfOk result (λ r. RunsAreDropped nodes.now shape.now r.nodes r.shape r.origin.items) }
+    ensures made { IfOk result (λ r. IsDroppedTo nodes.now shape.now r.nodes r.shape r.origin.items) }
 {
     let nodes = nodes.copy(alloc)?;
     let shape = shape.copy(alloc)?;
@@ -67,6 +68,7 @@ pub fn without_dead_definitions(
     ensures folds { IfOk result (λ r. HasNoFolds nodes → HasNoFolds r.nodes) }
     ensures addresses { IfOk result (λ r. CarriesAddresses nodes r.nodes) }
     ensures runs { IfOk result (λ r. RunsAreDropped nodes shape r.nodes r.shape r.origin.items) }
+    ensures made { IfOk result (λ r. IsDroppedTo nodes shape r.nodes r.shape r.origin.items) }
 {
     nodes.what_holds();
     dropped(alloc, nodes, shape)

@@ -7,7 +7,7 @@ ghost use Rattle.lg_opt.specs.Rewritings.{IsOrigin, IsSameNode, KeepsOthers, Kee
 ghost use Rattle.lg_dead.specs.Folds.{IsFoldedNode, ComesFolded};
 ghost use Rattle.lg_dead.specs.Known.{HasNoFolds};
 ghost use Rattle.lg_dead.specs.Dead.{AllAreOfUse, HasNoDeadButMoves};
-ghost use Rattle.lg_dead.specs.Rewritten.{is_droppable, AreFinal, RunsRest};
+ghost use Rattle.lg_dead.specs.Rewritten.{is_droppable, ComesNeeded, ComesMoved, AreFinal, RunsRest};
 
 use crate::dropping::without_dead_definitions;
 use crate::list::fold;
@@ -42,6 +42,7 @@ fn without_dead(alloc: Global, nodes: &NodeList, shape: &Shape) -> Result<Rewrit
     ensures of_use { IfOk result (λ r. AllAreOfUse r.nodes r.shape) }
     ensures addresses { IfOk result (λ r. CarriesAddresses nodes.now r.nodes) }
     ensures runs { IfOk result (λ r. RunsRest nodes.now shape.now r.nodes r.shape) }
+    ensures made { IfOk result (λ r. ComesNeeded nodes.now r.nodes r.shape r.origin.items) }
 {
     let Rewritten {
         nodes,
@@ -66,6 +67,7 @@ fn without_moves(alloc: Global, nodes: &NodeList, shape: &Shape) -> Result<Rewri
     ensures dead { IfOk result (λ r. HasNoDeadButMoves r.nodes r.shape) }
     ensures addresses { IfOk result (λ r. CarriesAddresses nodes.now r.nodes) }
     ensures runs { IfOk result (λ r. RunsRest nodes.now shape.now r.nodes r.shape) }
+    ensures made { IfOk result (λ r. ComesMoved nodes.now r.nodes r.shape r.origin.items) }
 {
     let Rewritten {
         nodes: needed,
@@ -90,7 +92,8 @@ fn without_moves(alloc: Global, nodes: &NodeList, shape: &Shape) -> Result<Rewri
 /// the jumps. The shape is that of the nodes. Time and memory go by the number of nodes and labels, but for the passes of `thread`.
 ///
 /// The new nodes have no needless move, no jump or branch to a jump but where the jumps turn, and no jump to what follows; none of them can be folded,
-/// and none but a `movr` is a dead definition. Every node stays that is neither a definition nor a `jmpi`. Over any addresses of the labels in the new
+/// and none but a `movr` is a dead definition. Every node stays that is neither a definition nor a `jmpi`, and so does each definition that is
+/// needed, unless it is a move that does nothing. Over any addresses of the labels in the new
 /// nodes the new run follows the old one, and turns with it.
 pub fn rewrite(alloc: Global, nodes: &NodeList, shape: &Shape) -> Result<Rewritten, OutOfMemory>
     requires { IsShapeOf nodes.now shape.now }

@@ -1,5 +1,7 @@
+pub mod BlamedLemmas
 pub mod BlameLemmas
 pub mod CallLemmas
+pub mod FirstTwiceLemmas
 pub mod TwiceLemmas
 pub mod WriteLemmas
 pub mod WhyLemmas

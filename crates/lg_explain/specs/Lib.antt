@@ -1,3 +1,4 @@
+pub mod Blamed
 pub mod Blames
 pub mod Calls
 pub mod Lines
@@ -5,4 +6,5 @@ pub mod Made
 pub mod Sentences
 pub mod Stops
 pub mod Twice
+pub mod TwiceMade
 pub mod Words

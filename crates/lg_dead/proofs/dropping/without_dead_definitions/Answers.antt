@@ -28,4 +28,5 @@ returns c =
       folds = ok-weaker (λ r. IsDroppedTo l s r.nodes r.shape r.origin.items) (λ r. HasNoFolds l → HasNoFolds r.nodes) r (λ x d. dead-folds l s c.requires formed placed x.nodes x.shape x.origin.items d) is;
       addresses = ok-weaker (λ r. IsDroppedTo l s r.nodes r.shape r.origin.items) (λ r. CarriesAddresses l r.nodes) r (λ x d. dead-addresses l s c.requires formed placed x.nodes x.shape x.origin.items d) is;
       runs = ok-weaker (λ r. IsDroppedTo l s r.nodes r.shape r.origin.items) (λ r. RunsAreDropped l s r.nodes r.shape r.origin.items) r (λ x d. dead-runs l s c.requires formed placed x.nodes x.shape x.origin.items d) is;
+      made = is;
     }

@@ -1,4 +1,4 @@
-use Rattle.std.proofs.Common.{sym, ◌∙◌, subst}
+use Rattle.std.proofs.Common.{refl, sym, ◌∙◌, subst}
 use Rattle.lg_node.specs.Nodes.{LabelledNodes}
 use Rattle.lg_opt.specs.Hops.{is_jump}
 use Rattle.lg_opt.specs.Rewritings.{IsOrigin, IsThreadedNode, KeepsOthers, KeepsLabels}
@@ -7,7 +7,7 @@ use Rattle.lg_opt.proofs.FollowedLemmas.{law}
 use Rattle.lg_dead.specs.Folds.{IsFoldedNode, ComesFolded}
 use Rattle.lg_dead.specs.Known.{HasNoFolds}
 use Rattle.lg_dead.specs.Dead.{HasNoDeadButMoves}
-use Rattle.lg_dead.specs.Rewritten.{is_droppable, IsRewrittenNode}
+use Rattle.lg_dead.specs.Rewritten.{is_droppable, IsRewrittenNode, ComesThreaded}
 use Rattle.lg_dead.proofs.JoinLemmas.{folded-joins, others-weaker, no-jump, folded-still}
 use Rattle.lg_dead.proofs.NoFoldLemmas.{threads-keep}
 use Rattle.lg_dead.proofs.ThreadLiveLemmas.{threads-keep-no-dead}
@@ -41,6 +41,7 @@ returns c =
         others = subst (KeepsOthers is_droppable l) (sym c.in_ok-origin.ensures)
             (others-join IsFoldedNode IsThreadedNode l m.nodes t.nodes m.origin.items t.origin.items first.origin second.origin is_droppable folded-still first.others (others-weaker is_jump is_droppable m.nodes t.origin.items no-jump second.others));
         labels = subst (KeepsLabels l t.nodes) (sym c.in_ok-origin.ensures) (labels-join IsFoldedNode IsThreadedNode l m.nodes t.nodes m.origin.items t.origin.items first.origin second.origin first.labels second.labels);
+        made = subst (ComesThreaded l t.nodes t.shape) (sym c.in_ok-origin.ensures) (record { middle = m.nodes; middle_shape = m.shape; first = m.origin.items; second = t.origin.items; moved = first.made; threaded = second.made; joined = refl });
       };
       addresses = λ size A are. first.addresses size A (second.addresses size A are);
       runs = λ size A image args are. law l m.nodes t.nodes s m.shape t.shape A image args (first.runs size A image args (second.addresses size A are)) (second.runs size A image args are);

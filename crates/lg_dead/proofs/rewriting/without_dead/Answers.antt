@@ -5,7 +5,8 @@ use Rattle.lg_opt.proofs.ClauseLemmas.{ok-weaker}
 use Rattle.lg_opt.proofs.TwiceLemmas.{twice}
 use Rattle.lg_dead.specs.Folds.{IsFoldedNode, ComesFolded}
 use Rattle.lg_dead.specs.Known.{HasNoFolds}
-use Rattle.lg_dead.specs.Rewritten.{is_droppable, RunsRest}
+use Rattle.lg_dead.specs.Dropping.{IsDroppedTo}
+use Rattle.lg_dead.specs.Rewritten.{is_droppable, ComesNeeded, RunsRest}
 use Rattle.lg_dead.proofs.JoinLemmas.{folded-origin, folded-others, folded-labels, ok-two}
 use Rattle.lg_dead.proofs.rewriting.without_dead.Goals as goal
 
@@ -31,4 +32,5 @@ returns c =
       addresses = ok-weaker (λ r. CarriesAddresses f.nodes r.nodes) (λ r. CarriesAddresses l r.nodes) r (λ x h. λ size A are. first.addresses size A (h size A are)) e.addresses;
       runs = ok-two (λ r. CarriesAddresses f.nodes r.nodes) (λ r. RunsAreDropped f.nodes f.shape r.nodes r.shape r.origin.items) (λ r. RunsRest l s r.nodes r.shape) r
           (λ x h d. λ size A image args are. twice l f.nodes x.nodes s f.shape x.shape A image args (first.runs size A image args (h size A are)).0 (d size A image args are).0) e.addresses e.runs;
+      made = ok-weaker (λ r. IsDroppedTo f.nodes f.shape r.nodes r.shape r.origin.items) (λ r. ComesNeeded l r.nodes r.shape r.origin.items) r (λ x d. record { middle = f.nodes; middle_shape = f.shape; shaped = first.shape; folded = to; dropped = d }) e.made;
     }

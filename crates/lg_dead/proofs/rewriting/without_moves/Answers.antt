@@ -1,4 +1,4 @@
-use Rattle.std.proofs.Common.{arith, map, sym, ◌∙◌, subst}
+use Rattle.std.proofs.Common.{arith, map, refl, sym, ◌∙◌, subst}
 use Rattle.std.specs.Prelude.{slice_index}
 use Rattle.lg_node.specs.Nodes.{LabelledNodes}
 use Rattle.lg_opt.specs.Moves.{is_movr}
@@ -8,7 +8,7 @@ use Rattle.lg_opt.proofs.TwiceLemmas.{twice}
 use Rattle.lg_dead.specs.Folds.{IsFoldedNode, ComesFolded}
 use Rattle.lg_dead.specs.Known.{HasNoFolds}
 use Rattle.lg_dead.specs.Dead.{HasNoDeadButMoves}
-use Rattle.lg_dead.specs.Rewritten.{is_droppable}
+use Rattle.lg_dead.specs.Rewritten.{is_droppable, ComesMoved}
 use Rattle.lg_dead.proofs.JoinLemmas.{origin-weaker, folded-joins, others-weaker, no-movr, folded-still}
 use Rattle.lg_dead.proofs.MovesKeepLemmas.{no-dead-but-moves}
 use Rattle.lg_dead.proofs.NoFoldLemmas.{moves-keep}
@@ -46,4 +46,5 @@ returns c =
       dead = subst (λ (x : LabelledNodes). HasNoDeadButMoves x t.shape) (sym second.made.nodes) (no-dead-but-moves n.nodes n.shape t.shape first.shape formed second.made.taken first.of_use);
       addresses = λ size A are. first.addresses size A (second.addresses size A are);
       runs = λ size A image args are. twice l n.nodes t.nodes s n.shape t.shape A image args (first.runs size A image args (second.addresses size A are)) (second.runs size A image args are).0;
+      made = subst (ComesMoved l t.nodes t.shape) (sym c.in_ok-origin.ensures) (record { middle = n.nodes; middle_shape = n.shape; first = n.origin.items; second = t.origin.items; needed = first.made; dropped = second.made; joined = refl });
     }

@@ -1,0 +1,26 @@
+//! Laws of the words that are told. The functions do nothing: their contracts are the laws.
+
+ghost use Rattle.lg_explain.specs.Blamed.{LabelsAreBlamed, WordsAreBlamed};
+ghost use Rattle.lg_explain.specs.TwiceMade.{FirstIsMadeTwice, FirstIsTold};
+
+/// The label that is told of nodes that are refused is the one that the kind blames at the first node that is refused, whose line the refusal has: the first
+/// operand that is a label which nothing binds, the first that leads where it may not, or the first label that is bound there while a call is being prepared.
+/// None is told exactly where there is no such label.
+pub fn labels_are_blamed()
+    ensures { LabelsAreBlamed }
+{}
+
+/// The word that is told of what was read, whose unit is refused, is that of this label.
+pub fn words_are_blamed()
+    ensures { WordsAreBlamed }
+{}
+
+/// The word that a text makes a second time is that of the first token that makes a label again, or a name again in its function: no token before it does.
+pub fn first_is_made_twice()
+    ensures { FirstIsMadeTwice }
+{}
+
+/// And it is the word that is told of what was read, whose expansion has no unit.
+pub fn first_is_told()
+    ensures { FirstIsTold }
+{}
