@@ -1,5 +1,6 @@
 // What holds of the items of every target. The functions do nothing: their contracts are the laws.
 
+ghost use Rattle.std.specs.Prelude.{Bool};
 ghost use Rattle.lg_carry.specs.Rows.{Rows};
 ghost use Rattle.lg_sel.specs.GoodItems.{GoodItemsSettle, GoodItemsAreBlocks};
 ghost use Rattle.lg_sel.specs.Holes.{Holes, AreHoles, ItemsAreSettled};
