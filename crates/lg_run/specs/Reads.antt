@@ -1,9 +1,8 @@
 -- Reading a text.
-use Rattle.std.specs.Prelude.{◌≡◌, ◌⊎◌, ◌<◌, ◌≤◌, ◌+◌, ℕ, true, false, List, Option, Result, Ok, Err, ⊤, length}
+use Rattle.std.specs.Prelude.{◌≡◌, ◌⊎◌, ◌<◌, ◌≤◌, ◌+◌, ℕ, List, Option, Result, Ok, Err, length}
 use Rattle.std.specs.Io.KnownBytes.{Consumes}
 use Rattle.lg_io.specs.Counts.{Rose}
 use Rattle.lg_io.specs.NamedTexts.{NamedTexts, Selects}
-use Rattle.lg_io.specs.declared.reading.Reading.{Reading}
 use Rattle.lg_run.specs.Refused.{IsTextUnder, most_text}
 use Rattle.lg_run.specs.declared.source.ReadStop.{ReadStop}
 use Rattle.lg_run.specs.declared.source.ReadStop.TheVariants.{ReadFault, TooLong, OutOfMemory}
@@ -30,10 +29,3 @@ ReadsFew first left = (bytes : List ℕ) × Consumes first left bytes × (length
 -- nothing was selected and read, or the text of the name was selected, and so few bytes of it were read
 abbrev pub ReadsFewOf : Option NamedTexts → List ℕ → Option (List ℕ) → Option (List ℕ) → Type 0
 ReadsFewOf held name before left = (left ≡ before) ⊎ ((first : Option (List ℕ)) × Selects held first name × ReadsFew first left)
-
--- a text was read until a read found its end; of one that is too long none did
-abbrev pub ReadsToEnd : {T : Type 0} → Reading → Result T ReadStop → Type 0
-ReadsToEnd reading (Ok text) = reading.at_end ≡ true
-ReadsToEnd reading (Err ReadFault) = ⊤
-ReadsToEnd reading (Err TooLong) = reading.at_end ≡ false
-ReadsToEnd reading (Err OutOfMemory) = ⊤

@@ -1,6 +1,6 @@
 // Laws of the listings of assembled code. The functions do nothing, or call once: their contracts are the laws.
 
-ghost use Rattle.std.specs.Prelude.{◌≡◌, ◌↔◌, ◌<◌, ◌+◌, ◌++◌, ℕ, List, None, length, IfSome};
+ghost use Rattle.std.specs.Prelude.{◌≡◌, ◌≤◌, ◌+◌, ◌++◌, ℕ, List, length};
 ghost use Rattle.lg_base.specs.Layout.{code_base};
 ghost use Rattle.lg_base.specs.declared.target.Target.{Target as AnyTarget};
 ghost use Rattle.lg_back.specs.Answers.{GivesBack};
@@ -26,22 +26,14 @@ pub fn code_listings_read_back(code: &Code)
     listing_reads_back(target, code.bytes(), nodes, code.places(), code.labels());
 }
 
-/// The call reads the listing of code that was assembled back: its target and its bytes, or memory is wanted. None comes exactly where the listing has more
-/// than the 4,294,967,294 bytes that the call takes.
-pub fn code_listings_are_read_back(
-    alloc: Global,
-    text: &[u8],
-    code: &Code,
-) -> Option<Result<Back, Stop>>
-    requires { text.now ≡ listing code.now.target code.now.bytes code.now.places code.now.nodes }
-    ensures none { (result ≡ None) ↔ (4294967294 < length text.now) }
-    ensures back { IfSome result (λ r. GivesBack r code.now.target code.now.bytes) }
+/// The call reads the listing of code that was assembled back: its target and its bytes, or memory is wanted.
+pub fn code_listings_are_read_back(alloc: Global, text: &[u8], code: &Code) -> Result<Back, Stop>
+    requires text { text.now ≡ listing code.now.target code.now.bytes code.now.places code.now.nodes }
+    requires small { length text.now ≤ 4294967294 }
+    ensures { GivesBack result code.now.target code.now.bytes }
 {
-    if text.len() > 4_294_967_294 {
-        return None;
-    }
     code_listings_read_back(code);
-    Some(read_back(alloc, text))
+    read_back(alloc, text)
 }
 
 /// Each line of a listing ends with its one line feed: the first, and whatever stands behind it.

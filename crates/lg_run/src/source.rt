@@ -4,7 +4,7 @@ ghost use Rattle.std.specs.Prelude.{◌≡◌, ◌≤◌, ◌<◌, false, true, 
 ghost use Rattle.std.specs.Io.KnownBytes.{Consumes, IsAtEnd};
 ghost use Rattle.lg_io.specs.NamedTexts.{IsHeld};
 ghost use Rattle.lg_io.specs.Readings.{IsReadOn, IsReadOnce};
-ghost use Rattle.lg_run.specs.Reads.{IsLongText, ReadTells, ReadsFew, ReadsFewOf, ReadsToEnd, most_piece};
+ghost use Rattle.lg_run.specs.Reads.{IsLongText, ReadTells, ReadsFew, ReadsFewOf, most_piece};
 ghost use Rattle.lg_run.specs.Refused.{IsTextUnder, most_text};
 
 use lg_base::OutOfMemory;
@@ -44,7 +44,6 @@ fn read_rest<T: Texts>(alloc: Global, piece: &mut [u8], texts: &mut T) -> Result
     ensures sure { T.sure texts.old ≡ true → T.faults texts.new ≡ T.faults texts.old }
     ensures few { ReadsFew (T.left texts.old) (T.left texts.new) }
     ensures on { (T.reading texts.old).at_end ≡ false → IsReadOn (T.reading texts.old) (T.reading texts.new) }
-    ensures end { (T.reading texts.old).at_end ≡ false → ReadsToEnd (T.reading texts.new) result }
 {
     let mut text = Vec::new(alloc);
     while text.len() <= MOST_TEXT {
@@ -63,7 +62,7 @@ fn read_rest<T: Texts>(alloc: Global, piece: &mut [u8], texts: &mut T) -> Result
 }
 
 /// The whole text of a name. A read fault comes exactly where a call of the source failed, and never of a sure source that holds the name; no other call is
-/// made behind it. The text is selected once and read from its start until a read finds its end, and not again then: at most 16,777,216 bytes and a piece of
+/// made behind it. The text is selected once and read from its start, and not again where a read found its end: at most 16,777,216 bytes and a piece of
 /// 65,536 are taken.
 pub fn read_text<T: Texts>(alloc: Global, name: &str, texts: &mut T) -> Result<Vec<u8>, ReadStop>
     ensures text { IfOk result (λ v. IsTextUnder (T.held texts.old) name.now v.items) }
@@ -73,7 +72,6 @@ pub fn read_text<T: Texts>(alloc: Global, name: &str, texts: &mut T) -> Result<V
     ensures sure { T.sure texts.old ≡ true → IsHeld (T.held texts.old) name.now → T.faults texts.new ≡ T.faults texts.old }
     ensures few { ReadsFewOf (T.held texts.old) name.now (T.left texts.old) (T.left texts.new) }
     ensures once { IsReadOnce (T.reading texts.old) (T.reading texts.new) }
-    ensures end { ReadsToEnd (T.reading texts.new) result }
 {
     let mut piece = match piece(alloc) {
         Ok(piece) => piece,
