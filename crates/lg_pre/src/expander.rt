@@ -37,13 +37,9 @@ pub struct Expander {
 fn define(alloc: Global, table: &mut Table, line: u32, rest: &Pieces) -> Result<(), Stop>
     ensures { CountsAs result table.new (defines table.old line rest.now) }
 {
-    match written(alloc, rest) {
-        Err(OutOfMemory) => Err(Stop::OutOfMemory),
-        Ok(None) => Err(refused(RefusalKind::BadDirective, line)),
-        Ok(Some(entry)) => match table.define(entry) {
-            Ok(()) => Ok(()),
-            Err(OutOfMemory) => Err(Stop::OutOfMemory),
-        },
+    match written(alloc, rest)? {
+        None => Err(refused(RefusalKind::BadDirective, line)),
+        Some(entry) => Ok(table.define(entry)?),
     }
 }
 
@@ -51,10 +47,9 @@ fn define(alloc: Global, table: &mut Table, line: u32, rest: &Pieces) -> Result<
 fn undefine(alloc: Global, table: &mut Table, line: u32, rest: &Pieces) -> Result<(), Stop>
     ensures { CountsAs result table.new (undefines table.old line rest.now) }
 {
-    match one_word(alloc, rest) {
-        Err(OutOfMemory) => Err(Stop::OutOfMemory),
-        Ok(None) => Err(refused(RefusalKind::BadDirective, line)),
-        Ok(Some(name)) => {
+    match one_word(alloc, rest)? {
+        None => Err(refused(RefusalKind::BadDirective, line)),
+        Some(name) => {
             table.undefine(name.as_bytes());
             Ok(())
         }
@@ -79,10 +74,9 @@ fn open_named(
 ) -> Result<(), Stop>
     ensures { CountsAs result conditions.new (opens_named table.now conditions.old line rest.now wanted) }
 {
-    match one_word(alloc, rest) {
-        Err(OutOfMemory) => Err(Stop::OutOfMemory),
-        Ok(None) => Err(refused(RefusalKind::BadDirective, line)),
-        Ok(Some(name)) => {
+    match one_word(alloc, rest)? {
+        None => Err(refused(RefusalKind::BadDirective, line)),
+        Some(name) => {
             let is = table.place_in(name.as_bytes()).is_some();
             conditions.open(line, true, is_as_wanted(wanted, is))
         }
@@ -151,10 +145,8 @@ impl Expander {
     fn obey(&mut self, alloc: Global, line: u32, body: &Pieces) -> Result<(), Stop>
         ensures { CountsAs result self.new (obeys self.old line body.now) }
     {
-        match stripped_from(alloc, body, body.len().min(1)) {
-            Err(OutOfMemory) => Err(Stop::OutOfMemory),
-            Ok(rest) => self.obeyed(alloc, line, &rest, directive_of(body)),
-        }
+        let rest = stripped_from(alloc, body, body.len().min(1))?;
+        self.obeyed(alloc, line, &rest, directive_of(body))
     }
 
     // Gives the lines that wait, expanded.
@@ -230,10 +222,8 @@ impl Expander {
         ensures end { IfOk result (λ n. n ≡ end) }
     {
         self.flush_lines(alloc)?;
-        match body_between(alloc, text, sign + 1, end) {
-            Err(OutOfMemory) => Err(Stop::OutOfMemory),
-            Ok(body) => self.directed(alloc, text, at, end, text.line(sign), &body),
-        }
+        let body = body_between(alloc, text, sign + 1, end)?;
+        self.directed(alloc, text, at, end, text.line(sign), &body)
     }
 
     // Reads the line that begins at a place: the place behind it.
@@ -247,10 +237,8 @@ impl Expander {
         match mark_in(text, at) {
             None => {
                 let end = at + line_len(text, at, false);
-                match self.lines.append_between(text, at, end) {
-                    Ok(()) => Ok(end),
-                    Err(OutOfMemory) => Err(Stop::OutOfMemory),
-                }
+                self.lines.append_between(text, at, end)?;
+                Ok(end)
             }
             Some(n) => {
                 let end = at + n + line_len(text, at + n, true);
@@ -336,11 +324,6 @@ pub fn expand(alloc: Global, text: &[u8]) -> Result<PlainText, Stop>
     requires { length text.now ≤ 16777216 }
     ensures { Reads result (expanded text.now) }
 {
-    match text_pieces(alloc, text) {
-        Err(OutOfMemory) => Err(Stop::OutOfMemory),
-        Ok(pieces) => match start(alloc) {
-            Err(OutOfMemory) => Err(Stop::OutOfMemory),
-            Ok(expander) => expand_pieces(alloc, &pieces, expander),
-        },
-    }
+    let pieces = text_pieces(alloc, text)?;
+    expand_pieces(alloc, &pieces, start(alloc)?)
 }

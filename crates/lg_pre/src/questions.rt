@@ -207,13 +207,13 @@ fn whole_value(kind: TokenKind, end: usize, len: usize, value: u64) -> Option<u6
 fn is_chosen(alloc: Global, line: u32, pieces: &Pieces) -> Result<bool, Stop>
     ensures { Reads result (is_chosen line (worth_of pieces.now)) }
 {
-    match token_text(alloc, pieces) {
-        Err(OutOfMemory) => Err(Stop::OutOfMemory),
-        Ok(text) if text.len() > MOST_TEXT => Err(Stop::OutOfMemory),
-        Ok(text) => match value_in(text.as_bytes()) {
-            None => Err(refused(RefusalKind::BadDirective, line)),
-            Some(value) => Ok(value != 0),
-        },
+    let text = token_text(alloc, pieces)?;
+    if text.len() > MOST_TEXT {
+        return Err(Stop::OutOfMemory);
+    }
+    match value_in(text.as_bytes()) {
+        None => Err(refused(RefusalKind::BadDirective, line)),
+        Some(value) => Ok(value != 0),
     }
 }
 
@@ -251,12 +251,8 @@ fn question(
         room: MOST_HELD,
     };
     let mut out = Pieces::new(alloc);
-    match resolved(alloc, table, pieces) {
-        Err(OutOfMemory) => Err(Stop::OutOfMemory),
-        Ok(resolved) => {
-            expand(table, &mut work, &resolved, line, 201, &mut out)?;
-            *sum = work.sum;
-            Ok(out)
-        }
-    }
+    let resolved = resolved(alloc, table, pieces)?;
+    expand(table, &mut work, &resolved, line, 201, &mut out)?;
+    *sum = work.sum;
+    Ok(out)
 }
