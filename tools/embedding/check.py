@@ -3,7 +3,7 @@
 of its second half stand in the crates that they are of.
 
 A block ```sh has the commands, ```rust demo the program, ```out demo what it prints; ```rust of PATH a piece of that file, without its margin, and ```text the text that
-crates/stack_program runs. The crate is made in a copy of crates/ and crates.txt, in a folder of its own, and run by `rt try`. With --pieces only the pieces are compared.
+crates/languages_program runs. The crate is made in a copy of crates/ and crates.txt, in a folder of its own, and run by `rt try`. With --pieces only the pieces are compared.
 """
 import pathlib
 import re
@@ -39,7 +39,7 @@ for head, text in blocks:
         if not stands_in(text.rstrip("\n").split("\n"), path):
             wrong += 1
             print(f"{path}: not there: {text.splitlines()[0]}")
-if one("text") != (root / "crates" / "stack_program" / "data" / "program.txt").read_text():
+if one("text") != (root / "crates" / "languages_program" / "data" / "program.txt").read_text():
     wrong += 1
     print("the text is another one")
 

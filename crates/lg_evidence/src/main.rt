@@ -1,10 +1,12 @@
 // Compares the tables and the models of the processors with evidence from outside, the files of
 // `data`: what assemblers make of each instruction, bytes that are no instruction, runs of a few steps, and
 // whole programs. Prints a line for each file, and first, for each of up to twenty lines that differ, the
-// line and what was found in its place. Each line of the files whose names begin with `wrong` is to differ.
+// line and what was found in its place. Each line of the files whose names begin with `wrong` is to differ. Then it runs any bytes as code
+// on each model (`any_code`), and prints what these runs come to.
 #![tactic(auto)]
 
 mod aarch64;
+mod any_code;
 mod case;
 mod check;
 mod processor;
@@ -16,6 +18,7 @@ mod vector;
 mod x86_64;
 
 use aarch64::Aarch64;
+use any_code::run_any_code;
 use check::{Lines, check_file};
 use lg_base::Target;
 use programs::check_programs;
@@ -44,5 +47,6 @@ fn main(rt: HostRuntime) -> io::Result<()> {
     }
     check_file::<Riscv64>(&rt, "wrong_encode_riscv64.tsv", Lines::Spelled)?;
     check_file::<Riscv64>(&rt, "wrong_decode_none_riscv64.tsv", Lines::Refused)?;
-    check_steps(&rt, "wrong_step_riscv64.tsv", Target::Riscv64)
+    check_steps(&rt, "wrong_step_riscv64.tsv", Target::Riscv64)?;
+    run_any_code(&rt)
 }

@@ -1,7 +1,6 @@
 // Runs any bytes as code on each of the modelled processors: for each target 10,000 buffers of up to 64 bytes of a fixed generator, and 10,000 of code of which
 // one to four bytes were changed, at most 1,000 steps each. Each run comes to an answer by name, which ten more calls repeat. Prints for each
 // target how many runs came to what.
-#![tactic(auto)]
 
 mod bytes;
 mod runs;
@@ -39,7 +38,8 @@ fn print(rt: &HostRuntime, name: &str, outcome: &Outcome) -> io::Result<()> {
     println!(rt; "{name}: {steps} steps, {changed} answers changed, sum {sum}")
 }
 
-fn main(rt: HostRuntime) -> io::Result<()> {
+/// Runs any bytes on each processor, and prints what the runs came to.
+pub fn run_any_code(rt: &HostRuntime) -> io::Result<()> {
     let targets = [
         (Target::X86_64, "x86_64"),
         (Target::Aarch64, "aarch64"),
@@ -47,7 +47,7 @@ fn main(rt: HostRuntime) -> io::Result<()> {
     ];
     for (target, name) in targets {
         match run_target(rt.alloc(), target) {
-            Ok(outcome) => print(&rt, name, &outcome)?,
+            Ok(outcome) => print(rt, name, &outcome)?,
             Err(OutOfMemory) => println!(rt; "{name}: out of memory")?,
         }
     }

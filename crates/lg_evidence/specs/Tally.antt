@@ -3,7 +3,7 @@ use Rattle.lg_base.specs.declared.fault.FaultKind.TheVariants.{Fetch, Decode, Me
 use Rattle.lg_cpu.specs.declared.answer.CpuStep.{CpuStep}
 use Rattle.lg_cpu.specs.declared.answer.CpuStep.TheVariants.{Went, Ended, Fault, WriteFault}
 use Rattle.lg_tally.specs.Counts.{one_more}
-use Rattle.lg_test_any_code.specs.declared.tally.Tally.{Tally}
+use Rattle.lg_evidence.specs.declared.any_code.tally.Tally.{Tally}
 
 abbrev pub counted : CpuStep → Tally → Tally
 counted Went t = record t { went_on = one_more t.went_on }

@@ -1,7 +1,7 @@
 // What runs came to, counted.
 
 ghost use Rattle.std.specs.Prelude.{◌≡◌};
-ghost use Rattle.lg_test_any_code.specs.Tally.{counted};
+ghost use Rattle.lg_evidence.specs.Tally.{counted};
 
 use lg_base::FaultKind;
 use lg_cpu::CpuStep;

@@ -2,9 +2,9 @@
 
 ghost use Rattle.std.specs.Prelude.{◌≤◌, length};
 
-use crate::bytes::{MOST, any, changed};
-use crate::seeds::seed;
-use crate::tally::Tally;
+use super::bytes::{MOST, any, changed};
+use super::seeds::seed;
+use super::tally::Tally;
 use lg_base::{ArgImage, CodeBytes, DataImage, OutOfMemory, Target};
 use lg_cpu::{Cpu, CpuStep};
 use lg_io::MemorySink;

@@ -1,0 +1,24 @@
+// Compiles texts of two small languages to machine code, and runs it on the three processors: how a program uses the assembler without the command and its
+// texts. `expressions` has a language of expressions, `stack` one with functions, loops and recursion. For each text it prints what each target's code
+// writes for each argument; at last the listing of one expression, and what is wrong with texts that are none.
+#![tactic(auto)]
+
+mod code;
+mod expressions;
+mod run;
+mod stack;
+mod targets;
+
+use expressions::{list_expression, run_expressions};
+use stack::{print_faults, run_program};
+use std::{fs, io};
+
+fn main(rt: HostRuntime) -> io::Result<()> {
+    let lines = fs::read_to_string(&rt, "expressions.txt")?;
+    run_expressions(&rt, lines.as_str())?;
+    let text = fs::read_to_string(&rt, "program.txt")?;
+    run_program(&rt, text.as_str(), "0 1 5 20")?;
+    list_expression(&rt, "x * x + 1")?;
+    let faults = fs::read_to_string(&rt, "faults.txt")?;
+    print_faults(&rt, faults.as_str())
+}
