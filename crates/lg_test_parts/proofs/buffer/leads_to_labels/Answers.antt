@@ -4,7 +4,7 @@ use Rattle.lg_buf.specs.declared.fixes.FixKind.TheVariants.{RvBranch}
 use Rattle.lg_buf.specs.declared.fixes.Fix.{Fix}
 use Rattle.lg_buf.specs.Buffers.{Buffer, IsReady}
 use Rattle.lg_buf.proofs.ReadyLemmas.{ready_one, ready_push}
-use Rattle.lg_test_targets.proofs.buffer.leads_to_labels.Goals as goal
+use Rattle.lg_test_parts.proofs.buffer.leads_to_labels.Goals as goal
 
 -- the labels, the fixes and the bytes
 abbrev Seen : Type 0
