@@ -1,8 +1,8 @@
-// Calls of the program. What the top call promises is for proofs, and of no use here: so each function that makes it only hands on its answer.
+// Calls of the program. What the top call promises is for proofs, and of no use here: so one function makes it, and hands on what it comes to.
 
 use lg_base::OutOfMemory;
-use lg_io::{MemorySink, MemoryTexts, StdTexts};
-use lg_run::{Answer, lightning};
+use lg_io::{MemorySink, MemoryTexts, StdTexts, Texts};
+use lg_run::{Answer, Done, lightning};
 use std::alloc::{AllocError, Global};
 use std::io::Input;
 use std::rt::Files;
@@ -41,15 +41,26 @@ pub struct Called {
     pub err: MemorySink,
 }
 
-// The answer of a call over the real files.
-fn answer_on_files(
-    rt: &(impl Files + Input + AllocGlobal),
+/// What a call over texts comes to: every call here is made by it.
+pub fn done_on<T: Texts>(
+    alloc: Global,
     words: &Vec<String>,
+    texts: &mut T,
+    out: &mut MemorySink,
+    err: &mut MemorySink,
+) -> Done {
+    lightning(alloc, words, texts, out, err)
+}
+
+/// The answer of a call over texts.
+pub fn answer_on<T: Texts>(
+    alloc: Global,
+    words: &Vec<String>,
+    texts: &mut T,
     out: &mut MemorySink,
     err: &mut MemorySink,
 ) -> Answer {
-    let mut texts = StdTexts::new(rt);
-    lightning(rt.alloc(), words, &mut texts, out, err).answer
+    done_on(alloc, words, texts, out, err).answer
 }
 
 /// What a call over the real files comes to, with so much room for its output.
@@ -60,19 +71,14 @@ pub fn call_on_files(
 ) -> Result<Called, OutOfMemory> {
     let mut out = MemorySink::new(rt.alloc(), room, &[])?;
     let mut err = MemorySink::new(rt.alloc(), ROOM, &[])?;
-    let answer = answer_on_files(rt, words, &mut out, &mut err);
+    let answer = answer_on(
+        rt.alloc(),
+        words,
+        &mut StdTexts::new(rt),
+        &mut out,
+        &mut err,
+    );
     Ok(Called { answer, out, err })
-}
-
-/// The answer of a call over texts in memory.
-pub fn answer_on_texts(
-    alloc: Global,
-    words: &Vec<String>,
-    texts: &mut MemoryTexts,
-    out: &mut MemorySink,
-    err: &mut MemorySink,
-) -> Answer {
-    lightning(alloc, words, texts, out, err).answer
 }
 
 /// Calls that fail, by their numbers from 1 on, or 0 for none: of the texts, of the standard output and of the standard error; and how many bytes the
@@ -104,6 +110,6 @@ pub fn call_on_text(
     texts.add(name, text)?;
     let mut out = MemorySink::new(alloc, faults.room, &[faults.write])?;
     let mut err = MemorySink::new(alloc, ROOM, &[faults.line])?;
-    let answer = answer_on_texts(alloc, words, &mut texts, &mut out, &mut err);
+    let answer = answer_on(alloc, words, &mut texts, &mut out, &mut err);
     Ok(Called { answer, out, err })
 }

@@ -5,12 +5,12 @@ ghost use Rattle.std.specs.Prelude.{◌<◌, ◌≤◌, length, IfOk};
 ghost use Rattle.lg_base.specs.Arguments.{most_args};
 ghost use Rattle.lg_test_calls.specs.Made.{CanRun};
 
-use crate::call::words_of;
-use lg_asm::{Code, assemble};
-use lg_base::{ArgImage, OutOfMemory, Refusal, RefusalKind, Stop, Target, args_image};
+use crate::call::{done_on, words_of};
+use lg_asm::Code;
+use lg_base::{ArgImage, OutOfMemory, Stop, args_image};
 use lg_cpu::{Cpu, CpuStep};
-use lg_io::MemorySink;
-use lg_node::{Unit, check};
+use lg_io::{MemorySink, MemoryTexts};
+use lg_node::Unit;
 use lg_pre::expand;
 use lg_tst::parse;
 use std::alloc::Global;
@@ -18,8 +18,10 @@ use std::alloc::Global;
 // The most bytes of a text.
 const MOST_TEXT: usize = 16_777_216;
 
-// The most bytes of code.
+// The most bytes of code, and of a data part.
 const MOST_CODE: u32 = 1_048_576;
+
+const MOST_DATA: u32 = 16_777_216;
 
 // What registers hold at first. Code runs the same whatever it is.
 const ANYTHING: u64 = 0x5A5A_5A5A_5A5A_5A5A;
@@ -40,29 +42,41 @@ pub struct Made {
     pub code: Code,
 }
 
-// The code of an expanded text.
-fn make_of(alloc: Global, text: &[u8], target: Target) -> Result<Made, Stop>
-    requires { length text.now ≤ 16777216 }
-    ensures { IfOk result CanRun }
-{
-    let unit = parse(alloc, text)?;
-    let shape = check(alloc, &unit)?;
-    let code = assemble(alloc, &unit, &shape, target, MOST_CODE)?;
-    Ok(Made { unit, code })
-}
-
-// Expands, reads, checks and assembles a text of at most 16,777,216 bytes.
-fn make(alloc: Global, text: &[u8], target: Target) -> Result<Made, Stop>
-    ensures { IfOk result CanRun }
-{
+// The unit of a text of at most 16,777,216 bytes.
+fn unit_of(alloc: Global, text: &[u8]) -> Result<Unit, Stop> {
     if text.len() > MOST_TEXT {
-        return Err(Stop::Refused(Refusal {
-            kind: RefusalKind::TextTooLong,
-            line: 0,
-        }));
+        return Err(Stop::OutOfMemory);
     }
     let expanded = expand(alloc, text)?;
-    make_of(alloc, expanded.as_bytes(), target)
+    parse(alloc, expanded.as_bytes())
+}
+
+// The words of a call that takes one step of a text's code for a target.
+fn step_words(alloc: Global, target: &str) -> Result<Vec<String>, OutOfMemory> {
+    let line = format!(in alloc; "lightning --steps 1 --target {target} t.tst")?;
+    words_of(alloc, line.as_str(), "")
+}
+
+// The code of a text for a target, by such a call.
+fn code_of(alloc: Global, target: &str, text: &[u8]) -> Result<Code, Stop> {
+    let words = step_words(alloc, target)?;
+    let mut texts = MemoryTexts::new(alloc, &[])?;
+    texts.add("t.tst", text)?;
+    let mut out = MemorySink::new(alloc, ROOM, &[])?;
+    let mut err = MemorySink::new(alloc, ROOM, &[])?;
+    done_on(alloc, &words, &mut texts, &mut out, &mut err)
+        .code
+        .ok_or(Stop::OutOfMemory)
+}
+
+// A unit and its code, where they fit the memory.
+fn made_of(unit: Unit, code: Code) -> Result<Made, Stop>
+    ensures { IfOk result CanRun }
+{
+    if code.bytes().len() > MOST_CODE || unit.image.len() > MOST_DATA {
+        return Err(Stop::OutOfMemory);
+    }
+    Ok(Made { unit, code })
 }
 
 // A target's stack: the number of its pointer's register, and how many bytes below it count.
@@ -72,33 +86,16 @@ struct Stack {
     zone: u64,
 }
 
-// The target of a word, and where its stack is.
-fn target_of(word: &str) -> (Target, Stack)
-    ensures { result.1.pointer < 32 }
+// Where the stack of a target is, by its word.
+fn stack_of(word: &str) -> Stack
+    ensures { result.pointer < 32 }
 {
-    match word {
-        "x86_64" => (
-            Target::X86_64,
-            Stack {
-                pointer: 4,
-                zone: 128,
-            },
-        ),
-        "aarch64" => (
-            Target::Aarch64,
-            Stack {
-                pointer: 31,
-                zone: 0,
-            },
-        ),
-        _ => (
-            Target::Riscv64,
-            Stack {
-                pointer: 2,
-                zone: 0,
-            },
-        ),
-    }
+    let (pointer, zone) = match word {
+        "x86_64" => (4, 128),
+        "aarch64" => (31, 0),
+        _ => (2, 0),
+    };
+    Stack { pointer, zone }
 }
 
 // What a run wrote, and its last step's answer: `Went` where the most steps were taken.
@@ -177,8 +174,8 @@ fn args_of(alloc: Global, further: &str) -> Result<ArgImage, Stop>
 /// Whether the code of a text for a target, with words behind its name, writes the same bytes and ends in the same way where its stack is disturbed as where
 /// it is not.
 pub fn is_alike(alloc: Global, target: &str, text: &[u8], further: &str) -> Result<bool, Stop> {
-    let (target, stack) = target_of(target);
-    let made = make(alloc, text, target)?;
+    let stack = stack_of(target);
+    let made = made_of(unit_of(alloc, text)?, code_of(alloc, target, text)?)?;
     let args = args_of(alloc, further)?;
     let still = run_anew(alloc, &made, &args, stack, false)?;
     let disturbed = run_anew(alloc, &made, &args, stack, true)?;

@@ -1,11 +1,11 @@
 // What no case of a table has: texts beside the one that is asked for, a line that no call here comes to, the labels of code, and all beginnings of a text.
 
-use crate::call::{answer_on_texts, words_of};
+use crate::call::{answer_on, done_on, words_of};
 use crate::tally::{LISTED, REFUSED, Tally, count_call};
 use crate::texts::{first_letter, kept_registers, wrapped_sum};
 use lg_base::OutOfMemory;
 use lg_io::{MemorySink, MemoryTexts, Texts};
-use lg_run::top::{lightning, report_words};
+use lg_run::top::report_words;
 use lg_run::{Answer, Done, status};
 use std::alloc::Global;
 use std::{fs, io};
@@ -28,7 +28,7 @@ fn comes_to(
     let words = words_of(alloc, "lightning t.tst", "")?;
     let mut out = MemorySink::new(alloc, 16, &[])?;
     let mut err = MemorySink::new(alloc, 64, &[])?;
-    let answer = answer_on_texts(alloc, &words, texts, &mut out, &mut err);
+    let answer = answer_on(alloc, &words, texts, &mut out, &mut err);
     Ok((status(&answer), out.bytes(), err.bytes()) == wanted)
 }
 
@@ -62,17 +62,6 @@ fn has_labels(done: Done) -> bool {
     }
 }
 
-// The same of the call of these words on these texts.
-fn call_has_labels(
-    alloc: Global,
-    words: &Vec<String>,
-    texts: &mut MemoryTexts,
-    out: &mut MemorySink,
-    err: &mut MemorySink,
-) -> bool {
-    has_labels(lightning(alloc, words, texts, out, err))
-}
-
 // Whether code has the addresses of the labels of its data part.
 fn gives_labels(alloc: Global) -> Result<bool, OutOfMemory> {
     let words = words_of(alloc, "lightning t.tst", "")?;
@@ -80,7 +69,7 @@ fn gives_labels(alloc: Global) -> Result<bool, OutOfMemory> {
     texts.add("t.tst", LABELS)?;
     let mut out = MemorySink::new(alloc, 16, &[])?;
     let mut err = MemorySink::new(alloc, 16, &[])?;
-    Ok(call_has_labels(alloc, &words, &mut texts, &mut out, &mut err))
+    Ok(has_labels(done_on(alloc, &words, &mut texts, &mut out, &mut err)))
 }
 
 // What the calls that list each beginning of a text come to.
