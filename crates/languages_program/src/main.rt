@@ -13,12 +13,22 @@ use expressions::{list_expression, run_expressions};
 use stack::{print_faults, run_program};
 use std::{fs, io};
 
+// Runs the expressions of a file, and writes the listing of one.
+fn work_expressions(rt: &HostRuntime) -> io::Result<()> {
+    let lines = fs::read_to_string(rt, "expressions.txt")?;
+    run_expressions(rt, lines.as_str())?;
+    list_expression(rt, "x * x + 1")
+}
+
+// Runs the program of a file, and prints what is wrong with the texts of another.
+fn work_programs(rt: &HostRuntime) -> io::Result<()> {
+    let text = fs::read_to_string(rt, "program.txt")?;
+    run_program(rt, text.as_str(), "0 1 5 20")?;
+    let faults = fs::read_to_string(rt, "faults.txt")?;
+    print_faults(rt, faults.as_str())
+}
+
 fn main(rt: HostRuntime) -> io::Result<()> {
-    let lines = fs::read_to_string(&rt, "expressions.txt")?;
-    run_expressions(&rt, lines.as_str())?;
-    let text = fs::read_to_string(&rt, "program.txt")?;
-    run_program(&rt, text.as_str(), "0 1 5 20")?;
-    list_expression(&rt, "x * x + 1")?;
-    let faults = fs::read_to_string(&rt, "faults.txt")?;
-    print_faults(&rt, faults.as_str())
+    work_expressions(&rt)?;
+    work_programs(&rt)
 }

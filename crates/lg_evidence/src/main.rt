@@ -34,19 +34,24 @@ const STEPS: [(Target, &str); 3] = [
     (Target::X86_64, "step_x86_64.tsv"),
 ];
 
-fn main(rt: HostRuntime) -> io::Result<()> {
-    check_file::<Aarch64>(&rt, "encode_aarch64.tsv", Lines::Spelled)?;
-    check_file::<Aarch64>(&rt, "decode_none_aarch64.tsv", Lines::Refused)?;
-    check_file::<Riscv64>(&rt, "encode_riscv64.tsv", Lines::Spelled)?;
-    check_file::<Riscv64>(&rt, "decode_none_riscv64.tsv", Lines::Refused)?;
-    check_file::<X86>(&rt, "encode_x86_64.tsv", Lines::Spelled)?;
-    check_file::<X86>(&rt, "decode_none_x86_64.tsv", Lines::Refused)?;
+// Compares each file of evidence.
+fn check_all(rt: &HostRuntime) -> io::Result<()> {
+    check_file::<Aarch64>(rt, "encode_aarch64.tsv", Lines::Spelled)?;
+    check_file::<Aarch64>(rt, "decode_none_aarch64.tsv", Lines::Refused)?;
+    check_file::<Riscv64>(rt, "encode_riscv64.tsv", Lines::Spelled)?;
+    check_file::<Riscv64>(rt, "decode_none_riscv64.tsv", Lines::Refused)?;
+    check_file::<X86>(rt, "encode_x86_64.tsv", Lines::Spelled)?;
+    check_file::<X86>(rt, "decode_none_x86_64.tsv", Lines::Refused)?;
     for (target, steps) in STEPS {
-        check_steps(&rt, steps, target)?;
-        check_programs(&rt, target)?;
+        check_steps(rt, steps, target)?;
+        check_programs(rt, target)?;
     }
-    check_file::<Riscv64>(&rt, "wrong_encode_riscv64.tsv", Lines::Spelled)?;
-    check_file::<Riscv64>(&rt, "wrong_decode_none_riscv64.tsv", Lines::Refused)?;
-    check_steps(&rt, "wrong_step_riscv64.tsv", Target::Riscv64)?;
+    check_file::<Riscv64>(rt, "wrong_encode_riscv64.tsv", Lines::Spelled)?;
+    check_file::<Riscv64>(rt, "wrong_decode_none_riscv64.tsv", Lines::Refused)?;
+    check_steps(rt, "wrong_step_riscv64.tsv", Target::Riscv64)
+}
+
+fn main(rt: HostRuntime) -> io::Result<()> {
+    check_all(&rt)?;
     run_any_code(&rt)
 }

@@ -116,6 +116,16 @@ fn stays(cpu: &mut Cpu, out: &mut MemorySink, answer: CpuStep) -> bool {
 }
 
 impl Outcome {
+    // No runs.
+    fn new() -> Outcome {
+        Outcome {
+            tally: Tally::new(),
+            steps: 0,
+            sum: 0,
+            changed: 0,
+        }
+    }
+
     // Runs these bytes from their first on, and counts what they come to.
     fn add(&mut self, alloc: Global, cpu: &mut Cpu, code: &[u8]) -> Result<(), OutOfMemory>
         requires { length code.now ≤ 64 }
@@ -133,33 +143,58 @@ impl Outcome {
         }
         Ok(())
     }
+
+    // Runs any bytes, with operands in the registers.
+    fn add_any(
+        &mut self,
+        alloc: Global,
+        cpu: &mut Cpu,
+        start: &Start,
+        random: &mut Random,
+    ) -> Result<(), OutOfMemory> {
+        for _ in 0..RUNS {
+            start.set(cpu);
+            set_operands(cpu, random);
+            let bytes = any(random);
+            let len = random.below(MOST + 1);
+            self.add(alloc, cpu, &bytes[..len])?;
+        }
+        Ok(())
+    }
+
+    // Runs changed code, from the start's registers.
+    fn add_changed(
+        &mut self,
+        alloc: Global,
+        cpu: &mut Cpu,
+        start: &Start,
+        target: Target,
+        random: &mut Random,
+    ) -> Result<(), OutOfMemory> {
+        for round in 0..RUNS {
+            start.set(cpu);
+            let bytes = changed(random, seed(target, round % 2 == 1));
+            self.add(alloc, cpu, &bytes)?;
+        }
+        Ok(())
+    }
+}
+
+// A processor of a target before its first step.
+fn processor_of(alloc: Global, target: Target) -> Result<Cpu, OutOfMemory> {
+    let code = CodeBytes::of(alloc, &[])?;
+    let image = DataImage::of(alloc, &[0; 64])?;
+    let args = ArgImage::of(alloc, &ARGS)?;
+    Cpu::new(alloc, target, &code, &image, &args, 0x5a5a_5a5a_5a5a_5a5a)
 }
 
 /// Makes the runs of a target: over any bytes with operands in the registers, and over changed code from the start's registers.
 pub fn run_target(alloc: Global, target: Target) -> Result<Outcome, OutOfMemory> {
-    let code = CodeBytes::of(alloc, &[])?;
-    let image = DataImage::of(alloc, &[0; 64])?;
-    let args = ArgImage::of(alloc, &ARGS)?;
-    let mut cpu = Cpu::new(alloc, target, &code, &image, &args, 0x5a5a_5a5a_5a5a_5a5a)?;
+    let mut cpu = processor_of(alloc, target)?;
     let start = Start::of(&cpu);
     let mut random = Random { state: 1 };
-    let mut outcome = Outcome {
-        tally: Tally::new(),
-        steps: 0,
-        sum: 0,
-        changed: 0,
-    };
-    for _ in 0..RUNS {
-        start.set(&mut cpu);
-        set_operands(&mut cpu, &mut random);
-        let bytes = any(&mut random);
-        let len = random.below(MOST + 1);
-        outcome.add(alloc, &mut cpu, &bytes[..len])?;
-    }
-    for round in 0..RUNS {
-        start.set(&mut cpu);
-        let bytes = changed(&mut random, seed(target, round % 2 == 1));
-        outcome.add(alloc, &mut cpu, &bytes)?;
-    }
+    let mut outcome = Outcome::new();
+    outcome.add_any(alloc, &mut cpu, &start, &mut random)?;
+    outcome.add_changed(alloc, &mut cpu, &start, target, &mut random)?;
     Ok(outcome)
 }
