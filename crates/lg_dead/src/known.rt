@@ -7,20 +7,27 @@ ghost use Rattle.lg_live.specs.Registers.{is_same};
 ghost use Rattle.lg_live.specs.RegSets.{has};
 ghost use Rattle.lg_live.specs.Uses.{is_written};
 ghost use Rattle.lg_dead.specs.Known.{is_movi, number_in, known_behind, moved_number, or_else};
-ghost use Rattle.lg_dead.specs.Tables.{known_of};
+ghost use Rattle.lg_dead.specs.Tables.{in_numbers, known_of};
 
 use lg_live::{RegSet, writes};
 use lg_op::{Node, Op, Operand, PlainOp, Reg};
 
-/// Of each register the number that it is known to hold.
+// Of each register the number that it is known to hold.
 #[derive(Clone, Copy)]
-pub struct Known {
+struct Numbers {
     r0: Option<u64>,
     r1: Option<u64>,
     r2: Option<u64>,
     v0: Option<u64>,
     v1: Option<u64>,
     v2: Option<u64>,
+}
+
+/// Of each register the number that it is known to hold.
+#[derive(Clone, Copy)]
+pub struct Known {
+    // None only where nothing is known.
+    numbers: Option<Numbers>,
 }
 
 // Whether both are one register, other than FP.
@@ -61,39 +68,79 @@ fn behind(node: &Node, written: RegSet, register: Reg, known: Option<u64>) -> Op
     }
 }
 
+// No numbers.
+const NONE: Numbers = Numbers {
+    r0: None,
+    r1: None,
+    r2: None,
+    v0: None,
+    v1: None,
+    v2: None,
+};
+
+// The number of a register. FP is never known.
+fn number_of(numbers: &Numbers, register: Reg) -> Option<u64>
+    ensures { result ≡ in_numbers numbers.now register }
+{
+    match register {
+        Reg::R0 => numbers.r0,
+        Reg::R1 => numbers.r1,
+        Reg::R2 => numbers.r2,
+        Reg::V0 => numbers.v0,
+        Reg::V1 => numbers.v1,
+        Reg::V2 => numbers.v2,
+        Reg::Fp => None,
+    }
+}
+
+// What is known behind a node, register by register.
+fn behind_each(numbers: &Numbers, node: &Node) -> Numbers
+    ensures r0 { in_numbers result R0 ≡ known_behind (in_numbers numbers.now) node.now R0 }
+    ensures r1 { in_numbers result R1 ≡ known_behind (in_numbers numbers.now) node.now R1 }
+    ensures r2 { in_numbers result R2 ≡ known_behind (in_numbers numbers.now) node.now R2 }
+    ensures v0 { in_numbers result V0 ≡ known_behind (in_numbers numbers.now) node.now V0 }
+    ensures v1 { in_numbers result V1 ≡ known_behind (in_numbers numbers.now) node.now V1 }
+    ensures v2 { in_numbers result V2 ≡ known_behind (in_numbers numbers.now) node.now V2 }
+{
+    let written = writes(node);
+    Numbers {
+        r0: behind(node, written, Reg::R0, numbers.r0),
+        r1: behind(node, written, Reg::R1, numbers.r1),
+        r2: behind(node, written, Reg::R2, numbers.r2),
+        v0: behind(node, written, Reg::V0, numbers.v0),
+        v1: behind(node, written, Reg::V1, numbers.v1),
+        v2: behind(node, written, Reg::V2, numbers.v2),
+    }
+}
+
 impl Known {
     /// Nothing is known.
     pub fn none() -> Known
         ensures { (r : Reg) → known_of result r ≡ None }
     {
-        Known {
-            r0: None,
-            r1: None,
-            r2: None,
-            v0: None,
-            v1: None,
-            v2: None,
-        }
+        Known { numbers: None }
+    }
+
+    /// Whether nothing is known.
+    pub fn is_none(&self) -> bool
+        ensures { result ≡ true → self.now.numbers ≡ None }
+    {
+        self.numbers.is_none()
     }
 
     /// The number of a register. FP is never known.
-    pub fn of(self, register: Reg) -> Option<u64>
-        ensures { result ≡ known_of self register }
+    pub fn of(&self, register: Reg) -> Option<u64>
+        ensures { result ≡ known_of self.now register }
     {
-        match register {
-            Reg::R0 => self.r0,
-            Reg::R1 => self.r1,
-            Reg::R2 => self.r2,
-            Reg::V0 => self.v0,
-            Reg::V1 => self.v1,
-            Reg::V2 => self.v2,
-            Reg::Fp => None,
+        match &self.numbers {
+            Some(numbers) => number_of(numbers, register),
+            None => None,
         }
     }
 
     /// The number that an operand is known to give.
-    pub fn number_in(self, operand: Operand) -> Option<u64>
-        ensures { result ≡ number_in (known_of self) operand }
+    pub fn number_in(&self, operand: Operand) -> Option<u64>
+        ensures { result ≡ number_in (known_of self.now) operand }
     {
         match operand {
             Operand::Reg(register) => self.of(register),
@@ -102,57 +149,37 @@ impl Known {
         }
     }
 
-    // Whether nothing is known.
-    fn is_none(self) -> bool
-        ensures r0 { result ≡ true → self.r0 ≡ None }
-        ensures r1 { result ≡ true → self.r1 ≡ None }
-        ensures r2 { result ≡ true → self.r2 ≡ None }
-        ensures v0 { result ≡ true → self.v0 ≡ None }
-        ensures v1 { result ≡ true → self.v1 ≡ None }
-        ensures v2 { result ≡ true → self.v2 ≡ None }
+    // Goes on behind a node, register by register.
+    #[inline(never)]
+    fn pass_each(&mut self, node: &Node)
+        ensures r0 { known_of self.new R0 ≡ known_behind (known_of self.old) node.now R0 }
+        ensures r1 { known_of self.new R1 ≡ known_behind (known_of self.old) node.now R1 }
+        ensures r2 { known_of self.new R2 ≡ known_behind (known_of self.old) node.now R2 }
+        ensures v0 { known_of self.new V0 ≡ known_behind (known_of self.old) node.now V0 }
+        ensures v1 { known_of self.new V1 ≡ known_behind (known_of self.old) node.now V1 }
+        ensures v2 { known_of self.new V2 ≡ known_behind (known_of self.old) node.now V2 }
     {
-        self.r0.is_none()
-            && self.r1.is_none()
-            && self.r2.is_none()
-            && self.v0.is_none()
-            && self.v1.is_none()
-            && self.v2.is_none()
+        let numbers = match &self.numbers {
+            Some(numbers) => behind_each(numbers, node),
+            None => behind_each(&NONE, node),
+        };
+        self.numbers = Some(numbers);
     }
 
-    // What is known behind a node, register by register.
-    fn behind_each(self, node: &Node) -> Known
-        ensures r0 { known_of result R0 ≡ known_behind (known_of self) node.now R0 }
-        ensures r1 { known_of result R1 ≡ known_behind (known_of self) node.now R1 }
-        ensures r2 { known_of result R2 ≡ known_behind (known_of self) node.now R2 }
-        ensures v0 { known_of result V0 ≡ known_behind (known_of self) node.now V0 }
-        ensures v1 { known_of result V1 ≡ known_behind (known_of self) node.now V1 }
-        ensures v2 { known_of result V2 ≡ known_behind (known_of self) node.now V2 }
-    {
-        let written = writes(node);
-        Known {
-            r0: behind(node, written, Reg::R0, self.r0),
-            r1: behind(node, written, Reg::R1, self.r1),
-            r2: behind(node, written, Reg::R2, self.r2),
-            v0: behind(node, written, Reg::V0, self.v0),
-            v1: behind(node, written, Reg::V1, self.v1),
-            v2: behind(node, written, Reg::V2, self.v2),
-        }
-    }
-
-    /// What is known behind a node of the straight run: where nothing was known, only a `movi` makes something known.
+    /// Goes on behind a node of the straight run: where nothing was known, only a `movi` makes something known.
+    #[inline(always)]
     #[tactic(auto, using(crate::proofs::NoneLemmas::none_behind))]
-    pub fn behind(self, node: &Node) -> Known
-        ensures r0 { known_of result R0 ≡ known_behind (known_of self) node.now R0 }
-        ensures r1 { known_of result R1 ≡ known_behind (known_of self) node.now R1 }
-        ensures r2 { known_of result R2 ≡ known_behind (known_of self) node.now R2 }
-        ensures v0 { known_of result V0 ≡ known_behind (known_of self) node.now V0 }
-        ensures v1 { known_of result V1 ≡ known_behind (known_of self) node.now V1 }
-        ensures v2 { known_of result V2 ≡ known_behind (known_of self) node.now V2 }
+    pub fn pass(&mut self, node: &Node)
+        ensures r0 { known_of self.new R0 ≡ known_behind (known_of self.old) node.now R0 }
+        ensures r1 { known_of self.new R1 ≡ known_behind (known_of self.old) node.now R1 }
+        ensures r2 { known_of self.new R2 ≡ known_behind (known_of self.old) node.now R2 }
+        ensures v0 { known_of self.new V0 ≡ known_behind (known_of self.old) node.now V0 }
+        ensures v1 { known_of self.new V1 ≡ known_behind (known_of self.old) node.now V1 }
+        ensures v2 { known_of self.new V2 ≡ known_behind (known_of self.old) node.now V2 }
     {
-        if self.is_none() && !is_movi(node.op) {
-            self
-        } else {
-            self.behind_each(node)
+        match &self.numbers {
+            None if !is_movi(node.op) => {}
+            _ => self.pass_each(node),
         }
     }
 }

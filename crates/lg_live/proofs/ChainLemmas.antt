@@ -1,6 +1,6 @@
 -- The points that jump to a point, from the last to the first.
 use Rattle.std.proofs.Common.{◌≡◌, ⊎_elim, ℕ, zero, suc, ◌<◌, ◌≤◌, Bool, true, false, List, Option, Some, None, refl, sym, ap, ◌∙◌, subst, length, get_or, take, drop, replicate, ◌++◌, ◌∷◌, [], arith}
-use Rattle.std.specs.Prelude.{slice_set, ◌==◌, if◌then◌else◌, is_none, ◌&&◌}
+use Rattle.std.specs.Prelude.{slice_set, ◌==◌, if◌then◌else◌, is_none}
 use Rattle.std.specs.List.{list_all}
 use Rattle.std.proofs.lemmas.Bool.{cases_lt, eqb-true, eqb-false, and_parts}
 use Rattle.std.proofs.lemmas.Option.{same_Some}

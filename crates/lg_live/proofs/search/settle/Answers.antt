@@ -1,8 +1,7 @@
-use Rattle.std.proofs.Common.{◌≡◌, ◌<◌, ◌+◌, ◌++◌, ◌∷◌, [], ℕ, List, true, Some, inl, inr, length, refl, sym, ap, ◌∙◌, subst, arith}
+use Rattle.std.proofs.Common.{◌≡◌, ◌<◌, ◌+◌, ◌++◌, ◌∷◌, [], ℕ, List, true, Some, inl, inr, length, sym, subst, arith}
 use Rattle.std.specs.Prelude.{slice_set}
 use Rattle.lg_op.specs.declared.operand.Reg.{Reg}
 use Rattle.lg_live.specs.RegSets.{has}
-use Rattle.lg_live.specs.declared.reg_set.RegSet.{RegSet}
 use Rattle.lg_live.specs.Graphs.{point_at, passes, set_at}
 use Rattle.lg_live.specs.Searches.{state_of, IsSound, AreWantedAt, IsSwept}
 use Rattle.lg_live.proofs.SweepLemmas.{settled_by, queued_more, queued_here, within_more}
