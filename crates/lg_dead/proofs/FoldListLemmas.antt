@@ -25,11 +25,10 @@ use Rattle.lg_dead.proofs.FoldAcceptLemmas.{folded-accepted, functions-same}
 use Rattle.lg_node.proofs.FunctionLaws.{node_within}
 use Rattle.lg_opt.specs.Remaining.{moved_place}
 use Rattle.lg_dead.specs.declared.known.Known.{Known}
-use Rattle.lg_dead.specs.declared.known.Numbers.{Numbers}
 use Rattle.lg_dead.specs.Folds.{IsFoldedTo}
 use Rattle.lg_dead.specs.Known.{folded, none_known, moved_number, or_else, known_behind, known_at, known_before}
 use Rattle.lg_dead.specs.Lists.{with_nodes, AreFolded, AreBehind}
-use Rattle.lg_dead.specs.Tables.{known_in, known_of}
+use Rattle.lg_dead.specs.Tables.{known_of}
 
 get-left : (xs ys : List Node) (i : ℕ) → i < length xs → slice_get (xs ++ ys) i ≡ slice_get xs i
 get-left xs ys i lt =
@@ -107,11 +106,11 @@ no-move (op.Plain plain.Movi) (operand.Reg q ∷ operand.Number v ∷ []) = ap (
 no-move o xs = refl
 
 fp-none : (k : Known) → known_of k Fp ≡ None
-fp-none k = by k.numbers
+fp-none k = by k.some
   where
-    by : (o : Option Numbers) → known_in o Fp ≡ None
-    by None = refl
-    by (Some n) = refl
+    by : (b : Bool) → ◌≡◌ {A = Option ℕ} (if b then None else None) None
+    by true = refl
+    by false = refl
 
 pub all-registers : (f g : Known) (n : Node) → known_of g R0 ≡ known_at (known_of f) (Some n) R0 → known_of g R1 ≡ known_at (known_of f) (Some n) R1 → known_of g R2 ≡ known_at (known_of f) (Some n) R2
     → known_of g V0 ≡ known_at (known_of f) (Some n) V0 → known_of g V1 ≡ known_at (known_of f) (Some n) V1 → known_of g V2 ≡ known_at (known_of f) (Some n) V2 → (r : Reg) → known_of g r ≡ known_at (known_of f) (Some n) r
