@@ -20,6 +20,8 @@ use Rattle.lg_node.specs.declared.place.Place.{Place}
 use Rattle.lg_node.specs.declared.place.Place.TheVariants as place
 use Rattle.lg_node.specs.Labels.{is_labelled}
 use Rattle.lg_node.specs.Nodes.{LabelledNodes}
+use Rattle.lg_node.specs.Shapes.{TextShape, IsShapeOf}
+use Rattle.lg_dead.proofs.FoldAcceptLemmas.{folded-accepted, functions-same}
 use Rattle.lg_node.proofs.FunctionLaws.{node_within}
 use Rattle.lg_opt.specs.Remaining.{moved_place}
 use Rattle.lg_dead.specs.declared.known.Known.{Known}
@@ -103,6 +105,13 @@ no-move : (o : Op) (xs : List Operand) → moved_number o xs Fp ≡ None
 no-move (op.Plain plain.Movi) (operand.Reg q ∷ operand.Number v ∷ []) = ap (λ b. if b then Some v else None) (same-fp q)
 no-move o xs = refl
 
+fp-none : (k : Known) → known_of k Fp ≡ None
+fp-none k = by k.some
+  where
+    by : (b : Bool) → ◌≡◌ {A = Option ℕ} (if b then None else None) None
+    by true = refl
+    by false = refl
+
 pub all-registers : (f g : Known) (n : Node) → known_of g R0 ≡ known_at (known_of f) (Some n) R0 → known_of g R1 ≡ known_at (known_of f) (Some n) R1 → known_of g R2 ≡ known_at (known_of f) (Some n) R2
     → known_of g V0 ≡ known_at (known_of f) (Some n) V0 → known_of g V1 ≡ known_at (known_of f) (Some n) V1 → known_of g V2 ≡ known_at (known_of f) (Some n) V2 → (r : Reg) → known_of g r ≡ known_at (known_of f) (Some n) r
 all-registers f g n a b c d e h R0 = a
@@ -111,10 +120,10 @@ all-registers f g n a b c d e h R2 = c
 all-registers f g n a b c d e h V0 = d
 all-registers f g n a b c d e h V1 = e
 all-registers f g n a b c d e h V2 = h
-all-registers f g n a b c d e h Fp = by (leaps n.op)
+all-registers f g n a b c d e h Fp = fp-none g ∙ by (leaps n.op)
   where
     behind : None ≡ known_behind (known_of f) n Fp
-    behind = sym (ap (λ o. or_else o (if is_written n Fp then None else None)) (no-move n.op n.operands) ∙ if-none (is_written n Fp))
+    behind = sym (ap (λ o. or_else o (if is_written n Fp then None else known_of f Fp)) (no-move n.op n.operands) ∙ ap (λ o. if is_written n Fp then None else o) (fp-none f) ∙ if-none (is_written n Fp))
       where
         if-none : (b : Bool) → ◌≡◌ {A = Option ℕ} (if b then None else None) None
         if-none true = refl
@@ -138,3 +147,7 @@ places-kept (p ∷ ps) = ap (λ q. q ∷ map (moved_place (λ k. k)) ps) (one p)
 -- a whole list
 pub folded-to : (l m : LabelledNodes) (ns : List Node) → AreFolded l ns (length l.nodes) → m ≡ record l { nodes = ns } → IsFoldedTo l m
 folded-to l m ns are e = subst (IsFoldedTo l) (sym e) record { words = refl; places = refl; count = are.many; nodes = λ i n h. are.each i n (slice_get_within l.nodes i n h) h }
+
+-- the shape of the old nodes is theirs
+pub shape-kept : (l m : LabelledNodes) (s t : TextShape) → IsShapeOf l s → IsFoldedTo l m → t ≡ s → IsShapeOf m t
+shape-kept l m s t is to e = subst (IsShapeOf m) (sym e) record { accepted = folded-accepted l m is.accepted to; functions = is.functions ∙ sym (functions-same l m is.accepted to) }

@@ -1,6 +1,7 @@
 -- Rewritings one behind the other.
-use Rattle.std.proofs.Common.{◌≡◌, ℕ, ◌<◌, Bool, true, false, not, ◌||◌, List, [], Option, Some, None, ◌∷◌, length, map, refl, sym, ap, ◌∙◌, subst, arith, Ok, Err}
+use Rattle.std.proofs.Common.{◌≡◌, ℕ, zero, suc, ◌+◌, ◌-◌, ◌<◌, ◌≤◌, Bool, true, false, not, ◌||◌, List, [], Option, Some, None, ◌∷◌, length, map, refl, sym, ap, ◌∙◌, subst, arith, Ok, Err}
 use Rattle.std.specs.Prelude.{if◌then◌else◌, Result, IfOk, slice_get, slice_index}
+use Rattle.std.proofs.lemmas.List.{length-map, get_or-map}
 use Rattle.std.proofs.lemmas.Option.{slice_get_within, same_Some}
 use Rattle.lg_op.specs.declared.node.Node.{Node}
 use Rattle.lg_op.specs.declared.op.Op.{Op}
@@ -14,6 +15,7 @@ use Rattle.lg_opt.specs.Hops.{is_jump}
 use Rattle.lg_opt.specs.Moves.{is_movr}
 use Rattle.lg_opt.specs.Rewritings.{IsOrigin, IsSameNode, KeepsOthers, KeepsLabels}
 use Rattle.lg_opt.proofs.ClauseLemmas.{Joined, origins-join}
+use Rattle.lg_opt.proofs.RebuildLemmas.{same-lists}
 use Rattle.lg_dead.specs.Folds.{IsFoldedNode, IsFoldedTo, ComesFolded}
 use Rattle.lg_dead.specs.Known.{number_in, both_known, made, last_known, with_immediate, folded_by, folded, known_before}
 use Rattle.lg_op.specs.Operators.{sets_carry, binary_value}
@@ -111,3 +113,33 @@ module _ (l m n : LabelledNodes) (origin : List ℕ) (to : IsFoldedTo l m) where
 pub ok-two : {A E : Type 0} (P Q R : A → Type 0) (r : Result A E) → ((x : A) → P x → Q x → R x) → IfOk r P → IfOk r Q → IfOk r R
 ok-two P Q R (Ok x) f p q = f x p q
 ok-two P Q R (Err e) f p q = tt
+
+-- numbers below another that rise, as many as that, are all below it
+module _ (xs : List ℕ) (rises : (i k : ℕ) → i < k → k < length xs → slice_index xs i < slice_index xs k) (within : (k : ℕ) → k < length xs → slice_index xs k < length xs) where
+  not-less : (k : ℕ) → k < length xs → k ≤ slice_index xs k
+  not-less zero lt = omega arith
+  not-less (suc k) lt =
+      let low = not-less k (omega (arith, lt)) in
+      let up = rises k (suc k) (omega arith) lt in
+      omega (arith, low, up)
+
+  not-more : (d k : ℕ) → k + d + 1 ≡ length xs → slice_index xs k + d < length xs
+  not-more zero k e = let w = within k (omega (arith, e)) in omega (arith, w)
+  not-more (suc d) k e =
+      let next = not-more d (suc k) (omega (arith, e)) in
+      let up = rises k (suc k) (omega arith) (omega (arith, e)) in
+      omega (arith, next, up)
+
+  pub each-itself : (k : ℕ) → k < length xs → slice_index xs k ≡ k
+  each-itself k lt =
+      let low = not-less k lt in
+      let high = not-more (length xs - 1 - k) k (omega (arith, lt)) in
+      omega (arith, low, high, lt)
+
+pub all_kept : (first second : List ℕ) → length second ≡ length first → ((k : ℕ) → k < length second → slice_index second k < length first)
+    → ((i k : ℕ) → i < k → k < length second → slice_index second i < slice_index second k) → first ≡ map (slice_index first) second
+all_kept first second e within rises =
+    same-lists 0 first (map (slice_index first) second) (sym e ∙ sym (length-map second (slice_index first)))
+    (λ k lt.
+    let small : k < length second = omega (arith, lt, e) in
+    sym (get_or-map (slice_index first) second k 0 0 small ∙ ap (slice_index first) (each-itself second rises (λ j less. let w = within j less in omega (arith, w, e)) k small)))

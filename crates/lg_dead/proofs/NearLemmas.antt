@@ -1,5 +1,5 @@
 -- Steps of one text from states that differ in registers that are not needed.
-use Rattle.std.proofs.Common.{◌≡◌, ℕ, zero, suc, ◌+◌, ◌-◌, ◌⊎◌, inl, inr, Bool, true, false, ◌&&◌, ◌||◌, Option, Some, None, List, [], ◌∷◌, ◌++◌, refl, sym, ap, ◌∙◌, subst, ⊎_elim}
+use Rattle.std.proofs.Common.{◌≡◌, ℕ, zero, suc, ◌+◌, ◌-◌, ◌⊎◌, inl, inr, Bool, true, false, ◌&&◌, ◌||◌, Option, Some, None, List, [], ◌∷◌, ◌++◌, refl, sym, ap, ◌∙◌, subst}
 use Rattle.std.specs.Prelude.{nat_lt, nat_le, if◌then◌else◌, slice_get, slice_index_or}
 use Rattle.std.specs.Option.{option_and_then}
 use Rattle.lg_base.specs.Words.{add_words}
@@ -19,9 +19,6 @@ use Rattle.lg_op.specs.declared.operand.Reg.{Reg}
 use Rattle.lg_op.specs.declared.operand.Reg.TheVariants.{R0, R1, R2, V0, V1, V2, Fp}
 use Rattle.lg_op.specs.declared.op.Op.{Op}
 use Rattle.lg_op.specs.declared.op.Op.TheVariants as op
-use Rattle.lg_op.specs.declared.op.BinaryOp.{BinaryOp}
-use Rattle.lg_op.specs.declared.op.BranchSumOp.{BranchSumOp}
-use Rattle.lg_op.specs.declared.op.Condition.{Condition}
 use Rattle.lg_op.specs.declared.op.ControlOp.TheVariants as control
 use Rattle.lg_op.specs.declared.op.PlainOp.TheVariants as plain
 use Rattle.lg_op.specs.declared.op.LastOperand.{LastOperand}
@@ -29,18 +26,17 @@ use Rattle.lg_op.specs.declared.op.LastOperand.TheVariants as last_operand
 use Rattle.lg_op.specs.declared.op.Addressing.{Addressing}
 use Rattle.lg_op.specs.declared.op.Addressing.TheVariants as addressing
 use Rattle.lg_op.specs.declared.op.ValueType.{ValueType}
-use Rattle.lg_op.specs.declared.op.StoreType.{StoreType}
 use Rattle.lg_live.specs.declared.uses.Access.TheVariants as access
 use Rattle.lg_live.specs.Uses.{is_for, is_register, names, is_call}
 use Rattle.lg_node.specs.declared.function.Function.{Function}
 use Rattle.lg_node.specs.Functions.{frame_of}
 use Rattle.lg_cells.specs.Cells.{within}
-use Rattle.lg_cells.specs.Memories.{writable, without}
+use Rattle.lg_cells.specs.Memories.{writable}
 use Rattle.lg_op.specs.declared.carry.Carry.TheVariants as carry
-use Rattle.lg_op.specs.Operators.{binary_value, sets_carry, carry_in, value_with_carry, carry_made, wide_value, unary_value, keeps_carry, holds, branch_sum_goes, branch_sum_value, width, extended_by_type, store_width}
+use Rattle.lg_op.specs.Operators.{binary_value, sets_carry, carry_in, value_with_carry, wide_value, unary_value, keeps_carry, holds, branch_sum_goes, branch_sum_value, width, extended_by_type, store_width}
 use Rattle.lg_meaning.specs.Reaching.{is_return}
 use Rattle.lg_meaning.specs.States.{Frame, State, reg, value, named, in_locals, in_any_locals, is_open}
-use Rattle.lg_meaning.specs.Steps.{Outcome, Goes, Ends, Undefined, Text, need, when, quiet, operand_at, to, on, on_with_carry, is_marked, with_word, with_reg, operate, binary_step, carry_step, branch, node_of_label, jump_target, read, address, sum_value, stored_operand, function_here, started, kept, called, enter, begun, back_to, leave, host_end, call_host, call_node, call_operand, entry_target, call_named, call_word, slot, node_step, bit_word}
+use Rattle.lg_meaning.specs.Steps.{Outcome, Text, need, when, quiet, operand_at, to, on, on_with_carry, is_marked, with_word, with_reg, operate, branch, node_of_label, jump_target, read, address, sum_value, stored_operand, function_here, started, kept, called, enter, begun, back_to, leave, host_end, call_host, call_node, call_operand, entry_target, call_named, call_word, slot, node_step, bit_word}
 use Rattle.lg_dead.specs.Near.{Meets}
 use Rattle.lg_dead.specs.Near.{Holds, word_of, is_kept, SavesAlike, FramesAlike, Near}
 

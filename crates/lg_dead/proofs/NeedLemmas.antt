@@ -1,5 +1,5 @@
 -- Steps of nodes that stay, from states that differ in registers that are not needed.
-use Rattle.std.proofs.Common.{◌≡◌, ℕ, ◌+◌, ◌<◌, ◌⊎◌, inl, inr, Bool, true, false, ◌&&◌, ◌||◌, Option, Some, None, List, [], ◌∷◌, refl, sym, ap, ◌∙◌, subst, ⊎_elim, length}
+use Rattle.std.proofs.Common.{◌≡◌, ℕ, ◌+◌, ◌⊎◌, inl, inr, Bool, true, false, ◌&&◌, ◌||◌, Option, Some, None, List, [], ◌∷◌, refl, sym, ap, ◌∙◌, subst, ⊎_elim}
 use Rattle.std.specs.Prelude.{nat_lt, slice_get}
 use Rattle.lg_op.specs.Forms.{forms_of}
 use Rattle.lg_op.specs.Nodes.{InForm}
@@ -14,16 +14,16 @@ use Rattle.lg_op.specs.declared.operand.Operand.{Operand}
 use Rattle.lg_op.specs.declared.operand.Reg.{Reg}
 use Rattle.lg_op.specs.declared.operand.Reg.TheVariants.{R0, R1, R2, V0, V1, V2, Fp}
 use Rattle.lg_live.specs.declared.uses.Access.TheVariants as access
-use Rattle.lg_live.specs.Uses.{names, is_call, is_read, is_written}
+use Rattle.lg_live.specs.Uses.{names, is_call, is_written}
 use Rattle.lg_node.specs.Nodes.{LabelledNodes}
-use Rattle.lg_node.specs.Shapes.{TextShape, IsShapeOf, IsSuccessor, GoesBy, Way, Next, way_of}
+use Rattle.lg_node.specs.Shapes.{TextShape, IsShapeOf, GoesBy, Way, Next, way_of}
 use Rattle.lg_meaning.specs.Reaching.{is_return, Reaches}
 use Rattle.lg_meaning.specs.States.{Frame, State, value}
-use Rattle.lg_meaning.specs.Steps.{Outcome, Goes, Ends, Undefined, Text, back_to, leave, operand_at, node_step}
+use Rattle.lg_meaning.specs.Steps.{Outcome, Goes, Ends, Undefined, Text, back_to, operand_at, node_step}
 use Rattle.lg_meaning.specs.Texts.{text, step_at, step}
 use Rattle.lg_meaning.proofs.Outcomes.{OnGoes, need_on, on_result}
 use Rattle.lg_meaning.proofs.ReachLemmas.{reaches}
-use Rattle.lg_dead.specs.Near.{Holds, word_of, is_kept, SavesAlike, FramesAlike, Near, Meets}
+use Rattle.lg_dead.specs.Near.{Holds, word_of, is_kept, FramesAlike, Near, Meets}
 use Rattle.lg_dead.specs.Needs.{AreNeeds, AreNear, NearStepsMeet}
 use Rattle.lg_dead.proofs.NearLemmas.{others-near, returns-near}
 

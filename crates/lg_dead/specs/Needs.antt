@@ -1,6 +1,5 @@
 -- Which registers are needed before each node, where some definitions are dropped.
 use Rattle.std.specs.Prelude.{◌≡◌, ℕ, ◌+◌, ◌<◌, Bool, true, false, List, Some, length, slice_get}
-use Rattle.std.specs.List.{All}
 use Rattle.lg_op.specs.Nodes.{InForm}
 use Rattle.lg_op.specs.declared.node.Node.{Node}
 use Rattle.lg_op.specs.declared.operand.Reg.{Reg}

@@ -29,8 +29,8 @@ fn made_of_two(op: BinaryOp, a: Option<u64>, b: Option<u64>) -> Option<u64>
 }
 
 // The word that an operation makes of its operands.
-fn made_binary(known: Known, op: BinaryOp, operands: &[Operand]) -> Option<u64>
-    ensures { (last : LastOperand) → result ≡ made (known_of known) (variant.Binary op last) operands.now }
+fn made_binary(known: &Known, op: BinaryOp, operands: &[Operand]) -> Option<u64>
+    ensures { (last : LastOperand) → result ≡ made (known_of known.now) (variant.Binary op last) operands.now }
 {
     match operands {
         [_, a, b] => made_of_two(op, known.number_in(*a), known.number_in(*b)),
@@ -39,8 +39,8 @@ fn made_binary(known: Known, op: BinaryOp, operands: &[Operand]) -> Option<u64>
 }
 
 // The word that an operation makes of its operand.
-fn made_unary(known: Known, op: UnaryOp, operands: &[Operand]) -> Option<u64>
-    ensures { result ≡ made (known_of known) (variant.Unary op) operands.now }
+fn made_unary(known: &Known, op: UnaryOp, operands: &[Operand]) -> Option<u64>
+    ensures { result ≡ made (known_of known.now) (variant.Unary op) operands.now }
 {
     match operands {
         [_, a] => match known.number_in(*a) {
@@ -52,8 +52,8 @@ fn made_unary(known: Known, op: UnaryOp, operands: &[Operand]) -> Option<u64>
 }
 
 // The word that a node makes of words that are known.
-fn made(known: Known, node: &Node) -> Option<u64>
-    ensures { result ≡ made (known_of known) node.now.op node.now.operands }
+fn made(known: &Known, node: &Node) -> Option<u64>
+    ensures { result ≡ made (known_of known.now) node.now.op node.now.operands }
 {
     match node.op {
         Op::Binary(op, _) => made_binary(known, op, node.operands.as_slice()),
@@ -63,8 +63,8 @@ fn made(known: Known, node: &Node) -> Option<u64>
 }
 
 // The number of a last operand that is a register which is known.
-fn last_known(known: Known, node: &Node) -> Option<u64>
-    ensures { result ≡ last_known (known_of known) node.now.op node.now.operands }
+fn last_known(known: &Known, node: &Node) -> Option<u64>
+    ensures { result ≡ last_known (known_of known.now) node.now.op node.now.operands }
 {
     match node.op {
         Op::Binary(op, LastOperand::Register) => match node.operands.as_slice() {
@@ -133,9 +133,10 @@ fn as_immediate(node: &Node, number: u64) -> Node
 }
 
 /// What a node becomes where these numbers are known before it: a `movi` of the word that it makes, or the node with its last operand as a number.
-pub fn folded(known: Known, node: &Node) -> Node
+#[inline(never)]
+pub fn folded(known: &Known, node: &Node) -> Node
     requires form { InForm node.now }
-    ensures node { result ≡ folded (known_of known) node.now }
+    ensures node { result ≡ folded (known_of known.now) node.now }
     ensures form { InForm result }
 {
     match made(known, node) {

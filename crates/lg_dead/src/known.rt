@@ -1,13 +1,12 @@
 // Which numbers registers are known to hold.
 
-ghost use Rattle.std.specs.Prelude.{◌≡◌, if◌then◌else◌, true, None, Some};
+ghost use Rattle.std.specs.Prelude.{◌≡◌, if◌then◌else◌, true, false, None, Some};
 ghost use Rattle.lg_op.specs.declared.operand.Reg.{Reg};
 ghost use Rattle.lg_op.specs.declared.operand.Reg.TheVariants.{R0, R1, R2, V0, V1, V2};
 ghost use Rattle.lg_live.specs.Registers.{is_same};
 ghost use Rattle.lg_live.specs.RegSets.{has};
-ghost use Rattle.lg_live.specs.Uses.{is_written};
 ghost use Rattle.lg_dead.specs.Known.{is_movi, number_in, known_behind, moved_number, or_else};
-ghost use Rattle.lg_dead.specs.Tables.{known_of};
+ghost use Rattle.lg_dead.specs.Tables.{known_of, moved_to};
 
 use lg_live::{RegSet, writes};
 use lg_op::{Node, Op, Operand, PlainOp, Reg};
@@ -15,6 +14,8 @@ use lg_op::{Node, Op, Operand, PlainOp, Reg};
 /// Of each register the number that it is known to hold.
 #[derive(Clone, Copy)]
 pub struct Known {
+    // False only where nothing is known, whatever the numbers are.
+    some: bool,
     r0: Option<u64>,
     r1: Option<u64>,
     r2: Option<u64>,
@@ -23,24 +24,11 @@ pub struct Known {
     v2: Option<u64>,
 }
 
-// Whether both are one register, other than FP.
-fn is_same(a: Reg, b: Reg) -> bool
-    ensures { result ≡ is_same a b }
-{
-    a == b && !matches!(b, Reg::Fp)
-}
-
-// The number that a node moves into a register.
-fn moved_number(node: &Node, register: Reg) -> Option<u64>
-    ensures { result ≡ moved_number node.now.op node.now.operands register }
-{
-    if !matches!(node.op, Op::Plain(PlainOp::Movi)) {
-        return None;
-    }
-    match node.operands.as_slice() {
-        [Operand::Reg(into), Operand::Number(number)] if is_same(*into, register) => Some(*number),
-        _ => None,
-    }
+// A number that is moved into a register.
+#[derive(Clone, Copy)]
+struct Moved {
+    into: Reg,
+    number: u64,
 }
 
 // Whether an operation moves an immediate.
@@ -50,15 +38,27 @@ fn is_movi(op: Op) -> bool
     matches!(op, Op::Plain(PlainOp::Movi))
 }
 
-// What is known of a register behind a node that writes these.
-fn behind(node: &Node, written: RegSet, register: Reg, known: Option<u64>) -> Option<u64>
-    ensures { ((r : Reg) → has written r ≡ is_written node.now r)
-        → result ≡ or_else (moved_number node.now.op node.now.operands register) (if is_written node.now register then None else known) }
+// The number that a node moves into a register.
+fn move_of(node: &Node) -> Option<Moved>
+    ensures { (r : Reg) → moved_to result r ≡ moved_number node.now.op node.now.operands r }
 {
-    match moved_number(node, register) {
-        Some(number) => Some(number),
-        None => { if written.has(register) { None } else { known } }
+    if !is_movi(node.op) {
+        return None;
     }
+    match node.operands.as_slice() {
+        [Operand::Reg(into), Operand::Number(number)] => Some(Moved {
+            into: *into,
+            number: *number,
+        }),
+        _ => None,
+    }
+}
+
+// A number, unless it is gone.
+fn unless(gone: bool, number: Option<u64>) -> Option<u64>
+    ensures { result ≡ (if gone then None else number) }
+{
+    if gone { None } else { number }
 }
 
 impl Known {
@@ -67,6 +67,7 @@ impl Known {
         ensures { (r : Reg) → known_of result r ≡ None }
     {
         Known {
+            some: false,
             r0: None,
             r1: None,
             r2: None,
@@ -76,10 +77,20 @@ impl Known {
         }
     }
 
-    /// The number of a register. FP is never known.
-    pub fn of(self, register: Reg) -> Option<u64>
-        ensures { result ≡ known_of self register }
+    /// Whether nothing is known.
+    pub fn is_none(&self) -> bool
+        ensures { result ≡ true → self.now.some ≡ false }
     {
+        !self.some
+    }
+
+    /// The number of a register. FP is never known.
+    pub fn of(&self, register: Reg) -> Option<u64>
+        ensures { result ≡ known_of self.now register }
+    {
+        if !self.some {
+            return None;
+        }
         match register {
             Reg::R0 => self.r0,
             Reg::R1 => self.r1,
@@ -92,8 +103,8 @@ impl Known {
     }
 
     /// The number that an operand is known to give.
-    pub fn number_in(self, operand: Operand) -> Option<u64>
-        ensures { result ≡ number_in (known_of self) operand }
+    pub fn number_in(&self, operand: Operand) -> Option<u64>
+        ensures { result ≡ number_in (known_of self.now) operand }
     {
         match operand {
             Operand::Reg(register) => self.of(register),
@@ -102,57 +113,114 @@ impl Known {
         }
     }
 
-    // Whether nothing is known.
-    fn is_none(self) -> bool
-        ensures r0 { result ≡ true → self.r0 ≡ None }
-        ensures r1 { result ≡ true → self.r1 ≡ None }
-        ensures r2 { result ≡ true → self.r2 ≡ None }
-        ensures v0 { result ≡ true → self.v0 ≡ None }
-        ensures v1 { result ≡ true → self.v1 ≡ None }
-        ensures v2 { result ≡ true → self.v2 ≡ None }
+    // Makes room for numbers.
+    fn begin(&mut self)
+        ensures some { self.new.some ≡ true }
+        ensures r0 { known_of self.new R0 ≡ known_of self.old R0 }
+        ensures r1 { known_of self.new R1 ≡ known_of self.old R1 }
+        ensures r2 { known_of self.new R2 ≡ known_of self.old R2 }
+        ensures v0 { known_of self.new V0 ≡ known_of self.old V0 }
+        ensures v1 { known_of self.new V1 ≡ known_of self.old V1 }
+        ensures v2 { known_of self.new V2 ≡ known_of self.old V2 }
     {
-        self.r0.is_none()
-            && self.r1.is_none()
-            && self.r2.is_none()
-            && self.v0.is_none()
-            && self.v1.is_none()
-            && self.v2.is_none()
-    }
-
-    // What is known behind a node, register by register.
-    fn behind_each(self, node: &Node) -> Known
-        ensures r0 { known_of result R0 ≡ known_behind (known_of self) node.now R0 }
-        ensures r1 { known_of result R1 ≡ known_behind (known_of self) node.now R1 }
-        ensures r2 { known_of result R2 ≡ known_behind (known_of self) node.now R2 }
-        ensures v0 { known_of result V0 ≡ known_behind (known_of self) node.now V0 }
-        ensures v1 { known_of result V1 ≡ known_behind (known_of self) node.now V1 }
-        ensures v2 { known_of result V2 ≡ known_behind (known_of self) node.now V2 }
-    {
-        let written = writes(node);
-        Known {
-            r0: behind(node, written, Reg::R0, self.r0),
-            r1: behind(node, written, Reg::R1, self.r1),
-            r2: behind(node, written, Reg::R2, self.r2),
-            v0: behind(node, written, Reg::V0, self.v0),
-            v1: behind(node, written, Reg::V1, self.v1),
-            v2: behind(node, written, Reg::V2, self.v2),
+        if !self.some {
+            *self = Known {
+                some: true,
+                r0: None,
+                r1: None,
+                r2: None,
+                v0: None,
+                v1: None,
+                v2: None,
+            };
         }
     }
 
-    /// What is known behind a node of the straight run: where nothing was known, only a `movi` makes something known.
-    #[tactic(auto, using(crate::proofs::NoneLemmas::none_behind))]
-    pub fn behind(self, node: &Node) -> Known
-        ensures r0 { known_of result R0 ≡ known_behind (known_of self) node.now R0 }
-        ensures r1 { known_of result R1 ≡ known_behind (known_of self) node.now R1 }
-        ensures r2 { known_of result R2 ≡ known_behind (known_of self) node.now R2 }
-        ensures v0 { known_of result V0 ≡ known_behind (known_of self) node.now V0 }
-        ensures v1 { known_of result V1 ≡ known_behind (known_of self) node.now V1 }
-        ensures v2 { known_of result V2 ≡ known_behind (known_of self) node.now V2 }
+    // Forgets the numbers of some registers.
+    fn forget(&mut self, written: RegSet)
+        requires { self.old.some ≡ true }
+        ensures some { self.new.some ≡ true }
+        ensures r0 { known_of self.new R0 ≡ (if has written R0 then None else known_of self.old R0) }
+        ensures r1 { known_of self.new R1 ≡ (if has written R1 then None else known_of self.old R1) }
+        ensures r2 { known_of self.new R2 ≡ (if has written R2 then None else known_of self.old R2) }
+        ensures v0 { known_of self.new V0 ≡ (if has written V0 then None else known_of self.old V0) }
+        ensures v1 { known_of self.new V1 ≡ (if has written V1 then None else known_of self.old V1) }
+        ensures v2 { known_of self.new V2 ≡ (if has written V2 then None else known_of self.old V2) }
     {
-        if self.is_none() && !is_movi(node.op) {
-            self
-        } else {
-            self.behind_each(node)
+        self.r0 = unless(written.has(Reg::R0), self.r0);
+        self.r1 = unless(written.has(Reg::R1), self.r1);
+        self.r2 = unless(written.has(Reg::R2), self.r2);
+        self.v0 = unless(written.has(Reg::V0), self.v0);
+        self.v1 = unless(written.has(Reg::V1), self.v1);
+        self.v2 = unless(written.has(Reg::V2), self.v2);
+    }
+
+    // Notes the number of a register.
+    fn set(&mut self, into: Reg, number: u64)
+        requires { self.old.some ≡ true }
+        ensures r0 { known_of self.new R0 ≡ (if is_same into R0 then Some number else known_of self.old R0) }
+        ensures r1 { known_of self.new R1 ≡ (if is_same into R1 then Some number else known_of self.old R1) }
+        ensures r2 { known_of self.new R2 ≡ (if is_same into R2 then Some number else known_of self.old R2) }
+        ensures v0 { known_of self.new V0 ≡ (if is_same into V0 then Some number else known_of self.old V0) }
+        ensures v1 { known_of self.new V1 ≡ (if is_same into V1 then Some number else known_of self.old V1) }
+        ensures v2 { known_of self.new V2 ≡ (if is_same into V2 then Some number else known_of self.old V2) }
+    {
+        match into {
+            Reg::R0 => self.r0 = Some(number),
+            Reg::R1 => self.r1 = Some(number),
+            Reg::R2 => self.r2 = Some(number),
+            Reg::V0 => self.v0 = Some(number),
+            Reg::V1 => self.v1 = Some(number),
+            Reg::V2 => self.v2 = Some(number),
+            Reg::Fp => {}
+        }
+    }
+
+    // Notes the number that a node moves into a register.
+    #[tactic(auto, using(crate::proofs::NoneLemmas::moved_in))]
+    fn note(&mut self, node: &Node)
+        requires { self.old.some ≡ true }
+        ensures r0 { known_of self.new R0 ≡ or_else (moved_number node.now.op node.now.operands R0) (known_of self.old R0) }
+        ensures r1 { known_of self.new R1 ≡ or_else (moved_number node.now.op node.now.operands R1) (known_of self.old R1) }
+        ensures r2 { known_of self.new R2 ≡ or_else (moved_number node.now.op node.now.operands R2) (known_of self.old R2) }
+        ensures v0 { known_of self.new V0 ≡ or_else (moved_number node.now.op node.now.operands V0) (known_of self.old V0) }
+        ensures v1 { known_of self.new V1 ≡ or_else (moved_number node.now.op node.now.operands V1) (known_of self.old V1) }
+        ensures v2 { known_of self.new V2 ≡ or_else (moved_number node.now.op node.now.operands V2) (known_of self.old V2) }
+    {
+        match move_of(node) {
+            Some(moved) => self.set(moved.into, moved.number),
+            None => {}
+        }
+    }
+
+    // Goes on behind a node, register by register.
+    #[inline(never)]
+    fn pass_each(&mut self, node: &Node)
+        ensures r0 { known_of self.new R0 ≡ known_behind (known_of self.old) node.now R0 }
+        ensures r1 { known_of self.new R1 ≡ known_behind (known_of self.old) node.now R1 }
+        ensures r2 { known_of self.new R2 ≡ known_behind (known_of self.old) node.now R2 }
+        ensures v0 { known_of self.new V0 ≡ known_behind (known_of self.old) node.now V0 }
+        ensures v1 { known_of self.new V1 ≡ known_behind (known_of self.old) node.now V1 }
+        ensures v2 { known_of self.new V2 ≡ known_behind (known_of self.old) node.now V2 }
+    {
+        self.begin();
+        self.forget(writes(node));
+        self.note(node);
+    }
+
+    /// Goes on behind a node of the straight run: where nothing was known, only a `movi` makes something known.
+    #[inline(always)]
+    #[tactic(auto, using(crate::proofs::NoneLemmas::none_behind))]
+    pub fn pass(&mut self, node: &Node)
+        ensures r0 { known_of self.new R0 ≡ known_behind (known_of self.old) node.now R0 }
+        ensures r1 { known_of self.new R1 ≡ known_behind (known_of self.old) node.now R1 }
+        ensures r2 { known_of self.new R2 ≡ known_behind (known_of self.old) node.now R2 }
+        ensures v0 { known_of self.new V0 ≡ known_behind (known_of self.old) node.now V0 }
+        ensures v1 { known_of self.new V1 ≡ known_behind (known_of self.old) node.now V1 }
+        ensures v2 { known_of self.new V2 ≡ known_behind (known_of self.old) node.now V2 }
+    {
+        if self.some || is_movi(node.op) {
+            self.pass_each(node);
         }
     }
 }

@@ -3,10 +3,11 @@
 ghost use Rattle.std.specs.Prelude.{◌≡◌, ◌<◌, ◌≤◌, ℕ, true, false, if◌then◌else◌, None, Some, [], length, OnOk, IfOk};
 ghost use Rattle.lg_op.specs.declared.operand.Reg.{Reg};
 ghost use Rattle.lg_op.specs.declared.operand.Reg.TheVariants.{R0, R1, R2, V0, V1, V2};
+ghost use Rattle.lg_op.specs.Nodes.{InForm};
 ghost use Rattle.lg_node.specs.Shapes.{IsShapeOf};
 ghost use Rattle.lg_opt.specs.Rewritings.{marked, IsOrigin, KeepsOthers, KeepsLabels, CarriesAddresses, RunsAreDropped};
 ghost use Rattle.lg_opt.specs.Targets.{AreLabelsAt};
-ghost use Rattle.lg_dead.specs.Known.{known_at, HasNoFolds};
+ghost use Rattle.lg_dead.specs.Known.{folded, known_at, HasNoFolds};
 ghost use Rattle.lg_dead.specs.Folds.{IsFoldedNode, IsFoldedTo};
 ghost use Rattle.lg_dead.specs.Lists.{AreFolded, IsFoldedList};
 ghost use Rattle.lg_dead.specs.Tables.{known_of};
@@ -18,30 +19,45 @@ use lg_node::{Label, Node, NodeList, Shape};
 use lg_opt::Rewritten;
 use lg_opt::labels::{is_labelled, labels_at};
 use lg_opt::moves::leaps;
-use lg_opt::rebuilding::{bind_moved, numbers, unbound};
-use lg_opt::rewritten::finished;
+use lg_opt::rebuilding::{bind_moved, numbers, origin, unbound};
 use std::alloc::Global;
 
 // What is known at a node, of what is known behind the node before: nothing where a label is bound at it.
-fn at_node(known: Known, labelled: bool) -> Known
-    ensures { (r : Reg) → known_of result r ≡ (if labelled then None else known_of known r) }
+fn meet(known: &mut Known, labelled: bool)
+    ensures { (r : Reg) → known_of known.new r ≡ (if labelled then None else known_of known.old r) }
 {
-    if labelled { Known::none() } else { known }
+    if labelled {
+        *known = Known::none();
+    }
 }
 
-// What is known behind a node.
-fn behind_node(known: Known, node: &Node) -> Known
-    ensures r0 { known_of result R0 ≡ known_at (known_of known) (Some node.now) R0 }
-    ensures r1 { known_of result R1 ≡ known_at (known_of known) (Some node.now) R1 }
-    ensures r2 { known_of result R2 ≡ known_at (known_of known) (Some node.now) R2 }
-    ensures v0 { known_of result V0 ≡ known_at (known_of known) (Some node.now) V0 }
-    ensures v1 { known_of result V1 ≡ known_at (known_of known) (Some node.now) V1 }
-    ensures v2 { known_of result V2 ≡ known_at (known_of known) (Some node.now) V2 }
+// What is known behind a node, of what is known at it.
+fn pass(known: &mut Known, node: &Node)
+    ensures r0 { known_of known.new R0 ≡ known_at (known_of known.old) (Some node.now) R0 }
+    ensures r1 { known_of known.new R1 ≡ known_at (known_of known.old) (Some node.now) R1 }
+    ensures r2 { known_of known.new R2 ≡ known_at (known_of known.old) (Some node.now) R2 }
+    ensures v0 { known_of known.new V0 ≡ known_at (known_of known.old) (Some node.now) V0 }
+    ensures v1 { known_of known.new V1 ≡ known_at (known_of known.old) (Some node.now) V1 }
+    ensures v2 { known_of known.new V2 ≡ known_at (known_of known.old) (Some node.now) V2 }
 {
     if leaps(node.op) {
-        Known::none()
+        *known = Known::none();
     } else {
-        known.behind(node)
+        known.pass(node);
+    }
+}
+
+// What a node becomes. Where nothing is known nothing can be folded.
+#[tactic(auto, using(crate::proofs::NoneLemmas::none_folded))]
+fn folded_by(known: &Known, node: Node) -> Node
+    requires form { InForm node }
+    ensures node { result ≡ folded (known_of known.now) node }
+    ensures form { InForm result }
+{
+    if known.is_none() {
+        node
+    } else {
+        folded(known, &node)
     }
 }
 
@@ -60,10 +76,10 @@ fn push_folded(
     let mut known = Known::none();
     for index in 0..nodes.len() {
         let node = nodes.node(index);
-        let here = at_node(known, is_labelled(labels, index));
-        let new = folded(here, &node);
+        meet(&mut known, is_labelled(labels, index));
+        let new = folded_by(&known, node);
         list.push(new)?;
-        known = behind_node(here, &new);
+        pass(&mut known, &new);
     }
     Ok(())
 }
@@ -76,19 +92,36 @@ fn all_stay(alloc: Global, nodes: &NodeList) -> Result<Vec<bool>, OutOfMemory>
     Ok(vec![in alloc; true; nodes.len() as usize]?)
 }
 
-// The folded nodes, with their shape.
+// The folded nodes, with the labels where they were.
+fn folded_nodes(alloc: Global, nodes: &NodeList, stays: &[bool]) -> Result<NodeList, OutOfMemory>
+    requires count { length stays.now ≡ length nodes.now.nodes }
+    requires stays { (i : ℕ) → i < length nodes.now.nodes → marked stays.now i ≡ true }
+    ensures { IfOk result (λ m. IsFoldedTo nodes.now m) }
+{
+    nodes.what_holds();
+    let labels = labels_at(alloc, nodes)?;
+    let mut list = unbound(alloc, nodes)?;
+    push_folded(&mut list, nodes, &labels)?;
+    let numbers = numbers(alloc, stays)?;
+    bind_moved(&mut list, nodes, &numbers);
+    Ok(list)
+}
+
+// The folded nodes, with their shape, which is the old one's.
 fn folded_list(alloc: Global, nodes: &NodeList, shape: &Shape) -> Result<Rewritten, OutOfMemory>
     requires { IsShapeOf nodes.now shape.now }
     ensures { IfOk result (λ r. IsFoldedList nodes.now shape.now r.nodes r.shape r.origin.items) }
 {
     nodes.what_holds();
-    let labels = labels_at(alloc, nodes)?;
     let stays = all_stay(alloc, nodes)?;
-    let mut list = unbound(alloc, nodes)?;
-    push_folded(&mut list, nodes, &labels)?;
-    let numbers = numbers(alloc, &stays)?;
-    bind_moved(&mut list, nodes, &numbers);
-    finished(alloc, list, shape, &stays)
+    let list = folded_nodes(alloc, nodes, &stays)?;
+    let shape = shape.copy(alloc)?;
+    let origin = origin(alloc, &stays)?;
+    Ok(Rewritten {
+        nodes: list,
+        shape,
+        origin,
+    })
 }
 
 /// Folds the numbers that are known in each straight run: a node that makes a word of words that are known becomes the `movi` of that word, and one

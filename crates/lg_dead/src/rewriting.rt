@@ -16,8 +16,8 @@ use lg_node::{NodeList, Shape};
 use lg_opt::{Rewritten, with_threaded_jumps, without_idle_moves};
 use std::alloc::Global;
 
-// Where nodes come from that were rewritten twice.
-fn joined(alloc: Global, first: &Origin, second: &Origin) -> Result<Origin, OutOfMemory>
+// Where nodes come from that were rewritten twice, node by node.
+fn joined_each(alloc: Global, first: &Origin, second: &Origin) -> Result<Origin, OutOfMemory>
     requires { (k : ℕ) → k < length second.now.items → slice_index second.now.items k < length first.now.items }
     ensures { IfOk result (λ o. o.items ≡ map (slice_index first.now.items) second.now.items) }
 {
@@ -26,6 +26,19 @@ fn joined(alloc: Global, first: &Origin, second: &Origin) -> Result<Origin, OutO
         origin.push(first.get(second.get(index)));
     }
     Ok(origin)
+}
+
+// Where nodes come from that were rewritten twice: where the second rewriting keeps all nodes, from where the first ones do.
+#[tactic(auto, using(crate::proofs::JoinLemmas::all_kept))]
+fn joined(alloc: Global, first: Origin, second: &Origin) -> Result<Origin, OutOfMemory>
+    requires within { (k : ℕ) → k < length second.now.items → slice_index second.now.items k < length first.items }
+    requires rises { (i k : ℕ) → i < k → k < length second.now.items → slice_index second.now.items i < slice_index second.now.items k }
+    ensures { IfOk result (λ o. o.items ≡ map (slice_index first.items) second.now.items) }
+{
+    if second.len() == first.len() {
+        return Ok(first);
+    }
+    joined_each(alloc, &first, second)
 }
 
 // Folds the numbers that are known, and drops the definitions that nothing needs then. Folding leaves every node in its place.
@@ -80,7 +93,7 @@ fn without_moves(alloc: Global, nodes: &NodeList, shape: &Shape) -> Result<Rewri
         shape,
         origin,
     } = without_idle_moves(alloc, needed, needed_shape)?;
-    let origin = joined(alloc, &needed_origin, &origin)?;
+    let origin = joined(alloc, needed_origin, &origin)?;
     Ok(Rewritten {
         nodes,
         shape,
@@ -113,7 +126,7 @@ pub fn rewrite(alloc: Global, nodes: &NodeList, shape: &Shape) -> Result<Rewritt
         shape,
         origin,
     } = with_threaded_jumps(alloc, moved, moved_shape)?;
-    let origin = joined(alloc, &moved_origin, &origin)?;
+    let origin = joined(alloc, moved_origin, &origin)?;
     Ok(Rewritten {
         nodes,
         shape,

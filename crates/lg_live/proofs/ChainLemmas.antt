@@ -1,7 +1,8 @@
 -- The points that jump to a point, from the last to the first.
 use Rattle.std.proofs.Common.{◌≡◌, ⊎_elim, ℕ, zero, suc, ◌<◌, ◌≤◌, Bool, true, false, List, Option, Some, None, refl, sym, ap, ◌∙◌, subst, length, get_or, take, drop, replicate, ◌++◌, ◌∷◌, [], arith}
-use Rattle.std.specs.Prelude.{slice_set, ◌==◌, if◌then◌else◌}
-use Rattle.std.proofs.lemmas.Bool.{cases_lt, eqb-true, eqb-false}
+use Rattle.std.specs.Prelude.{slice_set, ◌==◌, if◌then◌else◌, is_none}
+use Rattle.std.specs.List.{list_all}
+use Rattle.std.proofs.lemmas.Bool.{cases_lt, eqb-true, eqb-false, and_parts}
 use Rattle.std.proofs.lemmas.Option.{same_Some}
 use Rattle.std.proofs.lemmas.List.{get_or-set_other, get_or_append_left, get_or_past, take_at, length-replicate}
 use Rattle.std.proofs.lemmas.Grind.{get_or-set_at, common_steps}
@@ -9,7 +10,8 @@ use Rattle.std.proofs.Math.ListN.{length-append, length-set}
 use Rattle.std.proofs.Math.Seq.{get_or-append_seam}
 use Rattle.lg_live.specs.declared.point.Point.{Point}
 use Rattle.lg_live.specs.Graphs.{point_at, no_point, AreWithin}
-use Rattle.lg_live.specs.Chains.{is_to, last_before}
+use Rattle.lg_live.specs.declared.chains.Chains.{Chains}
+use Rattle.lg_live.specs.Chains.{is_to, last_before, AreChains}
 use Rattle.lg_live.specs.Searches.{State, Grows, HasPassed}
 use Rattle.lg_live.specs.declared.reg_set.RegSet.{RegSet}
 
@@ -176,3 +178,31 @@ passed_all points to set s next p none i jumps =
     absurd (h.none i (omega arith) less jumps))
     (λ (more : p.from ≤ i). p.passed i more jumps)
     (cases_lt i p.from)
+
+-- ---- points of which none jumps
+none_of : (o : Option ℕ) → is_none o ≡ true → o ≡ None
+none_of None e = refl
+none_of (Some k) e = cc
+
+none_at : (points : List Point) → list_all (λ p. is_none p.jumps) points ≡ true → (i : ℕ) → (point_at points i).jumps ≡ None
+none_at [] e zero = refl
+none_at [] e (suc i) = refl
+none_at (p ∷ points) e zero = none_of p.jumps (and_parts (is_none p.jumps) (list_all (λ q. is_none q.jumps) points) e).0
+none_at (p ∷ points) e (suc i) = none_at points (and_parts (is_none p.jumps) (list_all (λ q. is_none q.jumps) points) e).1 i
+
+head_none : (points : List Point) (to n : ℕ) (head : Option ℕ) → ((i : ℕ) → (point_at points i).jumps ≡ None) → IsHead points to n head → None ≡ head
+head_none points to n None none h = refl
+head_none points to n (Some i) none h = absurd (let f : ◌≡◌ {A = Option ℕ} None (Some to) = sym (none i) ∙ h.jumps i refl in cc)
+
+empty_none : (i : ℕ) → get_or {A = Option ℕ} [] i None ≡ None
+empty_none zero = refl
+empty_none (suc i) = refl
+
+pub no_chains : (points : List Point) (count : ℕ) (chains : Chains) → list_all (λ p. is_none p.jumps) points ≡ true → chains.last.items ≡ [] → chains.earlier.items ≡ []
+    → AreChains points count chains
+no_chains points count chains e last earlier =
+    let none = none_at points e in
+    record {
+      last = λ to lt. ap (λ xs. get_or xs to None) last ∙ empty_none to ∙ head_none points to (length points) (last_before points to (length points)) none (head_is points to (length points));
+      earlier = λ i to lt jump. absurd (let f : ◌≡◌ {A = Option ℕ} None (Some to) = sym (none i) ∙ jump in cc);
+    }

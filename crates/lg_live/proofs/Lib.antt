@@ -6,3 +6,4 @@ pub mod LiveLemmas
 pub mod MarkLemmas
 pub mod PointLemmas
 pub mod SearchLemmas
+pub mod SweepLemmas

@@ -14,7 +14,7 @@ use Rattle.lg_node.specs.Nodes.{LabelledNodes}
 use Rattle.lg_node.specs.Functions.{home, function_of}
 use Rattle.lg_node.specs.Shapes.{TextShape, IsShapeOf}
 use Rattle.lg_node.proofs.SuccessorLaws.{has_functions}
-use Rattle.lg_live.specs.Points.{node_within, IsPoint}
+use Rattle.lg_live.specs.Points.{node_within, gate_of, join_of, IsPoint}
 use Rattle.lg_live.specs.declared.point.Point.{Point}
 use Rattle.lg_live.proofs.SearchLemmas.{get_pushed}
 use Rattle.std.proofs.lemmas.List.{get_or_append_left}
@@ -46,6 +46,15 @@ module _ (l : LabelledNodes) (s : TextShape) (is : IsShapeOf l s) (i : ℕ) wher
 
   pub some_home : (number entry : ℕ) → function_of s.functions i ≡ Some number → Some entry ≡ option_map (λ f. f.entry) (slice_get s.functions number) → Some entry ≡ home l.nodes i
   some_home number entry e g = sym (home_some number entry (home l.nodes i) refl e g)
+
+-- ---- gates
+pub no_gate : (l : LabelledNodes) (o : Option ℕ) → None ≡ gate_of l false o
+no_gate l None = refl
+no_gate l (Some p) = refl
+
+pub no_join : (l : LabelledNodes) (o : Option ℕ) (i : ℕ) → None ≡ join_of l o i false
+no_join l None i = refl
+no_join l (Some p) i = refl
 
 -- ---- marks
 pub ltb_of_lt : (k n : ℕ) → k < n → nat_lt k n ≡ true

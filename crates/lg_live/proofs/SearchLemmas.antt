@@ -141,7 +141,7 @@ none_any f h = by (any_register f) refl
     by false e = e
     by true e = let x = any_found f e in let g : true ≡ false = sym x.has_it ∙ h x.register in cc
 
-passes_none : (p : Point) (f : Reg → Bool) → ((q : Reg) → f q ≡ false) → (r : Reg) → passes p f r ≡ true → ⊥
+pub passes_none : (p : Point) (f : Reg → Bool) → ((q : Reg) → f q ≡ false) → (r : Reg) → passes p f r ≡ true → ⊥
 passes_none p f h r e =
     let first : (f r && not (has p.writes r)) ≡ false = ap (λ b. b && not (has p.writes r)) (h r) in
     let none : any_register (λ q. f q && has p.writes q) ≡ false = none_any (λ q. f q && has p.writes q) (λ q. ap (λ b. b && has p.writes q) (h q)) in

@@ -18,7 +18,5 @@ abbrev pub IsLinked : List (Option ℕ) → List (Option ℕ) → Option ℕ →
 IsLinked old new before to i = (before ≡ slice_index_or old to None) × (new ≡ slice_set old to (Some i))
 
 pub record AreChains (points : List Point) (count : ℕ) (chains : Chains) : Type 0 where
-  pub last_count : length chains.last.items ≡ count
-  pub earlier_count : length chains.earlier.items ≡ length points
   pub last : (to : ℕ) → to < count → slice_index_or chains.last.items to None ≡ last_before points to (length points)
   pub earlier : (i to : ℕ) → i < length points → (point_at points i).jumps ≡ Some to → slice_index_or chains.earlier.items i None ≡ last_before points to i

@@ -1,5 +1,5 @@
 -- How a search goes on.
-use Rattle.std.specs.Prelude.{◌≡◌, ◌⊎◌, ℕ, ◌+◌, ◌-◌, ◌*◌, ◌<◌, ◌≤◌, true, List, Some, length, slice_get}
+use Rattle.std.specs.Prelude.{◌≡◌, ◌⊎◌, ℕ, ◌+◌, ◌-◌, ◌*◌, ◌<◌, ◌≤◌, true, false, List, Some, None, length, slice_get}
 use Rattle.std.specs.List.{sum_by, All}
 use Rattle.lg_op.specs.declared.operand.Reg.{Reg}
 use Rattle.lg_live.specs.RegSets.{has}
@@ -63,3 +63,27 @@ pub record IsSearching (points : List Point) (count from : ℕ) (s : State) : Ty
   pub within : All (λ k. k < count) s.queue
   pub reads : (i : ℕ) (r : Reg) → has (point_at points i).reads r ≡ true → has (set_at s.sets i) r ≡ true
   pub settled : (k : ℕ) → IsQueued s.queue from k ⊎ HasSpread points k (set_at s.sets k) s
+
+-- one point leads to another by falling or jumping
+abbrev pub IsStep : List Point → ℕ → ℕ → Type 0
+IsStep points i k = (((point_at points i).falls ≡ true) × (k ≡ i + 1)) ⊎ ((point_at points i).jumps ≡ Some k)
+
+-- no gate leads to a point, and no point from it on jumps to it
+pub record IsUnmet (points : List Point) (k : ℕ) : Type 0 where
+  pub joins : (point_at points k).joins ≡ None
+  pub jumps : (i : ℕ) → k ≤ i → (point_at points i).jumps ≡ Some k → ⊥
+
+-- nothing is in the set of a point
+abbrev pub IsEmptyAt : State → ℕ → Type 0
+IsEmptyAt s k = (r : Reg) → has (set_at s.sets k) r ≡ false
+
+-- a search that went from the last point back to this one: what is wanted at each has been passed on to those, from this one on, that fall or jump to it,
+-- and it is queued where others may want it
+pub record IsSwept (points : List Point) (count from : ℕ) (s : State) : Type 0 where
+  pub all : length s.sets ≡ count
+  pub sound : IsSound points s
+  pub within : All (λ k. k < count) s.queue
+  pub reads : (i : ℕ) (r : Reg) → from ≤ i → has (point_at points i).reads r ≡ true → has (set_at s.sets i) r ≡ true
+  pub before : (i : ℕ) → i < from → IsEmptyAt s i
+  pub joined : (k i : ℕ) → (point_at points k).joins ≡ Some i → IsQueued s.queue 0 k ⊎ IsEmptyAt s k
+  pub settled : (k : ℕ) → IsQueued s.queue 0 k ⊎ ((i : ℕ) → from ≤ i → IsStep points i k → HasPassed points (set_at s.sets k) s i)

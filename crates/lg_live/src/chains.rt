@@ -1,6 +1,7 @@
 // The points that jump to a point.
 
-ghost use Rattle.std.specs.Prelude.{◌≡◌, ◌<◌, ◌≤◌, ℕ, Some, None, length, IfOk};
+ghost use Rattle.std.specs.Prelude.{◌≡◌, ◌<◌, ◌≤◌, ℕ, Some, None, is_none, length, slice_index_or, IfOk};
+ghost use Rattle.std.specs.List.{list_all};
 ghost use Rattle.lg_live.specs.Graphs.{point_at, AreWithin};
 ghost use Rattle.lg_live.specs.Chains.{IsLinked, AreChains};
 
@@ -8,7 +9,7 @@ use crate::point::Point;
 use lg_base::OutOfMemory;
 use std::alloc::Global;
 
-/// For each point the points that jump to it, from the last to the first.
+/// For each point the points that jump to it, from the last to the first. Where no point jumps the tables are empty.
 #[derive(Drop)]
 pub struct Chains {
     /// Of each point the last that jumps to it.
@@ -32,17 +33,46 @@ fn link(last: &mut [Option<usize>], to: Option<usize>, index: usize) -> Option<u
     }
 }
 
+// Whether no point jumps.
+fn none_jumps(points: &[Point]) -> bool
+    ensures { result ≡ list_all (λ p. is_none p.jumps) points.now }
+{
+    points.iter().all(|point| point.jumps.is_none())
+}
+
+/// What a table has of a point.
+pub fn entry(table: &[Option<usize>], index: usize) -> Option<usize>
+    ensures { result ≡ slice_index_or table.now index None }
+{
+    table.get(index).copied().flatten()
+}
+
+// The chains of these points, which are all below this number, point by point.
+fn linked(alloc: Global, points: &[Point], count: usize) -> Result<Chains, OutOfMemory>
+    requires { AreWithin points.now count }
+    ensures { IfOk result (λ chains. AreChains points.now count chains) }
+{
+    let mut last = vec![in alloc; None; count]?;
+    let mut earlier = Vec::with_capacity(alloc, points.len())?;
+    for (index, point) in points.iter().enumerate() {
+        earlier.push(link(&mut last, point.jumps, index))?;
+    }
+    Ok(Chains { last, earlier })
+}
+
 impl Chains {
     /// The chains of these points, which are all below this number.
+    #[tactic(auto, using(crate::proofs::ChainLemmas::no_chains))]
     pub fn of(alloc: Global, points: &[Point], count: usize) -> Result<Chains, OutOfMemory>
         requires { AreWithin points.now count }
         ensures { IfOk result (λ chains. AreChains points.now count chains) }
     {
-        let mut last = vec![in alloc; None; count]?;
-        let mut earlier = Vec::with_capacity(alloc, points.len())?;
-        for (index, point) in points.iter().enumerate() {
-            earlier.push(link(&mut last, point.jumps, index))?;
+        if none_jumps(points) {
+            return Ok(Chains {
+                last: Vec::new(alloc),
+                earlier: Vec::new(alloc),
+            });
         }
-        Ok(Chains { last, earlier })
+        linked(alloc, points, count)
     }
 }

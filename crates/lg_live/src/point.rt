@@ -56,6 +56,16 @@ pub fn falls(points: &[Point], index: usize) -> bool
     }
 }
 
+/// The point to which a point jumps, if it does.
+pub fn jumps(points: &[Point], index: usize) -> Option<usize>
+    ensures { result ≡ (point_at points.now index).jumps }
+{
+    match points.get(index) {
+        Some(point) => point.jumps,
+        None => None,
+    }
+}
+
 /// The point that joins a point, if there is one.
 pub fn joins(points: &[Point], index: usize) -> Option<usize>
     ensures { result ≡ (point_at points.now index).joins }

@@ -7,7 +7,7 @@ ghost use Rattle.lg_live.specs.Uses.{is_read};
 ghost use Rattle.lg_live.specs.Definitions.{feeding};
 ghost use Rattle.lg_node.specs.Functions.{home};
 ghost use Rattle.lg_node.specs.Shapes.{way_of, target_of, IsShapeOf};
-ghost use Rattle.lg_live.specs.Points.{falls_by, aims_by, gathers_by, node_within, jump_of, join_of, IsTakenBy, IsMarkedBesides, AreMarked, IsMarkedAt, IsPoint, ArePoints};
+ghost use Rattle.lg_live.specs.Points.{falls_by, aims_by, gathers_by, node_within, gate_of, jump_of, join_of, IsTakenBy, IsMarkedBesides, AreMarked, IsMarkedAt, IsPoint, ArePoints};
 
 use crate::definitions::{Sought, feeding};
 use crate::point::Point;
@@ -108,49 +108,53 @@ fn marked(alloc: Global, nodes: &NodeList, shape: &Shape) -> Result<Vec<bool>, O
     Ok(marks)
 }
 
+// The gate of the function of a node, where it is asked for.
+#[tactic(auto, using(crate::proofs::PointLemmas::no_gate))]
+fn gate_of(nodes: &NodeList, shape: &Shape, index: u32, asked: bool) -> Option<usize>
+    requires { IsShapeOf nodes.now shape.now }
+    ensures { result ≡ gate_of nodes.now asked (home nodes.now.nodes index) }
+{
+    if !asked {
+        return None;
+    }
+    match home(nodes, shape, index) {
+        Some(prolog) => Some(nodes.len() as usize + prolog as usize),
+        None => None,
+    }
+}
+
 // Where a node jumps.
-fn jump_of(nodes: &NodeList, home: Option<u32>, node: &Node) -> Option<usize>
-    ensures { result ≡ jump_of nodes.now home node.now }
+fn jump_of(nodes: &NodeList, shape: &Shape, index: u32, node: &Node) -> Option<usize>
+    requires { IsShapeOf nodes.now shape.now }
+    ensures { result ≡ jump_of nodes.now (home nodes.now.nodes index) node.now }
 {
     if aims(node.op) {
-        return node_within(target_of(nodes, node.operands.as_slice()), nodes.len());
-    }
-    match home {
-        Some(prolog) if gathers(node.op) => Some(nodes.len() as usize + prolog as usize),
-        _ => None,
+        node_within(target_of(nodes, node.operands.as_slice()), nodes.len())
+    } else {
+        gate_of(nodes, shape, index, gathers(node.op))
     }
 }
 
 // The gate through which jumps to taken labels come to a node.
-fn join_of(nodes: &NodeList, home: Option<u32>, index: u32, marked: bool) -> Option<usize>
-    ensures { result ≡ join_of nodes.now home index marked }
+#[tactic(auto, using(crate::proofs::PointLemmas::no_join))]
+fn join_of(nodes: &NodeList, shape: &Shape, index: u32, marked: bool) -> Option<usize>
+    requires { IsShapeOf nodes.now shape.now }
+    ensures { result ≡ join_of nodes.now (home nodes.now.nodes index) index marked }
 {
-    match home {
-        Some(prolog) if marked && prolog < index => Some(nodes.len() as usize + prolog as usize),
+    if !marked {
+        return None;
+    }
+    match home(nodes, shape, index) {
+        Some(prolog) if prolog < index => Some(nodes.len() as usize + prolog as usize),
         _ => None,
     }
 }
 
-// The registers that a node reads, unless they count only for what it writes.
-fn read_at_once(sought: Sought, node: &Node) -> RegSet
-    ensures { (r : Reg) → has result r ≡ (is_read node.now r && not (feeding sought node.now.op)) }
+// A set, where something holds.
+fn kept_where(holds: bool, set: RegSet) -> RegSet
+    ensures { (r : Reg) → has result r ≡ (has set r && holds) }
 {
-    if feeding(sought, node.op) {
-        RegSet::none()
-    } else {
-        reads(node)
-    }
-}
-
-// The registers that a node reads, where they count only for what it writes.
-fn read_for_more(sought: Sought, node: &Node) -> RegSet
-    ensures { (r : Reg) → has result r ≡ (is_read node.now r && feeding sought node.now.op) }
-{
-    if feeding(sought, node.op) {
-        reads(node)
-    } else {
-        RegSet::none()
-    }
+    if holds { set } else { RegSet::none() }
 }
 
 // The point of a node.
@@ -166,14 +170,15 @@ fn point(
     requires marked { IsMarkedAt nodes.now shape.now index marked }
     ensures { IsPoint (feeding sought) nodes.now shape.now index node.now result }
 {
-    let home = home(nodes, shape, index);
+    let read = reads(node);
+    let feeds = feeding(sought, node.op);
     Point {
-        reads: read_at_once(sought, node),
-        feeds: read_for_more(sought, node),
+        reads: kept_where(!feeds, read),
+        feeds: kept_where(feeds, read),
         writes: writes(node),
         falls: falls(node.op) && index as usize + 1 < nodes.len() as usize,
-        jumps: jump_of(nodes, home, node),
-        joins: join_of(nodes, home, index, marked),
+        jumps: jump_of(nodes, shape, index, node),
+        joins: join_of(nodes, shape, index, marked),
     }
 }
 

@@ -1,14 +1,14 @@
 // The search for the registers that are wanted at each point.
 
-ghost use Rattle.std.specs.Prelude.{◌≡◌, ◌<◌, ◌≤◌, ℕ, length, slice_get, Some, true, false, OnOk, IfOk, Ok};
+ghost use Rattle.std.specs.Prelude.{◌≡◌, ◌<◌, ◌≤◌, ◌+◌, ℕ, length, slice_get, Some, true, false, [], OnOk, IfOk, Ok};
 ghost use Rattle.lg_op.specs.declared.operand.Reg.{Reg};
 ghost use Rattle.lg_live.specs.RegSets.{has};
 ghost use Rattle.lg_live.specs.Chains.{AreChains};
-ghost use Rattle.lg_live.specs.Graphs.{point_at, set_at, IsArc, IsWanted, AreWithin, AreWanted};
-ghost use Rattle.lg_live.specs.Searches.{state_of, Grows, IsSound, AreWantedAt, StaysSound, HasPassed, HasSpread, IsSearching};
+ghost use Rattle.lg_live.specs.Graphs.{point_at, passes, set_at, IsArc, IsWanted, AreWithin, AreWanted};
+ghost use Rattle.lg_live.specs.Searches.{state_of, Grows, IsSound, AreWantedAt, StaysSound, HasPassed, HasSpread, IsUnmet, IsSwept, IsSearching};
 
-use crate::chains::Chains;
-use crate::point::{Point, fallen, joins, passing};
+use crate::chains::{Chains, entry};
+use crate::point::{Point, fallen, falls, joins, jumps, passing};
 use crate::reg_set::RegSet;
 use crate::sets::union;
 use lg_base::OutOfMemory;
@@ -75,10 +75,10 @@ fn pass_to_jumps(
     ensures passed { OnOk result ((i : ℕ) → (point_at points.now i).jumps ≡ Some to → HasPassed points.now set (state_of search.new) i) }
     ensures sound { OnOk result (IsSound points.now (state_of search.new)) }
 {
-    let mut next = chains.last[to];
+    let mut next = entry(&chains.last, to);
     while let Some(from) = next {
         pass(points, search, from, to, set)?;
-        next = chains.earlier[from];
+        next = entry(&chains.earlier, from);
     }
     Ok(())
 }
@@ -127,9 +127,79 @@ fn spread(
     pass_to_jumps(points, chains, search, to, set)
 }
 
-// The search that has yet to look at each point that reads a register.
-fn started(alloc: Global, points: &[Point], count: usize) -> Result<Search, OutOfMemory>
-    requires { AreWithin points.now count }
+// What a point that falls to the next wants by that.
+fn wanted_by_fall(points: &[Point], sets: &[RegSet], index: usize) -> RegSet
+    requires within { AreWithin points.now (length sets.now) }
+    ensures passed { (point_at points.now index).falls ≡ true → (r : Reg) → passes (point_at points.now index) (has (set_at sets.now (index + 1))) r ≡ true
+        → has result r ≡ true }
+    ensures sound { IsSound points.now (record { sets = sets.now; queue = [] }) → AreWantedAt points.now result index }
+{
+    if falls(points, index) {
+        passing(points, index, sets[index + 1])
+    } else {
+        RegSet::none()
+    }
+}
+
+// What a point that jumps wants by that.
+fn wanted_by_jump(points: &[Point], sets: &[RegSet], index: usize) -> RegSet
+    requires within { AreWithin points.now (length sets.now) }
+    ensures passed { (k : ℕ) → (point_at points.now index).jumps ≡ Some k → (r : Reg) → passes (point_at points.now index) (has (set_at sets.now k)) r ≡ true
+        → has result r ≡ true }
+    ensures sound { IsSound points.now (record { sets = sets.now; queue = [] }) → AreWantedAt points.now result index }
+{
+    match jumps(points, index) {
+        Some(target) => passing(points, index, sets[target]),
+        None => RegSet::none(),
+    }
+}
+
+// Whether a gate leads to a point, or one from it on jumps to it.
+fn is_met(points: &[Point], chains: &Chains, index: usize) -> bool
+    requires { (count : ℕ) × AreChains points.now count chains.now × (index < count) }
+    ensures { result ≡ false → IsUnmet points.now index }
+{
+    match joins(points, index) {
+        Some(_) => true,
+        None => match entry(&chains.last, index) {
+            Some(from) => index <= from,
+            None => false,
+        },
+    }
+}
+
+// Finds what is wanted at a point, by those behind it; and queues it where others may want that.
+fn settle(
+    points: &[Point],
+    chains: &Chains,
+    search: &mut Search,
+    index: usize,
+) -> Result<(), OutOfMemory>
+    requires point { index < length points.now }
+    requires within { AreWithin points.now (length search.old.sets.items) }
+    requires chains { AreChains points.now (length search.old.sets.items) chains.now }
+    requires swept { IsSwept points.now (length search.old.sets.items) (index + 1) (state_of search.old) }
+    ensures { OnOk result (IsSwept points.now (length search.old.sets.items) index (state_of search.new)) }
+{
+    let fall = wanted_by_fall(points, &search.sets, index);
+    let jump = wanted_by_jump(points, &search.sets, index);
+    let set = union(points[index].reads, union(fall, jump));
+    search.sets[index] = set;
+    if is_met(points, chains, index) {
+        search.queue.push(index)?;
+    }
+    Ok(())
+}
+
+// The search that has gone over all points once, from the last to the first.
+fn swept(
+    alloc: Global,
+    points: &[Point],
+    chains: &Chains,
+    count: usize,
+) -> Result<Search, OutOfMemory>
+    requires within { AreWithin points.now count }
+    requires chains { AreChains points.now count chains.now }
     ensures { IfOk result (λ search. IsSearching points.now count 0 (state_of search)) }
 {
     let sets = vec![in alloc; RegSet::none(); count]?;
@@ -137,8 +207,8 @@ fn started(alloc: Global, points: &[Point], count: usize) -> Result<Search, OutO
         sets,
         queue: Vec::new(alloc),
     };
-    for (index, point) in points.iter().enumerate() {
-        raise(&mut search, index, point.reads)?;
+    for done in 0..points.len() {
+        settle(points, chains, &mut search, points.len() - 1 - done)?;
     }
     Ok(search)
 }
@@ -149,7 +219,7 @@ pub fn wanted(alloc: Global, points: &[Point], count: usize) -> Result<Vec<RegSe
     ensures { IfOk result (λ sets. AreWanted points.now count sets.items) }
 {
     let chains = Chains::of(alloc, points, count)?;
-    let mut search = started(alloc, points, count)?;
+    let mut search = swept(alloc, points, &chains, count)?;
     let mut from = 0;
     while from < search.queue.len() {
         let point = search.queue[from];

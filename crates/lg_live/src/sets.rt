@@ -7,7 +7,6 @@ ghost use Rattle.lg_live.specs.Graphs.{any_register};
 
 use crate::reg_set::RegSet;
 use bitflags::Flags;
-use lg_op::Reg;
 
 /// The registers of two sets.
 pub fn union(a: RegSet, b: RegSet) -> RegSet
@@ -22,12 +21,7 @@ pub fn union(a: RegSet, b: RegSet) -> RegSet
 pub fn meets(a: RegSet, b: RegSet) -> bool
     ensures { result ≡ any_register (λ q. has a q && has b q) }
 {
-    (a.has(Reg::R0) && b.has(Reg::R0))
-        || (a.has(Reg::R1) && b.has(Reg::R1))
-        || (a.has(Reg::R2) && b.has(Reg::R2))
-        || (a.has(Reg::V0) && b.has(Reg::V0))
-        || (a.has(Reg::V1) && b.has(Reg::V1))
-        || (a.has(Reg::V2) && b.has(Reg::V2))
+    (a.bits() & b.bits()) % 64 != 0
 }
 
 /// The registers of a set that are not in another.

@@ -73,24 +73,58 @@ fn with_register(found: RegSet, operand: Operand) -> RegSet
     }
 }
 
+// The registers that a node reads, by the forms of its operands.
+#[inline(never)]
+fn reads_by_forms(node: &Node) -> RegSet
+    ensures registers { (r : Reg) → has result r ≡ is_read node.now r }
+    ensures small { IsSmall result }
+{
+    named(
+        Access::Read,
+        node.op.forms(),
+        node.operands.as_slice(),
+        RegSet::none(),
+    )
+}
+
 /// The registers of R0 to V2 that a node reads.
+#[inline(always)]
 pub fn reads(node: &Node) -> RegSet
     ensures registers { (r : Reg) → has result r ≡ is_read node.now r }
     ensures small { IsSmall result }
 {
     let none = RegSet::none();
     match (node.op, node.operands.as_slice()) {
-        (Op::Binary(_, LastOperand::Register), [_, a, b]) => {
-            with_register(with_register(none, *b), *a)
-        }
-        (Op::Binary(_, LastOperand::Immediate), [_, a, _]) | (Op::Unary(_), [_, a]) => {
-            with_register(none, *a)
-        }
-        (op, operands) => named(Access::Read, op.forms(), operands, none),
+        (Op::Binary(_, LastOperand::Register) | Op::Branch(_, LastOperand::Register), [_, a, b]) =>
+            { with_register(with_register(none, *b), *a) }
+        (Op::Binary(_, LastOperand::Immediate) | Op::Branch(_, LastOperand::Immediate), [_, a, _])
+        | (Op::Unary(_), [_, a]) => with_register(none, *a),
+        (Op::Plain(PlainOp::Movi), [_, _]) => none,
+        _ => reads_by_forms(node),
+    }
+}
+
+// The registers that a node writes, by the forms of its operands.
+#[inline(never)]
+fn writes_by_forms(node: &Node) -> RegSet
+    ensures registers { (r : Reg) → has result r ≡ is_written node.now r }
+    ensures small { IsSmall result }
+{
+    let written = named(
+        Access::Write,
+        node.op.forms(),
+        node.operands.as_slice(),
+        RegSet::none(),
+    );
+    if is_call(node.op) {
+        written.with(Reg::R0).with(Reg::R1).with(Reg::R2)
+    } else {
+        written
     }
 }
 
 /// The registers of R0 to V2 that a node writes. A call writes R0, R1 and R2.
+#[inline(always)]
 pub fn writes(node: &Node) -> RegSet
     ensures registers { (r : Reg) → has result r ≡ is_written node.now r }
     ensures small { IsSmall result }
@@ -100,13 +134,7 @@ pub fn writes(node: &Node) -> RegSet
         (Op::Binary(_, _), [d, _, _]) | (Op::Unary(_) | Op::Plain(PlainOp::Movi), [d, _]) => {
             with_register(none, *d)
         }
-        (op, operands) => {
-            let written = named(Access::Write, op.forms(), operands, none);
-            if is_call(op) {
-                written.with(Reg::R0).with(Reg::R1).with(Reg::R2)
-            } else {
-                written
-            }
-        }
+        (Op::Branch(_, _), [_, _, _]) => none,
+        _ => writes_by_forms(node),
     }
 }

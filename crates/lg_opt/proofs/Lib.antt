@@ -21,6 +21,7 @@ pub mod LeanLemmas
 pub mod MoveLemmas
 pub mod MoveTidyLemmas
 pub mod MovedLemmas
+pub mod NoJumpLemmas
 pub mod OriginLemmas
 pub mod Pigeons
 pub mod Quiet

@@ -1,5 +1,5 @@
 -- From code that carries each rewritten node to runs that agree with the text's meaning.
-use Rattle.std.proofs.Common.{List, ◌≡◌, ℕ, suc, ◌+◌, ◌≤◌, [], arith, ap, inl, inr, Bool, refl, sym, ◌∙◌, subst, ⊎_elim, length}
+use Rattle.std.proofs.Common.{List, ◌≡◌, ℕ, suc, [], arith, ap, inl, inr, Bool, refl, sym, ◌∙◌, subst, ⊎_elim, length}
 use Rattle.std.specs.Prelude.{slice_get}
 use Rattle.lg_base.specs.Runs.{Machine, iter}
 use Rattle.lg_node.specs.Nodes.{LabelledNodes}

@@ -4,8 +4,8 @@ use Rattle.std.specs.Prelude.{drop}
 use Rattle.lg_op.specs.declared.node.Node.{Node}
 use Rattle.lg_op.specs.declared.operand.Label.{Label}
 use Rattle.lg_op.specs.declared.operand.Operand.{Operand}
-use Rattle.lg_opt.specs.Remaining.{with_first, retargeted}
-use Rattle.lg_opt.specs.Rewritings.{IsAlikeButForTarget, ThreadedNodesStay}
+use Rattle.lg_opt.specs.Remaining.{with_first}
+use Rattle.lg_opt.specs.Rewritings.{ThreadedNodesStay}
 
 first-alone : (xs : List Operand) (y : Label) → drop 1 (with_first xs y) ≡ drop 1 xs
 first-alone [] y = refl

@@ -102,6 +102,12 @@ target_in table i = slice_index_or table i None
 abbrev pub TargetsAreOfJumps : LabelledNodes → List (Option Label) → Type 0
 TargetsAreOfJumps l targets = (i : ℕ) (n : Node) (y : Label) → slice_get l.nodes i ≡ Some n → target_in targets i ≡ Some y → has_target n.op ≡ true
 
+-- which nodes stay and which targets they get where jumps are threaded
+pub record AreTables (l : LabelledNodes) (kept : List Bool) (targets : List (Option Label)) : Type 0 where
+  pub count : length kept ≡ length l.nodes
+  pub stays : (i : ℕ) → i < length l.nodes → marked kept i ≡ goals.stays l i
+  pub targets_are : AreTargets l (target_in targets)
+
 -- no nodes, and these labels, none of them bound
 abbrev pub unbound : List (List ℕ) → LabelledNodes
 unbound words = record { nodes = []; words = words; places = replicate (length words) None }

@@ -1,8 +1,8 @@
 // Where jumps lead: a table with the node to which the jumps from each node lead in the end.
 
-ghost use Rattle.std.specs.Prelude.{◌≡◌, ◌<◌, ◌+◌, ℕ, length, IfOk};
+ghost use Rattle.std.specs.Prelude.{◌≡◌, ◌<◌, ◌+◌, ℕ, false, length, IfOk};
 ghost use Rattle.lg_node.specs.Nodes.{LabelledNodes};
-ghost use Rattle.lg_opt.specs.Hops.{AreHops, AreLeads, AreWithin, JumpsWithin, hop, is_jump};
+ghost use Rattle.lg_opt.specs.Hops.{AreHops, AreLeads, AreWithin, JumpsWithin, hop, is_jump, jump_at};
 ghost use Rattle.lg_opt.specs.Targets.{target_node};
 
 use lg_base::OutOfMemory;
@@ -51,6 +51,18 @@ pub fn is_jump(op: Op) -> bool
     ensures { result ≡ is_jump op }
 {
     matches!(op, Op::Control(ControlOp::Jmp, LastOperand::Immediate))
+}
+
+/// Whether some node is an unconditional jump to a label.
+pub fn any_jumps(nodes: &NodeList) -> bool
+    ensures { result ≡ false → (i : ℕ) → jump_at nodes.now i ≡ false }
+{
+    for index in 0..nodes.len() {
+        if is_jump(nodes.node(index).op) {
+            return true;
+        }
+    }
+    false
 }
 
 // Of each node where the jump at it goes.

@@ -27,26 +27,28 @@ pub fn leaps(op: Op) -> bool
 }
 
 // The sources at a node, of those behind the node before: none where a label is bound at it.
-fn at_node(sources: Sources, labelled: bool) -> Sources
-    ensures { (r : Reg) → source_of result r ≡ (if labelled then None else source_of sources r) }
+fn meet(sources: &mut Sources, labelled: bool)
+    ensures { (r : Reg) → source_of sources.new r ≡ (if labelled then None else source_of sources.old r) }
 {
-    if labelled { Sources::none() } else { sources }
+    if labelled {
+        *sources = Sources::none();
+    }
 }
 
-// The sources behind a node.
-fn behind(sources: Sources, node: &Node) -> Sources
-    ensures { (r : Reg) → source_of result r ≡ behind_at (source_of sources) (Some node.now) r }
+// The sources behind a node, of those at it.
+fn pass(sources: &mut Sources, node: &Node)
+    ensures { (r : Reg) → source_of sources.new r ≡ behind_at (source_of sources.old) (Some node.now) r }
 {
     if leaps(node.op) {
-        Sources::none()
+        *sources = Sources::none();
     } else {
-        sources.behind(node)
+        sources.pass(node);
     }
 }
 
 // Whether a node is no move that does nothing.
-fn stays_here(sources: Sources, node: &Node) -> bool
-    ensures { result ≡ not (is_idle (source_of sources) (move_of node.now.op node.now.operands)) }
+fn stays_here(sources: &Sources, node: &Node) -> bool
+    ensures { result ≡ not (is_idle (source_of sources.now) (move_of node.now.op node.now.operands)) }
 {
     match move_of(node) {
         None => true,
@@ -68,9 +70,9 @@ pub fn staying(
     let mut sources = Sources::none();
     for index in 0..nodes.len() {
         let node = nodes.node(index);
-        let here = at_node(sources, is_labelled(labels, index));
-        table.push(stays_here(here, &node))?;
-        sources = behind(here, &node);
+        meet(&mut sources, is_labelled(labels, index));
+        table.push(stays_here(&sources, &node))?;
+        pass(&mut sources, &node);
     }
     Ok(table)
 }

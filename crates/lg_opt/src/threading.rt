@@ -1,19 +1,65 @@
 // Jumps to jumps are threaded, and jumps to what follows are dropped.
 
-ghost use Rattle.std.specs.Prelude.{◌≡◌, ◌≤◌, length, IfOk};
+ghost use Rattle.std.specs.Prelude.{◌≡◌, ◌≤◌, ℕ, false, length, IfOk};
+ghost use Rattle.lg_node.specs.Checks.{IsAccepted};
 ghost use Rattle.lg_node.specs.ShapeLaws.{has_target};
 ghost use Rattle.lg_node.specs.Shapes.{IsShapeOf};
-ghost use Rattle.lg_opt.specs.Hops.{HasNoIdleJumps, is_jump};
+ghost use Rattle.lg_opt.specs.Hops.{HasNoIdleJumps, is_jump, jump_at};
 ghost use Rattle.lg_opt.specs.Moves.{HasNoIdleMoves};
-ghost use Rattle.lg_opt.specs.Rewritings.{IsOrigin, IsThreadedNode, KeepsOthers, KeepsLabels, CarriesAddresses, RunsAreThreaded, IsThreadedTo};
+ghost use Rattle.lg_opt.specs.Rewritings.{IsOrigin, IsThreadedNode, KeepsOthers, KeepsLabels, CarriesAddresses, RunsAreThreaded, AreTables, IsThreadedTo};
 
 use crate::drops::{ends, staying};
+use crate::hops::any_jumps;
 use crate::labels::labels_at;
 use crate::rewritten::{Rewritten, remade};
 use crate::targets::targets;
 use lg_base::OutOfMemory;
-use lg_node::{NodeList, Shape};
+use lg_node::{Label, NodeList, Shape};
 use std::alloc::Global;
+
+// Which nodes stay, and which targets they get.
+#[derive(Drop)]
+struct Tables {
+    stays: Vec<bool>,
+    targets: Vec<Option<Label>>,
+}
+
+// Which nodes stay and which targets they get where no node jumps: all, and none.
+#[tactic(auto, using(crate::proofs::NoJumpLemmas::no_tables))]
+fn unchanged(alloc: Global, nodes: &NodeList) -> Result<Tables, OutOfMemory>
+    requires { (i : ℕ) → jump_at nodes.now i ≡ false }
+    ensures { IfOk result (λ t. AreTables nodes.now t.stays.items t.targets.items) }
+{
+    Ok(Tables {
+        stays: vec![in alloc; true; nodes.len() as usize]?,
+        targets: Vec::new(alloc),
+    })
+}
+
+// Which nodes stay and which targets they get.
+fn led(alloc: Global, nodes: &NodeList) -> Result<Tables, OutOfMemory>
+    requires { IsAccepted nodes.now }
+    ensures { IfOk result (λ t. AreTables nodes.now t.stays.items t.targets.items) }
+{
+    nodes.what_holds();
+    let ends = ends(alloc, nodes)?;
+    let stays = staying(alloc, nodes, &ends)?;
+    let labels = labels_at(alloc, nodes)?;
+    let targets = targets(alloc, nodes, &ends, &labels)?;
+    Ok(Tables { stays, targets })
+}
+
+// Which nodes stay, and which targets they get: where no node jumps nothing changes.
+fn tables_of(alloc: Global, nodes: &NodeList) -> Result<Tables, OutOfMemory>
+    requires { IsAccepted nodes.now }
+    ensures { IfOk result (λ t. AreTables nodes.now t.stays.items t.targets.items) }
+{
+    if any_jumps(nodes) {
+        led(alloc, nodes)
+    } else {
+        unchanged(alloc, nodes)
+    }
+}
 
 // The nodes with their jumps threaded.
 fn threaded(alloc: Global, nodes: NodeList, shape: Shape) -> Result<Rewritten, OutOfMemory>
@@ -21,11 +67,8 @@ fn threaded(alloc: Global, nodes: NodeList, shape: Shape) -> Result<Rewritten, O
     ensures { IfOk result (λ r. IsThreadedTo nodes shape r.nodes r.shape r.origin.items) }
 {
     nodes.what_holds();
-    let ends = ends(alloc, &nodes)?;
-    let stays = staying(alloc, &nodes, &ends)?;
-    let labels = labels_at(alloc, &nodes)?;
-    let targets = targets(alloc, &nodes, &ends, &labels)?;
-    remade(alloc, nodes, shape, &stays, &targets)
+    let tables = tables_of(alloc, &nodes)?;
+    remade(alloc, nodes, shape, &tables.stays, &tables.targets)
 }
 
 /// Leads each branch and `jmpi` that goes to a `jmpi` to where that leads in the end, unless the jumps from there turn for ever, and drops each

@@ -21,15 +21,15 @@ loop-index-preserved c =
     let here = sym c.node-node.ensures.node in
     let ns = c.loop-index.list.nodes in
     let ms = c.push.new.self.nodes in
-    let k = c.folded-new.result in
-    let f = c.at_node-here.result in
-    let g = c.behind_node-known.result in
+    let k = c.folded_by-new.result in
+    let f = c.meet.new.known in
+    let g = c.pass.new.known in
     let mark = c.is_labelled.ensures l c.requires.labels in
-    let known = λ (r : Reg). c.at_node-here.ensures r ∙ ap (λ b. if b then None else known_of c.loop-index.known r) mark ∙ c.loop-index.invariant.known r in
+    let known = λ (r : Reg). c.meet.ensures r ∙ ap (λ b. if b then None else known_of c.loop-index.known r) mark ∙ c.loop-index.invariant.known r in
     let grown : ms ≡ ns ++ k ∷ [] = ap (λ (x : LabelledNodes). x.nodes) c.in_ok-push.ensures.ok in
-    let e = c.behind_node-known.ensures in
+    let e = c.pass.ensures in
     record {
       list = c.in_ok-push.ensures.ok ∙ ap (λ (x : LabelledNodes). with_node x k) c.loop-index.invariant.list ∙ ap (λ ys. record c.args.list.now { nodes = ys }) (sym grown);
-      folded = next-folded l ns ms i n k c.loop-index.invariant.folded here f known c.folded-new.ensures.node grown;
-      known = next-behind l ns ms i n k c.loop-index.invariant.folded here f known c.folded-new.ensures.node grown g (all-registers f g k e.r0 e.r1 e.r2 e.v0 e.v1 e.v2);
+      folded = next-folded l ns ms i n k c.loop-index.invariant.folded here f known c.folded_by-new.ensures.node grown;
+      known = next-behind l ns ms i n k c.loop-index.invariant.folded here f known c.folded_by-new.ensures.node grown g (all-registers f g k e.r0 e.r1 e.r2 e.v0 e.v1 e.v2);
     }

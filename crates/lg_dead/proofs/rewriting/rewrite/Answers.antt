@@ -13,8 +13,8 @@ use Rattle.lg_dead.proofs.NoFoldLemmas.{threads-keep}
 use Rattle.lg_dead.proofs.ThreadLiveLemmas.{threads-keep-no-dead}
 use Rattle.lg_dead.proofs.rewriting.rewrite.Goals as goal
 
-pub joined-requires : goal.joined-requires
-joined-requires c =
+pub joined-requires-clause-within : goal.joined-requires-clause-within
+joined-requires-clause-within c =
     let l = c.args.nodes.now in
     let m = c.in_ok-moved.field-0 in
     let t = c.in_ok-nodes.field-0 in

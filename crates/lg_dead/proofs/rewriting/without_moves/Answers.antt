@@ -14,8 +14,8 @@ use Rattle.lg_dead.proofs.MovesKeepLemmas.{no-dead-but-moves}
 use Rattle.lg_dead.proofs.NoFoldLemmas.{moves-keep}
 use Rattle.lg_dead.proofs.rewriting.without_moves.Goals as goal
 
-pub joined-requires : goal.joined-requires
-joined-requires c =
+pub joined-requires-clause-within : goal.joined-requires-clause-within
+joined-requires-clause-within c =
     let l = c.args.nodes.now in
     let n = c.in_ok-needed.field-0 in
     let t = c.in_ok-nodes.field-0 in

@@ -21,11 +21,11 @@ loop-index-preserved c =
     let here = sym c.node-node.ensures.node in
     let lt : i < length l.nodes = omega arith in
     let mark = c.is_labelled.ensures l c.requires.labels in
-    let are = λ (r : Reg). c.at_node-here.ensures r ∙ ap (λ b. if b then None else source_of c.loop-index.sources r) mark ∙ c.loop-index.invariant.sources r in
-    let stay = stays-is l i n here c.at_node-here.result are c.stays_here.result c.stays_here.ensures in
+    let are = λ (r : Reg). c.meet.ensures r ∙ ap (λ b. if b then None else source_of c.loop-index.sources r) mark ∙ c.loop-index.invariant.sources r in
+    let stay = stays-is l i n here c.meet.new.sources are c.stays_here.result c.stays_here.ensures in
     let grown = c.in_ok-push.ensures.items in
     record {
       count = ap length grown ∙ length-append c.loop-index.table.items (c.stays_here.result ∷ []) ∙ ap (λ k. k + 1) c.loop-index.invariant.count;
       stays = rw grown (more-stays l c.loop-index.table.items c.stays_here.result c.loop-index.invariant.stays (stay ∙ ap (stays l) (sym c.loop-index.invariant.count)));
-      sources = next-behind l i n here c.at_node-here.result are c.behind-sources.result c.behind-sources.ensures;
+      sources = next-behind l i n here c.meet.new.sources are c.pass.new.sources c.pass.ensures;
     }

@@ -1,38 +1,24 @@
-use Rattle.std.proofs.Common.{◌≡◌, ℕ, ◌<◌, length, refl, sym, ap, ◌∙◌, subst, arith}
+use Rattle.std.proofs.Common.{◌≡◌, ℕ, ◌<◌, length, refl, sym, ap, ◌∙◌, subst}
 use Rattle.lg_node.specs.Checks.{IsAccepted}
 use Rattle.lg_node.specs.Shapes.{IsShapeOf}
-use Rattle.lg_opt.specs.Goals.{stays, AreEnds}
-use Rattle.lg_opt.specs.Hops.{AreWithin}
+use Rattle.lg_opt.specs.Goals.{stays}
 use Rattle.lg_opt.specs.Remaining.{origins, rewritten}
 use Rattle.lg_opt.specs.Rewritings.{marked, target_in, IsThreadedTo}
-use Rattle.lg_opt.specs.Targets.{AreLabelsAt, AreTargets}
+use Rattle.lg_opt.specs.Targets.{AreTargets}
 use Rattle.lg_opt.proofs.AcceptLemmas.{accepted}
 use Rattle.lg_opt.proofs.ClauseLemmas.{all-ok, list-is, from-is}
-use Rattle.lg_opt.proofs.TargetLemmas.{jumps-within, threads-rewrite}
+use Rattle.lg_opt.proofs.TargetLemmas.{threads-rewrite}
 use Rattle.lg_opt.proofs.threading.threaded.Goals as goal
-
-pub ends-requires : goal.ends-requires
-ends-requires c = record { within = jumps-within c.args.nodes c.requires.accepted c.what_holds.ensures.formed }
-
-pub targets-requires : goal.targets-requires
-targets-requires c = record {
-  accepted = c.requires.accepted;
-  ends_count = ap length c.deref-2.ensures.value ∙ c.in_ok-ends.ensures.0;
-  within = subst AreWithin (sym c.deref-2.ensures.value) c.in_ok-ends.ensures.1;
-  ends = subst (AreEnds c.args.nodes) (sym c.deref-2.ensures.value) c.in_ok-ends.ensures.2;
-  labels_count = ap length c.deref-3.ensures.value ∙ c.in_ok-labels.ensures.count;
-  labels = subst (AreLabelsAt c.args.nodes) (sym c.deref-3.ensures.value) c.in_ok-labels.ensures.labels;
-}
 
 pub remade-requires : goal.remade-requires
 remade-requires c =
     let l = c.args.nodes in
-    let now = c.deref-4.result.now in
-    let targets = target_in c.deref-5.result.now in
-    let count = ap length c.deref-4.ensures.value ∙ c.in_ok-stays.ensures.0 in
-    let are : (i : ℕ) → i < length l.nodes → marked now i ≡ stays l i = λ i lt. ap (λ xs. marked xs i) c.deref-4.ensures.value ∙ c.in_ok-stays.ensures.1 i (omega arith) (omega (arith, lt, c.in_ok-stays.ensures.0)) in
-    let ok = subst (λ xs. AreTargets l (target_in xs)) (sym c.deref-5.ensures.value) c.in_ok-targets.ensures in
-    let list = list-is l (stays l) now count are c.deref-5.result.now targets (λ i lt. refl) c.what_holds.ensures.placed (rewritten l (marked now) targets) refl in
+    let now = c.deref.result.now in
+    let targets = target_in c.deref-2.result.now in
+    let count = ap length c.deref.ensures.value ∙ c.in_ok-tables.ensures.count in
+    let are : (i : ℕ) → i < length l.nodes → marked now i ≡ stays l i = λ i lt. ap (λ xs. marked xs i) c.deref.ensures.value ∙ c.in_ok-tables.ensures.stays i lt in
+    let ok = subst (λ xs. AreTargets l (target_in xs)) (sym c.deref-2.ensures.value) c.in_ok-tables.ensures.targets_are in
+    let list = list-is l (stays l) now count are c.deref-2.result.now targets (λ i lt. refl) c.what_holds.ensures.placed (rewritten l (marked now) targets) refl in
     record {
       count = count;
       targets = λ i n y e t. (ok.others i n y e t).jumps;
@@ -43,12 +29,12 @@ remade-requires c =
 pub returns : goal.returns
 returns c =
     let l = c.args.nodes in
-    let now = c.deref-4.result.now in
-    let targets = target_in c.deref-5.result.now in
-    let count = ap length c.deref-4.ensures.value ∙ c.in_ok-stays.ensures.0 in
-    let are : (i : ℕ) → i < length l.nodes → marked now i ≡ stays l i = λ i lt. ap (λ xs. marked xs i) c.deref-4.ensures.value ∙ c.in_ok-stays.ensures.1 i (omega arith) (omega (arith, lt, c.in_ok-stays.ensures.0)) in
-    let ok = subst (λ xs. AreTargets l (target_in xs)) (sym c.deref-5.ensures.value) c.in_ok-targets.ensures in
-    let list = list-is l (stays l) now count are c.deref-5.result.now targets (λ i lt. refl) c.what_holds.ensures.placed (rewritten l (marked now) targets) refl in
+    let now = c.deref.result.now in
+    let targets = target_in c.deref-2.result.now in
+    let count = ap length c.deref.ensures.value ∙ c.in_ok-tables.ensures.count in
+    let are : (i : ℕ) → i < length l.nodes → marked now i ≡ stays l i = λ i lt. ap (λ xs. marked xs i) c.deref.ensures.value ∙ c.in_ok-tables.ensures.stays i lt in
+    let ok = subst (λ xs. AreTargets l (target_in xs)) (sym c.deref-2.ensures.value) c.in_ok-tables.ensures.targets_are in
+    let list = list-is l (stays l) now count are c.deref-2.result.now targets (λ i lt. refl) c.what_holds.ensures.placed (rewritten l (marked now) targets) refl in
     all-ok (λ r. r.nodes ≡ rewritten l (marked now) targets) (λ r. IsShapeOf r.nodes r.shape) (λ r. r.shape.taken ≡ c.args.shape.taken) (λ r. r.origin.items ≡ origins (marked now) (length now))
     (λ r. IsThreadedTo l c.args.shape r.nodes r.shape r.origin.items) c.remade.result
     (λ r n s t o. record { targets = targets; are = ok; nodes = n ∙ list; shaped = s; taken = t; from = o ∙ from-is l (stays l) now count are })

@@ -1,6 +1,6 @@
 use Rattle.std.proofs.Common.{◌≡◌, ◌+◌, ◌≤◌, length, map, take}
 use Rattle.std.specs.Prelude.{slice_index}
-use Rattle.lg_dead.proofs.rewriting.joined.Given as goal
+use Rattle.lg_dead.proofs.rewriting.joined_each.Given as goal
 
 abbrev pub invariant-loop-index : goal.invariant-loop-index
 invariant-loop-index l = record {

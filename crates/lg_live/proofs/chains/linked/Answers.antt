@@ -1,7 +1,7 @@
 use Rattle.std.proofs.Common.{rules, ◌≡◌, length, take, drop, ◌++◌, refl, add-one, ap, ◌∙◌, arith}
 use Rattle.lg_live.specs.Graphs.{point_at}
 use Rattle.lg_live.proofs.ChainLemmas.{linked_on, linked_start, put_back}
-use Rattle.lg_live.proofs.chains.Chains.of.Goals as goal
+use Rattle.lg_live.proofs.chains.linked.Goals as goal
 
 pub loop-index-init : goal.loop-index-init
 loop-index-init c = linked_start c.args.points.now c.args.count c.in_ok-last.last.items c.in_ok-earlier.earlier.items (c.in_ok-last.ensures.items_if_clones_equal (λ y p. search rules)) c.in_ok-earlier.ensures.items
