@@ -5,8 +5,7 @@ ghost use Rattle.lg_node.specs.Shapes.{IsShapeOf};
 ghost use Rattle.lg_opt.specs.Moves.{HasNoIdleMoves, is_movr};
 ghost use Rattle.lg_opt.specs.Rewritings.{IsOrigin, IsSameNode, KeepsOthers, KeepsLabels, CarriesAddresses, RunsAreDropped, IsDroppedTo};
 
-use crate::labels::labels_at;
-use crate::moves::staying;
+use crate::moves::stays_of;
 use crate::rewritten::{Rewritten, remade};
 use lg_base::OutOfMemory;
 use lg_node::{NodeList, Shape};
@@ -18,8 +17,7 @@ fn dropped(alloc: Global, nodes: NodeList, shape: Shape) -> Result<Rewritten, Ou
     ensures { IfOk result (λ r. IsDroppedTo nodes shape r.nodes r.shape r.origin.items) }
 {
     nodes.what_holds();
-    let labels = labels_at(alloc, &nodes)?;
-    let stays = staying(alloc, &nodes, &labels)?;
+    let stays = stays_of(alloc, &nodes)?;
     remade(alloc, nodes, shape, &stays, &[])
 }
 

@@ -7,7 +7,7 @@ ghost use Rattle.lg_opt.specs.Moves.{behind_at, is_idle, move_of};
 ghost use Rattle.lg_opt.specs.SourceTables.{source_of, AreStays};
 ghost use Rattle.lg_opt.specs.Targets.{AreLabelsAt};
 
-use crate::labels::is_labelled;
+use crate::labels::{is_labelled, labels_at};
 use crate::sources::{Sources, move_of};
 use lg_base::OutOfMemory;
 use lg_node::{ControlOp, Label, Node, NodeList, Op, PlainOp};
@@ -56,8 +56,8 @@ fn stays_here(sources: &Sources, node: &Node) -> bool
     }
 }
 
-/// Of each node whether it stays: all but the moves that do nothing.
-pub fn staying(
+// Of each node whether it stays, by the labels that stand at the nodes.
+fn staying(
     alloc: Global,
     nodes: &NodeList,
     labels: &[Option<Label>],
@@ -75,4 +75,12 @@ pub fn staying(
         pass(&mut sources, &node);
     }
     Ok(table)
+}
+
+/// Of each node whether it stays: all but the moves that do nothing.
+pub fn stays_of(alloc: Global, nodes: &NodeList) -> Result<Vec<bool>, OutOfMemory>
+    ensures { IfOk result (λ table. (length table.items ≡ length nodes.now.nodes) × AreStays nodes.now table.items) }
+{
+    let labels = labels_at(alloc, nodes)?;
+    staying(alloc, nodes, &labels)
 }

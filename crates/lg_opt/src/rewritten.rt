@@ -45,6 +45,26 @@ pub fn finished(
     })
 }
 
+// The same nodes, with their shape.
+fn handed_back(
+    alloc: Global,
+    nodes: NodeList,
+    shape: Shape,
+    stays: &[bool],
+) -> Result<Rewritten, OutOfMemory>
+    requires { length stays.now < 2 ^ 32 }
+    ensures nodes { IfOk result (λ r. r.nodes ≡ nodes) }
+    ensures shape { IfOk result (λ r. r.shape ≡ shape) }
+    ensures origin { IfOk result (λ r. r.origin.items ≡ origins (marked stays.now) (length stays.now)) }
+{
+    let origin = origin(alloc, stays)?;
+    Ok(Rewritten {
+        nodes,
+        shape,
+        origin,
+    })
+}
+
 /// The nodes that stay, with their targets and the labels in their new places, with their shape. Where all stay as they are it is the same list.
 #[tactic(auto, using(crate::proofs::WholeLemmas::whole))]
 pub fn remade(
@@ -65,12 +85,7 @@ pub fn remade(
 {
     nodes.what_holds();
     if all_stay(stays) && none_given(targets) {
-        let origin = origin(alloc, stays)?;
-        return Ok(Rewritten {
-            nodes,
-            shape,
-            origin,
-        });
+        return handed_back(alloc, nodes, shape, stays);
     }
     let list = rebuilt(alloc, &nodes, stays, targets)?;
     finished(alloc, list, &shape, stays)

@@ -12,9 +12,9 @@ use Rattle.lg_opt.proofs.dropping.dropped.Goals as goal
 pub remade-requires : goal.remade-requires
 remade-requires c =
     let l = c.args.nodes in
-    let now = c.deref-2.result.now in
-    let count = ap length c.deref-2.ensures.value ∙ c.in_ok-stays.ensures.0 in
-    let are : (i : ℕ) → i < length l.nodes → marked now i ≡ stays l i = λ i lt. ap (λ xs. marked xs i) c.deref-2.ensures.value ∙ c.in_ok-stays.ensures.1 i (omega (arith, lt, c.in_ok-stays.ensures.0)) in
+    let now = c.deref.result.now in
+    let count = ap length c.deref.ensures.value ∙ c.in_ok-stays.ensures.0 in
+    let are : (i : ℕ) → i < length l.nodes → marked now i ≡ stays l i = λ i lt. ap (λ xs. marked xs i) c.deref.ensures.value ∙ c.in_ok-stays.ensures.1 i (omega (arith, lt, c.in_ok-stays.ensures.0)) in
     let list = list-is l (stays l) now count are [] no_targets (λ i lt. refl) c.what_holds.ensures.placed (rewritten l (marked now) (target_in [])) refl in
     record {
       count = count;
@@ -26,9 +26,9 @@ remade-requires c =
 pub returns : goal.returns
 returns c =
     let l = c.args.nodes in
-    let now = c.deref-2.result.now in
-    let count = ap length c.deref-2.ensures.value ∙ c.in_ok-stays.ensures.0 in
-    let are : (i : ℕ) → i < length l.nodes → marked now i ≡ stays l i = λ i lt. ap (λ xs. marked xs i) c.deref-2.ensures.value ∙ c.in_ok-stays.ensures.1 i (omega (arith, lt, c.in_ok-stays.ensures.0)) in
+    let now = c.deref.result.now in
+    let count = ap length c.deref.ensures.value ∙ c.in_ok-stays.ensures.0 in
+    let are : (i : ℕ) → i < length l.nodes → marked now i ≡ stays l i = λ i lt. ap (λ xs. marked xs i) c.deref.ensures.value ∙ c.in_ok-stays.ensures.1 i (omega (arith, lt, c.in_ok-stays.ensures.0)) in
     let list = list-is l (stays l) now count are [] no_targets (λ i lt. refl) c.what_holds.ensures.placed (rewritten l (marked now) (target_in [])) refl in
     all-ok (λ r. r.nodes ≡ rewritten l (marked now) (target_in [])) (λ r. IsShapeOf r.nodes r.shape) (λ r. r.shape.taken ≡ c.args.shape.taken) (λ r. r.origin.items ≡ origins (marked now) (length now))
     (λ r. IsDroppedTo l c.args.shape r.nodes r.shape r.origin.items) c.remade.result
