@@ -1,9 +1,9 @@
 // Runs code whose stack is disturbed between any two instructions, as by a signal: what lies below the stack pointer and the target's zone is written over
 // before each step.
 
-ghost use Rattle.std.specs.Prelude.{◌<◌, ◌≤◌, length, IfOk};
+ghost use Rattle.std.specs.Prelude.{◌<◌, ◌≤◌, length, IfOk, IsTrue};
 ghost use Rattle.lg_base.specs.Arguments.{most_args};
-ghost use Rattle.lg_test_calls.specs.Made.{CanRun};
+ghost use Rattle.lg_base.specs.Layout.{most_code};
 
 use crate::call::{done_on, words_of};
 use lg_asm::Code;
@@ -35,13 +35,6 @@ const WORDS: u64 = 64;
 // Room for what a run writes.
 const ROOM: usize = 1_048_576;
 
-/// The unit of a text, whose data part a run begins with, and its code for a target.
-#[derive(Drop)]
-pub struct Made {
-    pub unit: Unit,
-    pub code: Code,
-}
-
 // The unit of a text of at most 16,777,216 bytes.
 fn unit_of(alloc: Global, text: &[u8]) -> Result<Unit, Stop> {
     if text.len() > MOST_TEXT {
@@ -69,14 +62,11 @@ fn code_of(alloc: Global, target: &str, text: &[u8]) -> Result<Code, Stop> {
         .ok_or(Stop::OutOfMemory)
 }
 
-// A unit and its code, where they fit the memory.
-fn made_of(unit: Unit, code: Code) -> Result<Made, Stop>
-    ensures { IfOk result CanRun }
+// Whether code and a data part fit the memory.
+fn fit(code: &Code, unit: &Unit) -> bool
+    ensures { IsTrue result → (length code.now.bytes ≤ most_code) × (length unit.now.image ≤ 0x1000000) }
 {
-    if code.bytes().len() > MOST_CODE || unit.image.len() > MOST_DATA {
-        return Err(Stop::OutOfMemory);
-    }
-    Ok(Made { unit, code })
+    code.bytes().len() <= MOST_CODE && unit.image.len() <= MOST_DATA
 }
 
 // A target's stack: the number of its pointer's register, and how many bytes below it count.
@@ -138,26 +128,46 @@ fn run(cpu: &mut Cpu, stack: Stack, disturbs: bool, out: &mut MemorySink) -> Cpu
 // Runs code from a new processor on, whose stack is disturbed or not.
 fn run_anew(
     alloc: Global,
-    made: &Made,
+    code: &Code,
+    unit: &Unit,
     args: &ArgImage,
     stack: Stack,
     disturbs: bool,
 ) -> Result<Ran, OutOfMemory>
-    requires code { CanRun made.now }
+    requires code { length code.now.bytes ≤ most_code }
+    requires image { length unit.now.image ≤ 0x1000000 }
     requires args { length args.now ≤ most_args }
     requires stack { stack.pointer < 32 }
 {
     let mut out = MemorySink::new(alloc, ROOM, &[])?;
     let mut cpu = Cpu::new(
         alloc,
-        made.code.target(),
-        made.code.bytes(),
-        &made.unit.image,
+        code.target(),
+        code.bytes(),
+        &unit.image,
         args,
         ANYTHING,
     )?;
     let end = run(&mut cpu, stack, disturbs, &mut out);
     Ok(Ran { out, end })
+}
+
+// Whether two runs of code, of which one is disturbed, write the same and end in the same way.
+fn run_alike(
+    alloc: Global,
+    code: &Code,
+    unit: &Unit,
+    args: &ArgImage,
+    stack: Stack,
+) -> Result<bool, OutOfMemory>
+    requires code { length code.now.bytes ≤ most_code }
+    requires image { length unit.now.image ≤ 0x1000000 }
+    requires args { length args.now ≤ most_args }
+    requires stack { stack.pointer < 32 }
+{
+    let still = run_anew(alloc, code, unit, args, stack, false)?;
+    let disturbed = run_anew(alloc, code, unit, args, stack, true)?;
+    Ok(still.end == disturbed.end && still.out.bytes() == disturbed.out.bytes())
 }
 
 // The argument part of a text with these words behind its name, with bars between.
@@ -171,13 +181,27 @@ fn args_of(alloc: Global, further: &str) -> Result<ArgImage, Stop>
     args_image(alloc, &words)
 }
 
+// Whether code and a unit that fit the memory run alike with words behind the text's name.
+fn code_runs_alike(
+    alloc: Global,
+    code: &Code,
+    unit: &Unit,
+    stack: Stack,
+    further: &str,
+) -> Result<bool, Stop>
+    requires { stack.pointer < 32 }
+{
+    if !fit(code, unit) {
+        return Ok(false);
+    }
+    let args = args_of(alloc, further)?;
+    Ok(run_alike(alloc, code, unit, &args, stack)?)
+}
+
 /// Whether the code of a text for a target, with words behind its name, writes the same bytes and ends in the same way where its stack is disturbed as where
 /// it is not.
 pub fn is_alike(alloc: Global, target: &str, text: &[u8], further: &str) -> Result<bool, Stop> {
-    let stack = stack_of(target);
-    let made = made_of(unit_of(alloc, text)?, code_of(alloc, target, text)?)?;
-    let args = args_of(alloc, further)?;
-    let still = run_anew(alloc, &made, &args, stack, false)?;
-    let disturbed = run_anew(alloc, &made, &args, stack, true)?;
-    Ok(still.end == disturbed.end && still.out.bytes() == disturbed.out.bytes())
+    let unit = unit_of(alloc, text)?;
+    let code = code_of(alloc, target, text)?;
+    code_runs_alike(alloc, &code, &unit, stack_of(target), further)
 }
