@@ -1,9 +1,10 @@
 // The nodes of a text, folded.
 
-ghost use Rattle.std.specs.Prelude.{◌≡◌, ◌<◌, ◌≤◌, ℕ, true, false, if◌then◌else◌, None, Some, [], length, OnOk, IfOk};
+ghost use Rattle.std.specs.Prelude.{◌≡◌, ◌<◌, ◌≤◌, ◌-◌, ◌^◌, ℕ, true, false, if◌then◌else◌, None, Some, [], length, OnOk, IfOk};
 ghost use Rattle.lg_op.specs.declared.operand.Reg.{Reg};
 ghost use Rattle.lg_op.specs.declared.operand.Reg.TheVariants.{R0, R1, R2, V0, V1, V2};
 ghost use Rattle.lg_op.specs.Nodes.{InForm};
+ghost use Rattle.lg_node.specs.Nodes.{with_node};
 ghost use Rattle.lg_node.specs.Shapes.{IsShapeOf};
 ghost use Rattle.lg_opt.specs.Rewritings.{marked, IsOrigin, KeepsOthers, KeepsLabels, CarriesAddresses, RunsAreDropped};
 ghost use Rattle.lg_opt.specs.Targets.{AreLabelsAt};
@@ -47,17 +48,33 @@ fn pass(known: &mut Known, node: &Node)
     }
 }
 
-// What a node becomes. Where nothing is known nothing can be folded.
-#[tactic(auto, using(crate::proofs::NoneLemmas::none_folded))]
-fn folded_by(known: &Known, node: Node) -> Node
-    requires form { InForm node }
-    ensures node { result ≡ folded (known_of known.now) node }
-    ensures form { InForm result }
+// Appends a node, and goes on behind it.
+#[inline(always)]
+fn push_on(list: &mut NodeList, known: &mut Known, new: &Node) -> Result<(), OutOfMemory>
+    requires room { length list.old.nodes < 2 ^ 32 - 1 }
+    requires form { InForm new.now }
+    ensures list { OnOk result (list.new ≡ with_node list.old new.now) }
+    ensures known { OnOk result ((r : Reg) → known_of known.new r ≡ known_at (known_of known.old) (Some new.now) r) }
+{
+    list.push(*new)?;
+    pass(known, new);
+    Ok(())
+}
+
+// Appends what a node becomes, and goes on behind that. Where nothing is known nothing can be folded.
+#[inline(always)]
+fn push_next(list: &mut NodeList, known: &mut Known, node: &Node) -> Result<(), OutOfMemory>
+    requires room { length list.old.nodes < 2 ^ 32 - 1 }
+    requires form { InForm node.now }
+    ensures list { OnOk result (list.new ≡ with_node list.old (folded (known_of known.old) node.now)) }
+    ensures known { OnOk result
+        ((r : Reg) → known_of known.new r ≡ known_at (known_of known.old) (Some (folded (known_of known.old) node.now)) r) }
 {
     if known.is_none() {
-        node
+        push_on(list, known, node)
     } else {
-        folded(known, &node)
+        let new = folded(known, node);
+        push_on(list, known, &new)
     }
 }
 
@@ -77,9 +94,7 @@ fn push_folded(
     for index in 0..nodes.len() {
         let node = nodes.node(index);
         meet(&mut known, is_labelled(labels, index));
-        let new = folded_by(&known, node);
-        list.push(new)?;
-        pass(&mut known, &new);
+        push_next(list, &mut known, &node)?;
     }
     Ok(())
 }

@@ -12,7 +12,7 @@ ghost use Rattle.lg_live.specs.Points.{falls_by, aims_by, gathers_by, node_withi
 use crate::definitions::{Sought, feeding};
 use crate::point::Point;
 use crate::reg_set::RegSet;
-use crate::uses::{reads, writes};
+use crate::uses::uses_at;
 use lg_base::OutOfMemory;
 use lg_node::{ControlOp, Label, LastOperand, Node, NodeList, Op, Operand, Place, PlainOp, Shape};
 use std::alloc::Global;
@@ -168,14 +168,15 @@ fn point(
 ) -> Point
     requires shape { IsShapeOf nodes.now shape.now }
     requires marked { IsMarkedAt nodes.now shape.now index marked }
+    requires node { slice_get nodes.now.nodes index ≡ Some node.now }
     ensures { IsPoint (feeding sought) nodes.now shape.now index node.now result }
 {
-    let read = reads(node);
+    let uses = uses_at(nodes, index);
     let feeds = feeding(sought, node.op);
     Point {
-        reads: kept_where(!feeds, read),
-        feeds: kept_where(feeds, read),
-        writes: writes(node),
+        reads: kept_where(!feeds, uses.reads),
+        feeds: kept_where(feeds, uses.reads),
+        writes: uses.writes,
         falls: falls(node.op) && index as usize + 1 < nodes.len() as usize,
         jumps: jump_of(nodes, shape, index, node),
         joins: join_of(nodes, shape, index, marked),

@@ -1,11 +1,13 @@
 // The registers that a node reads and writes.
 
-ghost use Rattle.std.specs.Prelude.{◌≡◌, ◌||◌, ◌&&◌};
+ghost use Rattle.std.specs.Prelude.{◌≡◌, ◌<◌, ◌||◌, ◌&&◌, Some, length, slice_get, IfSome};
+ghost use Rattle.lg_op.specs.declared.node.Node.{Node};
 ghost use Rattle.lg_op.specs.declared.operand.Reg.{Reg};
 ghost use Rattle.lg_live.specs.RegSets.{has, IsSmall};
 ghost use Rattle.lg_live.specs.Uses.{is_for, is_register, names, is_call, is_read, is_written};
 
 use crate::reg_set::RegSet;
+use lg_node::NodeList;
 use lg_op::{ControlOp, Form, LastOperand, Node, Op, Operand, PlainOp, Reg};
 
 /// What a node does with a register.
@@ -136,5 +138,66 @@ pub fn writes(node: &Node) -> RegSet
         }
         (Op::Branch(_, _), [_, _, _]) => none,
         _ => writes_by_forms(node),
+    }
+}
+
+/// What a node reads and writes, of R0 to V2.
+#[derive(Clone, Copy, Debug, PartialEq, Eq)]
+pub struct Uses {
+    /// The registers that it reads.
+    pub reads: RegSet,
+    /// The registers that it writes.
+    pub writes: RegSet,
+}
+
+// What a node of one of the common forms reads and writes.
+#[inline(always)]
+fn common(node: &Node) -> Option<Uses>
+    ensures reads { IfSome result (λ u. (r : Reg) → has u.reads r ≡ is_read node.now r) }
+    ensures writes { IfSome result (λ u. (r : Reg) → has u.writes r ≡ is_written node.now r) }
+{
+    let none = RegSet::none();
+    let (reads, writes) = match (node.op, node.operands.as_slice()) {
+        (Op::Binary(_, LastOperand::Register), [d, a, b]) => (
+            with_register(with_register(none, *b), *a),
+            with_register(none, *d),
+        ),
+        (Op::Binary(_, LastOperand::Immediate), [d, a, _]) | (Op::Unary(_), [d, a]) => {
+            (with_register(none, *a), with_register(none, *d))
+        }
+        (Op::Plain(PlainOp::Movi), [d, _]) => (none, with_register(none, *d)),
+        (Op::Branch(_, LastOperand::Register), [_, a, b]) => {
+            (with_register(with_register(none, *b), *a), none)
+        }
+        (Op::Branch(_, LastOperand::Immediate), [_, a, _]) => (with_register(none, *a), none),
+        _ => return None,
+    };
+    Some(Uses { reads, writes })
+}
+
+// What any node of a list reads and writes.
+#[inline(never)]
+fn any_uses(nodes: &NodeList, index: u32) -> Uses
+    requires { index < length nodes.now.nodes }
+    ensures reads { (n : Node) → slice_get nodes.now.nodes index ≡ Some n → (r : Reg) → has result.reads r ≡ is_read n r }
+    ensures writes { (n : Node) → slice_get nodes.now.nodes index ≡ Some n → (r : Reg) → has result.writes r ≡ is_written n r }
+{
+    let node = nodes.node(index);
+    Uses {
+        reads: reads_by_forms(&node),
+        writes: writes_by_forms(&node),
+    }
+}
+
+/// What the node of an index reads and writes, which is below the number of nodes.
+#[inline(always)]
+pub fn uses_at(nodes: &NodeList, index: u32) -> Uses
+    requires { index < length nodes.now.nodes }
+    ensures reads { (n : Node) → slice_get nodes.now.nodes index ≡ Some n → (r : Reg) → has result.reads r ≡ is_read n r }
+    ensures writes { (n : Node) → slice_get nodes.now.nodes index ≡ Some n → (r : Reg) → has result.writes r ≡ is_written n r }
+{
+    match common(&nodes.node(index)) {
+        Some(uses) => uses,
+        None => any_uses(nodes, index),
     }
 }

@@ -1,6 +1,6 @@
 // Where jumps lead: a table with the node to which the jumps from each node lead in the end.
 
-ghost use Rattle.std.specs.Prelude.{◌≡◌, ◌<◌, ◌+◌, ℕ, false, length, IfOk};
+ghost use Rattle.std.specs.Prelude.{◌≡◌, ◌<◌, ◌+◌, ◌==◌, ◌||◌, not, ℕ, false, length, IfOk};
 ghost use Rattle.lg_node.specs.Nodes.{LabelledNodes};
 ghost use Rattle.lg_opt.specs.Hops.{AreHops, AreLeads, AreWithin, JumpsWithin, hop, is_jump, jump_at};
 ghost use Rattle.lg_opt.specs.Targets.{target_node};
@@ -9,15 +9,27 @@ use lg_base::OutOfMemory;
 use lg_node::{ControlOp, LastOperand, Node, NodeList, Op, Operand, Place};
 use std::alloc::Global;
 
-// Where twice as many jumps lead, or more: each lead is followed once.
-fn double(table: &mut [u32])
+// Whether some lead changed, or this one did.
+fn has_changed(changed: bool, new: u32, old: u32) -> bool
+    ensures { result ≡ (changed || not (new == old)) }
+{
+    changed || new != old
+}
+
+// Where twice as many jumps lead, or more: each lead is followed once. Whether some lead changed.
+fn double(table: &mut [u32]) -> bool
     requires { AreWithin table.old }
     ensures within { AreWithin table.new }
     ensures leads { (l : LabelledNodes) (w : ℕ) → AreLeads l w table.old → AreLeads l (w + w) table.new }
+    ensures still { result ≡ false → table.new ≡ table.old }
 {
+    let mut changed = false;
     for index in 0..table.len() {
-        table[index] = table[table[index] as usize];
+        let next = table[index];
+        table[index] = table[next as usize];
+        changed = has_changed(changed, table[index], next);
     }
+    changed
 }
 
 /// The node to which a branch or jump goes.
@@ -87,7 +99,9 @@ pub fn leads(alloc: Global, nodes: &NodeList) -> Result<Vec<u32>, OutOfMemory>
     let count = nodes.len() as u64;
     let mut far: u64 = 1;
     while far < count {
-        double(&mut table);
+        if !double(&mut table) {
+            return Ok(table);
+        }
         far = far + far;
     }
     Ok(table)

@@ -1,6 +1,7 @@
 // Which moves do nothing.
 
-ghost use Rattle.std.specs.Prelude.{◌≡◌, ◌<◌, if◌then◌else◌, not, None, Some, Option, false, length, IfOk};
+ghost use Rattle.std.specs.Prelude.{◌≡◌, ◌<◌, if◌then◌else◌, not, None, Some, Option, false, length, slice_get, IfOk};
+ghost use Rattle.lg_op.specs.declared.node.Node.{Node};
 ghost use Rattle.lg_op.specs.declared.operand.Reg.{Reg};
 ghost use Rattle.lg_carry.specs.Carries.{leaps};
 ghost use Rattle.lg_opt.specs.Moves.{behind_at, is_idle, move_of};
@@ -8,7 +9,7 @@ ghost use Rattle.lg_opt.specs.SourceTables.{source_of, AreStays};
 ghost use Rattle.lg_opt.specs.Targets.{AreLabelsAt};
 
 use crate::labels::{is_labelled, labels_at};
-use crate::sources::{Sources, move_of};
+use crate::sources::{Sources, is_movr, move_of};
 use lg_base::OutOfMemory;
 use lg_node::{ControlOp, Label, Node, NodeList, Op, PlainOp};
 use std::alloc::Global;
@@ -56,6 +57,31 @@ fn stays_here(sources: &Sources, node: &Node) -> bool
     }
 }
 
+// Whether a node is no move that does nothing, and the sources behind it, of those at it.
+#[inline(never)]
+fn look_closely(sources: &mut Sources, node: &Node) -> bool
+    ensures stays { result ≡ not (is_idle (source_of sources.old) (move_of node.now.op node.now.operands)) }
+    ensures behind { (r : Reg) → source_of sources.new r ≡ behind_at (source_of sources.old) (Some node.now) r }
+{
+    let stays = stays_here(sources, node);
+    pass(sources, node);
+    stays
+}
+
+// The same of the node of an index: where no register was moved a look at its operation says it, unless it is a move.
+#[inline(always)]
+#[tactic(auto, using(crate::proofs::SourceLemmas::none_idle))]
+fn look(sources: &mut Sources, nodes: &NodeList, index: u32) -> bool
+    requires { index < length nodes.now.nodes }
+    ensures stays { (n : Node) → slice_get nodes.now.nodes index ≡ Some n → result ≡ not (is_idle (source_of sources.old) (move_of n.op n.operands)) }
+    ensures behind { (n : Node) → slice_get nodes.now.nodes index ≡ Some n → (r : Reg) → source_of sources.new r ≡ behind_at (source_of sources.old) (Some n) r }
+{
+    if sources.is_none() && !is_movr(nodes.node(index).op) {
+        return true;
+    }
+    look_closely(sources, &nodes.node(index))
+}
+
 // Of each node whether it stays, by the labels that stand at the nodes.
 fn staying(
     alloc: Global,
@@ -69,10 +95,8 @@ fn staying(
     let mut table = Vec::with_capacity(alloc, nodes.len() as usize)?;
     let mut sources = Sources::none();
     for index in 0..nodes.len() {
-        let node = nodes.node(index);
         meet(&mut sources, is_labelled(labels, index));
-        table.push(stays_here(&sources, &node))?;
-        pass(&mut sources, &node);
+        table.push(look(&mut sources, nodes, index))?;
     }
     Ok(table)
 }

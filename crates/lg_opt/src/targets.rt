@@ -39,14 +39,18 @@ fn target_at(nodes: &NodeList, ends: &[u32], labels: &[Option<Label>], index: u3
     if !has_target(node.op) {
         return None;
     }
-    let end = ends[target_node(nodes, &node) as usize];
+    let target = target_node(nodes, &node);
+    let end = ends[target as usize];
+    if end == target {
+        return None;
+    }
     if is_jump(nodes.node(end).op) {
         return None;
     }
     labels[end as usize]
 }
 
-/// Of each branch and jump another target: a label where the jumps from its own lead in the end, unless they turn.
+/// Of each branch and jump another target: a label where the jumps from its own lead in the end, unless they turn, or its own leads to none.
 pub fn targets(
     alloc: Global,
     nodes: &NodeList,

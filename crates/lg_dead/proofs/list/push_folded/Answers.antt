@@ -2,8 +2,9 @@ use Rattle.std.proofs.Common.{◌≡◌, None, [], ◌∷◌, ◌++◌, refl, sy
 use Rattle.std.specs.Prelude.{if◌then◌else◌}
 use Rattle.lg_op.specs.declared.operand.Reg.{Reg}
 use Rattle.lg_node.specs.Nodes.{LabelledNodes, with_node}
+use Rattle.lg_dead.specs.Known.{folded}
 use Rattle.lg_dead.specs.Tables.{known_of}
-use Rattle.lg_dead.proofs.FoldListLemmas.{first-folded, first-behind, next-folded, next-behind, all-registers}
+use Rattle.lg_dead.proofs.FoldListLemmas.{first-folded, first-behind, next-folded, next-behind}
 use Rattle.lg_dead.proofs.list.push_folded.Goals as goal
 
 pub loop-index-init : goal.loop-index-init
@@ -20,16 +21,15 @@ loop-index-preserved c =
     let n = c.node-node.result in
     let here = sym c.node-node.ensures.node in
     let ns = c.loop-index.list.nodes in
-    let ms = c.push.new.self.nodes in
-    let k = c.folded_by-new.result in
+    let ms = c.push_next.new.list.nodes in
     let f = c.meet.new.known in
-    let g = c.pass.new.known in
+    let k = folded (known_of f) n in
+    let g = c.push_next.new.known in
     let mark = c.is_labelled.ensures l c.requires.labels in
     let known = λ (r : Reg). c.meet.ensures r ∙ ap (λ b. if b then None else known_of c.loop-index.known r) mark ∙ c.loop-index.invariant.known r in
-    let grown : ms ≡ ns ++ k ∷ [] = ap (λ (x : LabelledNodes). x.nodes) c.in_ok-push.ensures.ok in
-    let e = c.pass.ensures in
+    let grown : ms ≡ ns ++ k ∷ [] = ap (λ (x : LabelledNodes). x.nodes) c.in_ok-push_next.ensures.list in
     record {
-      list = c.in_ok-push.ensures.ok ∙ ap (λ (x : LabelledNodes). with_node x k) c.loop-index.invariant.list ∙ ap (λ ys. record c.args.list.now { nodes = ys }) (sym grown);
-      folded = next-folded l ns ms i n k c.loop-index.invariant.folded here f known c.folded_by-new.ensures.node grown;
-      known = next-behind l ns ms i n k c.loop-index.invariant.folded here f known c.folded_by-new.ensures.node grown g (all-registers f g k e.r0 e.r1 e.r2 e.v0 e.v1 e.v2);
+      list = c.in_ok-push_next.ensures.list ∙ ap (λ (x : LabelledNodes). with_node x k) c.loop-index.invariant.list ∙ ap (λ ys. record c.args.list.now { nodes = ys }) (sym grown);
+      folded = next-folded l ns ms i n k c.loop-index.invariant.folded here f known refl grown;
+      known = next-behind l ns ms i n k c.loop-index.invariant.folded here f known refl grown g c.in_ok-push_next.ensures.known;
     }
