@@ -66,8 +66,9 @@ fn code_word(word: &[u8]) -> Result<Statement, RefusalKind>
     }
 }
 
-// What a word begins.
-fn word_statement(section: Section, word: &[u8]) -> Result<Statement, RefusalKind>
+// What a word begins, looked at from the first cause on.
+#[inline(never)]
+fn other_statement(section: Section, word: &[u8]) -> Result<Statement, RefusalKind>
     ensures { result ≡ word_statement section word.now }
 {
     if is_float_word(word) {
@@ -80,6 +81,19 @@ fn word_statement(section: Section, word: &[u8]) -> Result<Statement, RefusalKin
         Section::Code => code_word(word),
         Section::Data => Err(RefusalKind::UnknownName),
     }
+}
+
+// What a word begins. No operation has a name of floating point, so most words are looked up at once.
+#[tactic(auto, using(crate::proofs::WordLemmas::op_begins))]
+fn word_statement(section: Section, word: &[u8]) -> Result<Statement, RefusalKind>
+    ensures { result ≡ word_statement section word.now }
+{
+    if section == Section::Code
+        && let Some(op) = op_of(word)
+    {
+        return Ok(Statement::Instruction(op));
+    }
+    other_statement(section, word)
 }
 
 // What a directive begins.
