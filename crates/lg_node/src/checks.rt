@@ -46,6 +46,33 @@ fn refusal_at(
     }
 }
 
+// Goes behind the node of an index, or says why that is refused: all is looked at.
+#[inline(never)]
+fn pass_any(
+    nodes: &NodeList,
+    tables: &Tables,
+    walk: &mut Walk,
+    index: u32,
+    node: &Node,
+) -> Result<(), Refusal>
+    requires node { slice_get nodes.now.nodes index ≡ Some node.now }
+    requires form { InForm node.now }
+    requires tables { AreTables nodes.now tables.now }
+    requires walk { walk.old ≡ walk_at nodes.now.nodes index }
+    requires limits { IsWithinLimits walk.old }
+    ensures walk { OnOk result (walk.new ≡ walk_behind walk.old index node.now) }
+    ensures none { OnOk result (refusal_at nodes.now index ≡ None) }
+    ensures refused { IfErr result (λ r. refusal_at nodes.now index ≡ Some r) }
+{
+    match refusal_at(nodes, tables, *walk, index, node) {
+        Some(refusal) => Err(refusal),
+        None => {
+            walk.pass(index, node);
+            Ok(())
+        }
+    }
+}
+
 // Goes behind the node of an index, or says why that is refused. Most nodes change nothing and are not refused, which is seen at once.
 #[inline(always)]
 fn pass_node(
@@ -64,16 +91,10 @@ fn pass_node(
     ensures none { OnOk result (refusal_at nodes.now index ≡ None) }
     ensures refused { IfErr result (λ r. refusal_at nodes.now index ≡ Some r) }
 {
-    if is_quiet(*walk, node.op, node.operands.as_slice()) {
+    if is_quiet(walk, node.op, node.operands.as_slice()) {
         return Ok(());
     }
-    match refusal_at(nodes, tables, *walk, index, node) {
-        Some(refusal) => Err(refusal),
-        None => {
-            walk.pass_any(index, node);
-            Ok(())
-        }
-    }
+    pass_any(nodes, tables, walk, index, node)
 }
 
 // What is known at the end of nodes of which none is refused, or why the first one is that is.

@@ -161,9 +161,9 @@ impl Walk {
         }
     }
 
-    /// Goes behind the next node, which is in form: all is looked at.
+    // Goes behind the next node, which is in form: all is looked at.
     #[inline(never)]
-    pub(crate) fn pass_any(&mut self, index: u32, node: &Node)
+    fn pass_any(&mut self, index: u32, node: &Node)
         requires form { InForm node.now }
         requires limits { IsWithinLimits self.old }
         ensures { self.new ≡ walk_behind self.old index node.now }
