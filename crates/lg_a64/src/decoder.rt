@@ -124,6 +124,7 @@ fn branch_reg_without_operands(word: u32) -> u32
     Rn::put(word, 0)
 }
 
+#[inline(always)]
 #[tactic(auto, unfolding(crate::specs::Reading::reg_of))]
 fn decode_reg(word: u32) -> Option<Instr>
     ensures { result ≡ reg_of word }

@@ -83,17 +83,24 @@ fn other_statement(section: Section, word: &[u8]) -> Result<Statement, RefusalKi
     }
 }
 
-// What a word begins. No operation has a name of floating point, so most words are looked up at once.
-#[tactic(auto, using(crate::proofs::WordLemmas::op_begins))]
+// What a word begins in the code section. No operation has a name of floating point, so most words are looked up at once.
+fn code_statement(word: &[u8]) -> Result<Statement, RefusalKind>
+    ensures { result ≡ word_statement Section.Code word.now }
+{
+    match op_of(word) {
+        Some(op) => Ok(Statement::Instruction(op)),
+        None => other_statement(Section::Code, word),
+    }
+}
+
+// What a word begins.
 fn word_statement(section: Section, word: &[u8]) -> Result<Statement, RefusalKind>
     ensures { result ≡ word_statement section word.now }
 {
-    if section == Section::Code
-        && let Some(op) = op_of(word)
-    {
-        return Ok(Statement::Instruction(op));
+    match section {
+        Section::Code => code_statement(word),
+        Section::Data => other_statement(section, word),
     }
-    other_statement(section, word)
 }
 
 // What a directive begins.

@@ -28,7 +28,6 @@ use crate::rows::Mark;
 
 /// The instruction that the bytes begin with, and its length, 1 to 10. `None` where no row's spelling
 /// begins them.
-#[inline(always)]
 pub fn decode(bytes: &[u8]) -> Option<(Instr, u32)>
     ensures value { result ≡ front_of bytes.now }
     // whatever follows its spelling, an instruction is read as itself
@@ -40,7 +39,6 @@ pub fn decode(bytes: &[u8]) -> Option<(Instr, u32)>
     read(bytes)
 }
 
-#[inline(always)]
 #[tactic(auto, unfolding(crate::specs::Reading::read_of))]
 fn read(bytes: &[u8]) -> Option<(Instr, u32)>
     ensures exact { result ≡ read_of bytes.now }
@@ -271,7 +269,6 @@ fn read_escaped(
 }
 
 // a register that is made from another, or loaded
-#[inline(always)]
 #[tactic(auto, unfolding(crate::specs::Reading::read_reg))]
 fn read_reg(
     is_word_sized: bool,

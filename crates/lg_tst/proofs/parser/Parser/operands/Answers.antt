@@ -26,4 +26,4 @@ loop-form-preserved c =
 pub returns : goal.returns
 returns c =
     let past = subst (λ fs. length fs ≤ c.loop-form.form-index) c.written_forms-forms.ensures c.loop-form-test.false in
-    subst (λ read. Gives c.push.result c.push.new.self read) (sym (all_read c.args.op c.args.line c.loop-form.form-index c.loop-form.done c.loop-form.self c.args.self.now c.loop-form.invariant past)) (rw c.all_operands-operands.ensures at c.push.ensures)
+    subst (λ read. Gives c.push-2.result c.push-2.new.self read) (sym (all_read c.args.op c.args.line c.loop-form.form-index c.loop-form.done c.loop-form.self c.args.self.now c.loop-form.invariant past)) (rw c.all_operands-operands.ensures at c.push-2.ensures)
