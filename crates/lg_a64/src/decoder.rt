@@ -21,6 +21,7 @@ use lg_base::word::word_in_front;
 
 /// The instruction that the bytes begin with, and its length, 4. `None` where the first 4 bytes are
 /// no word of the table, or there are fewer than 4.
+#[inline(always)]
 pub fn decode(bytes: &[u8]) -> Option<(Instr, u32)>
     ensures value { result ≡ front_of bytes.now }
     // whatever follows its spelling, an instruction is read as itself
@@ -32,6 +33,7 @@ pub fn decode(bytes: &[u8]) -> Option<(Instr, u32)>
     decode_front(bytes)
 }
 
+#[inline(always)]
 #[tactic(auto, unfolding(lg_base::specs::WordFronts::word_front))]
 fn decode_front(bytes: &[u8]) -> Option<(Instr, u32)>
     ensures { result ≡ word_front instr_of bytes.now }
@@ -43,6 +45,7 @@ fn decode_front(bytes: &[u8]) -> Option<(Instr, u32)>
     Some((instr, 4))
 }
 
+#[inline(always)]
 #[tactic(auto, unfolding(crate::specs::Reading::instr_at))]
 fn decode_word(word: u32) -> Option<Instr>
     ensures { result ≡ instr_of word }
@@ -121,6 +124,7 @@ fn branch_reg_without_operands(word: u32) -> u32
     Rn::put(word, 0)
 }
 
+#[inline(always)]
 #[tactic(auto, unfolding(crate::specs::Reading::reg_of))]
 fn decode_reg(word: u32) -> Option<Instr>
     ensures { result ≡ reg_of word }

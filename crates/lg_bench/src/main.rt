@@ -4,7 +4,8 @@
 // `branches N TIMES` and `jumps N TIMES` find the live registers of a list of nodes of N lines; `moves N TIMES` and `chain N TIMES` rewrite a list of N moves or jumps;
 // `known N TIMES` folds a list of N lines, and `dead N TIMES` drops the N definitions of one;
 // `emit N` emits 64 MiB in pieces of N bytes; `list N` lists N nodes of 1,024 bytes of code each, at most 65,536, into a sink that counts, and `back N TIMES` reads that
-// listing back; `rv64 N`, `aarch64 N` and `x86_64 N` run N instructions of a loop of five on the modelled processors; `steps N` follows the portable meaning of a loop
+// listing back; `rv64 N`, `aarch64 N` and `x86_64 N` run N instructions of a loop of five on the modelled processors, `loop N 1 TARGET` those of a loop with
+// immediates, memory and flags, and `text N 1 TARGET` those of the text that stands on standard input, until it ends; `steps N` follows the portable meaning of a loop
 // for N steps; `expand N`, `calls N` and `macros N` expand a text of N bytes, at most 16,777,216, without a name of a macro, of calls alone, and of macros that are
 // each named once. Without words it does a little of each.
 #![tactic(auto)]
@@ -16,6 +17,7 @@ mod meaning;
 mod pieces;
 mod processor;
 mod rewrites;
+mod runs;
 mod texts;
 
 use expansion::{CALLS, PLAIN, expand_lines};
@@ -26,7 +28,9 @@ use meaning::follow;
 use pieces::fill;
 use processor::run;
 use rewrites::{Pass, pass_list};
+use runs::{LOOP, run_text};
 use std::alloc::Global;
+use std::io::Read;
 use std::{env, io, str};
 use texts::{FAR, Parts, STRAIGHT, assemble_nodes, read_and_assemble};
 
@@ -40,12 +44,20 @@ enum Work {
     List,
     Back,
     Run(Target),
+    Loop,
+    Text,
     Steps,
     Expand(Option<Parts>),
 }
 
 // What the work comes to.
-fn done(alloc: Global, work: Work, number: u32, times: u32, target: Target) -> Result<u64, Stop> {
+fn done(
+    alloc: Global,
+    work: Work,
+    text: &[u8],
+    [number, times]: [u32; 2],
+    target: Target,
+) -> Result<u64, Stop> {
     match work {
         Work::Code(parts) => read_and_assemble(alloc, parts, number, times, target),
         Work::Nodes => assemble_nodes(alloc, number, times, target),
@@ -54,6 +66,8 @@ fn done(alloc: Global, work: Work, number: u32, times: u32, target: Target) -> R
         Work::List => write_listing(alloc, number),
         Work::Back => read_listing(alloc, number, times),
         Work::Run(target) => run(alloc, target, number),
+        Work::Loop => run_text(alloc, LOOP, target, number),
+        Work::Text => run_text(alloc, text, target, number),
         Work::Steps => follow(alloc, number),
         Work::Expand(parts) => expand_lines(alloc, parts, number),
     }
@@ -77,6 +91,8 @@ const WORKS: &[(&str, u32, Work)] = &[
     ("rv64", 1_000, Work::Run(Target::Riscv64)),
     ("aarch64", 1_000, Work::Run(Target::Aarch64)),
     ("x86_64", 1_000, Work::Run(Target::X86_64)),
+    ("loop", 1_000, Work::Loop),
+    ("text", 1_000, Work::Text),
     ("steps", 1_000, Work::Steps),
     ("expand", 1_000, Work::Expand(Some(PLAIN))),
     ("calls", 1_000, Work::Expand(Some(CALLS))),
@@ -111,7 +127,7 @@ fn target_in(word: &str) -> Target {
 }
 
 // Does the work that is asked for, or, where the word is empty, a little of each.
-fn work_all(rt: &HostRuntime, asked: [&str; 4]) -> io::Result<()> {
+fn work_all(rt: &HostRuntime, asked: [&str; 4], text: &[u8]) -> io::Result<()> {
     let [word, number, times, target] = asked;
     for (name, little, work) in WORKS {
         if word.is_empty() || word == *name {
@@ -121,7 +137,7 @@ fn work_all(rt: &HostRuntime, asked: [&str; 4]) -> io::Result<()> {
                 number_in(number)
             };
             let times = number_in(times);
-            let count = done(rt.alloc(), *work, number, times, target_in(target));
+            let count = done(rt.alloc(), *work, text, [number, times], target_in(target));
             print_done(rt, name, number, count)?;
         }
     }
@@ -137,6 +153,10 @@ fn main(rt: HostRuntime) -> io::Result<()> {
     let mut words = line.as_str().lines();
     let _ = words.next();
     let [word, number, times, target] = [words.next(), words.next(), words.next(), words.next()];
+    let mut text = Vec::new(rt.alloc());
+    if word == Some("text") {
+        rt.stdin().read_to_end(&mut text)?;
+    }
     work_all(
         &rt,
         [
@@ -145,5 +165,6 @@ fn main(rt: HostRuntime) -> io::Result<()> {
             times.unwrap_or(""),
             target.unwrap_or(""),
         ],
+        &text,
     )
 }

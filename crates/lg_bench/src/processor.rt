@@ -25,8 +25,8 @@ const RISCV64: [u8; 20] = [
     0xe3, 0x98, 0x02, 0xfe,
 ];
 
-// The argument part of the one word `-`.
-const ARGS: [u8; 18] = [16, 0, 0, 0x28, 0, 0, 0, 0, 0, 0, 0, 0, 0, 0, 0, 0, b'-', 0];
+/// The argument part of the one word `-`.
+pub const ARGS: [u8; 18] = [16, 0, 0, 0x28, 0, 0, 0, 0, 0, 0, 0, 0, 0, 0, 0, 0, b'-', 0];
 
 // The code of a target's loop.
 fn code_of(target: Target) -> &'static [u8]

@@ -13,3 +13,4 @@ pub mod ReaderLemmas
 pub mod SoundLemmas
 pub mod StringLemmas
 pub mod TokenLemmas
+pub mod WordByteLemmas

@@ -3,7 +3,7 @@ use Rattle.std.proofs.Common.{◌≡◌, ℕ, zero, suc, ◌+◌, ◌<◌, ◌�
 use Rattle.std.specs.Prelude.{if◌then◌else◌}
 use Rattle.std.specs.List.{prefix_len}
 use Rattle.std.proofs.Math.Seq.{take-add}
-use Rattle.std.proofs.lemmas.List.{drop-drop, drop_all, length-drop, length-take-le}
+use Rattle.std.proofs.lemmas.List.{drop-drop, drop_all, get_or-drop, length-drop, length-take-le}
 use Rattle.std.proofs.lemmas.List.Sums.{sum_by-append, fold-append}
 use Rattle.lg_base.specs.declared.refusal.Refusal.{Refusal}
 use Rattle.lg_base.specs.declared.refusal.RefusalKind.{RefusalKind}
@@ -141,6 +141,12 @@ space_skipped text place is =
     let same : prefix_len is_space (drop 1 (drop place text)) ≡ m = ap (prefix_len is_space) (drop-drop 1 place text) in
     let e : (place + 1) + m ≡ place + n = omega (arith, one.0, same) in
     sym (spaces_skipped text (place + 1)) ∙ ap (tokens_at text) e ∙ spaces_skipped text place
+
+-- the byte at a place is the first of those behind it
+pub byte_behind : (text : List ℕ) (place : ℕ) → get_or text place 0 ≡ get_or (drop place text) 0 0
+byte_behind text place =
+    let same : place + 0 ≡ place = omega arith in
+    sym (get_or-drop place text 0 0 ∙ ap (λ k. get_or text k 0) same)
 
 -- the place behind one byte
 pub place_behind_byte : (text : List ℕ) (place line b end line' : ℕ) (fresh fresh' : Bool) (bytes : List ℕ) → IsPlace text place line fresh → bytes ≡ drop place text → b ≡ get_or bytes 0 0 → 0 < length bytes → end ≡ place + 1 → line' ≡ line + (if b == 10 then 1 else 0) → fresh' ≡ with_byte fresh b → IsPlace text end line' fresh'

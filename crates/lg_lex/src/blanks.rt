@@ -1,6 +1,6 @@
 // White space and comments.
 
-ghost use Rattle.std.specs.Prelude.{◌≡◌, ◌<◌, ◌≤◌, length, IfSome};
+ghost use Rattle.std.specs.Prelude.{◌≡◌, ◌<◌, ◌≤◌, length, slice_index, IfSome};
 ghost use Rattle.lg_lex.specs.Blanks.{block_rest, comment_at, blank_at, behind_blanks};
 
 use crate::bytes::{behind, byte_at, closes_block, is_space, line_len, space_len};
@@ -18,6 +18,24 @@ fn block_rest(bytes: &[u8]) -> Option<usize>
     None
 }
 
+// The length of a comment at the front, whose first byte is `/`.
+#[inline(never)]
+#[tactic(auto, unfolding(crate::specs::Blanks::comment_at))]
+fn slashed(bytes: &[u8]) -> Option<usize>
+    requires { slice_index bytes.now 0 ≡ 47 }
+    ensures value { result ≡ comment_at bytes.now }
+    ensures inside { IfSome result (λ n. (0 < n) × (n ≤ length bytes.now)) }
+{
+    match byte_at(bytes, 1) {
+        b'/' => Some(line_len(bytes)),
+        b'*' => {
+            let n = block_rest(behind(bytes, 2))?;
+            Some(2 + n)
+        }
+        _ => None,
+    }
+}
+
 // The length of a comment at the front.
 #[tactic(auto, unfolding(crate::specs::Blanks::comment_at))]
 fn comment(bytes: &[u8]) -> Option<usize>
@@ -27,14 +45,7 @@ fn comment(bytes: &[u8]) -> Option<usize>
     if byte_at(bytes, 0) != b'/' {
         return None;
     }
-    match byte_at(bytes, 1) {
-        b'/' => Some(line_len(bytes)),
-        b'*' => {
-            let n = block_rest(behind(bytes, 2))?;
-            Some(2 + n)
-        }
-        _ => None,
-    }
+    slashed(bytes)
 }
 
 /// The length of white space or of a comment at the front, and None where neither stands there or the comment is unfinished.

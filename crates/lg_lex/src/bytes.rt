@@ -6,8 +6,6 @@ ghost use Rattle.std.specs.List.{prefix_len};
 ghost use Rattle.lg_base.specs.WordBytes.{is_word_byte};
 ghost use Rattle.lg_lex.specs.Bytes.{is_space, is_suffix_letter, is_in_line};
 
-use lg_base::word_bytes::is_word_byte;
-
 /// The byte at a place from 0 on, and 0 past the end.
 pub fn byte_at(bytes: &[u8], at: usize) -> u8
     ensures { result ≡ slice_index bytes.now at }
@@ -67,12 +65,43 @@ pub(crate) fn gap_len(bytes: &[u8]) -> usize
     bytes.iter().take_while(|b| **b == b' ').count()
 }
 
+// Of each byte whether it is one of words.
+static GOES_ON: [bool; 256] = [
+    false, false, false, false, false, false, false, false, false, false, false, false, false,
+    false, false, false, false, false, false, false, false, false, false, false, false, false,
+    false, false, false, false, false, false, false, false, false, false, false, false, false,
+    false, false, false, false, false, false, false, false, false, true, true, true, true, true,
+    true, true, true, true, true, false, false, false, false, false, false, false, true, true,
+    true, true, true, true, true, true, true, true, true, true, true, true, true, true, true, true,
+    true, true, true, true, true, true, true, true, false, false, false, false, true, false, true,
+    true, true, true, true, true, true, true, true, true, true, true, true, true, true, true, true,
+    true, true, true, true, true, true, true, true, true, false, false, false, false, false, false,
+    false, false, false, false, false, false, false, false, false, false, false, false, false,
+    false, false, false, false, false, false, false, false, false, false, false, false, false,
+    false, false, false, false, false, false, false, false, false, false, false, false, false,
+    false, false, false, false, false, false, false, false, false, false, false, false, false,
+    false, false, false, false, false, false, false, false, false, false, false, false, false,
+    false, false, false, false, false, false, false, false, false, false, false, false, false,
+    false, false, false, false, false, false, false, false, false, false, false, false, false,
+    false, false, false, false, false, false, false, false, false, false, false, false, false,
+    false, false, false, false, false, false, false, false, false, false, false, false, false,
+    false, false, false, false, false, false, false, false, false, false,
+];
+
+// Whether a word may go on with a byte.
+#[tactic(auto, using(crate::proofs::WordByteLemmas::goes_on))]
+fn goes_on(b: u8) -> bool
+    ensures { result ≡ is_word_byte b }
+{
+    GOES_ON[b as usize]
+}
+
 /// How many bytes of words stand at the front: letters, digits and `_`.
 pub fn word_byte_len(bytes: &[u8]) -> usize
     ensures value { result ≡ prefix_len is_word_byte bytes.now }
     ensures inside { result ≤ length bytes.now }
 {
-    bytes.iter().take_while(|b| is_word_byte(**b)).count()
+    bytes.iter().take_while(|b| goes_on(**b)).count()
 }
 
 /// How many bytes stand at the front before the first line feed.

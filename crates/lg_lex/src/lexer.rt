@@ -49,12 +49,12 @@ impl<'a> Lexer<'a> {
         ensures { Gives self.old result self.new }
     {
         'pieces: loop {
-            let bytes = behind(self.text, self.place.offset);
-            let b = byte_at(bytes, 0);
+            let b = byte_at(self.text, self.place.offset);
             if is_space(b) {
                 pass_byte(&mut self.place, b);
                 continue 'pieces;
             }
+            let bytes = behind(self.text, self.place.offset);
             match front_of(bytes, self.place.fresh) {
                 Front::Nothing => return Ok(None),
                 Front::Skips(n) => self.place = passed(self.place, ahead(bytes, n)),

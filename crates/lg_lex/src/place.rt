@@ -1,7 +1,7 @@
 // A place of a text, in its line.
 
 ghost use Rattle.std.specs.Prelude.{◌≡◌, ◌+◌, ◌<◌, ◌^◌, ◌==◌, true, length, count_by, fold, if◌then◌else◌};
-ghost use Rattle.lg_lex.specs.Lines.{is_word_kind, StaysInLine};
+ghost use Rattle.lg_lex.specs.Lines.{is_solid_kind, StaysInLine};
 ghost use Rattle.lg_lex.specs.Tokens.{with_byte};
 
 use crate::token::TokenKind;
@@ -48,9 +48,9 @@ pub(crate) fn passed(place: Place, bytes: &[u8]) -> Place
     }
 }
 
-// Whether tokens of a kind are a word, or a mark and a word, which stay in their line.
-fn is_word_kind(kind: TokenKind) -> bool
-    ensures { result ≡ is_word_kind kind }
+// Whether tokens of a kind are a word, a mark and a word, or a number, which stay in their line.
+fn is_solid_kind(kind: TokenKind) -> bool
+    ensures { result ≡ is_solid_kind kind }
 {
     matches!(
         kind,
@@ -58,22 +58,23 @@ fn is_word_kind(kind: TokenKind) -> bool
             | TokenKind::Directive
             | TokenKind::LabelMark
             | TokenKind::Register
+            | TokenKind::Number
             | TokenKind::Name
             | TokenKind::Host
     )
 }
 
-/// Goes behind a token of a kind. Of a word no byte is looked at.
+/// Goes behind a token of a kind. Of a word or a number no byte is looked at.
 #[inline(always)]
 pub(crate) fn pass_token(place: &mut Place, kind: TokenKind, bytes: &[u8])
     requires lines { place.old.line + length bytes.now < 2 ^ 32 }
     requires room { place.old.offset + length bytes.now < 2 ^ 32 }
-    requires stays { is_word_kind kind ≡ true → StaysInLine bytes.now }
+    requires stays { is_solid_kind kind ≡ true → StaysInLine bytes.now }
     ensures offset { place.new.offset ≡ place.old.offset + length bytes.now }
     ensures line { place.new.line ≡ place.old.line + count_by (λ b. b == 10) bytes.now }
     ensures fresh { place.new.fresh ≡ fold with_byte place.old.fresh bytes.now }
 {
-    if is_word_kind(kind) {
+    if is_solid_kind(kind) {
         place.offset += bytes.len();
         place.fresh = false;
     } else {

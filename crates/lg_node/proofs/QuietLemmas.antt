@@ -17,10 +17,10 @@ use Rattle.lg_node.specs.Nodes.{LabelledNodes}
 use Rattle.lg_node.specs.Functions.{home_of, open_before, home, local_size}
 use Rattle.lg_node.specs.Labels.{is_labelled}
 use Rattle.lg_node.specs.Preparations.{prepared_before, varies_before}
-use Rattle.lg_node.specs.Checks.{FailsAll, is_label, is_missing, is_bad_call, is_too_big, locals_before, refuses, kinds}
-use Rattle.lg_node.specs.Walks.{is_mark, is_quiet, walk_at, IsWithinLimits}
+use Rattle.lg_node.specs.Checks.{FailsAll, is_label, is_missing, is_bad_call, is_too_big, locals_before, refusal_at, refuses, kinds}
+use Rattle.lg_node.specs.Walks.{is_mark, is_quiet, walk_at, walk_behind, IsWithinLimits}
 use Rattle.lg_node.proofs.AstrayLemmas.{none_astray}
-use Rattle.lg_node.proofs.MarkLemmas.{inner}
+use Rattle.lg_node.proofs.MarkLemmas.{inner, unmarked}
 use Rattle.lg_node.proofs.WalkLemmas.{home_here}
 
 find_none : (test : RefusalKind → Bool) (ks : List RefusalKind) → FailsAll test ks → find test ks ≡ None
@@ -102,3 +102,14 @@ quiet l i n w here at limits is =
     let locals = ap (λ (v : Walk). v.locals) at in
     sym (find_none (refuses l i n) kinds
     (by_function l i n (open_before l.nodes i) here refl (sym (ap is_some function) ∙ one.0) (sym call ∙ none_of w.call two.0) (false_of (is_mark n.op) three.0) (false_of (list_any is_label n.operands) three.1) (omega (arith, limits.locals, locals))))
+
+pub quiet_passes : (l : LabelledNodes) (i : ℕ) (n : Node) (w : Walk) → slice_get l.nodes i ≡ Some n → w ≡ walk_at l.nodes i → IsWithinLimits w → is_quiet w n.op n.operands ≡ true → refusal_at l i ≡ None
+unfolding refusal_at
+quiet_passes l i n w here at limits is = rw (here, sym (quiet l i n w here at limits is)) refl
+
+pub quiet_stays : (w : Walk) (i : ℕ) (n : Node) → is_quiet w n.op n.operands ≡ true → w ≡ walk_behind w i n
+quiet_stays w i n is =
+    let one = and_parts (is_some w.function) (is_none w.call && (not (is_mark n.op) && not (list_any is_label n.operands))) is in
+    let two = and_parts (is_none w.call) (not (is_mark n.op) && not (list_any is_label n.operands)) one.1 in
+    let three = and_parts (not (is_mark n.op)) (not (list_any is_label n.operands)) two.1 in
+    unmarked w i n one.0 (false_of (is_mark n.op) three.0)

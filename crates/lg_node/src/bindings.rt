@@ -45,6 +45,19 @@ impl Bindings {
         }
     }
 
+    /// No nodes and no labels, with memory for so many nodes.
+    pub fn with_room(alloc: Global, nodes: u32) -> Result<Bindings, OutOfMemory>
+        ensures { IfOk result (λ b. b ≡ record { places = []; nodes = 0 }) }
+    {
+        let ends = Vec::with_capacity(alloc, nodes as usize)?;
+        Ok(Bindings {
+            places: Vec::new(alloc),
+            next: Vec::new(alloc),
+            ends,
+            end: None,
+        })
+    }
+
     /// The same places, in memory of their own.
     pub fn copy(&self, alloc: Global) -> Result<Bindings, OutOfMemory>
         ensures { IfOk result (λ b. b ≡ self.now) }

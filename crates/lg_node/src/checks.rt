@@ -1,17 +1,17 @@
 // The checks of a text that has been read.
 
-ghost use Rattle.std.specs.Prelude.{◌≡◌, Some, Err, length, slice_get, OnOk, IfOk, IfErr};
+ghost use Rattle.std.specs.Prelude.{◌≡◌, None, Some, Err, length, slice_get, OnOk, IfOk, IfErr};
 ghost use Rattle.lg_base.specs.declared.refusal.Refusal.{Refusal};
 ghost use Rattle.lg_op.specs.Nodes.{InForm};
 ghost use Rattle.lg_node.specs.Tables.{AreTables};
-ghost use Rattle.lg_node.specs.Walks.{walk_at, IsWithinLimits};
+ghost use Rattle.lg_node.specs.Walks.{walk_at, walk_behind, IsWithinLimits};
 ghost use Rattle.lg_node.specs.Labels.{taken_labels};
 ghost use Rattle.lg_node.specs.Shapes.{shape_of, IsShapeOf, IsChecked};
 ghost use Rattle.lg_node.specs.Checks.{refusal_at, end_refusal, NoneBefore, IsAccepted, IsRefusedAtNode, IsRefused};
 
 use crate::node_list::NodeList;
 use crate::ranges::Ranges;
-use crate::refusals::refusal_kind;
+use crate::refusals::{is_quiet, refusal_kind};
 use crate::shape::Shape;
 use crate::tables::Tables;
 use crate::taken::taken_labels;
@@ -46,6 +46,57 @@ fn refusal_at(
     }
 }
 
+// Goes behind the node of an index, or says why that is refused: all is looked at.
+#[inline(never)]
+fn pass_any(
+    nodes: &NodeList,
+    tables: &Tables,
+    walk: &mut Walk,
+    index: u32,
+    node: &Node,
+) -> Result<(), Refusal>
+    requires node { slice_get nodes.now.nodes index ≡ Some node.now }
+    requires form { InForm node.now }
+    requires tables { AreTables nodes.now tables.now }
+    requires walk { walk.old ≡ walk_at nodes.now.nodes index }
+    requires limits { IsWithinLimits walk.old }
+    ensures walk { OnOk result (walk.new ≡ walk_behind walk.old index node.now) }
+    ensures none { OnOk result (refusal_at nodes.now index ≡ None) }
+    ensures refused { IfErr result (λ r. refusal_at nodes.now index ≡ Some r) }
+{
+    match refusal_at(nodes, tables, *walk, index, node) {
+        Some(refusal) => Err(refusal),
+        None => {
+            walk.pass(index, node);
+            Ok(())
+        }
+    }
+}
+
+// Goes behind the node of an index, or says why that is refused. Most nodes change nothing and are not refused, which is seen at once.
+#[inline(always)]
+fn pass_node(
+    nodes: &NodeList,
+    tables: &Tables,
+    walk: &mut Walk,
+    index: u32,
+    node: &Node,
+) -> Result<(), Refusal>
+    requires node { slice_get nodes.now.nodes index ≡ Some node.now }
+    requires form { InForm node.now }
+    requires tables { AreTables nodes.now tables.now }
+    requires walk { walk.old ≡ walk_at nodes.now.nodes index }
+    requires limits { IsWithinLimits walk.old }
+    ensures walk { OnOk result (walk.new ≡ walk_behind walk.old index node.now) }
+    ensures none { OnOk result (refusal_at nodes.now index ≡ None) }
+    ensures refused { IfErr result (λ r. refusal_at nodes.now index ≡ Some r) }
+{
+    if is_quiet(walk, node.op, node.operands.as_slice()) {
+        return Ok(());
+    }
+    pass_any(nodes, tables, walk, index, node)
+}
+
 // What is known at the end of nodes of which none is refused, or why the first one is that is.
 fn walk_to_end(nodes: &NodeList, tables: &Tables) -> Result<Walk, Refusal>
     requires { AreTables nodes.now tables.now }
@@ -56,10 +107,7 @@ fn walk_to_end(nodes: &NodeList, tables: &Tables) -> Result<Walk, Refusal>
     let mut walk = Walk::new();
     for index in 0..nodes.len() {
         let node = nodes.node_at(index);
-        if let Some(refusal) = refusal_at(nodes, tables, walk, index, node) {
-            return Err(refusal);
-        }
-        walk.pass(index, node);
+        pass_node(nodes, tables, &mut walk, index, node)?;
     }
     Ok(walk)
 }

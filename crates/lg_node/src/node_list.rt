@@ -55,12 +55,13 @@ impl NodeList {
     pub fn with_room(alloc: Global, nodes: u32) -> Result<NodeList, OutOfMemory>
         ensures { IfOk result (λ l. l ≡ record { nodes = []; words = []; places = [] }) }
     {
+        let bindings = Bindings::with_room(alloc, nodes)?;
         let nodes = Vec::with_capacity(alloc, nodes as usize)?;
         Ok(NodeList {
             alloc,
             nodes,
             words: IndexSet::new(alloc),
-            bindings: Bindings::new(alloc),
+            bindings,
         })
     }
 

@@ -209,10 +209,10 @@ fn is_labelled(tables: &Tables, index: u32) -> bool
         .unwrap_or(false)
 }
 
-// Whether nothing refuses a node, as is seen at once: it computes, loads, stores or branches within a function, where no call is prepared, and
-// names no label.
-fn is_quiet(walk: Walk, op: Op, operands: &[Operand]) -> bool
-    ensures { result ≡ is_quiet walk op operands.now }
+/// Whether nothing refuses a node, as is seen at once: it computes, loads, stores or branches within a function, where no call is prepared, and
+/// names no label.
+pub(crate) fn is_quiet(walk: &Walk, op: Op, operands: &[Operand]) -> bool
+    ensures { result ≡ is_quiet walk.now op operands.now }
 {
     walk.function.is_some() && walk.call.is_none() && !is_mark(op) && !names_label(operands)
 }
@@ -301,7 +301,7 @@ pub fn refusal_kind(
     requires limits { IsWithinLimits walk }
     ensures { result ≡ find (refuses nodes.now index node.now) kinds }
 {
-    if is_quiet(walk, node.op, node.operands.as_slice()) {
+    if is_quiet(&walk, node.op, node.operands.as_slice()) {
         None
     } else {
         first_kind(nodes, tables, walk, index, node)

@@ -35,12 +35,13 @@ impl Tables {
 pub fn homes(alloc: Global, nodes: &NodeList) -> Result<Vec<Option<u32>>, OutOfMemory>
     ensures { IfOk result (λ homes. AreHomes nodes.now.nodes homes.items) }
 {
-    let mut homes = Vec::new(alloc);
+    let count = nodes.len() as usize;
+    let mut homes = Vec::with_capacity(alloc, count)?;
     let mut current = None;
     for index in 0..nodes.len() {
-        let op = nodes.node(index).op;
+        let op = nodes.node_at(index).op;
         let home = home_of(current, index, op);
-        homes.push(home)?;
+        homes.push_reserved(home);
         current = open_behind(home, op);
     }
     Ok(homes)

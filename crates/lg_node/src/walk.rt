@@ -161,19 +161,14 @@ impl Walk {
         }
     }
 
-    /// What is known behind the next node, which is in form. Within a function only a mark changes it.
-    #[inline(always)]
-    #[tactic(auto, using(crate::proofs::MarkLemmas::unmarked))]
-    pub fn behind(self, index: u32, node: &Node) -> Walk
+    // Goes behind the next node, which is in form: all is looked at.
+    #[inline(never)]
+    fn pass_any(&mut self, index: u32, node: &Node)
         requires form { InForm node.now }
-        requires limits { IsWithinLimits self }
-        ensures { result ≡ walk_behind self index node.now }
+        requires limits { IsWithinLimits self.old }
+        ensures { self.new ≡ walk_behind self.old index node.now }
     {
-        if self.function.is_some() && !is_mark(node.op) {
-            self
-        } else {
-            self.past(index, node)
-        }
+        *self = self.past(index, node);
     }
 
     /// Goes behind the next node, which is in form. Within a function only a mark changes what is known.
@@ -185,7 +180,7 @@ impl Walk {
         ensures { self.new ≡ walk_behind self.old index node.now }
     {
         if self.function.is_none() || is_mark(node.op) {
-            *self = self.past(index, node);
+            self.pass_any(index, node);
         }
     }
 }

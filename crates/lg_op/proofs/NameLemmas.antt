@@ -1,9 +1,10 @@
 -- Each name leads to its operation, and to no other.
-use Rattle.std.proofs.Common.{◌≡◌, ℕ, Bool, true, false, ◌&&◌, ◌||◌, cond, List, [], ◌∷◌, ◌++◌, inl, inr, Option, Some, None, refl, sym, ap, ◌∙◌, ◌<◌, ◌≤◌, arith, length, append-nil, find, codes, slice_index, IfSome}
+use Rattle.std.proofs.Common.{◌≡◌, ℕ, Bool, true, false, ◌&&◌, ◌||◌, cond, List, [], ◌∷◌, ◌++◌, inl, inr, Option, Some, refl, sym, ap, subst, ◌∙◌, ◌==◌, codes, slice_index, IfSome}
 use Rattle.std.specs.Str.{bytes_eq}
-use Rattle.std.proofs.lemmas.Bool.{false≢true}
+use Rattle.std.specs.List.{list_all}
+use Rattle.std.proofs.lemmas.Bool.{false≢true, and_parts}
 use Rattle.std.proofs.lemmas.Slice.Eq.{bytes_eq-Decides}
-use Rattle.lg_op.specs.Names.{name, is_long, is_name, IsName, ops_from}
+use Rattle.lg_op.specs.Names.{name, is_long, is_name, IsName, named, names_from}
 use Rattle.lg_op.specs.declared.op.BinaryOp.{BinaryOp}
 use Rattle.lg_op.specs.declared.op.BinaryOp.TheVariants as binary
 use Rattle.lg_op.specs.declared.op.WideOp.{WideOp}
@@ -31,7 +32,7 @@ use Rattle.lg_op.specs.declared.op.Op.TheVariants.{Binary, Wide, Branch, BranchS
 
 -- the operation that a word leads to
 abbrev pub found : List ℕ → Option Op
-found word = find (λ op. is_name op word) (ops_from (slice_index word 0))
+found word = named word (names_from (slice_index word 0))
 
 abbrev IsFound : Op → Type 0
 IsFound op = found (name op) ≡ Some op
@@ -234,37 +235,51 @@ is_name_of op word e = by (bytes_eq word (name op)) (is_long op) (bytes_eq word 
     by false true false ea eb ec t = absurd (false≢true t)
     by false false c ea eb ec t = absurd (false≢true t)
 
--- what find gives passes the test
-find_passes : {A : Type 0} (p : A → Bool) (xs : List A) (x : A) → find p xs ≡ Some x → p x ≡ true
-find_passes p [] x e = cc
-find_passes p (y ∷ ys) x e = by (p y) refl e (find_passes p ys x)
+-- a name names its operation
+abbrev is_right : List ℕ × Op → Bool
+is_right e = is_name e.1 e.0
+
+-- one of two lists
+all_of : (c : Bool) (xs ys : List (List ℕ × Op)) → list_all is_right xs ≡ true → list_all is_right ys ≡ true → list_all is_right (cond c xs ys) ≡ true
+all_of true xs ys x y = x
+all_of false xs ys x y = y
+
+-- the names are those of their operations
+all_right : (b : ℕ) → list_all is_right (names_from b) ≡ true
+all_right b =
+    (all_of (b == 46) _ _ refl
+    (all_of (b == 97) _ _ refl
+    (all_of (b == 98) _ _ refl
+    (all_of (b == 99) _ _ refl
+    (all_of (b == 100) _ _ refl
+    (all_of (b == 101) _ _ refl
+    (all_of (b == 102) _ _ refl
+    (all_of (b == 103) _ _ refl
+    (all_of (b == 104) _ _ refl
+    (all_of (b == 106) _ _ refl
+    (all_of (b == 108) _ _ refl
+    (all_of (b == 109) _ _ refl
+    (all_of (b == 110) _ _ refl
+    (all_of (b == 111) _ _ refl
+    (all_of (b == 112) _ _ refl
+    (all_of (b == 113) _ _ refl
+    (all_of (b == 114) _ _ refl
+    (all_of (b == 115) _ _ refl
+    (all_of (b == 118) _ _ refl
+    (all_of (b == 120) _ _ refl refl
+    ))))))))))))))))))))
+
+-- what is found has the name
+named_right : (word : List ℕ) (es : List (List ℕ × Op)) → list_all is_right es ≡ true → IfSome (named word es) (λ op. IsName op word)
+named_right word [] all = tt
+named_right word (e ∷ es) all =
+    let parts = and_parts (is_right e) (list_all is_right es) all in
+    by (bytes_eq word e.0) refl parts.0 (named_right word es parts.1)
   where
-    by : (b : Bool) → p y ≡ b → cond b (Some y) (find p ys) ≡ Some x → (find p ys ≡ Some x → p x ≡ true) → p x ≡ true
-    by true t f rest = let same : y ≡ x = cc in sym (ap p same) ∙ t
-    by false t f rest = rest f
+    by : (b : Bool) → bytes_eq word e.0 ≡ b → is_right e ≡ true → IfSome (named word es) (λ op. IsName op word) → IfSome (cond b (Some e.1) (named word es)) (λ op. IsName op word)
+    by true same right rest = is_name_of e.1 word (ap (is_name e.1) ((bytes_eq-Decides word e.0).0 same) ∙ right)
+    by false other right rest = rest
 
 -- a word leads to an operation that it names
 pub found_named : (r : Option Op) (word : List ℕ) → r ≡ found word → IfSome r (λ op. IsName op word)
-found_named None word e = tt
-found_named (Some op) word e = is_name_of op word (find_passes (λ o. is_name o word) (ops_from (slice_index word 0)) op (sym e))
-
--- ---- names by what stands behind them
-
--- a word by what stands behind the name in it
-pub by_rest : (op : Op) (word : List ℕ) (is : List ℕ → Bool) → ((more : List ℕ) → bytes_eq word (name op ++ more) ≡ is more) → (is [] || (is_long op && is (codes "_l"))) ≡ is_name op word
-by_rest op word is h =
-    ap (λ t. t || (is_long op && is (codes "_l"))) (sym (h []) ∙ ap (bytes_eq word) (append-nil (name op)))
-    ∙ ap (λ t. bytes_eq word (name op) || (is_long op && t)) (sym (h (codes "_l")))
-
-pub and_false : (b : Bool) → false ≡ (b && false)
-and_false true = refl
-and_false false = refl
-
-pub nothing_left : (rest : List ℕ) (b : Bool) → length rest < 1 → true ≡ (bytes_eq rest [] || b)
-nothing_left [] b h = refl
-nothing_left (x ∷ rest) b h = absurd (omega arith)
-
-pub some_left : (rest : List ℕ) (long b : Bool) → 1 ≤ length rest → long ≡ false → false ≡ (bytes_eq rest [] || (long && b))
-some_left [] long b h e = absurd (omega arith)
-some_left (x ∷ rest) true b h e = absurd (false≢true (sym e))
-some_left (x ∷ rest) false b h e = refl
+found_named r word e = subst (λ o. IfSome o (λ op. IsName op word)) (sym e) (named_right word (names_from (slice_index word 0)) (all_right (slice_index word 0)))

@@ -1,5 +1,5 @@
 -- The names of the operations: the letters of what is done, the letters of the operands, and the mark of an unsigned operation or of a type.
-use Rattle.std.specs.Prelude.{◌≡◌, ℕ, ◌==◌, Bool, true, false, ◌&&◌, ◌||◌, if◌then◌else◌, List, [], ◌++◌, ◌⊎◌, codes}
+use Rattle.std.specs.Prelude.{◌≡◌, ℕ, ◌==◌, Bool, true, false, ◌&&◌, ◌||◌, if◌then◌else◌, List, [], ◌∷◌, ◌++◌, ◌⊎◌, Option, Some, None, map, codes}
 use Rattle.std.specs.Str.{bytes_eq}
 use Rattle.lg_op.specs.declared.op.BinaryOp.{BinaryOp}
 use Rattle.lg_op.specs.declared.op.BinaryOp.TheVariants as binary
@@ -25,7 +25,7 @@ use Rattle.lg_op.specs.declared.op.LastOperand.{LastOperand}
 use Rattle.lg_op.specs.declared.op.LastOperand.TheVariants as last_operand
 use Rattle.lg_op.specs.declared.op.Op.{Op}
 use Rattle.lg_op.specs.declared.op.Op.TheVariants.{Binary, Wide, Branch, BranchSum, Control, Unary, Plain, Load, Store, Retval, Getarg}
-use Rattle.lg_op.specs.declared.names.TheConstants.{OPS_DOT, OPS_A, OPS_B, OPS_C, OPS_D, OPS_E, OPS_F, OPS_G, OPS_H, OPS_J, OPS_L, OPS_M, OPS_N, OPS_O, OPS_P, OPS_Q, OPS_R, OPS_S, OPS_V, OPS_X}
+use Rattle.lg_op.specs.declared.names.TheConstants.{NAMES_DOT, NAMES_A, NAMES_B, NAMES_C, NAMES_D, NAMES_E, NAMES_F, NAMES_G, NAMES_H, NAMES_J, NAMES_L, NAMES_M, NAMES_N, NAMES_O, NAMES_P, NAMES_Q, NAMES_R, NAMES_S, NAMES_V, NAMES_X}
 
 -- of two operands, one result
 abbrev pub binary_stem : BinaryOp → List ℕ
@@ -245,12 +245,31 @@ IsName op word = (word ≡ name op) ⊎ ((is_long op ≡ true) × (word ≡ name
 abbrev pub is_name : Op → List ℕ → Bool
 is_name op word = bytes_eq word (name op) || (is_long op && bytes_eq word (name op ++ codes "_l"))
 
--- the operations whose names begin with a byte
-abbrev pub ops_from : ℕ → List Op
-ops_from b =
-    if b == 46 then OPS_DOT else (if b == 97 then OPS_A else (if b == 98 then OPS_B else (if b == 99 then OPS_C else (
-    if b == 100 then OPS_D else (if b == 101 then OPS_E else (if b == 102 then OPS_F else (if b == 103 then OPS_G else (
-    if b == 104 then OPS_H else (if b == 106 then OPS_J else (if b == 108 then OPS_L else (if b == 109 then OPS_M else (
-    if b == 110 then OPS_N else (if b == 111 then OPS_O else (if b == 112 then OPS_P else (if b == 113 then OPS_Q else (
-    if b == 114 then OPS_R else (if b == 115 then OPS_S else (if b == 118 then OPS_V else (
-    if b == 120 then OPS_X else ([]))))))))))))))))))))
+-- the operation of a word among some names
+abbrev pub named : List ℕ → List (List ℕ × Op) → Option Op
+named word [] = None
+named word (e ∷ es) = if bytes_eq word e.0 then Some e.1 else named word es
+
+-- the names that begin with a byte
+abbrev pub names_from : ℕ → List (List ℕ × Op)
+names_from b =
+    if b == 46 then map (λ e. (e.0.now, e.1)) NAMES_DOT else (
+    if b == 97 then map (λ e. (e.0.now, e.1)) NAMES_A else (
+    if b == 98 then map (λ e. (e.0.now, e.1)) NAMES_B else (
+    if b == 99 then map (λ e. (e.0.now, e.1)) NAMES_C else (
+    if b == 100 then map (λ e. (e.0.now, e.1)) NAMES_D else (
+    if b == 101 then map (λ e. (e.0.now, e.1)) NAMES_E else (
+    if b == 102 then map (λ e. (e.0.now, e.1)) NAMES_F else (
+    if b == 103 then map (λ e. (e.0.now, e.1)) NAMES_G else (
+    if b == 104 then map (λ e. (e.0.now, e.1)) NAMES_H else (
+    if b == 106 then map (λ e. (e.0.now, e.1)) NAMES_J else (
+    if b == 108 then map (λ e. (e.0.now, e.1)) NAMES_L else (
+    if b == 109 then map (λ e. (e.0.now, e.1)) NAMES_M else (
+    if b == 110 then map (λ e. (e.0.now, e.1)) NAMES_N else (
+    if b == 111 then map (λ e. (e.0.now, e.1)) NAMES_O else (
+    if b == 112 then map (λ e. (e.0.now, e.1)) NAMES_P else (
+    if b == 113 then map (λ e. (e.0.now, e.1)) NAMES_Q else (
+    if b == 114 then map (λ e. (e.0.now, e.1)) NAMES_R else (
+    if b == 115 then map (λ e. (e.0.now, e.1)) NAMES_S else (
+    if b == 118 then map (λ e. (e.0.now, e.1)) NAMES_V else (
+    if b == 120 then map (λ e. (e.0.now, e.1)) NAMES_X else ([]))))))))))))))))))))

@@ -13,10 +13,10 @@ use crate::operand::{Operand, Operands};
 pub struct Node {
     /// The operation.
     pub op: Op,
-    /// Its operands, in order.
-    pub operands: Operands,
     /// The line of the operation's name in the text, from 1.
     pub line: u32,
+    /// Its operands, in order.
+    pub operands: Operands,
 }
 
 impl Node {

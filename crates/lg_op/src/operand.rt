@@ -113,12 +113,17 @@ impl Operands {
         requires { length self < 4 }
         ensures { result ≡ self ++ operand ∷ [] }
     {
-        match self.as_slice() {
-            [] => Operands::of(&[operand]),
-            [a] => Operands::of(&[*a, operand]),
-            [a, b] => Operands::of(&[*a, *b, operand]),
-            [a, b, c] => Operands::of(&[*a, *b, *c, operand]),
-            _ => self,
-        }
+        let mut more = self;
+        more.push(operand);
+        more
+    }
+
+    /// Appends an operand. There are at most 3 before.
+    pub fn push(&mut self, operand: Operand)
+        requires { length self.old < 4 }
+        ensures { self.new ≡ self.old ++ operand ∷ [] }
+    {
+        self.list[self.len] = operand;
+        self.len += 1;
     }
 }

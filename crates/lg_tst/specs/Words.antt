@@ -3,7 +3,7 @@ use Rattle.std.specs.Prelude.{ℕ, ◌==◌, Bool, false, not, ◌&&◌, ◌||�
 use Rattle.std.specs.Char.{is_ascii_digit}
 use Rattle.std.specs.List.{list_all}
 use Rattle.std.specs.Str.{bytes_eq}
-use Rattle.lg_op.specs.Names.{is_name, ops_from}
+use Rattle.lg_op.specs.Names.{named, names_from}
 use Rattle.lg_op.specs.declared.op.Op.{Op}
 use Rattle.lg_op.specs.declared.operand.Reg.{Reg}
 use Rattle.lg_op.specs.declared.operand.Reg.TheVariants.{R0, R1, R2, V0, V1, V2, Fp}
@@ -67,4 +67,4 @@ directive_of word = find (λ d. bytes_eq word (directive_word d)) directives
 
 -- the operation that a word names
 abbrev pub op_of : List ℕ → Option Op
-op_of word = find (λ op. is_name op word) (ops_from (slice_index word 0))
+op_of word = named word (names_from (slice_index word 0))

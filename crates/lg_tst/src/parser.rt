@@ -61,18 +61,19 @@ fn at_line(operand: Result<Operand, RefusalKind>, line: u32) -> Result<Operand, 
 }
 
 impl<'a> Parser<'a> {
-    /// Nothing is read of a text of at most 16,777,216 bytes. No memory is taken.
-    pub fn new(alloc: Global, text: &'a [u8]) -> Self
+    /// Nothing is read of a text of at most 16,777,216 bytes. Memory is taken for a node for each 12 bytes.
+    pub fn new(alloc: Global, text: &'a [u8]) -> Result<Self, OutOfMemory>
         requires { length text.now ≤ 16777216 }
-        ensures { result ≡ start text.now }
+        ensures { IfOk result (λ parser. parser ≡ start text.now) }
     {
-        Parser {
+        let nodes = NodeList::with_room(alloc, (text.len() / 12) as u32)?;
+        Ok(Parser {
             source: Source::new(text),
             section: Section::Code,
             part: DataPart::new(alloc),
-            nodes: NodeList::new(alloc),
+            nodes,
             names: Names::new(alloc),
-        }
+        })
     }
 
     // The next token, as an operand of the statement that begins in a line.

@@ -66,8 +66,9 @@ fn code_word(word: &[u8]) -> Result<Statement, RefusalKind>
     }
 }
 
-// What a word begins.
-fn word_statement(section: Section, word: &[u8]) -> Result<Statement, RefusalKind>
+// What a word begins, looked at from the first cause on.
+#[inline(never)]
+fn other_statement(section: Section, word: &[u8]) -> Result<Statement, RefusalKind>
     ensures { result ≡ word_statement section word.now }
 {
     if is_float_word(word) {
@@ -79,6 +80,26 @@ fn word_statement(section: Section, word: &[u8]) -> Result<Statement, RefusalKin
     match section {
         Section::Code => code_word(word),
         Section::Data => Err(RefusalKind::UnknownName),
+    }
+}
+
+// What a word begins in the code section. No operation has a name of floating point, so most words are looked up at once.
+fn code_statement(word: &[u8]) -> Result<Statement, RefusalKind>
+    ensures { result ≡ word_statement Section.Code word.now }
+{
+    match op_of(word) {
+        Some(op) => Ok(Statement::Instruction(op)),
+        None => other_statement(Section::Code, word),
+    }
+}
+
+// What a word begins.
+fn word_statement(section: Section, word: &[u8]) -> Result<Statement, RefusalKind>
+    ensures { result ≡ word_statement section word.now }
+{
+    match section {
+        Section::Code => code_statement(word),
+        Section::Data => other_statement(section, word),
     }
 }
 

@@ -12,3 +12,4 @@ pub mod PrefixLemmas
 pub mod ReadLemmas
 pub mod SizeLemmas
 pub mod TailLemmas
+pub mod OtherLemmas

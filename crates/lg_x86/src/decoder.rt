@@ -87,7 +87,7 @@ fn read_code(is_word_sized: bool, rex: u8, len: u32, bytes: &[u8]) -> Option<(In
     }
 }
 
-// an instruction whose opcode has one byte
+// an instruction whose opcode has one byte: most compute, move, store or load
 #[tactic(auto, unfolding(crate::specs::Reading::read_short))]
 fn read_short(
     is_word_sized: bool,
@@ -100,6 +100,9 @@ fn read_short(
     ensures exact { result ≡ read_short is_word_sized rex len (mark_in rex) (has_registers tail.now) opcode tail.now }
     ensures valid { IfSome result (λ found. IsInstr found.0) }
 {
+    if opcode < 0x40 || opcode / 8 == 17 {
+        return read_other(is_word_sized, rex, len, opcode, tail);
+    }
     if opcode / 16 == 7 {
         return accept_jump_if_short(
             asks_none(is_word_sized, rex) && tail.len() >= 1,
@@ -191,6 +194,7 @@ fn read_jump(
 }
 
 // an instruction with no operand, or one that makes, loads or stores a register
+#[inline(always)]
 #[tactic(auto, unfolding(crate::specs::Reading::read_other))]
 fn read_other(
     is_word_sized: bool,

@@ -192,7 +192,7 @@ impl Parser<'_> {
         for form in forms {
             let token = self.wanted(line)?;
             let operand = self.operand(op, *form, done.as_slice(), token)?;
-            done = done.with(operand);
+            done.push(operand);
         }
         let operands = self.all_operands(op, done);
         self.push(Node { op, operands, line })

@@ -11,14 +11,11 @@ loop-index-init c = record {
   none = λ j h. absurd (omega arith);
 }
 
-pub refusal_at-requires-clause-limits : goal.refusal_at-requires-clause-limits
-refusal_at-requires-clause-limits c = rw c.loop-index.invariant.walk (limits_at c.args.nodes.now c.loop-index.index (omega arith) c.loop-index.invariant.none)
-
-pub pass-requires-clause-limits : goal.pass-requires-clause-limits
-pass-requires-clause-limits c = rw c.loop-index.invariant.walk (limits_at c.args.nodes.now c.loop-index.index (omega arith) c.loop-index.invariant.none)
+pub pass_node-requires-clause-limits : goal.pass_node-requires-clause-limits
+pass_node-requires-clause-limits c = rw c.loop-index.invariant.walk (limits_at c.args.nodes.now c.loop-index.index (omega arith) c.loop-index.invariant.none)
 
 pub loop-index-preserved : goal.loop-index-preserved
 loop-index-preserved c = record {
-  walk = c.pass.ensures ∙ ap (λ (w : Walk). walk_behind w c.loop-index.index c.node_at-node.result.now) c.loop-index.invariant.walk ∙ walk_on c.args.nodes.now.nodes c.loop-index.index c.node_at-node.result.now (sym c.node_at-node.ensures.node);
-  none = none_on c.args.nodes.now c.loop-index.index c.loop-index.invariant.none (sym c.refusal_at.ensures ∙ c.in_default.is);
+  walk = c.in_ok-pass_node.ensures.walk ∙ ap (λ (w : Walk). walk_behind w c.loop-index.index c.node_at-node.result.now) c.loop-index.invariant.walk ∙ walk_on c.args.nodes.now.nodes c.loop-index.index c.node_at-node.result.now (sym c.node_at-node.ensures.node);
+  none = none_on c.args.nodes.now c.loop-index.index c.loop-index.invariant.none c.in_ok-pass_node.ensures.none;
 }

@@ -1,4 +1,4 @@
-use Rattle.std.proofs.Common.{◌≡◌, ℕ, true, List, sym, ap, subst, ◌∙◌}
+use Rattle.std.proofs.Common.{◌≡◌, true, drop, refl, sym, ap, subst, ◌∙◌}
 use Rattle.std.specs.Prelude.{slice_index}
 use Rattle.lg_lex.specs.Bytes.{is_space}
 use Rattle.lg_lex.specs.declared.fronts.Front.TheVariants.{Finds}
@@ -6,7 +6,7 @@ use Rattle.lg_lex.specs.Fronts.{front_at}
 use Rattle.lg_lex.specs.Lines.{StaysInLine}
 use Rattle.lg_lex.specs.Tokens.{tokens_at}
 use Rattle.lg_lex.proofs.LineLemmas.{FrontStays, front_stays}
-use Rattle.lg_lex.proofs.TokenLemmas.{place_behind, place_behind_byte, one_space, piece_end, gives_end, gives_fault, skipped, space_skipped, gives_token}
+use Rattle.lg_lex.proofs.TokenLemmas.{byte_behind, place_behind, place_behind_byte, one_space, piece_end, gives_end, gives_fault, skipped, space_skipped, gives_token}
 use Rattle.lg_lex.proofs.lexer.Lexer.next.Goals as goal
 
 pub returns-in-Nothing : goal.returns-in-Nothing
@@ -20,9 +20,9 @@ pieces-preserved-then-is_space c =
     let text = c.pieces.self-inside.text.now in
     let place = c.pieces.self-inside.place in
     let passed = c.pass_byte.ensures in
-    let is : is_space (slice_index c.behind-bytes.result.now 0) ≡ true = ap is_space (sym c.byte_at-b.ensures) ∙ sym c.is_space.ensures ∙ c.if-is_space.true in
-    let space = ap (λ (bytes : List ℕ). is_space (slice_index bytes 0)) (sym c.behind-bytes.ensures) ∙ is in (
-      place_behind_byte text place.offset place.line c.byte_at-b.result _ _ place.fresh _ c.behind-bytes.result.now c.pieces.invariant.0 c.behind-bytes.ensures c.byte_at-b.ensures (one_space _ is).1 passed.offset passed.line passed.fresh,
+    let here : c.byte_at-b.result ≡ slice_index (drop place.offset text) 0 = c.byte_at-b.ensures ∙ byte_behind text place.offset in
+    let space : is_space (slice_index (drop place.offset text) 0) ≡ true = ap is_space (sym here) ∙ sym c.is_space.ensures ∙ c.if-is_space.true in (
+      place_behind_byte text place.offset place.line c.byte_at-b.result _ _ place.fresh _ (drop place.offset text) c.pieces.invariant.0 refl here (one_space _ space).1 passed.offset passed.line passed.fresh,
       ap (tokens_at text) passed.offset ∙ space_skipped text place.offset space ∙ c.pieces.invariant.1,
     )
 
