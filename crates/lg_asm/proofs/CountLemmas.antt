@@ -11,12 +11,13 @@ use Rattle.lg_node.specs.Nodes.{LabelledNodes}
 use Rattle.lg_node.specs.Preparations.{prepared_before, pushed}
 use Rattle.lg_op.specs.declared.node.Node.{Node}
 use Rattle.lg_live.specs.Liveness.{LiveSets}
-use Rattle.lg_temp.specs.Chosen.{spills}
+use Rattle.lg_temp.specs.Chosen.{around, choices_of, spills}
+use Rattle.lg_sel.specs.Selected.{first_arguments}
 use Rattle.lg_temp.specs.declared.choice.Choice.{Choice}
 use Rattle.lg_temp.specs.declared.choice.Choice.TheVariants.{Free, Own, Spill}
 use Rattle.lg_asm.specs.Assembled.{ArePushed}
 use Rattle.lg_asm.specs.Passed.{passed_behind}
-use Rattle.lg_asm.specs.NodeChoices.{live_behind, node_choices, choices_at, is_spill, spills_of, spills_in}
+use Rattle.lg_asm.specs.NodeChoices.{live_behind, needs_on, node_choices, choices_at, is_spill, spills_of, spills_in}
 use Rattle.lg_asm.proofs.WellLemmas.{passed-next, pushed-few}
 
 -- the registers that are saved, counted
@@ -27,6 +28,17 @@ spills-are = is_count_by spills is_spill refl step
     step (Spill register slot) choices = omega arith
     step (Free register) choices = refl
     step (Own register) choices = refl
+
+-- those of the choices of a node
+pub saved-of : (target : Target) (nodes : List Node) (sets : LiveSets) (i passed : ℕ) (n : Node) (choices : List Choice) → slice_get nodes i ≡ Some n → passed ≡ pushed nodes i
+    → node_choices target (live_behind sets i) passed n ≡ Some choices → spills choices ≡ spills_of (choices_at target nodes sets i)
+saved-of target nodes sets i passed n choices here before is =
+    sym (ap spills_of (ap (option_and_then (node_choices target (live_behind sets i) (pushed nodes i))) here ∙ (ap (λ k. node_choices target (live_behind sets i) k n) (sym before) ∙ is)))
+
+-- and where a node has no needs
+pub none-saved : (target : Target) (nodes : List Node) (sets : LiveSets) (i : ℕ) (n : Node) → slice_get nodes i ≡ Some n → needs_on target n.op ≡ [] → 0 ≡ spills_of (choices_at target nodes sets i)
+none-saved target nodes sets i n here none =
+    sym (ap spills_of (ap (option_and_then (node_choices target (live_behind sets i) (pushed nodes i))) here ∙ ap (choices_of (around target n (live_behind sets i) (first_arguments (pushed nodes i)))) none))
 
 -- the counts of the first nodes
 pub record AreCounted (target : Target) (l : LabelledNodes) (sets : LiveSets) (xs : List ℕ) (passed saved count : ℕ) : Type 0 where
@@ -47,16 +59,16 @@ unfolding spills_in
 spills-next target nodes sets i = rw add-one refl
 
 -- those of one node more
-pub one-counted : (target : Target) (l : LabelledNodes) (sets : LiveSets) (xs : List ℕ) (passed saved i : ℕ) (n : Node) (choices : List Choice) → IsAccepted l → i < length l.nodes → AreCounted target l sets xs passed saved i → slice_get l.nodes i ≡ Some n
-    → node_choices target (live_behind sets i) passed n ≡ Some choices → AreCounted target l sets (xs ++ passed ∷ []) (passed_behind passed n.op) (saved + spills choices) (i + 1)
-one-counted target l sets xs passed saved i n choices accepted lt a here is = record {
+pub one-counted : (target : Target) (l : LabelledNodes) (sets : LiveSets) (xs : List ℕ) (passed saved i : ℕ) (n : Node) (more : ℕ) → IsAccepted l → i < length l.nodes → AreCounted target l sets xs passed saved i → slice_get l.nodes i ≡ Some n
+    → more ≡ saved + spills_of (choices_at target l.nodes sets i) → AreCounted target l sets (xs ++ passed ∷ []) (passed_behind passed n.op) more (i + 1)
+one-counted target l sets xs passed saved i n more accepted lt a here is = record {
   pushed_are = record {
     counted = length-append xs (passed ∷ []) ∙ ap (λ k. k + 1) long;
     each = each;
     few = λ j h. let e = each j h in let f = pushed-few l accepted j (omega (arith, h, lt)) in omega (arith, e, f);
   };
   before = passed-next l i passed n accepted here a.before;
-  saved_are = ap (λ k. k + spills choices) a.saved_are ∙ (ap (λ k. spills_in target l.nodes sets i + spills_of k) (sym at) ∙ sym (spills-next target l.nodes sets i));
+  saved_are = is ∙ (ap (λ k. k + spills_of (choices_at target l.nodes sets i)) a.saved_are ∙ sym (spills-next target l.nodes sets i));
 }
   where
     long : length xs ≡ i
@@ -68,6 +80,3 @@ one-counted target l sets xs passed saved i n choices accepted lt a here is = re
     each : (j : ℕ) → j < i + 1 → slice_index (xs ++ passed ∷ []) j ≡ pushed l.nodes j
     each j h = below_more (λ k. slice_index (xs ++ passed ∷ []) k ≡ pushed l.nodes k) i
         (λ k below. get_or-append xs (passed ∷ []) 0 k (omega (arith, below, long)) ∙ a.pushed_are.each k below) (last ∙ a.before) j h
-
-    at : choices_at target l.nodes sets i ≡ Some choices
-    at = ap (option_and_then (node_choices target (live_behind sets i) (pushed l.nodes i))) here ∙ (ap (λ k. node_choices target (live_behind sets i) k n) (sym a.before) ∙ is)

@@ -2,10 +2,11 @@
 
 ghost use Rattle.std.specs.Prelude.{◌≡◌, ◌≤◌, ◌+◌, Some, ◌<◌, length, count_by, IfOk};
 ghost use Rattle.lg_asm.specs.Assembled.{ArePushed};
-ghost use Rattle.lg_asm.specs.NodeChoices.{node_choices, set_behind, is_spill, spills_in};
+ghost use Rattle.lg_asm.specs.NodeChoices.{node_choices, choices_at, set_behind, is_spill, spills_of, spills_in};
 ghost use Rattle.lg_base.specs.declared.target.Target.{Target};
 ghost use Rattle.lg_live.specs.RegSets.{has};
 ghost use Rattle.lg_node.specs.Checks.{IsAccepted};
+ghost use Rattle.lg_node.specs.Preparations.{pushed};
 
 use crate::node::{first, pushed_behind};
 use crate::target::{chosen, needs};
@@ -49,6 +50,35 @@ fn spills(choices: &[Choice]) -> u32
         .count() as u32
 }
 
+// How many registers are saved for the temporaries of a node, before which so many arguments are pushed.
+#[inline(never)]
+fn saved_by(nodes: &NodeList, live: &Live, target: Target, index: u32, passed: u32) -> u32
+    requires index { index < length nodes.now.nodes }
+    requires live { length live.now.behind ≡ length nodes.now.nodes }
+    requires passed { passed ≡ pushed nodes.now.nodes index }
+    requires few { passed ≤ 16 }
+    ensures { result ≡ spills_of (choices_at target nodes.now.nodes live.now index) }
+{
+    let live_after = set_behind(live, index);
+    let choices = node_choices(target, &nodes.node(index), live_after, passed);
+    spills(choices.as_slice())
+}
+
+// The same: most nodes have no temporaries.
+fn saved_at(nodes: &NodeList, live: &Live, target: Target, index: u32, passed: u32) -> u32
+    requires index { index < length nodes.now.nodes }
+    requires live { length live.now.behind ≡ length nodes.now.nodes }
+    requires passed { passed ≡ pushed nodes.now.nodes index }
+    requires few { passed ≤ 16 }
+    ensures { result ≡ spills_of (choices_at target nodes.now.nodes live.now index) }
+{
+    if needs(target, &nodes.node(index)).as_slice().is_empty() {
+        0
+    } else {
+        saved_by(nodes, live, target, index, passed)
+    }
+}
+
 /// How many arguments are pushed before each node, and how many registers are saved for the temporaries of all nodes.
 #[derive(Drop)]
 pub(crate) struct Counts {
@@ -75,15 +105,12 @@ pub(crate) fn counted(
     let mut passed = 0;
     let mut saved: u32 = 0;
     'nodes: for index in 0..nodes.len() {
-        let node = nodes.node(index);
-        let live_after = set_behind(live, index);
-        let choices = node_choices(target, &node, live_after, passed);
-        let Some(more) = saved.checked_add(spills(choices.as_slice())) else {
+        let Some(more) = saved.checked_add(saved_at(nodes, live, target, index, passed)) else {
             return Err(OutOfMemory);
         };
         list.push(passed as u8)?;
         saved = more;
-        passed = pushed_behind(passed, node.op);
+        passed = pushed_behind(passed, nodes.node(index).op);
     }
     Ok(Counts {
         passed: list,

@@ -26,6 +26,7 @@ use Rattle.lg_x86.specs.Spelling as x86
 use Rattle.lg_x86.specs.declared.instruction.Cond.{Cond as X86Cond}
 use Rattle.lg_x86.specs.declared.instruction.Instr.{Instr as X86Instr}
 use Rattle.lg_x86.specs.declared.instruction.Instr.TheVariants as x86_instr
+use Rattle.lg_x86.specs.declared.instruction.JumpNearOp.TheVariants.{Jmp32}
 
 -- ---- the instructions that count from their own place
 abbrev pub x86_is_relative : X86Instr → Bool
@@ -76,6 +77,10 @@ of_calls = record { holds = 1; through = 1 }
 abbrev pub IsShortJumpIf : ℕ → ℕ → List X86Instr → Type 0
 IsShortJumpIf goal from is = Fits X86Rel8 (from + 1) goal → (cond : X86Cond) × (is ≡ x86_instr.JumpIfShort cond (pos goal -ℤ pos (from + 2)) ∷ [])
 
+-- and a jump of two bytes
+abbrev pub IsShortX86Jump : ℕ → ℕ → List X86Instr → Type 0
+IsShortX86Jump goal from is = Fits X86Rel8 (from + 1) goal → is ≡ x86_instr.JumpShort (pos goal -ℤ pos (from + 2)) ∷ []
+
 -- AArch64: a branch on a condition, wherever it reaches
 abbrev pub IsShortBranchIf : ℕ → ℕ → List A64Instr → Type 0
 IsShortBranchIf goal from is =
@@ -97,18 +102,24 @@ IsShortBranch X86_64 goal place bytes = LeadsBy x86.spelling x86.IsInstr x86_is_
 IsShortBranch Aarch64 goal place bytes = LeadsBy a64.spelling a64.IsInstr a64_is_relative (IsShortBranchIf goal) place bytes
 IsShortBranch Riscv64 goal place bytes = LeadsBy rv.spelling rv.IsInstr rv_is_relative (IsShortRvBranch goal) place bytes
 
--- a jump or a call has one form on the other targets
-abbrev pub IsShortJump : Target → RvLink → ℕ → ℕ → List ℕ → Type 0
-IsShortJump Riscv64 link goal place bytes = LeadsBy rv.spelling rv.IsInstr rv_is_relative (IsShortRvJump link.holds goal) place bytes
-IsShortJump target link goal place bytes = ⊤
+-- a jump has one form on AArch64
+abbrev pub IsShortJump : Target → ℕ → ℕ → List ℕ → Type 0
+IsShortJump X86_64 goal place bytes = LeadsBy x86.spelling x86.IsInstr x86_is_relative (IsShortX86Jump goal) place bytes
+IsShortJump Aarch64 goal place bytes = ⊤
+IsShortJump Riscv64 goal place bytes = LeadsBy rv.spelling rv.IsInstr rv_is_relative (IsShortRvJump of_jumps.holds goal) place bytes
+
+-- a call has one form on the other targets
+abbrev pub IsShortCall : Target → ℕ → ℕ → List ℕ → Type 0
+IsShortCall Riscv64 goal place bytes = LeadsBy rv.spelling rv.IsInstr rv_is_relative (IsShortRvJump of_calls.holds goal) place bytes
+IsShortCall target goal place bytes = ⊤
 
 -- of a node with this operation, whose first operand is the label
 abbrev pub IsShort : Target → Op → ℕ → ℕ → List ℕ → Type 0
 IsShort target (op.Branch o last) goal place bytes = IsShortBranch target goal place bytes
 IsShort target (op.BranchSum o last) goal place bytes = IsShortBranch target goal place bytes
-IsShort target (op.Control control.Jmp last_operand.Immediate) goal place bytes = IsShortJump target of_jumps goal place bytes
-IsShort target (op.Control control.Call last_operand.Immediate) goal place bytes = IsShortJump target of_calls goal place bytes
-IsShort target (op.Control control.Finish last_operand.Immediate) goal place bytes = IsShortJump target of_calls goal place bytes
+IsShort target (op.Control control.Jmp last_operand.Immediate) goal place bytes = IsShortJump target goal place bytes
+IsShort target (op.Control control.Call last_operand.Immediate) goal place bytes = IsShortCall target goal place bytes
+IsShort target (op.Control control.Finish last_operand.Immediate) goal place bytes = IsShortCall target goal place bytes
 IsShort target o goal place bytes = ⊤
 
 -- ---- the forms ahead, to a label that is not bound yet, in a buffer in which the near form leads to every place, or in a larger one. Where they lead
@@ -116,6 +127,10 @@ IsShort target o goal place bytes = ⊤
 -- x86-64: a jump on a condition of six bytes
 abbrev pub IsJumpIfAhead : ℕ → List X86Instr → Type 0
 IsJumpIfAhead from is = (cond : X86Cond) × (distance : ℤ) × (is ≡ x86_instr.JumpIfNear cond distance ∷ [])
+
+-- and a jump of five bytes
+abbrev pub IsX86JumpAhead : ℕ → List X86Instr → Type 0
+IsX86JumpAhead from is = (distance : ℤ) × (is ≡ x86_instr.JumpNear Jmp32 distance ∷ [])
 
 -- AArch64: a branch on a condition, or one over a branch
 abbrev pub IsBranchIfAhead : Bool → ℕ → List A64Instr → Type 0
@@ -143,16 +158,22 @@ IsBranchAhead X86_64 is_near place bytes = LeadsBy x86.spelling x86.IsInstr x86_
 IsBranchAhead Aarch64 is_near place bytes = LeadsBy a64.spelling a64.IsInstr a64_is_relative (IsBranchIfAhead is_near) place bytes
 IsBranchAhead Riscv64 is_near place bytes = LeadsBy rv.spelling rv.IsInstr rv_is_relative (IsRvBranchAhead is_near) place bytes
 
--- a jump or a call has one form on the other targets
-abbrev pub IsJumpAhead : Target → RvLink → Bool → ℕ → List ℕ → Type 0
-IsJumpAhead Riscv64 link is_near place bytes = LeadsBy rv.spelling rv.IsInstr rv_is_relative (IsRvJumpAhead link is_near) place bytes
-IsJumpAhead target link is_near place bytes = ⊤
+-- a jump has one form on AArch64
+abbrev pub IsJumpAhead : Target → Bool → ℕ → List ℕ → Type 0
+IsJumpAhead X86_64 is_near place bytes = LeadsBy x86.spelling x86.IsInstr x86_is_relative IsX86JumpAhead place bytes
+IsJumpAhead Aarch64 is_near place bytes = ⊤
+IsJumpAhead Riscv64 is_near place bytes = LeadsBy rv.spelling rv.IsInstr rv_is_relative (IsRvJumpAhead of_jumps is_near) place bytes
+
+-- a call has one form on the other targets
+abbrev pub IsCallAhead : Target → Bool → ℕ → List ℕ → Type 0
+IsCallAhead Riscv64 is_near place bytes = LeadsBy rv.spelling rv.IsInstr rv_is_relative (IsRvJumpAhead of_calls is_near) place bytes
+IsCallAhead target is_near place bytes = ⊤
 
 -- of a node with this operation, whose first operand is the label
 abbrev pub IsAhead : Target → Bool → Op → ℕ → List ℕ → Type 0
 IsAhead target is_near (op.Branch o last) place bytes = IsBranchAhead target is_near place bytes
 IsAhead target is_near (op.BranchSum o last) place bytes = IsBranchAhead target is_near place bytes
-IsAhead target is_near (op.Control control.Jmp last_operand.Immediate) place bytes = IsJumpAhead target of_jumps is_near place bytes
-IsAhead target is_near (op.Control control.Call last_operand.Immediate) place bytes = IsJumpAhead target of_calls is_near place bytes
-IsAhead target is_near (op.Control control.Finish last_operand.Immediate) place bytes = IsJumpAhead target of_calls is_near place bytes
+IsAhead target is_near (op.Control control.Jmp last_operand.Immediate) place bytes = IsJumpAhead target is_near place bytes
+IsAhead target is_near (op.Control control.Call last_operand.Immediate) place bytes = IsCallAhead target is_near place bytes
+IsAhead target is_near (op.Control control.Finish last_operand.Immediate) place bytes = IsCallAhead target is_near place bytes
 IsAhead target is_near o place bytes = ⊤

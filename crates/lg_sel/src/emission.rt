@@ -5,44 +5,41 @@ ghost use Rattle.std.specs.List.{All};
 ghost use Rattle.lg_buf.specs.Buffers.{EndsWithin};
 ghost use Rattle.lg_sel.specs.Holes.{blank_of, blanks, fix_at, fixes_of, Each};
 
+use crate::bytes::Bytes;
 use crate::item::Item;
 use crate::items::Items;
 use lg_buf::CodeBuf;
-use smallvec::SmallVec;
 
 /// Appends the code of items to a buffer, with 0 in the fields of labels and a fix for each, or answers false and changes nothing
 /// exactly where too few bytes are free. The items are in the ranges of their instructions, have at most 256 bytes and name labels of the buffer, and
 /// there is room for their fixes.
 #[must_use]
-pub fn append<L: Item>(items: &Items<L>, buf: &mut CodeBuf) -> bool
-    requires instrs { Each L.is_item items.now }
-    requires labels { Each (L.names_one_of (length buf.old.labels)) items.now }
-    requires short { length (blanks L.holes items.now) ≤ 256 }
-    requires room { length (fixes_of L.holes (length buf.old.bytes) items.now) ≤ buf.old.room }
-    ensures fits { IsTrue result ↔ (length buf.old.bytes + length (blanks L.holes items.now) ≤ buf.old.size) }
+pub fn append<L: Item>(items: &mut Items<L>, buf: &mut CodeBuf) -> bool
+    requires instrs { Each L.is_item items.old }
+    requires labels { Each (L.names_one_of (length buf.old.labels)) items.old }
+    requires short { length (blanks L.holes items.old) ≤ 256 }
+    requires room { length (fixes_of L.holes (length buf.old.bytes) items.old) ≤ buf.old.room }
+    ensures kept { items.new ≡ items.old }
+    ensures fits { IsTrue result ↔ (length buf.old.bytes + length (blanks L.holes items.old) ≤ buf.old.size) }
     ensures refused { result ≡ false → buf.new ≡ buf.old }
-    ensures bytes { IsTrue result → buf.new.bytes ≡ buf.old.bytes ++ blanks L.holes items.now }
-    ensures fixes { IsTrue result → buf.new.fixes ≡ buf.old.fixes ++ fixes_of L.holes (length buf.old.bytes) items.now }
-    ensures room { IsTrue result → buf.new.room + length (fixes_of L.holes (length buf.old.bytes) items.now) ≡ buf.old.room }
+    ensures bytes { IsTrue result → buf.new.bytes ≡ buf.old.bytes ++ blanks L.holes items.old }
+    ensures fixes { IsTrue result → buf.new.fixes ≡ buf.old.fixes ++ fixes_of L.holes (length buf.old.bytes) items.old }
+    ensures room { IsTrue result → buf.new.room + length (fixes_of L.holes (length buf.old.bytes) items.old) ≡ buf.old.room }
     ensures others { buf.new ≡ record buf.old { bytes = buf.new.bytes; fixes = buf.new.fixes; room = buf.new.room } }
 {
-    let mut bytes = SmallVec::new(buf.allocator());
-    spell_all(items.as_slice(), &mut bytes);
     let place = buf.here();
-    if !buf.emit(bytes.as_slice()) {
+    if !items.emit(buf) {
         return false;
     }
     fix_all(items.as_slice(), place, buf);
     true
 }
 
-// Appends the bytes of all items. There is room for them.
-fn spell_all<L: Item>(items: &[L], bytes: &mut SmallVec<u8, 256>)
+/// Appends the bytes of all items. There is room for them.
+pub(crate) fn spell_all<L: Item>(items: &[L], bytes: &mut Bytes)
     requires items { Each L.is_item items.now }
-    requires room { length bytes.old.items + length (blanks L.holes items.now) ≤ 256 }
-    requires inline { bytes.old.capacity ≡ 256 }
-    ensures items { bytes.new.items ≡ bytes.old.items ++ blanks L.holes items.now }
-    ensures inline { bytes.new.capacity ≡ 256 }
+    requires room { length bytes.old + length (blanks L.holes items.now) ≤ 256 }
+    ensures { bytes.new ≡ bytes.old ++ blanks L.holes items.now }
 {
     match items {
         [] => {}
@@ -85,6 +82,7 @@ fn fix_all<L: Item>(items: &[L], place: u32, buf: &mut CodeBuf)
 {
     match items {
         [] => {}
+        [item] => fix_one(item, place, buf),
         [item, rest @ ..] => {
             fix_one(item, place, buf);
             fix_all(rest, place + item.size(), buf);

@@ -3,8 +3,8 @@
 ghost use Rattle.std.specs.Prelude.{◌≡◌, ℕ, ◌+◌, ◌<◌, ◌≤◌, ◌^◌, ◌++◌, length, IfSome};
 ghost use Rattle.lg_sel.specs.Holes.{Holes, words_of, blank_of, fix_at, listed, IsWithin};
 
+use crate::bytes::Bytes;
 use lg_buf::Fix;
-use smallvec::SmallVec;
 use std::default::Default;
 
 /// What the code of nodes is made of on a target: an instruction, or some that name a label.
@@ -29,12 +29,10 @@ pub trait Item: Copy + Drop + Default {
         ensures { result ≡ one instr };
 
     /// Appends its bytes, with 0 in the field of a label. There is room for them.
-    fn spell(&self, bytes: &mut SmallVec<u8, 256>)
+    fn spell(&self, bytes: &mut Bytes)
         requires item { is_item self.now }
-        requires room { length bytes.old.items + length (blank_of holes self.now) ≤ 256 }
-        requires inline { bytes.old.capacity ≡ 256 }
-        ensures items { bytes.new.items ≡ bytes.old.items ++ blank_of holes self.now }
-        ensures inline { bytes.new.capacity ≡ 256 };
+        requires room { length bytes.old + length (blank_of holes self.now) ≤ 256 }
+        ensures { bytes.new ≡ bytes.old ++ blank_of holes self.now };
 
     /// How many bytes it has.
     fn size(&self) -> u32

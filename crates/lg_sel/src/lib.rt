@@ -2,6 +2,7 @@
 //! finished buffer keeps it, and the laws of nodes that lead elsewhere (control).
 #![tactic(auto)]
 
+mod bytes;
 pub mod control;
 mod emission;
 mod item;
@@ -12,6 +13,7 @@ pub mod operands;
 mod reach;
 mod shortest;
 
+pub use bytes::Bytes;
 pub use emission::append;
 pub use item::Item;
 pub use items::Items;

@@ -28,7 +28,7 @@ fn forward_reach(size: u32) -> Reach
 }
 
 /// The reach with which to begin for a node with these operands: the shortest, but where it leads to a label that is not bound yet the one that a
-/// buffer of this size asks for. Behind the last place of code it is the longest.
+/// buffer of this size asks for. Behind the last place of code, and where the first operand is no label, so that all reaches are one, it is the longest.
 pub fn first_reach(operands: &[Operand], buf: &CodeBuf) -> Reach
     requires { NameBelow (length buf.now.labels) operands.now }
     ensures low { result ≢ Reach.Far → length buf.now.bytes ≤ most_code }
@@ -45,7 +45,7 @@ pub fn first_reach(operands: &[Operand], buf: &CodeBuf) -> Reach
             Some(_) => Reach::Short,
             None => forward_reach(buf.size()),
         },
-        _ => Reach::Short,
+        _ => Reach::Far,
     }
 }
 

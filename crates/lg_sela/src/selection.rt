@@ -17,6 +17,7 @@ use lg_live::RegSet;
 use lg_op::Node;
 use lg_sel::operands::see_numbers;
 use lg_sel::{Items, append, shortest_items};
+use lg_sela_values::Item;
 use lg_temp::{Choices, Staged};
 
 /// Appends the code of a node to a buffer, or answers false and changes nothing, which it does only where fewer than 256 bytes are free.
@@ -43,6 +44,7 @@ pub fn select(
     choices: &Choices,
     live_after: RegSet,
     staged: Staged,
+    items: &mut Items<Item>,
     buf: &mut CodeBuf,
 ) -> bool
     requires formed { InForm node.now }
@@ -71,7 +73,7 @@ pub fn select(
 {
     let operands = node.operands.as_slice();
     see_numbers(operands);
-    let mut items = Items::new(buf.allocator());
-    let _reach = shortest_items::<Emitter>(node, frame, homes, choices, &staged, buf, &mut items);
-    append(&items, buf)
+    items.clear();
+    let _reach = shortest_items::<Emitter>(node, frame, homes, choices, &staged, buf, items);
+    append(items, buf)
 }

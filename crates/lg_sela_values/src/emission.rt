@@ -9,21 +9,15 @@ use crate::items::Item;
 use crate::rows::wide;
 use lg_a64::{Instr, WideOp, encode};
 use lg_buf::{CodeLabel, Fix, FixKind};
-use smallvec::SmallVec;
-
-// The bytes of one node.
-type Bytes = SmallVec<u8, 256>;
+use lg_sel::Bytes;
 
 // Appends the bytes of an instruction. There is room for them.
 fn spell_one(instr: &Instr, bytes: &mut Bytes)
     requires instr { IsInstr instr.now }
-    requires room { length bytes.old.items + 4 ≤ 256 }
-    requires inline { bytes.old.capacity ≡ 256 }
-    ensures items { bytes.new.items ≡ bytes.old.items ++ spelling instr.now }
-    ensures inline { bytes.new.capacity ≡ 256 }
+    requires room { length bytes.old + 4 ≤ 256 }
+    ensures { bytes.new ≡ bytes.old ++ spelling instr.now }
 {
-    let piece = encode(instr);
-    let _ = bytes.extend_from_slice(piece.as_slice());
+    bytes.extend(encode(instr).as_slice());
 }
 
 impl lg_sel::Item for Item {

@@ -97,7 +97,9 @@ module _ (n : Node) (old : Buffer) where
       (record { from = omega (arith, low); names = h; reaches = λ target t most here led. (omega (arith, most, here), omega (arith, most, here)) }, tt)
   leads reach (Jump (NearIf cond) label) place low even h checked =
       (record { from = omega (arith, low); names = h; reaches = λ target t most here led. (omega (arith, most, here), omega (arith, most, here)) }, tt)
-  leads reach (Jump Short label) place low even h checked = absurd h
+  leads reaches.Short (Jump Short label) place low even h checked = (byte-leads label place low h (checked.0 tt), tt)
+  leads reaches.Near (Jump Short label) place low even h checked = absurd h
+  leads reaches.Far (Jump Short label) place low even h checked = absurd h
   leads reaches.Short (Jump (ShortIf cond) label) place low even h checked = (byte-leads label place low h (checked.0 tt), tt)
   leads reaches.Near (Jump (ShortIf cond) label) place low even h checked = absurd h
   leads reaches.Far (Jump (ShortIf cond) label) place low even h checked = absurd h

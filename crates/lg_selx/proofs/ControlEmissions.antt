@@ -26,7 +26,7 @@ use Rattle.lg_sel.specs.declared.reach.Reach.TheVariants as reaches
 use Rattle.lg_selx.proofs.Emissions.{Names, NoneStores, keep-none, number-keeps, Emits, none, instructions, plain, number, address, jump, front, behind}
 use Rattle.lg_selx.specs.Control.Alignments.{padding, idle, align_code}
 use Rattle.lg_selx.specs.Control.Branches.{comparison, is_difference, taken, far_number, pointer_comparison, wide_comparison, word_comparison, before_branch}
-use Rattle.lg_selx.specs.Control.ControlItems.{jump_kind, branch_if_items, branch_items, sum_items, jump_items, call_items, result_items, ret_items, register_jump_items, register_call_items, leap_items, align_items, control_items}
+use Rattle.lg_selx.specs.Control.ControlItems.{jump_kind, plain_kind, branch_if_items, branch_items, sum_items, jump_items, call_items, result_items, ret_items, register_jump_items, register_call_items, leap_items, align_items, control_items}
 use Rattle.lg_selx.specs.Control.HostCalls.{host_code}
 use Rattle.lg_selx.proofs.OfControl.FitLemmas.{stored-few}
 use Rattle.lg_selx.specs.Control.Prologs.{stored_registers, store_word, lowered, prolog_code}
@@ -42,7 +42,7 @@ use Rattle.lg_x86.specs.declared.instruction.Cond.{Cond}
 use Rattle.lg_x86.specs.declared.instruction.ImmOp.TheVariants.{Andi, Cmpi}
 use Rattle.lg_x86.specs.declared.instruction.Instr.{Instr}
 use Rattle.lg_x86.specs.declared.instruction.Instr.TheVariants as instr
-use Rattle.lg_x86.specs.declared.instruction.JumpNearOp.TheVariants.{Jmp32, Call32}
+use Rattle.lg_x86.specs.declared.instruction.JumpNearOp.TheVariants.{Call32}
 use Rattle.lg_x86.specs.declared.instruction.RmRegOp.TheVariants.{Mov}
 
 -- ---- instructions
@@ -105,6 +105,11 @@ kind-named reaches.Short is holds l h = h
 kind-named reaches.Near is holds l h = h
 kind-named reaches.Far is holds l h = h
 
+plain-named : (reach : Reach) (is : ℕ → Bool) (l : Label) → is l.0 ≡ true → Names reach is (Jump (plain_kind reach) l.0)
+plain-named reaches.Short is l h = h
+plain-named reaches.Near is l h = h
+plain-named reaches.Far is l h = h
+
 -- ---- items
 module _ (reach : Reach) (is : ℕ → Bool) where
   branches : (code : List Instr) (holds : Cond) (l : Label) → NoneStores code → is l.0 ≡ true → Emits reach is 1 0 (branch_if_items reach code holds l)
@@ -118,8 +123,8 @@ module _ (reach : Reach) (is : ℕ → Bool) where
   summed frame o (operand.Label l ∷ operand.Reg a ∷ x ∷ []) h = branches (before_sum_branch frame o a x) (sum_taken o) l (before-sum-none frame o a x) h.0
   summed frame o xs h = none reach is 1 0
 
-  jumped : (xs : List Operand) → AllPass is xs → Emits reach is 1 0 (jump_items xs)
-  jumped (operand.Label l ∷ []) h = jump reach is (Near Jmp32) l.0 h.0
+  jumped : (xs : List Operand) → AllPass is xs → Emits reach is 1 0 (jump_items reach xs)
+  jumped (operand.Label l ∷ []) h = jump reach is (plain_kind reach) l.0 (plain-named reach is l h.0)
   jumped xs h = none reach is 1 0
 
   called : (xs : List Operand) → AllPass is xs → Emits reach is 1 0 (call_items xs)
@@ -147,7 +152,7 @@ module _ (reach : Reach) (is : ℕ → Bool) where
   register-called (operand.Reg a ∷ []) = plain reach is 1 (register_call_code 0 a) refl
   register-called xs = none reach is 1 0
 
-  leaps : (o : ControlOp) (last : LastOperand) (xs : List Operand) → AllPass is xs → Emits reach is 1 0 (leap_items o last xs)
+  leaps : (o : ControlOp) (last : LastOperand) (xs : List Operand) → AllPass is xs → Emits reach is 1 0 (leap_items reach o last xs)
   leaps control.Jmp last_operand.Immediate xs h = jumped xs h
   leaps control.Jmp last_operand.Register xs h = register-jumped xs
   leaps control.Call last_operand.Immediate xs h = called xs h

@@ -22,6 +22,7 @@ abbrev pub Names : Reach → (ℕ → Bool) → Item → Type 0
 Names r is (One i) = ⊤
 Names r is (Jump (Near op) label) = is label ≡ true
 Names r is (Jump (NearIf cond) label) = is label ≡ true
+Names reaches.Short is (Jump Short label) = is label ≡ true
 Names reaches.Short is (Jump (ShortIf cond) label) = is label ≡ true
 Names r is (Jump kind label) = ⊥
 Names r is (Address reg label) = is label ≡ true

@@ -35,7 +35,7 @@ use Rattle.lg_sel.proofs.SelectionLemmas as selection
 use Rattle.lg_sel.proofs.FinishedLemmas.{items-lead}
 use Rattle.lg_sel.specs.Finished.{AreAppended}
 use Rattle.lg_sel.specs.Selected.{IsFinished, part_of}
-use Rattle.lg_sel.specs.Shorts.{x86_is_relative, LeadsBy, IsShortJumpIf, IsShort, IsJumpIfAhead, IsAhead}
+use Rattle.lg_sel.specs.Shorts.{x86_is_relative, LeadsBy, IsShortJumpIf, IsShortX86Jump, IsShort, IsJumpIfAhead, IsX86JumpAhead, IsAhead}
 use Rattle.lg_sel.proofs.OfControl.ControlLemmas.{differ, never, never-sum}
 use Rattle.lg_sel.specs.Holes.{Each}
 use Rattle.lg_sel.specs.Reaches.{near_size, Leads, LeadsTo, IsLeast, IsLeastAhead}
@@ -43,7 +43,7 @@ use Rattle.lg_sel.specs.declared.reach.Reach.{Reach}
 use Rattle.lg_sel.specs.declared.reach.Reach.TheVariants.{Short, Near, Far}
 use Rattle.lg_selx.proofs.OfControl.ControlLemmas.{blanks-ones, branch-settled}
 use Rattle.lg_selx.specs.Control.Branches.{comparison, is_difference, far_number, pointer_comparison, wide_comparison, word_comparison, before_branch, taken}
-use Rattle.lg_selx.specs.Control.ControlItems.{jump_kind, branch_if_items, branch_items, sum_items, control_items}
+use Rattle.lg_selx.specs.Control.ControlItems.{jump_kind, plain_kind, branch_if_items, jump_items, branch_items, sum_items, control_items}
 use Rattle.lg_selx.specs.Control.SumBranches.{sum_row, sum_number, number_sum, before_sum_branch, sum_taken}
 use Rattle.lg_selx.specs.Control.TwoWays.{jump_if}
 use Rattle.lg_selx_values.proofs.ItemLemmas.{fixes-append, fixes-ones}
@@ -126,6 +126,15 @@ branch-fixes r p front holds l =
     fixes-append p (ones front) last ∙ ap (λ z. z ++ fixes_of (p + length (blanks (ones front))) last) (fixes-ones p front)
     ∙ ap (λ b. fixes_of (p + length b) last) (blanks-ones front) ∙ jump-fixes r (p + length (spellings spelling front)) holds l
 
+abbrev plain-fix : Reach → ℕ → Label → Fix
+plain-fix Short p l = record { place = p + 1; kind = X86Rel8; label = record { 0 = l.0 } }
+plain-fix r p l = record { place = p + 1; kind = X86Rel32; label = record { 0 = l.0 } }
+
+plain-fixes : (r : Reach) (p : ℕ) (l : Label) → fixes_of p (jump_items r (operand.Label l ∷ [])) ≡ plain-fix r p l ∷ []
+plain-fixes Short p l = refl
+plain-fixes Near p l = refl
+plain-fixes Far p l = refl
+
 -- ---- the branches
 -- items of each reach that lead to a label, the first operand: instructions that do not count from their own place, and a jump on a condition behind them
 record IsBranchTo (xs : List Operand) (items : Reach → List Item) : Type 0 where
@@ -178,6 +187,12 @@ module _ (old new : Buffer) (code : List ℕ) (c : Code) (i : ℕ) (f : IsFinish
         items-lead x86_holes spelling IsInstr IsItem are-holes x86_is_relative has_form old new code c i (items r) appended fit f k.front leap []
         (ap (settled to (code_base + place)) (k.are r) ∙ branch-settled r to (code_base + place) k.front k.holds k.label ∙ ap (λ z. k.front ++ z ∷ []) same) k.apart leads form
 
+  jump-led : (has_form : ℕ → List Instr → Type 0) (leap : Instr) (items : List Item) → AreAppended x86_holes old new items → AreItems items
+      → settled to (code_base + place) items ≡ leap ∷ [] → x86_is_relative leap ≡ true → has_form place (leap ∷ []) → IsLed has_form
+  jump-led has_form leap items appended fit become leads form =
+      items-lead x86_holes spelling IsInstr IsItem are-holes x86_is_relative has_form old new code c i items appended fit f [] leap [] become tt leads
+      (let z : place + 0 ≡ place = omega arith in subst (λ p. has_form p (leap ∷ [])) (sym z) form)
+
   -- ---- back to a label that is bound
   module _ (goal frame homes : ℕ) where
     does-of : (l : Label) (g : Fix) (gs : List Fix) → place_of old.labels l.0 ≡ Some goal → gs ≡ g ∷ [] → g.label ≡ record { 0 = l.0 } → Fits g.kind g.place goal → Each (Leads old) gs
@@ -198,6 +213,20 @@ module _ (old new : Buffer) (code : List ℕ) (c : Code) (i : ℕ) (f : IsFinish
         branch-led xs items k (IsShortJumpIf goal) Far appended fit _ refl refl
         (λ near. absurd (least.0 (does-of k.label (jump-fix Short (from xs items k) k.label) _ bound (branch-fix xs items k Short) refl near)))
 
+    jump-short : (r : Reach) (l : Label) → AreAppended x86_holes old new (jump_items r (operand.Label l ∷ [])) → AreItems (jump_items r (operand.Label l ∷ []))
+        → place_of old.labels l.0 ≡ Some goal → to l.0 ≡ code_base + goal → IsLeast (λ s. Each (Leads old) (fixes_of place (jump_items s (operand.Label l ∷ [])))) r
+        → IsLed (IsShortX86Jump goal)
+    jump-short Short l appended fit bound address least =
+        let away : pos (to l.0) -ℤ pos (code_base + place + 2) ≡ pos goal -ℤ pos (place + 2) = omega (arith, ints, address) in
+        jump-led (IsShortX86Jump goal) (instr.JumpShort (pos goal -ℤ pos (place + 2))) (jump_items Short (operand.Label l ∷ [])) appended fit
+        (ap (λ d. instr.JumpShort d ∷ []) away) refl (λ near. refl)
+    jump-short Near l appended fit bound address least =
+        jump-led (IsShortX86Jump goal) _ (jump_items Near (operand.Label l ∷ [])) appended fit refl refl
+        (λ near. absurd (least (does-of l (plain-fix Short place l) _ bound (plain-fixes Short place l) refl near)))
+    jump-short Far l appended fit bound address least =
+        jump-led (IsShortX86Jump goal) _ (jump_items Far (operand.Label l ∷ [])) appended fit refl refl
+        (λ near. absurd (least.0 (does-of l (plain-fix Short place l) _ bound (plain-fixes Short place l) refl near)))
+
     -- what is known of the operands of a node with this reach
     abbrev IsKnown : Reach → Op → List Operand → Type 0
     IsKnown r o xs = selection.IsKnown x86_holes IsItem old new to goal (λ s. control_items s o xs frame homes place) r o xs
@@ -208,7 +237,8 @@ module _ (old new : Buffer) (code : List ℕ) (c : Code) (i : ℕ) (f : IsFinish
     pub node-short : (r : Reach) (o : Op) (xs : List Operand) (l : Label) → slice_get xs 0 ≡ Some (operand.Label l) → IsKnown r o xs → IsShort X86_64 o goal place part
     node-short r (op.Branch o last) xs l first k = short r (op.Branch o last) xs k (branch-leads frame o last xs k.admitted)
     node-short r (op.BranchSum o last) xs l first k = short r (op.BranchSum o last) xs k (sum-leads frame o last xs k.admitted)
-    node-short r (op.Control control.Jmp last_operand.Immediate) xs l first k = tt
+    node-short r (op.Control control.Jmp last_operand.Immediate) (operand.Label m ∷ []) l first k = jump-short r m k.appended k.fit (k.labels m refl).0 (k.labels m refl).1 k.least
+    node-short r (op.Control control.Jmp last_operand.Immediate) xs l first k = absurd (differ k.admitted)
     node-short r (op.Control control.Call last_operand.Immediate) xs l first k = tt
     node-short r (op.Control control.Finish last_operand.Immediate) xs l first k = tt
     node-short r o xs l first k = tt
@@ -219,6 +249,12 @@ module _ (old new : Buffer) (code : List ℕ) (c : Code) (i : ℕ) (f : IsFinish
   branch-ahead Short is_near xs items k appended fit least = absurd least
   branch-ahead Near is_near xs items k appended fit least = branch-led xs items k IsJumpIfAhead Near appended fit _ refl refl (k.holds, _, refl)
   branch-ahead Far is_near xs items k appended fit least = branch-led xs items k IsJumpIfAhead Far appended fit _ refl refl (k.holds, _, refl)
+
+  jump-ahead : (r : Reach) (is_near : Bool) (l : Label) → AreAppended x86_holes old new (jump_items r (operand.Label l ∷ [])) → AreItems (jump_items r (operand.Label l ∷ []))
+      → IsLeastAhead is_near (λ s. Each (Leads old) (fixes_of place (jump_items s (operand.Label l ∷ [])))) r → IsLed IsX86JumpAhead
+  jump-ahead Short is_near l appended fit least = absurd least
+  jump-ahead Near is_near l appended fit least = jump-led IsX86JumpAhead _ (jump_items Near (operand.Label l ∷ [])) appended fit refl refl (_, refl)
+  jump-ahead Far is_near l appended fit least = jump-led IsX86JumpAhead _ (jump_items Far (operand.Label l ∷ [])) appended fit refl refl (_, refl)
 
   module _ (frame homes : ℕ) where
     abbrev IsKnownAhead : Reach → Op → List Operand → Type 0
@@ -233,7 +269,8 @@ module _ (old new : Buffer) (code : List ℕ) (c : Code) (i : ℕ) (f : IsFinish
     pub node-ahead : (r : Reach) (o : Op) (xs : List Operand) (l : Label) → slice_get xs 0 ≡ Some (operand.Label l) → IsKnownAhead r o xs → IsAhead X86_64 is_near o place part
     node-ahead r (op.Branch o last) xs l first k = ahead r (op.Branch o last) xs k (branch-leads frame o last xs k.admitted)
     node-ahead r (op.BranchSum o last) xs l first k = ahead r (op.BranchSum o last) xs k (sum-leads frame o last xs k.admitted)
-    node-ahead r (op.Control control.Jmp last_operand.Immediate) xs l first k = tt
+    node-ahead r (op.Control control.Jmp last_operand.Immediate) (operand.Label m ∷ []) l first k = jump-ahead r is_near m k.appended k.fit k.least
+    node-ahead r (op.Control control.Jmp last_operand.Immediate) xs l first k = absurd (differ k.admitted)
     node-ahead r (op.Control control.Call last_operand.Immediate) xs l first k = tt
     node-ahead r (op.Control control.Finish last_operand.Immediate) xs l first k = tt
     node-ahead r o xs l first k = tt

@@ -152,9 +152,9 @@ summed-small reach frame o (operand.Label l ∷ operand.Reg a ∷ x ∷ []) = fr
 summed-small reach frame o xs = none-small
 
 -- ---- jumps, calls and returns
-jumped-small : (xs : List Operand) → Small (jump_items xs)
-jumped-small (operand.Label l ∷ []) = few-small (jump_items (operand.Label l ∷ [])) 1 (omega arith) (omega arith)
-jumped-small xs = none-small
+jumped-small : (reach : Reach) (xs : List Operand) → Small (jump_items reach xs)
+jumped-small reach (operand.Label l ∷ []) = few-small (jump_items reach (operand.Label l ∷ [])) 1 (omega arith) (omega arith)
+jumped-small reach xs = none-small
 
 called-small : (xs : List Operand) → Small (call_items xs)
 called-small (operand.Label l ∷ []) = few-small (call_items (operand.Label l ∷ [])) 1 (omega arith) (omega arith)
@@ -181,15 +181,15 @@ register-called-small : (xs : List Operand) → Small (register_call_items xs)
 register-called-small (operand.Reg a ∷ []) = few-small (register_call_items (operand.Reg a ∷ [])) 3 (omega arith) (omega arith)
 register-called-small xs = none-small
 
-leaps-small : (o : ControlOp) (last : LastOperand) (xs : List Operand) → Small (leap_items o last xs)
-leaps-small control.Jmp last_operand.Immediate xs = jumped-small xs
-leaps-small control.Jmp last_operand.Register xs = register-jumped-small xs
-leaps-small control.Call last_operand.Immediate xs = called-small xs
-leaps-small control.Call last_operand.Register xs = register-called-small xs
-leaps-small control.Finish last_operand.Immediate xs = called-small xs
-leaps-small control.Finish last_operand.Register xs = register-called-small xs
-leaps-small control.Ret last xs = returned-small xs
-leaps-small control.Pusharg last xs = none-small
+leaps-small : (reach : Reach) (o : ControlOp) (last : LastOperand) (xs : List Operand) → Small (leap_items reach o last xs)
+leaps-small reach control.Jmp last_operand.Immediate xs = jumped-small reach xs
+leaps-small reach control.Jmp last_operand.Register xs = register-jumped-small xs
+leaps-small reach control.Call last_operand.Immediate xs = called-small xs
+leaps-small reach control.Call last_operand.Register xs = register-called-small xs
+leaps-small reach control.Finish last_operand.Immediate xs = called-small xs
+leaps-small reach control.Finish last_operand.Register xs = register-called-small xs
+leaps-small reach control.Ret last xs = returned-small xs
+leaps-small reach control.Pusharg last xs = none-small
 
 prolog-long : (frame homes : ℕ) → length (prolog_code frame homes) ≤ 12
 prolog-long frame homes =
@@ -206,7 +206,7 @@ plain-small o xs frame homes at a = none-small
 control-small : (reach : Reach) (o : Op) (xs : List Operand) (frame homes at : ℕ) → admit (forms_of o) xs ≡ true → Small (control_items reach o xs frame homes at)
 control-small reach (op.Branch o last) xs frame homes at a = branched-small reach frame o xs
 control-small reach (op.BranchSum o last) xs frame homes at a = summed-small reach frame o xs
-control-small reach (op.Control o last) xs frame homes at a = leaps-small o last xs
+control-small reach (op.Control o last) xs frame homes at a = leaps-small reach o last xs
 control-small reach (op.Plain o) xs frame homes at a = plain-small o xs frame homes at a
 control-small reach o xs frame homes at a = none-small
 

@@ -7,22 +7,16 @@ ghost use Rattle.lg_selx_values.specs.Items.{x86_holes, IsItem, NamesOneOf, has_
 
 use crate::items::{Item, move_size};
 use lg_buf::{CodeLabel, Fix, FixKind};
+use lg_sel::Bytes;
 use lg_x86::{Instr, encode};
-use smallvec::SmallVec;
-
-// The bytes of one node.
-type Bytes = SmallVec<u8, 256>;
 
 // Appends the bytes of an instruction. There is room for them.
 fn spell_one(instr: &Instr, bytes: &mut Bytes)
     requires instr { IsInstr instr.now }
-    requires room { length bytes.old.items + length (spelling instr.now) ≤ 256 }
-    requires inline { bytes.old.capacity ≡ 256 }
-    ensures items { bytes.new.items ≡ bytes.old.items ++ spelling instr.now }
-    ensures inline { bytes.new.capacity ≡ 256 }
+    requires room { length bytes.old + length (spelling instr.now) ≤ 256 }
+    ensures { bytes.new ≡ bytes.old ++ spelling instr.now }
 {
-    let piece = encode(instr);
-    let _ = bytes.extend_from_slice(piece.as_slice());
+    bytes.extend(encode(instr).as_slice());
 }
 
 // How many bytes an instruction has.

@@ -15,7 +15,7 @@ use Rattle.lg_meaning.specs.Texts.{text, step_at, step}
 use Rattle.lg_carry.specs.FinalNodes.{Code, is_inside}
 use Rattle.lg_carry.specs.Carries.{Leads, leaps}
 use Rattle.lg_carry.specs.Homes.{homes_at}
-use Rattle.lg_carry.specs.NodeCode.{live_before, live_behind, is_return, CarriesNode}
+use Rattle.lg_carry.specs.NodeCode.{live_before, live_behind, CarriesNode}
 use Rattle.lg_carry.specs.Passages.{IsNodeCode}
 use Rattle.lg_carry.specs.Rows.{Rows, AreRows}
 use Rattle.lg_carry.specs.Stands.{Stands}

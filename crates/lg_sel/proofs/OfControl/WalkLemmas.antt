@@ -21,7 +21,7 @@ use Rattle.lg_carry.specs.FinalNodes.{Code, is_inside}
 use Rattle.lg_carry.specs.Frames.{at_call}
 use Rattle.lg_carry.specs.Homes.{homes_at}
 use Rattle.lg_carry.specs.Moves.{Moves}
-use Rattle.lg_carry.specs.NodeCode.{live_before, live_behind, is_return}
+use Rattle.lg_carry.specs.NodeCode.{live_before, live_behind}
 use Rattle.lg_carry.specs.Passages.{IsNodeCode, Passes}
 use Rattle.lg_carry.specs.Rows.{Rows, AreRows}
 use Rattle.lg_carry.specs.Stands.{StatesAgree, Stands}

@@ -33,6 +33,7 @@ use Rattle.lg_sel.specs.declared.reach.Reach.TheVariants.{Short, Near, Far}
 use Rattle.lg_selx.specs.Control.Alignments.{align_code}
 use Rattle.lg_selx.specs.Control.Branches.{before_branch, taken}
 use Rattle.lg_selx.specs.Control.ControlItems.{jump_kind, branch_if_items, branch_items, sum_items, jump_items, call_items}
+use Rattle.lg_selx.specs.Control.Jumps.{jump_code}
 use Rattle.lg_selx.specs.Control.ControlItems.{register_jump_items, register_call_items, leap_items, ret_items, result_items, align_items, plain_items, control_items}
 use Rattle.lg_selx.specs.Control.ControlLaws.{ControlNodesCarry}
 use Rattle.lg_selx.specs.Control.HostCalls.{host_code, x86_ready}
@@ -63,6 +64,11 @@ branch-settled r to at front c l =
     settled-append to at (ones front) last ∙ ap (λ z. z ++ settled to (at + length (blanks (ones front))) last) (settled-ones to at front)
     ∙ ap (λ b. front ++ settled to (at + length b) last) (blanks-ones front) ∙ ap (λ z. front ++ z) (jump-settled r to (at + length (spellings spelling front)) c l)
 
+jump-settled-plain : (r : Reach) (to : ℕ → ℕ) (at : ℕ) (l : Label) → settled to at (jump_items r (operand.Label l ∷ [])) ≡ jump_code r at (to l.0)
+jump-settled-plain Short to at l = refl
+jump-settled-plain Near to at l = refl
+jump-settled-plain Far to at l = refl
+
 -- ---- the items of a node are its code
 module _ (r : Reach) (to : ℕ → ℕ) (frame homes at : ℕ) where
   branches : (o : Condition) (xs : List Operand) → settled to at (branch_items r frame o xs) ≡ branch_of (x86_control r) to frame at o xs
@@ -73,8 +79,8 @@ module _ (r : Reach) (to : ℕ → ℕ) (frame homes at : ℕ) where
   sum-branches o (operand.Label l ∷ operand.Reg a ∷ x ∷ []) = branch-settled r to at (before_sum_branch frame o a x) (sum_taken o) l
   sum-branches o xs = refl
 
-  jumps : (xs : List Operand) → settled to at (jump_items xs) ≡ jump_of (x86_control r) to at xs
-  jumps (operand.Label l ∷ []) = refl
+  jumps : (xs : List Operand) → settled to at (jump_items r xs) ≡ jump_of (x86_control r) to at xs
+  jumps (operand.Label l ∷ []) = jump-settled-plain r to at l
   jumps xs = refl
 
   calls : (xs : List Operand) → settled to at (call_items xs) ≡ call_of (x86_control r) to at xs
@@ -102,7 +108,7 @@ module _ (r : Reach) (to : ℕ → ℕ) (frame homes at : ℕ) where
   returns (x ∷ []) = results x
   returns xs = refl
 
-  leaps : (o : ControlOp) (last : LastOperand) (xs : List Operand) → settled to at (leap_items o last xs) ≡ leap_of (x86_control r) to frame at o last xs
+  leaps : (o : ControlOp) (last : LastOperand) (xs : List Operand) → settled to at (leap_items r o last xs) ≡ leap_of (x86_control r) to frame at o last xs
   leaps control.Jmp last_operand.Immediate xs = jumps xs
   leaps control.Jmp last_operand.Register xs = register-jumps xs
   leaps control.Call last_operand.Immediate xs = calls xs

@@ -30,8 +30,7 @@ use Rattle.lg_x86.specs.declared.instruction.Cond.{Cond}
 use Rattle.lg_x86.specs.declared.instruction.ImmOp.TheVariants.{Andi, Cmpi}
 use Rattle.lg_x86.specs.declared.instruction.Instr.{Instr}
 use Rattle.lg_x86.specs.declared.instruction.Instr.TheVariants as instr
-use Rattle.lg_x86.specs.declared.instruction.JumpNearOp.{JumpNearOp}
-use Rattle.lg_x86.specs.declared.instruction.JumpNearOp.TheVariants.{Jmp32, Call32}
+use Rattle.lg_x86.specs.declared.instruction.JumpNearOp.TheVariants.{Call32}
 use Rattle.lg_x86.specs.declared.instruction.RmRegOp.TheVariants.{Mov}
 use Rattle.lg_op.specs.declared.operand.Reg.TheVariants.{R0}
 use Rattle.lg_temp.specs.Abis.{register_of}
@@ -42,6 +41,7 @@ use Rattle.lg_sel.proofs.OfControl.StoreLemmas.{take-all}
 use Rattle.lg_sel.proofs.OfControl.ControlLemmas.{differ, never, never-sum, host-small}
 use Rattle.lg_selx_values.specs.declared.items.Item.{Item}
 use Rattle.lg_selx_values.specs.declared.items.Item.TheVariants.{One, Jump}
+use Rattle.lg_selx_values.specs.declared.items.JumpKind.{JumpKind}
 use Rattle.lg_selx_values.specs.declared.items.JumpKind.TheVariants.{Near}
 use Rattle.lg_selx_values.specs.Items.{x86_holes, IsItem, NamesOneOf, AreItems, ones}
 use Rattle.lg_selx_values.proofs.ItemLemmas.{items-append, fixes-ones, ones-append}
@@ -53,7 +53,7 @@ use Rattle.lg_selx.specs.Control.Alignments.{padding, idle, align_code}
 use Rattle.lg_selx.specs.Control.Branches.{comparison, is_difference, far_number, pointer_comparison, wide_comparison, number_comparison, before_branch, taken}
 use Rattle.lg_carry.specs.Nodes.Operands.{IsGiven, AreGiven}
 use Rattle.lg_selx.specs.Control.ControlFits.{AreEmitted, ControlItemsFit}
-use Rattle.lg_selx.specs.Control.ControlItems.{jump_kind, branch_if_items, register_jump_items, register_call_items, control_items, is_control}
+use Rattle.lg_selx.specs.Control.ControlItems.{jump_kind, plain_kind, branch_if_items, register_jump_items, register_call_items, control_items, is_control}
 use Rattle.lg_selx.specs.Control.ControlLaws.{ends_in_label}
 use Rattle.lg_selx.specs.Control.HostCalls.{host_code}
 use Rattle.lg_selx.specs.Control.Prologs.{stored_registers, stores_below, lowered, prolog_code}
@@ -220,17 +220,17 @@ module _ (r : Reach) (labels frame homes at : ℕ) (framed : frame < 0x40000000)
   sum-branch o last (operand.Label l ∷ operand.Reg a ∷ []) h v = absurd (never (admits form.Update (operand.Reg a)) h)
   sum-branch o last xs h v = absurd (differ h)
 
-  jump-emitted : (o : JumpNearOp) (l : Label) → l.0 < labels → AreEmitted labels true (Jump (Near o) l.0 ∷ [])
-  jump-emitted o l lt = record { items = (tt, tt); labels = (lt, tt); one_fix = λ place. omega arith; some = λ e. omega arith }
+  jump-emitted : (kind : JumpKind) (l : Label) → l.0 < labels → AreEmitted labels true (Jump kind l.0 ∷ [])
+  jump-emitted kind l lt = record { items = (tt, tt); labels = (lt, tt); one_fix = λ place. omega arith; some = λ e. omega arith }
 
   jump : (xs : List Operand) → admit (forms_of (op.Control control.Jmp last_operand.Immediate)) xs ≡ true → AreGiven labels xs
       → AreEmitted labels true (items-of (op.Control control.Jmp last_operand.Immediate) xs)
-  jump (operand.Label l ∷ []) h v = jump-emitted Jmp32 l v.0
+  jump (operand.Label l ∷ []) h v = jump-emitted (plain_kind r) l v.0
   jump xs h v = absurd (differ h)
 
   call : (xs : List Operand) → admit (forms_of (op.Control control.Call last_operand.Immediate)) xs ≡ true → AreGiven labels xs
       → AreEmitted labels true (items-of (op.Control control.Call last_operand.Immediate) xs)
-  call (operand.Label l ∷ []) h v = jump-emitted Call32 l v.0
+  call (operand.Label l ∷ []) h v = jump-emitted (Near Call32) l v.0
   call (operand.Host name ∷ []) h v =
       plain-emitted labels true (host_code name) ((omega arith, host-near name), ((omega arith, omega arith), (omega arith, tt))) (λ e. omega arith)
   call xs h v = absurd (differ h)

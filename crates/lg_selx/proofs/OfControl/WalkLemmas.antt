@@ -23,6 +23,8 @@ use Rattle.lg_sel.specs.Control.RegisterLeaps.{RegisterJumpsWalk}
 use Rattle.lg_sel.specs.Control.Walks.{JumpsWalk}
 use Rattle.lg_sel.proofs.OfControl.ChainLemmas.{runs-there}
 use Rattle.lg_sel.proofs.OfControl.StretchLemmas.{walked}
+use Rattle.lg_sel.specs.declared.reach.Reach.{Reach}
+use Rattle.lg_sel.specs.declared.reach.Reach.TheVariants.{Short, Near, Far}
 use Rattle.lg_selx.specs.Control.Jumps.{jump_code}
 use Rattle.lg_selx.specs.Control.RegisterLeaps.{register_jump_code}
 use Rattle.lg_selx.proofs.OfControl.StretchLemmas.{front_state, front-top, front-passed}
@@ -36,10 +38,23 @@ leads-there pc from to at h k = ap (λ p. add_words p (word_of (pos to -ℤ pos 
 
 -- ---- they walk
 module _ (code : List ℕ) (trash : ℕ) (small : length code ≤ most_code) (bytes : AreBytes code) (word : trash < 2 ^ 64) where
-  pub jumps-walk : JumpsWalk (x86_rows code trash) IsInstr jump_code
-  jumps-walk from to q k there runs at =
+  short-jumps-walk : JumpsWalk (x86_rows code trash) IsInstr (jump_code Short)
+  short-jumps-walk from to q k there runs at =
+      let jump : Instr = instr.JumpShort (pos to -ℤ pos (from + 2)) in
+      let high : ℕ = behind (x86_rows code trash) from (jump_code Short from to) in
+      let top : high ≤ _ = front-top false code trash small bytes word from [] jump q (scene_of q.state) k refl runs at in
+      let t = there.high in
+      let e : Effect CpuState = goes_on (front_state false code trash small bytes word from [] jump q (scene_of q.state) k refl runs at) to in
+      let leads = leads-there high (from + 2) to (omega arith) (omega (arith, top)) (omega (arith, t)) in
+      walked (x86_processor code trash) (λ x. false) (λ x e. cc) from high to 1 q (after q e)
+      (front-passed false code trash small bytes word from [] jump q (scene_of q.state) k refl runs at tt (nothing-off _) e
+      (ap (goes_on (front_state false code trash small bytes word from [] jump q (scene_of q.state) k refl runs at)) leads))
+      (omega arith) (λ lt. omega arith) (runs-there to there.low) refl (λ x off. refl) refl refl
+
+  near-jumps-walk : JumpsWalk (x86_rows code trash) IsInstr (jump_code Near)
+  near-jumps-walk from to q k there runs at =
       let jump : Instr = instr.JumpNear Jmp32 (pos to -ℤ pos (from + 5)) in
-      let high : ℕ = behind (x86_rows code trash) from (jump_code from to) in
+      let high : ℕ = behind (x86_rows code trash) from (jump_code Near from to) in
       let top : high ≤ _ = front-top false code trash small bytes word from [] jump q (scene_of q.state) k refl runs at in
       let t = there.high in
       let e : Effect CpuState = goes_on (front_state false code trash small bytes word from [] jump q (scene_of q.state) k refl runs at) to in
@@ -48,6 +63,11 @@ module _ (code : List ℕ) (trash : ℕ) (small : length code ≤ most_code) (by
       (front-passed false code trash small bytes word from [] jump q (scene_of q.state) k refl runs at tt (nothing-off _) e
       (ap (goes_on (front_state false code trash small bytes word from [] jump q (scene_of q.state) k refl runs at)) leads))
       (omega arith) (λ lt. omega arith) (runs-there to there.low) refl (λ x off. refl) refl refl
+
+  pub jumps-walk : (r : Reach) → JumpsWalk (x86_rows code trash) IsInstr (jump_code r)
+  jumps-walk Short = short-jumps-walk
+  jumps-walk Near = near-jumps-walk
+  jumps-walk Far = near-jumps-walk
 
   pub register-jumps-walk : RegisterJumpsWalk (x86_rows code trash) IsInstr register_jump_code
   register-jumps-walk frame from to a q f k there runs at is =

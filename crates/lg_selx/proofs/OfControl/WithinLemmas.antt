@@ -110,9 +110,11 @@ summed r frame o (operand.Label l ∷ operand.Reg a ∷ x ∷ []) =
     stay-append (ones (before_sum_branch frame o a x)) _ (stay-ones (before_sum_branch frame o a x) (before-sum frame o a x)) (led r (sum_taken o) l.0, tt)
 summed r frame o xs = tt
 
-jumped : (xs : List Operand) → StayWithin false (jump_items xs)
-jumped (operand.Label l ∷ []) = (tt, tt)
-jumped xs = tt
+jumped : (r : Reach) (xs : List Operand) → StayWithin false (jump_items r xs)
+jumped Short (operand.Label l ∷ []) = (tt, tt)
+jumped Near (operand.Label l ∷ []) = (tt, tt)
+jumped Far (operand.Label l ∷ []) = (tt, tt)
+jumped r xs = tt
 
 called : (xs : List Operand) → StayWithin true (call_items xs)
 called (operand.Label l ∷ []) = ((refl, tt), tt)
@@ -142,15 +144,15 @@ register-called : (xs : List Operand) → StayWithin true (register_call_items x
 register-called (operand.Reg a ∷ []) = ((refl, tt), ((refl, tt), ((refl, tt), tt)))
 register-called xs = tt
 
-leaps : (o : ControlOp) (last : LastOperand) (xs : List Operand) → StayWithin (moves_stack X86_64 (op.Control o last)) (leap_items o last xs)
-leaps control.Jmp last_operand.Immediate xs = jumped xs
-leaps control.Jmp last_operand.Register xs = register-jumped xs
-leaps control.Call last_operand.Immediate xs = called xs
-leaps control.Call last_operand.Register xs = register-called xs
-leaps control.Finish last_operand.Immediate xs = called xs
-leaps control.Finish last_operand.Register xs = register-called xs
-leaps control.Ret last xs = returned xs
-leaps control.Pusharg last xs = tt
+leaps : (r : Reach) (o : ControlOp) (last : LastOperand) (xs : List Operand) → StayWithin (moves_stack X86_64 (op.Control o last)) (leap_items r o last xs)
+leaps r control.Jmp last_operand.Immediate xs = jumped r xs
+leaps r control.Jmp last_operand.Register xs = register-jumped xs
+leaps r control.Call last_operand.Immediate xs = called xs
+leaps r control.Call last_operand.Register xs = register-called xs
+leaps r control.Finish last_operand.Immediate xs = called xs
+leaps r control.Finish last_operand.Register xs = register-called xs
+leaps r control.Ret last xs = returned xs
+leaps r control.Pusharg last xs = tt
 
 -- ---- the others
 idles : (k : ℕ) → Within (idle k)
@@ -181,7 +183,7 @@ plainly o xs frame homes at = tt
 stay : (r : Reach) (o : Op) (xs : List Operand) (frame homes at : ℕ) → StayWithin (moves_stack X86_64 o) (control_items r o xs frame homes at)
 stay r (op.Branch o last) xs frame homes at = branched r frame o xs
 stay r (op.BranchSum o last) xs frame homes at = summed r frame o xs
-stay r (op.Control o last) xs frame homes at = leaps o last xs
+stay r (op.Control o last) xs frame homes at = leaps r o last xs
 stay r (op.Plain o) xs frame homes at = plainly o xs frame homes at
 stay r o xs frame homes at = tt
 

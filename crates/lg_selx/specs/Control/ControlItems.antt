@@ -28,6 +28,7 @@ use Rattle.lg_selx_values.specs.declared.items.Item.{Item}
 use Rattle.lg_selx_values.specs.declared.items.Item.TheVariants.{One, Jump, Address}
 use Rattle.lg_selx_values.specs.declared.items.JumpKind.{JumpKind}
 use Rattle.lg_selx_values.specs.declared.items.JumpKind.TheVariants.{Near, NearIf, ShortIf}
+use Rattle.lg_selx_values.specs.declared.items.JumpKind.TheVariants as kind
 use Rattle.lg_selx_values.specs.Items.{ones}
 use Rattle.lg_selx.specs.Control.Alignments.{align_code}
 use Rattle.lg_selx.specs.Control.Branches.{before_branch, taken}
@@ -57,9 +58,13 @@ sum_items r frame o (operand.Label l ∷ operand.Reg a ∷ x ∷ []) = branch_if
 sum_items r frame o xs = []
 
 -- ---- jumps, calls and returns
-abbrev pub jump_items : List Operand → List Item
-jump_items (operand.Label l ∷ []) = Jump (Near Jmp32) l.0 ∷ []
-jump_items xs = []
+abbrev pub plain_kind : Reach → JumpKind
+plain_kind Short = kind.Short
+plain_kind r = Near Jmp32
+
+abbrev pub jump_items : Reach → List Operand → List Item
+jump_items r (operand.Label l ∷ []) = Jump (plain_kind r) l.0 ∷ []
+jump_items r xs = []
 
 abbrev pub call_items : List Operand → List Item
 call_items (operand.Label l ∷ []) = Jump (Near Call32) l.0 ∷ []
@@ -90,15 +95,15 @@ abbrev pub register_call_items : List Operand → List Item
 register_call_items (operand.Reg a ∷ []) = ones (register_call_code 0 a)
 register_call_items xs = []
 
-abbrev pub leap_items : ControlOp → LastOperand → List Operand → List Item
-leap_items control.Jmp last_operand.Immediate xs = jump_items xs
-leap_items control.Jmp last_operand.Register xs = register_jump_items xs
-leap_items control.Call last_operand.Immediate xs = call_items xs
-leap_items control.Call last_operand.Register xs = register_call_items xs
-leap_items control.Finish last_operand.Immediate xs = call_items xs
-leap_items control.Finish last_operand.Register xs = register_call_items xs
-leap_items control.Ret last xs = ret_items xs
-leap_items o last xs = []
+abbrev pub leap_items : Reach → ControlOp → LastOperand → List Operand → List Item
+leap_items r control.Jmp last_operand.Immediate xs = jump_items r xs
+leap_items r control.Jmp last_operand.Register xs = register_jump_items xs
+leap_items r control.Call last_operand.Immediate xs = call_items xs
+leap_items r control.Call last_operand.Register xs = register_call_items xs
+leap_items r control.Finish last_operand.Immediate xs = call_items xs
+leap_items r control.Finish last_operand.Register xs = register_call_items xs
+leap_items r control.Ret last xs = ret_items xs
+leap_items r o last xs = []
 
 -- ---- the others
 abbrev pub align_items : ℕ → List Operand → List Item
@@ -117,7 +122,7 @@ plain_items o xs frame homes at = []
 abbrev pub control_items : Reach → Op → List Operand → ℕ → ℕ → ℕ → List Item
 control_items r (op.Branch o last) xs frame homes at = branch_items r frame o xs
 control_items r (op.BranchSum o last) xs frame homes at = sum_items r frame o xs
-control_items r (op.Control o last) xs frame homes at = leap_items o last xs
+control_items r (op.Control o last) xs frame homes at = leap_items r o last xs
 control_items r (op.Plain o) xs frame homes at = plain_items o xs frame homes at
 control_items r o xs frame homes at = []
 

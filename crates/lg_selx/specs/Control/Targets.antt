@@ -22,7 +22,7 @@ abbrev pub x86_control : Reach → Codes Instr
 x86_control r = record {
   branch = branch_code r;
   sum_branch = sum_branch_code r;
-  jump = jump_code;
+  jump = jump_code r;
   register_jump = register_jump_code;
   call = call_code;
   host_call = host_code;

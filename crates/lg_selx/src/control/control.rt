@@ -34,7 +34,7 @@ pub fn put_control(
     match node.op {
         Op::Branch(condition, _) => put_branch(reach, condition, frame, operands, items),
         Op::BranchSum(op, _) => put_sum_branch(reach, op, frame, operands, items),
-        Op::Control(op, last) => put_leap(op, last, operands, items),
+        Op::Control(op, last) => put_leap(reach, op, last, operands, items),
         Op::Plain(op) => put_plain(op, operands, frame, homes, place, items),
         _ => {}
     }

@@ -1,13 +1,13 @@
 // Jumps, calls and returns.
 
 ghost use Rattle.std.specs.Prelude.{◌≡◌, ◌≤◌, [], ◌∷◌};
-ghost use Rattle.lg_selx.specs.Control.ControlItems.{jump_items, call_items, result_items, ret_items, register_jump_items, register_call_items, leap_items};
+ghost use Rattle.lg_selx.specs.Control.ControlItems.{plain_kind, jump_items, call_items, result_items, ret_items, register_jump_items, register_call_items, leap_items};
 ghost use Rattle.lg_selx.specs.Control.RegisterLeaps.{called};
 ghost use Rattle.lg_selx_values.specs.Items.{words_in};
 
 use crate::control::frames::put_return;
 use lg_op::{ControlOp, LastOperand, Operand, Reg};
-use lg_sel::Items;
+use lg_sel::{Items, Reach};
 use lg_selx_values::{Item, JumpKind, mov, put_number, register_of};
 use lg_x86::{Instr, JumpNearOp, JumpRegOp};
 
@@ -31,24 +31,31 @@ fn number_into(reg: u8, imm: u32) -> Instr
     Instr::Movi32 { reg, imm }
 }
 
-// Appends a jump or call to a label to none.
-fn put_near(op: JumpNearOp, label: u32, items: &mut Items<Item>)
-    requires { items.old ≡ [] }
-    ensures { items.new ≡ Item.Jump (JumpKind.Near op) label ∷ [] }
+// How a jump is spelled.
+fn plain_kind(reach: Reach) -> JumpKind
+    ensures { result ≡ plain_kind reach }
 {
-    items.push(Item::Jump {
-        kind: JumpKind::Near(op),
-        label,
-    });
+    match reach {
+        Reach::Short => JumpKind::Short,
+        Reach::Near | Reach::Far => JumpKind::Near(JumpNearOp::Jmp32),
+    }
+}
+
+// Appends a jump or call to a label to none.
+fn put_led(kind: JumpKind, label: u32, items: &mut Items<Item>)
+    requires { items.old ≡ [] }
+    ensures { items.new ≡ Item.Jump kind label ∷ [] }
+{
+    items.push(Item::Jump { kind, label });
 }
 
 // Appends the items of `jmpi` to none.
-fn put_jump(operands: &[Operand], items: &mut Items<Item>)
+fn put_jump(reach: Reach, operands: &[Operand], items: &mut Items<Item>)
     requires { items.old ≡ [] }
-    ensures { items.new ≡ jump_items operands.now }
+    ensures { items.new ≡ jump_items reach operands.now }
 {
     match operands {
-        [Operand::Label(label)] => put_near(JumpNearOp::Jmp32, label.0, items),
+        [Operand::Label(label)] => put_led(plain_kind(reach), label.0, items),
         _ => {}
     }
 }
@@ -66,7 +73,7 @@ fn put_call(operands: &[Operand], items: &mut Items<Item>)
     ensures { items.new ≡ call_items operands.now }
 {
     match operands {
-        [Operand::Label(label)] => put_near(JumpNearOp::Call32, label.0, items),
+        [Operand::Label(label)] => put_led(JumpKind::Near(JumpNearOp::Call32), label.0, items),
         [Operand::Host(name)] => {
             items.one(number_into(CALLED, name.address() as u32));
             items.all(&called());
@@ -135,16 +142,17 @@ fn put_ret(operands: &[Operand], items: &mut Items<Item>)
 
 // Appends the items of a jump, a call or a return to none.
 pub(crate) fn put_leap(
+    reach: Reach,
     op: ControlOp,
     last: LastOperand,
     operands: &[Operand],
     items: &mut Items<Item>,
 )
     requires { items.old ≡ [] }
-    ensures { items.new ≡ leap_items op last operands.now }
+    ensures { items.new ≡ leap_items reach op last operands.now }
 {
     match (op, last) {
-        (ControlOp::Jmp, LastOperand::Immediate) => put_jump(operands, items),
+        (ControlOp::Jmp, LastOperand::Immediate) => put_jump(reach, operands, items),
         (ControlOp::Jmp, LastOperand::Register) => put_register_jump(operands, items),
         (ControlOp::Call | ControlOp::Finish, LastOperand::Immediate) => put_call(operands, items),
         (ControlOp::Call | ControlOp::Finish, LastOperand::Register) => {

@@ -40,15 +40,15 @@ append-requires c =
     search rules
 
 -- ---- behind the items
-asked : (c : goal.Joined-items) → IsAsked c.args.node.now (has c.args.live_after) c.args.staged.arguments c.args.choices.now (length c.args.buf.now.labels)
+asked : (c : goal.After-append) → IsAsked c.args.node.now (has c.args.live_after) c.args.staged.arguments c.args.choices.now (length c.args.buf.now.labels)
 asked c =
     asked-of c.args.node.now (has c.args.live_after) c.args.staged.arguments c.args.choices.now (length c.args.buf.now.labels) c.as_slice-operands.result.now
     c.requires.formed c.requires.choices c.requires.staged c.requires.labels c.requires.immediates c.as_slice-operands.ensures.value c.see_numbers.ensures
 
-made : (c : goal.Joined-items) → c.shortest_items-reach.new.items ≡ node_items c.args.homes c.shortest_items-reach.result c.args.node.now c.args.frame c.args.choices.now c.args.staged.arguments (length c.args.buf.now.bytes)
+made : (c : goal.After-append) → c.shortest_items-reach.new.items ≡ node_items c.args.homes c.shortest_items-reach.result c.args.node.now c.args.frame c.args.choices.now c.args.staged.arguments (length c.args.buf.now.bytes)
 made c = c.shortest_items-reach.ensures.made
 
-few : (c : goal.Joined-items) → words_in c.shortest_items-reach.new.items ≤ 64
+few : (c : goal.After-append) → words_in c.shortest_items-reach.new.items ≤ 64
 few c = c.shortest_items-reach.ensures.few
 
 pub returns-clause-refused : goal.returns-clause-refused
