@@ -19,7 +19,7 @@ use lg_list::lines::write_node_line;
 use lg_node::Op;
 
 /// A line behind the first of a listing.
-#[derive(Debug, Drop)]
+#[derive(Drop)]
 pub struct EntryLine {
     /// The bytes that it stands for: none but of an instruction.
     pub bytes: Piece,

@@ -13,7 +13,7 @@ use lg_list::lines::first_line;
 const MOST_CODE: u32 = 0x400_0000;
 
 /// The first line of a listing.
-#[derive(Clone, Copy, Debug)]
+#[derive(Clone, Copy)]
 pub struct Head {
     /// The target that it names.
     pub target: Target,

@@ -8,7 +8,7 @@ ghost use Rattle.lg_buf.specs.Fixing.{Fixed, Fits, IsWithin};
 /// place of a fix is that of the displacement or immediate on x86-64, which ends its instruction, and that of the
 /// word, or of the first of two words, on the others. The fields are those of the Intel SDM volume 2, of the Arm
 /// Architecture Reference Manual (A64) and of the RISC-V unprivileged ISA.
-#[derive(Clone, Copy, Debug, PartialEq, Eq)]
+#[derive(Clone, Copy, PartialEq, Eq)]
 pub enum FixKind {
     /// x86-64: the distance from the field's end, in 1 byte (`jmp8`, `jo8` to `jg8`).
     X86Rel8,
@@ -33,11 +33,11 @@ pub enum FixKind {
 }
 
 /// A label of a buffer, by its number from 0, below the number that `CodeBuf::new` was given.
-#[derive(Clone, Copy, Debug, PartialEq, Eq)]
+#[derive(Clone, Copy, PartialEq, Eq)]
 pub struct CodeLabel(pub u32);
 
 /// A field that will lead to the place of a label.
-#[derive(Clone, Copy, Debug, PartialEq, Eq)]
+#[derive(Clone, Copy, PartialEq, Eq)]
 pub struct Fix {
     /// The place of its first byte.
     pub place: u32,

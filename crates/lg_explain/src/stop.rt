@@ -15,7 +15,7 @@ use lg_node::laws::accepted_nodes_are_well_shaped;
 use lg_node::{Reg, Shape, Unit};
 
 /// Why a step is undefined, and what the registers hold before it.
-#[derive(Clone, Copy, Debug)]
+#[derive(Clone, Copy)]
 pub struct StuckAt {
     /// The first row of the table of undefined steps that holds.
     pub reason: Reason,

@@ -7,7 +7,7 @@ ghost use Rattle.lg_io.specs.Radixes.{base_of, has_capitals, digits_in};
 use std::marker::Model;
 
 /// The base that a number is written in, and the letters of its digits.
-#[derive(Clone, Copy, Debug, PartialEq, Eq)]
+#[derive(Clone, Copy, PartialEq, Eq)]
 pub enum Radix {
     /// Base 8.
     Octal,

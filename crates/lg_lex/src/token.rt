@@ -26,7 +26,7 @@ pub enum TokenKind {
 }
 
 /// A token of a text.
-#[derive(Clone, Copy, Debug, PartialEq, Eq)]
+#[derive(Clone, Copy, PartialEq, Eq)]
 pub struct Token {
     /// The form of the token.
     pub kind: TokenKind,

@@ -7,7 +7,7 @@ ghost use Rattle.lg_list.specs.Operands.{register_name, x86_name, spelled, spell
 use crate::line::Line;
 
 /// A register, by the name that it has in a listing.
-#[derive(Clone, Copy, Debug, PartialEq, Eq)]
+#[derive(Clone, Copy, PartialEq, Eq)]
 pub enum Register {
     /// `x0` to `x31`.
     X(u8),
@@ -20,7 +20,7 @@ pub enum Register {
 }
 
 /// An operand.
-#[derive(Clone, Copy, Debug, PartialEq, Eq)]
+#[derive(Clone, Copy, PartialEq, Eq)]
 pub enum Operand {
     /// A register.
     Register(Register),

@@ -7,7 +7,7 @@ ghost use Rattle.lg_op.specs.Operators.{sets_carry};
 use lg_node::{BinaryOp, Op, PlainOp};
 
 /// What is sought of the registers at each node.
-#[derive(Clone, Copy, Debug, PartialEq, Eq)]
+#[derive(Clone, Copy, PartialEq, Eq)]
 pub enum Sought {
     /// The registers that are live: some node may read them.
     Live,

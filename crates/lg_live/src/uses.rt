@@ -11,7 +11,7 @@ use lg_node::NodeList;
 use lg_op::{ControlOp, Form, LastOperand, Node, Op, Operand, PlainOp, Reg};
 
 /// What a node does with a register.
-#[derive(Clone, Copy, Debug, PartialEq, Eq)]
+#[derive(Clone, Copy, PartialEq, Eq)]
 pub enum Access {
     /// It reads the register.
     Read,

@@ -7,7 +7,7 @@ ghost use Rattle.lg_io.specs.Counts.{HasCause};
 use lg_io::{Sink, SinkFault};
 
 /// Takes every byte, never fails and keeps nothing.
-#[derive(Clone, Copy, Debug, PartialEq, Eq)]
+#[derive(Clone, Copy, PartialEq, Eq)]
 pub struct Nowhere;
 
 impl Sink for Nowhere {

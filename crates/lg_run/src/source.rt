@@ -16,7 +16,7 @@ use std::alloc::Global;
 const PIECE: usize = 65_536;
 
 /// Why there is no text.
-#[derive(Clone, Copy, Debug, PartialEq, Eq)]
+#[derive(Clone, Copy, PartialEq, Eq)]
 pub enum ReadStop {
     /// A call of the source failed.
     ReadFault,

@@ -8,7 +8,7 @@ use crate::item::Item;
 use lg_buf::{CodeBuf, Fix, FixKind};
 
 /// How far the code of a node that leads to a label reaches. Each target has its forms: the fewer bytes, the shorter the reach.
-#[derive(Clone, Copy, Debug, PartialEq, Eq)]
+#[derive(Clone, Copy, PartialEq, Eq)]
 pub enum Reach {
     /// By the shortest field that a conditional jump has: 8 bits on x86-64, the branch word on AArch64 and RV64.
     Short,

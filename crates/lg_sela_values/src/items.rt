@@ -6,7 +6,7 @@ use lg_a64::{BranchOp, Cond, Instr};
 use std::default::Default;
 
 /// What the code of a node is made of. Registers are 0 to 31, and labels those of the buffer, by their numbers.
-#[derive(Clone, Copy, Debug)]
+#[derive(Clone, Copy)]
 pub enum Item {
     /// An instruction.
     One(Instr),

@@ -9,7 +9,7 @@ use lg_x86::{BareOp, Cond, Instr, JumpNearOp};
 use std::default::Default;
 
 /// How a jump or call to a label is spelled.
-#[derive(Clone, Copy, Debug)]
+#[derive(Clone, Copy)]
 pub enum JumpKind {
     /// A jump or call by a distance of 32 bits.
     Near(JumpNearOp),
@@ -22,7 +22,7 @@ pub enum JumpKind {
 }
 
 /// What the code of a node is made of. Registers are 0 to 15, and labels those of the buffer, by their numbers.
-#[derive(Clone, Copy, Debug)]
+#[derive(Clone, Copy)]
 pub enum Item {
     /// An instruction.
     One(Instr),

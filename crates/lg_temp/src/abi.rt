@@ -8,7 +8,7 @@ use lg_base::Target;
 use lg_op::Reg;
 
 /// Where an argument of a call lies.
-#[derive(Clone, Copy, Debug, PartialEq, Eq)]
+#[derive(Clone, Copy, PartialEq, Eq)]
 pub enum ArgPlace {
     /// In a register.
     Reg(u8),
@@ -18,7 +18,7 @@ pub enum ArgPlace {
 
 /// The calling convention of a target: where arguments and results lie, which registers are kept, and which register
 /// stands for each of the portable machine. Registers are numbered as the target does: 0 to 15 on x86-64, 0 to 31 on the others.
-#[derive(Clone, Copy, Debug, PartialEq, Eq)]
+#[derive(Clone, Copy, PartialEq, Eq)]
 pub struct Abi {
     /// The target.
     pub target: Target,

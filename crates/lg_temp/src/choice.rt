@@ -7,7 +7,7 @@ ghost use Rattle.std.specs.List.{All, list_any};
 use std::marker::Model;
 
 /// What a temporary of a node's code needs.
-#[derive(Clone, Copy, Debug, PartialEq, Eq)]
+#[derive(Clone, Copy, PartialEq, Eq)]
 pub enum Need {
     /// Any register that can be had.
     Any,
@@ -165,7 +165,7 @@ impl Choices {
 }
 
 /// A set of arguments of a call, by their numbers from 0 to 15.
-#[derive(Clone, Copy, Debug, PartialEq, Eq)]
+#[derive(Clone, Copy, PartialEq, Eq)]
 pub struct Staged {
     /// Whether each is in the set.
     pub arguments: [bool; 16],
