@@ -7,6 +7,8 @@ use crate::bytes::Bytes;
 use crate::emission::spell_all;
 use crate::item::Item;
 use lg_buf::CodeBuf;
+use smallvec::SmallVec;
+use std::alloc::Global;
 use std::marker::Model;
 
 /// The code of a node: a list of items, of at most 64 instructions, and room for their bytes, held inline. It takes no memory. One serves for all nodes
@@ -15,30 +17,28 @@ use std::marker::Model;
 /// In a contract it is the list. `words_in` of a list is the number of its instructions.
 #[derive(Drop)]
 pub struct Items<L: Item> {
-    list: [L; 64],
-    len: usize,
+    list: SmallVec<L, 64>,
     bytes: Bytes,
 }
 
 impl<L: Item> Model for Items<L> {
-    ghost use Rattle.std.specs.Prelude.{◌≡◌, ◌≤◌, List, length, take};
+    ghost use Rattle.std.specs.Prelude.{◌≡◌, ◌≤◌, List};
     ghost use Rattle.lg_sel.specs.Holes.{words_in};
 
     ghost Value = { List L };
 
-    ghost view = { λ i. take i.len i.list };
+    ghost view = { λ i. i.list.items };
 
-    ghost invariant = { λ i. (i.len ≤ 64) × (words_in L.holes (take i.len i.list) ≤ 64) × (length i.list ≡ 64) };
+    ghost invariant = { λ i. (i.list.capacity ≡ 64) × (words_in L.holes i.list.items ≤ 64) };
 }
 
 impl<L: Item> Items<L> {
-    /// No items.
-    pub fn new() -> Items<L>
+    /// No items. The allocator is that of the buffer; nothing is taken from it.
+    pub fn new(alloc: Global) -> Items<L>
         ensures { result ≡ [] }
     {
         Items {
-            list: [L::default(); 64],
-            len: 0,
+            list: SmallVec::new(alloc),
             bytes: Bytes::new(),
         }
     }
@@ -48,8 +48,7 @@ impl<L: Item> Items<L> {
         requires { words_in L.holes self.old + words_of L.holes item ≤ 64 }
         ensures { self.new ≡ self.old ++ item ∷ [] }
     {
-        self.list[self.len] = item;
-        self.len += 1;
+        self.list.push_reserved(item);
     }
 
     /// Appends an instruction. There is room for it.
@@ -78,7 +77,7 @@ impl<L: Item> Items<L> {
     pub fn clear(&mut self)
         ensures { self.new ≡ [] }
     {
-        self.len = 0;
+        self.list.clear();
     }
 
     /// The items.
@@ -86,7 +85,7 @@ impl<L: Item> Items<L> {
         ensures value { result.now ≡ self.now }
         ensures few { words_in L.holes result.now ≤ 64 }
     {
-        &self.list[..self.len]
+        self.list.as_slice()
     }
 
     /// Appends the bytes of the items to a buffer, with 0 in the fields of labels, or answers false and changes nothing exactly where too few bytes are free.
@@ -99,7 +98,7 @@ impl<L: Item> Items<L> {
         ensures appended { buf.new ≡ (if result then record buf.old { bytes = buf.old.bytes ++ blanks L.holes self.old } else buf.old) }
     {
         self.bytes.clear();
-        spell_all(&self.list[..self.len], &mut self.bytes);
+        spell_all(self.list.as_slice(), &mut self.bytes);
         buf.emit(self.bytes.as_slice())
     }
 }
