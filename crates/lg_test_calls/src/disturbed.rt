@@ -198,10 +198,21 @@ fn code_runs_alike(
     Ok(run_alike(alloc, code, unit, &args, stack)?)
 }
 
+// Whether the code of a text for a target runs alike with words behind its name, over the text's unit.
+fn unit_runs_alike(
+    alloc: Global,
+    target: &str,
+    text: &[u8],
+    unit: &Unit,
+    further: &str,
+) -> Result<bool, Stop> {
+    let code = code_of(alloc, target, text)?;
+    code_runs_alike(alloc, &code, unit, stack_of(target), further)
+}
+
 /// Whether the code of a text for a target, with words behind its name, writes the same bytes and ends in the same way where its stack is disturbed as where
 /// it is not.
 pub fn is_alike(alloc: Global, target: &str, text: &[u8], further: &str) -> Result<bool, Stop> {
     let unit = unit_of(alloc, text)?;
-    let code = code_of(alloc, target, text)?;
-    code_runs_alike(alloc, &code, &unit, stack_of(target), further)
+    unit_runs_alike(alloc, target, text, &unit, further)
 }

@@ -55,7 +55,7 @@ const LABELS: &[u8] = b".data 16 a: .c 1 b: .align 8 c: .code prolog ret epilog"
 const ADDRESSES: &[u64] = &[0x2000_0000, 0x2000_0001, 0x2000_0008];
 
 // Whether a call gave code with these addresses of labels.
-fn has_labels(done: Done) -> bool {
+fn has_labels(done: &Done) -> bool {
     match &done.code {
         Some(code) => code.labels().as_slice() == ADDRESSES,
         None => false,
@@ -69,7 +69,8 @@ fn gives_labels(alloc: Global) -> Result<bool, OutOfMemory> {
     texts.add("t.tst", LABELS)?;
     let mut out = MemorySink::new(alloc, 16, &[])?;
     let mut err = MemorySink::new(alloc, 16, &[])?;
-    Ok(has_labels(done_on(alloc, &words, &mut texts, &mut out, &mut err)))
+    let done = done_on(alloc, &words, &mut texts, &mut out, &mut err);
+    Ok(has_labels(&done))
 }
 
 // What the calls that list each beginning of a text come to.
