@@ -2,8 +2,8 @@
 """Measures a gate by its processes: watch.py PID OUT, where PID is that of a running `rt ci`, looks at each process that it starts every half second until it ends.
 
 OUT gets a line a crate: the processor's minutes of its proof, of its tests and what is built of it, and of its edits with the checks that they begin and end with, and the largest
-memory of one process in GB; then the sums, with `rt` itself. What a process takes in its last half second is not seen, and what was kept by earlier runs takes nothing: on a machine that kept
-nothing, or with `rt ci --anew`, it is the gate from nothing. Not part of the gate.
+memory of one process in GB; then the sums, with `rt` itself. What a process takes in its last half second is not seen, and where the kit keeps what earlier runs passed, that takes
+nothing: then it is the gate from nothing on a machine that kept nothing. Not part of the gate.
 """
 import collections
 import os
