@@ -130,8 +130,8 @@ fn spread(
 // What a point that falls to the next wants by that.
 fn wanted_by_fall(points: &[Point], sets: &[RegSet], index: usize) -> RegSet
     requires within { AreWithin points.now (length sets.now) }
-    ensures passed { (point_at points.now index).falls ≡ true → (r : Reg) → passes (point_at points.now index) (has (set_at sets.now (index + 1))) r ≡ true
-        → has result r ≡ true }
+    ensures passed { (point_at points.now index).falls ≡ true → (r : Reg)
+        → passes (point_at points.now index) (has (set_at sets.now (index + 1))) r ≡ true → has result r ≡ true }
     ensures sound { IsSound points.now (record { sets = sets.now; queue = [] }) → AreWantedAt points.now result index }
 {
     if falls(points, index) {
@@ -144,8 +144,8 @@ fn wanted_by_fall(points: &[Point], sets: &[RegSet], index: usize) -> RegSet
 // What a point that jumps wants by that.
 fn wanted_by_jump(points: &[Point], sets: &[RegSet], index: usize) -> RegSet
     requires within { AreWithin points.now (length sets.now) }
-    ensures passed { (k : ℕ) → (point_at points.now index).jumps ≡ Some k → (r : Reg) → passes (point_at points.now index) (has (set_at sets.now k)) r ≡ true
-        → has result r ≡ true }
+    ensures passed { (k : ℕ) → (point_at points.now index).jumps ≡ Some k → (r : Reg)
+        → passes (point_at points.now index) (has (set_at sets.now k)) r ≡ true → has result r ≡ true }
     ensures sound { IsSound points.now (record { sets = sets.now; queue = [] }) → AreWantedAt points.now result index }
 {
     match jumps(points, index) {

@@ -74,7 +74,8 @@ fn look_closely(sources: &mut Sources, node: &Node) -> bool
 fn look(sources: &mut Sources, nodes: &NodeList, index: u32) -> bool
     requires { index < length nodes.now.nodes }
     ensures stays { (n : Node) → slice_get nodes.now.nodes index ≡ Some n → result ≡ not (is_idle (source_of sources.old) (move_of n.op n.operands)) }
-    ensures behind { (n : Node) → slice_get nodes.now.nodes index ≡ Some n → (r : Reg) → source_of sources.new r ≡ behind_at (source_of sources.old) (Some n) r }
+    ensures behind { (n : Node) → slice_get nodes.now.nodes index ≡ Some n
+        → (r : Reg) → source_of sources.new r ≡ behind_at (source_of sources.old) (Some n) r }
 {
     if sources.is_none() && !is_movr(nodes.node(index).op) {
         return true;
