@@ -1,12 +1,14 @@
 // The instructions of A64, by the formats of their words.
 
+use std::{fmt, str};
+
 /// An instruction: its row, and the numbers in its word. Registers are 0 to 31. 31 is the stack pointer as
 /// `rn` of `Imm`, of loads and of stores, and as `rd` of `addi` and `subi`; elsewhere it reads as 0 and is
 /// not written.
 ///
 /// The names and fields are those of the Arm Architecture Reference Manual, "A64 Base Instruction
 /// Descriptions". A name that ends in `i`, or in a number of bits, parts rows that share one there.
-#[derive(Clone, Copy, PartialEq, Eq, Debug)]
+#[derive(Clone, Copy, PartialEq, Eq)]
 pub enum Instr {
     /// `rd` gets the result of `rn` and `rm`.
     Reg {
@@ -99,8 +101,18 @@ pub enum Instr {
     Nop,
 }
 
+/// Prints the row's name.
+impl fmt::Debug for Instr {
+    fn fmt<W: fmt::Write>(&self, f: &mut fmt::Formatter<W>) -> fmt::Result {
+        match str::from_utf8(self.name().as_slice()) {
+            Ok(name) => f.write_str(name),
+            Err(_) => Err(fmt::Error),
+        }
+    }
+}
+
 /// The rows with three registers.
-#[derive(Clone, Copy, PartialEq, Eq, Debug)]
+#[derive(Clone, Copy, PartialEq, Eq)]
 pub enum RegOp {
     /// Add.
     Add,
@@ -145,7 +157,7 @@ pub enum RegOp {
 }
 
 /// The rows with a number of 12 bits.
-#[derive(Clone, Copy, PartialEq, Eq, Debug)]
+#[derive(Clone, Copy, PartialEq, Eq)]
 pub enum ImmOp {
     /// Add a number.
     Addi,
@@ -158,7 +170,7 @@ pub enum ImmOp {
 }
 
 /// The rows that move a number of 16 bits.
-#[derive(Clone, Copy, PartialEq, Eq, Debug)]
+#[derive(Clone, Copy, PartialEq, Eq)]
 pub enum WideOp {
     /// The number, and zeros beside it.
     Movz,
@@ -169,7 +181,7 @@ pub enum WideOp {
 }
 
 /// The rows that multiply and add.
-#[derive(Clone, Copy, PartialEq, Eq, Debug)]
+#[derive(Clone, Copy, PartialEq, Eq)]
 pub enum MulAddOp {
     /// `ra + rn * rm`.
     Madd,
@@ -178,7 +190,7 @@ pub enum MulAddOp {
 }
 
 /// The rows that move bit fields.
-#[derive(Clone, Copy, PartialEq, Eq, Debug)]
+#[derive(Clone, Copy, PartialEq, Eq)]
 pub enum BitfieldOp {
     /// Bit-field move with the sign.
     Sbfm,
@@ -187,7 +199,7 @@ pub enum BitfieldOp {
 }
 
 /// The rows that reverse bytes.
-#[derive(Clone, Copy, PartialEq, Eq, Debug)]
+#[derive(Clone, Copy, PartialEq, Eq)]
 pub enum ReverseOp {
     /// Reverse the 8 bytes.
     Rev,
@@ -198,7 +210,7 @@ pub enum ReverseOp {
 }
 
 /// The rows that load or store at a number of accesses behind a register.
-#[derive(Clone, Copy, PartialEq, Eq, Debug)]
+#[derive(Clone, Copy, PartialEq, Eq)]
 pub enum ScaledOp {
     /// Load 64 bits.
     Ldr64,
@@ -225,7 +237,7 @@ pub enum ScaledOp {
 }
 
 /// The rows that load or store at a number of bytes from a register.
-#[derive(Clone, Copy, PartialEq, Eq, Debug)]
+#[derive(Clone, Copy, PartialEq, Eq)]
 pub enum UnscaledOp {
     /// Load 64 bits.
     Ldur,
@@ -234,7 +246,7 @@ pub enum UnscaledOp {
 }
 
 /// The rows that branch by a number of words.
-#[derive(Clone, Copy, PartialEq, Eq, Debug)]
+#[derive(Clone, Copy, PartialEq, Eq)]
 pub enum BranchOp {
     /// Branch.
     B,
@@ -243,7 +255,7 @@ pub enum BranchOp {
 }
 
 /// The rows that branch to a register.
-#[derive(Clone, Copy, PartialEq, Eq, Debug)]
+#[derive(Clone, Copy, PartialEq, Eq)]
 pub enum BranchRegOp {
     /// Branch.
     Br,
@@ -254,7 +266,7 @@ pub enum BranchRegOp {
 }
 
 /// The conditions on the flags.
-#[derive(Clone, Copy, PartialEq, Eq, Debug)]
+#[derive(Clone, Copy, PartialEq, Eq)]
 pub enum Cond {
     /// Equal.
     Eq,

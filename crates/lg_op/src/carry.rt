@@ -1,7 +1,7 @@
 // The carry.
 
 /// The carry, with the family of operations that set it.
-#[derive(Clone, Copy, Debug, PartialEq, Eq)]
+#[derive(Clone, Copy, PartialEq, Eq)]
 pub enum Carry {
     /// No operation has set it that the step before left in place.
     Undefined,

@@ -1,8 +1,10 @@
 // The operations of the instruction set, by families, as in the chapter on the instruction set of the manual of GNU lightning 2.
 // O1, O2, O3 and O4 are the operands in order.
 
+use std::{fmt, str};
+
 /// What the last operand of an operation is.
-#[derive(Clone, Copy, Debug, PartialEq, Eq)]
+#[derive(Clone, Copy, PartialEq, Eq)]
 pub enum LastOperand {
     /// A register: the name has `r`.
     Register,
@@ -11,7 +13,7 @@ pub enum LastOperand {
 }
 
 /// What an operation makes of O2 and O3, into the register O1.
-#[derive(Clone, Copy, Debug, PartialEq, Eq)]
+#[derive(Clone, Copy, PartialEq, Eq)]
 pub enum BinaryOp {
     /// O1 = O2 + O3.
     Add,
@@ -72,7 +74,7 @@ pub enum BinaryOp {
 }
 
 /// What an operation makes of O3 and O4, into the two registers O1 and O2, which differ.
-#[derive(Clone, Copy, Debug, PartialEq, Eq)]
+#[derive(Clone, Copy, PartialEq, Eq)]
 pub enum WideOp {
     /// The signed product of 128 bits: the low word, then the high word.
     Mul,
@@ -85,7 +87,7 @@ pub enum WideOp {
 }
 
 /// When a branch to O1 is taken, by O2 and O3.
-#[derive(Clone, Copy, Debug, PartialEq, Eq)]
+#[derive(Clone, Copy, PartialEq, Eq)]
 pub enum Condition {
     /// O2 is less, signed.
     Lt,
@@ -114,7 +116,7 @@ pub enum Condition {
 }
 
 /// What a branch to O1 adds to or takes from the register O2, by O3, and when it is taken.
-#[derive(Clone, Copy, Debug, PartialEq, Eq)]
+#[derive(Clone, Copy, PartialEq, Eq)]
 pub enum BranchSumOp {
     /// O2 + O3, where the signed sum does not fit.
     OverflowAdd,
@@ -135,7 +137,7 @@ pub enum BranchSumOp {
 }
 
 /// Jumps, calls and what is passed by them, with one operand.
-#[derive(Clone, Copy, Debug, PartialEq, Eq)]
+#[derive(Clone, Copy, PartialEq, Eq)]
 pub enum ControlOp {
     /// A jump.
     Jmp,
@@ -150,7 +152,7 @@ pub enum ControlOp {
 }
 
 /// What an operation makes of the register O2, into the register O1.
-#[derive(Clone, Copy, Debug, PartialEq, Eq)]
+#[derive(Clone, Copy, PartialEq, Eq)]
 pub enum UnaryOp {
     /// 0 - O2.
     Neg,
@@ -179,7 +181,7 @@ pub enum UnaryOp {
 }
 
 /// The operations that come in one form.
-#[derive(Clone, Copy, Debug, PartialEq, Eq)]
+#[derive(Clone, Copy, PartialEq, Eq)]
 pub enum PlainOp {
     /// A number into a register.
     Movi,
@@ -208,7 +210,7 @@ pub enum PlainOp {
 }
 
 /// How many bytes are read, and how they are extended to a word.
-#[derive(Clone, Copy, Debug, PartialEq, Eq)]
+#[derive(Clone, Copy, PartialEq, Eq)]
 pub enum ValueType {
     /// 1 byte, extended by its sign: `_c`.
     Char,
@@ -227,7 +229,7 @@ pub enum ValueType {
 }
 
 /// How many bytes are written, the low ones of a word.
-#[derive(Clone, Copy, Debug, PartialEq, Eq)]
+#[derive(Clone, Copy, PartialEq, Eq)]
 pub enum StoreType {
     /// 1 byte: `_c`.
     Char,
@@ -240,7 +242,7 @@ pub enum StoreType {
 }
 
 /// How an address is given.
-#[derive(Clone, Copy, Debug, PartialEq, Eq)]
+#[derive(Clone, Copy, PartialEq, Eq)]
 pub enum Addressing {
     /// A register: `r`.
     Register,
@@ -253,7 +255,7 @@ pub enum Addressing {
 }
 
 /// An operation of the instruction set, or `.align`.
-#[derive(Clone, Copy, Debug, PartialEq, Eq)]
+#[derive(Clone, Copy, PartialEq, Eq)]
 pub enum Op {
     /// O1 = O2 op O3.
     Binary(BinaryOp, LastOperand),
@@ -277,4 +279,14 @@ pub enum Op {
     Retval(ValueType),
     /// O1 = the argument O2, by the type.
     Getarg(ValueType),
+}
+
+/// Prints the operation's name.
+impl fmt::Debug for Op {
+    fn fmt<W: fmt::Write>(&self, f: &mut fmt::Formatter<W>) -> fmt::Result {
+        match str::from_utf8(self.name().as_slice()) {
+            Ok(name) => f.write_str(name),
+            Err(_) => Err(fmt::Error),
+        }
+    }
 }

@@ -1,10 +1,12 @@
 // The instructions of RV64I and M, by the formats of their words.
 
+use std::{fmt, str};
+
 /// An instruction: its row, and the numbers in its word. Registers `rd`, `rs1` and `rs2` are 0 to 31.
 ///
 /// The names and fields are those of the RISC-V unprivileged ISA, "RV32I Base Integer Instruction
 /// Set", "RV64I Base Integer Instruction Set" and "M Extension".
-#[derive(Clone, Copy, PartialEq, Eq, Debug)]
+#[derive(Clone, Copy, PartialEq, Eq)]
 pub enum Instr {
     /// `imm`, 0 to 1,048,575, is bits 12 to 31 of a number of 32 bits, whose others are 0.
     Upper {
@@ -54,8 +56,18 @@ pub enum Instr {
     },
 }
 
+/// Prints the row's name.
+impl fmt::Debug for Instr {
+    fn fmt<W: fmt::Write>(&self, f: &mut fmt::Formatter<W>) -> fmt::Result {
+        match str::from_utf8(self.name().as_slice()) {
+            Ok(name) => f.write_str(name),
+            Err(_) => Err(fmt::Error),
+        }
+    }
+}
+
 /// The rows with a number for the upper bits.
-#[derive(Clone, Copy, PartialEq, Eq, Debug)]
+#[derive(Clone, Copy, PartialEq, Eq)]
 pub enum UpperOp {
     /// Load upper immediate.
     Lui,
@@ -64,7 +76,7 @@ pub enum UpperOp {
 }
 
 /// The rows that branch.
-#[derive(Clone, Copy, PartialEq, Eq, Debug)]
+#[derive(Clone, Copy, PartialEq, Eq)]
 pub enum BranchOp {
     /// Branch where equal.
     Beq,
@@ -81,7 +93,7 @@ pub enum BranchOp {
 }
 
 /// The rows with a signed number of 12 bits: `jalr`, loads and arithmetic.
-#[derive(Clone, Copy, PartialEq, Eq, Debug)]
+#[derive(Clone, Copy, PartialEq, Eq)]
 pub enum ImmOp {
     /// Jump to a register and a number, and link.
     Jalr,
@@ -116,7 +128,7 @@ pub enum ImmOp {
 }
 
 /// The rows that shift by a number.
-#[derive(Clone, Copy, PartialEq, Eq, Debug)]
+#[derive(Clone, Copy, PartialEq, Eq)]
 pub enum ShiftOp {
     /// Shift left.
     Slli,
@@ -133,7 +145,7 @@ pub enum ShiftOp {
 }
 
 /// The rows that store.
-#[derive(Clone, Copy, PartialEq, Eq, Debug)]
+#[derive(Clone, Copy, PartialEq, Eq)]
 pub enum StoreOp {
     /// Store 8 bits.
     Sb,
@@ -146,7 +158,7 @@ pub enum StoreOp {
 }
 
 /// The rows with two source registers.
-#[derive(Clone, Copy, PartialEq, Eq, Debug)]
+#[derive(Clone, Copy, PartialEq, Eq)]
 pub enum RegOp {
     /// Add.
     Add,

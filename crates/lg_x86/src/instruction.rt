@@ -1,11 +1,13 @@
 // The instructions of x86-64, by the shapes of their spellings.
 
+use std::{fmt, str};
+
 /// An instruction: its row, and its operands. Registers are 0 to 15: rax, rcx, rdx, rbx, rsp, rbp, rsi,
 /// rdi, and r8 to r15.
 ///
 /// The operations are those of Intel's Software Developer's Manual, volume 2. A name that ends in `i`, or
 /// in a number of bits, parts rows that share a mnemonic there.
-#[derive(Clone, Copy, PartialEq, Eq, Debug)]
+#[derive(Clone, Copy, PartialEq, Eq)]
 pub enum Instr {
     /// `rm` is combined with `reg`, 64 bits each.
     RmReg {
@@ -115,8 +117,18 @@ pub enum Instr {
     },
 }
 
+/// Prints the row's name.
+impl fmt::Debug for Instr {
+    fn fmt<W: fmt::Write>(&self, f: &mut fmt::Formatter<W>) -> fmt::Result {
+        match str::from_utf8(self.name().as_slice()) {
+            Ok(name) => f.write_str(name),
+            Err(_) => Err(fmt::Error),
+        }
+    }
+}
+
 /// The rows that combine two registers.
-#[derive(Clone, Copy, PartialEq, Eq, Debug)]
+#[derive(Clone, Copy, PartialEq, Eq)]
 pub enum RmRegOp {
     /// Add.
     Add,
@@ -141,7 +153,7 @@ pub enum RmRegOp {
 }
 
 /// The rows that combine a register with a number.
-#[derive(Clone, Copy, PartialEq, Eq, Debug)]
+#[derive(Clone, Copy, PartialEq, Eq)]
 pub enum ImmOp {
     /// Add.
     Addi,
@@ -162,7 +174,7 @@ pub enum ImmOp {
 }
 
 /// The rows that make a register from another.
-#[derive(Clone, Copy, PartialEq, Eq, Debug)]
+#[derive(Clone, Copy, PartialEq, Eq)]
 pub enum RegRmOp {
     /// The low 32 bits, zero-extended.
     Ext32u,
@@ -181,7 +193,7 @@ pub enum RegRmOp {
 }
 
 /// The rows that load, or take an address.
-#[derive(Clone, Copy, PartialEq, Eq, Debug)]
+#[derive(Clone, Copy, PartialEq, Eq)]
 pub enum LoadOp {
     /// Load 64 bits.
     Ld64,
@@ -202,7 +214,7 @@ pub enum LoadOp {
 }
 
 /// The rows that store.
-#[derive(Clone, Copy, PartialEq, Eq, Debug)]
+#[derive(Clone, Copy, PartialEq, Eq)]
 pub enum StoreOp {
     /// Store 64 bits.
     St64,
@@ -215,7 +227,7 @@ pub enum StoreOp {
 }
 
 /// The rows with one register.
-#[derive(Clone, Copy, PartialEq, Eq, Debug)]
+#[derive(Clone, Copy, PartialEq, Eq)]
 pub enum UnaryOp {
     /// Turn each bit.
     Not,
@@ -238,7 +250,7 @@ pub enum UnaryOp {
 }
 
 /// The rows that shift by a number.
-#[derive(Clone, Copy, PartialEq, Eq, Debug)]
+#[derive(Clone, Copy, PartialEq, Eq)]
 pub enum ShiftOp {
     /// Shift left.
     Shli,
@@ -249,7 +261,7 @@ pub enum ShiftOp {
 }
 
 /// The rows that work on the stack.
-#[derive(Clone, Copy, PartialEq, Eq, Debug)]
+#[derive(Clone, Copy, PartialEq, Eq)]
 pub enum StackOp {
     /// Push.
     Push,
@@ -258,7 +270,7 @@ pub enum StackOp {
 }
 
 /// The rows that go by a distance of 32 bits.
-#[derive(Clone, Copy, PartialEq, Eq, Debug)]
+#[derive(Clone, Copy, PartialEq, Eq)]
 pub enum JumpNearOp {
     /// Jump.
     Jmp32,
@@ -267,7 +279,7 @@ pub enum JumpNearOp {
 }
 
 /// The rows that go to the address in a register.
-#[derive(Clone, Copy, PartialEq, Eq, Debug)]
+#[derive(Clone, Copy, PartialEq, Eq)]
 pub enum JumpRegOp {
     /// Jump.
     Jmpr,
@@ -276,7 +288,7 @@ pub enum JumpRegOp {
 }
 
 /// The rows without operands.
-#[derive(Clone, Copy, PartialEq, Eq, Debug)]
+#[derive(Clone, Copy, PartialEq, Eq)]
 pub enum BareOp {
     /// Fill rdx with the sign of rax.
     Cqo,
@@ -287,7 +299,7 @@ pub enum BareOp {
 }
 
 /// The conditions on the flags.
-#[derive(Clone, Copy, PartialEq, Eq, Debug)]
+#[derive(Clone, Copy, PartialEq, Eq)]
 pub enum Cond {
     /// OF is 1.
     Overflow,
