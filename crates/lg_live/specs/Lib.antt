@@ -1,6 +1,7 @@
 pub mod Chains
 pub mod Definitions
 pub mod Graphs
+pub mod Links
 pub mod Liveness
 pub mod Needs
 pub mod Points

@@ -5,7 +5,7 @@ ghost use Rattle.std.specs.List.{list_all};
 ghost use Rattle.lg_live.specs.Graphs.{point_at, AreWithin};
 ghost use Rattle.lg_live.specs.Chains.{IsLinked, AreChains};
 
-use crate::point::Point;
+use crate::point::{Point, jumps};
 use lg_base::OutOfMemory;
 use std::alloc::Global;
 
@@ -37,7 +37,7 @@ fn link(last: &mut [Option<usize>], to: Option<usize>, index: usize) -> Option<u
 fn none_jumps(points: &[Point]) -> bool
     ensures { result ≡ list_all (λ p. is_none p.jumps) points.now }
 {
-    points.iter().all(|point| point.jumps.is_none())
+    points.iter().all(|point| point.jumps.point().is_none())
 }
 
 /// What a table has of a point.
@@ -54,8 +54,8 @@ fn linked(alloc: Global, points: &[Point], count: usize) -> Result<Chains, OutOf
 {
     let mut last = vec![in alloc; None; count]?;
     let mut earlier = Vec::with_capacity(alloc, points.len())?;
-    for (index, point) in points.iter().enumerate() {
-        earlier.push(link(&mut last, point.jumps, index))?;
+    for index in 0..points.len() {
+        earlier.push(link(&mut last, jumps(points, index), index))?;
     }
     Ok(Chains { last, earlier })
 }

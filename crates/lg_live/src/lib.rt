@@ -4,6 +4,7 @@
 
 mod chains;
 pub mod definitions;
+mod link;
 pub mod live;
 pub mod needs;
 mod point;

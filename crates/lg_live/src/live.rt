@@ -8,7 +8,7 @@ ghost use Rattle.lg_live.specs.Graphs.{AreWithin, AreWanted, IsWantedBehind};
 ghost use Rattle.lg_live.specs.Liveness.{AreLive};
 
 use crate::definitions::Sought;
-use crate::point::Point;
+use crate::point::{Point, falls, jumps};
 use crate::points::points_of;
 use crate::reg_set::RegSet;
 use crate::search::wanted;
@@ -40,13 +40,12 @@ fn behind(points: &[Point], sets: &[RegSet], index: usize) -> RegSet
     requires wanted { AreWanted points.now (length sets.now) sets.now }
     ensures { (r : Reg) → (has result r ≡ true) ↔ IsWantedBehind points.now r index }
 {
-    let point = points[index];
-    let next = if point.falls {
+    let next = if falls(points, index) {
         sets[index + 1]
     } else {
         RegSet::none()
     };
-    match point.jumps {
+    match jumps(points, index) {
         Some(target) => union(next, sets[target]),
         None => next,
     }

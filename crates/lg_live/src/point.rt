@@ -5,6 +5,7 @@ ghost use Rattle.lg_op.specs.declared.operand.Reg.{Reg};
 ghost use Rattle.lg_live.specs.RegSets.{has};
 ghost use Rattle.lg_live.specs.Graphs.{point_at, any_register, passes};
 
+use crate::link::Link;
 use crate::reg_set::RegSet;
 use crate::sets::{difference, meets, union};
 
@@ -20,9 +21,9 @@ pub struct Point {
     /// Whether it leads to the next point.
     pub falls: bool,
     /// Another point to which it leads.
-    pub jumps: Option<usize>,
+    pub jumps: Link,
     /// A point that leads to it.
-    pub joins: Option<usize>,
+    pub joins: Link,
 }
 
 // What a point wants for these registers that are wanted behind it.
@@ -46,6 +47,16 @@ pub fn passing(points: &[Point], index: usize, set: RegSet) -> RegSet
     }
 }
 
+/// The registers that a point reads.
+pub fn reads(points: &[Point], index: usize) -> RegSet
+    ensures { (r : Reg) → has result r ≡ has (point_at points.now index).reads r }
+{
+    match points.get(index) {
+        Some(point) => point.reads,
+        None => RegSet::none(),
+    }
+}
+
 /// Whether a point leads to the next one.
 pub fn falls(points: &[Point], index: usize) -> bool
     ensures { result ≡ (point_at points.now index).falls }
@@ -61,7 +72,7 @@ pub fn jumps(points: &[Point], index: usize) -> Option<usize>
     ensures { result ≡ (point_at points.now index).jumps }
 {
     match points.get(index) {
-        Some(point) => point.jumps,
+        Some(point) => point.jumps.point(),
         None => None,
     }
 }
@@ -71,7 +82,7 @@ pub fn joins(points: &[Point], index: usize) -> Option<usize>
     ensures { result ≡ (point_at points.now index).joins }
 {
     match points.get(index) {
-        Some(point) => point.joins,
+        Some(point) => point.joins.point(),
         None => None,
     }
 }

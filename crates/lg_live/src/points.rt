@@ -10,6 +10,7 @@ ghost use Rattle.lg_node.specs.Shapes.{way_of, target_of, IsShapeOf};
 ghost use Rattle.lg_live.specs.Points.{falls_by, aims_by, gathers_by, node_within, gate_of, jump_of, join_of, IsTakenBy, IsMarkedBesides, AreMarked, IsMarkedAt, IsPoint, ArePoints};
 
 use crate::definitions::{Sought, feeding};
+use crate::link::Link;
 use crate::point::Point;
 use crate::reg_set::RegSet;
 use crate::uses::uses_at;
@@ -45,12 +46,12 @@ fn gathers(op: Op) -> bool
 }
 
 // The node at which a place is.
-fn node_within(place: Option<Place>, count: u32) -> Option<usize>
+fn node_within(place: Option<Place>, count: u32) -> Link
     ensures { result ≡ node_within count place }
 {
     match place {
-        Some(Place::Node(index)) if index < count => Some(index as usize),
-        _ => None,
+        Some(Place::Node(index)) if index < count => Link::to(index as usize),
+        _ => Link::none(),
     }
 }
 
@@ -76,10 +77,10 @@ fn home(nodes: &NodeList, shape: &Shape, index: u32) -> Option<u32>
 }
 
 // Marks the node at which a place is.
-fn mark(marks: &mut [bool], node: Option<usize>)
+fn mark(marks: &mut [bool], node: Link)
     ensures { IsMarkedBesides marks.old marks.new (λ k. node ≡ Some k) }
 {
-    if let Some(node) = node {
+    if let Some(node) = node.point() {
         if node < marks.len() {
             marks[node] = true;
         }
@@ -110,21 +111,21 @@ fn marked(alloc: Global, nodes: &NodeList, shape: &Shape) -> Result<Vec<bool>, O
 
 // The gate of the function of a node, where it is asked for.
 #[tactic(auto, using(crate::proofs::PointLemmas::no_gate))]
-fn gate_of(nodes: &NodeList, shape: &Shape, index: u32, asked: bool) -> Option<usize>
+fn gate_of(nodes: &NodeList, shape: &Shape, index: u32, asked: bool) -> Link
     requires { IsShapeOf nodes.now shape.now }
     ensures { result ≡ gate_of nodes.now asked (home nodes.now.nodes index) }
 {
     if !asked {
-        return None;
+        return Link::none();
     }
     match home(nodes, shape, index) {
-        Some(prolog) => Some(nodes.len() as usize + prolog as usize),
-        None => None,
+        Some(prolog) => Link::to(nodes.len() as usize + prolog as usize),
+        None => Link::none(),
     }
 }
 
 // Where a node jumps.
-fn jump_of(nodes: &NodeList, shape: &Shape, index: u32, node: &Node) -> Option<usize>
+fn jump_of(nodes: &NodeList, shape: &Shape, index: u32, node: &Node) -> Link
     requires { IsShapeOf nodes.now shape.now }
     ensures { result ≡ jump_of nodes.now (home nodes.now.nodes index) node.now }
 {
@@ -137,16 +138,16 @@ fn jump_of(nodes: &NodeList, shape: &Shape, index: u32, node: &Node) -> Option<u
 
 // The gate through which jumps to taken labels come to a node.
 #[tactic(auto, using(crate::proofs::PointLemmas::no_join))]
-fn join_of(nodes: &NodeList, shape: &Shape, index: u32, marked: bool) -> Option<usize>
+fn join_of(nodes: &NodeList, shape: &Shape, index: u32, marked: bool) -> Link
     requires { IsShapeOf nodes.now shape.now }
     ensures { result ≡ join_of nodes.now (home nodes.now.nodes index) index marked }
 {
     if !marked {
-        return None;
+        return Link::none();
     }
     match home(nodes, shape, index) {
-        Some(prolog) if prolog < index => Some(nodes.len() as usize + prolog as usize),
-        _ => None,
+        Some(prolog) if prolog < index => Link::to(nodes.len() as usize + prolog as usize),
+        _ => Link::none(),
     }
 }
 

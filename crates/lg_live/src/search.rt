@@ -8,7 +8,7 @@ ghost use Rattle.lg_live.specs.Graphs.{point_at, passes, set_at, IsArc, IsWanted
 ghost use Rattle.lg_live.specs.Searches.{state_of, Grows, IsSound, AreWantedAt, StaysSound, HasPassed, HasSpread, IsUnmet, IsSwept, IsSearching};
 
 use crate::chains::{Chains, entry};
-use crate::point::{Point, fallen, falls, joins, jumps, passing};
+use crate::point::{Point, fallen, falls, joins, jumps, passing, reads};
 use crate::reg_set::RegSet;
 use crate::sets::union;
 use lg_base::OutOfMemory;
@@ -183,7 +183,7 @@ fn settle(
 {
     let fall = wanted_by_fall(points, &search.sets, index);
     let jump = wanted_by_jump(points, &search.sets, index);
-    let set = union(points[index].reads, union(fall, jump));
+    let set = union(reads(points, index), union(fall, jump));
     search.sets[index] = set;
     if is_met(points, chains, index) {
         search.queue.push(index)?;

@@ -14,6 +14,6 @@ loop-index-preserved c =
     rw (back, c.in_ok-push.ensures.items, add-one)
     (linked_on c.args.points.now c.args.count c.loop-index.index c.loop-index.last.items c.loop-index.earlier.items c.loop-index.invariant c.requires (point_at c.args.points.now c.loop-index.index).jumps refl c.link.result c.link.new.last
     (λ k e lt.
-    let h = c.link.ensures.linked k e (rw c.deref_mut.ensures.value lt) in
+    let h = c.link.ensures.linked k (c.jumps.ensures ∙ e) (rw c.deref_mut.ensures.value lt) in
     (rw (← c.deref_mut.ensures.value) h.0, rw (← c.deref_mut.ensures.value) h.1))
-    (λ e. c.link.ensures.none e ∙ c.deref_mut.ensures.value))
+    (λ e. c.link.ensures.none (c.jumps.ensures ∙ e) ∙ c.deref_mut.ensures.value))

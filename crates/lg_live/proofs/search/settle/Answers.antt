@@ -1,5 +1,5 @@
-use Rattle.std.proofs.Common.{◌≡◌, ◌<◌, ◌+◌, ◌++◌, ◌∷◌, [], ℕ, List, true, Some, inl, inr, length, sym, subst, arith}
-use Rattle.std.specs.Prelude.{slice_set}
+use Rattle.std.proofs.Common.{◌≡◌, ◌∙◌, ap, ◌<◌, ◌+◌, ◌++◌, ◌∷◌, [], ℕ, List, true, Some, inl, inr, length, sym, subst, arith}
+use Rattle.std.specs.Prelude.{slice_set, ◌||◌}
 use Rattle.lg_op.specs.declared.operand.Reg.{Reg}
 use Rattle.lg_live.specs.RegSets.{has}
 use Rattle.lg_live.specs.Graphs.{point_at, passes, set_at}
@@ -17,7 +17,7 @@ returns-in_ok-push c =
     let P : List ℕ → Type 0 = λ q. IsSwept points count p record { sets = slice_set s.sets p c.union-set.result; queue = q } in
     subst P (sym c.in_ok-push.ensures.items)
     (settled_by points count p s c.wanted_by_fall-fall.result c.wanted_by_jump-jump.result c.union.result c.union-set.result (s.queue ++ p ∷ []) c.requires.swept lt
-    c.union.ensures.registers c.union-set.ensures.registers
+    c.union.ensures.registers (λ r. c.union-set.ensures.registers r ∙ ap (λ b. b || has c.union.result r) (c.reads.ensures r))
     (subst (λ xs. (point_at points p).falls ≡ true → (r : Reg) → passes (point_at points p) (has (set_at xs (p + 1))) r ≡ true → has c.wanted_by_fall-fall.result r ≡ true) c.deref.ensures.value c.wanted_by_fall-fall.ensures.passed)
     (subst (λ xs. (k : ℕ) → (point_at points p).jumps ≡ Some k → (r : Reg) → passes (point_at points p) (has (set_at xs k)) r ≡ true → has c.wanted_by_jump-jump.result r ≡ true) c.deref-2.ensures.value c.wanted_by_jump-jump.ensures.passed)
     (subst (λ xs. IsSound points record { sets = xs; queue = [] } → AreWantedAt points c.wanted_by_fall-fall.result p) c.deref.ensures.value c.wanted_by_fall-fall.ensures.sound)
@@ -32,7 +32,7 @@ returns-else-is_met c =
     let count = length c.args.search.now.sets.items in
     let lt : p < count = omega (arith, c.requires.point, c.requires.within.few) in
     settled_by points count p s c.wanted_by_fall-fall.result c.wanted_by_jump-jump.result c.union.result c.union-set.result s.queue c.requires.swept lt
-    c.union.ensures.registers c.union-set.ensures.registers
+    c.union.ensures.registers (λ r. c.union-set.ensures.registers r ∙ ap (λ b. b || has c.union.result r) (c.reads.ensures r))
     (subst (λ xs. (point_at points p).falls ≡ true → (r : Reg) → passes (point_at points p) (has (set_at xs (p + 1))) r ≡ true → has c.wanted_by_fall-fall.result r ≡ true) c.deref.ensures.value c.wanted_by_fall-fall.ensures.passed)
     (subst (λ xs. (k : ℕ) → (point_at points p).jumps ≡ Some k → (r : Reg) → passes (point_at points p) (has (set_at xs k)) r ≡ true → has c.wanted_by_jump-jump.result r ≡ true) c.deref-2.ensures.value c.wanted_by_jump-jump.ensures.passed)
     (subst (λ xs. IsSound points record { sets = xs; queue = [] } → AreWantedAt points c.wanted_by_fall-fall.result p) c.deref.ensures.value c.wanted_by_fall-fall.ensures.sound)
