@@ -226,20 +226,22 @@ fn differ(a: Option<bool>, b: Option<bool>) -> Option<bool>
 pub fn condition_holds(cond: Cond, flags: Flags) -> Option<bool>
     ensures { result ≡ condition_holds cond flags }
 {
+    let (carry, zero) = (flags.carry(), zero_of(flags));
+    let (sign, overflow) = (sign_of(flags), overflow_of(flags));
     match cond {
-        Cond::Overflow => overflow_of(flags),
-        Cond::NoOverflow => turned(overflow_of(flags)),
-        Cond::Below => flags.carry(),
-        Cond::AboveOrEqual => turned(flags.carry()),
-        Cond::Equal => zero_of(flags),
-        Cond::NotEqual => turned(zero_of(flags)),
-        Cond::BelowOrEqual => either(flags.carry(), zero_of(flags)),
-        Cond::Above => turned(either(flags.carry(), zero_of(flags))),
-        Cond::Sign => sign_of(flags),
-        Cond::NoSign => turned(sign_of(flags)),
-        Cond::Less => differ(sign_of(flags), overflow_of(flags)),
-        Cond::GreaterOrEqual => turned(differ(sign_of(flags), overflow_of(flags))),
-        Cond::LessOrEqual => either(zero_of(flags), differ(sign_of(flags), overflow_of(flags))),
-        Cond::Greater => turned(either(zero_of(flags), differ(sign_of(flags), overflow_of(flags)))),
+        Cond::Overflow => overflow,
+        Cond::NoOverflow => turned(overflow),
+        Cond::Below => carry,
+        Cond::AboveOrEqual => turned(carry),
+        Cond::Equal => zero,
+        Cond::NotEqual => turned(zero),
+        Cond::BelowOrEqual => either(carry, zero),
+        Cond::Above => turned(either(carry, zero)),
+        Cond::Sign => sign,
+        Cond::NoSign => turned(sign),
+        Cond::Less => differ(sign, overflow),
+        Cond::GreaterOrEqual => turned(differ(sign, overflow)),
+        Cond::LessOrEqual => either(zero, differ(sign, overflow)),
+        Cond::Greater => turned(either(zero, differ(sign, overflow))),
     }
 }
