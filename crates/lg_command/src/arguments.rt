@@ -1,7 +1,7 @@
 // The arguments of the command, each with its rule.
 
 ghost use Rattle.std.specs.Prelude.{◌≡◌, IfOk, false};
-ghost use Rattle.clap.specs.Words.{app_of, rule_of};
+ghost use Rattle.clap.specs.Words.{app_of, rule_of, with_rule};
 ghost use Rattle.lg_command.specs.Rules.{app, mode_rule, target_rule, steps_rule, code_rule, seed_rule, stats_rule, file_rule, rest_rule};
 
 use clap::{Arg, ArgAction, Command, value_parser};
@@ -87,18 +87,33 @@ fn rest_argument<'a>(alloc: Global) -> Arg<'a>
         .num_args(0..)
 }
 
+// A command that takes the options which say what is done, for which target and how long.
+fn with_modes<'a>(alloc: Global, command: Command<'a>) -> Result<Command<'a>, AllocError>
+    ensures { IfOk result (λ c. app_of c ≡ with_rule (with_rule (with_rule (app_of command.entry) mode_rule) target_rule) steps_rule) }
+{
+    command
+        .arg(mode_argument(alloc))?
+        .arg(target_argument(alloc))?
+        .arg(steps_argument(alloc))
+}
+
+// A command that takes the options of the code, of the generator and of the figures.
+fn with_figures<'a>(alloc: Global, command: Command<'a>) -> Result<Command<'a>, AllocError>
+    ensures { IfOk result (λ c. app_of c ≡ with_rule (with_rule (with_rule (app_of command.entry) code_rule) seed_rule) stats_rule) }
+{
+    command
+        .arg(code_argument(alloc))?
+        .arg(seed_argument(alloc))?
+        .arg(stats_argument(alloc))
+}
+
 /// The command with its arguments.
 pub fn command<'a>(alloc: Global) -> Result<Command<'a>, AllocError>
     ensures { IfOk result (λ c. app_of c ≡ app) }
 {
-    Command::new(alloc, "lightning")
-        .disable_help_flag(true)
-        .arg(mode_argument(alloc))?
-        .arg(target_argument(alloc))?
-        .arg(steps_argument(alloc))?
-        .arg(code_argument(alloc))?
-        .arg(seed_argument(alloc))?
-        .arg(stats_argument(alloc))?
+    let named = Command::new(alloc, "lightning").disable_help_flag(true);
+    let with_options = with_figures(alloc, with_modes(alloc, named)?)?;
+    with_options
         .arg(file_argument(alloc))?
         .arg(rest_argument(alloc))
 }
