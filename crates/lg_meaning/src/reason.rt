@@ -7,7 +7,7 @@ use lg_base::HostName;
 use lg_node::{Function, Reg};
 
 /// What a node calls.
-#[derive(Clone, Copy, Debug, PartialEq, Eq)]
+#[derive(Clone, Copy)]
 pub enum Called {
     /// A host function.
     OfHost(HostName),
@@ -16,7 +16,7 @@ pub enum Called {
 }
 
 /// A row of the table of undefined steps that holds of a state at its node, with its values.
-#[derive(Clone, Copy, Debug, PartialEq, Eq)]
+#[derive(Clone, Copy)]
 pub enum Reason {
     /// 1: a register that is read is undefined.
     Unset(Reg),
