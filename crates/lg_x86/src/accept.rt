@@ -16,6 +16,7 @@ use crate::instruction::{
 };
 use crate::rows::Mark;
 
+#[inline(always)]
 #[tactic(auto, unfolding(crate::specs::Reading::rm_reg_of))]
 pub(crate) fn accept_rm_reg(
     fits: bool,
@@ -41,6 +42,7 @@ pub(crate) fn accept_rm_reg(
     ))
 }
 
+#[inline(always)]
 #[tactic(auto, unfolding(crate::specs::Reading::imm_of))]
 pub(crate) fn accept_imm(
     fits: bool,
@@ -66,6 +68,7 @@ pub(crate) fn accept_imm(
     ))
 }
 
+#[inline(always)]
 #[tactic(auto, unfolding(crate::specs::Reading::reg_rm_of))]
 pub(crate) fn accept_reg_rm(
     fits: bool,
@@ -93,6 +96,7 @@ pub(crate) fn accept_reg_rm(
     ))
 }
 
+#[inline(always)]
 #[tactic(auto, unfolding(crate::specs::Reading::load_of))]
 pub(crate) fn accept_load(
     fits: bool,
@@ -121,6 +125,7 @@ pub(crate) fn accept_load(
     ))
 }
 
+#[inline(always)]
 #[tactic(auto, unfolding(crate::specs::Reading::store_of))]
 pub(crate) fn accept_store(
     fits: bool,
@@ -149,6 +154,7 @@ pub(crate) fn accept_store(
     ))
 }
 
+#[inline(always)]
 #[tactic(auto, unfolding(crate::specs::Reading::lea_of))]
 pub(crate) fn accept_lea(fits: bool, len: u32, rex: u8, tail: &[u8]) -> Option<(Instr, u32)>
     ensures exact { result ≡ accepted fits len (lea_of rex tail.now) }
@@ -180,6 +186,7 @@ pub(crate) fn accept_lea(fits: bool, len: u32, rex: u8, tail: &[u8]) -> Option<(
     }
 }
 
+#[inline(always)]
 #[tactic(auto, unfolding(crate::specs::Reading::movi_of))]
 pub(crate) fn accept_movi(
     fits: bool,
@@ -214,6 +221,7 @@ pub(crate) fn accept_movi(
     }
 }
 
+#[inline(always)]
 #[tactic(auto, unfolding(crate::specs::Reading::movs_of))]
 pub(crate) fn accept_movs(fits: bool, len: u32, rex: u8, tail: &[u8]) -> Option<(Instr, u32)>
     ensures exact { result ≡ accepted fits len (movs_of rex tail.now) }
@@ -231,6 +239,7 @@ pub(crate) fn accept_movs(fits: bool, len: u32, rex: u8, tail: &[u8]) -> Option<
     ))
 }
 
+#[inline(always)]
 #[tactic(auto, unfolding(crate::specs::Reading::unary_of))]
 pub(crate) fn accept_unary(
     fits: bool,
@@ -255,6 +264,7 @@ pub(crate) fn accept_unary(
     ))
 }
 
+#[inline(always)]
 #[tactic(auto, unfolding(crate::specs::Reading::shift_of))]
 pub(crate) fn accept_shift(fits: bool, len: u32, rex: u8, tail: &[u8]) -> Option<(Instr, u32)>
     ensures exact { result ≡ accepted fits len (shift_of rex tail.now) }
@@ -278,6 +288,7 @@ pub(crate) fn accept_shift(fits: bool, len: u32, rex: u8, tail: &[u8]) -> Option
     ))
 }
 
+#[inline(always)]
 #[tactic(auto, unfolding(crate::specs::Reading::bswap_of))]
 pub(crate) fn accept_bswap(fits: bool, len: u32, rex: u8, opcode: u8) -> Option<(Instr, u32)>
     ensures exact { result ≡ accepted fits len (bswap_of rex opcode) }
@@ -294,6 +305,7 @@ pub(crate) fn accept_bswap(fits: bool, len: u32, rex: u8, opcode: u8) -> Option<
     ))
 }
 
+#[inline(always)]
 #[tactic(auto, unfolding(crate::specs::Reading::stack_of))]
 pub(crate) fn accept_stack(fits: bool, len: u32, rex: u8, opcode: u8) -> Option<(Instr, u32)>
     ensures exact { result ≡ accepted fits len (stack_of rex opcode) }
@@ -312,6 +324,7 @@ pub(crate) fn accept_stack(fits: bool, len: u32, rex: u8, opcode: u8) -> Option<
     ))
 }
 
+#[inline(always)]
 #[tactic(auto, unfolding(crate::specs::Reading::jump_if_short_of))]
 pub(crate) fn accept_jump_if_short(
     fits: bool,
@@ -335,6 +348,7 @@ pub(crate) fn accept_jump_if_short(
     ))
 }
 
+#[inline(always)]
 #[tactic(auto, unfolding(crate::specs::Reading::jump_if_near_of))]
 pub(crate) fn accept_jump_if_near(
     fits: bool,
@@ -358,6 +372,7 @@ pub(crate) fn accept_jump_if_near(
     ))
 }
 
+#[inline(always)]
 #[tactic(auto, unfolding(crate::specs::Reading::set_of))]
 pub(crate) fn accept_set(
     fits: bool,
@@ -382,6 +397,7 @@ pub(crate) fn accept_set(
     ))
 }
 
+#[inline(always)]
 #[tactic(auto, unfolding(crate::specs::Reading::jump_short_of))]
 pub(crate) fn accept_jump_short(fits: bool, len: u32, tail: &[u8]) -> Option<(Instr, u32)>
     ensures exact { result ≡ accepted fits len (jump_short_of tail.now) }
@@ -398,6 +414,7 @@ pub(crate) fn accept_jump_short(fits: bool, len: u32, tail: &[u8]) -> Option<(In
     ))
 }
 
+#[inline(always)]
 #[tactic(auto, unfolding(crate::specs::Reading::jump_near_of))]
 pub(crate) fn accept_jump_near(
     fits: bool,
@@ -421,6 +438,7 @@ pub(crate) fn accept_jump_near(
     ))
 }
 
+#[inline(always)]
 #[tactic(auto, unfolding(crate::specs::Reading::jump_reg_of))]
 pub(crate) fn accept_jump_reg(fits: bool, len: u32, rex: u8, tail: &[u8]) -> Option<(Instr, u32)>
     ensures exact { result ≡ accepted fits len (jump_reg_of rex tail.now) }
@@ -439,6 +457,7 @@ pub(crate) fn accept_jump_reg(fits: bool, len: u32, rex: u8, tail: &[u8]) -> Opt
     ))
 }
 
+#[inline(always)]
 #[tactic(auto, unfolding(crate::specs::Reading::bare_of))]
 pub(crate) fn accept_bare(fits: bool, len: u32, mark: Mark, opcode: u8) -> Option<(Instr, u32)>
     ensures exact { result ≡ accepted fits len (bare_of mark opcode) }

@@ -28,6 +28,7 @@ use crate::rows::Mark;
 
 /// The instruction that the bytes begin with, and its length, 1 to 10. `None` where no row's spelling
 /// begins them.
+#[inline(always)]
 pub fn decode(bytes: &[u8]) -> Option<(Instr, u32)>
     ensures value { result ≡ front_of bytes.now }
     // whatever follows its spelling, an instruction is read as itself
@@ -39,6 +40,7 @@ pub fn decode(bytes: &[u8]) -> Option<(Instr, u32)>
     read(bytes)
 }
 
+#[inline(always)]
 #[tactic(auto, unfolding(crate::specs::Reading::read_of))]
 fn read(bytes: &[u8]) -> Option<(Instr, u32)>
     ensures exact { result ≡ read_of bytes.now }
@@ -52,6 +54,7 @@ fn read(bytes: &[u8]) -> Option<(Instr, u32)>
     read_sized(is_word_sized, len, rest)
 }
 
+#[inline(always)]
 #[tactic(auto, unfolding(crate::specs::Reading::read_sized))]
 fn read_sized(is_word_sized: bool, len: u32, bytes: &[u8]) -> Option<(Instr, u32)>
     requires { len ≤ 1 }
@@ -67,6 +70,7 @@ fn read_sized(is_word_sized: bool, len: u32, bytes: &[u8]) -> Option<(Instr, u32
     read_code(is_word_sized, rex, len, rest)
 }
 
+#[inline(always)]
 #[tactic(auto, unfolding(crate::specs::Reading::read_code))]
 fn read_code(is_word_sized: bool, rex: u8, len: u32, bytes: &[u8]) -> Option<(Instr, u32)>
     requires { len ≤ 2 }
@@ -88,6 +92,7 @@ fn read_code(is_word_sized: bool, rex: u8, len: u32, bytes: &[u8]) -> Option<(In
 }
 
 // an instruction whose opcode has one byte: most compute, move, store or load
+#[inline(always)]
 #[tactic(auto, unfolding(crate::specs::Reading::read_short))]
 fn read_short(
     is_word_sized: bool,
@@ -121,6 +126,7 @@ fn read_short(
 }
 
 // behind this byte ModRM has a digit, and a register that a number or nothing is beside; or another instruction
+#[inline(always)]
 #[tactic(auto, unfolding(crate::specs::Reading::read_digit))]
 fn read_digit(
     is_word_sized: bool,
@@ -159,6 +165,7 @@ fn read_digit(
 }
 
 // a jump or call; or another instruction
+#[inline(always)]
 #[tactic(auto, unfolding(crate::specs::Reading::read_jump))]
 fn read_jump(
     is_word_sized: bool,
@@ -237,6 +244,7 @@ fn read_other(
 }
 
 // an instruction whose opcode has the escape byte and this one
+#[inline(always)]
 #[tactic(auto, unfolding(crate::specs::Reading::read_escaped))]
 fn read_escaped(
     is_word_sized: bool,
@@ -273,6 +281,7 @@ fn read_escaped(
 }
 
 // a register that is made from another, or loaded
+#[inline(always)]
 #[tactic(auto, unfolding(crate::specs::Reading::read_reg))]
 fn read_reg(
     is_word_sized: bool,
@@ -310,6 +319,7 @@ fn read_reg(
 }
 
 // a register that is moved, or stored
+#[inline(always)]
 #[tactic(auto, unfolding(crate::specs::Reading::read_rm))]
 fn read_rm(is_word_sized: bool, rex: u8, len: u32, opcode: u8, tail: &[u8]) -> Option<(Instr, u32)>
     requires { len ≤ 4 }
@@ -331,6 +341,7 @@ fn read_rm(is_word_sized: bool, rex: u8, len: u32, opcode: u8, tail: &[u8]) -> O
     }
 }
 
+#[inline(always)]
 #[tactic(auto, unfolding(crate::specs::Reading::read_imm))]
 fn read_imm(is_word_sized: bool, rex: u8, len: u32, opcode: u8, tail: &[u8]) -> Option<(Instr, u32)>
     requires { len ≤ 4 }
@@ -357,6 +368,7 @@ fn read_imm(is_word_sized: bool, rex: u8, len: u32, opcode: u8, tail: &[u8]) -> 
     }
 }
 
+#[inline(always)]
 #[tactic(auto, unfolding(crate::specs::Reading::read_movi))]
 fn read_movi(
     is_word_sized: bool,
@@ -390,6 +402,7 @@ fn read_movi(
     }
 }
 
+#[inline(always)]
 #[tactic(auto, unfolding(crate::specs::Reading::read_lea))]
 fn read_lea(is_word_sized: bool, rex: u8, len: u32, tail: &[u8]) -> Option<(Instr, u32)>
     requires { len ≤ 4 }

@@ -8,6 +8,7 @@ ghost use Rattle.lg_x86.specs.Reading.{opcode_reg, has_registers, has_one, is_di
 use lg_base::number::{from_bits, to_bits};
 
 /// The bits R, X and B of REX.
+#[inline(always)]
 pub(crate) fn extension_of(reg: u8, index: u8, rm: u8) -> u8
     requires { (reg < 16) × (index < 16) × (rm < 16) }
     ensures value { result ≡ extension reg index rm }
@@ -17,6 +18,7 @@ pub(crate) fn extension_of(reg: u8, index: u8, rm: u8) -> u8
 }
 
 /// ModRM; only the low three bits of each register stand in it.
+#[inline(always)]
 pub(crate) fn modrm_of(mode: u8, reg: u8, rm: u8) -> u8
     requires { mode < 4 }
     ensures { result ≡ modrm mode reg rm }
@@ -25,6 +27,7 @@ pub(crate) fn modrm_of(mode: u8, reg: u8, rm: u8) -> u8
 }
 
 /// SIB of scale 0; only the low three bits of each register stand in it.
+#[inline(always)]
 pub(crate) fn sib_of(index: u8, base: u8) -> u8
     ensures { result ≡ sib index base }
 {
@@ -32,6 +35,7 @@ pub(crate) fn sib_of(index: u8, base: u8) -> u8
 }
 
 /// Whether the number is one of 8 bits.
+#[inline(always)]
 pub(crate) fn fits_short(number: i32) -> bool
     ensures { result ≡ is_short number }
 {
@@ -39,6 +43,7 @@ pub(crate) fn fits_short(number: i32) -> bool
 }
 
 /// The byte of a number from -128 to 127.
+#[inline(always)]
 pub(crate) fn short_byte(number: i32) -> u8
     requires { IsNumber8 number }
     ensures { result ≡ bits_of 128 number }
@@ -47,6 +52,7 @@ pub(crate) fn short_byte(number: i32) -> u8
 }
 
 /// The four bytes of a number.
+#[inline(always)]
 pub(crate) fn long_of(number: i32) -> [u8; 4]
     ensures value { result ≡ long_bytes number }
     ensures len { length result ≡ 4 }
@@ -55,6 +61,7 @@ pub(crate) fn long_of(number: i32) -> [u8; 4]
 }
 
 /// The byte at a place, or 0 behind the last.
+#[inline(always)]
 pub(crate) fn byte_at(bytes: &[u8], place: usize) -> u8
     ensures { result ≡ slice_index bytes.now place }
 {
@@ -62,6 +69,7 @@ pub(crate) fn byte_at(bytes: &[u8], place: usize) -> u8
 }
 
 /// The bytes from a place on.
+#[inline(always)]
 pub(crate) fn skip(bytes: &[u8], place: usize) -> &[u8]
     ensures { result.now ≡ drop place bytes.now }
 {
@@ -73,6 +81,7 @@ pub(crate) fn skip(bytes: &[u8], place: usize) -> &[u8]
 }
 
 /// The register whose low three bits stand in an opcode.
+#[inline(always)]
 pub(crate) fn opcode_register(rex: u8, opcode: u8) -> u8
     ensures value { result ≡ opcode_reg rex opcode }
     ensures fits { result < 16 }
@@ -81,6 +90,7 @@ pub(crate) fn opcode_register(rex: u8, opcode: u8) -> u8
 }
 
 /// Whether ModRM names two registers.
+#[inline(always)]
 pub(crate) fn names_registers(tail: &[u8]) -> bool
     ensures { result ≡ has_registers tail.now }
 {
@@ -88,6 +98,7 @@ pub(crate) fn names_registers(tail: &[u8]) -> bool
 }
 
 /// Whether ModRM names one register, beside the digit 0.
+#[inline(always)]
 pub(crate) fn names_one(tail: &[u8]) -> bool
     ensures { result ≡ has_one tail.now }
 {
@@ -95,6 +106,7 @@ pub(crate) fn names_one(tail: &[u8]) -> bool
 }
 
 /// The field reg of ModRM.
+#[inline(always)]
 pub(crate) fn digit(tail: &[u8]) -> u8
     ensures { result ≡ digit_in tail.now }
 {
@@ -102,6 +114,7 @@ pub(crate) fn digit(tail: &[u8]) -> u8
 }
 
 /// The register of the field reg of ModRM.
+#[inline(always)]
 pub(crate) fn reg_register(rex: u8, tail: &[u8]) -> u8
     ensures value { result ≡ reg_in rex tail.now }
     ensures fits { result < 16 }
@@ -110,6 +123,7 @@ pub(crate) fn reg_register(rex: u8, tail: &[u8]) -> u8
 }
 
 /// The register of the field rm of ModRM.
+#[inline(always)]
 pub(crate) fn rm_register(rex: u8, tail: &[u8]) -> u8
     ensures value { result ≡ rm_in rex tail.now }
     ensures fits { result < 16 }
@@ -118,6 +132,7 @@ pub(crate) fn rm_register(rex: u8, tail: &[u8]) -> u8
 }
 
 /// The index of SIB.
+#[inline(always)]
 pub(crate) fn index_register(rex: u8, tail: &[u8]) -> u8
     ensures value { result ≡ index_in rex tail.now }
     ensures fits { result < 16 }
@@ -126,6 +141,7 @@ pub(crate) fn index_register(rex: u8, tail: &[u8]) -> u8
 }
 
 /// The base of SIB.
+#[inline(always)]
 pub(crate) fn base_register(rex: u8, tail: &[u8]) -> u8
     ensures value { result ≡ base_in rex tail.now }
     ensures fits { result < 16 }
@@ -134,6 +150,7 @@ pub(crate) fn base_register(rex: u8, tail: &[u8]) -> u8
 }
 
 /// The number of 32 bits that the bytes begin with.
+#[inline(always)]
 pub(crate) fn word(bytes: &[u8]) -> u32
     ensures { result ≡ word_in bytes.now }
 {
@@ -146,6 +163,7 @@ pub(crate) fn word(bytes: &[u8]) -> u32
 }
 
 /// The number of 64 bits that the bytes begin with.
+#[inline(always)]
 pub(crate) fn wide_word(bytes: &[u8]) -> u64
     ensures { result ≡ wide_in bytes.now }
 {
@@ -162,6 +180,7 @@ pub(crate) fn wide_word(bytes: &[u8]) -> u64
 }
 
 /// The signed number of 8 bits that the bytes begin with.
+#[inline(always)]
 pub(crate) fn short_number(bytes: &[u8]) -> i32
     ensures value { result ≡ short_in bytes.now }
     ensures fits { IsNumber8 result }
@@ -170,6 +189,7 @@ pub(crate) fn short_number(bytes: &[u8]) -> i32
 }
 
 /// The signed number of 32 bits that the bytes begin with.
+#[inline(always)]
 pub(crate) fn long_number(bytes: &[u8]) -> i32
     ensures value { result ≡ long_in bytes.now }
     ensures fits { IsNumber32 result }
@@ -178,6 +198,7 @@ pub(crate) fn long_number(bytes: &[u8]) -> i32
 }
 
 /// The signed number that the bytes begin with, of 8 bits or else of 32.
+#[inline(always)]
 pub(crate) fn signed_number(is_short: bool, bytes: &[u8]) -> i32
     ensures value { result ≡ number_in is_short bytes.now }
     ensures fits { IsNumber32 result }
@@ -190,6 +211,7 @@ pub(crate) fn signed_number(is_short: bool, bytes: &[u8]) -> i32
 }
 
 /// The displacement, which stands behind ModRM and SIB.
+#[inline(always)]
 pub(crate) fn displacement(tail: &[u8]) -> i32
     ensures value { result ≡ disp_in tail.now }
     ensures fits { IsNumber32 result }
@@ -199,6 +221,7 @@ pub(crate) fn displacement(tail: &[u8]) -> i32
 }
 
 // where the displacement stands behind this ModRM: SIB follows where its field rm is 4
+#[inline(always)]
 fn displacement_place(modrm: u8) -> usize
     ensures { (tail : List ℕ) → slice_index tail 0 ≡ modrm → result ≡ disp_place tail }
 {
@@ -206,6 +229,7 @@ fn displacement_place(modrm: u8) -> usize
 }
 
 /// Whether ModRM begins an operand in memory: SIB, where it stands, names no index, and the displacement is short where it can be.
+#[inline(always)]
 pub(crate) fn is_memory(tail: &[u8]) -> bool
     ensures { result ≡ is_memory tail.now }
 {
@@ -215,6 +239,7 @@ pub(crate) fn is_memory(tail: &[u8]) -> bool
 }
 
 // whether the displacement behind this mode is there, and is short where it can be
+#[inline(always)]
 fn is_displaced(mode: u8, bytes: &[u8]) -> bool
     ensures { result ≡ is_displaced mode bytes.now }
 {
@@ -226,6 +251,7 @@ fn is_displaced(mode: u8, bytes: &[u8]) -> bool
 }
 
 /// How many bytes an operand in memory has: 2 to 6.
+#[inline(always)]
 pub(crate) fn memory_length(tail: &[u8]) -> u32
     ensures value { result ≡ memory_length tail.now }
     ensures fits { result ≤ 6 }
@@ -236,6 +262,7 @@ pub(crate) fn memory_length(tail: &[u8]) -> u32
 }
 
 /// Whether ModRM and SIB name three registers, and no displacement.
+#[inline(always)]
 pub(crate) fn is_sum(tail: &[u8]) -> bool
     ensures { result ≡ is_sum tail.now }
 {

@@ -7,6 +7,7 @@ ghost use Rattle.lg_x86.specs.Reading.{mark_in};
 
 use crate::rows::Mark;
 
+#[inline(always)]
 #[tactic(auto, unfolding(crate::specs::Reading::is_wide))]
 pub(crate) fn asks_wide(is_word_sized: bool, rex: u8) -> bool
     ensures { result ≡ (not is_word_sized && is_wide rex) }
@@ -14,6 +15,7 @@ pub(crate) fn asks_wide(is_word_sized: bool, rex: u8) -> bool
     !is_word_sized && rex / 8 % 2 == 1 && rex / 2 % 2 == 0
 }
 
+#[inline(always)]
 #[tactic(auto, unfolding(crate::specs::Reading::is_wide_one))]
 pub(crate) fn asks_wide_one(is_word_sized: bool, rex: u8) -> bool
     ensures { result ≡ (not is_word_sized && is_wide_one rex) }
@@ -21,6 +23,7 @@ pub(crate) fn asks_wide_one(is_word_sized: bool, rex: u8) -> bool
     !is_word_sized && rex / 8 % 2 == 1 && rex / 2 % 4 == 0
 }
 
+#[inline(always)]
 #[tactic(auto, unfolding(crate::specs::Reading::is_plain_one))]
 pub(crate) fn asks_plain_one(is_word_sized: bool, rex: u8) -> bool
     ensures { result ≡ (not is_word_sized && is_plain_one rex) }
@@ -28,6 +31,7 @@ pub(crate) fn asks_plain_one(is_word_sized: bool, rex: u8) -> bool
     !is_word_sized && (rex == 0 || rex == 0x41)
 }
 
+#[inline(always)]
 #[tactic(auto, unfolding(crate::specs::Reading::is_low_one))]
 pub(crate) fn asks_low_one(is_word_sized: bool, rex: u8) -> bool
     ensures { result ≡ (not is_word_sized && is_low_one rex) }
@@ -35,18 +39,21 @@ pub(crate) fn asks_low_one(is_word_sized: bool, rex: u8) -> bool
     !is_word_sized && (rex == 0x40 || rex == 0x41)
 }
 
+#[inline(always)]
 pub(crate) fn asks_marked(is_word_sized: bool, rex: u8) -> bool
     ensures { result ≡ (not is_word_sized && is_marked rex) }
 {
     !is_word_sized && is_marked(rex)
 }
 
+#[inline(always)]
 pub(crate) fn asks_none(is_word_sized: bool, rex: u8) -> bool
     ensures { result ≡ (not is_word_sized && (rex == 0)) }
 {
     !is_word_sized && rex == 0
 }
 
+#[inline(always)]
 #[tactic(auto, unfolding(crate::specs::Reading::is_marked))]
 pub(crate) fn is_marked(rex: u8) -> bool
     ensures { result ≡ is_marked rex }
@@ -55,6 +62,7 @@ pub(crate) fn is_marked(rex: u8) -> bool
 }
 
 // and for the low bytes of two
+#[inline(always)]
 #[tactic(auto, unfolding(crate::specs::Reading::is_low))]
 pub(crate) fn is_low(rex: u8) -> bool
     ensures { result ≡ is_low rex }
@@ -63,6 +71,7 @@ pub(crate) fn is_low(rex: u8) -> bool
 }
 
 // what REX asks for, or the lack of it
+#[inline(always)]
 pub(crate) fn mark(rex: u8) -> Mark
     ensures { result ≡ mark_in rex }
 {

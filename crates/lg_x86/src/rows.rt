@@ -243,6 +243,7 @@ impl RmRegOp {
     }
 
     /// The row with this opcode.
+    #[inline(always)]
     #[tactic(auto, unfolding(crate::specs::Reading::rm_reg_by_opcode))]
     pub(crate) fn find(opcode: u8) -> Option<RmRegOp>
         ensures { result ≡ rm_reg_by_opcode opcode }
@@ -269,6 +270,7 @@ impl ImmOp {
     }
 
     /// The row with this digit.
+    #[inline(always)]
     #[tactic(auto, unfolding(crate::specs::Reading::imm_by_digit))]
     pub(crate) fn find(digit: u8) -> Option<ImmOp>
         ensures { result ≡ imm_by_digit digit }
@@ -308,6 +310,7 @@ impl RegRmOp {
     }
 
     /// The row with these prefixes and this opcode.
+    #[inline(always)]
     #[tactic(auto, unfolding(crate::specs::Reading::reg_rm_by_prefixes))]
     pub(crate) fn find(word_sized: bool, mark: Mark, escaped: bool, opcode: u8) -> Option<RegRmOp>
         ensures { result ≡ reg_rm_by_prefixes word_sized mark escaped opcode }
@@ -347,6 +350,7 @@ impl LoadOp {
     }
 
     /// The row with these prefixes and this opcode.
+    #[inline(always)]
     #[tactic(auto, unfolding(crate::specs::Reading::load_by_prefixes))]
     pub(crate) fn find(word_sized: bool, mark: Mark, escaped: bool, opcode: u8) -> Option<LoadOp>
         ensures { result ≡ load_by_prefixes word_sized mark escaped opcode }
@@ -386,6 +390,7 @@ impl StoreOp {
     }
 
     /// The row with these prefixes and this opcode.
+    #[inline(always)]
     #[tactic(auto, unfolding(crate::specs::Reading::store_by_prefixes))]
     pub(crate) fn find(word_sized: bool, mark: Mark, escaped: bool, opcode: u8) -> Option<StoreOp>
         ensures { result ≡ store_by_prefixes word_sized mark escaped opcode }
@@ -419,6 +424,7 @@ impl UnaryOp {
     }
 
     /// The row with this opcode and digit.
+    #[inline(always)]
     #[tactic(auto, unfolding(crate::specs::Reading::unary_by_digit))]
     pub(crate) fn find(opcode: u8, digit: u8) -> Option<UnaryOp>
         ensures { result ≡ unary_by_digit opcode digit }
@@ -445,6 +451,7 @@ impl ShiftOp {
     }
 
     /// The row with this digit.
+    #[inline(always)]
     #[tactic(auto, unfolding(crate::specs::Reading::shift_by_digit))]
     pub(crate) fn find(digit: u8) -> Option<ShiftOp>
         ensures { result ≡ shift_by_digit digit }
@@ -471,6 +478,7 @@ impl StackOp {
     }
 
     /// The row with this opcode.
+    #[inline(always)]
     #[tactic(auto, unfolding(crate::specs::Reading::stack_by_opcode))]
     pub(crate) fn find(opcode: u8) -> Option<StackOp>
         ensures { result ≡ stack_by_opcode opcode }
@@ -496,6 +504,7 @@ impl JumpNearOp {
     }
 
     /// The row with this opcode.
+    #[inline(always)]
     #[tactic(auto, unfolding(crate::specs::Reading::jump_near_by_opcode))]
     pub(crate) fn find(opcode: u8) -> Option<JumpNearOp>
         ensures { result ≡ jump_near_by_opcode opcode }
@@ -522,6 +531,7 @@ impl JumpRegOp {
     }
 
     /// The row with this digit.
+    #[inline(always)]
     #[tactic(auto, unfolding(crate::specs::Reading::jump_reg_by_digit))]
     pub(crate) fn find(digit: u8) -> Option<JumpRegOp>
         ensures { result ≡ jump_reg_by_digit digit }
@@ -554,6 +564,7 @@ impl BareOp {
     }
 
     /// The row with these prefixes and this opcode.
+    #[inline(always)]
     #[tactic(auto, unfolding(crate::specs::Reading::bare_by_prefixes))]
     pub(crate) fn find(word_sized: bool, mark: Mark, escaped: bool, opcode: u8) -> Option<BareOp>
         ensures { result ≡ bare_by_prefixes word_sized mark escaped opcode }
@@ -586,6 +597,7 @@ impl Cond {
     }
 
     /// The condition with this number.
+    #[inline(always)]
     #[tactic(auto, unfolding(crate::specs::Reading::cond_by_number))]
     pub(crate) fn find(number: u8) -> Option<Cond>
         ensures { result ≡ cond_by_number number }
