@@ -1,6 +1,7 @@
 -- What is kept of the chains of all nodes as labels and nodes are added and labels are bound.
 use Rattle.std.proofs.Common.{◌≡◌, ◌≢◌, true, false, Bool, ℕ, zero, suc, ◌+◌, ◌<◌, ◌≤◌, ◌⊎◌, inl, inr, List, [], ◌∷◌, ◌++◌, Option, Some, None, is_some, length, length-append, get_or, sym, ap, subst, ◌∙◌, refl, arith}
 use Rattle.std.proofs.Math.ListN.{set, length-set}
+use Rattle.std.proofs.Math.Seq.{get_or-append_seam}
 use Rattle.std.specs.Prelude.{slice_get}
 use Rattle.std.proofs.lemmas.Bool.{cases_order}
 use Rattle.std.proofs.lemmas.Bool.Decides.{nat_tests}
@@ -18,6 +19,7 @@ use Rattle.lg_node.specs.NextLabels.{NextAt, NoneAt}
 use Rattle.lg_node.specs.Nodes.{MayStand}
 use Rattle.lg_node.specs.declared.bindings.Bindings.TheInside.{Inside}
 use Rattle.lg_node.specs.Chains.{IsFirst, IsChain, IsJoined, AreBindings, bound_at}
+use Rattle.lg_node.proofs.NodeListLemmas.{longer}
 
 -- a list is no other where the value behind its end is appended
 pub read-longer : {A : Type 0} (xs : List A) (d : A) (i : ℕ) → get_or (xs ++ d ∷ []) i d ≡ get_or xs i d
@@ -128,6 +130,57 @@ stands : (n i : ℕ) (p : Option Place) → MayStand n p → is_at i p ≡ true 
 stands n i (Some (place.Node k)) s e = let same : k ≡ i = grind (arith, nat_tests) in omega (arith, same, s)
 stands n i (Some (place.Image k)) s e = cc
 stands n i None s e = cc
+
+-- no label is bound past the node behind the last
+none-past : (places : List (Option Place)) (n i : ℕ) → All (MayStand n) places → n < i → (k : ℕ) → bound_at places i k ≡ false
+none-past places n i placed past k = by (bound_at places i k) refl
+  where
+    by : (b : Bool) → bound_at places i k ≡ b → b ≡ false
+    by false e = refl
+    by true e = let le : i ≤ n = stands n i (get_or places k None) (placed k None (bound-within places i k e)) e in absurd (omega (arith, le, past))
+
+may-still-stand : (n m : ℕ) (p : Option Place) → n ≤ m → MayStand n p → MayStand m p
+may-still-stand n m (Some (place.Node k)) le s = omega (arith, le, s)
+may-still-stand n m (Some (place.Image k)) le s = tt
+may-still-stand n m None le s = tt
+
+no-chain : (at : ℕ → Bool) (next : List (Option Label)) → ((k : ℕ) → at k ≡ false) → IsChain at next None
+no-chain at next none = record {
+  bounds = λ k le. none k;
+  links = λ k t. absurd (bound k t);
+  within = λ k t. absurd (bound k t);
+}
+  where
+    bound : (k : ℕ) → at k ≡ true → ⊥
+    bound k t = let f : at k ≡ false = none k in cc
+
+-- the labels behind the last node are those of the next one
+pub node-added : (b new : Inside) → AreBindings b → new.places.items ≡ b.places.items → new.next.items ≡ b.next.items → new.ends.items ≡ b.ends.items ++ b.end ∷ [] → new.end ≡ None → AreBindings new
+node-added b new a places next ends end = record {
+  paired = omega (arith, ap length places, ap length next, a.paired);
+  placed = subst (λ (ps : List (Option Place)). All (MayStand (length new.ends.items)) ps) (sym places) (λ k d lt. may-still-stand n (length new.ends.items) (get_or b.places.items k d) (omega (arith, count)) (a.placed k d lt));
+  nodes = λ i lt. in-new i (get_or new.ends.items i None) (node i (omega (arith, lt, count)) (cases_order i n));
+  end = in-new (length new.ends.items) new.end (subst (IsChain (bound_at b.places.items (length new.ends.items)) b.next.items) (sym end) (no-chain _ b.next.items (none-past b.places.items n (length new.ends.items) a.placed (omega (arith, count)))));
+}
+  where
+    n : ℕ
+    n = length b.ends.items
+
+    count : length new.ends.items ≡ length b.ends.items + 1
+    count = longer b.ends.items new.ends.items b.end ends
+
+    in-new : (i : ℕ) (e : Option Ends) → IsChain (bound_at b.places.items i) b.next.items e → IsChain (bound_at new.places.items i) new.next.items e
+    in-new i e chain = subst (λ (ps : List (Option Place)). IsChain (bound_at ps i) new.next.items e) (sym places) (subst (λ (ls : List (Option Label)). IsChain (bound_at b.places.items i) ls e) (sym next) chain)
+
+    read : (i : ℕ) (e : Option Ends) → get_or (b.ends.items ++ b.end ∷ []) i None ≡ e → get_or new.ends.items i None ≡ e
+    read i e is = ap (λ (es : List (Option Ends)). get_or es i None) ends ∙ is
+
+    node : (i : ℕ) → i < n + 1 → (i ≡ n) ⊎ ((i < n) ⊎ (n < i)) → IsChain (bound_at b.places.items i) b.next.items (get_or new.ends.items i None)
+    node i lt (inl e) =
+        let P : ℕ → Type 0 = λ m. IsChain (bound_at b.places.items m) b.next.items (get_or new.ends.items m None) in
+        subst P (sym e) (subst (IsChain (bound_at b.places.items n) b.next.items) (sym (read n b.end (get_or-append_seam b.ends.items b.end [] None))) a.end)
+    node i lt (inr (inl less)) = subst (IsChain (bound_at b.places.items i) b.next.items) (sym (read i (get_or b.ends.items i None) (get_or_append_left b.ends.items (b.end ∷ []) None i less))) (a.nodes i less)
+    node i lt (inr (inr more)) = absurd (omega (arith, lt, more))
 
 pub next-first : (b : Inside) → AreBindings b → (i k : ℕ) → bound_at b.places.items i k ≡ true → IsFirst (bound_at b.places.items i) (k + 1) (get_or b.next.items k None)
 next-first b a i k t = by (cases_order i (length b.ends.items))

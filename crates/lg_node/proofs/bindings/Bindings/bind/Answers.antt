@@ -38,6 +38,32 @@ returns-in_default-clause-free c =
     let is : slice_get c.args.self.now.places x ≡ Some None = subst (λ (b : BoundLabels). slice_get b.places x ≡ Some None) c.self.view_is (free-is old.places.items x within free) in
     (λ _. is, λ _. refl)
 
+pub link-ends-requires-clause-chain : goal.link-ends-requires-clause-chain
+link-ends-requires-clause-chain c =
+    let old = c.self.inside in
+    let x = c.args.label.0 in
+    let within : x < length old.places.items = omega (arith, ap (λ (b : BoundLabels). length b.places) c.self.view_is, c.requires.label) in
+    let free : get_or old.places.items x None ≡ None = unbound old.places.items x c.index.result.now c.index.ensures (sym c.is_some.ensures ∙ c.if-is_some.false) within in
+    let n = c.in-Node.node in
+    let lt : n < length old.ends.items = omega (arith, c.if-node-len.true, c.len.ensures) in
+    let node : c.index-then-node-len.result.now ≡ get_or old.ends.items n None = get_or_read old.ends.items n c.index-then-node-len.result.now lt c.index-then-node-len.ensures None in
+    let before : IsChain (bound_at old.places.items n) c.deref_mut.result.now c.index-then-node-len.result.now =
+    subst (λ (l : List (Option Label)). IsChain (bound_at old.places.items n) l c.index-then-node-len.result.now) (sym c.deref_mut.ensures.value)
+    (subst (IsChain (bound_at old.places.items n) old.next.items) (sym node) (c.self.invariant.nodes n lt)) in
+    (bound_at old.places.items n, before, was-free old.places.items x within free n)
+
+pub link-ends-requires-else-node-len-clause-chain : goal.link-ends-requires-else-node-len-clause-chain
+link-ends-requires-else-node-len-clause-chain c =
+    let old = c.self.inside in
+    let x = c.args.label.0 in
+    let within : x < length old.places.items = omega (arith, ap (λ (b : BoundLabels). length b.places) c.self.view_is, c.requires.label) in
+    let free : get_or old.places.items x None ≡ None = unbound old.places.items x c.index.result.now c.index.ensures (sym c.is_some.ensures ∙ c.if-is_some.false) within in
+    let n = length old.ends.items in
+    let list = c.deref_mut-else-node-len in
+    let before : IsChain (bound_at old.places.items n) list.result.now old.end =
+    subst (λ (l : List (Option Label)). IsChain (bound_at old.places.items n) l old.end) (sym list.ensures.value) c.self.invariant.end in
+    (bound_at old.places.items n, before, was-free old.places.items x within free n)
+
 pub invariant_of-self : goal.invariant_of-self
 invariant_of-self c =
     let old = c.self.inside in
