@@ -29,9 +29,7 @@ pub fn parse(alloc: Global, text: &[u8]) -> Result<Unit, Stop>
     ensures unit { Reads result (unit_of text.now) }
     ensures whole { IfOk result IsWhole }
 {
-    let Ok(mut parser) = Parser::new(alloc, text) else {
-        return Err(Stop::OutOfMemory);
-    };
+    let mut parser = Parser::new(alloc, text)?;
     parser.statements()?;
     parser.into_unit()
 }

@@ -87,15 +87,11 @@ impl Names {
         if self.words.get_index_of(word).is_some() {
             return Ok(false);
         }
+        self.meanings.reserve(1)?;
         let key = Vec::from_slice(self.alloc, word)?;
-        self.meanings.push(meaning)?;
-        match self.words.insert_full(key) {
-            Ok(_) => return Ok(true),
-            Err(_) => {
-                let _ = self.meanings.pop();
-                return Err(OutOfMemory);
-            }
-        }
+        self.words.insert_full(key)?;
+        self.meanings.push_reserved(meaning);
+        Ok(true)
     }
 
     /// Makes the next argument of the function, and gives its number. None exactly where the name is made already.
