@@ -10,7 +10,7 @@ use crate::{aarch64, riscv64, x86_64};
 use lg_base::Target;
 
 /// An instruction of one of the targets.
-#[derive(Clone, Copy, PartialEq, Eq, Debug)]
+#[derive(Clone, Copy)]
 pub enum Instruction {
     /// Of x86-64.
     X86_64(lg_x86::Instr),

@@ -2,12 +2,12 @@
 
 ghost use Rattle.std.specs.Prelude.{◌≡◌, ◌<◌, ◌≤◌, ◌+◌, ◌*◌, ◌^◌, ◌++◌, codes, length};
 ghost use Rattle.lg_list.specs.Texts.{decimal, signed_decimal, displacement, hex};
-ghost use Rattle.lg_list.specs.Operands.{register_name, x86_name, spelled, spelled_behind, text};
+ghost use Rattle.lg_list.specs.Operands.{register_name, x86_name, spelled, spelled_behind, listed, text};
 
 use crate::line::Line;
 
 /// A register, by the name that it has in a listing.
-#[derive(Clone, Copy, PartialEq, Eq)]
+#[derive(Clone, Copy)]
 pub enum Register {
     /// `x0` to `x31`.
     X(u8),
@@ -20,7 +20,7 @@ pub enum Register {
 }
 
 /// An operand.
-#[derive(Clone, Copy, PartialEq, Eq)]
+#[derive(Clone, Copy)]
 pub enum Operand {
     /// A register.
     Register(Register),
@@ -34,6 +34,19 @@ pub enum Operand {
     Indexed { base: Register, index: Register },
     /// An address, modulo 2^32.
     Target(u32),
+}
+
+/// The operands of an instruction, in their order.
+#[derive(Clone, Copy)]
+pub enum Operands {
+    /// None.
+    Zero,
+    /// One.
+    One(Operand),
+    /// Two.
+    Two(Operand, Operand),
+    /// Three.
+    Three(Operand, Operand, Operand),
 }
 
 impl Line {
@@ -195,6 +208,21 @@ impl Line {
                 self.push_behind(b" ", *operand);
                 self.push_more(operands);
             }
+        }
+    }
+
+    /// Appends the text of an instruction: its name and its operands, up to three.
+    #[inline(always)]
+    pub fn push_named(&mut self, name: &[u8], operands: Operands)
+        requires { length self.old + length name.now + 153 ≤ 288 }
+        ensures value { self.new ≡ self.old ++ text name.now (listed operands) }
+        ensures room { length self.new ≤ length self.old + length name.now + 153 }
+    {
+        match operands {
+            Operands::Zero => self.push_text(name, &[]),
+            Operands::One(first) => self.push_text(name, &[first]),
+            Operands::Two(first, second) => self.push_text(name, &[first, second]),
+            Operands::Three(first, second, third) => self.push_text(name, &[first, second, third]),
         }
     }
 }
