@@ -17,8 +17,10 @@ fn dropped(alloc: Global, nodes: NodeList, shape: Shape) -> Result<Rewritten, Ou
     ensures { IfOk result (λ r. IsDroppedTo nodes shape r.nodes r.shape r.origin.items) }
 {
     nodes.what_holds();
-    let stays = stays_of(alloc, &nodes)?;
-    remade(alloc, nodes, shape, &stays, &[])
+    match stays_of(alloc, &nodes) {
+        Ok(stays) => remade(alloc, nodes, shape, &stays, &[]),
+        Err(error) => Err(error),
+    }
 }
 
 /// Drops each move that does nothing: of a register to itself, and of one to another where an earlier move of the same straight run has moved one
@@ -40,8 +42,8 @@ pub fn drop_moves(alloc: Global, nodes: &NodeList, shape: &Shape) -> Result<Rewr
     ensures runs { IfOk result (λ r. RunsAreDropped nodes.now shape.now r.nodes r.shape r.origin.items) }
     ensures made { IfOk result (λ r. IsDroppedTo nodes.now shape.now r.nodes r.shape r.origin.items) }
 {
-    let nodes = nodes.copy(alloc)?;
     let shape = shape.copy(alloc)?;
+    let nodes = nodes.copy(alloc)?;
     without_idle_moves(alloc, nodes, shape)
 }
 

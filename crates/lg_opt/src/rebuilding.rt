@@ -14,19 +14,32 @@ use lg_base::{Origin, OutOfMemory};
 use lg_node::{Label, Node, NodeList, Operand, Operands, Place};
 use std::alloc::Global;
 
-/// A list of no nodes with the labels of another, none of them bound. The words of a list's labels differ, so that each gets its number; one that
-/// came twice would be told as want of memory.
-pub fn unbound(alloc: Global, old: &NodeList) -> Result<NodeList, OutOfMemory>
-    ensures { IfOk result (λ l. l ≡ unbound old.now.words) }
+// Mentions the labels of another list, each of which gets its number; a word that came twice would be told as want of memory.
+fn mention_all(list: &mut NodeList, old: &NodeList) -> Result<(), OutOfMemory>
+    requires { list.old ≡ record { nodes = []; words = []; places = [] } }
+    ensures { OnOk result (list.new ≡ unbound old.now.words) }
 {
-    let mut list = NodeList::with_room(alloc, old.len())?;
     for index in 0..old.labels() {
         let label = list.label(old.word(Label(index)))?;
         if label.0 != index {
             return Err(OutOfMemory);
         }
     }
-    Ok(list)
+    Ok(())
+}
+
+/// A list of no nodes with the labels of another, none of them bound. The words of a list's labels differ, so that each gets its number; one that
+/// came twice would be told as want of memory.
+pub fn unbound(alloc: Global, old: &NodeList) -> Result<NodeList, OutOfMemory>
+    ensures { IfOk result (λ l. l ≡ unbound old.now.words) }
+{
+    match NodeList::with_room(alloc, old.len()) {
+        Ok(mut list) => match mention_all(&mut list, old) {
+            Ok(()) => Ok(list),
+            Err(error) => Err(error),
+        },
+        Err(error) => Err(error),
+    }
 }
 
 // Operands of which the first is this label.
@@ -164,6 +177,26 @@ pub fn bind_moved(list: &mut NodeList, nodes: &NodeList, numbers: &[u32])
     }
 }
 
+// Appends the nodes that stay, with their targets, to a list that has the labels, and binds these at their new places.
+fn fill(
+    alloc: Global,
+    list: &mut NodeList,
+    nodes: &NodeList,
+    stays: &[bool],
+    targets: &[Option<Label>],
+) -> Result<(), OutOfMemory>
+    requires list { list.old ≡ unbound nodes.now.words }
+    requires count { length stays.now ≡ length nodes.now.nodes }
+    requires targets { TargetsAreOfJumps nodes.now targets.now }
+    ensures { OnOk result (list.new ≡ rewritten nodes.now (marked stays.now) (target_in targets.now)) }
+{
+    nodes.what_holds();
+    push_remaining(list, nodes, stays, targets)?;
+    let numbers = numbers(alloc, stays)?;
+    bind_moved(list, nodes, &numbers);
+    Ok(())
+}
+
 /// The nodes that stay, with their targets and the labels in their new places, built one by one.
 pub fn rebuilt(
     alloc: Global,
@@ -175,12 +208,13 @@ pub fn rebuilt(
     requires targets { TargetsAreOfJumps nodes.now targets.now }
     ensures { IfOk result (λ l. l ≡ rewritten nodes.now (marked stays.now) (target_in targets.now)) }
 {
-    nodes.what_holds();
-    let mut list = unbound(alloc, nodes)?;
-    push_remaining(&mut list, nodes, stays, targets)?;
-    let numbers = numbers(alloc, stays)?;
-    bind_moved(&mut list, nodes, &numbers);
-    Ok(list)
+    match unbound(alloc, nodes) {
+        Ok(mut list) => match fill(alloc, &mut list, nodes, stays, targets) {
+            Ok(()) => Ok(list),
+            Err(error) => Err(error),
+        },
+        Err(error) => Err(error),
+    }
 }
 
 /// Whether all nodes stay.

@@ -1,6 +1,7 @@
 // What a rewriting answers.
 
-ghost use Rattle.std.specs.Prelude.{◌≡◌, ◌<◌, ◌^◌, length, IfOk};
+ghost use Rattle.std.specs.Prelude.{◌≡◌, ◌<◌, ◌^◌, ◌&&◌, is_none, length, IfOk};
+ghost use Rattle.std.specs.List.{list_all};
 ghost use Rattle.lg_node.specs.Checks.{IsAccepted};
 ghost use Rattle.lg_node.specs.Shapes.{IsShapeOf};
 ghost use Rattle.lg_opt.specs.Remaining.{origins, rewritten};
@@ -36,13 +37,10 @@ pub fn finished(
     ensures taken { IfOk result (λ r. r.shape.taken ≡ old.now.taken) }
     ensures origin { IfOk result (λ r. r.origin.items ≡ origins (marked stays.now) (length stays.now)) }
 {
-    let shape = reshape(alloc, &nodes, old)?;
-    let origin = origin(alloc, stays)?;
-    Ok(Rewritten {
-        nodes,
-        shape,
-        origin,
-    })
+    match reshape(alloc, &nodes, old) {
+        Ok(shape) => handed_back(alloc, nodes, shape, stays),
+        Err(error) => Err(error),
+    }
 }
 
 // The same nodes, with their shape.
@@ -57,12 +55,44 @@ fn handed_back(
     ensures shape { IfOk result (λ r. r.shape ≡ shape) }
     ensures origin { IfOk result (λ r. r.origin.items ≡ origins (marked stays.now) (length stays.now)) }
 {
-    let origin = origin(alloc, stays)?;
-    Ok(Rewritten {
-        nodes,
-        shape,
-        origin,
-    })
+    match origin(alloc, stays) {
+        Ok(origin) => Ok(Rewritten {
+            nodes,
+            shape,
+            origin,
+        }),
+        Err(error) => Err(error),
+    }
+}
+
+// The nodes that stay, with their targets and the labels in their new places, in a list of their own, with their shape.
+fn made_anew(
+    alloc: Global,
+    nodes: &NodeList,
+    shape: &Shape,
+    stays: &[bool],
+    targets: &[Option<Label>],
+) -> Result<Rewritten, OutOfMemory>
+    requires count { length stays.now ≡ length nodes.now.nodes }
+    requires targets { TargetsAreOfJumps nodes.now targets.now }
+    requires accepted { IsAccepted (rewritten nodes.now (marked stays.now) (target_in targets.now)) }
+    ensures nodes { IfOk result (λ r. r.nodes ≡ rewritten nodes.now (marked stays.now) (target_in targets.now)) }
+    ensures shape { IfOk result (λ r. IsShapeOf r.nodes r.shape) }
+    ensures taken { IfOk result (λ r. r.shape.taken ≡ shape.now.taken) }
+    ensures origin { IfOk result (λ r. r.origin.items ≡ origins (marked stays.now) (length stays.now)) }
+{
+    nodes.what_holds();
+    match rebuilt(alloc, nodes, stays, targets) {
+        Ok(list) => finished(alloc, list, shape, stays),
+        Err(error) => Err(error),
+    }
+}
+
+// Whether all nodes stay, and none gets another target.
+fn is_unchanged(stays: &[bool], targets: &[Option<Label>]) -> bool
+    ensures { result ≡ (list_all (λ s. s) stays.now && list_all is_none targets.now) }
+{
+    all_stay(stays) && none_given(targets)
 }
 
 /// The nodes that stay, with their targets and the labels in their new places, with their shape. Where all stay as they are it is the same list.
@@ -84,9 +114,9 @@ pub fn remade(
     ensures origin { IfOk result (λ r. r.origin.items ≡ origins (marked stays.now) (length stays.now)) }
 {
     nodes.what_holds();
-    if all_stay(stays) && none_given(targets) {
-        return handed_back(alloc, nodes, shape, stays);
+    if is_unchanged(stays, targets) {
+        handed_back(alloc, nodes, shape, stays)
+    } else {
+        made_anew(alloc, &nodes, &shape, stays, targets)
     }
-    let list = rebuilt(alloc, &nodes, stays, targets)?;
-    finished(alloc, list, &shape, stays)
 }

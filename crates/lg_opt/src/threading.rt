@@ -67,8 +67,10 @@ fn threaded(alloc: Global, nodes: NodeList, shape: Shape) -> Result<Rewritten, O
     ensures { IfOk result (λ r. IsThreadedTo nodes shape r.nodes r.shape r.origin.items) }
 {
     nodes.what_holds();
-    let tables = tables_of(alloc, &nodes)?;
-    remade(alloc, nodes, shape, &tables.stays, &tables.targets)
+    match tables_of(alloc, &nodes) {
+        Ok(tables) => remade(alloc, nodes, shape, &tables.stays, &tables.targets),
+        Err(error) => Err(error),
+    }
 }
 
 /// Leads each branch and `jmpi` that goes to a `jmpi` to where that leads in the end, unless the jumps from there turn for ever, and drops each
@@ -91,8 +93,8 @@ pub fn thread(alloc: Global, nodes: &NodeList, shape: &Shape) -> Result<Rewritte
     ensures runs { IfOk result (λ r. RunsAreThreaded nodes.now shape.now r.nodes r.shape) }
     ensures made { IfOk result (λ r. IsThreadedTo nodes.now shape.now r.nodes r.shape r.origin.items) }
 {
-    let nodes = nodes.copy(alloc)?;
     let shape = shape.copy(alloc)?;
+    let nodes = nodes.copy(alloc)?;
     with_threaded_jumps(alloc, nodes, shape)
 }
 

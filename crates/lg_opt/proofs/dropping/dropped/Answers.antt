@@ -13,8 +13,8 @@ pub remade-requires : goal.remade-requires
 remade-requires c =
     let l = c.args.nodes in
     let now = c.deref.result.now in
-    let count = ap length c.deref.ensures.value ∙ c.in_ok-stays.ensures.0 in
-    let are : (i : ℕ) → i < length l.nodes → marked now i ≡ stays l i = λ i lt. ap (λ xs. marked xs i) c.deref.ensures.value ∙ c.in_ok-stays.ensures.1 i (omega (arith, lt, c.in_ok-stays.ensures.0)) in
+    let count = ap length c.deref.ensures.value ∙ c.in-Ok.ensures.0 in
+    let are : (i : ℕ) → i < length l.nodes → marked now i ≡ stays l i = λ i lt. ap (λ xs. marked xs i) c.deref.ensures.value ∙ c.in-Ok.ensures.1 i (omega (arith, lt, c.in-Ok.ensures.0)) in
     let list = list-is l (stays l) now count are [] no_targets (λ i lt. refl) c.what_holds.ensures.placed (rewritten l (marked now) (target_in [])) refl in
     record {
       count = count;
@@ -23,12 +23,12 @@ remade-requires c =
       accepted = subst IsAccepted (sym list) (accepted l (stays l) no_targets (drops-rewrite l) c.requires.accepted);
     }
 
-pub returns : goal.returns
-returns c =
+pub returns-in-Ok : goal.returns-in-Ok
+returns-in-Ok c =
     let l = c.args.nodes in
     let now = c.deref.result.now in
-    let count = ap length c.deref.ensures.value ∙ c.in_ok-stays.ensures.0 in
-    let are : (i : ℕ) → i < length l.nodes → marked now i ≡ stays l i = λ i lt. ap (λ xs. marked xs i) c.deref.ensures.value ∙ c.in_ok-stays.ensures.1 i (omega (arith, lt, c.in_ok-stays.ensures.0)) in
+    let count = ap length c.deref.ensures.value ∙ c.in-Ok.ensures.0 in
+    let are : (i : ℕ) → i < length l.nodes → marked now i ≡ stays l i = λ i lt. ap (λ xs. marked xs i) c.deref.ensures.value ∙ c.in-Ok.ensures.1 i (omega (arith, lt, c.in-Ok.ensures.0)) in
     let list = list-is l (stays l) now count are [] no_targets (λ i lt. refl) c.what_holds.ensures.placed (rewritten l (marked now) (target_in [])) refl in
     all-ok (λ r. r.nodes ≡ rewritten l (marked now) (target_in [])) (λ r. IsShapeOf r.nodes r.shape) (λ r. r.shape.taken ≡ c.args.shape.taken) (λ r. r.origin.items ≡ origins (marked now) (length now))
     (λ r. IsDroppedTo l c.args.shape r.nodes r.shape r.origin.items) c.remade.result

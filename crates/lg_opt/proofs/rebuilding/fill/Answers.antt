@@ -5,7 +5,7 @@ use Rattle.lg_opt.specs.Rewritings.{marked, target_in}
 use Rattle.lg_opt.proofs.RemainingLemmas.{number-le}
 use Rattle.lg_opt.proofs.MovedLemmas.{new-count}
 use Rattle.lg_opt.proofs.RebuildLemmas.{from-parts, moved-same}
-use Rattle.lg_opt.proofs.rebuilding.rebuilt.Goals as goal
+use Rattle.lg_opt.proofs.rebuilding.fill.Goals as goal
 
 pub bind_moved-requires-clause-few : goal.bind_moved-requires-clause-few
 bind_moved-requires-clause-few c = λ k le.
@@ -24,7 +24,7 @@ returns c =
     let pushed = c.in_ok-push_remaining.ensures in
     from-parts c.bind_moved.new.list m.nodes l.words m.places
     (ap (λ x. x.nodes) c.bind_moved.ensures ∙ ap (λ x. x.nodes) pushed)
-    (ap (λ x. x.words) c.bind_moved.ensures ∙ ap (λ x. x.words) pushed ∙ ap (λ x. x.words) c.in_ok-list.ensures)
+    (ap (λ x. x.words) c.bind_moved.ensures ∙ ap (λ x. x.words) pushed ∙ ap (λ x. x.words) c.requires.list)
     (ap (λ x. x.places) c.bind_moved.ensures
     ∙ moved-same (slice_index c.deref.result.now) (new_number stays) (length l.nodes)
     (λ k le. ap (λ xs. slice_index xs k) c.deref.ensures.value ∙ c.in_ok-numbers.ensures.numbers k (omega (arith, le, c.requires.count))) l.places c.what_holds.ensures.placed)

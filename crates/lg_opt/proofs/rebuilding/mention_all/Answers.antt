@@ -1,9 +1,9 @@
 use Rattle.std.proofs.Common.{arith}
 use Rattle.lg_opt.proofs.RebuildLemmas.{mention-next, mentioned-none, mentioned-all}
-use Rattle.lg_opt.proofs.rebuilding.unbound.Goals as goal
+use Rattle.lg_opt.proofs.rebuilding.mention_all.Goals as goal
 
 pub loop-index-init : goal.loop-index-init
-loop-index-init c = mentioned-none c.args.old.now.words c.in_ok-list.list c.in_ok-list.ensures
+loop-index-init c = mentioned-none c.args.old.now.words c.args.list.now c.requires
 
 pub loop-index-preserved : goal.loop-index-preserved
 loop-index-preserved c = mention-next c.args.old.now.words c.loop-index.index c.loop-index.list c.label.new.self c.word.result.now c.in_ok-label.label.0 c.loop-index.invariant c.word.ensures.text c.in_ok-label.ensures.ok c.in_ok-label.ensures.number c.if-label-index.false
