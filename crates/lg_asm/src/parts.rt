@@ -2,18 +2,23 @@
 
 ghost use Rattle.std.specs.Prelude.{◌≡◌, ◌+◌, ◌*◌, ◌<◌, ◌≤◌, length, IfOk, IfErr};
 ghost use Rattle.lg_cpu.specs.Laws.{AreBytes};
-ghost use Rattle.lg_asm.specs.Assembled.{IsRefusedFor};
+ghost use Rattle.lg_asm.specs.Addresses.{AreMade};
+ghost use Rattle.lg_asm.specs.Assembled.{ArePushed, IsRefusedFor};
 ghost use Rattle.lg_asm.specs.Lowered.{IsGiven};
+ghost use Rattle.lg_asm.specs.NodeChoices.{spills_in};
 ghost use Rattle.lg_base.specs.Layout.{most_code};
 ghost use Rattle.lg_base.specs.declared.target.Target.{Target};
 ghost use Rattle.lg_live.specs.Liveness.{AreLive};
+ghost use Rattle.lg_node.specs.Checks.{IsAccepted};
 ghost use Rattle.lg_node.specs.Shapes.{IsShapeOf};
 
+use crate::addresses::addresses;
+use crate::counts::{Counts, counted};
 use crate::lowering::lower;
-use lg_base::{CodeBytes, Places, Refusal, RefusalKind, Stop, Target};
+use lg_base::{CodeBytes, OutOfMemory, Places, Refusal, RefusalKind, Stop, Target};
 use lg_buf::CodeBuf;
 use lg_live::Live;
-use lg_node::{NodeList, Shape};
+use lg_node::{LabelAddresses, NodeList, Shape};
 use std::alloc::Global;
 
 /// The bytes of a text's code, the places of its nodes and of the end, and the place of each label that is bound at a node.
@@ -41,6 +46,20 @@ pub(crate) fn see_slice(bytes: &[u8])
     let _count = bytes.len();
 }
 
+// How many bytes a buffer of a size has room for: no more than so many nodes can have, and as many more as one may have, so that a large size
+// takes no more memory or time than they do.
+fn room_for(size: u32, nodes: u32) -> u32
+    ensures within { result ≤ size }
+    ensures enough { result < size → 256 * nodes + 256 ≤ result }
+{
+    let most = 256 * nodes as u64 + 256;
+    if most < size as u64 {
+        most as u32
+    } else {
+        size
+    }
+}
+
 /// The bytes of a text in a buffer of a size. They are refused with CodeFull only where at some node fewer than 256 bytes were free behind
 /// those of the nodes before it.
 pub(crate) fn text_bytes(
@@ -58,13 +77,14 @@ pub(crate) fn text_bytes(
     ensures refused { IfErr result (IsRefusedFor target nodes.now shape.now size) }
 {
     let count = nodes.len();
-    let Some(room) = count.checked_add(1) else {
+    let Some(stops) = count.checked_add(1) else {
         return Err(Stop::OutOfMemory);
     };
-    let Ok(mut buf) = CodeBuf::new(alloc, size, nodes.labels(), count) else {
+    let room = room_for(size, count);
+    let Ok(mut buf) = CodeBuf::with_capacity(alloc, size, room, nodes.labels(), count) else {
         return Err(Stop::OutOfMemory);
     };
-    let Ok(mut places) = Places::with_room(alloc, room) else {
+    let Ok(mut places) = Places::with_room(alloc, stops) else {
         return Err(Stop::OutOfMemory);
     };
     if !lower(nodes, shape, live, target, &mut buf, &mut places) {
@@ -80,5 +100,66 @@ pub(crate) fn text_bytes(
         bytes: finished.bytes,
         places,
         tags: finished.places,
+    })
+}
+
+/// What code is made of beside its nodes.
+#[derive(Drop)]
+pub(crate) struct Parts {
+    /// The registers that are live.
+    pub(crate) live: Live,
+    /// The bytes with their places.
+    pub(crate) text: TextBytes,
+    /// The addresses of the labels.
+    pub(crate) labels: LabelAddresses,
+    /// The counts of the nodes.
+    pub(crate) counts: Counts,
+}
+
+// The addresses of the labels that lie at these places of the code, and the counts of the nodes.
+fn tables(
+    alloc: Global,
+    nodes: &NodeList,
+    live: &Live,
+    target: Target,
+    tags: &Places,
+) -> Result<(LabelAddresses, Counts), OutOfMemory>
+    requires accepted { IsAccepted nodes.now }
+    requires live { length live.now.behind ≡ length nodes.now.nodes }
+    requires tags { length tags.now.items ≡ length nodes.now.words }
+    ensures labels { IfOk result (λ t. AreMade nodes.now.places tags.now.items t.0 (length nodes.now.places)) }
+    ensures passed { IfOk result (λ t. ArePushed nodes.now.nodes t.1.passed.items (length nodes.now.nodes)) }
+    ensures spills { IfOk result (λ t. t.1.spills ≡ spills_in target nodes.now.nodes live.now (length nodes.now.nodes)) }
+{
+    let labels = addresses(alloc, nodes, tags)?;
+    let counts = counted(alloc, nodes, live, target)?;
+    Ok((labels, counts))
+}
+
+/// The parts of the code of final nodes of this shape, in at most so many bytes. They are refused as `text_bytes` refuses them.
+pub(crate) fn parts_of(
+    alloc: Global,
+    nodes: &NodeList,
+    shape: &Shape,
+    target: Target,
+    size: u32,
+) -> Result<Parts, Stop>
+    requires shape { IsShapeOf nodes.now shape.now }
+    requires size { size ≤ most_code }
+    ensures live { IfOk result (λ p. AreLive nodes.now shape.now p.live) }
+    ensures given { IfOk result (λ p. IsGiven target nodes.now shape.now p.live size p.text.places.items p.text.tags.items p.text.bytes.items) }
+    ensures labels { IfOk result (λ p. AreMade nodes.now.places p.text.tags.items p.labels (length nodes.now.places)) }
+    ensures passed { IfOk result (λ p. ArePushed nodes.now.nodes p.counts.passed.items (length nodes.now.nodes)) }
+    ensures spills { IfOk result (λ p. p.counts.spills ≡ spills_in target nodes.now.nodes p.live (length nodes.now.nodes)) }
+    ensures refused { IfErr result (IsRefusedFor target nodes.now shape.now size) }
+{
+    let live = Live::of(alloc, nodes, shape)?;
+    let text = text_bytes(alloc, nodes, shape, &live, target, size)?;
+    let (labels, counts) = tables(alloc, nodes, &live, target, &text.tags)?;
+    Ok(Parts {
+        live,
+        text,
+        labels,
+        counts,
     })
 }

@@ -5,11 +5,12 @@ use Rattle.lg_buf.specs.declared.fixes.Fix.{Fix}
 use Rattle.lg_buf.specs.FixFields.{fix_len, field_rest}
 use Rattle.lg_buf.specs.Fixing.{Fixed, Fits}
 
--- the bytes, how many there can be, each label's place, the fixes that are still to be patched, how many more fixes
--- there can be, and the allocator
+-- the bytes, the size that code may have, how many bytes there is room for, which is no more, each label's place, the fixes that are still to be
+-- patched, how many more fixes there can be, and the allocator
 pub record Buffer : Type 0 where
   pub bytes : List ℕ
   pub size : ℕ
+  pub capacity : ℕ
   pub labels : List (Option ℕ)
   pub fixes : List Fix
   pub room : ℕ

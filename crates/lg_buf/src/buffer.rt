@@ -16,11 +16,12 @@ use std::marker::Model;
 /// Bytes that are only appended to, with labels, and with fixes, whose fields are patched at the end. No call but
 /// `new` takes memory.
 ///
-/// In a contract a `CodeBuf` is a `Buffer`: the bytes, how many there can be, the place of each label, the fixes that
-/// are still to be patched, how many more fixes there can be, and the allocator.
+/// In a contract a `CodeBuf` is a `Buffer`: the bytes, the size that code may have, how many bytes there is room for, the
+/// place of each label, the fixes that are still to be patched, how many more fixes there can be, and the allocator.
 #[derive(Drop)]
 pub struct CodeBuf {
     allocator: Global,
+    size: u32,
     store: Store,
     labels: Vec<Option<u32>>,
     fixes: Vec<Fix>,
@@ -37,7 +38,8 @@ impl Model for CodeBuf {
 
     ghost view = { λ b. record {
       bytes = b.store.items;
-      size = b.store.size;
+      size = b.size;
+      capacity = b.store.size;
       labels = b.labels.items;
       fixes = b.fixes.items;
       room = b.room;
@@ -47,7 +49,8 @@ impl Model for CodeBuf {
     ghost invariant = { λ b.
         (vec_len b.fixes + b.room ≤ vec_capacity b.fixes)
         × AreSound (length b.store.items) (length b.labels.items) b.fixes.items
-        × IsRoomFor (length b.labels.items) b.places };
+        × IsRoomFor (length b.labels.items) b.places
+        × (b.store.size ≤ b.size) };
 }
 
 /// What a buffer becomes.
@@ -63,17 +66,36 @@ impl CodeBuf {
     /// An empty buffer for `size` bytes, `labels` labels, none of which is bound, and `fixes` fixes. It also takes the
     /// room of what `finish` hands out.
     pub fn new(alloc: Global, size: u32, labels: u32, fixes: u32) -> Result<CodeBuf, OutOfMemory>
-        ensures bytes { IfOk result (λ b. (b.bytes ≡ []) × (b.size ≡ size)) }
+        ensures bytes { IfOk result (λ b. (b.bytes ≡ []) × (b.size ≡ size) × (b.capacity ≡ size)) }
         ensures labels { IfOk result (λ b. b.labels ≡ replicate labels None) }
         ensures fixes { IfOk result (λ b. (b.fixes ≡ []) × (b.room ≡ fixes)) }
         ensures allocator { IfOk result (λ b. b.allocator ≡ alloc) }
     {
-        let store = Store::new(alloc, size)?;
+        CodeBuf::with_capacity(alloc, size, size, labels, fixes)
+    }
+
+    /// The same for code that may have `size` bytes, with room for `capacity` of them, which is no more: for code that is known to have few
+    /// bytes, so that a large size takes no more memory or time than they do.
+    pub fn with_capacity(
+        alloc: Global,
+        size: u32,
+        capacity: u32,
+        labels: u32,
+        fixes: u32,
+    ) -> Result<CodeBuf, OutOfMemory>
+        requires { capacity ≤ size }
+        ensures bytes { IfOk result (λ b. (b.bytes ≡ []) × (b.size ≡ size) × (b.capacity ≡ capacity)) }
+        ensures labels { IfOk result (λ b. b.labels ≡ replicate labels None) }
+        ensures fixes { IfOk result (λ b. (b.fixes ≡ []) × (b.room ≡ fixes)) }
+        ensures allocator { IfOk result (λ b. b.allocator ≡ alloc) }
+    {
+        let store = Store::new(alloc, capacity)?;
         let unbound = Vec::from_elem(alloc, None, labels as usize)?;
         let no_fixes = Vec::with_capacity(alloc, fixes as usize)?;
         let places = Places::with_room(alloc, labels)?;
         Ok(CodeBuf {
             allocator: alloc,
+            size,
             store,
             labels: unbound,
             fixes: no_fixes,
@@ -89,27 +111,30 @@ impl CodeBuf {
         self.allocator
     }
 
-    /// How many bytes there can be: the size that `new` was given.
+    /// How many bytes the code may have: the size that `new` was given.
     pub fn size(&self) -> u32
         ensures { result ≡ self.now.size }
     {
-        self.store.size()
+        self.size
     }
 
     /// The place behind the last byte, which is the number of bytes.
     pub fn here(&self) -> u32
         ensures value { result ≡ length self.now.bytes }
-        ensures within { length self.now.bytes ≤ self.now.size }
+        ensures within { length self.now.bytes ≤ self.now.capacity }
+        ensures capacity { self.now.capacity ≤ self.now.size }
         ensures small { self.now.size < 2 ^ 32 }
         ensures fixes { All (EndsWithin (length self.now.bytes)) self.now.fixes }
     {
+        // the size fits 32 bits
+        let _size = self.size;
         self.store.len()
     }
 
     /// Appends bytes, or answers false and changes nothing exactly where fewer bytes are free.
     #[must_use]
     pub fn emit(&mut self, piece: &[u8]) -> bool
-        ensures fits { IsTrue result ↔ (length self.old.bytes + length piece.now ≤ self.old.size) }
+        ensures fits { IsTrue result ↔ (length self.old.bytes + length piece.now ≤ self.old.capacity) }
         ensures appended { self.new ≡ (if result then record self.old { bytes = self.old.bytes ++ piece.now } else self.old) }
     {
         if piece.len() > self.store.free() as usize {
@@ -192,6 +217,7 @@ impl CodeBuf {
     {
         let CodeBuf {
             allocator: _,
+            size: _,
             mut store,
             labels,
             fixes,

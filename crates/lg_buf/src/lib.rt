@@ -1,5 +1,5 @@
 //! The buffer into which code is assembled: bytes that are only appended to, labels, and fixes, which are the
-//! fields of instructions that wait for a label's place. All memory is taken once, in `CodeBuf::new`.
+//! fields of instructions that wait for a label's place. All memory is taken once, when it is made.
 #![tactic(auto)]
 
 mod buffer;

@@ -20,7 +20,7 @@ pub fn append<L: Item>(items: &mut Items<L>, buf: &mut CodeBuf) -> bool
     requires short { length (blanks L.holes items.old) ≤ 256 }
     requires room { length (fixes_of L.holes (length buf.old.bytes) items.old) ≤ buf.old.room }
     ensures kept { items.new ≡ items.old }
-    ensures fits { IsTrue result ↔ (length buf.old.bytes + length (blanks L.holes items.old) ≤ buf.old.size) }
+    ensures fits { IsTrue result ↔ (length buf.old.bytes + length (blanks L.holes items.old) ≤ buf.old.capacity) }
     ensures refused { result ≡ false → buf.new ≡ buf.old }
     ensures bytes { IsTrue result → buf.new.bytes ≡ buf.old.bytes ++ blanks L.holes items.old }
     ensures fixes { IsTrue result → buf.new.fixes ≡ buf.old.fixes ++ fixes_of L.holes (length buf.old.bytes) items.old }

@@ -94,7 +94,7 @@ impl<L: Item> Items<L> {
         requires items { Each L.is_item self.old }
         requires short { length (blanks L.holes self.old) ≤ 256 }
         ensures kept { self.new ≡ self.old }
-        ensures fits { IsTrue result ↔ (length buf.old.bytes + length (blanks L.holes self.old) ≤ buf.old.size) }
+        ensures fits { IsTrue result ↔ (length buf.old.bytes + length (blanks L.holes self.old) ≤ buf.old.capacity) }
         ensures appended { buf.new ≡ (if result then record buf.old { bytes = buf.old.bytes ++ blanks L.holes self.old } else buf.old) }
     {
         self.bytes.clear();

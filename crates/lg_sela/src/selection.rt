@@ -55,7 +55,7 @@ pub fn select(
     requires immediates { TakesLabelsWell node.now }
     requires room { 0 < buf.old.room }
     requires whole { length buf.old.bytes % 4 ≡ 0 }
-    ensures refused { result ≡ false → (buf.new ≡ buf.old) × (buf.old.size < length buf.old.bytes + 256) }
+    ensures refused { result ≡ false → (buf.new ≡ buf.old) × (buf.old.capacity < length buf.old.bytes + 256) }
     ensures bytes { IsTrue result → buf.new.bytes ≡ buf.old.bytes ++ drop (length buf.old.bytes) buf.new.bytes }
     ensures short { length buf.new.bytes ≤ length buf.old.bytes + 256 }
     ensures fixes { IsTrue result → buf.new.fixes ≡ buf.old.fixes ++ drop (length buf.old.fixes) buf.new.fixes }

@@ -53,7 +53,7 @@ pub fn select(
     requires labels { NameBelow (length buf.old.labels) node.now.operands }
     requires immediates { TakesLabelsWell node.now }
     requires room { 0 < buf.old.room }
-    ensures refused { result ≡ false → (buf.new ≡ buf.old) × (buf.old.size < length buf.old.bytes + 256) }
+    ensures refused { result ≡ false → (buf.new ≡ buf.old) × (buf.old.capacity < length buf.old.bytes + 256) }
     ensures bytes { IsTrue result → buf.new.bytes ≡ buf.old.bytes ++ drop (length buf.old.bytes) buf.new.bytes }
     ensures short { length buf.new.bytes ≤ length buf.old.bytes + 256 }
     ensures fixes { IsTrue result → buf.new.fixes ≡ buf.old.fixes ++ drop (length buf.old.fixes) buf.new.fixes }

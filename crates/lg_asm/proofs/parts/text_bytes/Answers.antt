@@ -1,5 +1,6 @@
-use Rattle.std.proofs.Common.{◌≡◌, ◌+◌, ◌*◌, ◌<◌, ◌≤◌, length, ℕ, zero, suc, true, List, [], ◌∷◌, Option, Some, refl, sym, ap, subst, ◌∙◌, arith}
+use Rattle.std.proofs.Common.{◌≡◌, ⊎_elim, ◌+◌, ◌*◌, ◌<◌, ◌≤◌, length, ℕ, zero, suc, true, List, [], ◌∷◌, Option, Some, refl, sym, ap, subst, ◌∙◌, arith}
 use Rattle.std.specs.Prelude.{IsTrue, map, slice_index}
+use Rattle.std.proofs.lemmas.Bool.{cases_lt}
 use Rattle.std.proofs.lemmas.List.{length-map}
 use Rattle.lg_base.specs.declared.target.Target.{Target}
 use Rattle.lg_buf.specs.Buffers.{Buffer, place_of, place_or_zero, AreDone}
@@ -34,19 +35,26 @@ pub returns-clause-given : goal.returns-clause-given
 returns-clause-given c =
     given c.args.target c.args.nodes.now c.args.shape.now c.args.live.now c.args.size c.lower.new.places.items c.lower.new.buf c.finish-finished.result.bytes.items c.finish-finished.result.places.items
     (c.lower.ensures.lowered (subst IsTrue (sym c.if-not-lower.false) is-true))
-    (let z = c.lower.ensures.size in let e = c.in-Ok.ensures.bytes.1 in omega (arith, z, e))
-    (let w = c.here-end.ensures.within in let z = c.lower.ensures.size in let e = c.in-Ok.ensures.bytes.1 in omega (arith, w, z, e))
+    (c.lower.ensures.size ∙ c.in-Ok.ensures.bytes.1)
+    (let w = c.here-end.ensures.within in let k = c.here-end.ensures.capacity in let z = c.lower.ensures.size in let e = c.in-Ok.ensures.bytes.1 in omega (arith, w, k, z, e))
     c.finish-finished.ensures.bytes c.see_bytes.ensures c.finish-finished.ensures.places
 
--- where the run over the nodes was full, they have no room
-full-for : (target : Target) (l : LabelledNodes) (shape : TextShape) (sets : LiveSets) (size : ℕ) (places : List ℕ) (buf : Buffer) → AreLive l shape sets → buf.size ≡ size → IsFull target l shape sets places buf
-    → (size < 256 * length l.nodes + 256) × HasNoRoomFor target l shape size
-full-for target l shape sets size places buf live sized full = (
-  (let f = full.full in let g = full.few in let b = full.below in omega (arith, f, g, b, sized)),
-  record { sets = sets; live = live; places = places; buf = buf; size_is = sized; full = full },
-)
+-- where the run over the nodes was full, they have no room: there was room for the whole size
+full-for : (target : Target) (l : LabelledNodes) (shape : TextShape) (sets : LiveSets) (room size : ℕ) (places : List ℕ) (buf : Buffer) → AreLive l shape sets → room ≤ size → (room < size → 256 * length l.nodes + 256 ≤ room)
+    → buf.size ≡ size → buf.capacity ≡ room → IsFull target l shape sets places buf → (size < 256 * length l.nodes + 256) × HasNoRoomFor target l shape size
+full-for target l shape sets room size places buf live within enough sized roomy full = (
+  (let f = full.full in let g = full.few in let b = full.below in omega (arith, f, g, b, whole)),
+  record { sets = sets; live = live; places = places; buf = buf; size_is = sized; capacity_is = whole; full = full },
+) where
+  whole : buf.capacity ≡ size
+  whole = ⊎_elim
+      (λ (less : room < size). let f = full.full in let g = full.few in let b = full.below in let e = enough less in absurd (omega (arith, f, g, b, e, roomy)))
+      (λ (all : size ≤ room). omega (arith, all, within, roomy))
+      (cases_lt room size)
 
 pub returns-then-not-lower-clause-refused : goal.returns-then-not-lower-clause-refused
 returns-then-not-lower-clause-refused c =
-    let h = full-for c.args.target c.args.nodes.now c.args.shape.now c.args.live.now c.args.size c.lower.new.places.items c.lower.new.buf c.requires.live (c.lower.ensures.size ∙ c.in-Ok.ensures.bytes.1) (c.lower.ensures.refused c.if-not-lower.true) in
+    let h = full-for c.args.target c.args.nodes.now c.args.shape.now c.args.live.now c.room_for-room.result c.args.size c.lower.new.places.items c.lower.new.buf c.requires.live
+    c.room_for-room.ensures.within (λ less. let e = c.room_for-room.ensures.enough less in let n = c.len-count.ensures in omega (arith, e, n)) (c.lower.ensures.size ∙ c.in-Ok.ensures.bytes.1) (c.lower.ensures.capacity ∙ c.in-Ok.ensures.bytes.2)
+    (c.lower.ensures.refused c.if-not-lower.true) in
     (refl, h.0, h.1)

@@ -17,4 +17,5 @@ invariant_of-self c =
       omega (arith, i.0, room, len, capacity),
       subst (AreSound (length b.store.items) (length b.labels.items)) (sym c.push_reserved.ensures.items) (sound_push (length b.store.items) (length b.labels.items) b.fixes.items f i.1 ends label apart),
       i.2,
+      i.3,
     )
