@@ -1,6 +1,10 @@
 -- A number of digits only grows as further digits come, and it fits a word or it does not.
-use Rattle.std.proofs.Common.{◌≡◌, ℕ, ◌+◌, ◌<◌, ◌≤◌, ◌^◌, ltb, List, [], ◌∷◌, length, get_or, take, drop, sym, ap, ◌∙◌, arith, Some, None}
+use Rattle.std.proofs.Common.{◌≡◌, ℕ, ◌+◌, ◌*◌, ◌<◌, ◌≤◌, ◌^◌, ltb, List, [], ◌∷◌, length, get_or, take, drop, sym, ap, subst, ◌∙◌, arith, Option, Some, None, ◌⊎◌, inl, inr}
 use Rattle.std.specs.List.{fold}
+use Rattle.std.specs.Char.{digit_value}
+use Rattle.std.specs.Option.{unwrap_or}
+use Rattle.std.specs.Prelude.{SomeIff}
+use Rattle.std.proofs.lemmas.Bool.{cases_lt}
 use Rattle.std.proofs.lemmas.List.{take-append-drop}
 use Rattle.std.proofs.lemmas.List.Sums.{fold_more, fold-append}
 use Rattle.std.proofs.lemmas.Option.{cond_some}
@@ -42,3 +46,32 @@ first_digits_below radix digits i h =
     let parts = sym (fold-append (with_digit radix) 0 (take i digits) (drop i digits)) ∙ ap (fold (with_digit radix) 0) (take-append-drop i digits) in
     let more = grows radix (digits_value radix (take i digits)) (drop i digits) h in
     omega arith
+
+digit_most : (c : ℕ) → digit_value c ≤ 36
+digit_most c = grind (arith, nat_tests)
+
+-- a digit of a radix up to 36, and 36 where there is none
+pub digit_or : (c : ℕ) (o : Option ℕ) → SomeIff o (digit_value c < 36) (digit_value c) → unwrap_or o 36 ≡ digit_value c
+digit_or c (Some x) is = is.1
+digit_or c None is = by (cases_lt (digit_value c) 36)
+  where
+    by : (digit_value c < 36) ⊎ (36 ≤ digit_value c) → 36 ≡ digit_value c
+    by (inl less) = absurd (is less)
+    by (inr more) = let most : digit_value c ≤ 36 = digit_most c in omega (arith, more, most)
+
+-- a sum that is kept where it fits is the number where that fits
+pub sum_narrowed : (o : Option ℕ) (n m : ℕ) → SomeIff o (n < 2 ^ 64) n → n ≡ m → o ≡ narrowed m
+sum_narrowed (Some x) n m is same = ap (λ v. Some v) is.1 ∙ sym (narrowed-fits n is.0) ∙ ap narrowed same
+sum_narrowed None n m is same = by (cases_lt n (2 ^ 64))
+  where
+    by : (n < 2 ^ 64) ⊎ (2 ^ 64 ≤ n) → None ≡ narrowed m
+    by (inl less) = absurd (is less)
+    by (inr more) = sym (narrowed-wide n more) ∙ ap narrowed same
+
+-- a product that does not fit makes a number that does not
+pub product_wide : (n r radix d : ℕ) → (n * r < 2 ^ 64 → ⊥) → r ≡ radix → None ≡ narrowed (n * radix + d)
+product_wide n r radix d wide same = by (cases_lt (n * r) (2 ^ 64))
+  where
+    by : (n * r < 2 ^ 64) ⊎ (2 ^ 64 ≤ n * r) → None ≡ narrowed (n * radix + d)
+    by (inl less) = absurd (wide less)
+    by (inr more) = let here : 2 ^ 64 ≤ n * radix = subst (λ (k : ℕ). 2 ^ 64 ≤ n * k) same more in sym (narrowed-wide (n * radix + d) (omega (arith, here)))
