@@ -1,7 +1,7 @@
 // What a step answers.
 
 /// What a step of the portable machine answers.
-#[derive(Clone, Copy, Debug, PartialEq, Eq)]
+#[derive(Clone, Copy, Debug)]
 pub enum MeanStep {
     /// The step went, and the run goes on.
     Went,

@@ -15,7 +15,7 @@ use lg_meaning::laws::steps_are_those_of_the_meaning;
 use lg_node::{Shape, Unit};
 
 /// What a run of the portable machine came to.
-#[derive(Clone, Copy, Debug, PartialEq, Eq)]
+#[derive(Clone, Copy, Debug)]
 pub enum RunEnd {
     /// It has ended with this status.
     Ended(u8),
