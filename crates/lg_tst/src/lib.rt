@@ -29,7 +29,9 @@ pub fn parse(alloc: Global, text: &[u8]) -> Result<Unit, Stop>
     ensures unit { Reads result (unit_of text.now) }
     ensures whole { IfOk result IsWhole }
 {
-    let mut parser = Parser::new(alloc, text)?;
+    let Ok(mut parser) = Parser::new(alloc, text) else {
+        return Err(Stop::OutOfMemory);
+    };
     parser.statements()?;
     parser.into_unit()
 }

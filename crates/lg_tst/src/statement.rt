@@ -9,7 +9,7 @@ use lg_lex::TokenKind;
 use lg_op::{Op, PlainOp};
 
 /// The section in which a statement stands.
-#[derive(Clone, Copy, PartialEq, Eq)]
+#[derive(Clone, Copy)]
 pub enum Section {
     /// Instructions.
     Code,
@@ -18,7 +18,7 @@ pub enum Section {
 }
 
 /// The size of a value of a data item.
-#[derive(Clone, Copy, PartialEq, Eq)]
+#[derive(Clone, Copy)]
 pub enum ItemSize {
     /// 1 byte, of `.c`.
     One,
@@ -31,7 +31,7 @@ pub enum ItemSize {
 }
 
 /// The statements, by what they begin with.
-#[derive(Clone, Copy, PartialEq, Eq)]
+#[derive(Clone, Copy)]
 pub enum Statement {
     /// `.data N`: the data part has N bytes, and the data section begins.
     Data,

@@ -10,7 +10,7 @@ use lg_lex::bytes::behind;
 use lg_op::{Op, Reg};
 
 /// The directives of a text, and those of floating point.
-#[derive(Clone, Copy, PartialEq, Eq)]
+#[derive(Clone, Copy)]
 pub enum Directive {
     /// `.data`, the data section and its size.
     Data,
