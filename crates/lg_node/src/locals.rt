@@ -29,7 +29,7 @@ impl Model for Locals {
 }
 
 /// A local: the `allocai` that makes it, and where it lies.
-#[derive(Clone, Copy, Debug)]
+#[derive(Clone, Copy)]
 pub struct Local {
     /// The `allocai`, which is appended in its function, behind those of the locals before it.
     pub node: Node,

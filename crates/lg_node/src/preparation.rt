@@ -1,7 +1,7 @@
 // A call that is being prepared.
 
 /// What is known of a call between its `prepare` and its `finishr` or `finishi`.
-#[derive(Clone, Copy, PartialEq, Eq)]
+#[derive(Clone, Copy)]
 pub struct Preparation {
     /// How many arguments were pushed.
     pub pushed: u32,

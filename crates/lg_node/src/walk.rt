@@ -11,7 +11,7 @@ use crate::preparation::Preparation;
 use lg_op::{ControlOp, Node, Op, Operand, PlainOp};
 
 /// What is known before a node.
-#[derive(Clone, Copy, PartialEq, Eq)]
+#[derive(Clone, Copy)]
 pub struct Walk {
     /// The `prolog` of the function that is open.
     pub function: Option<u32>,
