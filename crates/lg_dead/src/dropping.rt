@@ -1,12 +1,14 @@
 // Definitions that nothing needs are dropped.
 
-ghost use Rattle.std.specs.Prelude.{◌≡◌, ◌≤◌, length, IfOk};
+ghost use Rattle.std.specs.Prelude.{◌≡◌, ◌≤◌, List, length, IfOk};
 ghost use Rattle.lg_live.specs.Definitions.{defines};
+ghost use Rattle.lg_live.specs.Needs.{AreNeeded};
+ghost use Rattle.lg_live.specs.declared.reg_set.RegSet.{RegSet};
 ghost use Rattle.lg_node.specs.Shapes.{IsShapeOf};
 ghost use Rattle.lg_opt.specs.Rewritings.{IsOrigin, IsSameNode, KeepsOthers, KeepsLabels, CarriesAddresses, RunsAreDropped};
 ghost use Rattle.lg_dead.specs.Known.{HasNoFolds};
 ghost use Rattle.lg_dead.specs.Dead.{AllAreOfUse};
-ghost use Rattle.lg_dead.specs.Dropping.{IsDroppedTo};
+ghost use Rattle.lg_dead.specs.Dropping.{AreStays, IsDroppedTo};
 
 use crate::staying::staying;
 use lg_base::OutOfMemory;
@@ -16,15 +18,26 @@ use lg_opt::Rewritten;
 use lg_opt::rewritten::remade;
 use std::alloc::Global;
 
+// Of each node whether it stays: all but the definitions that nothing needs.
+fn stays_of(alloc: Global, nodes: &NodeList, shape: &Shape) -> Result<Vec<bool>, OutOfMemory>
+    requires { IsShapeOf nodes.now shape.now }
+    ensures count { IfOk result (λ table. length table.items ≡ length nodes.now.nodes) }
+    ensures stays { IfOk result (λ table. (sets : List RegSet) × AreNeeded nodes.now shape.now sets × AreStays nodes.now sets table.items) }
+{
+    let needs = needs(alloc, nodes, shape)?;
+    staying(alloc, nodes, &needs)
+}
+
 // The nodes without the definitions that nothing needs.
 fn dropped(alloc: Global, nodes: NodeList, shape: Shape) -> Result<Rewritten, OutOfMemory>
     requires { IsShapeOf nodes shape }
     ensures { IfOk result (λ r. IsDroppedTo nodes shape r.nodes r.shape r.origin.items) }
 {
     nodes.what_holds();
-    let needs = needs(alloc, &nodes, &shape)?;
-    let stays = staying(alloc, &nodes, &needs)?;
-    remade(alloc, nodes, shape, &stays, &[])
+    match stays_of(alloc, &nodes, &shape) {
+        Ok(stays) => remade(alloc, nodes, shape, &stays, &[]),
+        Err(error) => Err(error),
+    }
 }
 
 /// Drops each definition whose words can come to no node that is no definition, in one pass. A label of a dropped node moves to the next that stays.
@@ -46,8 +59,8 @@ pub fn drop_dead(alloc: Global, nodes: &NodeList, shape: &Shape) -> Result<Rewri
     ensures runs { IfOk result (λ r. RunsAreDropped nodes.now shape.now r.nodes r.shape r.origin.items) }
     ensures made { IfOk result (λ r. IsDroppedTo nodes.now shape.now r.nodes r.shape r.origin.items) }
 {
-    let nodes = nodes.copy(alloc)?;
     let shape = shape.copy(alloc)?;
+    let nodes = nodes.copy(alloc)?;
     without_dead_definitions(alloc, nodes, shape)
 }
 

@@ -208,9 +208,17 @@ impl Known {
         self.note(node);
     }
 
-    /// Goes on behind a node of the straight run: where nothing was known, only a `movi` makes something known.
+    // Whether a node may change what is known: where nothing is, only a `movi` does.
     #[inline(always)]
     #[tactic(auto, using(crate::proofs::NoneLemmas::none_behind))]
+    fn may_change(&self, node: &Node) -> bool
+        ensures { result ≡ false → (r : Reg) → known_of self.now r ≡ known_behind (known_of self.now) node.now r }
+    {
+        self.some || is_movi(node.op)
+    }
+
+    /// Goes on behind a node of the straight run: where nothing was known, only a `movi` makes something known.
+    #[inline(always)]
     pub fn pass(&mut self, node: &Node)
         ensures r0 { known_of self.new R0 ≡ known_behind (known_of self.old) node.now R0 }
         ensures r1 { known_of self.new R1 ≡ known_behind (known_of self.old) node.now R1 }
@@ -219,7 +227,7 @@ impl Known {
         ensures v1 { known_of self.new V1 ≡ known_behind (known_of self.old) node.now V1 }
         ensures v2 { known_of self.new V2 ≡ known_behind (known_of self.old) node.now V2 }
     {
-        if self.some || is_movi(node.op) {
+        if self.may_change(node) {
             self.pass_each(node);
         }
     }

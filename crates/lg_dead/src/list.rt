@@ -6,7 +6,7 @@ ghost use Rattle.lg_op.specs.declared.operand.Reg.TheVariants.{R0, R1, R2, V0, V
 ghost use Rattle.lg_op.specs.Nodes.{InForm};
 ghost use Rattle.lg_node.specs.Nodes.{with_node};
 ghost use Rattle.lg_node.specs.Shapes.{IsShapeOf};
-ghost use Rattle.lg_opt.specs.Rewritings.{marked, IsOrigin, KeepsOthers, KeepsLabels, CarriesAddresses, RunsAreDropped};
+ghost use Rattle.lg_opt.specs.Rewritings.{marked, unbound, IsOrigin, KeepsOthers, KeepsLabels, CarriesAddresses, RunsAreDropped};
 ghost use Rattle.lg_opt.specs.Targets.{AreLabelsAt};
 ghost use Rattle.lg_dead.specs.Known.{folded, known_at, HasNoFolds};
 ghost use Rattle.lg_dead.specs.Folds.{IsFoldedNode, IsFoldedTo};
@@ -107,19 +107,39 @@ fn all_stay(alloc: Global, nodes: &NodeList) -> Result<Vec<bool>, OutOfMemory>
     Ok(vec![in alloc; true; nodes.len() as usize]?)
 }
 
+// Appends the nodes, folded, to a list that has the labels, and binds these where they were.
+fn fill(
+    alloc: Global,
+    list: &mut NodeList,
+    nodes: &NodeList,
+    stays: &[bool],
+) -> Result<(), OutOfMemory>
+    requires list { list.old ≡ unbound nodes.now.words }
+    requires count { length stays.now ≡ length nodes.now.nodes }
+    requires stays { (i : ℕ) → i < length nodes.now.nodes → marked stays.now i ≡ true }
+    ensures { OnOk result (IsFoldedTo nodes.now list.new) }
+{
+    nodes.what_holds();
+    let labels = labels_at(alloc, nodes)?;
+    push_folded(list, nodes, &labels)?;
+    let numbers = numbers(alloc, stays)?;
+    bind_moved(list, nodes, &numbers);
+    Ok(())
+}
+
 // The folded nodes, with the labels where they were.
 fn folded_nodes(alloc: Global, nodes: &NodeList, stays: &[bool]) -> Result<NodeList, OutOfMemory>
     requires count { length stays.now ≡ length nodes.now.nodes }
     requires stays { (i : ℕ) → i < length nodes.now.nodes → marked stays.now i ≡ true }
     ensures { IfOk result (λ m. IsFoldedTo nodes.now m) }
 {
-    nodes.what_holds();
-    let labels = labels_at(alloc, nodes)?;
-    let mut list = unbound(alloc, nodes)?;
-    push_folded(&mut list, nodes, &labels)?;
-    let numbers = numbers(alloc, stays)?;
-    bind_moved(&mut list, nodes, &numbers);
-    Ok(list)
+    match unbound(alloc, nodes) {
+        Ok(mut list) => match fill(alloc, &mut list, nodes, stays) {
+            Ok(()) => Ok(list),
+            Err(error) => Err(error),
+        },
+        Err(error) => Err(error),
+    }
 }
 
 // The folded nodes, with their shape, which is the old one's.
@@ -129,14 +149,16 @@ fn folded_list(alloc: Global, nodes: &NodeList, shape: &Shape) -> Result<Rewritt
 {
     nodes.what_holds();
     let stays = all_stay(alloc, nodes)?;
-    let list = folded_nodes(alloc, nodes, &stays)?;
-    let shape = shape.copy(alloc)?;
     let origin = origin(alloc, &stays)?;
-    Ok(Rewritten {
-        nodes: list,
-        shape,
-        origin,
-    })
+    let shape = shape.copy(alloc)?;
+    match folded_nodes(alloc, nodes, &stays) {
+        Ok(nodes) => Ok(Rewritten {
+            nodes,
+            shape,
+            origin,
+        }),
+        Err(error) => Err(error),
+    }
 }
 
 /// Folds the numbers that are known in each straight run: a node that makes a word of words that are known becomes the `movi` of that word, and one

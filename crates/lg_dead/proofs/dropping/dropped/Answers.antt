@@ -16,13 +16,13 @@ pub remade-requires : goal.remade-requires
 remade-requires c =
     let l = c.args.nodes in
     let s = c.args.shape in
-    let sets = c.in_ok-needs.needs.items in
+    let sets = c.in-Ok.ensures.stays.0 in
     let keep = stays (needs_in sets) l in
-    let now = c.deref-2.result.now in
-    let count = ap length c.deref-2.ensures.value ∙ c.in_ok-stays.ensures.0 in
-    let are : (i : ℕ) → i < length l.nodes → marked now i ≡ stays (needs_in sets) l i = λ i lt. ap (λ xs. marked xs i) c.deref-2.ensures.value ∙ c.in_ok-stays.ensures.1 i (omega (arith, lt, c.in_ok-stays.ensures.0)) ∙ ap (λ ys. stays (needs_in ys) l i) c.deref.ensures.value in
+    let now = c.deref.result.now in
+    let count = ap length c.deref.ensures.value ∙ c.in-Ok.ensures.count in
+    let are : (i : ℕ) → i < length l.nodes → marked now i ≡ stays (needs_in sets) l i = λ i lt. ap (λ xs. marked xs i) c.deref.ensures.value ∙ c.in-Ok.ensures.stays.2 i (omega (arith, lt, c.in-Ok.ensures.count)) in
     let list = list-is l keep now count are [] no_targets (λ i lt. refl) c.what_holds.ensures.placed (rewritten l (marked now) (target_in [])) refl in
-    let needs = are-needs l s (needs_in sets) (exact-in l s sets c.in_ok-needs.ensures) (no-fp-in sets) in
+    let needs = are-needs l s (needs_in sets) (exact-in l s sets c.in-Ok.ensures.stays.1) (no-fp-in sets) in
     record {
       count = count;
       targets = λ i n y e t. cc;
@@ -30,21 +30,21 @@ remade-requires c =
       accepted = subst IsAccepted (sym list) (accepted l keep no_targets (gone-rewrite l s s keep (needs_in sets) [] c.requires c.what_holds.ensures.formed needs) c.requires.accepted);
     }
 
-pub returns : goal.returns
-returns c =
+pub returns-in-Ok : goal.returns-in-Ok
+returns-in-Ok c =
     let l = c.args.nodes in
     let s = c.args.shape in
-    let sets = c.in_ok-needs.needs.items in
+    let sets = c.in-Ok.ensures.stays.0 in
     let keep = stays (needs_in sets) l in
-    let now = c.deref-2.result.now in
-    let count = ap length c.deref-2.ensures.value ∙ c.in_ok-stays.ensures.0 in
-    let are : (i : ℕ) → i < length l.nodes → marked now i ≡ stays (needs_in sets) l i = λ i lt. ap (λ xs. marked xs i) c.deref-2.ensures.value ∙ c.in_ok-stays.ensures.1 i (omega (arith, lt, c.in_ok-stays.ensures.0)) ∙ ap (λ ys. stays (needs_in ys) l i) c.deref.ensures.value in
+    let now = c.deref.result.now in
+    let count = ap length c.deref.ensures.value ∙ c.in-Ok.ensures.count in
+    let are : (i : ℕ) → i < length l.nodes → marked now i ≡ stays (needs_in sets) l i = λ i lt. ap (λ xs. marked xs i) c.deref.ensures.value ∙ c.in-Ok.ensures.stays.2 i (omega (arith, lt, c.in-Ok.ensures.count)) in
     let list = list-is l keep now count are [] no_targets (λ i lt. refl) c.what_holds.ensures.placed (rewritten l (marked now) (target_in [])) refl in
     all-ok (λ r. r.nodes ≡ rewritten l (marked now) (target_in [])) (λ r. IsShapeOf r.nodes r.shape) (λ r. r.shape.taken ≡ s.taken) (λ r. r.origin.items ≡ origins (marked now) (length now))
     (λ r. IsDroppedTo l s r.nodes r.shape r.origin.items) c.remade.result
     (λ r n f t o. record {
       needs = needs_in sets;
-      exact = exact-in l s sets c.in_ok-needs.ensures;
+      exact = exact-in l s sets c.in-Ok.ensures.stays.1;
       fp = no-fp-in sets;
       nodes = n ∙ list;
       shaped = f;

@@ -5,7 +5,7 @@ use Rattle.lg_opt.specs.Rewritings.{marked}
 use Rattle.lg_opt.proofs.RemainingLemmas.{number-all}
 use Rattle.lg_opt.proofs.RebuildLemmas.{from-parts, moved-same}
 use Rattle.lg_dead.proofs.FoldListLemmas.{places-kept, folded-to}
-use Rattle.lg_dead.proofs.list.folded_nodes.Goals as goal
+use Rattle.lg_dead.proofs.list.fill.Goals as goal
 
 pub bind_moved-requires-clause-few : goal.bind_moved-requires-clause-few
 bind_moved-requires-clause-few c = λ k le.
@@ -23,6 +23,6 @@ returns c =
     ∙ number-all (marked c.args.stays.now) k (λ i lt. c.requires.stays i (omega (arith, lt, le))) in
     let list = from-parts c.bind_moved.new.list ns l.words l.places
     (ap (λ (x : LabelledNodes). x.nodes) c.bind_moved.ensures)
-    (ap (λ (x : LabelledNodes). x.words) c.bind_moved.ensures ∙ ap (λ (x : LabelledNodes). x.words) c.in_ok-push_folded.ensures.list ∙ ap (λ (x : LabelledNodes). x.words) c.in_ok-list.ensures)
+    (ap (λ (x : LabelledNodes). x.words) c.bind_moved.ensures ∙ ap (λ (x : LabelledNodes). x.words) c.in_ok-push_folded.ensures.list ∙ ap (λ (x : LabelledNodes). x.words) c.requires.list)
     (ap (λ (x : LabelledNodes). x.places) c.bind_moved.ensures ∙ moved-same (slice_index c.deref-2.result.now) (λ k. k) (length l.nodes) numbers l.places c.what_holds.ensures.placed ∙ places-kept l.places) in
     folded-to l c.bind_moved.new.list ns c.in_ok-push_folded.ensures.folded list
