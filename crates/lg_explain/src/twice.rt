@@ -1,6 +1,6 @@
 // The word that a text makes a second time: of a label, or of a name of a function.
 
-ghost use Rattle.std.specs.Prelude.{◌≡◌, ◌≤◌, ◌<◌, drop, length, IfOk, OnOk};
+ghost use Rattle.std.specs.Prelude.{◌≡◌, ◌≤◌, ◌<◌, [], drop, length, IfOk, OnOk};
 ghost use Rattle.std.specs.Option.{option_map};
 ghost use Rattle.lg_explain.specs.Lines.{shown};
 ghost use Rattle.lg_explain.specs.Twice.{again, begins_function, forms_behind, forms_by, forms_of_word, labels_behind, made_again, made_twice, makes_label, makes_name, makes_name_in, names_behind};
@@ -195,24 +195,39 @@ fn text_of(text: &[u8], token: Token) -> &[u8]
     &text[token.start as usize..token.end as usize]
 }
 
+// The first word of a text that is made a second time, as it is shown, where these words were made before it: none.
+fn first_again(
+    alloc: Global,
+    text: &[u8],
+    labels: &mut Made,
+    names: &mut Made,
+) -> Result<Option<Shown>, OutOfMemory>
+    requires short { length text.now ≤ 16777216 }
+    requires labels { labels.old ≡ [] }
+    requires names { names.old ≡ [] }
+    ensures { IfOk result (λ word. word ≡ option_map shown (made_twice text.now)) }
+{
+    let mut lexer = Lexer::new(text);
+    let mut forms: &'static [Form] = &[];
+    while let Ok(Some(token)) = lexer.next() {
+        let bytes = text_of(text, token);
+        if let Some(word) = again(forms, token.kind, bytes, labels, names) {
+            return Ok(Some(word));
+        }
+        make_label(forms, token.kind, bytes, labels)?;
+        make_name(alloc, forms, token.kind, bytes, names)?;
+        forms = forms_behind(forms, token.kind, bytes);
+    }
+    Ok(None)
+}
+
 /// The first word of a text of at most 16,777,216 bytes that is made a second time, as it is shown: of a label, or of a name where `arg` or `allocai` makes
 /// it, which its function made before.
 pub fn made_twice(alloc: Global, text: &[u8]) -> Result<Option<Shown>, OutOfMemory>
     requires { length text.now ≤ 16777216 }
     ensures { IfOk result (λ word. word ≡ option_map shown (made_twice text.now)) }
 {
-    let mut lexer = Lexer::new(text);
     let mut labels = Made::new(alloc);
     let mut names = Made::new(alloc);
-    let mut forms: &'static [Form] = &[];
-    while let Ok(Some(token)) = lexer.next() {
-        let bytes = text_of(text, token);
-        if let Some(word) = again(forms, token.kind, bytes, &labels, &names) {
-            return Ok(Some(word));
-        }
-        make_label(forms, token.kind, bytes, &mut labels)?;
-        make_name(alloc, forms, token.kind, bytes, &mut names)?;
-        forms = forms_behind(forms, token.kind, bytes);
-    }
-    Ok(None)
+    first_again(alloc, text, &mut labels, &mut names)
 }

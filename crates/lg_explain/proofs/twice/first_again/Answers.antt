@@ -6,8 +6,8 @@ use Rattle.lg_tst.specs.Streams.{text_of}
 use Rattle.lg_explain.specs.Lines.{shown}
 use Rattle.lg_explain.specs.Twice.{again, forms_behind, labels_behind, made_twice, names_behind, twice_from}
 use Rattle.lg_explain.proofs.TwiceLemmas.{at_end, found_here, left_behind, next}
-use Rattle.lg_explain.proofs.twice.made_twice.Goals.{in_default, in_default-2}
-use Rattle.lg_explain.proofs.twice.made_twice.Goals as goal
+use Rattle.lg_explain.proofs.twice.first_again.Goals.{in_default, in_default-2}
+use Rattle.lg_explain.proofs.twice.first_again.Goals as goal
 
 pub loop-token-init : goal.loop-token-init
 loop-token-init c =
@@ -16,7 +16,7 @@ loop-token-init c =
     record {
       place = 0;
       order = subst (λ t. AreInOrder text 0 t.0) (sym e.tokens) e.order;
-      same = λ i. twice_from text (e.tokens i).0 (c.new-labels.ensures i) (c.new-names.ensures i) [];
+      same = λ i. twice_from text (e.tokens i).0 (c.requires.labels i) (c.requires.names i) [];
     }
 
 pub text_of-bytes-requires-clause-order : goal.text_of-bytes-requires-clause-order

@@ -1,7 +1,7 @@
 use Rattle.std.proofs.Common.{length}
 use Rattle.lg_explain.specs.Twice.{made_twice}
 use Rattle.lg_explain.proofs.TwiceLemmas.{IsLeft}
-use Rattle.lg_explain.proofs.twice.made_twice.Given as goal
+use Rattle.lg_explain.proofs.twice.first_again.Given as goal
 
 abbrev pub decreases-loop-token : goal.decreases-loop-token
 decreases-loop-token l = length l.lexer.0
