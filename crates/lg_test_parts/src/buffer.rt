@@ -1,41 +1,20 @@
 // A full buffer, labels that are bound behind their fixes, and each kind of fix at the edges of its reach. The words
 // are those that `llvm-mc` 14 gives for these instructions.
 
-ghost use Rattle.std.specs.Prelude.{◌≡◌, ◌+◌, ◌<◌, ◌≤◌, ◌↔◌, ◌++◌, [], ◌∷◌, length, IsTrue};
+ghost use Rattle.std.specs.Prelude.{◌≡◌, ◌+◌, ◌<◌, ◌++◌, ◌∷◌, [], length, replicate, None, IsTrue};
+ghost use Rattle.std.specs.List.{All};
+ghost use Rattle.lg_buf.specs.Buffers.{IsReady};
 
 use lg_base::OutOfMemory;
 use lg_buf::*;
 use std::alloc::Global;
 use std::test::Fail;
 
-#[test]
-fn patches_a_branch(rt: HostRuntime) -> Result<(), Fail> {
-    let mut buf = CodeBuf::new(rt.alloc(), 8, 1, 1)?;
-    assert!(rt; buf.emit(&[0x63, 0x84, 0x62, 0x00]));
-    assert!(rt; buf.emit(&[0x93, 0x02, 0x10, 0x00]));
-    assert!(rt; !buf.emit(&[0]));
-    assert_eq!(rt; buf.here(), 8);
-    assert!(rt; !buf.patch(0, FixKind::RvBranch, 4096));
-    assert!(rt; buf.patch(0, FixKind::RvBranch, 4));
-    let done = buf.finish();
-    assert_eq!(rt;
-        done.bytes.as_slice(),
-        [0x63, 0x82, 0x62, 0x00, 0x93, 0x02, 0x10, 0x00].as_slice()
-    );
-    assert_eq!(rt; done.places.as_slice(), [0].as_slice());
-    Ok(())
-}
-
-// appends `beq x5, x6` to a label
+// Appends `beq x5, x6` to a label.
 fn branch_to(buf: &mut CodeBuf, label: CodeLabel) -> bool
     requires label { label.0 < length buf.old.labels }
     requires room { 0 < buf.old.room }
-    ensures fits { IsTrue result ↔ (length buf.old.bytes + 4 ≤ buf.old.size) }
-    ensures appended { IsTrue result → buf.new ≡ record buf.old {
-      bytes = buf.old.bytes ++ 0x63 ∷ 0x80 ∷ 0x62 ∷ 0 ∷ [];
-      fixes = buf.old.fixes ++ record { place = length buf.old.bytes; kind = FixKind.RvBranch; label = label } ∷ [];
-      room = buf.new.room;
-    } }
+    ensures labels { IsTrue result → buf.new.labels ≡ buf.old.labels }
     ensures room { IsTrue result → buf.new.room + 1 ≡ buf.old.room }
 {
     let place = buf.here();
@@ -46,90 +25,137 @@ fn branch_to(buf: &mut CodeBuf, label: CodeLabel) -> bool
     true
 }
 
-#[test]
-fn leads_to_labels(rt: HostRuntime) -> Result<(), Fail> {
-    let mut buf = CodeBuf::new(rt.alloc(), 12, 3, 2)?;
+// Appends a branch to a label behind it, a nop, and a branch to a label at the start.
+fn put_branches(buf: &mut CodeBuf) -> bool
+    requires labels { buf.old.labels ≡ replicate 3 None }
+    requires room { buf.old.room ≡ 2 }
+    ensures ready { IsTrue result → All (IsReady buf.new.labels) buf.new.fixes }
+{
     buf.bind(CodeLabel(1));
-    assert!(rt; branch_to(&mut buf, CodeLabel(2)));
-    assert!(rt; buf.emit(&[0x13, 0x00, 0x00, 0x00]));
-    assert!(rt; branch_to(&mut buf, CodeLabel(1)));
+    if !branch_to(buf, CodeLabel(2))
+        || !buf.emit(&[0x13, 0x00, 0x00, 0x00])
+        || !branch_to(buf, CodeLabel(1))
+    {
+        return false;
+    }
     buf.bind(CodeLabel(2));
-    let done = buf.finish();
-    assert_eq!(rt;
-        done.bytes.as_slice(),
-        [
-            0x63, 0x86, 0x62, 0x00, 0x13, 0x00, 0x00, 0x00, 0xe3, 0x8c, 0x62, 0xfe
-        ]
-        .as_slice()
-    );
-    assert_eq!(rt; done.places.as_slice(), [0, 0, 12].as_slice());
-    Ok(())
+    buf.is_ready()
 }
 
-// appends so many zeros, piece by piece
-fn pad(buf: &mut CodeBuf, zeros: &[u8], count: usize) -> bool
-    ensures { buf.new ≡ record buf.old { bytes = buf.new.bytes } }
-{
-    let mut left = count;
-    while left > 0 {
-        let piece = left.min(zeros.len());
-        if piece == 0 || !buf.emit(&zeros[..piece]) {
+// The code of these branches.
+const BRANCHES: &[u8] = &[
+    0x63, 0x86, 0x62, 0x00, 0x13, 0x00, 0x00, 0x00, 0xe3, 0x8c, 0x62, 0xfe,
+];
+
+fn leads_to_labels(alloc: Global) -> Result<bool, OutOfMemory> {
+    let mut buf = CodeBuf::new(alloc, 12, 3, 2)?;
+    if !put_branches(&mut buf) {
+        return Ok(false);
+    }
+    let done = buf.finish();
+    Ok(done.bytes.as_slice() == BRANCHES && done.places.as_slice() == [0, 0, 12].as_slice())
+}
+
+// How many zeros are appended at once.
+const PIECE: usize = 0x10_0000;
+
+// Appends so many zeros.
+fn pad(buf: &mut CodeBuf, zeros: &[u8], count: usize) -> bool {
+    for _ in 0..count / PIECE {
+        if !buf.emit(zeros) {
             return false;
         }
-        left -= piece;
     }
-    true
+    match zeros.get(..count % PIECE) {
+        Some(rest) => buf.emit(rest),
+        None => false,
+    }
 }
 
-// appends zeros and code behind them
-fn put(buf: &mut CodeBuf, zeros: &[u8], count: usize, code: &[u8]) -> bool
-    ensures { buf.new ≡ record buf.old { bytes = buf.new.bytes } }
-{
-    pad(buf, zeros, count) && buf.emit(code)
+// A fix with its place and its target; the place of code with the fix, the code, and what it becomes, or None where the fix cannot be patched.
+type Patch = (FixKind, u32, u32, u32, &'static [u8], Option<&'static [u8]>);
+
+// The place behind the code of a row.
+fn end_of(row: &Patch) -> u32 {
+    row.3.saturating_add(row.4.len().min(16) as u32)
 }
 
-// patches a fix, where it lies within what was appended
-fn patch(buf: &mut CodeBuf, kind: FixKind, place: u32, target: u32) -> bool
-    ensures { buf.new ≡ record buf.old { bytes = buf.new.bytes } }
-{
+// Patches the fix of a row, where it lies within what was appended, and tells whether it is patched where it should be.
+fn patches(buf: &mut CodeBuf, row: &Patch) -> bool {
+    let (kind, place, target, _, _, wanted) = *row;
     let is_within = place as u64 + kind.size() as u64 <= buf.here() as u64;
-    is_within && buf.patch(place, kind, target)
+    kind.fits(place, target) == wanted.is_some()
+        && is_within
+        && buf.patch(place, kind, target) == wanted.is_some()
 }
 
-// A fix with its place and its target, the code that ends with it, and what that code becomes, or None where the fix cannot be patched.
-type Patch<'a> = (FixKind, u32, u32, &'a [u8], Option<&'a [u8]>);
+// Fills a buffer with zeros and the code of a row, and patches its fix.
+fn fills(buf: &mut CodeBuf, zeros: &[u8], row: &Patch) -> bool
+    ensures ready { IsTrue result → All (IsReady buf.new.labels) buf.new.fixes }
+{
+    pad(buf, zeros, row.3 as usize)
+        && buf.emit(row.4)
+        && buf.here() == end_of(row)
+        && !buf.emit(&[0])
+        && patches(buf, row)
+        && buf.is_ready()
+}
 
-// Whether code of zeros and the code of the fix becomes so.
-fn is_patched(alloc: Global, zeros: &[u8], row: Patch<'_>) -> Result<bool, OutOfMemory> {
-    let (kind, place, target, code, want) = row;
-    let end = place.saturating_add(kind.size());
-    let start = (end as usize).saturating_sub(code.len());
-    let mut buf = CodeBuf::new(alloc, end, 0, 0)?;
-    let is_put = put(&mut buf, zeros, start, code);
-    let is_fixed = patch(&mut buf, kind, place, target);
-    let done = buf.finish();
-    let behind = done.bytes.as_slice().get(start..);
-    let agrees = kind.fits(place, target) == want.is_some() && is_fixed == want.is_some();
-    Ok(is_put && agrees && behind == Some(want.unwrap_or(code)))
+// Whether finished code of a row is what it should become, and its one label stays at 0.
+fn is_done(done: &Finished, row: &Patch) -> bool {
+    let becomes = row.5.unwrap_or(row.4);
+    let behind = done.bytes.as_slice().get(row.3 as usize..);
+    behind == Some(becomes) && done.places.as_slice() == [0].as_slice()
+}
+
+// Whether a full buffer with the code of a row becomes so.
+fn is_patched(alloc: Global, zeros: &[u8], row: &Patch) -> Result<bool, OutOfMemory> {
+    let mut buf = CodeBuf::new(alloc, end_of(row), 1, 1)?;
+    if !fills(&mut buf, zeros, row) {
+        return Ok(false);
+    }
+    Ok(is_done(&buf.finish(), row))
 }
 
 // The number of the first row with another answer.
-fn first_other(alloc: Global, rows: &[Patch<'_>]) -> Result<Option<usize>, OutOfMemory> {
-    let zeros = vec![in alloc; 0u8; 0x10_0000]?;
-    for (number, row) in rows.iter().enumerate() {
-        if !is_patched(alloc, &zeros, *row)? {
+fn first_other(alloc: Global, zeros: &[u8]) -> Result<Option<usize>, OutOfMemory> {
+    for (number, row) in PATCHES.iter().enumerate() {
+        if !is_patched(alloc, zeros, row)? {
             return Ok(Some(number));
         }
     }
     Ok(None)
 }
 
-// beq x5, x6; jal x1; lui and addi of x5
-const RISCV64: &[Patch<'static>] = &[
+// The same with zeros to append.
+fn first_other_patch(alloc: Global) -> Result<Option<usize>, OutOfMemory> {
+    let zeros = vec![in alloc; 0u8; PIECE]?;
+    first_other(alloc, &zeros)
+}
+
+const PATCHES: &[Patch] = &[
+    // beq x5, x6; jal x1; lui and addi of x5
+    (
+        FixKind::RvBranch,
+        0,
+        4,
+        0,
+        &[0x63, 0x84, 0x62, 0x00, 0x93, 0x02, 0x10, 0x00],
+        Some(&[0x63, 0x82, 0x62, 0x00, 0x93, 0x02, 0x10, 0x00]),
+    ),
+    (
+        FixKind::RvBranch,
+        0,
+        4096,
+        0,
+        &[0x63, 0x84, 0x62, 0x00, 0x93, 0x02, 0x10, 0x00],
+        None,
+    ),
     (
         FixKind::RvBranch,
         4096,
         0,
+        4_096,
         &[0x63, 0x80, 0x62, 0x00],
         Some(&[0x63, 0x80, 0x62, 0x80]),
     ),
@@ -137,16 +163,32 @@ const RISCV64: &[Patch<'static>] = &[
         FixKind::RvBranch,
         4,
         4098,
+        4,
         &[0x63, 0x80, 0x62, 0x00],
         Some(&[0xe3, 0x8f, 0x62, 0x7e]),
     ),
-    (FixKind::RvBranch, 4100, 2, &[0x63, 0x80, 0x62, 0x00], None),
-    (FixKind::RvBranch, 4, 4100, &[0x63, 0x80, 0x62, 0x00], None),
-    (FixKind::RvBranch, 4, 7, &[0x63, 0x80, 0x62, 0x00], None),
+    (
+        FixKind::RvBranch,
+        4100,
+        2,
+        4_100,
+        &[0x63, 0x80, 0x62, 0x00],
+        None,
+    ),
+    (
+        FixKind::RvBranch,
+        4,
+        4100,
+        4,
+        &[0x63, 0x80, 0x62, 0x00],
+        None,
+    ),
+    (FixKind::RvBranch, 4, 7, 4, &[0x63, 0x80, 0x62, 0x00], None),
     (
         FixKind::RvJal,
         1_048_576,
         0,
+        1_048_576,
         &[0xef, 0x00, 0x00, 0x00],
         Some(&[0xef, 0x00, 0x00, 0x80]),
     ),
@@ -154,6 +196,7 @@ const RISCV64: &[Patch<'static>] = &[
         FixKind::RvJal,
         0,
         1_048_574,
+        0,
         &[0xef, 0x00, 0x00, 0x00],
         Some(&[0xef, 0xf0, 0xff, 0x7f]),
     ),
@@ -161,6 +204,7 @@ const RISCV64: &[Patch<'static>] = &[
         FixKind::RvJal,
         1_048_578,
         0,
+        1_048_578,
         &[0xef, 0x00, 0x00, 0x00],
         None,
     ),
@@ -168,6 +212,7 @@ const RISCV64: &[Patch<'static>] = &[
         FixKind::RvJal,
         0,
         1_048_576,
+        0,
         &[0xef, 0x00, 0x00, 0x00],
         None,
     ),
@@ -175,6 +220,7 @@ const RISCV64: &[Patch<'static>] = &[
         FixKind::RvLuiAddi,
         4,
         0,
+        4,
         &[0xb7, 0x02, 0x00, 0x00, 0x93, 0x82, 0x02, 0x00],
         Some(&[0xb7, 0x02, 0x00, 0x10, 0x93, 0x82, 0x02, 0x00]),
     ),
@@ -182,6 +228,7 @@ const RISCV64: &[Patch<'static>] = &[
         FixKind::RvLuiAddi,
         4,
         0x800,
+        4,
         &[0xb7, 0x02, 0x00, 0x00, 0x93, 0x82, 0x02, 0x00],
         Some(&[0xb7, 0x12, 0x00, 0x10, 0x93, 0x82, 0x02, 0x80]),
     ),
@@ -189,6 +236,7 @@ const RISCV64: &[Patch<'static>] = &[
         FixKind::RvLuiAddi,
         4,
         0x6fff_f7ff,
+        4,
         &[0xb7, 0x02, 0x00, 0x00, 0x93, 0x82, 0x02, 0x00],
         Some(&[0xb7, 0xf2, 0xff, 0x7f, 0x93, 0x82, 0xf2, 0x7f]),
     ),
@@ -196,23 +244,16 @@ const RISCV64: &[Patch<'static>] = &[
         FixKind::RvLuiAddi,
         4,
         0x6fff_f800,
+        4,
         &[0xb7, 0x02, 0x00, 0x00, 0x93, 0x82, 0x02, 0x00],
         None,
     ),
-];
-
-#[test]
-fn reaches_on_riscv64(rt: HostRuntime) -> Result<(), Fail> {
-    assert_eq!(rt; first_other(rt.alloc(), RISCV64)?, None);
-    Ok(())
-}
-
-// bl; b.ne; movz and movk of x9. The last of the calls leads 134,217,728 bytes back.
-const AARCH64: &[Patch<'static>] = &[
+    // bl; b.ne; movz and movk of x9. The last of the calls leads 134,217,728 bytes back.
     (
         FixKind::A64Branch26,
         4,
         134_217_728,
+        4,
         &[0x00, 0x00, 0x00, 0x94],
         Some(&[0xff, 0xff, 0xff, 0x95]),
     ),
@@ -220,14 +261,23 @@ const AARCH64: &[Patch<'static>] = &[
         FixKind::A64Branch26,
         4,
         134_217_732,
+        4,
         &[0x00, 0x00, 0x00, 0x94],
         None,
     ),
-    (FixKind::A64Branch26, 4, 10, &[0x00, 0x00, 0x00, 0x94], None),
+    (
+        FixKind::A64Branch26,
+        4,
+        10,
+        4,
+        &[0x00, 0x00, 0x00, 0x94],
+        None,
+    ),
     (
         FixKind::A64Branch26,
         134_217_728,
         0,
+        0x800_0000,
         &[0x00, 0x00, 0x00, 0x94],
         Some(&[0x00, 0x00, 0x00, 0x96]),
     ),
@@ -235,6 +285,7 @@ const AARCH64: &[Patch<'static>] = &[
         FixKind::A64Cond19,
         1_048_576,
         0,
+        1_048_576,
         &[0x01, 0x00, 0x00, 0x54],
         Some(&[0x01, 0x00, 0x80, 0x54]),
     ),
@@ -242,6 +293,7 @@ const AARCH64: &[Patch<'static>] = &[
         FixKind::A64Cond19,
         0,
         1_048_572,
+        0,
         &[0x01, 0x00, 0x00, 0x54],
         Some(&[0xe1, 0xff, 0x7f, 0x54]),
     ),
@@ -249,6 +301,7 @@ const AARCH64: &[Patch<'static>] = &[
         FixKind::A64Cond19,
         1_048_580,
         0,
+        1_048_580,
         &[0x01, 0x00, 0x00, 0x54],
         None,
     ),
@@ -256,6 +309,7 @@ const AARCH64: &[Patch<'static>] = &[
         FixKind::A64Cond19,
         0,
         1_048_576,
+        0,
         &[0x01, 0x00, 0x00, 0x54],
         None,
     ),
@@ -263,6 +317,7 @@ const AARCH64: &[Patch<'static>] = &[
         FixKind::A64MovPair,
         4,
         0,
+        4,
         &[0x09, 0x00, 0x80, 0xd2, 0x09, 0x00, 0xa0, 0xf2],
         Some(&[0x09, 0x00, 0x80, 0xd2, 0x09, 0x00, 0xa2, 0xf2]),
     ),
@@ -270,6 +325,7 @@ const AARCH64: &[Patch<'static>] = &[
         FixKind::A64MovPair,
         4,
         0xefff_ffff,
+        4,
         &[0x09, 0x00, 0x80, 0xd2, 0x09, 0x00, 0xa0, 0xf2],
         Some(&[0xe9, 0xff, 0x9f, 0xd2, 0xe9, 0xff, 0xbf, 0xf2]),
     ),
@@ -277,27 +333,33 @@ const AARCH64: &[Patch<'static>] = &[
         FixKind::A64MovPair,
         4,
         0xf000_0000,
+        4,
         &[0x09, 0x00, 0x80, 0xd2, 0x09, 0x00, 0xa0, 0xf2],
         None,
     ),
-];
-
-#[test]
-fn reaches_on_aarch64(rt: HostRuntime) -> Result<(), Fail> {
-    assert_eq!(rt; first_other(rt.alloc(), AARCH64)?, None);
-    assert!(rt; !FixKind::A64Branch26.fits(134_217_732, 0));
-    Ok(())
-}
-
-// jmp8; jmp32, of which the last leads 2,147,483,648 bytes back; movi32 of r9
-const X86_64: &[Patch<'static>] = &[
-    (FixKind::X86Rel8, 127, 0, &[0xeb, 0x00], Some(&[0xeb, 0x80])),
-    (FixKind::X86Rel8, 1, 129, &[0xeb, 0x00], Some(&[0xeb, 0x7f])),
-    (FixKind::X86Rel8, 128, 0, &[0xeb, 0x00], None),
-    (FixKind::X86Rel8, 1, 130, &[0xeb, 0x00], None),
+    // jmp8; jmp32, of which the last leads 2,147,483,648 bytes back; movi32 of r9
+    (
+        FixKind::X86Rel8,
+        127,
+        0,
+        126,
+        &[0xeb, 0x00],
+        Some(&[0xeb, 0x80]),
+    ),
+    (
+        FixKind::X86Rel8,
+        1,
+        129,
+        0,
+        &[0xeb, 0x00],
+        Some(&[0xeb, 0x7f]),
+    ),
+    (FixKind::X86Rel8, 128, 0, 127, &[0xeb, 0x00], None),
+    (FixKind::X86Rel8, 1, 130, 0, &[0xeb, 0x00], None),
     (
         FixKind::X86Rel32,
         1,
+        0,
         0,
         &[0xe9, 0x00, 0x00, 0x00, 0x00],
         Some(&[0xe9, 0xfb, 0xff, 0xff, 0xff]),
@@ -306,6 +368,7 @@ const X86_64: &[Patch<'static>] = &[
         FixKind::X86Rel32,
         1,
         0x8000_0004,
+        0,
         &[0xe9, 0x00, 0x00, 0x00, 0x00],
         Some(&[0xe9, 0xff, 0xff, 0xff, 0x7f]),
     ),
@@ -313,6 +376,7 @@ const X86_64: &[Patch<'static>] = &[
         FixKind::X86Rel32,
         1,
         0x8000_0005,
+        0,
         &[0xe9, 0x00, 0x00, 0x00, 0x00],
         None,
     ),
@@ -320,12 +384,14 @@ const X86_64: &[Patch<'static>] = &[
         FixKind::X86Rel32,
         0x7fff_fffc,
         0,
+        0x7fff_fffb,
         &[0xe9, 0x00, 0x00, 0x00, 0x00],
         Some(&[0xe9, 0x00, 0x00, 0x00, 0x80]),
     ),
     (
         FixKind::X86Abs32,
         2,
+        0,
         0,
         &[0x41, 0xb9, 0x00, 0x00, 0x00, 0x00],
         Some(&[0x41, 0xb9, 0x00, 0x00, 0x00, 0x10]),
@@ -334,6 +400,7 @@ const X86_64: &[Patch<'static>] = &[
         FixKind::X86Abs32,
         2,
         0xefff_ffff,
+        0,
         &[0x41, 0xb9, 0x00, 0x00, 0x00, 0x00],
         Some(&[0x41, 0xb9, 0xff, 0xff, 0xff, 0xff]),
     ),
@@ -341,14 +408,17 @@ const X86_64: &[Patch<'static>] = &[
         FixKind::X86Abs32,
         2,
         0xf000_0000,
+        0,
         &[0x41, 0xb9, 0x00, 0x00, 0x00, 0x00],
         None,
     ),
 ];
 
 #[test]
-fn reaches_on_x86_64(rt: HostRuntime) -> Result<(), Fail> {
-    assert_eq!(rt; first_other(rt.alloc(), X86_64)?, None);
+fn patches_code(rt: HostRuntime) -> Result<(), Fail> {
+    assert!(rt; leads_to_labels(rt.alloc())?);
+    assert_eq!(rt; first_other_patch(rt.alloc())?, None);
+    assert!(rt; !FixKind::A64Branch26.fits(134_217_732, 0));
     assert!(rt; !FixKind::X86Rel32.fits(0x7fff_fffd, 0));
     Ok(())
 }

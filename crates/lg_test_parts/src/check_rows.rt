@@ -1,8 +1,7 @@
 // Texts that are accepted once they are read, and texts that the checks refuse with a kind and a line, worked out by hand from the rules of
 // functions, labels and calls.
 
-use crate::rows::{Kind, Table, first_other};
-use std::test::Fail;
+use crate::rows::{Kind, Table};
 
 // In the tables a row is `accepted`, or the kind and the line of its text's refusal, then 1F and the text; between rows stands 1E.
 
@@ -102,16 +101,11 @@ const FUNCTIONS: &str = "NoCode 1\x1f\x1e\
 // A text whose unit is that of the function of nodes.rt without its label.
 const UNBOUND: &str = "LabelMissing 3\x1fprolog\nallocai 12 $l\nmovi %r0 there\nepilog";
 
-const TABLES: &[Table] = &[
+/// What comes of texts.
+pub(crate) const TABLES: &[Table] = &[
     (Kind::Checked, &[], ACCEPTED),
     (Kind::Checked, &[], TARGETS),
     (Kind::Checked, &[], CALLS),
     (Kind::Checked, &[], FUNCTIONS),
     (Kind::Checked, &[], UNBOUND),
 ];
-
-#[test]
-fn checks_texts(rt: HostRuntime) -> Result<(), Fail> {
-    assert_eq!(rt; first_other(rt.alloc(), TABLES)?, None);
-    Ok(())
-}

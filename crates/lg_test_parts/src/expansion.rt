@@ -1,14 +1,14 @@
 // The preprocessor: texts with what they expand to, or what they are refused for.
 
-mod conditions;
-mod directives;
-mod limits;
-mod names;
+pub(crate) mod conditions;
+pub(crate) mod directives;
+pub(crate) mod limits;
+pub(crate) mod names;
 
-use crate::rows::refusal;
+use crate::rows::{Wanted, are_wanted, is_stop};
 use lg_base::Stop;
 use lg_pre::{PlainText, expand};
-use std::alloc::{AllocError, Global};
+use std::alloc::Global;
 
 // The expansion of a text.
 fn expanded(alloc: Global, text: &[u8]) -> Result<PlainText, Stop> {
@@ -18,10 +18,26 @@ fn expanded(alloc: Global, text: &[u8]) -> Result<PlainText, Stop> {
     expand(alloc, text)
 }
 
-/// The expansion, or the kind and the line of the refusal.
-pub(crate) fn told(alloc: Global, text: &[u8]) -> Result<Vec<u8>, AllocError> {
+/// Whether this is the expansion, or the kind and the line of the refusal.
+pub(crate) fn gives(alloc: Global, text: &[u8], wanted: Wanted) -> bool {
     match expanded(alloc, text) {
-        Ok(given) => Vec::from_slice(alloc, given.as_bytes()),
-        Err(stop) => Ok(refusal(alloc, stop)?.into_bytes()),
+        Ok(given) => are_wanted(given.as_bytes(), wanted),
+        Err(stop) => is_stop(stop, wanted),
     }
+}
+
+// How many line feeds bytes have.
+fn feeds(bytes: &[u8]) -> usize {
+    let mut feeds = 0usize;
+    for byte in bytes {
+        if *byte == b'\n' {
+            feeds = feeds.wrapping_add(1);
+        }
+    }
+    feeds
+}
+
+/// The same, and whether the expansion has as many line feeds as the text.
+pub(crate) fn gives_lines(alloc: Global, text: &[u8], wanted: Wanted) -> bool {
+    gives(alloc, text, wanted) && feeds(text) == feeds(wanted.0)
 }

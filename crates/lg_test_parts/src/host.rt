@@ -1,5 +1,6 @@
 // The host functions by example: values of C, and the edges of the table.
 
+use crate::rows::{Piece, are_of};
 use lg_base::{HostName, Memory, OutOfMemory, Space};
 use lg_host::{HeapMark, HostEnd, call};
 use lg_io::MemorySink;
@@ -8,367 +9,262 @@ use std::test::Fail;
 
 const DATA: u64 = 0x2000_0000;
 
-const TEXT: u64 = 0x2000_1000;
+// Where a format stands behind `text`.
+const FORMAT: u64 = DATA + 5;
 
 const HEAP: u64 = 0x3000_0000;
 
 // The word -1.
 const MINUS: u64 = u64::MAX;
 
-// Puts bytes into the memory, from an address on.
-fn place(memory: &mut Memory, address: u64, bytes: &[u8]) {
-    for (i, byte) in bytes.iter().enumerate() {
-        let _ = memory.put(address.wrapping_add(i as u64), *byte);
-    }
-}
-
-// Calls `printf` with a format, and with the string `text` at `TEXT`.
-fn print(
-    alloc: Global,
-    memory: &mut Memory,
-    format: &[u8],
-    arguments: &[u64],
-    fail_at: &[u64],
-) -> Result<(HostEnd, MemorySink), OutOfMemory> {
-    place(memory, DATA, &[0; 80]);
-    place(memory, DATA, format);
-    place(memory, TEXT, b"text");
-    let mut words = Vec::from_slice(alloc, &[DATA])?;
-    words.extend_from_slice(arguments)?;
-    let mut out = MemorySink::new(alloc, 8192, fail_at)?;
-    let end = call(
-        HostName::Printf,
-        words.as_slice(),
-        true,
-        memory,
-        &mut HeapMark::new(),
-        &mut out,
-    );
-    Ok((end, out))
-}
-
-// Formats with their arguments, and what they print.
-const PRINTED: &[(&[u8], &[u64], &[u8])] = &[
+// Calls of `printf`: the data part, with `text` in front of the format, the words, how many bytes are printed, and they.
+const PRINTED: &[(&[u8], &[u64], u64, &[Piece])] = &[
     (
-        b"[%5d|%-5d|%05d|%hhd|%x|%c|%%]\n",
-        &[42, 42, MINUS - 41, 300, 255, 65],
-        b"[   42|42   |-0042|44|ff|A|%]\n",
-    ),
-    (b"%hhd %hhd %hhu", &[128, 255, 511], b"-128 -1 255"),
-    (
-        b"%hhx %hx %x %lx %llX",
-        &[MINUS, MINUS, MINUS, MINUS, MINUS],
-        b"ff ffff ffffffff ffffffffffffffff FFFFFFFFFFFFFFFF",
+        b"text\0[%5d|%-5d|%05d|%hhd|%x|%c|%%]\n\0",
+        &[FORMAT, 42, 42, MINUS - 41, 300, 255, 65],
+        30,
+        &[Piece::Of(b"[   42|42   |-0042|44|ff|A|%]\n")],
     ),
     (
-        b"%d %i %u %ld",
-        &[0x8000_0000, 0xffff_ffff, MINUS, 1 << 63],
-        b"-2147483648 -1 4294967295 -9223372036854775808",
+        b"text\0%hhd %hhd %hhu\0",
+        &[FORMAT, 128, 255, 511],
+        11,
+        &[Piece::Of(b"-128 -1 255")],
     ),
     (
-        b"%o %lo %ho",
-        &[8, MINUS, 0x1_0008],
-        b"10 1777777777777777777777 10",
+        b"text\0%hhx %hx %x %lx %llX\0",
+        &[FORMAT, MINUS, MINUS, MINUS, MINUS, MINUS],
+        50,
+        &[Piece::Of(b"ff ffff ffffffff ffffffffffffffff FFFFFFFFFFFFFFFF")],
     ),
-    (b"%00-5d|%-05d|%0-5d|", &[42, 42, 42], b"42   |42   |42   |"),
     (
-        b"%5c|%-3c|%s|%8s|%-8s|%2s|",
-        &[65, 66, TEXT, TEXT, TEXT, TEXT],
-        b"    A|B  |text|    text|text    |text|",
+        b"text\0%d %i %u %ld\0",
+        &[FORMAT, 0x8000_0000, 0xffff_ffff, MINUS, 1 << 63],
+        46,
+        &[Piece::Of(b"-2147483648 -1 4294967295 -9223372036854775808")],
     ),
-    (b"%p %-5p| %12p", &[0, 0, 0xabc], b"0x0 0x0  |        0xabc"),
     (
-        b"%05d %05x %03o %1d",
-        &[7, 0xab, 8, 123],
-        b"00007 000ab 010 123",
+        b"text\0%o %lo %ho\0",
+        &[FORMAT, 8, MINUS, 0x1_0008],
+        28,
+        &[Piece::Of(b"10 1777777777777777777777 10")],
     ),
-    (b"", &[1, 2], b""),
-    (b"a%cb", &[0x100], b"a\0b"),
+    (
+        b"text\0%00-5d|%-05d|%0-5d|\0",
+        &[FORMAT, 42, 42, 42],
+        18,
+        &[Piece::Of(b"42   |42   |42   |")],
+    ),
+    (
+        b"text\0%5c|%-3c|%s|%8s|%-8s|%2s|\0",
+        &[FORMAT, 65, 66, DATA, DATA, DATA, DATA],
+        38,
+        &[Piece::Of(b"    A|B  |text|    text|text    |text|")],
+    ),
+    (
+        b"text\0%p %-5p| %12p\0",
+        &[FORMAT, 0, 0, 0xabc],
+        23,
+        &[Piece::Of(b"0x0 0x0  |        0xabc")],
+    ),
+    (
+        b"text\0%05d %05x %03o %1d\0",
+        &[FORMAT, 7, 0xab, 8, 123],
+        19,
+        &[Piece::Of(b"00007 000ab 010 123")],
+    ),
+    (b"text\0\0", &[FORMAT, 1, 2], 0, &[Piece::Of(b"")]),
+    (b"text\0a%cb\0", &[FORMAT, 0x100], 3, &[Piece::Of(b"a\0b")]),
+    // widths go up to 4,095
+    (
+        b"text\0%4095d%-9s|\0",
+        &[FORMAT, 1, DATA],
+        4105,
+        &[Piece::Times(b" ", 4_094), Piece::Of(b"1text     |")],
+    ),
 ];
 
-// Whether a format comes to an end and prints a text.
-fn is_printed(
-    alloc: Global,
-    memory: &mut Memory,
-    format: &[u8],
-    arguments: &[u64],
-    wanted: (HostEnd, &[u8]),
-) -> Result<bool, OutOfMemory> {
-    let (end, out) = print(alloc, memory, format, arguments, &[])?;
-    Ok((end, out.bytes()) == wanted)
-}
-
-// The first format that does not print what it should.
-fn first_other_print(
-    alloc: Global,
-    memory: &mut Memory,
-) -> Result<Option<&'static [u8]>, OutOfMemory> {
-    for (format, arguments, text) in PRINTED {
-        let wanted = (HostEnd::Value(text.len() as u64), *text);
-        if !is_printed(alloc, memory, format, arguments, wanted)? {
-            return Ok(Some(format));
-        }
-    }
-    Ok(None)
-}
-
-// Whether widths go up to 4,095.
-fn is_padded(alloc: Global, memory: &mut Memory) -> Result<bool, OutOfMemory> {
-    let (end, out) = print(alloc, memory, b"%4095d%-9s|", &[1, TEXT], &[])?;
-    let (size, last) = (out.bytes().len(), out.bytes().last());
-    Ok(end == HostEnd::Value(4105) && size == 4105 && last == Some(&b'|'))
-}
-
-// Formats that are undefined with the arguments 1 and 0.
+// Formats that are undefined with the words 1 and 0.
 const OTHER_FORMATS: &[&[u8]] = &[
-    b"ok %5.2d",
-    b"ok %",
-    b"ok %d%",
-    b"ok %5",
-    b"ok %l",
-    b"%4096d",
-    b"%hc",
-    b"%lc",
-    b"%ls",
-    b"%0s",
-    b"%05c",
-    b"%0p",
-    b"%-0s",
-    b"%-%",
-    b"%5%",
-    b"%hhhd",
-    b"%lld%llld",
-    b"%+d",
-    b"% d",
-    b"%#x",
-    b"%*d",
-    b"%n",
-    b"%f",
-    b"%d %d %d",
-    b"%d %s",
+    b"ok %5.2d\0",
+    b"ok %\0",
+    b"ok %d%\0",
+    b"ok %5\0",
+    b"ok %l\0",
+    b"%4096d\0",
+    b"%hc\0",
+    b"%lc\0",
+    b"%ls\0",
+    b"%0s\0",
+    b"%05c\0",
+    b"%0p\0",
+    b"%-0s\0",
+    b"%-%\0",
+    b"%5%\0",
+    b"%hhhd\0",
+    b"%lld%llld\0",
+    b"%+d\0",
+    b"% d\0",
+    b"%#x\0",
+    b"%*d\0",
+    b"%n\0",
+    b"%f\0",
+    b"%d %d %d\0",
+    b"%d %s\0",
 ];
 
-// The first of the other formats that is defined, or prints something.
-fn first_defined(alloc: Global, memory: &mut Memory) -> Result<Option<&'static [u8]>, OutOfMemory> {
-    for format in OTHER_FORMATS {
-        if !is_printed(alloc, memory, format, &[1, 0], (HostEnd::Undefined, b""))? {
-            return Ok(Some(format));
-        }
-    }
-    Ok(None)
-}
+const LONG: &[u8] =
+    b"text\0%100d|%-70s|a literal text that is longer than what waits at once: %lx|\0";
 
-const LONG_FORMAT: &[u8] =
-    b"%100d|%-70s|a literal text that is longer than what waits at once: %lx|";
+const LONG_WORDS: &[u64] = &[FORMAT, 7, DATA, 0x1234_5678];
 
-const LONG_ARGUMENTS: &[u64] = &[7, TEXT, 0x1234_5678];
+// All that the long format prints.
+const WHOLE: &[Piece] = &[
+    Piece::Times(b" ", 99),
+    Piece::Of(b"7|text"),
+    Piece::Times(b" ", 66),
+    Piece::Of(b"|a literal text that is longer than what waits at once: 12345678|"),
+];
 
-// The write that fails, and how many bytes of the long format come before it; the fifth never comes.
-const FAILING: &[(u64, usize)] = &[(1, 0), (2, 64), (3, 128), (4, 192), (5, 236)];
-
-// Whether the long format ends at the write that fails, with so many of the bytes of the whole.
-fn is_cut(
-    alloc: Global,
-    memory: &mut Memory,
-    whole: &[u8],
-    number: u64,
-    written: usize,
-) -> Result<bool, OutOfMemory> {
-    let (end, out) = print(alloc, memory, LONG_FORMAT, LONG_ARGUMENTS, &[number])?;
-    let is_fault = end == HostEnd::WriteFault;
-    Ok(is_fault == (number < 5) && out.bytes().len() == written && whole.starts_with(out.bytes()))
-}
-
-// The first write at which the long format ends otherwise.
-fn first_other_cut(
-    alloc: Global,
-    memory: &mut Memory,
-    whole: &[u8],
-) -> Result<Option<u64>, OutOfMemory> {
-    for (number, written) in FAILING {
-        if !is_cut(alloc, memory, whole, *number, *written)? {
-            return Ok(Some(*number));
-        }
-    }
-    Ok(None)
-}
-
-// Whether the long format ends with its 236 bytes where no write fails, and else at the write that does.
-fn are_cut(alloc: Global, memory: &mut Memory) -> Result<bool, OutOfMemory> {
-    let (end, whole) = print(alloc, memory, LONG_FORMAT, LONG_ARGUMENTS, &[])?;
-    let other = first_other_cut(alloc, memory, whole.bytes())?;
-    Ok(end == HostEnd::Value(236) && other == None)
-}
-
-// The formats that are tried.
-#[derive(Clone, Copy)]
-enum Formats {
-    Printed,
-    Padded,
-    Other,
-    Cut,
-}
-
-// Whether the formats print and end as they should, over a memory of their own.
-fn are_right(alloc: Global, formats: Formats) -> Result<bool, OutOfMemory> {
-    let mut memory = Memory::new(alloc, 8192, 8)?;
-    match formats {
-        Formats::Printed => Ok(first_other_print(alloc, &mut memory)? == None),
-        Formats::Padded => is_padded(alloc, &mut memory),
-        Formats::Other => Ok(first_defined(alloc, &mut memory)? == None),
-        Formats::Cut => are_cut(alloc, &mut memory),
-    }
-}
-
-#[test]
-fn prints_what_c_prints(rt: HostRuntime) -> Result<(), Fail> {
-    assert!(rt; are_right(rt.alloc(), Formats::Printed)?);
-    assert!(rt; are_right(rt.alloc(), Formats::Padded)?);
-    Ok(())
-}
-
-#[test]
-fn refuses_other_formats(rt: HostRuntime) -> Result<(), Fail> {
-    assert!(rt; are_right(rt.alloc(), Formats::Other)?);
-    Ok(())
-}
-
-#[test]
-fn stops_at_a_write_that_fails(rt: HostRuntime) -> Result<(), Fail> {
-    assert!(rt; are_right(rt.alloc(), Formats::Cut)?);
-    Ok(())
-}
-
-// A text at `DATA`, a function with its arguments, and what the call comes to.
-type Case = (&'static [u8], HostName, &'static [u64], HostEnd);
-
-// The address behind the data part, whose last bytes are `12x`.
-const END: u64 = DATA + 4096;
-
-// Whether a function answers so over a memory that holds its text, with a new heap.
-fn is_answered(alloc: Global, memory: &mut Memory, case: &Case) -> Result<bool, OutOfMemory> {
-    let (text, name, words, wanted) = case;
-    place(memory, DATA, &[0; 40]);
-    place(memory, DATA, text);
-    place(memory, END - 3, b"12x");
-    let mut out = MemorySink::new(alloc, 64, &[])?;
-    let end = call(*name, words, false, memory, &mut HeapMark::new(), &mut out);
-    Ok(end == *wanted)
-}
-
-// The number of the first case with another answer.
-fn first_other_answer(
-    alloc: Global,
-    memory: &mut Memory,
-    cases: &[Case],
-) -> Result<Option<u32>, OutOfMemory> {
-    let mut number = 0u32;
-    for case in cases {
-        if !is_answered(alloc, memory, case)? {
-            return Ok(Some(number));
-        }
-        number = number.wrapping_add(1);
-    }
-    Ok(None)
-}
-
-// The same over a memory of its own.
-fn first_other(alloc: Global, cases: &[Case]) -> Result<Option<u32>, OutOfMemory> {
-    let mut memory = Memory::new(alloc, 4096, 8)?;
-    first_other_answer(alloc, &mut memory, cases)
-}
-
-const NUMBERS: &[Case] = &[
+// The write that fails, how the long format ends then, and what is printed before; the fifth never comes.
+const CUT: &[(u64, HostEnd, &[Piece])] = &[
+    (0, HostEnd::Value(236), WHOLE),
+    (1, HostEnd::WriteFault, &[]),
+    (2, HostEnd::WriteFault, &[Piece::Times(b" ", 64)]),
     (
-        b" -2147483648x",
+        3,
+        HostEnd::WriteFault,
+        &[
+            Piece::Times(b" ", 99),
+            Piece::Of(b"7|text"),
+            Piece::Times(b" ", 23),
+        ],
+    ),
+    (
+        4,
+        HostEnd::WriteFault,
+        &[
+            Piece::Times(b" ", 99),
+            Piece::Of(b"7|text"),
+            Piece::Times(b" ", 66),
+            Piece::Of(b"|a literal text that "),
+        ],
+    ),
+    (5, HostEnd::Value(236), WHOLE),
+];
+
+// The data part, a function with its words, and how the call ends.
+const CALLS: &[(&[u8], HostName, &[u64], HostEnd)] = &[
+    // numbers
+    (
+        b" -2147483648x\0",
         HostName::Atoi,
         &[DATA],
         HostEnd::Value(0xffff_ffff_8000_0000),
     ),
     (
-        b"\t\n\x0b\x0c\r 2147483647",
+        b"\t\n\x0b\x0c\r 2147483647\0",
         HostName::Atoi,
         &[DATA],
         HostEnd::Value(2_147_483_647),
     ),
-    (b"2147483648", HostName::Atoi, &[DATA], HostEnd::Undefined),
-    (b"-2147483649", HostName::Atoi, &[DATA], HostEnd::Undefined),
+    (b"2147483648\0", HostName::Atoi, &[DATA], HostEnd::Undefined),
     (
-        b"99999999999999999999999",
+        b"-2147483649\0",
         HostName::Atoi,
         &[DATA],
         HostEnd::Undefined,
     ),
-    (b"", HostName::Atoi, &[DATA], HostEnd::Value(0)),
-    (b"-", HostName::Atoi, &[DATA], HostEnd::Value(0)),
-    (b"+x", HostName::Atoi, &[DATA], HostEnd::Value(0)),
-    (b"+-5", HostName::Atoi, &[DATA], HostEnd::Value(0)),
-    (b"+7", HostName::Atoi, &[DATA], HostEnd::Value(7)),
-    (b"", HostName::Atoi, &[END - 3], HostEnd::Value(12)),
-    (b"", HostName::Atoi, &[END], HostEnd::Undefined),
-];
-
-const STRINGS: &[Case] = &[
-    (b"", HostName::Strlen, &[END - 3], HostEnd::Undefined),
-    (b"ab", HostName::Strlen, &[DATA], HostEnd::Value(2)),
     (
-        b"ab\0abc",
+        b"99999999999999999999999\0",
+        HostName::Atoi,
+        &[DATA],
+        HostEnd::Undefined,
+    ),
+    (b"\0", HostName::Atoi, &[DATA], HostEnd::Value(0)),
+    (b"-\0", HostName::Atoi, &[DATA], HostEnd::Value(0)),
+    (b"+x\0", HostName::Atoi, &[DATA], HostEnd::Value(0)),
+    (b"+-5\0", HostName::Atoi, &[DATA], HostEnd::Value(0)),
+    (b"+7\0", HostName::Atoi, &[DATA], HostEnd::Value(7)),
+    (b"12x", HostName::Atoi, &[DATA], HostEnd::Value(12)),
+    (b"", HostName::Atoi, &[DATA], HostEnd::Undefined),
+    // strings
+    (b"12x", HostName::Strlen, &[DATA], HostEnd::Undefined),
+    (b"ab\0", HostName::Strlen, &[DATA], HostEnd::Value(2)),
+    (
+        b"ab\0abc\0",
         HostName::Strcmp,
         &[DATA, DATA + 3],
         HostEnd::Value(MINUS),
     ),
     (
-        b"abc\0ab",
+        b"abc\0ab\0",
         HostName::Strcmp,
         &[DATA, DATA + 4],
         HostEnd::Value(1),
     ),
     (
-        b"ab\0ab",
+        b"ab\0ab\0",
         HostName::Strcmp,
         &[DATA, DATA + 3],
         HostEnd::Value(0),
     ),
     (
-        b"\x80\0a",
+        b"\x80\0a\0",
         HostName::Strcmp,
         &[DATA, DATA + 2],
         HostEnd::Value(1),
     ),
-    (b"13", HostName::Strcmp, &[DATA, END - 3], HostEnd::Value(1)),
-    (b"hello", HostName::Puts, &[DATA], HostEnd::Value(6)),
-    (b"", HostName::Puts, &[END - 3], HostEnd::Undefined),
-    (b"x", HostName::Printf, &[DATA], HostEnd::Undefined),
-];
-
-const RANGES: &[Case] = &[
     (
-        b"abcdef",
+        b"13\x0012x",
+        HostName::Strcmp,
+        &[DATA, DATA + 3],
+        HostEnd::Value(1),
+    ),
+    (b"hello\0", HostName::Puts, &[DATA], HostEnd::Value(6)),
+    (b"12x", HostName::Puts, &[DATA], HostEnd::Undefined),
+    (b"x\0", HostName::Printf, &[DATA], HostEnd::Undefined),
+    // ranges
+    (
+        b"abcdef\0",
         HostName::Memcpy,
         &[DATA + 2, DATA, 4],
         HostEnd::Undefined,
     ),
-    (b"", HostName::Memcpy, &[DATA, DATA, 1], HostEnd::Undefined),
-    (b"", HostName::Memcpy, &[0, 0, 0], HostEnd::Value(0)),
     (
-        b"",
+        b"abcdefgh",
+        HostName::Memcpy,
+        &[DATA, DATA, 1],
+        HostEnd::Undefined,
+    ),
+    (b"\0", HostName::Memcpy, &[0, 0, 0], HostEnd::Value(0)),
+    (
+        b"abcdefgh",
         HostName::Memcpy,
         &[DATA + 4, DATA, 4],
         HostEnd::Value(DATA + 4),
     ),
-    (b"", HostName::Memcpy, &[DATA, MINUS, 2], HostEnd::Undefined),
-    (b"", HostName::Memset, &[5, 1, 0], HostEnd::Value(5)),
     (
-        b"",
-        HostName::Memset,
-        &[END - 1, 1, 1],
-        HostEnd::Value(END - 1),
+        b"abcdefgh",
+        HostName::Memcpy,
+        &[DATA, MINUS, 2],
+        HostEnd::Undefined,
     ),
-    (b"", HostName::Memset, &[END - 1, 1, 2], HostEnd::Undefined),
-    (b"", HostName::Memset, &[MINUS, 1, 2], HostEnd::Undefined),
-];
-
-const SIZES_AND_ENDS: &[Case] = &[
+    (b"\0", HostName::Memset, &[5, 1, 0], HostEnd::Value(5)),
+    (
+        b"12x",
+        HostName::Memset,
+        &[DATA + 2, 1, 1],
+        HostEnd::Value(DATA + 2),
+    ),
+    (
+        b"12x",
+        HostName::Memset,
+        &[DATA + 2, 1, 2],
+        HostEnd::Undefined,
+    ),
+    (b"\0", HostName::Memset, &[MINUS, 1, 2], HostEnd::Undefined),
+    // sizes, and ends of programs
     (b"", HostName::Malloc, &[0x40_0000], HostEnd::Value(HEAP)),
     (b"", HostName::Malloc, &[0x40_0001], HostEnd::Value(0)),
     (b"", HostName::Malloc, &[MINUS], HostEnd::Value(0)),
@@ -383,103 +279,184 @@ const SIZES_AND_ENDS: &[Case] = &[
     (b"", HostName::Abort, &[], HostEnd::Exit(134)),
 ];
 
-// Whether the cases of each table are answered so.
-fn are_all_answered(alloc: Global) -> Result<bool, OutOfMemory> {
-    for cases in [NUMBERS, STRINGS, RANGES, SIZES_AND_ENDS] {
-        if first_other(alloc, cases)? != None {
-            return Ok(false);
-        }
-    }
-    Ok(true)
-}
-
-#[test]
-fn answers_as_the_table_says(rt: HostRuntime) -> Result<(), Fail> {
-    assert!(rt; are_all_answered(rt.alloc())?);
-    Ok(())
-}
-
-// A function with its arguments, what it answers, and the heap mark behind it.
+// A function with its words, what it answers, and how much of the heap is handed out behind it.
 type Turn = (HostName, &'static [u64], u64, u64);
 
-// Whether the functions, called one after another over one memory and one heap, answer so.
-fn are_answered(memory: &mut Memory, out: &mut MemorySink, turns: &[Turn]) -> bool {
-    let mut heap = HeapMark::new();
-    for (name, words, want, mark) in turns {
-        let end = call(*name, words, false, memory, &mut heap, out);
-        if end != HostEnd::Value(*want) || heap.mark() != *mark {
-            return false;
-        }
-    }
-    true
-}
-
+// Calls behind which the words of the heap are those below: what `calloc` hands out is zero, and the bytes behind that it rounds up to stay.
 const ZEROES: &[Turn] = &[
-    (HostName::Calloc, &[5, 4], HEAP, HEAP + 0x20),
-    (HostName::Calloc, &[0, 9], HEAP + 0x20, HEAP + 0x30),
+    (HostName::Calloc, &[5, 4], HEAP, 0x20),
+    (HostName::Calloc, &[0, 9], HEAP + 0x20, 0x30),
 ];
 
-// Words of the heap behind these calls: what `calloc` hands out is zero, and the bytes behind that it rounds up to stay.
-const ZEROED: &[(u64, u64)] = &[(0x10, 0), (0x14, 0xffff_ffff), (0x20, 0xffff_ffff)];
-
-fn is_zeroed(memory: &mut Memory, out: &mut MemorySink) -> bool {
-    place(memory, HEAP, &[0xff; 64]);
-    if !are_answered(memory, out, ZEROES) {
-        return false;
-    }
-    for (at, want) in ZEROED {
-        if memory.load(HEAP.wrapping_add(*at), 4) != Some(*want) {
-            return false;
-        }
-    }
-    true
-}
-
-fn is_heap_zeroed(alloc: Global) -> Result<bool, OutOfMemory> {
-    let mut memory = Memory::new(alloc, 16, 8)?;
-    let mut out = MemorySink::new(alloc, 8, &[])?;
-    Ok(is_zeroed(&mut memory, &mut out))
-}
-
-#[test]
-fn zeroes_what_was_asked_for(rt: HostRuntime) -> Result<(), Fail> {
-    assert!(rt; is_heap_zeroed(rt.alloc())?);
-    Ok(())
-}
-
+// Calls that hand the heap out, and write what was put there.
 const HANDED_OUT: &[Turn] = &[
-    (HostName::Malloc, &[1], HEAP, HEAP + 0x10),
-    (HostName::Malloc, &[4_194_304], 0, HEAP + 0x10),
-    (HostName::Malloc, &[0], HEAP + 0x10, HEAP + 0x20),
-    (HostName::Calloc, &[5, 4], HEAP + 0x20, HEAP + 0x40),
-    (HostName::Free, &[HEAP + 0x20], 0, HEAP + 0x40),
-    (HostName::Calloc, &[0, 9], HEAP + 0x40, HEAP + 0x50),
+    (HostName::Malloc, &[1], HEAP, 0x10),
+    (HostName::Malloc, &[4_194_304], 0, 0x10),
+    (HostName::Malloc, &[0], HEAP + 0x10, 0x20),
+    (HostName::Calloc, &[5, 4], HEAP + 0x20, 0x40),
+    (HostName::Free, &[HEAP + 0x20], 0, 0x40),
+    (HostName::Calloc, &[0, 9], HEAP + 0x40, 0x50),
     (
         HostName::Memset,
         &[HEAP + 0x20, 0x141, 3],
         HEAP + 0x20,
-        HEAP + 0x50,
+        0x50,
     ),
     (
         HostName::Memcpy,
         &[HEAP + 0x30, HEAP + 0x21, 4],
         HEAP + 0x30,
-        HEAP + 0x50,
+        0x50,
     ),
-    (HostName::Puts, &[HEAP + 0x30], 3, HEAP + 0x50),
-    (HostName::Putchar, &[HEAP + 0x42], 0x42, HEAP + 0x50),
+    (HostName::Puts, &[HEAP + 0x30], 3, 0x50),
+    (HostName::Putchar, &[HEAP + 0x42], 0x42, 0x50),
 ];
 
-// Whether the heap is handed out so, and what is put there is written.
-fn is_heap_handed_out(alloc: Global) -> Result<bool, OutOfMemory> {
-    let mut memory = Memory::new(alloc, 16, 8)?;
-    let mut out = MemorySink::new(alloc, 64, &[])?;
-    let is_answered = are_answered(&mut memory, &mut out, HANDED_OUT);
-    Ok(is_answered && out.bytes() == b"AA\nB".as_slice())
+// Words of 4 bytes of the heap, by their places there.
+const ZEROED: &[(u64, u64)] = &[(0x10, 0), (0x14, 0xffff_ffff), (0x20, 0xffff_ffff)];
+
+// A function with its words, and whether it may have further ones.
+type Call<'a> = (HostName, &'a [u64], bool);
+
+// Whether a call over this data part, with this write that fails, ends so and writes so, where that is asked.
+fn ends(
+    alloc: Global,
+    data: &[u8],
+    fails: u64,
+    (name, words, is_variadic): Call<'_>,
+    wanted: (HostEnd, Option<&[Piece]>),
+) -> Result<bool, OutOfMemory> {
+    if data.len() > 1024 {
+        return Ok(false);
+    }
+    let mut memory = Memory::with_parts(alloc, data, &[0; 8])?;
+    let mut out = MemorySink::new(alloc, 8192, &[fails])?;
+    let end = call(
+        name,
+        words,
+        is_variadic,
+        &mut memory,
+        &mut HeapMark::new(),
+        &mut out,
+    );
+    Ok(end == wanted.0 && is_written(out.bytes(), wanted.1))
+}
+
+// Whether these bytes are written, where that is asked.
+fn is_written(bytes: &[u8], wanted: Option<&[Piece]>) -> bool {
+    match wanted {
+        Some(pieces) => are_of(bytes, pieces),
+        None => true,
+    }
+}
+
+// Whether a call of `printf` ends so and prints this.
+fn prints(
+    alloc: Global,
+    (data, fails): (&[u8], u64),
+    words: &[u64],
+    end: HostEnd,
+    text: &[Piece],
+) -> Result<bool, OutOfMemory> {
+    ends(
+        alloc,
+        data,
+        fails,
+        (HostName::Printf, words, true),
+        (end, Some(text)),
+    )
+}
+
+// The number of the first format that does not print what it should.
+fn first_other_print(alloc: Global) -> Result<Option<usize>, OutOfMemory> {
+    for (number, (data, words, length, text)) in PRINTED.iter().enumerate() {
+        if !prints(alloc, (data, 0), words, HostEnd::Value(*length), text)? {
+            return Ok(Some(number));
+        }
+    }
+    Ok(None)
+}
+
+// The number of the first of the other formats that is defined, or prints something.
+fn first_defined(alloc: Global) -> Result<Option<usize>, OutOfMemory> {
+    for (number, format) in OTHER_FORMATS.iter().enumerate() {
+        if !prints(alloc, (format, 0), &[DATA, 1, 0], HostEnd::Undefined, &[])? {
+            return Ok(Some(number));
+        }
+    }
+    Ok(None)
+}
+
+// The first write at which the long format ends otherwise.
+fn first_other_cut(alloc: Global) -> Result<Option<u64>, OutOfMemory> {
+    for (write, end, text) in CUT {
+        if !prints(alloc, (LONG, *write), LONG_WORDS, *end, text)? {
+            return Ok(Some(*write));
+        }
+    }
+    Ok(None)
 }
 
 #[test]
-fn hands_out_the_heap(rt: HostRuntime) -> Result<(), Fail> {
+fn prints_what_c_prints(rt: HostRuntime) -> Result<(), Fail> {
+    assert_eq!(rt; first_other_print(rt.alloc())?, None);
+    assert_eq!(rt; first_defined(rt.alloc())?, None);
+    assert_eq!(rt; first_other_cut(rt.alloc())?, None);
+    Ok(())
+}
+
+// Whether the functions, called one after another over one memory and one heap, answer so.
+fn are_answered(memory: &mut Memory, out: &mut MemorySink, turns: &[Turn]) -> bool {
+    let mut heap = HeapMark::new();
+    for (name, words, wanted, handed) in turns {
+        let end = call(*name, words, false, memory, &mut heap, out);
+        if end != HostEnd::Value(*wanted) || heap.mark() != HEAP.wrapping_add(*handed) {
+            return false;
+        }
+    }
+    true
+}
+
+// Whether the heap holds these words.
+fn holds(memory: &Memory, words: &[(u64, u64)]) -> bool {
+    for (place, wanted) in words {
+        if memory.load(HEAP.wrapping_add(*place), 4) != Some(*wanted) {
+            return false;
+        }
+    }
+    true
+}
+
+// Whether the heap is handed out so, zeroed as it should be, and what is put there is written.
+fn is_handed_out(memory: &mut Memory, out: &mut MemorySink) -> bool {
+    for place in 0..64 {
+        memory.put(HEAP + place, 0xff);
+    }
+    are_answered(memory, out, ZEROES)
+        && holds(memory, ZEROED)
+        && are_answered(memory, out, HANDED_OUT)
+        && out.bytes() == b"AA\nB".as_slice()
+}
+
+fn is_heap_handed_out(alloc: Global) -> Result<bool, OutOfMemory> {
+    let mut memory = Memory::new(alloc, 16, 8)?;
+    let mut out = MemorySink::new(alloc, 64, &[])?;
+    Ok(is_handed_out(&mut memory, &mut out))
+}
+
+// The number of the first call that ends otherwise.
+fn first_other_end(alloc: Global) -> Result<Option<usize>, OutOfMemory> {
+    for (number, (data, name, words, end)) in CALLS.iter().enumerate() {
+        if !ends(alloc, data, 0, (*name, words, false), (*end, None))? {
+            return Ok(Some(number));
+        }
+    }
+    Ok(None)
+}
+
+#[test]
+fn answers_as_the_table_says(rt: HostRuntime) -> Result<(), Fail> {
+    assert_eq!(rt; first_other_end(rt.alloc())?, None);
     assert!(rt; is_heap_handed_out(rt.alloc())?);
     Ok(())
 }

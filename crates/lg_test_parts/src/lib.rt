@@ -11,8 +11,6 @@ mod cells;
 #[cfg(test)]
 mod check_rows;
 #[cfg(test)]
-mod edges;
-#[cfg(test)]
 mod expansion;
 #[cfg(test)]
 mod host;

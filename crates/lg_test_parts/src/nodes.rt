@@ -8,24 +8,16 @@ use lg_node::*;
 use std::alloc::Global;
 use std::test::Fail;
 
-// Whether words are labels in the order in which they come.
-fn are_numbered(nodes: &mut NodeList) -> Result<bool, OutOfMemory>
-    requires { nodes.old.words ≡ [] }
-{
-    let main = nodes.label(b"main")?;
-    let other = nodes.label(b"loop")?;
-    let again = nodes.label(b"main")?;
-    let are_counted = (main, other, again, nodes.labels()) == (Label(0), Label(1), main, 2);
-    Ok(are_counted && nodes.word(other) == b"loop".as_slice())
-}
-
-// Whether a label is bound once, to what comes next.
-fn is_bound_once(nodes: &mut NodeList) -> Result<bool, OutOfMemory>
+// Whether words are labels in the order in which they come, and a label is bound once, to what comes next.
+fn are_numbered_and_bound(nodes: &mut NodeList) -> Result<bool, OutOfMemory>
     requires words { nodes.old.words ≡ [] }
     requires nodes { nodes.old.nodes ≡ [] }
 {
     let main = nodes.label(b"main")?;
     let other = nodes.label(b"loop")?;
+    let again = nodes.label(b"main")?;
+    let are_counted = (main, other, again, nodes.labels()) == (Label(0), Label(1), main, 2);
+    let is_told = nodes.word(other) == b"loop".as_slice();
     nodes.push(Node {
         op: Op::Plain(PlainOp::Prolog),
         operands: Operands::of(&[]),
@@ -35,18 +27,13 @@ fn is_bound_once(nodes: &mut NodeList) -> Result<bool, OutOfMemory>
     let second = nodes.bind(other, Place::Image(0));
     let places = (nodes.place(main), nodes.place(other));
     let is_bound = first && !second && places == (None, Some(Place::Node(1)));
-    Ok(is_bound && (nodes.len(), nodes.node(0).line) == (1, 3))
+    Ok(are_counted && is_told && is_bound && (nodes.len(), nodes.node(0).line) == (1, 3))
 }
 
-// The same in lists of their own.
-fn are_words_numbered(alloc: Global) -> Result<bool, OutOfMemory> {
+// The same in a list of its own.
+fn is_list_right(alloc: Global) -> Result<bool, OutOfMemory> {
     let mut nodes = NodeList::new(alloc);
-    are_numbered(&mut nodes)
-}
-
-fn is_word_bound_once(alloc: Global) -> Result<bool, OutOfMemory> {
-    let mut nodes = NodeList::new(alloc);
-    is_bound_once(&mut nodes)
+    are_numbered_and_bound(&mut nodes)
 }
 
 // A function with a local of 12 bytes and a label whose address is taken, a node a line.
@@ -79,8 +66,7 @@ fn is_function_shaped(alloc: Global) -> Result<bool, Stop> {
 
 #[test]
 fn numbers_words_and_shapes_functions(rt: HostRuntime) -> Result<(), Fail> {
-    assert!(rt; are_words_numbered(rt.alloc())?);
-    assert!(rt; is_word_bound_once(rt.alloc())?);
+    assert!(rt; is_list_right(rt.alloc())?);
     assert!(rt; is_function_shaped(rt.alloc())?);
     Ok(())
 }

@@ -1,4 +1,4 @@
-// Runs that call host functions, from the first step to an answer that stays.
+// Runs of the processors: that call host functions, over bytes that are no code, and from the first step to an answer that stays.
 
 ghost use Rattle.std.specs.Prelude.{◌≤◌, length};
 
@@ -10,13 +10,279 @@ use std::test::Fail;
 
 const TRASH: u64 = 0x5a5a_5a5a_5a5a_5a5a;
 
+const CODE: u64 = 0x1000_0000;
+
 const PRINTF: u64 = 0x0ff0_0000;
 
-// the argument part of the one word `-`
+// The argument part of the one word `-`.
 const ARGS: [u8; 18] = [16, 0, 0, 0x28, 0, 0, 0, 0, 0, 0, 0, 0, 0, 0, 0, 0, b'-', 0];
 
-/// A processor of a target, with 64 bytes of data.
-pub fn processor(alloc: Global, target: Target, code: &[u8]) -> Result<Cpu, OutOfMemory>
+// What is done with a processor, or asked of it.
+enum Act {
+    // A register gets a word.
+    Set(u8, u64),
+    // So many bytes are stored at an address: the low ones of a number.
+    Store(u64, u32, u64),
+    // The program counter gets an address.
+    Jump(u64),
+    // The code becomes another.
+    Code(&'static [u8]),
+    // So many steps come to this answer.
+    Answer(u64, CpuStep),
+    // The program counter, and how many steps were taken.
+    At(u64, u64),
+    // A register holds a word.
+    Hold(u8, u64),
+    // This is all that was written.
+    Write(&'static [u8]),
+    // So many writes failed.
+    Fail(u64),
+    // Not all of the eight bytes at an address lie in one part of the memory.
+    Lack(u64),
+}
+
+// A target, its code, the number of the write that fails or 0, and what is done and asked.
+type Run = (Target, &'static [u8], u64, &'static [Act]);
+
+// addi x10, x0, 65; addi x9, x1, 0; lui x6, 0x0ff00; jalr x1, [x6+32]; jalr x0, [x9]
+const CALL: &[u8] = &[
+    0x13, 0x05, 0x10, 0x04, 0x93, 0x84, 0x00, 0x00, 0x37, 0x03, 0xf0, 0x0f, 0xe7, 0x00, 0x03, 0x02,
+    0x67, 0x80, 0x04, 0x00,
+];
+
+const RUNS: &[Run] = &[
+    // the code writes a letter and ends, and stays at its end
+    (
+        Target::Riscv64,
+        CALL,
+        0,
+        &[
+            Act::Hold(10, 1),
+            Act::Answer(5, CpuStep::Went),
+            Act::Write(b"A"),
+            Act::Hold(10, 65),
+            Act::Hold(6, TRASH),
+            Act::Hold(9, 0x0fe0_0000),
+            Act::Answer(2, CpuStep::Ended(0)),
+            Act::At(0x0fe0_0000, 6),
+        ],
+    ),
+    // the format "%d%d%d%d%d%d%d%d", of which the last number lies in a stack word, and a stack without one
+    (
+        Target::Riscv64,
+        &[],
+        0,
+        &[
+            Act::Store(0x2000_0000, 2, 0x6425),
+            Act::Store(0x2000_0002, 2, 0x6425),
+            Act::Store(0x2000_0004, 2, 0x6425),
+            Act::Store(0x2000_0006, 2, 0x6425),
+            Act::Store(0x2000_0008, 2, 0x6425),
+            Act::Store(0x2000_000a, 2, 0x6425),
+            Act::Store(0x2000_000c, 2, 0x6425),
+            Act::Store(0x2000_000e, 2, 0x6425),
+            Act::Set(10, 0x2000_0000),
+            Act::Set(11, 1),
+            Act::Set(12, 2),
+            Act::Set(13, 3),
+            Act::Set(14, 4),
+            Act::Set(15, 5),
+            Act::Set(16, 6),
+            Act::Set(17, 7),
+            Act::Jump(PRINTF),
+            Act::Answer(1, CpuStep::Fault(FaultKind::Host)),
+            Act::Set(2, 0x3fff_fff0),
+            Act::Store(0x3fff_fff0, 8, 8),
+            Act::Jump(PRINTF),
+            Act::Answer(1, CpuStep::Ended(0)),
+            Act::Write(b"12345678"),
+        ],
+    ),
+    // a write that fails is told again and again where it failed, and the processor goes on with other code
+    (
+        Target::Riscv64,
+        &[],
+        1,
+        &[
+            Act::Jump(PRINTF + 32),
+            Act::Answer(1, CpuStep::WriteFault),
+            Act::At(PRINTF + 32, 0),
+            Act::Fail(1),
+            Act::Answer(1, CpuStep::WriteFault),
+            Act::At(PRINTF + 32, 0),
+            Act::Fail(1),
+            Act::Code(&[0x13, 0, 0, 0]),
+            Act::Jump(CODE),
+            Act::Answer(1, CpuStep::Went),
+            Act::Answer(1, CpuStep::Fault(FaultKind::Fetch)),
+            Act::Lack(0x2000_003c),
+        ],
+    ),
+    // nop, and a jump to it, go round for a thousand steps
+    (
+        Target::X86_64,
+        &[0x90, 0xeb, 0xfd],
+        0,
+        &[Act::Answer(1_000, CpuStep::Went), Act::At(CODE, 1_000)],
+    ),
+    // bytes of no row, and none
+    (
+        Target::X86_64,
+        &[0, 0, 0, 0],
+        0,
+        &[
+            Act::Answer(0, CpuStep::Went),
+            Act::Answer(11, CpuStep::Fault(FaultKind::Decode)),
+            Act::At(CODE, 0),
+        ],
+    ),
+    (
+        Target::Aarch64,
+        &[0, 0, 0, 0],
+        0,
+        &[
+            Act::Answer(0, CpuStep::Went),
+            Act::Answer(11, CpuStep::Fault(FaultKind::Decode)),
+            Act::At(CODE, 0),
+        ],
+    ),
+    (
+        Target::Riscv64,
+        &[0, 0, 0, 0],
+        0,
+        &[
+            Act::Answer(0, CpuStep::Went),
+            Act::Answer(11, CpuStep::Fault(FaultKind::Decode)),
+            Act::At(CODE, 0),
+        ],
+    ),
+    (
+        Target::X86_64,
+        &[],
+        0,
+        &[
+            Act::Answer(0, CpuStep::Went),
+            Act::Answer(11, CpuStep::Fault(FaultKind::Fetch)),
+            Act::At(CODE, 0),
+        ],
+    ),
+    (
+        Target::Aarch64,
+        &[],
+        0,
+        &[
+            Act::Answer(0, CpuStep::Went),
+            Act::Answer(11, CpuStep::Fault(FaultKind::Fetch)),
+            Act::At(CODE, 0),
+        ],
+    ),
+    (
+        Target::Riscv64,
+        &[],
+        0,
+        &[
+            Act::Answer(0, CpuStep::Went),
+            Act::Answer(11, CpuStep::Fault(FaultKind::Fetch)),
+            Act::At(CODE, 0),
+        ],
+    ),
+    // nop, with nothing behind it
+    (
+        Target::X86_64,
+        &[0x90],
+        0,
+        &[
+            Act::Answer(1, CpuStep::Went),
+            Act::Answer(11, CpuStep::Fault(FaultKind::Fetch)),
+            Act::At(CODE + 1, 1),
+        ],
+    ),
+    (
+        Target::Aarch64,
+        &[0x1f, 0x20, 0x03, 0xd5],
+        0,
+        &[
+            Act::Answer(1, CpuStep::Went),
+            Act::Answer(11, CpuStep::Fault(FaultKind::Fetch)),
+            Act::At(CODE + 4, 1),
+        ],
+    ),
+    (
+        Target::Riscv64,
+        &[0x13, 0, 0, 0],
+        0,
+        &[
+            Act::Answer(1, CpuStep::Went),
+            Act::Answer(11, CpuStep::Fault(FaultKind::Fetch)),
+            Act::At(CODE + 4, 1),
+        ],
+    ),
+    // a register gets 0, and a jump goes there
+    (
+        Target::X86_64,
+        &[0xb8, 0, 0, 0, 0, 0xff, 0xe0],
+        0,
+        &[
+            Act::Answer(2, CpuStep::Went),
+            Act::Answer(11, CpuStep::Fault(FaultKind::Fetch)),
+            Act::At(0, 2),
+        ],
+    ),
+    (
+        Target::Aarch64,
+        &[0x00, 0x00, 0x80, 0xd2, 0x00, 0x00, 0x1f, 0xd6],
+        0,
+        &[
+            Act::Answer(2, CpuStep::Went),
+            Act::Answer(11, CpuStep::Fault(FaultKind::Fetch)),
+            Act::At(0, 2),
+        ],
+    ),
+    (
+        Target::Riscv64,
+        &[0x93, 0x02, 0x00, 0x00, 0x67, 0x80, 0x02, 0x00],
+        0,
+        &[
+            Act::Answer(2, CpuStep::Went),
+            Act::Answer(11, CpuStep::Fault(FaultKind::Fetch)),
+            Act::At(0, 2),
+        ],
+    ),
+    // a register gets 8, and is stored there, which is in no part
+    (
+        Target::X86_64,
+        &[0xb8, 8, 0, 0, 0, 0x48, 0x89, 0x40, 0x00],
+        0,
+        &[
+            Act::Answer(1, CpuStep::Went),
+            Act::Answer(11, CpuStep::Fault(FaultKind::Memory)),
+            Act::At(CODE + 5, 1),
+        ],
+    ),
+    (
+        Target::Aarch64,
+        &[0x00, 0x01, 0x80, 0xd2, 0x00, 0x00, 0x00, 0xf9],
+        0,
+        &[
+            Act::Answer(1, CpuStep::Went),
+            Act::Answer(11, CpuStep::Fault(FaultKind::Memory)),
+            Act::At(CODE + 4, 1),
+        ],
+    ),
+    (
+        Target::Riscv64,
+        &[0x93, 0x02, 0x80, 0x00, 0x23, 0xb0, 0x52, 0x00],
+        0,
+        &[
+            Act::Answer(1, CpuStep::Went),
+            Act::Answer(11, CpuStep::Fault(FaultKind::Memory)),
+            Act::At(CODE + 4, 1),
+        ],
+    ),
+];
+
+// A processor of a target, with 64 bytes of data.
+fn processor(alloc: Global, target: Target, code: &[u8]) -> Result<Cpu, OutOfMemory>
     requires { length code.now ≤ 64 }
 {
     let code = CodeBytes::of(alloc, code)?;
@@ -25,8 +291,8 @@ pub fn processor(alloc: Global, target: Target, code: &[u8]) -> Result<Cpu, OutO
     Cpu::new(alloc, target, &code, &image, &args, TRASH)
 }
 
-/// A step of a processor that has taken few.
-pub fn step(cpu: &mut Cpu, out: &mut MemorySink) -> CpuStep {
+// A step of a processor that has taken few.
+fn step(cpu: &mut Cpu, out: &mut MemorySink) -> CpuStep {
     if cpu.steps() < 10_000 {
         cpu.step(out)
     } else {
@@ -34,141 +300,84 @@ pub fn step(cpu: &mut Cpu, out: &mut MemorySink) -> CpuStep {
     }
 }
 
-/// Whether so many steps go on.
-pub fn goes_on(cpu: &mut Cpu, out: &mut MemorySink, steps: u64) -> bool {
+// Whether so many steps come to this answer.
+fn answers(cpu: &mut Cpu, out: &mut MemorySink, steps: u64, answer: CpuStep) -> bool {
     for _ in 0..steps {
-        if step(cpu, out) != CpuStep::Went {
+        if step(cpu, out) != answer {
             return false;
         }
     }
     true
 }
 
-/// Whether so many calls answer this, at this program counter and behind so many steps.
-pub fn stays(
-    cpu: &mut Cpu,
-    out: &mut MemorySink,
-    calls: u32,
-    answer: CpuStep,
-    place: (u64, u64),
-) -> bool {
-    for _ in 0..calls {
-        if step(cpu, out) != answer || (cpu.pc(), cpu.steps()) != place {
+// Replaces the code, where there is memory.
+fn replace(alloc: Global, cpu: &mut Cpu, code: &[u8]) -> bool {
+    if code.len() > 64 {
+        return false;
+    }
+    match CodeBytes::of(alloc, code) {
+        Ok(code) => {
+            cpu.set_code(code);
+            true
+        }
+        Err(_) => false,
+    }
+}
+
+// Whether something that is asked is so.
+fn is_so(cpu: &Cpu, out: &MemorySink, act: &Act) -> bool {
+    match act {
+        Act::At(pc, steps) => (cpu.pc(), cpu.steps()) == (*pc, *steps),
+        Act::Hold(number, word) if *number < 32 => cpu.register(*number) == *word,
+        Act::Write(bytes) => out.bytes() == *bytes,
+        Act::Fail(writes) => out.faults() == *writes,
+        Act::Lack(address) => cpu.load(*address, 8) == None,
+        _ => false,
+    }
+}
+
+// Does what is to be done, where that can be, or tells whether what is asked is so.
+fn holds(alloc: Global, cpu: &mut Cpu, out: &mut MemorySink, act: &Act) -> bool {
+    match act {
+        Act::Set(number, word) if *number < 32 => {
+            cpu.set_register(*number, *word);
+            true
+        }
+        Act::Store(address, width @ (2 | 8), word) => cpu.store(*address, *width, *word),
+        Act::Jump(pc) => {
+            cpu.set_pc(*pc);
+            true
+        }
+        Act::Code(code) => replace(alloc, cpu, code),
+        Act::Answer(steps, answer) => answers(cpu, out, *steps, *answer),
+        _ => is_so(cpu, out, act),
+    }
+}
+
+// Whether all of this is done and so, one after the other.
+fn hold(alloc: Global, cpu: &mut Cpu, out: &mut MemorySink, acts: &[Act]) -> bool {
+    for act in acts {
+        if !holds(alloc, cpu, out, act) {
             return false;
         }
     }
     true
 }
 
-// addi x10, x0, 65; addi x9, x1, 0; lui x6, 0x0ff00; jalr x1, [x6+32]; jalr x0, [x9]
-const CALL: [u8; 20] = [
-    0x13, 0x05, 0x10, 0x04, 0x93, 0x84, 0x00, 0x00, 0x37, 0x03, 0xf0, 0x0f, 0xe7, 0x00, 0x03, 0x02,
-    0x67, 0x80, 0x04, 0x00,
-];
-
-// Whether the code writes a letter and ends, and stays at its end.
-fn calls_putchar(cpu: &mut Cpu, out: &mut MemorySink) -> bool {
-    let first = cpu.register(10);
-    let has_gone = goes_on(cpu, out, 5);
-    let registers = (cpu.register(10), cpu.register(6), cpu.register(9));
-    first == 1
-        && has_gone
-        && out.bytes() == b"A".as_slice()
-        && registers == (65, TRASH, 0x0fe0_0000)
-        && stays(cpu, out, 2, CpuStep::Ended(0), (0x0fe0_0000, 6))
-}
-
-fn is_putchar_called(alloc: Global) -> Result<bool, OutOfMemory> {
-    let mut cpu = processor(alloc, Target::Riscv64, &CALL)?;
-    let mut out = MemorySink::new(alloc, 8, &[])?;
-    Ok(calls_putchar(&mut cpu, &mut out))
+fn runs(alloc: Global, run: &Run) -> Result<bool, OutOfMemory> {
+    let (target, code, fails, acts) = run;
+    if code.len() > 64 {
+        return Ok(false);
+    }
+    let mut cpu = processor(alloc, *target, code)?;
+    let mut out = MemorySink::new(alloc, 64, &[*fails])?;
+    Ok(hold(alloc, &mut cpu, &mut out, acts))
 }
 
 #[test]
-fn runs_code_that_calls_putchar(rt: HostRuntime) -> Result<(), Fail> {
-    assert!(rt; is_putchar_called(rt.alloc())?);
-    Ok(())
-}
-
-// Sets the format "%d%d%d%d%d%d%d%d", of which the last number lies in a stack word, and the first seven numbers.
-fn set_arguments(cpu: &mut Cpu) -> bool {
-    for place in 0..8 {
-        if !cpu.store(0x2000_0000 + 2 * place, 2, 0x6425) {
-            return false;
-        }
+fn runs_as_the_table_says(rt: HostRuntime) -> Result<(), Fail> {
+    for (number, run) in RUNS.iter().enumerate() {
+        assert!(rt; runs(rt.alloc(), run)?, "at {number}");
     }
-    cpu.set_register(10, 0x2000_0000);
-    for number in 11..18 {
-        cpu.set_register(number, u64::from(number) - 10);
-    }
-    true
-}
-
-// What `printf` answers with the stack pointer as it is.
-fn print(cpu: &mut Cpu, out: &mut MemorySink) -> CpuStep {
-    cpu.set_pc(PRINTF);
-    step(cpu, out)
-}
-
-// Sets the stack pointer, and the eighth number there.
-fn set_stack_word(cpu: &mut Cpu) -> bool {
-    cpu.set_register(2, 0x3fff_fff0);
-    cpu.store(0x3fff_fff0, 8, 8)
-}
-
-// Whether a word of the stack is passed, and a stack without one is a fault.
-fn passes_words(cpu: &mut Cpu, out: &mut MemorySink) -> bool {
-    set_arguments(cpu)
-        && print(cpu, out) == CpuStep::Fault(FaultKind::Host)
-        && set_stack_word(cpu)
-        && print(cpu, out) == CpuStep::Ended(0)
-        && out.bytes() == b"12345678".as_slice()
-}
-
-fn are_words_passed(alloc: Global) -> Result<bool, OutOfMemory> {
-    let mut cpu = processor(alloc, Target::Riscv64, &[])?;
-    let mut out = MemorySink::new(alloc, 64, &[])?;
-    Ok(passes_words(&mut cpu, &mut out))
-}
-
-#[test]
-fn passes_words_of_the_stack(rt: HostRuntime) -> Result<(), Fail> {
-    assert!(rt; are_words_passed(rt.alloc())?);
-    Ok(())
-}
-
-// Whether a write that fails is told again and again, where it failed.
-fn fails(cpu: &mut Cpu, out: &mut MemorySink) -> bool {
-    cpu.set_pc(PRINTF + 32);
-    for _ in 0..2 {
-        if !stays(cpu, out, 1, CpuStep::WriteFault, (PRINTF + 32, 0)) || out.faults() != 1 {
-            return false;
-        }
-    }
-    true
-}
-
-// Whether a processor that failed goes on with other code.
-fn goes_on_with(cpu: &mut Cpu, out: &mut MemorySink, code: CodeBytes) -> bool
-    requires { length code.items ≤ 64 }
-{
-    cpu.set_code(code);
-    cpu.set_pc(0x1000_0000);
-    step(cpu, out) == CpuStep::Went
-        && step(cpu, out) == CpuStep::Fault(FaultKind::Fetch)
-        && cpu.load(0x2000_003c, 8) == None
-}
-
-fn is_failure_kept(alloc: Global) -> Result<bool, OutOfMemory> {
-    let code = CodeBytes::of(alloc, &[0x13, 0, 0, 0])?;
-    let mut cpu = processor(alloc, Target::Riscv64, &[])?;
-    let mut out = MemorySink::new(alloc, 8, &[1])?;
-    let is_told = fails(&mut cpu, &mut out);
-    Ok(is_told && goes_on_with(&mut cpu, &mut out, code))
-}
-
-#[test]
-fn keeps_its_answer_after_a_failed_write(rt: HostRuntime) -> Result<(), Fail> {
-    assert!(rt; is_failure_kept(rt.alloc())?);
     Ok(())
 }

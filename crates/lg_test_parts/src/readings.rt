@@ -1,7 +1,6 @@
 // Texts that are read, and texts that are refused with a kind and a line, worked out by hand from the rules of statements.
 
-use crate::rows::{Kind, Table, first_other};
-use std::test::Fail;
+use crate::rows::{Kind, Table};
 
 // In the tables a row is `accepted`, or the kind and the line of its text's refusal, then 1F and the text; between rows stands 1E.
 
@@ -137,7 +136,8 @@ const NO_DATA: &str = "BadOperand 1\x1f.data 4 .align 3\x1e\
         UnknownName 1\x1f.data 4 .c 1 @foo\x1e\
         UnknownName 1\x1f.data 4 .s 1 \"a\"";
 
-const TABLES: &[Table] = &[
+/// What comes of texts.
+pub(crate) const TABLES: &[Table] = &[
     (Kind::Read, &[], READ),
     (Kind::Read, &[], NO_STATEMENTS),
     (Kind::Read, &[], OPERANDS),
@@ -145,9 +145,3 @@ const TABLES: &[Table] = &[
     (Kind::Read, &[], DATA),
     (Kind::Read, &[], NO_DATA),
 ];
-
-#[test]
-fn reads_texts(rt: HostRuntime) -> Result<(), Fail> {
-    assert_eq!(rt; first_other(rt.alloc(), TABLES)?, None);
-    Ok(())
-}

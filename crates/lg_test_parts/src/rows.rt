@@ -1,16 +1,15 @@
 // Rows of tables: what is wanted of a text, and the text; and what is made of texts.
 
-use crate::{expansion, tokens, units};
+use crate::{check_rows, expansion, parse_rows, readings, tokens, units};
 use lg_base::{Refusal, Stop};
+use lg_io::{Digits, Radix};
 use std::alloc::{AllocError, Global};
+use std::test::Fail;
 
 /// What is made of a text. Where a text is refused, it is the kind and the line of the refusal.
-#[derive(Clone, Copy)]
 pub(crate) enum Kind {
-    /// Its one token's value, or how many tokens it has.
+    /// Its one token's value, or `nothing` where it has none.
     Tokens,
-    /// Its tokens, each in a line.
-    Listed,
     /// Its expansion.
     Expansion,
     /// Its expansion, which has as many line feeds as the text.
@@ -21,12 +20,10 @@ pub(crate) enum Kind {
     Checked,
     /// How many nodes it has.
     Nodes,
-    /// The places of its labels, each in a line.
-    Places,
-    /// The lines and last operands of its nodes, each in a line.
-    Operands,
     /// The bytes of its data.
     Image,
+    /// How many bytes it has itself.
+    Size,
 }
 
 /// A piece of a text.
@@ -35,92 +32,93 @@ pub(crate) enum Piece {
     Of(&'static [u8]),
     /// Bytes so many times.
     Times(&'static [u8], u32),
-    /// The definitions of so many names, each by the one before: `a1` and so on.
+    /// The definitions of so many names, each by the one before: `a1` and so on. Nothing that comes of a text has it.
     Names(u32),
 }
 
 /// A table: what is made of texts, what each begins with, and rows. A row is what comes of a text, then 1F and the text; between rows stands 1E.
 pub(crate) type Table = (Kind, &'static [Piece], &'static str);
 
+/// What should come of a text: bytes, and pieces behind them.
+pub(crate) type Wanted = (&'static [u8], &'static [Piece]);
+
 /// What is made of a text, the text, and what comes of it.
-pub(crate) type Made = (Kind, &'static [Piece], &'static [Piece]);
+pub(crate) type Made = (Kind, &'static [Piece], Wanted);
 
-/// The kind and the line of a refusal.
-pub(crate) fn refusal(alloc: Global, stop: Stop) -> Result<String, AllocError> {
+/// Whether bytes are the digits of a number.
+pub(crate) fn are_digits(bytes: &[u8], number: u64) -> bool {
+    bytes == Digits::of(number, Radix::Decimal).as_slice()
+}
+
+/// Whether bytes are the kind and the line of a refusal, with a blank between.
+pub(crate) fn is_refusal(refusal: Refusal, wanted: &[u8]) -> bool {
+    let name = refusal.kind.name().as_bytes();
+    match wanted.get(name.len()..) {
+        Some([b' ', line @ ..]) => {
+            wanted.starts_with(name) && are_digits(line, u64::from(refusal.line))
+        }
+        _ => false,
+    }
+}
+
+/// Whether a text should come to this stop.
+pub(crate) fn is_stop(stop: Stop, wanted: Wanted) -> bool {
     match stop {
-        Stop::Refused(Refusal { kind, line }) => format!(in alloc; "{} {line}", kind.name()),
-        Stop::OutOfMemory => String::from_str(alloc, "out of memory"),
+        Stop::Refused(refusal) => is_refusal(refusal, wanted.0),
+        Stop::OutOfMemory => wanted.0 == b"out of memory".as_slice(),
     }
 }
 
-// What is made of a text, in letters.
-fn told(alloc: Global, kind: Kind, text: &[u8]) -> Result<String, AllocError> {
-    match kind {
-        Kind::Tokens => tokens::told(alloc, text),
-        Kind::Listed => tokens::listed(alloc, text),
-        _ => units::told(alloc, kind, text),
+// What stands behind bytes so many times.
+fn behind<'a>(text: &'a [u8], bytes: &[u8], times: u32) -> Option<&'a [u8]> {
+    let mut rest = text;
+    for _ in 0..times {
+        if !rest.starts_with(bytes) {
+            return None;
+        }
+        rest = rest.get(bytes.len()..)?;
+    }
+    Some(rest)
+}
+
+// What stands behind a piece.
+fn behind_piece<'a>(text: &'a [u8], piece: &Piece) -> Option<&'a [u8]> {
+    match piece {
+        Piece::Of(bytes) => behind(text, bytes, 1),
+        Piece::Times(bytes, times) => behind(text, bytes, *times),
+        Piece::Names(_) => None,
     }
 }
 
-// What is made of a text.
-fn found(alloc: Global, kind: Kind, text: &[u8]) -> Result<Vec<u8>, AllocError> {
-    match kind {
-        Kind::Expansion | Kind::Lines => expansion::told(alloc, text),
-        Kind::Image => units::image(alloc, text),
-        _ => Ok(told(alloc, kind, text)?.into_bytes()),
-    }
-}
-
-// How many line feeds bytes have.
-fn feeds(bytes: &[u8]) -> usize {
-    bytes.iter().filter(|b| **b == b'\n').count()
-}
-
-// Whether a text has as many line feeds as what comes of it, where it should.
-fn keeps_lines(kind: Kind, text: &[u8], wanted: &[u8]) -> bool {
-    match kind {
-        Kind::Lines => feeds(text) == feeds(wanted),
-        _ => true,
-    }
-}
-
-/// Whether this comes of a text.
-pub(crate) fn gives(
-    alloc: Global,
-    kind: Kind,
-    text: &[u8],
-    wanted: &[u8],
-) -> Result<bool, AllocError> {
-    let found = found(alloc, kind, text)?;
-    Ok(found.as_slice() == wanted && keeps_lines(kind, text, wanted))
-}
-
-/// What a row wants, and the text behind its byte 1F.
-pub(crate) fn parts(row: &str) -> (&str, &str) {
-    row.split_once('\x1f').unwrap_or((row, ""))
-}
-
-// Whether what a row wants comes of its text behind a beginning.
-fn is_right(alloc: Global, kind: Kind, before: &[u8], row: &str) -> Result<bool, AllocError> {
-    let (wanted, behind) = parts(row);
-    let mut text = Vec::from_slice(alloc, before)?;
-    text.extend_from_slice(behind.as_bytes())?;
-    gives(alloc, kind, &text, wanted.as_bytes())
-}
-
-// The first row of which something else comes.
-fn first_other_row(
-    alloc: Global,
-    kind: Kind,
-    before: &[u8],
-    rows: &'static str,
-) -> Result<Option<&'static str>, AllocError> {
-    for row in rows.split('\x1e') {
-        if !is_right(alloc, kind, before, row)? {
-            return Ok(Some(row));
+/// Whether bytes are those of pieces.
+pub(crate) fn are_of(bytes: &[u8], pieces: &[Piece]) -> bool {
+    let mut rest = bytes;
+    for piece in pieces {
+        match behind_piece(rest, piece) {
+            Some(behind) => rest = behind,
+            None => return false,
         }
     }
-    Ok(None)
+    rest.is_empty()
+}
+
+/// Whether bytes are those that are wanted.
+pub(crate) fn are_wanted(bytes: &[u8], wanted: Wanted) -> bool {
+    match behind(bytes, wanted.0, 1) {
+        Some(rest) => are_of(rest, wanted.1),
+        None => false,
+    }
+}
+
+// Whether this comes of a text.
+fn gives(alloc: Global, kind: &Kind, text: &[u8], wanted: Wanted) -> bool {
+    match kind {
+        Kind::Tokens => tokens::gives(text, wanted.0),
+        Kind::Expansion => expansion::gives(alloc, text, wanted),
+        Kind::Lines => expansion::gives_lines(alloc, text, wanted),
+        Kind::Size => are_digits(wanted.0, text.len() as u64),
+        _ => units::gives(alloc, kind, text, wanted),
+    }
 }
 
 // Appends bytes so many times.
@@ -153,52 +151,126 @@ fn push_piece(alloc: Global, text: &mut Vec<u8>, piece: &Piece) -> Result<(), Al
     }
 }
 
+// Appends pieces.
+fn push_pieces(alloc: Global, text: &mut Vec<u8>, pieces: &[Piece]) -> Result<(), AllocError> {
+    for piece in pieces {
+        push_piece(alloc, text, piece)?;
+    }
+    Ok(())
+}
+
 /// The text of pieces.
 pub(crate) fn made(alloc: Global, pieces: &[Piece]) -> Result<Vec<u8>, AllocError> {
     let mut text = Vec::new(alloc);
-    for piece in pieces {
-        push_piece(alloc, &mut text, piece)?;
-    }
+    push_pieces(alloc, &mut text, pieces)?;
     Ok(text)
 }
 
-// The first row of a table of which something else comes.
-fn first_other_of(alloc: Global, table: &Table) -> Result<Option<&'static str>, AllocError> {
-    let (kind, pieces, rows) = table;
-    let before = made(alloc, pieces)?;
-    first_other_row(alloc, *kind, &before, rows)
+// Whether what is wanted comes of a text of pieces, and of bytes behind them.
+fn is_right(
+    alloc: Global,
+    kind: &Kind,
+    pieces: &[Piece],
+    bytes: &[u8],
+    wanted: Wanted,
+) -> Result<bool, AllocError> {
+    let mut text = made(alloc, pieces)?;
+    text.extend_from_slice(bytes)?;
+    Ok(gives(alloc, kind, &text, wanted))
 }
 
-/// The first row of tables of which something else comes.
-pub(crate) fn first_other(
+// Whether what a row wants comes of its text behind a beginning.
+fn is_row_right(
     alloc: Global,
-    tables: &[Table],
-) -> Result<Option<&'static str>, AllocError> {
-    for table in tables {
-        let other = first_other_of(alloc, table)?;
-        if other != None {
-            return Ok(other);
+    kind: &Kind,
+    before: &[Piece],
+    row: &'static str,
+) -> Result<bool, AllocError> {
+    let (wanted, text) = row.split_once('\x1f').unwrap_or((row, ""));
+    is_right(
+        alloc,
+        kind,
+        before,
+        text.as_bytes(),
+        (wanted.as_bytes(), &[]),
+    )
+}
+
+// The first row of a table of which something else comes.
+fn first_other_row(alloc: Global, table: &Table) -> Result<Option<&'static str>, AllocError> {
+    let (kind, before, rows) = table;
+    for row in rows.split('\x1e') {
+        if !is_row_right(alloc, kind, before, row)? {
+            return Ok(Some(row));
         }
     }
     Ok(None)
 }
 
-// Whether what is wanted comes of a text of pieces.
-fn is_made_right(alloc: Global, row: &Made) -> Result<bool, AllocError> {
-    let (kind, pieces, wanted) = row;
-    let text = made(alloc, pieces)?;
-    let wanted = made(alloc, wanted)?;
-    gives(alloc, *kind, &text, &wanted)
+// The first row of tables of which something else comes.
+fn first_other(alloc: Global, tables: &[Table]) -> Result<Option<&'static str>, AllocError> {
+    for table in tables {
+        if let Some(row) = first_other_row(alloc, table)? {
+            return Ok(Some(row));
+        }
+    }
+    Ok(None)
 }
 
-/// The number of the first text of pieces, from 0 on, of which something else comes.
-pub(crate) fn first_other_made(alloc: Global, rows: &[Made]) -> Result<Option<u32>, AllocError> {
-    let mut number = 0u32;
-    for row in rows {
-        if !is_made_right(alloc, row)? {
+// The same of lists of tables.
+fn first_other_of(alloc: Global, lists: &[&[Table]]) -> Result<Option<&'static str>, AllocError> {
+    for tables in lists {
+        if let Some(row) = first_other(alloc, tables)? {
+            return Ok(Some(row));
+        }
+    }
+    Ok(None)
+}
+
+// The number of the first text of pieces, from 0 on, of which something else comes.
+fn first_other_made(alloc: Global, rows: &[Made]) -> Result<Option<usize>, AllocError> {
+    for (number, (kind, text, wanted)) in rows.iter().enumerate() {
+        if !is_right(alloc, kind, text, b"", *wanted)? {
             return Ok(Some(number));
         }
-        number = number.wrapping_add(1);
     }
     Ok(None)
+}
+
+const TABLES: &[&[Table]] = &[
+    tokens::TABLES,
+    readings::TABLES,
+    check_rows::TABLES,
+    expansion::conditions::TABLES,
+    expansion::directives::TABLES,
+    expansion::names::TABLES,
+];
+
+#[test]
+fn makes_of_texts_what_rows_say(rt: HostRuntime) -> Result<(), Fail> {
+    assert_eq!(rt; first_other_of(rt.alloc(), TABLES)?, None);
+    Ok(())
+}
+
+const LARGEST: &[&[Table]] = &[parse_rows::LARGEST, expansion::limits::TABLES];
+
+#[test]
+fn makes_of_the_largest_texts_what_rows_say(rt: HostRuntime) -> Result<(), Fail> {
+    assert_eq!(rt; first_other_of(rt.alloc(), LARGEST)?, None);
+    Ok(())
+}
+
+#[test]
+fn makes_of_pieces_what_rows_say(rt: HostRuntime) -> Result<(), Fail> {
+    assert_eq!(rt; first_other_made(rt.alloc(), tokens::MADE)?, None);
+    assert_eq!(rt; first_other_made(rt.alloc(), parse_rows::MADE)?, None);
+    assert_eq!(rt;
+        first_other_made(rt.alloc(), expansion::conditions::MADE)?,
+        None
+    );
+    assert_eq!(rt;
+        first_other_made(rt.alloc(), expansion::limits::MADE)?,
+        None
+    );
+    Ok(())
 }

@@ -57,14 +57,18 @@ fn is_written(rt: &impl Files) -> io::Result<bool> {
     Ok(is_done && sink.faults() == 0)
 }
 
+fn is_read<R: Files + Input>(texts: &mut StdTexts<'_, R>) -> bool {
+    let mut into = [0u8; 4];
+    turns_are(texts, &mut into, WITHOUT_TEXT)
+        && texts.faults() == 1
+        && turns_are(texts, &mut into, WRITTEN_IS_READ)
+        && texts.faults() == 1
+}
+
 // Whether the file is read back.
 fn is_read_back(rt: &(impl Files + Input)) -> bool {
     let mut texts = StdTexts::new(rt);
-    let mut into = [0u8; 4];
-    turns_are(&mut texts, &mut into, WITHOUT_TEXT)
-        && texts.faults() == 1
-        && turns_are(&mut texts, &mut into, WRITTEN_IS_READ)
-        && texts.faults() == 1
+    is_read(&mut texts)
 }
 
 #[test]
@@ -104,10 +108,9 @@ fn are_faults_counted(sink: &mut StdSink<Tired>) -> bool {
         && sink.faults() == 2
 }
 
-#[test]
-fn counts_the_faults_of_a_writer(rt: HostRuntime) {
+fn is_writer_watched() -> bool {
     let mut sink = StdSink::new(Tired { calls: 0 });
-    assert!(rt; are_faults_counted(&mut sink));
+    are_faults_counted(&mut sink)
 }
 
 // Texts of which the first with the name `a` is read, and calls that fail: the fourth and the sixth.
@@ -121,26 +124,15 @@ const MEMORY_IS_READ: &[Turn<'static>] = &[
     ("", Ok(0), b""),
 ];
 
-fn add_texts(texts: &mut MemoryTexts) -> Result<(), OutOfMemory> {
+fn are_added_and_read(texts: &mut MemoryTexts) -> Result<bool, OutOfMemory> {
     texts.add("a", b"first")?;
-    texts.add("a", b"second")
+    texts.add("a", b"second")?;
+    Ok(turns_are(texts, &mut [0u8; 3], MEMORY_IS_READ) && texts.faults() == 3)
 }
 
 fn are_texts_read(alloc: Global) -> Result<bool, OutOfMemory> {
     let mut texts = MemoryTexts::new(alloc, &[4, 6])?;
-    match add_texts(&mut texts) {
-        Ok(()) => {
-            let are_read = turns_are(&mut texts, &mut [0u8; 3], MEMORY_IS_READ);
-            Ok(are_read && texts.faults() == 3)
-        }
-        Err(OutOfMemory) => Err(OutOfMemory),
-    }
-}
-
-#[test]
-fn reads_texts_of_memory(rt: HostRuntime) -> Result<(), Fail> {
-    assert!(rt; are_texts_read(rt.alloc())?);
-    Ok(())
+    are_added_and_read(&mut texts)
 }
 
 // Whether a sink with room for 5 bytes, whose second write fails, takes what it can.
@@ -157,12 +149,6 @@ fn is_sink_filled(alloc: Global) -> Result<bool, OutOfMemory> {
     Ok(is_filled(&mut sink))
 }
 
-#[test]
-fn fills_a_sink_of_memory(rt: HostRuntime) -> Result<(), Fail> {
-    assert!(rt; is_sink_filled(rt.alloc())?);
-    Ok(())
-}
-
 // Numbers with their digits.
 const DIGITS: &[(u64, Radix, &[u8])] = &[
     (0, Radix::Decimal, b"0"),
@@ -173,8 +159,8 @@ const DIGITS: &[(u64, Radix, &[u8])] = &[
     (0xfa, Radix::UpperHexadecimal, b"FA"),
 ];
 
-fn are_digits(table: &[(u64, Radix, &[u8])]) -> bool {
-    for (number, radix, digits) in table {
+fn are_digits() -> bool {
+    for (number, radix, digits) in DIGITS {
         if Digits::of(*number, *radix).as_slice() != *digits {
             return false;
         }
@@ -183,6 +169,10 @@ fn are_digits(table: &[(u64, Radix, &[u8])]) -> bool {
 }
 
 #[test]
-fn writes_digits(rt: HostRuntime) {
-    assert!(rt; are_digits(DIGITS));
+fn reads_writes_and_counts_faults(rt: HostRuntime) -> Result<(), Fail> {
+    assert!(rt; is_writer_watched());
+    assert!(rt; are_texts_read(rt.alloc())?);
+    assert!(rt; is_sink_filled(rt.alloc())?);
+    assert!(rt; are_digits());
+    Ok(())
 }

@@ -78,21 +78,11 @@ fn are_chosen() -> bool {
     true
 }
 
-#[test]
-fn chooses_in_the_order(rt: HostRuntime) {
-    assert!(rt; are_chosen());
-}
-
 fn are_choices_held() -> bool {
     let list = [Choice::Free(9), Choice::Own(0)];
     let staged = Staged::of(&[0, 5]);
     let is_staged = staged.has(5) && !staged.has(1) && staged.len() == 2;
     is_staged && Choices::of(&list).as_slice() == list.as_slice()
-}
-
-#[test]
-fn holds_choices_and_staged_arguments(rt: HostRuntime) {
-    assert!(rt; are_choices_held());
 }
 
 fn is_convention_known() -> bool {
@@ -106,6 +96,8 @@ fn is_convention_known() -> bool {
 }
 
 #[test]
-fn knows_the_conventions(rt: HostRuntime) {
+fn chooses_in_the_order(rt: HostRuntime) {
+    assert!(rt; are_chosen());
+    assert!(rt; are_choices_held());
     assert!(rt; is_convention_known());
 }

@@ -1,10 +1,10 @@
-// What texts are read as: their nodes with operands, places of labels and bytes of data.
+// What texts are read as, and whether they pass the checks.
 
-use crate::rows::{Kind, refusal};
+use crate::rows::{Kind, Wanted, are_digits, are_wanted, is_stop};
 use lg_base::Stop;
-use lg_node::{Label, NodeList, Unit, check};
+use lg_node::{Unit, check};
 use lg_tst::parse;
-use std::alloc::{AllocError, Global};
+use std::alloc::Global;
 
 /// What a text is read as. What it is promised to be is for proofs, and of no use here.
 pub(crate) fn read(alloc: Global, text: &[u8]) -> Result<Unit, Stop> {
@@ -14,78 +14,34 @@ pub(crate) fn read(alloc: Global, text: &[u8]) -> Result<Unit, Stop> {
     parse(alloc, text)
 }
 
-// Appends the line and the last operand of each node, in lines.
-fn push_operands(list: &mut String, nodes: &NodeList) -> Result<(), AllocError> {
-    for index in 0..nodes.len() {
-        let node = nodes.node(index);
-        let line = node.line;
-        match node.operands.as_slice().last() {
-            Some(operand) => write!(list, "{line} {operand:?}\n")?,
-            None => write!(list, "{line} none\n")?,
-        }
-    }
-    Ok(())
-}
-
-// Appends the place of each label, in lines.
-fn push_places(list: &mut String, nodes: &NodeList) -> Result<(), AllocError> {
-    for label in 0..nodes.labels() {
-        match nodes.place(Label(label)) {
-            Some(place) => write!(list, "{place:?}\n")?,
-            None => write!(list, "none\n")?,
-        }
-    }
-    Ok(())
-}
-
-fn operands(alloc: Global, nodes: &NodeList) -> Result<String, AllocError> {
-    let mut list = String::new(alloc);
-    push_operands(&mut list, nodes)?;
-    Ok(list)
-}
-
-fn places(alloc: Global, nodes: &NodeList) -> Result<String, AllocError> {
-    let mut list = String::new(alloc);
-    push_places(&mut list, nodes)?;
-    Ok(list)
-}
-
 // Whether a unit passes the checks.
 fn passes(alloc: Global, unit: &Unit) -> Result<(), Stop> {
     check(alloc, unit)?;
     Ok(())
 }
 
-// `accepted`, or the kind and the line of a unit's refusal.
-fn checked(alloc: Global, unit: &Unit) -> Result<String, AllocError> {
+// Whether a unit should be accepted, or refused for what it is.
+fn is_checked(alloc: Global, unit: &Unit, wanted: Wanted) -> bool {
     match passes(alloc, unit) {
-        Ok(()) => String::from_str(alloc, "accepted"),
-        Err(stop) => refusal(alloc, stop),
+        Ok(()) => wanted.0 == b"accepted".as_slice(),
+        Err(stop) => is_stop(stop, wanted),
     }
 }
 
-fn told_of(alloc: Global, kind: Kind, unit: &Unit) -> Result<String, AllocError> {
+// Whether this is said of a unit.
+fn is_said(alloc: Global, kind: &Kind, unit: &Unit, wanted: Wanted) -> bool {
     match kind {
-        Kind::Checked => checked(alloc, unit),
-        Kind::Nodes => format!(in alloc; "{} nodes", unit.nodes.len()),
-        Kind::Places => places(alloc, &unit.nodes),
-        Kind::Operands => operands(alloc, &unit.nodes),
-        _ => String::from_str(alloc, "accepted"),
+        Kind::Checked => is_checked(alloc, unit, wanted),
+        Kind::Nodes => are_digits(wanted.0, u64::from(unit.nodes.len())),
+        Kind::Image => are_wanted(unit.image.as_slice(), wanted),
+        _ => wanted.0 == b"accepted".as_slice(),
     }
 }
 
-/// What is told of a text, or the kind and the line of its refusal.
-pub(crate) fn told(alloc: Global, kind: Kind, text: &[u8]) -> Result<String, AllocError> {
+/// Whether this is said of a text's unit, or is the kind and the line of its refusal.
+pub(crate) fn gives(alloc: Global, kind: &Kind, text: &[u8], wanted: Wanted) -> bool {
     match read(alloc, text) {
-        Ok(unit) => told_of(alloc, kind, &unit),
-        Err(stop) => refusal(alloc, stop),
-    }
-}
-
-/// The bytes of a text's data, or the kind and the line of its refusal.
-pub(crate) fn image(alloc: Global, text: &[u8]) -> Result<Vec<u8>, AllocError> {
-    match read(alloc, text) {
-        Ok(unit) => Vec::from_slice(alloc, unit.image.as_slice()),
-        Err(stop) => Ok(refusal(alloc, stop)?.into_bytes()),
+        Ok(unit) => is_said(alloc, kind, &unit, wanted),
+        Err(stop) => is_stop(stop, wanted),
     }
 }

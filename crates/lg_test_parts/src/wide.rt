@@ -3,8 +3,6 @@
 use lg_base::wide::{
     div_wide, div_wide_u, mul_high, mul_high_mixed, mul_high_u, sign_part, swap_bytes, zero_part,
 };
-use std::alloc::{AllocError, Global};
-use std::test::Fail;
 
 // The tables have a row a line, of words in hexadecimal digits. The factors and dividends are 0, 1, -1, -2, the least and greatest signed
 // words and a neighbor, and 2^31 and 2^32 with their neighbors.
@@ -401,15 +399,17 @@ const PARTS: &str = "0 1 0 0 0\n\
     8000000000000000 4 0 0 0\n\
     8000000000000000 8 8000000000000000 8000000000000000 80";
 
-// The words of a row.
-fn words(alloc: Global, row: &str) -> Result<Vec<u64>, AllocError> {
-    let mut words = Vec::new(alloc);
+// Reads the words of a row, and tells how many there are: 0 where they are more than five, or one is no word.
+fn read_words(row: &str, words: &mut [u64; 5]) -> usize {
+    let mut count = 0;
     for digits in row.split(' ') {
-        if let Ok(word) = u64::from_str_radix(digits, 16) {
-            words.push(word)?;
+        match u64::from_str_radix(digits, 16) {
+            Ok(word) if count < 5 => words[count] = word,
+            _ => return 0,
         }
+        count += 1;
     }
-    Ok(words)
+    count
 }
 
 fn is_product(row: &[u64]) -> bool {
@@ -457,7 +457,6 @@ fn are_parts(row: &[u64]) -> bool {
 }
 
 // What the rows of a table are.
-#[derive(Clone, Copy)]
 enum Rows {
     Products,
     Quotients,
@@ -465,7 +464,17 @@ enum Rows {
     Parts,
 }
 
-fn is_right(rows: Rows, row: &[u64]) -> bool {
+const TABLES: &[(Rows, &str)] = &[
+    (Rows::Products, PRODUCTS),
+    (Rows::Quotients, QUOTIENTS),
+    (Rows::SignedQuotients, SIGNED_QUOTIENTS),
+    (Rows::Parts, PARTS),
+];
+
+fn is_right(rows: &Rows, line: &str) -> bool {
+    let mut words = [0; 5];
+    let count = read_words(line, &mut words);
+    let row = words.as_slice().get(..count).unwrap_or(&[]);
     match rows {
         Rows::Products => is_product(row),
         Rows::Quotients => is_quotient(row),
@@ -475,28 +484,26 @@ fn is_right(rows: Rows, row: &[u64]) -> bool {
 }
 
 // The first row of a table of which something else comes.
-fn first_other(
-    alloc: Global,
-    rows: Rows,
-    table: &'static str,
-) -> Result<Option<&'static str>, AllocError> {
+fn first_other(rows: &Rows, table: &'static str) -> Option<&'static str> {
     for row in table.lines() {
-        if !is_right(rows, &words(alloc, row)?) {
-            return Ok(Some(row));
+        if !is_right(rows, row) {
+            return Some(row);
         }
     }
-    Ok(None)
+    None
+}
+
+// The same of the tables.
+fn first_other_of_all() -> Option<&'static str> {
+    for (rows, table) in TABLES {
+        if let Some(row) = first_other(rows, table) {
+            return Some(row);
+        }
+    }
+    None
 }
 
 #[test]
-fn computes_wide_words(rt: HostRuntime) -> Result<(), Fail> {
-    for (rows, table) in [
-        (Rows::Products, PRODUCTS),
-        (Rows::Quotients, QUOTIENTS),
-        (Rows::SignedQuotients, SIGNED_QUOTIENTS),
-        (Rows::Parts, PARTS),
-    ] {
-        assert_eq!(rt; first_other(rt.alloc(), rows, table)?, None);
-    }
-    Ok(())
+fn computes_wide_words(rt: HostRuntime) {
+    assert_eq!(rt; first_other_of_all(), None);
 }

@@ -1,7 +1,6 @@
 // Conditions and their expressions, worked out by hand from the rules of the preprocessor.
 
-use crate::rows::{Kind, Made, Piece, Table, first_other, first_other_made};
-use std::test::Fail;
+use crate::rows::{Kind, Made, Piece, Table};
 
 // Groups that are chosen, and groups that are skipped.
 const GROUPS: &str = "\na\n\x1f#if 1\na\n#endif\x1e\
@@ -70,14 +69,15 @@ const REFUSED: &str = "BadDirective 1\x1f#endif\x1e\
         BadMacro 2\x1f#define F(a) a\n#if F(1\n)\n#endif\x1e\
         BadMacro 2\x1f#define F(a) a\n#if F(1, 2)\n#endif";
 
-const TABLES: &[Table] = &[
+/// What comes of texts.
+pub(crate) const TABLES: &[Table] = &[
     (Kind::Lines, &[], GROUPS),
     (Kind::Lines, &[], EXPRESSIONS),
     (Kind::Expansion, &[], REFUSED),
 ];
 
-// 64 conditions may be open, in skipped groups too, and all have to be closed. Of each condition stand here 64, one more, and one end less.
-const OPEN: &[Made] = &[
+/// 64 conditions may be open, in skipped groups too, and all have to be closed. Of each condition stand here 64, one more, and one end less.
+pub(crate) const MADE: &[Made] = &[
     (
         Kind::Expansion,
         &[
@@ -85,11 +85,14 @@ const OPEN: &[Made] = &[
             Piece::Of(b"x"),
             Piece::Times(b"\n#endif", 64),
         ],
-        &[
-            Piece::Times(b"\n", 64),
-            Piece::Of(b"x"),
-            Piece::Times(b"\n", 64),
-        ],
+        (
+            b"",
+            &[
+                Piece::Times(b"\n", 64),
+                Piece::Of(b"x"),
+                Piece::Times(b"\n", 64),
+            ],
+        ),
     ),
     (
         Kind::Expansion,
@@ -98,7 +101,7 @@ const OPEN: &[Made] = &[
             Piece::Of(b"x"),
             Piece::Times(b"\n#endif", 65),
         ],
-        &[Piece::Of(b"BadDirective 65")],
+        (b"BadDirective 65", &[]),
     ),
     (
         Kind::Expansion,
@@ -107,7 +110,7 @@ const OPEN: &[Made] = &[
             Piece::Of(b"x"),
             Piece::Times(b"\n#endif", 63),
         ],
-        &[Piece::Of(b"BadDirective 1")],
+        (b"BadDirective 1", &[]),
     ),
     (
         Kind::Expansion,
@@ -116,7 +119,7 @@ const OPEN: &[Made] = &[
             Piece::Of(b"x"),
             Piece::Times(b"\n#endif", 64),
         ],
-        &[Piece::Times(b"\n", 64), Piece::Times(b"\n", 64)],
+        (b"", &[Piece::Times(b"\n", 64), Piece::Times(b"\n", 64)]),
     ),
     (
         Kind::Expansion,
@@ -125,7 +128,7 @@ const OPEN: &[Made] = &[
             Piece::Of(b"x"),
             Piece::Times(b"\n#endif", 65),
         ],
-        &[Piece::Of(b"BadDirective 65")],
+        (b"BadDirective 65", &[]),
     ),
     (
         Kind::Expansion,
@@ -134,7 +137,7 @@ const OPEN: &[Made] = &[
             Piece::Of(b"x"),
             Piece::Times(b"\n#endif", 63),
         ],
-        &[Piece::Of(b"BadDirective 1")],
+        (b"BadDirective 1", &[]),
     ),
     (
         Kind::Expansion,
@@ -143,7 +146,7 @@ const OPEN: &[Made] = &[
             Piece::Of(b"x"),
             Piece::Times(b"\n#endif", 64),
         ],
-        &[Piece::Times(b"\n", 64), Piece::Times(b"\n", 64)],
+        (b"", &[Piece::Times(b"\n", 64), Piece::Times(b"\n", 64)]),
     ),
     (
         Kind::Expansion,
@@ -152,7 +155,7 @@ const OPEN: &[Made] = &[
             Piece::Of(b"x"),
             Piece::Times(b"\n#endif", 65),
         ],
-        &[Piece::Of(b"BadDirective 65")],
+        (b"BadDirective 65", &[]),
     ),
     (
         Kind::Expansion,
@@ -161,7 +164,7 @@ const OPEN: &[Made] = &[
             Piece::Of(b"x"),
             Piece::Times(b"\n#endif", 63),
         ],
-        &[Piece::Of(b"BadDirective 1")],
+        (b"BadDirective 1", &[]),
     ),
     (
         Kind::Expansion,
@@ -170,11 +173,14 @@ const OPEN: &[Made] = &[
             Piece::Of(b"x"),
             Piece::Times(b"\n#endif", 64),
         ],
-        &[
-            Piece::Times(b"\n", 64),
-            Piece::Of(b"x"),
-            Piece::Times(b"\n", 64),
-        ],
+        (
+            b"",
+            &[
+                Piece::Times(b"\n", 64),
+                Piece::Of(b"x"),
+                Piece::Times(b"\n", 64),
+            ],
+        ),
     ),
     (
         Kind::Expansion,
@@ -183,7 +189,7 @@ const OPEN: &[Made] = &[
             Piece::Of(b"x"),
             Piece::Times(b"\n#endif", 65),
         ],
-        &[Piece::Of(b"BadDirective 65")],
+        (b"BadDirective 65", &[]),
     ),
     (
         Kind::Expansion,
@@ -192,7 +198,7 @@ const OPEN: &[Made] = &[
             Piece::Of(b"x"),
             Piece::Times(b"\n#endif", 63),
         ],
-        &[Piece::Of(b"BadDirective 1")],
+        (b"BadDirective 1", &[]),
     ),
     // one that is closed is open no more
     (
@@ -202,17 +208,13 @@ const OPEN: &[Made] = &[
             Piece::Of(b"x\n#endif\n#if 1\nx"),
             Piece::Times(b"\n#endif", 64),
         ],
-        &[
-            Piece::Times(b"\n", 64),
-            Piece::Of(b"x\n\n\nx"),
-            Piece::Times(b"\n", 64),
-        ],
+        (
+            b"",
+            &[
+                Piece::Times(b"\n", 64),
+                Piece::Of(b"x\n\n\nx"),
+                Piece::Times(b"\n", 64),
+            ],
+        ),
     ),
 ];
-
-#[test]
-fn chooses_groups(rt: HostRuntime) -> Result<(), Fail> {
-    assert_eq!(rt; first_other(rt.alloc(), TABLES)?, None);
-    assert_eq!(rt; first_other_made(rt.alloc(), OPEN)?, None);
-    Ok(())
-}

@@ -1,7 +1,6 @@
 // Directives and macros' bodies, worked out by hand from the rules of the preprocessor.
 
-use crate::rows::{Kind, Table, first_other};
-use std::test::Fail;
+use crate::rows::{Kind, Table};
 
 // What is a directive, and what is none.
 const MARKS: &str = "\x1f\x1e\
@@ -99,15 +98,10 @@ const REFUSED: &str = "BadDirective 1\x1f#define\x1e\
         BadDirective 2\x1f\n#\\\n\\\nfoo\x1e\
         BadDirective 3\x1f#define A 1 \\\n 2\n#foo";
 
-const TABLES: &[Table] = &[
+/// What comes of texts.
+pub(crate) const TABLES: &[Table] = &[
     (Kind::Lines, &[], MARKS),
     (Kind::Lines, &[], SPLICES),
     (Kind::Lines, &[], DEFINITIONS),
     (Kind::Expansion, &[], REFUSED),
 ];
-
-#[test]
-fn expands_around_directives(rt: HostRuntime) -> Result<(), Fail> {
-    assert_eq!(rt; first_other(rt.alloc(), TABLES)?, None);
-    Ok(())
-}

@@ -1,37 +1,6 @@
 // The limits of an expansion, each within and one beyond.
 
-use crate::rows::{Kind, Made, Piece, Table, first_other, first_other_made, made};
-use std::test::Fail;
-
-// 200 expansions may be one in the other: of arguments, of bodies, and in expressions.
-const NESTED: &[Made] = &[
-    (
-        Kind::Expansion,
-        &[Piece::Names(200), Piece::Of(b"a200 2")],
-        &[Piece::Times(b"\n", 200), Piece::Of(b"1 2")],
-    ),
-    (
-        Kind::Expansion,
-        &[Piece::Names(201), Piece::Of(b"a201 2")],
-        &[Piece::Of(b"ExpandTooMuch 202")],
-    ),
-    (
-        Kind::Expansion,
-        &[
-            Piece::Names(200),
-            Piece::Of(b"#if a200 + 1 == 2\nx\n#endif"),
-        ],
-        &[Piece::Times(b"\n", 201), Piece::Of(b"x\n")],
-    ),
-    (
-        Kind::Expansion,
-        &[
-            Piece::Names(201),
-            Piece::Of(b"#if a201 + 1 == 2\nx\n#endif"),
-        ],
-        &[Piece::Of(b"ExpandTooMuch 202")],
-    ),
-];
+use crate::rows::{Kind, Made, Piece, Table};
 
 // So many calls of F, one in the other.
 const CALLS_200: &[Piece] = &[
@@ -171,77 +140,53 @@ const LISTS_13: &[Piece] = &[
     Piece::Times(b")", 13),
 ];
 
-const CALLS: &[Table] = &[
+// A text of 16 MiB that names no macro is its own expansion.
+const WHOLE: &[Piece] = &[Piece::Times(b"x", 16_777_215), Piece::Of(b"\n")];
+
+/// What comes of texts.
+pub(crate) const TABLES: &[Table] = &[
     (Kind::Expansion, CALLS_200, "\n1 2\x1f 2"),
     (Kind::Expansion, CALLS_201, "ExpandTooMuch 2\x1f 2"),
-];
-
-const REPLACED: &[Table] = &[(Kind::Expansion, SUM, SUMS)];
-
-const KEPT: &[Table] = &[
+    (Kind::Expansion, SUM, SUMS),
     (Kind::Expansion, SPACED, BEHIND_SPACED),
     (Kind::Expansion, PASTED, BEHIND_PASTED),
-];
-
-const FILLED: &[Table] = &[(Kind::Expansion, FULL, BEHIND_THE_LAST_BYTE)];
-
-const FAULTS: &[Table] = &[(Kind::Expansion, LONG_COMMENT, FIRST)];
-
-const LISTS: &[Table] = &[
+    (Kind::Expansion, FULL, BEHIND_THE_LAST_BYTE),
+    (Kind::Expansion, LONG_COMMENT, FIRST),
     (Kind::Expansion, DOUBLED_40, "out of memory\x1f)"),
     (Kind::Expansion, DOUBLED_10, "\n\n\x1f)"),
     (Kind::Expansion, LISTS_12, "\n\n\x1f)"),
     (Kind::Expansion, LISTS_13, "out of memory\x1f)"),
 ];
 
-// A text of 16 MiB that names no macro is its own expansion.
-const WHOLE: &[Piece] = &[Piece::Times(b"x", 16_777_215), Piece::Of(b"\n")];
-
-const LONG: &[Made] = &[
-    (Kind::Expansion, FULL, FULL_EXPANSION),
-    (Kind::Expansion, WHOLE, WHOLE),
+/// What comes of texts of pieces. 200 expansions may be one in the other: of arguments, of bodies, and in expressions.
+pub(crate) const MADE: &[Made] = &[
+    (
+        Kind::Expansion,
+        &[Piece::Names(200), Piece::Of(b"a200 2")],
+        (b"", &[Piece::Times(b"\n", 200), Piece::Of(b"1 2")]),
+    ),
+    (
+        Kind::Expansion,
+        &[Piece::Names(201), Piece::Of(b"a201 2")],
+        (b"ExpandTooMuch 202", &[]),
+    ),
+    (
+        Kind::Expansion,
+        &[
+            Piece::Names(200),
+            Piece::Of(b"#if a200 + 1 == 2\nx\n#endif"),
+        ],
+        (b"", &[Piece::Times(b"\n", 201), Piece::Of(b"x\n")]),
+    ),
+    (
+        Kind::Expansion,
+        &[
+            Piece::Names(201),
+            Piece::Of(b"#if a201 + 1 == 2\nx\n#endif"),
+        ],
+        (b"ExpandTooMuch 202", &[]),
+    ),
+    (Kind::Size, FULL_EXPANSION, (b"16777216", &[])),
+    (Kind::Expansion, FULL, (b"", FULL_EXPANSION)),
+    (Kind::Expansion, WHOLE, (b"", WHOLE)),
 ];
-
-#[test]
-fn nests_200_expansions(rt: HostRuntime) -> Result<(), Fail> {
-    assert_eq!(rt; first_other(rt.alloc(), CALLS)?, None);
-    assert_eq!(rt; first_other_made(rt.alloc(), NESTED)?, None);
-    Ok(())
-}
-
-#[test]
-fn replaces_16_mib(rt: HostRuntime) -> Result<(), Fail> {
-    assert_eq!(rt; first_other(rt.alloc(), REPLACED)?, None);
-    Ok(())
-}
-
-#[test]
-fn counts_bodies_as_they_are_kept(rt: HostRuntime) -> Result<(), Fail> {
-    assert_eq!(rt; first_other(rt.alloc(), KEPT)?, None);
-    Ok(())
-}
-
-#[test]
-fn gives_16_mib(rt: HostRuntime) -> Result<(), Fail> {
-    assert_eq!(rt; made(rt.alloc(), FULL_EXPANSION)?.len(), 16_777_216);
-    assert_eq!(rt; first_other(rt.alloc(), FILLED)?, None);
-    Ok(())
-}
-
-#[test]
-fn tells_the_first_fault(rt: HostRuntime) -> Result<(), Fail> {
-    assert_eq!(rt; first_other(rt.alloc(), FAULTS)?, None);
-    Ok(())
-}
-
-#[test]
-fn wants_memory_for_long_lists(rt: HostRuntime) -> Result<(), Fail> {
-    assert_eq!(rt; first_other(rt.alloc(), LISTS)?, None);
-    Ok(())
-}
-
-#[test]
-fn keeps_whole_texts(rt: HostRuntime) -> Result<(), Fail> {
-    assert_eq!(rt; first_other_made(rt.alloc(), LONG)?, None);
-    Ok(())
-}

@@ -1,7 +1,6 @@
 // The replacement of names and of calls, worked out by hand from the rules of the preprocessor.
 
-use crate::rows::{Kind, Table, first_other};
-use std::test::Fail;
+use crate::rows::{Kind, Table};
 
 // Words that are replaced, hidden or frozen.
 const WORDS: &str = "\nA b\x1f#define A A b\nA\x1e\
@@ -84,15 +83,10 @@ const REFUSED: &str = "BadMacro 2\x1f#define F(a) a\nF(1\n#define X\n)\x1e\
         BadMacro 3\x1f#define F(a) a\n#define C(a) x##a\nC(\nF(1,2))\x1e\
         BadMacro 4\x1f#define F(a) a\n#define A F(1,2)\n\nA\nF(";
 
-const TABLES: &[Table] = &[
+/// What comes of texts.
+pub(crate) const TABLES: &[Table] = &[
     (Kind::Lines, &[], WORDS),
     (Kind::Lines, &[], PASTES),
     (Kind::Lines, &[], CALLS),
     (Kind::Expansion, &[], REFUSED),
 ];
-
-#[test]
-fn replaces_names(rt: HostRuntime) -> Result<(), Fail> {
-    assert_eq!(rt; first_other(rt.alloc(), TABLES)?, None);
-    Ok(())
-}
