@@ -183,20 +183,31 @@ pub fn number_of(text: &str) -> Option<u64> {
     Some(number)
 }
 
+// Appends the bytes of hexadecimal digits, two a byte, and tells whether they are such.
+fn push_digits(bytes: &mut Vec<u8>, hex: &str) -> Result<bool, AllocError> {
+    for pair in hex.as_bytes().chunks(2) {
+        match byte_of(pair) {
+            Some(byte) => bytes.push(byte)?,
+            None => return Ok(false),
+        }
+    }
+    Ok(true)
+}
+
+// The byte of two hexadecimal digits.
+fn byte_of(pair: &[u8]) -> Option<u8> {
+    match pair {
+        [high, low] => Some(digit(*high)? * 16 + digit(*low)?),
+        _ => None,
+    }
+}
+
 /// So many zero bytes and then those of hexadecimal digits, two a byte; `-` is the empty list.
 pub fn code_of(alloc: Global, front: usize, hex: &str) -> Result<Option<Vec<u8>>, AllocError> {
     let mut bytes = vec![in alloc; 0u8; front]?;
-    if hex == "-" {
-        return Ok(Some(bytes));
+    if hex == "-" || push_digits(&mut bytes, hex)? {
+        Ok(Some(bytes))
+    } else {
+        Ok(None)
     }
-    for pair in hex.as_bytes().chunks(2) {
-        match pair {
-            [high, low] => match (digit(*high), digit(*low)) {
-                (Some(high), Some(low)) => bytes.push(high * 16 + low)?,
-                _ => return Ok(None),
-            },
-            _ => return Ok(None),
-        }
-    }
-    Ok(Some(bytes))
 }

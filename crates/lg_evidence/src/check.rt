@@ -4,7 +4,7 @@ ghost use Rattle.std.specs.Prelude.{◌≡◌, ◌↔◌, ◌++◌, ℕ, List, l
 ghost use Rattle.lg_evidence.specs.Found.{IsAsWanted};
 
 use crate::table::{Found, Table};
-use crate::vector::{bytes_of, parse_refused, parse_spelled};
+use crate::vector::{Spelled, bytes_of, parse_refused, parse_spelled};
 use lg_base::Piece;
 use lg_tally::{Counts, Outcome};
 use std::alloc::{AllocError, Global};
@@ -28,8 +28,18 @@ pub fn check_file<T: Table>(
     kind: Lines,
 ) -> io::Result<()> {
     let text = fs::read_to_string(rt, file)?;
+    check_lines::<T>(rt, file, kind, text.as_str())
+}
+
+// Checks the lines of a file.
+fn check_lines<T: Table>(
+    rt: &(impl Print + AllocGlobal),
+    file: &str,
+    kind: Lines,
+    lines: &str,
+) -> io::Result<()> {
     let mut counts = Counts::new();
-    for line in text.as_str().lines() {
+    for line in lines.lines() {
         let outcome = outcome_of::<T>(rt.alloc(), kind, line)?;
         counts.take(rt, file, line, &outcome)?;
     }
@@ -45,16 +55,37 @@ fn outcome_of<T: Table>(alloc: Global, kind: Lines, line: &str) -> Result<Outcom
 }
 
 fn spelled_outcome<T: Table>(alloc: Global, line: &str) -> Result<Outcome, AllocError> {
-    let Some(wanted) = parse_spelled(line) else {
+    let Some(Spelled { hex, operation }) = parse_spelled(line) else {
         return Outcome::unread(alloc);
     };
-    let Some(bytes) = bytes_of(wanted.hex) else {
-        return Outcome::unread(alloc);
-    };
-    match T::find(alloc, &followed(&bytes))? {
-        None => Ok(Outcome::Differs(format!(in alloc; "no instruction")?)),
-        Some(found) if is_as_wanted(&found, wanted.operation, &bytes) => Ok(Outcome::Agrees),
-        Some(found) => differing(alloc, &found),
+    match bytes_of(hex) {
+        Some(bytes) => found_outcome::<T>(alloc, operation, &bytes),
+        None => Outcome::unread(alloc),
+    }
+}
+
+// What comes of bytes that should be an operation.
+fn found_outcome<T: Table>(
+    alloc: Global,
+    operation: &str,
+    bytes: &Piece,
+) -> Result<Outcome, AllocError> {
+    match T::find(alloc, &followed(bytes))? {
+        Some(found) => compared(alloc, &found, operation, bytes),
+        None => Ok(Outcome::Differs(String::from_str(alloc, "no instruction")?)),
+    }
+}
+
+fn compared(
+    alloc: Global,
+    found: &Found,
+    operation: &str,
+    bytes: &Piece,
+) -> Result<Outcome, AllocError> {
+    if is_as_wanted(found, operation, bytes) {
+        Ok(Outcome::Agrees)
+    } else {
+        differing(alloc, found)
     }
 }
 
@@ -68,24 +99,32 @@ fn is_as_wanted(found: &Found, operation: &str, bytes: &Piece) -> bool
 }
 
 fn refused_outcome<T: Table>(alloc: Global, line: &str) -> Result<Outcome, AllocError> {
-    let Some(hex) = parse_refused(line) else {
-        return Outcome::unread(alloc);
-    };
-    let Some(bytes) = bytes_of(hex) else {
-        return Outcome::unread(alloc);
-    };
-    match T::find(alloc, bytes.as_slice())? {
+    match parse_refused(line) {
+        Some(bytes) => none_outcome::<T>(alloc, bytes.as_slice()),
+        None => Outcome::unread(alloc),
+    }
+}
+
+// What comes of bytes that should be no instruction.
+fn none_outcome<T: Table>(alloc: Global, bytes: &[u8]) -> Result<Outcome, AllocError> {
+    match T::find(alloc, bytes)? {
         None => Ok(Outcome::Agrees),
         Some(found) => differing(alloc, &found),
     }
 }
 
 fn differing(alloc: Global, found: &Found) -> Result<Outcome, AllocError> {
-    let mut text = format!(in alloc; "{} in {} bytes, ", found.operation, found.length)?;
+    let mut text = String::new(alloc);
+    write_found(&mut text, found)?;
+    Ok(Outcome::Differs(text))
+}
+
+fn write_found(text: &mut String, found: &Found) -> Result<(), AllocError> {
+    write!(text, "{} in {} bytes, ", found.operation, found.length)?;
     for byte in found.spelling.as_slice() {
         write!(text, "{byte:02x}")?;
     }
-    Ok(Outcome::Differs(text))
+    Ok(())
 }
 
 // the bytes with others behind them

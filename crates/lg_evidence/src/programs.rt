@@ -1,9 +1,11 @@
 // The check of a file of whole programs.
 
-use crate::case::{code_of, parse_program};
-use crate::processor::{processor, run, sink};
+ghost use Rattle.std.specs.Prelude.{◌<◌, length};
+
+use crate::case::{Program, code_of, parse_program};
+use crate::processor::{out_of_memory, processor, run, sink};
 use crate::steps::name_of;
-use lg_base::Target;
+use lg_base::{OutOfMemory, Target};
 use lg_cpu::{Cpu, CpuStep};
 use lg_tally::{Counts, Outcome};
 use std::alloc::{AllocError, Global};
@@ -12,6 +14,9 @@ use std::{fs, io};
 
 // the argument part of the one word `-`: a pointer to it, a word of 0, and the string
 const ARGS: [u8; 18] = [16, 0, 0, 0x28, 0, 0, 0, 0, 0, 0, 0, 0, 0, 0, 0, 0, b'-', 0];
+
+// the most bytes of a program
+const MOST_CODE: usize = 65_536;
 
 fn file_of(target: Target) -> &'static str {
     match target {
@@ -37,22 +42,32 @@ fn count_programs(
 ) -> io::Result<Counts> {
     let mut counts = Counts::new();
     for line in lines.lines() {
-        let outcome = program_outcome(rt.alloc(), target, line)?;
-        counts.take(rt, file, line, &outcome)?;
+        match program_outcome(rt.alloc(), target, line) {
+            Ok(outcome) => counts.take(rt, file, line, &outcome)?,
+            Err(OutOfMemory) => return Err(out_of_memory()),
+        }
     }
     Ok(counts)
 }
 
-fn program_outcome(alloc: Global, target: Target, line: &str) -> Result<Outcome, AllocError> {
-    let Some(program) = parse_program(line) else {
-        return Outcome::unread(alloc);
-    };
-    let Some(code) = code_of(alloc, 0, program.hex)? else {
-        return Outcome::unread(alloc);
-    };
-    match found_of(alloc, target, &code, program.most)? {
-        Some(found) => Ok(compared(found, program.outcome)),
-        None => Outcome::unread(alloc),
+fn program_outcome(alloc: Global, target: Target, line: &str) -> Result<Outcome, OutOfMemory> {
+    match parse_program(line) {
+        Some(program) => outcome_of(alloc, target, &program),
+        None => Ok(Outcome::unread(alloc)?),
+    }
+}
+
+fn outcome_of(
+    alloc: Global,
+    target: Target,
+    program: &Program<'_>,
+) -> Result<Outcome, OutOfMemory> {
+    match code_of(alloc, 0, program.hex)? {
+        Some(code) if code.len() <= MOST_CODE => {
+            let found = found_of(alloc, target, &code, program.most)?;
+            Ok(compared(found, program.outcome))
+        }
+        _ => Ok(Outcome::unread(alloc)?),
     }
 }
 
@@ -64,41 +79,39 @@ fn compared(found: String, wanted: &str) -> Outcome {
     }
 }
 
-// how a run of at most so many steps of this code ends, and None where there is no processor for it
-fn found_of(
-    alloc: Global,
-    target: Target,
-    code: &[u8],
-    most: u64,
-) -> Result<Option<String>, AllocError> {
-    match processor(alloc, target, code, &ARGS)? {
-        Some(mut cpu) => Ok(Some(found_on(alloc, &mut cpu, most)?)),
-        None => Ok(None),
-    }
+// how a run of at most so many steps of this code ends
+fn found_of(alloc: Global, target: Target, code: &[u8], most: u64) -> Result<String, OutOfMemory>
+    requires { length code.now < 65537 }
+{
+    let mut cpu = processor(alloc, target, code, &ARGS)?;
+    found_on(alloc, &mut cpu, most)
 }
 
-fn found_on(alloc: Global, cpu: &mut Cpu, most: u64) -> Result<String, AllocError> {
+fn found_on(alloc: Global, cpu: &mut Cpu, most: u64) -> Result<String, OutOfMemory> {
+    let answer = answer_of(alloc, cpu, most)?;
+    let mut text = String::new(alloc);
+    write_outcome(&mut text, cpu, answer)?;
+    Ok(text)
+}
+
+// what a run of at most so many steps comes to
+fn answer_of(alloc: Global, cpu: &mut Cpu, most: u64) -> Result<CpuStep, OutOfMemory> {
     let mut out = sink(alloc)?;
-    let answer = run(cpu, &mut out, most);
-    found_outcome(alloc, cpu, answer)
+    Ok(run(cpu, &mut out, most))
 }
 
 // how a run ends, as the evidence writes it
-fn end_of(alloc: Global, answer: CpuStep) -> Result<String, AllocError> {
+fn write_end(text: &mut String, answer: CpuStep) -> Result<(), AllocError> {
     let name = name_of(answer);
     match answer {
-        CpuStep::Ended(status) => format!(in alloc; "{name} {status}"),
-        CpuStep::Fault(_) => format!(in alloc; "Fault {name}"),
-        CpuStep::Went | CpuStep::WriteFault => String::from_str(alloc, name),
+        CpuStep::Ended(status) => write!(text, "{name} {status}"),
+        CpuStep::Fault(_) => write!(text, "Fault {name}"),
+        CpuStep::Went | CpuStep::WriteFault => text.push_str(name),
     }
 }
 
 // and behind how many steps, and where
-fn with_place(mut end: String, steps: u64, pc: u64) -> Result<String, AllocError> {
-    write!(end, " steps={steps} pc={pc:x}")?;
-    Ok(end)
-}
-
-fn found_outcome(alloc: Global, cpu: &Cpu, answer: CpuStep) -> Result<String, AllocError> {
-    with_place(end_of(alloc, answer)?, cpu.steps(), cpu.pc())
+fn write_outcome(text: &mut String, cpu: &Cpu, answer: CpuStep) -> Result<(), AllocError> {
+    write_end(text, answer)?;
+    write!(text, " steps={} pc={:x}", cpu.steps(), cpu.pc())
 }

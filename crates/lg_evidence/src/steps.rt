@@ -1,8 +1,8 @@
 // The check of a file of single steps.
 
 use crate::case::{Case, Item, code_of, parse_case, parse_item};
-use crate::processor::{CODE, TRASH, processor, run, sink};
-use lg_base::{CodeBytes, Flags, Target};
+use crate::processor::{CODE, TRASH, out_of_memory, processor, run, sink};
+use lg_base::{CodeBytes, Flags, OutOfMemory, Target};
 use lg_cpu::{Cpu, CpuStep};
 use lg_io::MemorySink;
 use lg_tally::{Counts, Outcome};
@@ -36,20 +36,14 @@ fn count_steps(
     target: Target,
     lines: &str,
 ) -> io::Result<Counts> {
-    match first_processor(rt.alloc(), target)? {
-        Some(mut cpu) => count_runs(rt, file, target, lines, &mut cpu),
-        None => Ok(Counts::new()),
+    match processor(rt.alloc(), target, &[], &[0; ARGS_LEN]) {
+        Ok(mut cpu) => count_on(rt, file, target, lines, &mut cpu),
+        Err(OutOfMemory) => Err(out_of_memory()),
     }
 }
 
-// The processor of the runs, with an argument part of zero bytes.
-fn first_processor(alloc: Global, target: Target) -> Result<Option<Cpu>, AllocError> {
-    let args = vec![in alloc; 0u8; ARGS_LEN]?;
-    processor(alloc, target, &[], &args)
-}
-
 // The counts of the runs of these lines, one behind the other on a processor.
-fn count_runs(
+fn count_on(
     rt: &(impl Print + AllocGlobal),
     file: &str,
     target: Target,
@@ -57,13 +51,39 @@ fn count_runs(
     cpu: &mut Cpu,
 ) -> io::Result<Counts> {
     cpu.store(RETURN, 8, 0);
-    let mut out = sink(rt.alloc())?;
+    match sink(rt.alloc()) {
+        Ok(mut out) => count_runs(rt, file, target, lines, cpu, &mut out),
+        Err(OutOfMemory) => Err(out_of_memory()),
+    }
+}
+
+fn count_runs(
+    rt: &(impl Print + AllocGlobal),
+    file: &str,
+    target: Target,
+    lines: &str,
+    cpu: &mut Cpu,
+    out: &mut MemorySink,
+) -> io::Result<Counts> {
     let mut counts = Counts::new();
     for line in lines.lines() {
-        let outcome = case_outcome(rt.alloc(), target, cpu, &mut out, line)?;
+        let outcome = line_outcome(rt.alloc(), target, cpu, out, line)?;
         counts.take(rt, file, line, &outcome)?;
     }
     Ok(counts)
+}
+
+fn line_outcome(
+    alloc: Global,
+    target: Target,
+    cpu: &mut Cpu,
+    out: &mut MemorySink,
+    line: &str,
+) -> Result<Outcome, AllocError> {
+    match parse_case(line) {
+        Some(case) => case_outcome(alloc, target, cpu, out, &case),
+        None => Outcome::unread(alloc),
+    }
 }
 
 // How a run stands: what its last step came to, and how many instructions went.
@@ -73,22 +93,31 @@ struct Stands {
     steps: u64,
 }
 
-fn case_outcome(
+// Sets up a run, and gives the first program counter, where the case is of the form.
+fn begin(
     alloc: Global,
     target: Target,
     cpu: &mut Cpu,
-    out: &mut MemorySink,
-    line: &str,
-) -> Result<Outcome, AllocError> {
-    let Some(case) = parse_case(line) else {
-        return Outcome::unread(alloc);
-    };
+    case: &Case<'_>,
+) -> Result<Option<u64>, AllocError> {
     let Some(start) = set_up(target, cpu, case.before) else {
-        return Outcome::unread(alloc);
+        return Ok(None);
     };
-    if !set_code(alloc, cpu, start, case.hex)? {
-        return Outcome::unread(alloc);
+    if set_code(alloc, cpu, start, case.hex)? {
+        Ok(Some(start))
+    } else {
+        Ok(None)
     }
+}
+
+// Runs a case from its first program counter on: how the run stands, and whether all is as wanted.
+fn go(
+    target: Target,
+    cpu: &mut Cpu,
+    out: &mut MemorySink,
+    case: &Case<'_>,
+    start: u64,
+) -> (Stands, Option<bool>) {
     cpu.set_pc(start);
     let before = Before {
         registers: registers(cpu),
@@ -100,13 +129,25 @@ fn case_outcome(
         answer,
         steps: cpu.steps().saturating_sub(steps),
     };
-    let same = is_as_wanted(target, cpu, &case, &before, stands);
+    let same = is_as_wanted(target, cpu, case, &before, stands);
     clear(target, cpu, case.before);
     clear(target, cpu, case.after);
-    if same == Some(true) {
-        Ok(Outcome::Agrees)
-    } else {
-        differing(alloc, cpu, stands)
+    (stands, same)
+}
+
+fn case_outcome(
+    alloc: Global,
+    target: Target,
+    cpu: &mut Cpu,
+    out: &mut MemorySink,
+    case: &Case<'_>,
+) -> Result<Outcome, AllocError> {
+    let Some(start) = begin(alloc, target, cpu, case)? else {
+        return Outcome::unread(alloc);
+    };
+    match go(target, cpu, out, case, start) {
+        (_, Some(true)) => Ok(Outcome::Agrees),
+        (stands, _) => differing(alloc, cpu, stands),
     }
 }
 
@@ -292,17 +333,19 @@ pub fn name_of(answer: CpuStep) -> &'static str {
 }
 
 fn differing(alloc: Global, cpu: &Cpu, stands: Stands) -> Result<Outcome, AllocError> {
-    let mut text = format!(in alloc;
-        "{} steps={} pc={:x}",
-        name_of(stands.answer),
-        stands.steps,
-        cpu.pc()
-    )?;
+    let mut text = String::new(alloc);
+    write_stands(&mut text, cpu, stands)?;
+    Ok(Outcome::Differs(text))
+}
+
+fn write_stands(text: &mut String, cpu: &Cpu, stands: Stands) -> Result<(), AllocError> {
+    let name = name_of(stands.answer);
+    write!(text, "{name} steps={} pc={:x}", stands.steps, cpu.pc())?;
     for number in 0..32u8 {
         let value = cpu.register(number);
         if value != TRASH {
             write!(text, " x{number}={value:x}")?;
         }
     }
-    Ok(Outcome::Differs(text))
+    Ok(())
 }

@@ -32,10 +32,16 @@ pub type Operands = [Option<i64>; 4];
 pub fn spoken(alloc: Global, name: &Piece, operands: Operands) -> Result<String, AllocError> {
     let name = str::from_utf8(name.as_slice()).unwrap_or("a name that is no text");
     let mut text = String::from_str(alloc, name)?;
-    for operand in &operands {
+    write_operands(&mut text, &operands)?;
+    Ok(text)
+}
+
+// Appends operands, each behind a blank.
+fn write_operands(text: &mut String, operands: &Operands) -> Result<(), AllocError> {
+    for operand in operands {
         if let Some(operand) = operand {
             write!(text, " {operand}")?;
         }
     }
-    Ok(text)
+    Ok(())
 }

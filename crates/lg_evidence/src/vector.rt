@@ -22,10 +22,10 @@ pub fn parse_spelled(line: &str) -> Option<Spelled<'_>> {
     Some(Spelled { hex, operation })
 }
 
-/// HEX, the bytes that are no instruction: the first column of a line HEX, REASON, DISASM.
-pub fn parse_refused(line: &str) -> Option<&str> {
+/// The bytes of HEX, which are no instruction: the first column of a line HEX, REASON, DISASM.
+pub fn parse_refused(line: &str) -> Option<Piece> {
     let (hex, _rest) = line.split_once('\t')?;
-    Some(hex)
+    bytes_of(hex)
 }
 
 /// The bytes of lower hexadecimal digits, two a byte; `-` is the empty list. `None` for another text,

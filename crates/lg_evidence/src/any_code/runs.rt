@@ -130,18 +130,23 @@ impl Outcome {
     fn add(&mut self, alloc: Global, cpu: &mut Cpu, code: &[u8]) -> Result<(), OutOfMemory>
         requires { length code.now ≤ 64 }
     {
-        let mut out = MemorySink::new(alloc, 64, &[])?;
         cpu.set_code(CodeBytes::of(alloc, code)?);
+        let mut out = MemorySink::new(alloc, 64, &[])?;
+        self.go(cpu, &mut out);
+        Ok(())
+    }
+
+    // Makes a run from the first byte of the code on, and counts what it comes to.
+    fn go(&mut self, cpu: &mut Cpu, out: &mut MemorySink) {
         cpu.set_pc(CODE);
         let before = cpu.steps();
-        let answer = run(cpu, &mut out);
+        let answer = run(cpu, out);
         self.tally.count(answer);
         self.steps = self.steps.wrapping_add(cpu.steps().wrapping_sub(before));
         self.sum = self.sum.wrapping_mul(31).wrapping_add(cpu.pc());
-        if answer != CpuStep::Went && !stays(cpu, &mut out, answer) {
+        if answer != CpuStep::Went && !stays(cpu, out, answer) {
             count(&mut self.changed);
         }
-        Ok(())
     }
 
     // Runs any bytes, with operands in the registers.
@@ -188,13 +193,18 @@ fn processor_of(alloc: Global, target: Target) -> Result<Cpu, OutOfMemory> {
     Cpu::new(alloc, target, &code, &image, &args, 0x5a5a_5a5a_5a5a_5a5a)
 }
 
+// Makes the runs of a target on its processor.
+fn run_on(alloc: Global, cpu: &mut Cpu, target: Target) -> Result<Outcome, OutOfMemory> {
+    let start = Start::of(cpu);
+    let mut random = Random { state: 1 };
+    let mut outcome = Outcome::new();
+    outcome.add_any(alloc, cpu, &start, &mut random)?;
+    outcome.add_changed(alloc, cpu, &start, target, &mut random)?;
+    Ok(outcome)
+}
+
 /// Makes the runs of a target: over any bytes with operands in the registers, and over changed code from the start's registers.
 pub fn run_target(alloc: Global, target: Target) -> Result<Outcome, OutOfMemory> {
     let mut cpu = processor_of(alloc, target)?;
-    let start = Start::of(&cpu);
-    let mut random = Random { state: 1 };
-    let mut outcome = Outcome::new();
-    outcome.add_any(alloc, &mut cpu, &start, &mut random)?;
-    outcome.add_changed(alloc, &mut cpu, &start, target, &mut random)?;
-    Ok(outcome)
+    run_on(alloc, &mut cpu, target)
 }
