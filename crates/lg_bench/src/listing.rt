@@ -93,16 +93,31 @@ fn nodes_of(alloc: Global, nodes: u32) -> Result<NodeList, OutOfMemory>
     Ok(list)
 }
 
+// Writes the listing of the code of so many nodes, which stand at these places, into a sink.
+fn write_code<O: Sink>(
+    alloc: Global,
+    nodes: u32,
+    code: &CodeBytes,
+    places: &Places,
+    out: &mut O,
+) -> Result<(), OutOfMemory>
+    requires few { nodes ≤ 65536 }
+    requires code { length code.now.items ≡ nodes * 1024 }
+    requires places { Placed places.now.items nodes (nodes * 1024) }
+{
+    let rets = nodes_of(alloc, nodes)?;
+    let labels = LabelAddresses::of(alloc, &[])?;
+    let _written = list(Target::Riscv64, code, &rets, places, &labels, out);
+    Ok(())
+}
+
 // Writes the listing of so many nodes into a sink.
 fn write_into<O: Sink>(alloc: Global, nodes: u32, out: &mut O) -> Result<(), OutOfMemory>
     requires { nodes ≤ 65536 }
 {
     let code = code_of(alloc, nodes)?;
     let places = places_of(alloc, nodes)?;
-    let rets = nodes_of(alloc, nodes)?;
-    let labels = LabelAddresses::of(alloc, &[])?;
-    let _written = list(Target::Riscv64, &code, &rets, &places, &labels, out);
-    Ok(())
+    write_code(alloc, nodes, &code, &places, out)
 }
 
 /// Writes the listing of so many nodes, at most 65,536, which have 1,024 bytes of code each, and tells how many bytes it is.
@@ -121,14 +136,19 @@ fn bytes_in(alloc: Global, listing: &[u8]) -> Result<u64, Stop> {
     Ok(u64::from(back.bytes().len()))
 }
 
+// Reads a listing back so often, and tells to how many bytes each time.
+fn repeat_reading(alloc: Global, listing: &[u8], times: u32) -> Result<u64, Stop> {
+    let mut bytes = 0;
+    for _ in 0..times {
+        bytes = bytes_in(alloc, listing)?;
+    }
+    Ok(bytes)
+}
+
 /// Reads the same listing back so often, and tells to how many bytes each time.
 pub fn read_listing(alloc: Global, nodes: u32, times: u32) -> Result<u64, Stop> {
     let nodes = nodes.min(65_536);
     let mut out = MemorySink::new(alloc, nodes as usize * NODE_LINES + 64, &[])?;
     write_into(alloc, nodes, &mut out)?;
-    let mut bytes = 0;
-    for _ in 0..times {
-        bytes = bytes_in(alloc, out.bytes())?;
-    }
-    Ok(bytes)
+    repeat_reading(alloc, out.bytes(), times)
 }

@@ -2,9 +2,9 @@
 
 ghost use Rattle.std.specs.Prelude.{◌≤◌, length};
 
+use crate::texts::read;
 use lg_base::{OutOfMemory, Stop};
 use lg_node::{Label, Node, NodeList, Op, Operand, Operands, Place, Reg, Unit};
-use lg_tst::parse;
 use std::alloc::Global;
 
 /// How the nodes of a list follow each other.
@@ -97,7 +97,7 @@ fn add_lines(list: &mut NodeList, flow: Flow, lines: u32) -> Result<(), OutOfMem
 
 /// A unit of one function with so many lines of a shape.
 pub fn unit(alloc: Global, flow: Flow, lines: u32) -> Result<Unit, Stop> {
-    let mut unit = parse(alloc, b"prolog movi %v0 0 movi %v1 0")?;
+    let mut unit = read(alloc, b"prolog movi %v0 0 movi %v1 0")?;
     add_lines(&mut unit.nodes, flow, lines)?;
     Ok(unit)
 }

@@ -117,6 +117,15 @@ fn number_in(word: &str) -> u32 {
     str::parse::<u32>(word).unwrap_or(1)
 }
 
+// How much is done: what a word says, or, where no work is asked for, a little.
+fn number_of(word: &str, number: &str, little: u32) -> u32 {
+    if word.is_empty() {
+        little
+    } else {
+        number_in(number)
+    }
+}
+
 // The target that a word names, and else RV64.
 fn target_in(word: &str) -> Target {
     match word {
@@ -129,42 +138,54 @@ fn target_in(word: &str) -> Target {
 // Does the work that is asked for, or, where the word is empty, a little of each.
 fn work_all(rt: &HostRuntime, asked: [&str; 4], text: &[u8]) -> io::Result<()> {
     let [word, number, times, target] = asked;
+    let (times, target) = (number_in(times), target_in(target));
     for (name, little, work) in WORKS {
         if word.is_empty() || word == *name {
-            let number = if word.is_empty() {
-                *little
-            } else {
-                number_in(number)
-            };
-            let times = number_in(times);
-            let count = done(rt.alloc(), *work, text, [number, times], target_in(target));
+            let number = number_of(word, number, *little);
+            let count = done(rt.alloc(), *work, text, [number, times], target);
             print_done(rt, name, number, count)?;
         }
     }
     Ok(())
 }
 
-fn main(rt: HostRuntime) -> io::Result<()> {
-    let mut line = String::new(rt.alloc());
-    for word in env::args(&rt)? {
+// Appends the words of the process, each in a line.
+fn push_words(rt: &HostRuntime, line: &mut String) -> io::Result<()> {
+    for word in env::args(rt)? {
         line.push_str(&word)?;
         line.push('\n')?;
     }
-    let mut words = line.as_str().lines();
-    let _ = words.next();
-    let [word, number, times, target] = [words.next(), words.next(), words.next(), words.next()];
+    Ok(())
+}
+
+// The text on the standard input, where the word asks for it.
+fn text_of(rt: &HostRuntime, word: &str) -> io::Result<Vec<u8>> {
     let mut text = Vec::new(rt.alloc());
-    if word == Some("text") {
+    if word == "text" {
         rt.stdin().read_to_end(&mut text)?;
     }
-    work_all(
-        &rt,
-        [
-            word.unwrap_or(""),
-            number.unwrap_or(""),
-            times.unwrap_or(""),
-            target.unwrap_or(""),
-        ],
-        &text,
-    )
+    Ok(text)
+}
+
+// The word of a number, from 0, the program's name, on; empty where there is none.
+fn word_of(line: &str, number: usize) -> &str {
+    line.lines().nth(number).unwrap_or("")
+}
+
+// Does the work that the words ask for.
+fn make_work(rt: &HostRuntime, line: &str) -> io::Result<()> {
+    let asked = [
+        word_of(line, 1),
+        word_of(line, 2),
+        word_of(line, 3),
+        word_of(line, 4),
+    ];
+    let text = text_of(rt, asked[0])?;
+    work_all(rt, asked, &text)
+}
+
+fn main(rt: HostRuntime) -> io::Result<()> {
+    let mut line = String::new(rt.alloc());
+    push_words(&rt, &mut line)?;
+    make_work(&rt, line.as_str())
 }

@@ -1,17 +1,18 @@
 // Runs of texts on the modelled processors.
 
 ghost use Rattle.std.specs.Prelude.{◌≡◌, ◌≤◌, length, IfOk};
+ghost use Rattle.lg_base.specs.Layout.{most_code};
 ghost use Rattle.lg_cpu.specs.Machines.{shown};
 ghost use Rattle.lg_tst.specs.Answers.{IsWhole};
 
 use crate::processor::ARGS;
-use lg_asm::assemble;
+use crate::texts::{code_of, read};
+use lg_asm::Code;
 use lg_base::{ArgImage, OutOfMemory, Stop, Target};
 use lg_cpu::Cpu;
 use lg_io::MemorySink;
-use lg_node::{Unit, check};
+use lg_node::Unit;
 use lg_pre::expand;
-use lg_tst::parse;
 use std::alloc::Global;
 
 /// A loop without an end over immediates, memory and flags: carries, comparisons, loads and stores of several widths.
@@ -23,18 +24,51 @@ pub const LOOP: &[u8] = b".data 64 words: .l 7 11 .size 32 .code prolog movi %v0
 // The most bytes that a run may write.
 const MOST_OUTPUT: usize = 1_048_576;
 
-// A processor with the code of a unit.
-fn processor(alloc: Global, unit: &Unit, target: Target) -> Result<Cpu, Stop>
-    requires { IsWhole unit.now }
+// A processor with code, and with the data part of its unit.
+fn processor(alloc: Global, code: &Code, unit: &Unit) -> Result<Cpu, OutOfMemory>
+    requires code { length code.now.bytes ≤ most_code }
+    requires unit { IsWhole unit.now }
     ensures { IfOk result (λ cpu. (shown cpu).steps ≡ 0) }
 {
-    let shape = check(alloc, unit)?;
-    let code = assemble(alloc, unit, &shape, target, 67_108_864)?;
     let args = ArgImage::of(alloc, &ARGS)?;
-    match Cpu::new(alloc, target, code.bytes(), &unit.image, &args, 0) {
-        Ok(cpu) => Ok(cpu),
-        Err(OutOfMemory) => Err(Stop::OutOfMemory),
+    Cpu::new(alloc, code.target(), code.bytes(), &unit.image, &args, 0)
+}
+
+// Runs so many instructions on a processor, and tells how many were run.
+fn run(alloc: Global, cpu: &mut Cpu, instructions: u32) -> Result<u64, OutOfMemory>
+    requires { (shown cpu.old).steps ≡ 0 }
+{
+    let mut out = MemorySink::new(alloc, MOST_OUTPUT, &[])?;
+    let _ = cpu.run(u64::from(instructions), &mut out);
+    Ok(cpu.steps())
+}
+
+// Runs so many instructions of code, and tells how many were run.
+fn run_code(alloc: Global, code: &Code, unit: &Unit, instructions: u32) -> Result<u64, OutOfMemory>
+    requires code { length code.now.bytes ≤ most_code }
+    requires unit { IsWhole unit.now }
+{
+    let mut cpu = processor(alloc, code, unit)?;
+    run(alloc, &mut cpu, instructions)
+}
+
+// Runs so many instructions of the code of a unit, and tells how many were run.
+fn run_unit(alloc: Global, unit: &Unit, target: Target, instructions: u32) -> Result<u64, Stop>
+    requires { IsWhole unit.now }
+{
+    let code = code_of(alloc, unit, target)?;
+    Ok(run_code(alloc, &code, unit, instructions)?)
+}
+
+// The unit of a text that is expanded first.
+fn unit_of(alloc: Global, text: &[u8]) -> Result<Unit, Stop>
+    ensures { IfOk result IsWhole }
+{
+    if text.len() > 16_777_216 {
+        return Err(Stop::OutOfMemory);
     }
+    let plain = expand(alloc, text)?;
+    read(alloc, plain.as_bytes())
 }
 
 /// Runs so many instructions of the code of a text, and tells how many were run.
@@ -44,13 +78,6 @@ pub fn run_text(
     target: Target,
     instructions: u32,
 ) -> Result<u64, Stop> {
-    if text.len() > 16_777_216 {
-        return Err(Stop::OutOfMemory);
-    }
-    let plain = expand(alloc, text)?;
-    let unit = parse(alloc, plain.as_bytes())?;
-    let mut cpu = processor(alloc, &unit, target)?;
-    let mut out = MemorySink::new(alloc, MOST_OUTPUT, &[])?;
-    let _ = cpu.run(u64::from(instructions), &mut out);
-    Ok(cpu.steps())
+    let unit = unit_of(alloc, text)?;
+    run_unit(alloc, &unit, target, instructions)
 }

@@ -1,9 +1,10 @@
 // Texts of many lines.
 
 ghost use Rattle.std.specs.Prelude.{◌≤◌, length, IfOk};
+ghost use Rattle.lg_base.specs.Layout.{most_code};
 ghost use Rattle.lg_tst.specs.Answers.{IsWhole};
 
-use lg_asm::assemble;
+use lg_asm::{Code, assemble};
 use lg_base::{OutOfMemory, Refusal, RefusalKind, Stop, Target};
 use lg_node::{Unit, check};
 use lg_tst::parse;
@@ -52,21 +53,37 @@ fn short_text(alloc: Global, parts: Parts, lines: u32) -> Result<Vec<u8>, Stop>
     }
 }
 
-// How many bytes of code a text becomes on a target.
-fn code_bytes(alloc: Global, text: &[u8], target: Target) -> Result<u64, Stop>
+/// The unit of a text. What it is promised to be is for proofs, and of no use here.
+pub fn read(alloc: Global, text: &[u8]) -> Result<Unit, Stop>
     requires { length text.now ≤ 16777216 }
+    ensures { IfOk result IsWhole }
 {
-    let unit = parse(alloc, text)?;
-    unit_bytes(alloc, &unit, target)
+    parse(alloc, text)
 }
 
-// How many bytes of code the nodes of a text become on a target.
+/// The code of a unit on a target. What it is promised to be is of no use here.
+pub fn code_of(alloc: Global, unit: &Unit, target: Target) -> Result<Code, Stop>
+    requires { IsWhole unit.now }
+    ensures { IfOk result (λ c. length c.bytes ≤ most_code) }
+{
+    let shape = check(alloc, unit)?;
+    assemble(alloc, unit, &shape, target, 67_108_864)
+}
+
+// How many bytes of code a unit becomes on a target.
 fn unit_bytes(alloc: Global, unit: &Unit, target: Target) -> Result<u64, Stop>
     requires { IsWhole unit.now }
 {
-    let shape = check(alloc, unit)?;
-    let code = assemble(alloc, unit, &shape, target, 67_108_864)?;
+    let code = code_of(alloc, unit, target)?;
     Ok(u64::from(code.bytes().len()))
+}
+
+// How many bytes of code a text becomes on a target.
+fn text_bytes(alloc: Global, text: &[u8], target: Target) -> Result<u64, Stop>
+    requires { length text.now ≤ 16777216 }
+{
+    let unit = read(alloc, text)?;
+    unit_bytes(alloc, &unit, target)
 }
 
 /// Reads, checks and assembles a text of so many lines, at most 1,000,000, so many times, and tells how many bytes its code has.
@@ -80,7 +97,19 @@ pub fn read_and_assemble(
     let text = short_text(alloc, parts, lines)?;
     let mut bytes = 0;
     for _ in 0..times {
-        bytes = code_bytes(alloc, &text, target)?;
+        bytes = text_bytes(alloc, &text, target)?;
+    }
+    Ok(bytes)
+}
+
+// Reads a text once, and checks and assembles its nodes so many times.
+fn repeat_assembling(alloc: Global, text: &[u8], times: u32, target: Target) -> Result<u64, Stop>
+    requires { length text.now ≤ 16777216 }
+{
+    let unit = read(alloc, text)?;
+    let mut bytes = 0;
+    for _ in 0..times {
+        bytes = unit_bytes(alloc, &unit, target)?;
     }
     Ok(bytes)
 }
@@ -88,10 +117,5 @@ pub fn read_and_assemble(
 /// Reads a text of so many additions, at most 1,000,000, once, and checks and assembles its nodes so many times; tells how many bytes the code has.
 pub fn assemble_nodes(alloc: Global, lines: u32, times: u32, target: Target) -> Result<u64, Stop> {
     let text = short_text(alloc, STRAIGHT, lines)?;
-    let unit = parse(alloc, &text)?;
-    let mut bytes = 0;
-    for _ in 0..times {
-        bytes = unit_bytes(alloc, &unit, target)?;
-    }
-    Ok(bytes)
+    repeat_assembling(alloc, &text, times, target)
 }
