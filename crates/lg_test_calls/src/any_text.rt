@@ -19,11 +19,16 @@ const TARGETS: [&str; 3] = ["x86_64", "aarch64", "riscv64"];
 
 const MODES: [&str; 4] = ["run", "mean", "run", "list"];
 
+// The text of a name.
+fn text_of(rt: &HostRuntime, name: &str) -> io::Result<Vec<u8>> {
+    fs::read(rt, format!(in rt.alloc(); "{name}.tst")?)
+}
+
 // The texts that a list names.
 fn texts_of(rt: &HostRuntime, list: &str) -> io::Result<Vec<Vec<u8>>> {
     let mut texts = Vec::new(rt.alloc());
     for name in list.lines() {
-        texts.push(fs::read(rt, format!(in rt.alloc(); "{name}.tst")?)?)?;
+        texts.push(text_of(rt, name)?)?;
     }
     Ok(texts)
 }
@@ -32,6 +37,19 @@ fn texts_of(rt: &HostRuntime, list: &str) -> io::Result<Vec<Vec<u8>>> {
 fn words_in(alloc: Global, target: &str, mode: &str) -> Result<Vec<String>, OutOfMemory> {
     let line = format!(in alloc; "lightning --target {target} --mode {mode} --steps 1000 t.tst 7")?;
     words_of(alloc, line.as_str(), "")
+}
+
+// Makes a call on a text that is changed first, and counts what it comes to.
+fn call_changed(
+    alloc: Global,
+    round: usize,
+    text: &[u8],
+    random: &mut Random,
+    tally: &mut Tally,
+) -> Result<(), OutOfMemory> {
+    let words = words_in(alloc, TARGETS[round % 3], MODES[round / 3 % 4])?;
+    let text = changed(alloc, text, random)?;
+    count_call(alloc, &words, &text, tally)
 }
 
 // What the calls come to, in turn on each text, target and mode.
@@ -43,9 +61,7 @@ fn tally_of(alloc: Global, texts: &[Vec<u8>]) -> Result<Tally, OutOfMemory> {
     }
     for round in 0..CALLS {
         let text = &texts[round % texts.len()];
-        let words = words_in(alloc, TARGETS[round % 3], MODES[round / 3 % 4])?;
-        let text = changed(alloc, text, &mut random)?;
-        count_call(alloc, &words, &text, &mut tally)?;
+        call_changed(alloc, round, text, &mut random, &mut tally)?;
     }
     Ok(tally)
 }

@@ -1,5 +1,6 @@
 // Calls of the program. What the top call promises is for proofs, and of no use here: so one function makes it, and hands on what it comes to.
 
+use lg_asm::Code;
 use lg_base::OutOfMemory;
 use lg_io::{MemorySink, MemoryTexts, StdTexts, Texts};
 use lg_run::{Answer, Done, lightning};
@@ -41,8 +42,8 @@ pub struct Called {
     pub err: MemorySink,
 }
 
-/// What a call over texts comes to: every call here is made by it.
-pub fn done_on<T: Texts>(
+// What a call over texts comes to: every call here is made by it.
+fn done_on<T: Texts>(
     alloc: Global,
     words: &Vec<String>,
     texts: &mut T,
@@ -52,8 +53,8 @@ pub fn done_on<T: Texts>(
     lightning(alloc, words, texts, out, err)
 }
 
-/// The answer of a call over texts.
-pub fn answer_on<T: Texts>(
+// The answer of a call over texts.
+fn answer_on<T: Texts>(
     alloc: Global,
     words: &Vec<String>,
     texts: &mut T,
@@ -61,24 +62,6 @@ pub fn answer_on<T: Texts>(
     err: &mut MemorySink,
 ) -> Answer {
     done_on(alloc, words, texts, out, err).answer
-}
-
-/// What a call over the real files comes to, with so much room for its output.
-pub fn call_on_files(
-    rt: &(impl Files + Input + AllocGlobal),
-    words: &Vec<String>,
-    room: usize,
-) -> Result<Called, OutOfMemory> {
-    let mut out = MemorySink::new(rt.alloc(), room, &[])?;
-    let mut err = MemorySink::new(rt.alloc(), ROOM, &[])?;
-    let answer = answer_on(
-        rt.alloc(),
-        words,
-        &mut StdTexts::new(rt),
-        &mut out,
-        &mut err,
-    );
-    Ok(Called { answer, out, err })
 }
 
 /// Calls that fail, by their numbers from 1 on, or 0 for none: of the texts, of the standard output and of the standard error; and how many bytes the
@@ -99,17 +82,74 @@ pub const NO_FAULTS: Faults = Faults {
     room: ROOM,
 };
 
+/// What a call over texts comes to, where these calls of the sinks fail.
+pub fn call_on<T: Texts>(
+    alloc: Global,
+    words: &Vec<String>,
+    texts: &mut T,
+    faults: Faults,
+) -> Result<Called, OutOfMemory> {
+    let mut out = MemorySink::new(alloc, faults.room, &[faults.write])?;
+    let mut err = MemorySink::new(alloc, ROOM, &[faults.line])?;
+    let answer = answer_on(alloc, words, texts, &mut out, &mut err);
+    Ok(Called { answer, out, err })
+}
+
+/// What a call over the real files comes to, with so much room for its output.
+pub fn call_on_files(
+    rt: &(impl Files + Input + AllocGlobal),
+    words: &Vec<String>,
+    room: usize,
+) -> Result<Called, OutOfMemory> {
+    let mut texts = StdTexts::new(rt);
+    let faults = Faults {
+        read: 0,
+        write: 0,
+        line: 0,
+        room,
+    };
+    call_on(rt.alloc(), words, &mut texts, faults)
+}
+
+// One text in memory, by its name, of which this call fails.
+fn texts_of(
+    alloc: Global,
+    (name, text): (&str, &[u8]),
+    fails: u64,
+) -> Result<MemoryTexts, OutOfMemory> {
+    let mut texts = MemoryTexts::new(alloc, &[fails])?;
+    texts.add(name, text)?;
+    Ok(texts)
+}
+
 /// What a call over one text in memory comes to, by its name.
 pub fn call_on_text(
     alloc: Global,
     words: &Vec<String>,
-    (name, text): (&str, &[u8]),
+    text: (&str, &[u8]),
     faults: Faults,
 ) -> Result<Called, OutOfMemory> {
-    let mut texts = MemoryTexts::new(alloc, &[faults.read])?;
-    texts.add(name, text)?;
-    let mut out = MemorySink::new(alloc, faults.room, &[faults.write])?;
-    let mut err = MemorySink::new(alloc, ROOM, &[faults.line])?;
-    let answer = answer_on(alloc, words, &mut texts, &mut out, &mut err);
-    Ok(Called { answer, out, err })
+    let mut texts = texts_of(alloc, text, faults.read)?;
+    call_on(alloc, words, &mut texts, faults)
+}
+
+// The code of a call over texts, where it makes any.
+fn code_on<T: Texts>(
+    alloc: Global,
+    words: &Vec<String>,
+    texts: &mut T,
+) -> Result<Option<Code>, OutOfMemory> {
+    let mut out = MemorySink::new(alloc, ROOM, &[])?;
+    let mut err = MemorySink::new(alloc, ROOM, &[])?;
+    Ok(done_on(alloc, words, texts, &mut out, &mut err).code)
+}
+
+/// The code of a call over the text `t.tst`, where it makes any.
+pub fn code_on_text(
+    alloc: Global,
+    words: &Vec<String>,
+    text: &[u8],
+) -> Result<Option<Code>, OutOfMemory> {
+    let mut texts = texts_of(alloc, ("t.tst", text), 0)?;
+    code_on(alloc, words, &mut texts)
 }

@@ -69,7 +69,19 @@ fn compared(case: Case<'_>, called: &Called, output: &[u8]) -> (Outcome, usize) 
     (outcome, same_lines(written, output))
 }
 
-// The same of a call of a case with these options in front of its own words.
+// The same of a call of a case over this text, with these options in front of its own words.
+fn text_outcome(
+    rt: &(impl Files + Input + AllocGlobal),
+    options: &str,
+    case: Case<'_>,
+    text: &[u8],
+) -> Result<(Outcome, usize), OutOfMemory> {
+    let output = output_of(rt, case, text)?;
+    let called = call_of(rt, options, case, text)?;
+    Ok(compared(case, &called, &output))
+}
+
+// The same over the text of the case.
 fn case_outcome(
     rt: &(impl Files + Input + AllocGlobal),
     head: &str,
@@ -77,9 +89,7 @@ fn case_outcome(
     case: Case<'_>,
 ) -> Result<(Outcome, usize), OutOfMemory> {
     let text = unfolded(rt.alloc(), head, case.text)?;
-    let output = output_of(rt, case, &text)?;
-    let called = call_of(rt, options, case, &text)?;
-    Ok(compared(case, &called, &output))
+    text_outcome(rt, options, case, &text)
 }
 
 // What was found: how many calls are right, how many are not, and how many lines are written as they should be.
@@ -140,13 +150,18 @@ pub fn file_of(rt: &(impl Files + AllocGlobal), name: &str) -> io::Result<String
     fs::read_to_string(rt, format!(in rt.alloc(); "cases/{name}.txt")?)
 }
 
+// Makes the calls of the file of a name, and tells whether all are right.
+fn make_named(rt: &HostRuntime, name: &str) -> io::Result<bool> {
+    let file = file_of(rt, name)?;
+    make_file(rt, name, file.as_str())
+}
+
 /// Makes the calls of all files, prints what they come to, and tells whether all are right.
 pub fn make_cases(rt: &HostRuntime) -> io::Result<bool> {
     let files = file_of(rt, "files")?;
     let mut all = true;
     for name in files.as_str().lines() {
-        let file = file_of(rt, name)?;
-        if !make_file(rt, name, file.as_str())? {
+        if !make_named(rt, name)? {
             all = false;
         }
     }

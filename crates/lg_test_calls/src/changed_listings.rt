@@ -3,9 +3,10 @@
 
 ghost use Rattle.std.specs.Prelude.{◌<◌, length};
 
-use crate::listings::{read_back, spelled, written};
+use crate::call::Called;
+use crate::listings::{is_spelled, read_back, written};
 use crate::outcome::same_lines;
-use lg_base::{OutOfMemory, RefusalKind};
+use lg_base::{OutOfMemory, Refusal, RefusalKind};
 use lg_run::Answer;
 use lg_tally::{Random, count};
 use std::alloc::Global;
@@ -19,6 +20,19 @@ const CHANGES: usize = 20_000;
 // Bytes that mean something in a listing.
 const MARKS: &[u8] = b"0123456789abcdef \n;:[],+-_xzrspimov";
 
+// Appends the listings of a text on each target of a list.
+fn push_listings(
+    rt: &(impl Files + Input + AllocGlobal),
+    targets: &str,
+    file: &str,
+    listings: &mut Vec<Vec<u8>>,
+) -> Result<(), OutOfMemory> {
+    for target in targets.lines() {
+        listings.push(written(rt, "list", target, file)?)?;
+    }
+    Ok(())
+}
+
 // The listings of the texts of a list on each target of a list.
 fn listings_of(
     rt: &(impl Files + Input + AllocGlobal),
@@ -27,9 +41,7 @@ fn listings_of(
 ) -> Result<Vec<Vec<u8>>, OutOfMemory> {
     let mut listings = Vec::new(rt.alloc());
     for file in files.lines() {
-        for target in targets.lines() {
-            listings.push(written(rt, "list", target, file)?)?;
-        }
+        push_listings(rt, targets, file, &mut listings)?;
     }
     Ok(listings)
 }
@@ -52,32 +64,43 @@ fn other_byte(old: u8, random: &mut Random) -> u8 {
     if byte == old { old ^ 1 } else { byte }
 }
 
-// Reads a listing back that was changed behind so many lines, and counts what comes of it. It is refused at its line, or at the one behind it, where the line
-// was cut in two.
-fn count_change(
+// Whether a changed listing is refused for what it is, so many lines behind those before the change: at its line, or at the one behind it, where the line was
+// cut in two.
+fn is_refused_there(refusal: Refusal, lines: usize, is_cut: bool) -> bool {
+    let behind = (refusal.line as usize).wrapping_sub(lines);
+    refusal.kind == RefusalKind::BadListing && (behind == 1 || (is_cut && behind == 2))
+}
+
+// Counts what came of a listing that was changed behind so many lines.
+fn count_answer(
     alloc: Global,
     listing: &[u8],
-    lines: usize,
-    is_cut: bool,
+    (lines, is_cut): (usize, bool),
+    called: &Called,
     changes: &mut Changes,
 ) -> Result<(), OutOfMemory> {
-    let called = read_back(alloc, listing)?;
+    let bytes = called.out.bytes();
+    let is_read = called.answer == Answer::Listed && is_spelled(alloc, listing, bytes)?;
     match called.answer {
-        Answer::Refused(refusal)
-            if refusal.kind == RefusalKind::BadListing && called.out.bytes().is_empty() => {
-            let behind = (refusal.line as usize).wrapping_sub(lines);
-            if behind == 1 || (is_cut && behind == 2) {
+        Answer::Refused(refusal) if bytes.is_empty() && is_refused_there(refusal, lines, is_cut) =>
+            {
                 count(&mut changes.refused);
-            } else {
-                count(&mut changes.other);
             }
-        }
-        Answer::Listed if called.out.bytes() == spelled(alloc, listing)?.as_slice() => {
-            count(&mut changes.read);
-        }
+        _ if is_read => count(&mut changes.read),
         _ => count(&mut changes.other),
     }
     Ok(())
+}
+
+// Reads a changed listing back, and counts what comes of it.
+fn count_change(
+    alloc: Global,
+    listing: &[u8],
+    change: (usize, bool),
+    changes: &mut Changes,
+) -> Result<(), OutOfMemory> {
+    let called = read_back(alloc, listing)?;
+    count_answer(alloc, listing, change, &called, changes)
 }
 
 // Changes a listing at one byte, reads it back, and puts the byte back.
@@ -95,7 +118,7 @@ fn change(
     let front = &listing[..place];
     let lines = same_lines(front, front);
     listing[place] = byte;
-    count_change(alloc, listing, lines, byte == b'\n', changes)?;
+    count_change(alloc, listing, (lines, byte == b'\n'), changes)?;
     listing[place] = old;
     Ok(())
 }

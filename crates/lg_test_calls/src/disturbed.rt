@@ -5,11 +5,11 @@ ghost use Rattle.std.specs.Prelude.{◌<◌, ◌≤◌, length, IfOk, IsTrue};
 ghost use Rattle.lg_base.specs.Arguments.{most_args};
 ghost use Rattle.lg_base.specs.Layout.{most_code};
 
-use crate::call::{done_on, words_of};
+use crate::call::{code_on_text, words_of};
 use lg_asm::Code;
 use lg_base::{ArgImage, OutOfMemory, Stop, args_image};
 use lg_cpu::{Cpu, CpuStep};
-use lg_io::{MemorySink, MemoryTexts};
+use lg_io::MemorySink;
 use lg_node::Unit;
 use lg_pre::expand;
 use lg_tst::parse;
@@ -53,13 +53,7 @@ fn step_words(alloc: Global, target: &str) -> Result<Vec<String>, OutOfMemory> {
 // The code of a text for a target, by such a call.
 fn code_of(alloc: Global, target: &str, text: &[u8]) -> Result<Code, Stop> {
     let words = step_words(alloc, target)?;
-    let mut texts = MemoryTexts::new(alloc, &[])?;
-    texts.add("t.tst", text)?;
-    let mut out = MemorySink::new(alloc, ROOM, &[])?;
-    let mut err = MemorySink::new(alloc, ROOM, &[])?;
-    done_on(alloc, &words, &mut texts, &mut out, &mut err)
-        .code
-        .ok_or(Stop::OutOfMemory)
+    code_on_text(alloc, &words, text)?.ok_or(Stop::OutOfMemory)
 }
 
 // Whether code and a data part fit the memory.

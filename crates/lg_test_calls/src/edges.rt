@@ -1,12 +1,12 @@
 // What no case of a table has: texts beside the one that is asked for, a line that no call here comes to, the labels of code, and all beginnings of a text.
 
-use crate::call::{answer_on, done_on, words_of};
+use crate::call::{NO_FAULTS, call_on, code_on_text, words_of};
 use crate::tally::{LISTED, REFUSED, Tally, count_call};
 use crate::texts::{first_letter, kept_registers, wrapped_sum};
 use lg_base::OutOfMemory;
 use lg_io::{MemorySink, MemoryTexts, Texts};
 use lg_run::top::report_words;
-use lg_run::{Answer, Done, status};
+use lg_run::{Answer, status};
 use std::alloc::Global;
 use std::{fs, io};
 
@@ -22,24 +22,37 @@ fn three_texts(alloc: Global) -> Result<MemoryTexts, OutOfMemory> {
 // Whether a call on these texts comes to this.
 fn comes_to(
     alloc: Global,
+    words: &Vec<String>,
     texts: &mut MemoryTexts,
     wanted: (u8, &[u8], &[u8]),
 ) -> Result<bool, OutOfMemory> {
-    let words = words_of(alloc, "lightning t.tst", "")?;
-    let mut out = MemorySink::new(alloc, 16, &[])?;
-    let mut err = MemorySink::new(alloc, 64, &[])?;
-    let answer = answer_on(alloc, &words, texts, &mut out, &mut err);
-    Ok((status(&answer), out.bytes(), err.bytes()) == wanted)
+    let called = call_on(alloc, words, texts, NO_FAULTS)?;
+    Ok(
+        (
+            status(&called.answer),
+            called.out.bytes(),
+            called.err.bytes(),
+        ) == wanted,
+    )
 }
 
 // Whether no piece of a text that was selected before is read as the text that is asked for, whose selection fails; and whether the same call again
 // finds its text.
-fn reads_its_own(alloc: Global) -> Result<bool, OutOfMemory> {
-    let mut texts = three_texts(alloc)?;
+fn are_their_own(
+    alloc: Global,
+    words: &Vec<String>,
+    texts: &mut MemoryTexts,
+) -> Result<bool, OutOfMemory> {
     let is_selected = texts.select("other.tst").is_ok();
-    let fails = comes_to(alloc, &mut texts, (123, b"", b"lightning: read fault\n"))?;
-    let runs = comes_to(alloc, &mut texts, (0, b"Hi!\n", b""))?;
+    let fails = comes_to(alloc, words, texts, (123, b"", b"lightning: read fault\n"))?;
+    let runs = comes_to(alloc, words, texts, (0, b"Hi!\n", b""))?;
     Ok(is_selected && fails && runs)
+}
+
+// The same of the three texts.
+fn reads_its_own(alloc: Global, words: &Vec<String>) -> Result<bool, OutOfMemory> {
+    let mut texts = three_texts(alloc)?;
+    are_their_own(alloc, words, &mut texts)
 }
 
 // Whether want of memory has its line and status.
@@ -54,23 +67,12 @@ const LABELS: &[u8] = b".data 16 a: .c 1 b: .align 8 c: .code prolog ret epilog"
 
 const ADDRESSES: &[u64] = &[0x2000_0000, 0x2000_0001, 0x2000_0008];
 
-// Whether a call gave code with these addresses of labels.
-fn has_labels(done: &Done) -> bool {
-    match &done.code {
-        Some(code) => code.labels().as_slice() == ADDRESSES,
-        None => false,
-    }
-}
-
 // Whether code has the addresses of the labels of its data part.
-fn gives_labels(alloc: Global) -> Result<bool, OutOfMemory> {
-    let words = words_of(alloc, "lightning t.tst", "")?;
-    let mut texts = MemoryTexts::new(alloc, &[])?;
-    texts.add("t.tst", LABELS)?;
-    let mut out = MemorySink::new(alloc, 16, &[])?;
-    let mut err = MemorySink::new(alloc, 16, &[])?;
-    let done = done_on(alloc, &words, &mut texts, &mut out, &mut err);
-    Ok(has_labels(&done))
+fn gives_labels(alloc: Global, words: &Vec<String>) -> Result<bool, OutOfMemory> {
+    match code_on_text(alloc, words, LABELS)? {
+        Some(code) => Ok(code.labels().as_slice() == ADDRESSES),
+        None => Ok(false),
+    }
 }
 
 // What the calls that list each beginning of a text come to.
@@ -83,25 +85,44 @@ fn list_beginnings(alloc: Global, text: &[u8]) -> Result<Tally, OutOfMemory> {
     Ok(tally)
 }
 
+// Prints whether something is so.
+fn tell(rt: &HostRuntime, what: &str, holds: Result<bool, OutOfMemory>) -> io::Result<()> {
+    println!(rt; "{what}: {}", holds.unwrap_or(false))
+}
+
+// Makes the calls with these words, and prints what they come to.
+fn try_words(rt: &HostRuntime, words: &Vec<String>) -> io::Result<()> {
+    let alloc = rt.alloc();
+    tell(rt, "no other text is read", reads_its_own(alloc, words))?;
+    tell(rt, "want of memory is told", tells_want_of_memory(alloc))?;
+    tell(
+        rt,
+        "labels of data have their addresses",
+        gives_labels(alloc, words),
+    )
+}
+
 /// Makes the calls, and prints what they come to.
 pub fn try_edges(rt: &HostRuntime) -> io::Result<()> {
-    let alloc = rt.alloc();
-    let own = reads_its_own(alloc).unwrap_or(false);
-    let want = tells_want_of_memory(alloc).unwrap_or(false);
-    let labels = gives_labels(alloc).unwrap_or(false);
-    println!(rt; "no other text is read: {own}")?;
-    println!(rt; "want of memory is told: {want}")?;
-    println!(rt; "labels of data have their addresses: {labels}")
+    match words_of(rt.alloc(), "lightning t.tst", "") {
+        Ok(words) => try_words(rt, &words),
+        Err(_) => println!(rt; "out of memory"),
+    }
+}
+
+// Prints whether so many beginnings are all listed or refused, and else what they come to.
+fn print_beginnings(rt: &HostRuntime, beginnings: usize, tally: &Tally) -> io::Result<()> {
+    let told = tally.answers[LISTED].wrapping_add(tally.answers[REFUSED]);
+    if told == beginnings as u64 && tally.odd == 0 {
+        println!(rt; "each beginning of nfibs.tst is listed or refused")
+    } else {
+        tally.print(rt)
+    }
 }
 
 /// Lists each beginning of a text, and prints what it comes to.
 pub fn try_beginnings(rt: &HostRuntime) -> io::Result<()> {
     let text = fs::read(rt, "examples/nfibs.tst")?;
     let tally = list_beginnings(rt.alloc(), &text).unwrap_or(Tally::new());
-    let told = tally.answers[LISTED].wrapping_add(tally.answers[REFUSED]);
-    if told == text.len() as u64 && tally.odd == 0 {
-        println!(rt; "each beginning of nfibs.tst is listed or refused")
-    } else {
-        tally.print(rt)
-    }
+    print_beginnings(rt, text.len(), &tally)
 }

@@ -40,8 +40,8 @@ fn push_bytes(line: &str, bytes: &mut Vec<u8>) -> Result<(), AllocError> {
     Ok(())
 }
 
-/// The bytes that the digits of a listing spell, one line after the other.
-pub fn spelled(alloc: Global, listing: &[u8]) -> Result<Vec<u8>, AllocError> {
+// The bytes that the digits of a listing spell, one line after the other.
+fn spelled(alloc: Global, listing: &[u8]) -> Result<Vec<u8>, AllocError> {
     let mut bytes = Vec::new(alloc);
     for line in str::from_utf8(listing).unwrap_or("").lines() {
         push_bytes(line, &mut bytes)?;
@@ -63,15 +63,18 @@ const BACK: Faults = Faults {
     room: 1_048_576,
 };
 
+/// Whether the digits of a listing spell these bytes.
+pub fn is_spelled(alloc: Global, listing: &[u8], bytes: &[u8]) -> Result<bool, AllocError> {
+    let wanted = spelled(alloc, listing)?;
+    Ok(wanted.as_slice() == bytes)
+}
+
 // Whether a listing that is not empty is read back to the bytes that its digits spell.
 fn gives_its_bytes(alloc: Global, listing: &[u8]) -> Result<bool, OutOfMemory> {
-    let wanted = spelled(alloc, listing)?;
     let called = read_back(alloc, listing)?;
-    Ok(
-        called.answer == Answer::Listed
-            && !wanted.is_empty()
-            && called.out.bytes() == wanted.as_slice(),
-    )
+    let bytes = called.out.bytes();
+    let is_spelled = is_spelled(alloc, listing, bytes)?;
+    Ok(called.answer == Answer::Listed && !bytes.is_empty() && is_spelled)
 }
 
 /// Whether the listing of a text on a target is read back to the bytes that its digits spell.
@@ -85,6 +88,17 @@ pub fn is_read_back(
     gives_its_bytes(rt.alloc(), listing.out.bytes())
 }
 
+// The words of a call over a text of the real files, by its name without `.tst`.
+fn words_on(
+    alloc: Global,
+    mode: &str,
+    target: &str,
+    name: &str,
+) -> Result<Vec<String>, OutOfMemory> {
+    let line = format!(in alloc; "lightning --mode {mode} --target {target} {name}.tst")?;
+    words_of(alloc, line.as_str(), "")
+}
+
 /// What a text of the real files writes in a mode on a target, by its name without `.tst`.
 pub fn written(
     rt: &(impl Files + Input + AllocGlobal),
@@ -92,24 +106,27 @@ pub fn written(
     target: &str,
     name: &str,
 ) -> Result<Vec<u8>, OutOfMemory> {
-    let alloc = rt.alloc();
-    let line = format!(in alloc; "lightning --mode {mode} --target {target} {name}.tst")?;
-    let words = words_of(alloc, line.as_str(), "")?;
+    let words = words_on(rt.alloc(), mode, target, name)?;
     let called = call_on_files(rt, &words, ROOM)?;
-    Ok(Vec::from_slice(alloc, called.out.bytes())?)
+    Ok(Vec::from_slice(rt.alloc(), called.out.bytes())?)
+}
+
+// Whether a label `there` stands in a listing at an address, which a line feed may end.
+fn has_label(alloc: Global, listing: &[u8], address: &[u8]) -> Result<bool, OutOfMemory> {
+    let address = str::from_utf8(address).unwrap_or("").trim_end();
+    let line = format!(in alloc; "\n{address} there:\n")?;
+    Ok(
+        str::from_utf8(listing)
+            .unwrap_or("")
+            .contains(line.as_str()),
+    )
 }
 
 // Whether the address that `label-address.tst` writes on a target is that of its label `there` in the listing.
 fn is_listed(rt: &(impl Files + Input + AllocGlobal), target: &str) -> Result<bool, OutOfMemory> {
     let address = written(rt, "run", target, "modes/label-address")?;
     let listing = written(rt, "list", target, "modes/label-address")?;
-    let address = str::from_utf8(&address).unwrap_or("").trim_end();
-    let line = format!(in rt.alloc(); "\n{address} there:\n")?;
-    Ok(
-        str::from_utf8(&listing)
-            .unwrap_or("")
-            .contains(line.as_str()),
-    )
+    has_label(rt.alloc(), &listing, &address)
 }
 
 /// Prints for each target of a list whether the address of a label is that of the listing.

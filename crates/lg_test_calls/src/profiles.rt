@@ -35,13 +35,36 @@ fn sums_of(call: &Called) -> Sums {
 }
 
 // Whether a profile comes to what a run comes to, and adds up to its steps and those of the meaning.
-fn are_same(run: &Called, meaning: &Called, profile: &Called) -> bool {
+fn are_same(run: &Called, meant: u64, profile: &Called) -> bool {
     let sums = sums_of(profile);
     run.answer == profile.answer
         && run.out.bytes() == profile.out.bytes()
         && sums.steps == sums_of(run).steps
         && sums.spent == sums.steps
-        && sums.meant == sums_of(meaning).steps
+        && sums.meant == meant
+}
+
+// How many steps the meaning of a text takes.
+fn meant_steps(
+    rt: &(impl Files + Input + AllocGlobal),
+    target: &str,
+    case: Case<'_>,
+    text: &[u8],
+) -> Result<u64, OutOfMemory> {
+    let meaning = call_in(rt, "mean", target, case, text)?;
+    Ok(sums_of(&meaning).steps)
+}
+
+// Whether the profile of a text adds up to a run and to so many steps of the meaning.
+fn adds_up_to(
+    rt: &(impl Files + Input + AllocGlobal),
+    target: &str,
+    case: Case<'_>,
+    text: &[u8],
+    (run, meant): (&Called, u64),
+) -> Result<bool, OutOfMemory> {
+    let profile = call_in(rt, "profile", target, case, text)?;
+    Ok(are_same(run, meant, &profile))
 }
 
 /// Whether the profile of a text on a target adds up.
@@ -51,8 +74,7 @@ pub fn adds_up(
     case: Case<'_>,
     text: &[u8],
 ) -> Result<bool, OutOfMemory> {
+    let meant = meant_steps(rt, target, case, text)?;
     let run = call_in(rt, "run", target, case, text)?;
-    let meaning = call_in(rt, "mean", target, case, text)?;
-    let profile = call_in(rt, "profile", target, case, text)?;
-    Ok(are_same(&run, &meaning, &profile))
+    adds_up_to(rt, target, case, text, (&run, meant))
 }

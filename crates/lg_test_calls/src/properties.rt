@@ -86,22 +86,27 @@ fn try_file(rt: &HostRuntime, target: &str, file: &str, found: &mut Found) -> io
     Ok(())
 }
 
+// Tries the texts of two files on a target, and prints what was found.
+fn try_target(rt: &HostRuntime, target: &str, examples: &str, stacks: &str) -> io::Result<()> {
+    let mut found = Found {
+        profiles: 0,
+        listings: 0,
+        alike: 0,
+    };
+    try_file(rt, target, examples, &mut found)?;
+    try_file(rt, target, stacks, &mut found)?;
+    println!(rt;
+        "{target}: {} profiles add up, {} listings are read back, {} texts run as without where the stack is disturbed",
+        found.profiles, found.listings, found.alike
+    )
+}
+
 /// Tries the texts on each target of a list, and prints what was found.
 pub fn try_texts(rt: &HostRuntime, targets: &str) -> io::Result<()> {
     let examples = file_of(rt, "examples")?;
     let stacks = file_of(rt, "stacks")?;
     for target in targets.lines() {
-        let mut found = Found {
-            profiles: 0,
-            listings: 0,
-            alike: 0,
-        };
-        try_file(rt, target, examples.as_str(), &mut found)?;
-        try_file(rt, target, stacks.as_str(), &mut found)?;
-        println!(rt;
-            "{target}: {} profiles add up, {} listings are read back, {} texts run as without where the stack is disturbed",
-            found.profiles, found.listings, found.alike
-        )?;
+        try_target(rt, target, examples.as_str(), stacks.as_str())?;
     }
     Ok(())
 }
