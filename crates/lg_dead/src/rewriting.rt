@@ -93,12 +93,14 @@ fn without_moves(alloc: Global, nodes: &NodeList, shape: &Shape) -> Result<Rewri
         shape,
         origin,
     } = without_idle_moves(alloc, needed, needed_shape)?;
-    let origin = joined(alloc, needed_origin, &origin)?;
-    Ok(Rewritten {
-        nodes,
-        shape,
-        origin,
-    })
+    match joined(alloc, needed_origin, &origin) {
+        Ok(origin) => Ok(Rewritten {
+            nodes,
+            shape,
+            origin,
+        }),
+        Err(error) => Err(error),
+    }
 }
 
 /// Rewrites the nodes of a text: folds the numbers that are known, drops the definitions that nothing needs and the moves that do nothing, and threads
@@ -126,10 +128,12 @@ pub fn rewrite(alloc: Global, nodes: &NodeList, shape: &Shape) -> Result<Rewritt
         shape,
         origin,
     } = with_threaded_jumps(alloc, moved, moved_shape)?;
-    let origin = joined(alloc, moved_origin, &origin)?;
-    Ok(Rewritten {
-        nodes,
-        shape,
-        origin,
-    })
+    match joined(alloc, moved_origin, &origin) {
+        Ok(origin) => Ok(Rewritten {
+            nodes,
+            shape,
+            origin,
+        }),
+        Err(error) => Err(error),
+    }
 }

@@ -20,8 +20,8 @@ joined-requires-clause-within c =
     let t = c.in_ok-nodes.field-0 in
     joined-within IsFoldedNode IsThreadedNode l m.nodes t.nodes m.origin.items t.origin.items c.in_ok-moved.ensures.origin c.in_ok-nodes.ensures.origin
 
-pub returns : goal.returns
-returns c =
+pub returns-in-Ok : goal.returns-in-Ok
+returns-in-Ok c =
     let l = c.args.nodes.now in
     let s = c.args.shape.now in
     let m = c.in_ok-moved.field-0 in
@@ -36,12 +36,12 @@ returns c =
         tidy = record { moves = second.moves first.moves; jumps = second.jumps };
         folds = subst HasNoFolds (sym second.made.nodes) (threads-keep m.nodes second.made.targets first.shape.accepted formed second.made.are first.folds);
         dead = subst (λ (x : LabelledNodes). HasNoDeadButMoves x t.shape) (sym second.made.nodes) (threads-keep-no-dead m.nodes m.shape t.shape second.made.targets first.shape formed second.made.are second.made.taken first.dead);
-        from = subst (IsOrigin IsRewrittenNode l t.nodes) (sym c.in_ok-origin.ensures) (origins-join IsFoldedNode IsThreadedNode l m.nodes t.nodes m.origin.items t.origin.items first.origin second.origin);
-        folded = subst (ComesFolded IsThreadedNode l t.nodes) (sym c.in_ok-origin.ensures) (folded-joins IsThreadedNode l m.nodes t.nodes m.origin.items t.origin.items first.folded second.origin);
-        others = subst (KeepsOthers is_droppable l) (sym c.in_ok-origin.ensures)
+        from = subst (IsOrigin IsRewrittenNode l t.nodes) (sym c.in-Ok.ensures) (origins-join IsFoldedNode IsThreadedNode l m.nodes t.nodes m.origin.items t.origin.items first.origin second.origin);
+        folded = subst (ComesFolded IsThreadedNode l t.nodes) (sym c.in-Ok.ensures) (folded-joins IsThreadedNode l m.nodes t.nodes m.origin.items t.origin.items first.folded second.origin);
+        others = subst (KeepsOthers is_droppable l) (sym c.in-Ok.ensures)
             (others-join IsFoldedNode IsThreadedNode l m.nodes t.nodes m.origin.items t.origin.items first.origin second.origin is_droppable folded-still first.others (others-weaker is_jump is_droppable m.nodes t.origin.items no-jump second.others));
-        labels = subst (KeepsLabels l t.nodes) (sym c.in_ok-origin.ensures) (labels-join IsFoldedNode IsThreadedNode l m.nodes t.nodes m.origin.items t.origin.items first.origin second.origin first.labels second.labels);
-        made = subst (ComesThreaded l t.nodes t.shape) (sym c.in_ok-origin.ensures) (record { middle = m.nodes; middle_shape = m.shape; first = m.origin.items; second = t.origin.items; moved = first.made; threaded = second.made; joined = refl });
+        labels = subst (KeepsLabels l t.nodes) (sym c.in-Ok.ensures) (labels-join IsFoldedNode IsThreadedNode l m.nodes t.nodes m.origin.items t.origin.items first.origin second.origin first.labels second.labels);
+        made = subst (ComesThreaded l t.nodes t.shape) (sym c.in-Ok.ensures) (record { middle = m.nodes; middle_shape = m.shape; first = m.origin.items; second = t.origin.items; moved = first.made; threaded = second.made; joined = refl });
       };
       addresses = λ size A are. first.addresses size A (second.addresses size A are);
       runs = λ size A image args are. law l m.nodes t.nodes s m.shape t.shape A image args (first.runs size A image args (second.addresses size A are)) (second.runs size A image args are);

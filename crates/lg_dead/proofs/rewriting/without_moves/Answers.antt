@@ -21,8 +21,8 @@ joined-requires-clause-within c =
     let t = c.in_ok-nodes.field-0 in
     joined-within IsFoldedNode IsSameNode l n.nodes t.nodes n.origin.items t.origin.items c.in_ok-needed.ensures.origin c.in_ok-nodes.ensures.origin
 
-pub returns : goal.returns
-returns c =
+pub returns-in-Ok : goal.returns-in-Ok
+returns-in-Ok c =
     let l = c.args.nodes.now in
     let s = c.args.shape.now in
     let n = c.in_ok-needed.field-0 in
@@ -33,18 +33,18 @@ returns c =
     record {
       shape = second.shape;
       taken = second.taken ∙ first.taken;
-      origin = subst (IsOrigin IsFoldedNode l t.nodes) (sym c.in_ok-origin.ensures)
+      origin = subst (IsOrigin IsFoldedNode l t.nodes) (sym c.in-Ok.ensures)
           (origin-weaker (Joined IsFoldedNode IsSameNode) IsFoldedNode l t.nodes (map (slice_index n.origin.items) t.origin.items) (λ old x j. subst (IsFoldedNode old) (sym j.2) j.1)
           (origins-join IsFoldedNode IsSameNode l n.nodes t.nodes n.origin.items t.origin.items first.origin second.origin));
-      folded = subst (ComesFolded IsSameNode l t.nodes) (sym c.in_ok-origin.ensures) (folded-joins IsSameNode l n.nodes t.nodes n.origin.items t.origin.items first.folded second.origin);
-      others = subst (KeepsOthers is_droppable l) (sym c.in_ok-origin.ensures)
+      folded = subst (ComesFolded IsSameNode l t.nodes) (sym c.in-Ok.ensures) (folded-joins IsSameNode l n.nodes t.nodes n.origin.items t.origin.items first.folded second.origin);
+      others = subst (KeepsOthers is_droppable l) (sym c.in-Ok.ensures)
           (others-join IsFoldedNode IsSameNode l n.nodes t.nodes n.origin.items t.origin.items first.origin second.origin is_droppable folded-still first.others (others-weaker is_movr is_droppable n.nodes t.origin.items no-movr second.others));
       few = omega (arith, first.few, second.few);
-      labels = subst (KeepsLabels l t.nodes) (sym c.in_ok-origin.ensures) (labels-join IsFoldedNode IsSameNode l n.nodes t.nodes n.origin.items t.origin.items first.origin second.origin first.labels second.labels);
+      labels = subst (KeepsLabels l t.nodes) (sym c.in-Ok.ensures) (labels-join IsFoldedNode IsSameNode l n.nodes t.nodes n.origin.items t.origin.items first.origin second.origin first.labels second.labels);
       moves = second.moves;
       folds = subst HasNoFolds (sym second.made.nodes) (moves-keep n.nodes first.shape.accepted formed first.folds);
       dead = subst (λ (x : LabelledNodes). HasNoDeadButMoves x t.shape) (sym second.made.nodes) (no-dead-but-moves n.nodes n.shape t.shape first.shape formed second.made.taken first.of_use);
       addresses = λ size A are. first.addresses size A (second.addresses size A are);
       runs = λ size A image args are. twice l n.nodes t.nodes s n.shape t.shape A image args (first.runs size A image args (second.addresses size A are)) (second.runs size A image args are).0;
-      made = subst (ComesMoved l t.nodes t.shape) (sym c.in_ok-origin.ensures) (record { middle = n.nodes; middle_shape = n.shape; first = n.origin.items; second = t.origin.items; needed = first.made; dropped = second.made; joined = refl });
+      made = subst (ComesMoved l t.nodes t.shape) (sym c.in-Ok.ensures) (record { middle = n.nodes; middle_shape = n.shape; first = n.origin.items; second = t.origin.items; needed = first.made; dropped = second.made; joined = refl });
     }
