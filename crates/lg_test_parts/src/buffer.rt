@@ -117,20 +117,20 @@ fn is_patched(alloc: Global, zeros: &[u8], row: &Patch) -> Result<bool, OutOfMem
     Ok(is_done(&buf.finish(), row))
 }
 
-// The number of the first row with another answer.
-fn first_other(alloc: Global, zeros: &[u8]) -> Result<Option<usize>, OutOfMemory> {
-    for (number, row) in PATCHES.iter().enumerate() {
+// Whether all rows are patched so.
+fn are_patched(alloc: Global, zeros: &[u8]) -> Result<bool, OutOfMemory> {
+    for row in PATCHES {
         if !is_patched(alloc, zeros, row)? {
-            return Ok(Some(number));
+            return Ok(false);
         }
     }
-    Ok(None)
+    Ok(true)
 }
 
 // The same with zeros to append.
-fn first_other_patch(alloc: Global) -> Result<Option<usize>, OutOfMemory> {
+fn are_rows_patched(alloc: Global) -> Result<bool, OutOfMemory> {
     let zeros = vec![in alloc; 0u8; PIECE]?;
-    first_other(alloc, &zeros)
+    are_patched(alloc, &zeros)
 }
 
 const PATCHES: &[Patch] = &[
@@ -414,11 +414,20 @@ const PATCHES: &[Patch] = &[
     ),
 ];
 
+// Whether a target lies one place beyond the reach.
+fn is_beyond(kind: FixKind, place: u32) -> bool {
+    !kind.fits(place, 0)
+}
+
+// Whether code is patched as it should be.
+fn is_code_patched(alloc: Global) -> Result<bool, OutOfMemory> {
+    let are_beyond = is_beyond(FixKind::A64Branch26, 134_217_732)
+        && is_beyond(FixKind::X86Rel32, 0x7fff_fffd);
+    Ok(are_beyond && leads_to_labels(alloc)? && are_rows_patched(alloc)?)
+}
+
 #[test]
 fn patches_code(rt: HostRuntime) -> Result<(), Fail> {
-    assert!(rt; leads_to_labels(rt.alloc())?);
-    assert_eq!(rt; first_other_patch(rt.alloc())?, None);
-    assert!(rt; !FixKind::A64Branch26.fits(134_217_732, 0));
-    assert!(rt; !FixKind::X86Rel32.fits(0x7fff_fffd, 0));
+    assert!(rt; is_code_patched(rt.alloc())?);
     Ok(())
 }

@@ -367,41 +367,44 @@ fn prints(
     )
 }
 
-// The number of the first format that does not print what it should.
-fn first_other_print(alloc: Global) -> Result<Option<usize>, OutOfMemory> {
-    for (number, (data, words, length, text)) in PRINTED.iter().enumerate() {
+// Whether the formats print what they should.
+fn are_printed(alloc: Global) -> Result<bool, OutOfMemory> {
+    for (data, words, length, text) in PRINTED {
         if !prints(alloc, (data, 0), words, HostEnd::Value(*length), text)? {
-            return Ok(Some(number));
+            return Ok(false);
         }
     }
-    Ok(None)
+    Ok(true)
 }
 
-// The number of the first of the other formats that is defined, or prints something.
-fn first_defined(alloc: Global) -> Result<Option<usize>, OutOfMemory> {
-    for (number, format) in OTHER_FORMATS.iter().enumerate() {
+// Whether none of the other formats is defined, or prints something.
+fn are_undefined(alloc: Global) -> Result<bool, OutOfMemory> {
+    for format in OTHER_FORMATS {
         if !prints(alloc, (format, 0), &[DATA, 1, 0], HostEnd::Undefined, &[])? {
-            return Ok(Some(number));
+            return Ok(false);
         }
     }
-    Ok(None)
+    Ok(true)
 }
 
-// The first write at which the long format ends otherwise.
-fn first_other_cut(alloc: Global) -> Result<Option<u64>, OutOfMemory> {
+// Whether the long format ends at each write that fails.
+fn is_cut(alloc: Global) -> Result<bool, OutOfMemory> {
     for (write, end, text) in CUT {
         if !prints(alloc, (LONG, *write), LONG_WORDS, *end, text)? {
-            return Ok(Some(*write));
+            return Ok(false);
         }
     }
-    Ok(None)
+    Ok(true)
+}
+
+// The same of all of these.
+fn are_formats_right(alloc: Global) -> Result<bool, OutOfMemory> {
+    Ok(are_printed(alloc)? && are_undefined(alloc)? && is_cut(alloc)?)
 }
 
 #[test]
 fn prints_what_c_prints(rt: HostRuntime) -> Result<(), Fail> {
-    assert_eq!(rt; first_other_print(rt.alloc())?, None);
-    assert_eq!(rt; first_defined(rt.alloc())?, None);
-    assert_eq!(rt; first_other_cut(rt.alloc())?, None);
+    assert!(rt; are_formats_right(rt.alloc())?);
     Ok(())
 }
 
@@ -444,19 +447,23 @@ fn is_heap_handed_out(alloc: Global) -> Result<bool, OutOfMemory> {
     Ok(is_handed_out(&mut memory, &mut out))
 }
 
-// The number of the first call that ends otherwise.
-fn first_other_end(alloc: Global) -> Result<Option<usize>, OutOfMemory> {
-    for (number, (data, name, words, end)) in CALLS.iter().enumerate() {
+// Whether the calls end as they should.
+fn end_so(alloc: Global) -> Result<bool, OutOfMemory> {
+    for (data, name, words, end) in CALLS {
         if !ends(alloc, data, 0, (*name, words, false), (*end, None))? {
-            return Ok(Some(number));
+            return Ok(false);
         }
     }
-    Ok(None)
+    Ok(true)
+}
+
+// The same, and whether the heap is handed out.
+fn are_calls_right(alloc: Global) -> Result<bool, OutOfMemory> {
+    Ok(end_so(alloc)? && is_heap_handed_out(alloc)?)
 }
 
 #[test]
 fn answers_as_the_table_says(rt: HostRuntime) -> Result<(), Fail> {
-    assert_eq!(rt; first_other_end(rt.alloc())?, None);
-    assert!(rt; is_heap_handed_out(rt.alloc())?);
+    assert!(rt; are_calls_right(rt.alloc())?);
     Ok(())
 }

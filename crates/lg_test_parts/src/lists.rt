@@ -18,18 +18,25 @@ fn is_grown_code_held(alloc: Global) -> Result<bool, OutOfMemory> {
     Ok(was_empty && grown.len() == 2 && grown.get(1) == 8)
 }
 
-fn are_images_held(alloc: Global) -> Result<bool, OutOfMemory> {
+fn is_data_held(alloc: Global) -> Result<bool, OutOfMemory> {
     let data = DataImage::of(alloc, b"data")?;
+    Ok(data.as_slice() == b"data".as_slice() && data.get(1) == b'a')
+}
+
+fn are_args_held(alloc: Global) -> Result<bool, OutOfMemory> {
     let args = ArgImage::of(alloc, b"args")?;
-    let are_same = data.as_slice() == b"data".as_slice() && args.as_slice() == b"args".as_slice();
-    Ok(are_same && data.get(1) == b'a' && args.get(0) == b'a')
+    Ok(args.as_slice() == b"args".as_slice() && args.get(0) == b'a')
 }
 
 fn are_places_held(alloc: Global) -> Result<bool, OutOfMemory> {
     let places = Places::of(alloc, &[4, 8])?;
+    Ok(places.as_slice() == [4, 8].as_slice())
+}
+
+fn are_grown_places_held(alloc: Global) -> Result<bool, OutOfMemory> {
     let mut grown = Places::with_room(alloc, 1)?;
     grown.push(12);
-    Ok(places.as_slice() == [4, 8].as_slice() && grown.get(0) == 12)
+    Ok(grown.get(0) == 12)
 }
 
 fn is_origin_held(alloc: Global) -> Result<bool, OutOfMemory> {
@@ -44,13 +51,17 @@ fn are_addresses_held(alloc: Global) -> Result<bool, OutOfMemory> {
     Ok(addresses.get(0) == 0x1000_0000 && addresses.len() == 1)
 }
 
+// Whether each list holds what is put.
+fn are_held(alloc: Global) -> Result<bool, OutOfMemory> {
+    let is_code = is_code_held(alloc)? && is_grown_code_held(alloc)?;
+    let are_images = is_data_held(alloc)? && are_args_held(alloc)?;
+    let are_places = are_places_held(alloc)? && are_grown_places_held(alloc)?;
+    let are_others = is_origin_held(alloc)? && are_addresses_held(alloc)?;
+    Ok(is_code && are_images && are_places && are_others)
+}
+
 #[test]
 fn holds_what_is_put(rt: HostRuntime) -> Result<(), Fail> {
-    assert!(rt; is_code_held(rt.alloc())?);
-    assert!(rt; is_grown_code_held(rt.alloc())?);
-    assert!(rt; are_images_held(rt.alloc())?);
-    assert!(rt; are_places_held(rt.alloc())?);
-    assert!(rt; is_origin_held(rt.alloc())?);
-    assert!(rt; are_addresses_held(rt.alloc())?);
+    assert!(rt; are_held(rt.alloc())?);
     Ok(())
 }

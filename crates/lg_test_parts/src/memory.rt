@@ -82,9 +82,13 @@ fn are_parts_kept(alloc: Global) -> Result<bool, OutOfMemory> {
     Ok(loads_are(&memory, LOADS_OF_PARTS))
 }
 
+// Whether both memories are so.
+fn are_kept(alloc: Global) -> Result<bool, OutOfMemory> {
+    Ok(is_kept(alloc)? && are_parts_kept(alloc)?)
+}
+
 #[test]
 fn loads_what_was_stored(rt: HostRuntime) -> Result<(), Fail> {
-    assert!(rt; is_kept(rt.alloc())?);
-    assert!(rt; are_parts_kept(rt.alloc())?);
+    assert!(rt; are_kept(rt.alloc())?);
     Ok(())
 }

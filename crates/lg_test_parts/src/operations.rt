@@ -180,28 +180,27 @@ const TAKEN: &[(&[u8], &[Operand], bool)] = &[
     (b"getarg", &[R0, SEVEN], false),
 ];
 
-// The first word of the table that names another operation.
-fn first_other() -> Option<&'static [u8]> {
+// Whether the words name these operations, or none.
+fn are_named() -> bool {
     for (word, op) in OPERATIONS {
         if Op::by_name(word) != *op {
-            return Some(word);
+            return false;
         }
     }
-    None
+    true
 }
 
-// The first operation of the table that takes operands that it should not, or does not that it should.
-fn first_taken_otherwise() -> Option<&'static [u8]> {
+// Whether each operation takes the operands that it should, and no others.
+fn are_taken() -> bool {
     for (word, operands, taken) in TAKEN {
         if takes(word, operands) != *taken {
-            return Some(word);
+            return false;
         }
     }
-    None
+    true
 }
 
 #[test]
 fn names_operations_and_takes_operands(rt: HostRuntime) {
-    assert!(rt; first_other() == None);
-    assert!(rt; first_taken_otherwise() == None);
+    assert!(rt; are_named() && are_taken());
 }

@@ -49,8 +49,7 @@ const BEHIND_THE_LAST_NODE: &str = "1048576\x1f x: .data 1 .align 1 note\x1e\
         UnknownName 1048576\x1f nop\x1e\
         FloatRefused 1048576\x1f x_f";
 
-/// What comes of the largest texts.
-pub(crate) const LARGEST: &[Table] = &[(Kind::Nodes, FULL, BEHIND_THE_LAST_NODE)];
+const TABLES: &[Table] = &[(Kind::Nodes, FULL, BEHIND_THE_LAST_NODE)];
 
 // A text of 16,777,216 bytes of data, and a label behind them.
 const FULL_DATA: &[Piece] = &[
@@ -59,8 +58,8 @@ const FULL_DATA: &[Piece] = &[
     Piece::Of(b"\" .size 64 x:"),
 ];
 
-/// What comes of texts of pieces: bytes of data.
-pub(crate) const MADE: &[Made] = &[
+// What comes of texts of pieces: bytes of data.
+const MADE: &[Made] = &[
     (
         Kind::Image,
         &[Piece::Of(b".data 4 word: .s -2 .code main: prolog\nallocai 9 $x movi %r0 $x jmpi main")],
@@ -217,11 +216,28 @@ fn is_every_instruction_read(alloc: Global) -> bool {
     }
 }
 
+// Whether every instruction is read, and each text as it should be.
+fn are_read(alloc: Global) -> Result<bool, AllocError> {
+    for reading in READINGS {
+        if !is_read_so(alloc, reading)? {
+            return Ok(false);
+        }
+    }
+    Ok(is_every_instruction_read(alloc))
+}
+
 #[test]
 fn reads_nodes(rt: HostRuntime) -> Result<(), Fail> {
-    assert!(rt; is_every_instruction_read(rt.alloc()));
-    for reading in READINGS {
-        assert!(rt; is_read_so(rt.alloc(), reading)?);
-    }
+    assert!(rt; are_read(rt.alloc())?);
     Ok(())
+}
+
+/// What comes of texts.
+pub(crate) fn tables() -> &'static [Table] {
+    TABLES
+}
+
+/// What comes of texts of pieces.
+pub(crate) fn pieces() -> &'static [Made] {
+    MADE
 }

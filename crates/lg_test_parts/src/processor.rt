@@ -374,10 +374,18 @@ fn runs(alloc: Global, run: &Run) -> Result<bool, OutOfMemory> {
     Ok(hold(alloc, &mut cpu, &mut out, acts))
 }
 
+// Whether all runs are so.
+fn all_run(alloc: Global) -> Result<bool, OutOfMemory> {
+    for run in RUNS {
+        if !runs(alloc, run)? {
+            return Ok(false);
+        }
+    }
+    Ok(true)
+}
+
 #[test]
 fn runs_as_the_table_says(rt: HostRuntime) -> Result<(), Fail> {
-    for (number, run) in RUNS.iter().enumerate() {
-        assert!(rt; runs(rt.alloc(), run)?, "at {number}");
-    }
+    assert!(rt; all_run(rt.alloc())?);
     Ok(())
 }

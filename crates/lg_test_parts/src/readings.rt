@@ -136,8 +136,7 @@ const NO_DATA: &str = "BadOperand 1\x1f.data 4 .align 3\x1e\
         UnknownName 1\x1f.data 4 .c 1 @foo\x1e\
         UnknownName 1\x1f.data 4 .s 1 \"a\"";
 
-/// What comes of texts.
-pub(crate) const TABLES: &[Table] = &[
+const TABLES: &[Table] = &[
     (Kind::Read, &[], READ),
     (Kind::Read, &[], NO_STATEMENTS),
     (Kind::Read, &[], OPERANDS),
@@ -145,3 +144,8 @@ pub(crate) const TABLES: &[Table] = &[
     (Kind::Read, &[], DATA),
     (Kind::Read, &[], NO_DATA),
 ];
+
+/// What comes of texts.
+pub(crate) fn tables() -> &'static [Table] {
+    TABLES
+}

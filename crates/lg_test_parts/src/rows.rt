@@ -237,40 +237,59 @@ fn first_other_made(alloc: Global, rows: &[Made]) -> Result<Option<usize>, Alloc
     Ok(None)
 }
 
-const TABLES: &[&[Table]] = &[
-    tokens::TABLES,
-    readings::TABLES,
-    check_rows::TABLES,
-    expansion::conditions::TABLES,
-    expansion::directives::TABLES,
-    expansion::names::TABLES,
-];
+// The first row of which something else comes.
+fn first_other_text(alloc: Global) -> Result<Option<&'static str>, AllocError> {
+    let lists = [
+        tokens::tables(),
+        readings::tables(),
+        check_rows::tables(),
+        expansion::conditions::tables(),
+        expansion::directives::tables(),
+        expansion::names::tables(),
+    ];
+    first_other_of(alloc, &lists)
+}
 
 #[test]
 fn makes_of_texts_what_rows_say(rt: HostRuntime) -> Result<(), Fail> {
-    assert_eq!(rt; first_other_of(rt.alloc(), TABLES)?, None);
+    assert_eq!(rt; first_other_text(rt.alloc())?, None);
     Ok(())
 }
 
-const LARGEST: &[&[Table]] = &[parse_rows::LARGEST, expansion::limits::TABLES];
+// The same of the largest texts.
+fn first_other_large_text(alloc: Global) -> Result<Option<&'static str>, AllocError> {
+    first_other_of(alloc, &[parse_rows::tables(), expansion::limits::tables()])
+}
 
 #[test]
 fn makes_of_the_largest_texts_what_rows_say(rt: HostRuntime) -> Result<(), Fail> {
-    assert_eq!(rt; first_other_of(rt.alloc(), LARGEST)?, None);
+    assert_eq!(rt; first_other_large_text(rt.alloc())?, None);
     Ok(())
+}
+
+// The number of the first text of pieces of lists of which something else comes.
+fn first_other_made_of(alloc: Global, lists: &[&[Made]]) -> Result<Option<usize>, AllocError> {
+    for rows in lists {
+        if let Some(number) = first_other_made(alloc, rows)? {
+            return Ok(Some(number));
+        }
+    }
+    Ok(None)
+}
+
+// The same of all.
+fn first_other_of_pieces(alloc: Global) -> Result<Option<usize>, AllocError> {
+    let lists = [
+        tokens::pieces(),
+        parse_rows::pieces(),
+        expansion::conditions::pieces(),
+        expansion::limits::pieces(),
+    ];
+    first_other_made_of(alloc, &lists)
 }
 
 #[test]
 fn makes_of_pieces_what_rows_say(rt: HostRuntime) -> Result<(), Fail> {
-    assert_eq!(rt; first_other_made(rt.alloc(), tokens::MADE)?, None);
-    assert_eq!(rt; first_other_made(rt.alloc(), parse_rows::MADE)?, None);
-    assert_eq!(rt;
-        first_other_made(rt.alloc(), expansion::conditions::MADE)?,
-        None
-    );
-    assert_eq!(rt;
-        first_other_made(rt.alloc(), expansion::limits::MADE)?,
-        None
-    );
+    assert_eq!(rt; first_other_of_pieces(rt.alloc())?, None);
     Ok(())
 }

@@ -168,11 +168,14 @@ fn are_digits() -> bool {
     true
 }
 
+// Whether texts and sinks of memory, a writer that tires, and digits are as they should be.
+fn are_right(alloc: Global) -> Result<bool, OutOfMemory> {
+    let are_sinks = is_writer_watched() && is_sink_filled(alloc)?;
+    Ok(are_sinks && are_texts_read(alloc)? && are_digits())
+}
+
 #[test]
 fn reads_writes_and_counts_faults(rt: HostRuntime) -> Result<(), Fail> {
-    assert!(rt; is_writer_watched());
-    assert!(rt; are_texts_read(rt.alloc())?);
-    assert!(rt; is_sink_filled(rt.alloc())?);
-    assert!(rt; are_digits());
+    assert!(rt; are_right(rt.alloc())?);
     Ok(())
 }

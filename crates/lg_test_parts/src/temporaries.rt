@@ -97,7 +97,5 @@ fn is_convention_known() -> bool {
 
 #[test]
 fn chooses_in_the_order(rt: HostRuntime) {
-    assert!(rt; are_chosen());
-    assert!(rt; are_choices_held());
-    assert!(rt; is_convention_known());
+    assert!(rt; are_chosen() && are_choices_held() && is_convention_known());
 }

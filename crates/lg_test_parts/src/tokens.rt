@@ -176,8 +176,7 @@ const NO_EXPRESSIONS: &str = "BadExpr 1\x1f$()\x1e\
         BadExpr 1\x1f$(#)\x1e\
         BadExpr 2\x1f\na $(1\n+\n";
 
-/// What comes of texts.
-pub(crate) const TABLES: &[Table] = &[
+const TABLES: &[Table] = &[
     (Kind::Tokens, &[], MALFORMED),
     (Kind::Tokens, &[], NOTHING),
     (Kind::Tokens, &[], NUMBERS),
@@ -185,8 +184,8 @@ pub(crate) const TABLES: &[Table] = &[
     (Kind::Tokens, &[], NO_EXPRESSIONS),
 ];
 
-/// Texts with bytes from 0x80 on; the most times that a piece may stand in itself, and once more; and long expressions.
-pub(crate) const MADE: &[Made] = &[
+// Texts with bytes from 0x80 on; the most times that a piece may stand in itself, and once more; and long expressions.
+const MADE: &[Made] = &[
     (Kind::Tokens, &[Piece::Of(b"\x80")], (b"BadToken 1", &[])),
     (
         Kind::Tokens,
@@ -421,16 +420,10 @@ const FAULT: Refusal = Refusal {
     line: 2,
 };
 
-#[test]
-fn reads_tokens(rt: HostRuntime) {
-    assert!(rt; has_tokens(GLUED, TOKENS, Ok(None)));
-    assert!(rt;
-        has_tokens(
-            b"a\n $(1 / 0) b",
-            &[(TokenKind::Word, 1, 0, 1, 0)],
-            Err(FAULT)
-        )
-    );
+// Whether texts have their tokens, of which one has a fault.
+fn are_tokens_read() -> bool {
+    let word = [(TokenKind::Word, 1, 0, 1, 0)];
+    has_tokens(GLUED, TOKENS, Ok(None)) && has_tokens(b"a\n $(1 / 0) b", &word, Err(FAULT))
 }
 
 // Whether a text of one byte is read as a token of this kind and value.
@@ -458,11 +451,13 @@ fn is_byte_read(byte: u8) -> bool {
     }
 }
 
-#[test]
-fn reads_single_bytes(rt: HostRuntime) {
+fn are_bytes_read() -> bool {
     for byte in 0..=255u8 {
-        assert!(rt; is_byte_read(byte), "at {byte}");
+        if !is_byte_read(byte) {
+            return false;
+        }
     }
+    true
 }
 
 // Strings with their bytes.
@@ -490,9 +485,27 @@ fn has_bytes(token: &[u8], wanted: &[u8]) -> bool {
     string_bytes(token, &mut place) == None && string_bytes(token, &mut place) == None
 }
 
-#[test]
-fn gives_the_bytes_of_strings(rt: HostRuntime) {
+// Whether each string is a token alone, and has its bytes.
+fn are_strings_read() -> bool {
     for (token, bytes) in STRINGS {
-        assert!(rt; gives(token, b"0") && has_bytes(token, bytes));
+        if !gives(token, b"0") || !has_bytes(token, bytes) {
+            return false;
+        }
     }
+    true
+}
+
+#[test]
+fn reads_tokens(rt: HostRuntime) {
+    assert!(rt; are_tokens_read() && are_bytes_read() && are_strings_read());
+}
+
+/// What comes of texts.
+pub(crate) fn tables() -> &'static [Table] {
+    TABLES
+}
+
+/// What comes of texts of pieces.
+pub(crate) fn pieces() -> &'static [Made] {
+    MADE
 }

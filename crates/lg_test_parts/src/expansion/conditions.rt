@@ -69,15 +69,14 @@ const REFUSED: &str = "BadDirective 1\x1f#endif\x1e\
         BadMacro 2\x1f#define F(a) a\n#if F(1\n)\n#endif\x1e\
         BadMacro 2\x1f#define F(a) a\n#if F(1, 2)\n#endif";
 
-/// What comes of texts.
-pub(crate) const TABLES: &[Table] = &[
+const TABLES: &[Table] = &[
     (Kind::Lines, &[], GROUPS),
     (Kind::Lines, &[], EXPRESSIONS),
     (Kind::Expansion, &[], REFUSED),
 ];
 
-/// 64 conditions may be open, in skipped groups too, and all have to be closed. Of each condition stand here 64, one more, and one end less.
-pub(crate) const MADE: &[Made] = &[
+// 64 conditions may be open, in skipped groups too, and all have to be closed. Of each condition stand here 64, one more, and one end less.
+const MADE: &[Made] = &[
     (
         Kind::Expansion,
         &[
@@ -218,3 +217,13 @@ pub(crate) const MADE: &[Made] = &[
         ),
     ),
 ];
+
+/// What comes of texts.
+pub(crate) fn tables() -> &'static [Table] {
+    TABLES
+}
+
+/// What comes of texts of pieces.
+pub(crate) fn pieces() -> &'static [Made] {
+    MADE
+}

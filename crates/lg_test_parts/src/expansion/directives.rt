@@ -98,10 +98,14 @@ const REFUSED: &str = "BadDirective 1\x1f#define\x1e\
         BadDirective 2\x1f\n#\\\n\\\nfoo\x1e\
         BadDirective 3\x1f#define A 1 \\\n 2\n#foo";
 
-/// What comes of texts.
-pub(crate) const TABLES: &[Table] = &[
+const TABLES: &[Table] = &[
     (Kind::Lines, &[], MARKS),
     (Kind::Lines, &[], SPLICES),
     (Kind::Lines, &[], DEFINITIONS),
     (Kind::Expansion, &[], REFUSED),
 ];
+
+/// What comes of texts.
+pub(crate) fn tables() -> &'static [Table] {
+    TABLES
+}

@@ -143,8 +143,7 @@ const LISTS_13: &[Piece] = &[
 // A text of 16 MiB that names no macro is its own expansion.
 const WHOLE: &[Piece] = &[Piece::Times(b"x", 16_777_215), Piece::Of(b"\n")];
 
-/// What comes of texts.
-pub(crate) const TABLES: &[Table] = &[
+const TABLES: &[Table] = &[
     (Kind::Expansion, CALLS_200, "\n1 2\x1f 2"),
     (Kind::Expansion, CALLS_201, "ExpandTooMuch 2\x1f 2"),
     (Kind::Expansion, SUM, SUMS),
@@ -158,8 +157,8 @@ pub(crate) const TABLES: &[Table] = &[
     (Kind::Expansion, LISTS_13, "out of memory\x1f)"),
 ];
 
-/// What comes of texts of pieces. 200 expansions may be one in the other: of arguments, of bodies, and in expressions.
-pub(crate) const MADE: &[Made] = &[
+// What comes of texts of pieces. 200 expansions may be one in the other: of arguments, of bodies, and in expressions.
+const MADE: &[Made] = &[
     (
         Kind::Expansion,
         &[Piece::Names(200), Piece::Of(b"a200 2")],
@@ -190,3 +189,13 @@ pub(crate) const MADE: &[Made] = &[
     (Kind::Expansion, FULL, (b"", FULL_EXPANSION)),
     (Kind::Expansion, WHOLE, (b"", WHOLE)),
 ];
+
+/// What comes of texts.
+pub(crate) fn tables() -> &'static [Table] {
+    TABLES
+}
+
+/// What comes of texts of pieces.
+pub(crate) fn pieces() -> &'static [Made] {
+    MADE
+}

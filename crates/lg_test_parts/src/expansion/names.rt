@@ -83,10 +83,14 @@ const REFUSED: &str = "BadMacro 2\x1f#define F(a) a\nF(1\n#define X\n)\x1e\
         BadMacro 3\x1f#define F(a) a\n#define C(a) x##a\nC(\nF(1,2))\x1e\
         BadMacro 4\x1f#define F(a) a\n#define A F(1,2)\n\nA\nF(";
 
-/// What comes of texts.
-pub(crate) const TABLES: &[Table] = &[
+const TABLES: &[Table] = &[
     (Kind::Lines, &[], WORDS),
     (Kind::Lines, &[], PASTES),
     (Kind::Lines, &[], CALLS),
     (Kind::Expansion, &[], REFUSED),
 ];
+
+/// What comes of texts.
+pub(crate) fn tables() -> &'static [Table] {
+    TABLES
+}
