@@ -200,6 +200,21 @@ pub(crate) fn stripped_from(
     stripped(alloc, &behind)
 }
 
+// A macro whose body these pieces are.
+fn with_pieces(
+    alloc: Global,
+    name: &[u8],
+    arity: Option<usize>,
+    names: &[PlainText],
+    behind: &Pieces,
+) -> Result<Option<Macro>, OutOfMemory>
+    ensures { IfOk result (λ r. r ≡ with_body name.now arity names.now behind.now) }
+{
+    let name = PlainText::of(alloc, name)?;
+    let body = body_of(alloc, names, behind)?;
+    Ok(finished(name, arity, size_of(behind), body))
+}
+
 // A macro whose body stands from a place on.
 fn with_body(
     alloc: Global,
@@ -212,11 +227,8 @@ fn with_body(
     requires inside { from ≤ length pieces.now }
     ensures { IfOk result (λ r. r ≡ with_body (piece_at pieces.now 0).text arity names.now (stripped (drop from pieces.now))) }
 {
-    let name = PlainText::of(alloc, pieces.text(0))?;
     let behind = stripped_from(alloc, pieces, from)?;
-    let size = size_of(&behind);
-    let body = body_of(alloc, names, &behind)?;
-    Ok(finished(name, arity, size, body))
+    with_pieces(alloc, pieces.text(0), arity, names, &behind)
 }
 
 // A macro with parentheses.

@@ -1,10 +1,11 @@
 // The lines of a text and its directives, and the expansion of a text.
 
-ghost use Rattle.std.specs.Prelude.{◌≡◌, ◌+◌, ◌<◌, ◌≤◌, length, drop, IfOk};
+ghost use Rattle.std.specs.Prelude.{◌≡◌, ◌+◌, ◌<◌, ◌≤◌, [], length, drop, codes, IfOk, OnOk};
 ghost use Rattle.lg_pre.specs.Arguments.{stripped};
-ghost use Rattle.lg_pre.specs.Defines.{spliced};
+ghost use Rattle.lg_pre.specs.Cutting.{cut};
+ghost use Rattle.lg_pre.specs.Defines.{spliced, written};
 ghost use Rattle.lg_pre.specs.Directive.{directive_of};
-ghost use Rattle.lg_pre.specs.Expanded.{lines_in, defines, undefines, opens_named, opens_if, read, obeyed, obeys, is_as_wanted, gives_lines, feeds_lines, flushes, waits, directed, directs, one_line, ended, finishes, start, start_table, expanded_in, expanded};
+ghost use Rattle.lg_pre.specs.Expanded.{lines_in, defines, undefines, opens_named, opens_if, read, obeyed, obeys, is_as_wanted, gives_lines, feeds_lines, flushes, waits, directed, directs, one_line, ended, finishes, start, table_by, start_table, expanded_in, expanded};
 ghost use Rattle.lg_pre.specs.Macros.{CountsAs, StepsAs, Reads};
 ghost use Rattle.std.specs.Prelude.{Ok};
 ghost use Rattle.lg_pre.specs.Pieces.{piece_at, between};
@@ -247,16 +248,29 @@ impl Expander {
         }
     }
 
-    // The end of a text.
+    // Gives what is left at the end of a text.
     #[tactic(auto, unfolding(crate::specs::Expanded::finishes))]
-    fn finish(mut self, alloc: Global) -> Result<PlainText, Stop>
-        ensures { Reads result (finishes self) }
+    fn finish(&mut self, alloc: Global) -> Result<(), Stop>
+        ensures { CountsAs result self.new.given (finishes self.old) }
     {
         self.flush_lines(alloc)?;
         match self.conditions.innermost() {
-            None => Ok(self.given),
+            None => Ok(()),
             Some(condition) => Err(refused(RefusalKind::BadDirective, condition.line)),
         }
+    }
+
+    // Reads all lines of a text, and gives what they expand to.
+    fn read_lines(&mut self, alloc: Global, text: &Pieces) -> Result<(), Stop>
+        ensures { CountsAs result self.new.given (lines_in (length text.now) text.now self.old 0) }
+    {
+        let end = text.len();
+        let mut at = 0;
+        'lines: while at < end {
+            let next = self.one_line(alloc, text, at)?;
+            at = next;
+        }
+        self.finish(alloc)
     }
 }
 
@@ -275,20 +289,42 @@ fn body_between(
     stripped(alloc, &body)
 }
 
+// The pieces of the definition of `__WORDSIZE`.
+fn word_size(alloc: Global) -> Result<Pieces, OutOfMemory>
+    ensures { IfOk result (λ r. r ≡ cut 0 (codes "__WORDSIZE 64")) }
+{
+    let mut pieces = Pieces::new(alloc);
+    push_cut(&mut pieces, b"__WORDSIZE 64", 0)?;
+    Ok(pieces)
+}
+
+// Adds the macro that pieces write to no macros.
+fn define_first(alloc: Global, table: &mut Table, pieces: &Pieces) -> Result<(), OutOfMemory>
+    requires { table.old ≡ [] }
+    ensures { OnOk result (table.new ≡ table_by (written pieces.now)) }
+{
+    match written(alloc, pieces)? {
+        None => Ok(()),
+        Some(entry) => table.define(entry),
+    }
+}
+
+// Defines `__WORDSIZE` in a table of no macros.
+fn define_word_size(alloc: Global, table: &mut Table) -> Result<(), OutOfMemory>
+    requires { table.old ≡ [] }
+    ensures { OnOk result (table.new ≡ start_table) }
+{
+    let pieces = word_size(alloc)?;
+    define_first(alloc, table, &pieces)
+}
+
 // The table that defines `__WORDSIZE`.
 fn start_table(alloc: Global) -> Result<Table, OutOfMemory>
     ensures { IfOk result (λ r. r ≡ start_table) }
 {
-    let mut pieces = Pieces::new(alloc);
-    push_cut(&mut pieces, b"__WORDSIZE 64", 0)?;
     let mut table = Table::new(alloc);
-    match written(alloc, &pieces)? {
-        None => Ok(table),
-        Some(entry) => {
-            table.define(entry)?;
-            Ok(table)
-        }
-    }
+    define_word_size(alloc, &mut table)?;
+    Ok(table)
 }
 
 // What a text begins with.
@@ -306,16 +342,12 @@ fn start(alloc: Global) -> Result<Expander, OutOfMemory>
 }
 
 // The expansion of the pieces of a text.
-fn expand_pieces(alloc: Global, text: &Pieces, mut expander: Expander) -> Result<PlainText, Stop>
-    ensures { Reads result (lines_in (length text.now) text.now expander 0) }
+fn expand_pieces(alloc: Global, text: &Pieces) -> Result<PlainText, Stop>
+    ensures { Reads result (expanded_in text.now) }
 {
-    let end = text.len();
-    let mut at = 0;
-    'lines: while at < end {
-        let next = expander.one_line(alloc, text, at)?;
-        at = next;
-    }
-    expander.finish(alloc)
+    let mut expander = start(alloc)?;
+    expander.read_lines(alloc, text)?;
+    Ok(expander.given)
 }
 
 /// The expansion of a text of at most 16,777,216 bytes, or its first fault, `BadDirective`, `BadMacro` or `ExpandTooMuch`, with its line.
@@ -325,5 +357,5 @@ pub fn expand(alloc: Global, text: &[u8]) -> Result<PlainText, Stop>
     ensures { Reads result (expanded text.now) }
 {
     let pieces = text_pieces(alloc, text)?;
-    expand_pieces(alloc, &pieces, start(alloc)?)
+    expand_pieces(alloc, &pieces)
 }
