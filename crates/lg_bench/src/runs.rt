@@ -35,7 +35,7 @@ fn processor(alloc: Global, code: &Code, unit: &Unit) -> Result<Cpu, OutOfMemory
 }
 
 // Runs so many instructions on a processor, and tells how many were run.
-fn run(alloc: Global, cpu: &mut Cpu, instructions: u32) -> Result<u64, OutOfMemory>
+fn run(alloc: Global, cpu: &mut Cpu, instructions: u32) -> Result<u64, Stop>
     requires { (shown cpu.old).steps ≡ 0 }
 {
     let mut out = MemorySink::new(alloc, MOST_OUTPUT, &[])?;
@@ -44,7 +44,7 @@ fn run(alloc: Global, cpu: &mut Cpu, instructions: u32) -> Result<u64, OutOfMemo
 }
 
 // Runs so many instructions of code, and tells how many were run.
-fn run_code(alloc: Global, code: &Code, unit: &Unit, instructions: u32) -> Result<u64, OutOfMemory>
+fn run_code(alloc: Global, code: &Code, unit: &Unit, instructions: u32) -> Result<u64, Stop>
     requires code { length code.now.bytes ≤ most_code }
     requires unit { IsWhole unit.now }
 {
@@ -57,7 +57,7 @@ fn run_unit(alloc: Global, unit: &Unit, target: Target, instructions: u32) -> Re
     requires { IsWhole unit.now }
 {
     let code = code_of(alloc, unit, target)?;
-    Ok(run_code(alloc, &code, unit, instructions)?)
+    run_code(alloc, &code, unit, instructions)
 }
 
 // The unit of a text that is expanded first.

@@ -102,16 +102,23 @@ pub fn read_and_assemble(
     Ok(bytes)
 }
 
+// Checks and assembles the nodes of a unit so many times.
+fn unit_bytes_again(alloc: Global, unit: &Unit, times: u32, target: Target) -> Result<u64, Stop>
+    requires { IsWhole unit.now }
+{
+    let mut bytes = 0;
+    for _ in 0..times {
+        bytes = unit_bytes(alloc, unit, target)?;
+    }
+    Ok(bytes)
+}
+
 // Reads a text once, and checks and assembles its nodes so many times.
 fn repeat_assembling(alloc: Global, text: &[u8], times: u32, target: Target) -> Result<u64, Stop>
     requires { length text.now ≤ 16777216 }
 {
     let unit = read(alloc, text)?;
-    let mut bytes = 0;
-    for _ in 0..times {
-        bytes = unit_bytes(alloc, &unit, target)?;
-    }
-    Ok(bytes)
+    unit_bytes_again(alloc, &unit, times, target)
 }
 
 /// Reads a text of so many additions, at most 1,000,000, once, and checks and assembles its nodes so many times; tells how many bytes the code has.
