@@ -1,6 +1,6 @@
 -- The numbers of a profile, from what was counted.
 use Rattle.std.proofs.Common.{◌≡◌, ℕ, suc, ◌+◌, ◌<◌, ◌≤◌, Bool, true, false, List, [], length, Option, Some, None, inl, inr, refl, sym, ap, ap₂, ◌∙◌, subst, arith, add-one}
-use Rattle.std.specs.Prelude.{◌⊎◌, ◌&&◌, not, slice_get, slice_index}
+use Rattle.std.specs.Prelude.{◌⊎◌, ◌&&◌, if◌then◌else◌, not, slice_get, slice_index}
 use Rattle.std.proofs.lemmas.Bool.{cases_lt}
 use Rattle.lg_asm.specs.Assembled.{Assembled, IsCode}
 use Rattle.lg_base.specs.Arguments.{args_of}
@@ -183,3 +183,14 @@ add_up counts_law spent_law c held code made top some below = (
   counts_law made.unit.nodes (code_meaning c code made.unit) top c.steps some below,
   λ steps out a says. steps_add_up c held code made spent_law top some below c.steps steps out a says,
 )
+
+-- ---- the numbers that are told of a run: none where it did not come to its end
+pub none_told : (b : Bool) (unit : TextUnit) (shape : TextShape) (s : Start) (most steps : ℕ) (t : List Counts) → b ≡ false
+    → TalliesFor b unit shape s most steps (if b then Some t else None)
+none_told false unit shape s most steps t e = refl
+none_told true unit shape s most steps t e = cc
+
+pub is_told : (b : Bool) (unit : TextUnit) (shape : TextShape) (s : Start) (most steps : ℕ) (t : List Counts) → b ≡ true → AreTallied unit shape s most steps t
+    → TalliesFor b unit shape s most steps (if b then Some t else None)
+is_told true unit shape s most steps t e h = (t, refl, h)
+is_told false unit shape s most steps t e h = cc

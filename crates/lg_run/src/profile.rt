@@ -1,6 +1,6 @@
 // The profile of a run.
 
-ghost use Rattle.std.specs.Prelude.{◌≡◌, ◌<◌, ◌≤◌, ◌-◌, ◌^◌, ℕ, Ok, Some, None, length, slice_get, IfOk};
+ghost use Rattle.std.specs.Prelude.{◌≡◌, ◌<◌, ◌≤◌, ◌-◌, ◌^◌, ℕ, Ok, Some, None, if◌then◌else◌, length, slice_get, IfOk};
 ghost use Rattle.lg_base.specs.Arguments.{args_of, most_args, texts_of};
 ghost use Rattle.lg_carry.specs.Agreement.{Agrees};
 ghost use Rattle.lg_command.specs.Commands.{IsInRange, shown as shown_command};
@@ -200,7 +200,44 @@ fn begin(
     })
 }
 
+// The numbers of the lines, where the run came to its end.
+fn told_tally(answer: Answer, tally: Tally) -> Option<Tally>
+    ensures { result ≡ (if is_run_end answer then Some tally else None) }
+{
+    if is_run_end(answer) {
+        Some(tally)
+    } else {
+        None
+    }
+}
+
 // Runs the code, and then, where its run came to an end, the meaning for the numbers of the lines.
+fn run_both<O: Sink>(start: &mut Start, most: u64, text: &Accepted, out: &mut O) -> Ran
+    requires going { (shown start.old.cpu).answer ≡ CpuStep.Went }
+    requires first { (shown start.old.cpu).steps ≡ 0 }
+    requires most { most < 2 ^ 64 - 1 }
+    requires machine { StandsAtStart text.now.unit text.now.shape start.old }
+    requires lines { (place line : ℕ) → slice_get start.old.lines place ≡ Some line → line < length start.old.tally }
+    ensures says { RunSays (run_from (shown start.old.cpu)) most result.steps (on_sink O.taken O.faults out.old out.new) result.answer }
+    ensures writes { TellsWrites result.answer (on_sink O.taken O.faults out.old out.new) }
+    ensures told { let told = if is_run_end result.answer then Some start.new.tally else None in
+        TalliesFor (is_run_end result.answer) text.now.unit text.now.shape start.old most result.steps told }
+{
+    let ran = run_by_lines(&mut start.cpu, &start.lines, &mut start.tally, most, out);
+    if !is_run_end(ran.answer) {
+        return ran;
+    }
+    count_meaning(
+        &mut start.machine,
+        &text.unit,
+        &text.shape,
+        most,
+        &mut start.tally,
+    );
+    ran
+}
+
+// Runs them, and tells the numbers of the lines.
 fn run_start<O: Sink>(start: Start, most: u64, text: &Accepted, out: &mut O) -> Profiled
     requires going { (shown start.cpu).answer ≡ CpuStep.Went }
     requires first { (shown start.cpu).steps ≡ 0 }
@@ -212,20 +249,12 @@ fn run_start<O: Sink>(start: Start, most: u64, text: &Accepted, out: &mut O) -> 
     ensures told { TalliesFor (is_run_end result.ran.answer) text.now.unit text.now.shape start most result.ran.steps result.tally }
     ensures stuck { result.stuck ≡ None }
 {
-    let Start {
-        lines,
-        mut tally,
-        mut cpu,
-        mut machine,
-    } = start;
-    let ran = run_by_lines(&mut cpu, &lines, &mut tally, most, out);
-    if !is_run_end(ran.answer) {
-        return untold_run(ran);
-    }
-    count_meaning(&mut machine, &text.unit, &text.shape, most, &mut tally);
+    let mut start = start;
+    let ran = run_both(&mut start, most, text, out);
+    let tally = told_tally(ran.answer, start.tally);
     Profiled {
         ran,
-        tally: Some(tally),
+        tally,
         stuck: None,
     }
 }
