@@ -2,7 +2,7 @@
 
 use lg_asm::Code;
 use lg_base::OutOfMemory;
-use lg_io::{MemorySink, MemoryTexts, StdTexts, Texts};
+use lg_io::{MemorySink, MemoryTexts, Sink, StdTexts, Texts};
 use lg_run::{Answer, Done, lightning};
 use std::alloc::{AllocError, Global};
 use std::io::Input;
@@ -42,13 +42,13 @@ pub struct Called {
     pub err: MemorySink,
 }
 
-// What a call over texts comes to: every call here is made by it.
-fn done_on<T: Texts>(
+// What a call over texts comes to: every call here is made by it. What the top call promises is quick to prove of any texts and sinks.
+fn done_on<T: Texts, O: Sink, E: Sink>(
     alloc: Global,
     words: &Vec<String>,
     texts: &mut T,
-    out: &mut MemorySink,
-    err: &mut MemorySink,
+    out: &mut O,
+    err: &mut E,
 ) -> Done {
     lightning(alloc, words, texts, out, err)
 }

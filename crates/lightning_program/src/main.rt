@@ -6,9 +6,10 @@ ghost use Rattle.std.specs.Prelude.{◌≡◌};
 ghost use Rattle.std.specs.Process.{exit_status};
 ghost use Rattle.lg_run.specs.Statuses.{status_of_answer};
 
-use lg_io::{StdSink, StdTexts};
+use lg_io::{Sink, StdSink, StdTexts, Texts};
 use lg_run::top::{lightning, report_words};
-use lg_run::{Answer, status};
+use lg_run::{Answer, Done, status};
+use std::alloc::Global;
 use std::process::ExitCode;
 use std::{env, io};
 
@@ -37,12 +38,23 @@ fn exit_code(answer: &Answer) -> ExitCode
     ExitCode::from(status(answer))
 }
 
+// What a call comes to. What it promises is not looked at here, and is quick to prove of any texts and sinks.
+fn done_on<T: Texts, O: Sink, E: Sink>(
+    alloc: Global,
+    words: &Vec<String>,
+    texts: &mut T,
+    out: &mut O,
+    err: &mut E,
+) -> Done {
+    lightning(alloc, words, texts, out, err)
+}
+
 fn main(rt: HostRuntime) -> ExitCode {
     let mut texts = StdTexts::new(&rt);
     let mut out = StdSink::new(rt.stdout());
     let mut err = StdSink::new(rt.stderr());
     let answer = match words(&rt) {
-        Ok(words) => lightning(rt.alloc(), &words, &mut texts, &mut out, &mut err).answer,
+        Ok(words) => done_on(rt.alloc(), &words, &mut texts, &mut out, &mut err).answer,
         Err(answer) => report_words(answer, &mut err),
     };
     exit_code(&answer)
