@@ -25,7 +25,7 @@ use Rattle.lg_op.specs.declared.op.LastOperand.{LastOperand}
 use Rattle.lg_op.specs.declared.op.LastOperand.TheVariants as last_operand
 use Rattle.lg_op.specs.declared.op.Op.{Op}
 use Rattle.lg_op.specs.declared.op.Op.TheVariants.{Binary, Wide, Branch, BranchSum, Control, Unary, Plain, Load, Store, Retval, Getarg}
-use Rattle.lg_op.specs.declared.names.TheConstants.{NAMES_DOT, NAMES_A, NAMES_B, NAMES_C, NAMES_D, NAMES_E, NAMES_F, NAMES_G, NAMES_H, NAMES_J, NAMES_L, NAMES_M, NAMES_N, NAMES_O, NAMES_P, NAMES_Q, NAMES_R, NAMES_S, NAMES_V, NAMES_X}
+use Rattle.lg_op.specs.declared.name_table.TheConstants.{NAMES_DOT, NAMES_A, NAMES_B, NAMES_C, NAMES_D, NAMES_E, NAMES_F, NAMES_G, NAMES_H, NAMES_J, NAMES_L, NAMES_M, NAMES_N, NAMES_O, NAMES_P, NAMES_Q, NAMES_R, NAMES_S, NAMES_V, NAMES_X}
 
 -- of two operands, one result
 abbrev pub binary_stem : BinaryOp → List ℕ

@@ -4,6 +4,7 @@
 
 pub mod carry;
 pub mod form;
+mod name_table;
 mod names;
 pub mod node;
 pub mod op;
