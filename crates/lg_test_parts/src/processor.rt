@@ -31,6 +31,8 @@ enum Act {
     Answer(u64, CpuStep),
     // The program counter, and how many steps were taken.
     At(u64, u64),
+    // Eleven steps come to this answer, and each leaves the program counter and the number of steps so.
+    Stay(CpuStep, u64, u64),
     // A register holds a word.
     Hold(u8, u64),
     // This is all that was written.
@@ -132,8 +134,7 @@ const RUNS: &[Run] = &[
         0,
         &[
             Act::Answer(0, CpuStep::Went),
-            Act::Answer(11, CpuStep::Fault(FaultKind::Decode)),
-            Act::At(CODE, 0),
+            Act::Stay(CpuStep::Fault(FaultKind::Decode), CODE, 0),
         ],
     ),
     (
@@ -142,8 +143,7 @@ const RUNS: &[Run] = &[
         0,
         &[
             Act::Answer(0, CpuStep::Went),
-            Act::Answer(11, CpuStep::Fault(FaultKind::Decode)),
-            Act::At(CODE, 0),
+            Act::Stay(CpuStep::Fault(FaultKind::Decode), CODE, 0),
         ],
     ),
     (
@@ -152,8 +152,7 @@ const RUNS: &[Run] = &[
         0,
         &[
             Act::Answer(0, CpuStep::Went),
-            Act::Answer(11, CpuStep::Fault(FaultKind::Decode)),
-            Act::At(CODE, 0),
+            Act::Stay(CpuStep::Fault(FaultKind::Decode), CODE, 0),
         ],
     ),
     (
@@ -162,8 +161,7 @@ const RUNS: &[Run] = &[
         0,
         &[
             Act::Answer(0, CpuStep::Went),
-            Act::Answer(11, CpuStep::Fault(FaultKind::Fetch)),
-            Act::At(CODE, 0),
+            Act::Stay(CpuStep::Fault(FaultKind::Fetch), CODE, 0),
         ],
     ),
     (
@@ -172,8 +170,7 @@ const RUNS: &[Run] = &[
         0,
         &[
             Act::Answer(0, CpuStep::Went),
-            Act::Answer(11, CpuStep::Fault(FaultKind::Fetch)),
-            Act::At(CODE, 0),
+            Act::Stay(CpuStep::Fault(FaultKind::Fetch), CODE, 0),
         ],
     ),
     (
@@ -182,8 +179,7 @@ const RUNS: &[Run] = &[
         0,
         &[
             Act::Answer(0, CpuStep::Went),
-            Act::Answer(11, CpuStep::Fault(FaultKind::Fetch)),
-            Act::At(CODE, 0),
+            Act::Stay(CpuStep::Fault(FaultKind::Fetch), CODE, 0),
         ],
     ),
     // nop, with nothing behind it
@@ -193,8 +189,7 @@ const RUNS: &[Run] = &[
         0,
         &[
             Act::Answer(1, CpuStep::Went),
-            Act::Answer(11, CpuStep::Fault(FaultKind::Fetch)),
-            Act::At(CODE + 1, 1),
+            Act::Stay(CpuStep::Fault(FaultKind::Fetch), CODE + 1, 1),
         ],
     ),
     (
@@ -203,8 +198,7 @@ const RUNS: &[Run] = &[
         0,
         &[
             Act::Answer(1, CpuStep::Went),
-            Act::Answer(11, CpuStep::Fault(FaultKind::Fetch)),
-            Act::At(CODE + 4, 1),
+            Act::Stay(CpuStep::Fault(FaultKind::Fetch), CODE + 4, 1),
         ],
     ),
     (
@@ -213,8 +207,7 @@ const RUNS: &[Run] = &[
         0,
         &[
             Act::Answer(1, CpuStep::Went),
-            Act::Answer(11, CpuStep::Fault(FaultKind::Fetch)),
-            Act::At(CODE + 4, 1),
+            Act::Stay(CpuStep::Fault(FaultKind::Fetch), CODE + 4, 1),
         ],
     ),
     // a register gets 0, and a jump goes there
@@ -224,8 +217,7 @@ const RUNS: &[Run] = &[
         0,
         &[
             Act::Answer(2, CpuStep::Went),
-            Act::Answer(11, CpuStep::Fault(FaultKind::Fetch)),
-            Act::At(0, 2),
+            Act::Stay(CpuStep::Fault(FaultKind::Fetch), 0, 2),
         ],
     ),
     (
@@ -234,8 +226,7 @@ const RUNS: &[Run] = &[
         0,
         &[
             Act::Answer(2, CpuStep::Went),
-            Act::Answer(11, CpuStep::Fault(FaultKind::Fetch)),
-            Act::At(0, 2),
+            Act::Stay(CpuStep::Fault(FaultKind::Fetch), 0, 2),
         ],
     ),
     (
@@ -244,8 +235,7 @@ const RUNS: &[Run] = &[
         0,
         &[
             Act::Answer(2, CpuStep::Went),
-            Act::Answer(11, CpuStep::Fault(FaultKind::Fetch)),
-            Act::At(0, 2),
+            Act::Stay(CpuStep::Fault(FaultKind::Fetch), 0, 2),
         ],
     ),
     // a register gets 8, and is stored there, which is in no part
@@ -255,8 +245,7 @@ const RUNS: &[Run] = &[
         0,
         &[
             Act::Answer(1, CpuStep::Went),
-            Act::Answer(11, CpuStep::Fault(FaultKind::Memory)),
-            Act::At(CODE + 5, 1),
+            Act::Stay(CpuStep::Fault(FaultKind::Memory), CODE + 5, 1),
         ],
     ),
     (
@@ -265,8 +254,7 @@ const RUNS: &[Run] = &[
         0,
         &[
             Act::Answer(1, CpuStep::Went),
-            Act::Answer(11, CpuStep::Fault(FaultKind::Memory)),
-            Act::At(CODE + 4, 1),
+            Act::Stay(CpuStep::Fault(FaultKind::Memory), CODE + 4, 1),
         ],
     ),
     (
@@ -275,8 +263,7 @@ const RUNS: &[Run] = &[
         0,
         &[
             Act::Answer(1, CpuStep::Went),
-            Act::Answer(11, CpuStep::Fault(FaultKind::Memory)),
-            Act::At(CODE + 4, 1),
+            Act::Stay(CpuStep::Fault(FaultKind::Memory), CODE + 4, 1),
         ],
     ),
 ];
@@ -304,6 +291,16 @@ fn step(cpu: &mut Cpu, out: &mut MemorySink) -> CpuStep {
 fn answers(cpu: &mut Cpu, out: &mut MemorySink, steps: u64, answer: CpuStep) -> bool {
     for _ in 0..steps {
         if step(cpu, out) != answer {
+            return false;
+        }
+    }
+    true
+}
+
+// Whether eleven steps come to this answer, and each leaves the program counter and the number of steps so.
+fn stays(cpu: &mut Cpu, out: &mut MemorySink, answer: CpuStep, place: (u64, u64)) -> bool {
+    for _ in 0..11 {
+        if step(cpu, out) != answer || (cpu.pc(), cpu.steps()) != place {
             return false;
         }
     }
@@ -350,6 +347,7 @@ fn holds(alloc: Global, cpu: &mut Cpu, out: &mut MemorySink, act: &Act) -> bool 
         }
         Act::Code(code) => replace(alloc, cpu, code),
         Act::Answer(steps, answer) => answers(cpu, out, *steps, *answer),
+        Act::Stay(answer, pc, steps) => stays(cpu, out, *answer, (*pc, *steps)),
         _ => is_so(cpu, out, act),
     }
 }
